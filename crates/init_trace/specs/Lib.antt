@@ -1,0 +1,12 @@
+pub mod Agreement
+pub mod Bounds
+pub mod Due
+pub mod Event
+pub mod Lawful
+pub mod Past
+pub mod Run
+pub mod Sound
+pub mod Spells
+pub mod Timing
+pub mod Wanted
+pub mod Wishes

@@ -1,0 +1,149 @@
+-- What is read off a trace: what is in force, the children, the open orders (init(8)).
+-- A trace is a list of happenings, THE NEWEST FIRST, so the last of a kind is the first that is found.
+use Rattle.std.specs.Prelude.{ℕ, Bool, true, false, not, ◌&&◌, ◌||◌, ◌==◌, if◌then◌else◌, max, min, List, [], ◌∷◌, ◌++◌, filter, Option, Some, None}
+use Rattle.std.specs.List.{list_any}
+use Rattle.init_words.specs.declared.entries.Entry.{Entry}
+use Rattle.init_words.specs.declared.actions.Act.{Act}
+use Rattle.init_words.specs.declared.stages.Stage.{Stage}
+use Rattle.init_words.specs.declared.orders.Ask.{Ask}
+use Rattle.init_words.specs.declared.orders.Ask.TheVariants.{Look}
+use Rattle.init_words.specs.Ids.{same_id}
+use Rattle.init_words.specs.Orders.{same_ask}
+use Rattle.inittab_text.specs.Tables.{act_of}
+use Rattle.init_trace.specs.declared.happenings.Happening.TheVariants.{NewTable, Enter, Asked, Birth, NoBirth, Death, Reaped, Still, NoLook, Hit, Miss, Told, Clock}
+use Rattle.init_trace.specs.Event.{Event}
+
+-- the table in force: that of the last NewTable
+abbrev pub table_of : List Event → List Entry
+table_of [] = []
+table_of (NewTable table ∷ past) = table
+table_of (_ ∷ past) = table_of past
+
+-- the stage in force: that of the last Enter
+abbrev pub stage_of : List Event → Option Stage
+stage_of [] = None
+stage_of (Enter stage grace ∷ past) = Some stage
+stage_of (_ ∷ past) = stage_of past
+
+-- the seconds between the two signals that stop a child: those of the last Enter
+abbrev pub grace_of : List Event → ℕ
+grace_of [] = 0
+grace_of (Enter stage grace ∷ past) = grace
+grace_of (_ ∷ past) = grace_of past
+
+-- the greatest reading that counts, in seconds
+abbrev pub clock_limit : ℕ
+clock_limit = 1000000000000
+
+-- the time: the greatest reading of the clock, each cut to the limit; a clock set back changes nothing
+abbrev pub time_of : List Event → ℕ
+time_of [] = 0
+time_of (Clock reading ∷ past) = max (min reading clock_limit) (time_of past)
+time_of (_ ∷ past) = time_of past
+
+-- a child: the id that it was born for, its number, and the action that the id had then
+pub record Child : Type 0 where
+  pub id : List ℕ
+  pub number : ℕ
+  pub act : Option Act
+
+abbrev pub is_of : List ℕ → Child → Bool
+is_of id child = same_id id child.id
+
+abbrev pub is_child : List ℕ → ℕ → Child → Bool
+is_child id number child = same_id id child.id && number == child.number
+
+abbrev pub has_number : ℕ → Child → Bool
+has_number number child = number == child.number
+
+abbrev pub has_child : List ℕ → List Child → Bool
+has_child id children = list_any (is_of id) children
+
+-- the child that a birth makes
+abbrev pub born : List ℕ → ℕ → List Event → Child
+born id number past = record { id = id; number = number; act = act_of id (table_of past) }
+
+-- the unreaped children, the youngest first
+abbrev pub unreaped : List Event → List Child
+unreaped [] = []
+unreaped (Birth id number ∷ past) = born id number past ∷ unreaped past
+unreaped (Reaped id number status ∷ past) = filter (λ child. not (is_child id number child)) (unreaped past)
+unreaped (_ ∷ past) = unreaped past
+
+-- the kept children: those whose reaping was not told
+abbrev pub kept : List Event → List Child
+kept [] = []
+kept (Birth id number ∷ past) = born id number past ∷ kept past
+kept (Told id ∷ past) = filter (is_of id) (unreaped past) ++ filter (λ child. not (is_of id child)) (kept past)
+kept (_ ∷ past) = kept past
+
+-- the known children: those kept ones whose birth was told
+abbrev pub known : List Event → List Child
+known [] = []
+known (Told id ∷ past) = filter (is_of id) (unreaped past) ++ filter (λ child. not (is_of id child)) (known past)
+known (_ ∷ past) = known past
+
+-- the child of this id and number died since it was born
+abbrev pub is_dead : List ℕ → ℕ → List Event → Bool
+is_dead id number [] = false
+is_dead id number (Death n ∷ past) = number == n || is_dead id number past
+is_dead id number (Birth i n ∷ past) = not (same_id id i && number == n) && is_dead id number past
+is_dead id number (_ ∷ past) = is_dead id number past
+
+-- a living child has the number
+abbrev pub is_living : ℕ → List Event → Bool
+is_living number past = list_any (λ child. has_number number child && not (is_dead child.id number past)) (unreaped past)
+
+-- the open order of an id: its last one, if nothing was told about the id since
+abbrev pub open_of : List ℕ → List Event → Option Ask
+open_of id [] = None
+open_of id (Asked i ask ∷ past) = if same_id id i then Some ask else open_of id past
+open_of id (Told i ∷ past) = if same_id id i then None else open_of id past
+open_of id (_ ∷ past) = open_of id past
+
+-- its open order, if the system has done nothing on it yet
+abbrev pub undone_of : List ℕ → List Event → Option Ask
+undone_of id [] = None
+undone_of id (Asked i ask ∷ past) = if same_id id i then Some ask else undone_of id past
+undone_of id (Told i ∷ past) = if same_id id i then None else undone_of id past
+undone_of id (Birth i n ∷ past) = if same_id id i then None else undone_of id past
+undone_of id (NoBirth i ∷ past) = if same_id id i then None else undone_of id past
+undone_of id (Reaped i n status ∷ past) = if same_id id i then None else undone_of id past
+undone_of id (Still i ∷ past) = if same_id id i then None else undone_of id past
+undone_of id (NoLook i ∷ past) = if same_id id i then None else undone_of id past
+undone_of id (Hit i ∷ past) = if same_id id i then None else undone_of id past
+undone_of id (Miss i ∷ past) = if same_id id i then None else undone_of id past
+undone_of id (_ ∷ past) = undone_of id past
+
+-- the system did something for the id that is not told
+abbrev pub is_untold : List ℕ → List Event → Bool
+is_untold id [] = false
+is_untold id (Told i ∷ past) = not (same_id id i) && is_untold id past
+is_untold id (Birth i n ∷ past) = same_id id i || is_untold id past
+is_untold id (NoBirth i ∷ past) = same_id id i || is_untold id past
+is_untold id (Reaped i n status ∷ past) = same_id id i || is_untold id past
+is_untold id (Still i ∷ past) = same_id id i || is_untold id past
+is_untold id (NoLook i ∷ past) = same_id id i || is_untold id past
+is_untold id (Hit i ∷ past) = same_id id i || is_untold id past
+is_untold id (Miss i ∷ past) = same_id id i || is_untold id past
+is_untold id (_ ∷ past) = is_untold id past
+
+-- an open order and its id
+pub record Open : Type 0 where
+  pub id : List ℕ
+  pub ask : Ask
+
+-- all the open orders, the newest first
+abbrev pub open_orders : List Event → List Open
+open_orders [] = []
+open_orders (Asked id ask ∷ past) = record { id = id; ask = ask } ∷ filter (λ order. not (same_id id order.id)) (open_orders past)
+open_orders (Told id ∷ past) = filter (λ order. not (same_id id order.id)) (open_orders past)
+open_orders (_ ∷ past) = open_orders past
+
+-- a quiet point: no Start, Term or Kill is open; Looks may be
+abbrev pub is_quiet : List Event → Bool
+is_quiet past = not (list_any (λ order. not (same_ask Look order.ask)) (open_orders past))
+
+-- no order at all is open
+abbrev pub is_idle : List Event → Bool
+is_idle past = not (list_any (λ order. true) (open_orders past))

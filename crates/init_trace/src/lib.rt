@@ -1,0 +1,9 @@
+//! The trace of a run of init: what init did, what the system did, and what passed between them, one happening each.
+//! Its definitions say which steps init owes, which traces a sound system allows, and which laws they keep.
+#![tactic(auto)]
+
+mod happenings;
+mod steps;
+
+pub use happenings::{Handed, Happening, HappeningIn};
+pub use steps::{Goal, Step};

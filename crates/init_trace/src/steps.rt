@@ -1,0 +1,31 @@
+use init_words::{Ask, Id, Letter, Level, PowerKind, Stage};
+
+/// What init does next.
+#[derive(Clone, Copy)]
+pub enum Step {
+    /// Enter a stage, with so many seconds between the two signals that stop a child.
+    Enter(Stage, u16),
+    /// Call the ondemand entries of a letter.
+    Call(Letter),
+    /// Call the entries for news of the power.
+    Power(PowerKind),
+    /// Read inittab again.
+    Reread,
+    /// Give the system an order about one entry.
+    Order(Id, Ask),
+    /// Hold a respawning entry for five minutes.
+    Hold(Id),
+    /// Announce that the runlevel is settled.
+    Settle(Level),
+    /// Execute init anew, and keep its state.
+    Reexec,
+    /// Nothing is due.
+    Idle,
+}
+
+/// The runlevel to go to, and the seconds between the two signals that stop a child.
+#[derive(Clone, Copy, Debug, PartialEq, Eq)]
+pub struct Goal {
+    pub level: Level,
+    pub grace: u16,
+}

@@ -1,0 +1,6 @@
+pub mod Actions
+pub mod Entries
+pub mod Ids
+pub mod Levels
+pub mod Orders
+pub mod Padded

@@ -1,0 +1,10 @@
+-- A short list in a field of fixed room: its items, and blanks behind them.
+use Rattle.std.proofs.Common.{◌≡◌, ◌≤◌, ◌-◌, ◌++◌, ℕ, List, length, take, drop, replicate, arith, length-take-le, take-append-drop}
+
+pub take-padded : {X : Type 0} (room : ℕ) (blank : X) (n : ℕ) (xs : List X) → n ≤ room → length xs ≡ room → drop n xs ≡ replicate (room - n) blank → take n xs ++ replicate (room - length (take n xs)) blank ≡ xs
+take-padded room blank n xs small long rest =
+    let short : n ≤ length xs = omega arith in
+    rw (length-take-le n xs short, ← rest) (take-append-drop n xs)
+
+pub length-front : {X : Type 0} (room : ℕ) (n : ℕ) (xs : List X) → n ≤ room → length xs ≡ room → length (take n xs) ≡ n
+length-front room n xs small long = length-take-le n xs (omega arith)

@@ -1,0 +1,22 @@
+use std::marker::Model;
+
+/// The number that the system gave a child.
+#[derive(Clone, Copy, Debug, PartialEq, Eq)]
+pub struct ChildNo(pub u32);
+
+impl Model for ChildNo {
+    ghost use Rattle.std.specs.Prelude.{ℕ};
+
+    ghost Value = { ℕ };
+
+    ghost view = { λ child. child.0 };
+
+    ghost inverse = { λ number. record { 0 = number } };
+}
+
+/// How a child ended: by itself with an exit status, or killed by a signal.
+#[derive(Clone, Copy, Debug, PartialEq, Eq)]
+pub enum Status {
+    Exit(u8),
+    Killed,
+}

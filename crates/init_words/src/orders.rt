@@ -1,0 +1,44 @@
+use crate::children::{ChildNo, Status};
+
+/// What init asks of the system about one entry.
+#[derive(Clone, Copy, Debug, PartialEq, Eq)]
+pub enum Ask {
+    Start,
+    Look,
+    Term,
+    Kill,
+}
+
+/// What the system answered to an order.
+#[derive(Clone, Copy, Debug, PartialEq, Eq)]
+pub enum Answer {
+    /// A start: the child of that number runs.
+    Born(ChildNo),
+    /// A start that failed.
+    NotBorn,
+    /// A look: the child had ended, and is reaped now.
+    Ended(Status),
+    /// A look: nothing to reap.
+    Alive,
+    /// A look that failed.
+    NoLook,
+    /// A signal was sent.
+    Hit,
+    /// A signal could not be sent.
+    Miss,
+}
+
+/// The two signals that stop a child (init(8)).
+#[derive(Clone, Copy, Debug, PartialEq, Eq)]
+pub enum Sig {
+    Term,
+    Kill,
+}
+
+/// News of the power (initreq.h): it fails, the battery is almost empty, it is back.
+#[derive(Clone, Copy, Debug, PartialEq, Eq)]
+pub enum PowerKind {
+    Fail,
+    FailNow,
+    Ok,
+}

@@ -1,0 +1,48 @@
+use std::alloc::{AllocError, AllocFailed};
+use std::fmt;
+
+/// Want of memory.
+#[derive(Clone, Copy, Debug, PartialEq, Eq)]
+pub struct Memory;
+
+impl fmt::Display for Memory {
+    fn fmt<W: fmt::Write>(&self, f: &mut fmt::Formatter<W>) -> fmt::Result {
+        f.write_str("out of memory")
+    }
+}
+
+impl From<AllocError> for Memory {
+    fn from(_error: AllocError) -> Memory {
+        Memory
+    }
+}
+
+impl<T: Drop> From<AllocFailed<T>> for Memory {
+    fn from(_error: AllocFailed<T>) -> Memory {
+        Memory
+    }
+}
+
+/// Why init's core refused a call. After each of them the core is as it was before.
+#[derive(Clone, Copy, Debug, PartialEq, Eq)]
+pub enum Refusal {
+    /// The id has no open order.
+    NotAsked,
+    /// The id's open order is of another kind than the answer.
+    WrongAnswer,
+    /// A start or a signal is not answered yet.
+    NotQuiet,
+    /// Want of memory.
+    Memory,
+}
+
+impl fmt::Display for Refusal {
+    fn fmt<W: fmt::Write>(&self, f: &mut fmt::Formatter<W>) -> fmt::Result {
+        f.write_str(match self {
+            Refusal::NotAsked => "no order is open for this id",
+            Refusal::WrongAnswer => "the open order of this id is of another kind",
+            Refusal::NotQuiet => "a start or a signal is not answered yet",
+            Refusal::Memory => "out of memory",
+        })
+    }
+}

@@ -1,0 +1,31 @@
+use init_words::{Letter, Level, PowerKind};
+
+/// What init got by a request block (initreq.h, telinit(8)).
+#[derive(Clone, Copy, Debug, PartialEq, Eq)]
+pub enum Got {
+    /// Go to the runlevel, with so many seconds between the two signals that stop a child, 0 to 3,600.
+    Level(Level, u16),
+    /// Start the ondemand entries of the letter.
+    Call(Letter),
+    /// Read inittab again.
+    Reload,
+    /// Execute init anew, and keep its state.
+    Reexec,
+    /// News of the power.
+    Power(PowerKind),
+    /// The block is ignored.
+    Nothing(Cause),
+}
+
+/// Why a request block is ignored.
+#[derive(Clone, Copy, Debug, PartialEq, Eq)]
+pub enum Cause {
+    /// Its first int is not the magic number.
+    Magic,
+    /// Its command is none of initreq.h.
+    Unknown,
+    /// Its command is one of initreq.h that this init does not carry out.
+    LeftOut,
+    /// It asks for a runlevel whose character is none of telinit(8).
+    Character,
+}

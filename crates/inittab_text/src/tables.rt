@@ -1,0 +1,76 @@
+ghost use Rattle.std.specs.Prelude.{◌≡◌, ℕ, List, None, length, slice_get, option_copied, OnOk, OnErr, ◌++◌, [], ◌∷◌};
+ghost use Rattle.init_words.specs.declared.entries.Entry.{Entry};
+ghost use Rattle.init_words.specs.declared.entries.Entry as declared;
+
+use indexmap::IndexMap;
+use init_words::{Entry, Id, Memory};
+use std::alloc::{AllocError, Allocator, Global};
+use std::hash::{BuildHasherDefault, FoldHasher};
+use std::marker::Model;
+
+/// The entries of an inittab, in the order of their lines, each id once.
+#[derive(Clone, Drop)]
+pub struct Table<A: Allocator = Global> {
+    entries: IndexMap<Id, Entry, BuildHasherDefault<FoldHasher>, A>,
+}
+
+impl<A: Allocator> Model for Table<A> {
+    ghost use Rattle.std.specs.Prelude.{◌≡◌, List};
+    ghost use Rattle.indexmap.specs.IndexMap.{keys, values};
+    ghost use Rattle.init_words.specs.declared.entries.Entry.{Entry};
+    ghost use Rattle.inittab_text.specs.Tables.{ids_of};
+
+    ghost Value = { List Entry };
+
+    ghost view = { λ t. values t.entries };
+
+    ghost invariant = { λ t. keys t.entries ≡ ids_of (values t.entries) };
+}
+
+impl<A: Allocator + Copy> Table<A> {
+    /// A table of no entries. It takes no memory.
+    pub fn new(alloc: A) -> Table<A>
+        ensures { result ≡ [] }
+    {
+        Table {
+            entries: IndexMap::new(alloc),
+        }
+    }
+}
+
+impl<A: Allocator> Table<A> {
+    ghost use Rattle.inittab_text.specs.Tables.{ids_of, entry_of, is_distinct};
+    ghost use Rattle.std.specs.Prelude.{true};
+
+    /// How many entries it has.
+    pub fn len(&self) -> usize
+        ensures { result ≡ length self.now }
+    {
+        self.entries.len()
+    }
+
+    /// The entry at a place, counted from 0.
+    pub fn at(&self, place: usize) -> Option<&Entry>
+        ensures { option_copied result ≡ slice_get self.now place }
+    {
+        let (_, entry) = self.entries.get_index(place)?;
+        Some(entry)
+    }
+
+    /// The entry of an id.
+    pub fn get(&self, id: &Id) -> Option<&Entry>
+        ensures value { option_copied result ≡ entry_of id.now self.now }
+    {
+        self.entries.get(id)
+    }
+
+    /// Adds an entry behind the others.
+    pub(crate) fn push(&mut self, entry: Entry) -> Result<(), Memory>
+        requires { entry_of entry.id self.old ≡ None }
+        ensures ok { OnOk result (self.new ≡ self.old ++ entry ∷ []) }
+        ensures err { OnErr result (self.new ≡ self.old) }
+    {
+        self.entries.insert(entry.id, entry)?;
+        Ok(())
+    }
+}
