@@ -1,0 +1,222 @@
+-- The laws of whole runs.
+use Rattle.std.proofs.Common.{◌≡◌, ℕ, ◌+◌, ◌<◌, ◌≤◌, Bool, true, false, cond, inl, inr, List, [], ◌∷◌, ◌++◌, length, refl, sym, ◌∙◌, ap, arith, nat_le, nat_lt, Option, Some, None, append_assoc}
+use Rattle.std.specs.Prelude.{All, count_by}
+use Rattle.std.specs.List.{AllPass, list_all}
+use Rattle.std.proofs.lemmas.Bool.{and_from, and_parts, cases_lt, le-leb, leb-true, ltb-false}
+use Rattle.std.proofs.lemmas.Bool.Decides.{nat_tests}
+use Rattle.std.proofs.lemmas.List.{append-nil}
+use Rattle.std.proofs.lemmas.List.Elements.{All-nil, All-push, All-weaker}
+use Rattle.std.proofs.lemmas.List.Sums.{sum_by-append, sum_by_push}
+use Rattle.respawn_limit.specs.declared.May.TheVariants.{Yes, HoldUntil}
+use Rattle.respawn_limit.specs.State.{LimiterState}
+use Rattle.respawn_limit.specs.Window.{is_recent, is_full, answer, may_of, last_ten, with_start, Remembers}
+use Rattle.respawn_limit.specs.Past.{Event, Noted, HeldAt, Cleared, times_noted, hold_end, last_reading, is_yes, may_follow, is_run, is_no_clear, StandsAfter, ElevenStartsTakeTwoMinutes, NoStartWhileHeld}
+use Rattle.respawn_limit.proofs.WindowLemmas.{count_all, answer-last_ten, Remembers-push}
+
+-- it remembers all starts that it was told of
+pub Remembers-StandsAfter : (limiter : LimiterState) (past : List Event) → StandsAfter limiter past
+    → Remembers limiter.starts (times_noted past)
+Remembers-StandsAfter limiter past stands =
+    record { last = ap (λ (l : LimiterState). l.starts) stands.state; ordered = stands.ordered }
+
+-- what a limiter answers by its state, it answers by all that it was told
+pub may_of-StandsAfter : (limiter : LimiterState) (past : List Event) (now : ℕ) → StandsAfter limiter past
+    → may_of limiter now ≡ answer (times_noted past) (hold_end past) now
+may_of-StandsAfter limiter past now stands =
+    ap (λ (l : LimiterState). may_of l now) stands.state
+    ∙ answer-last_ten (times_noted past) (hold_end past) now stands.ordered
+
+-- one more start, no earlier than those that are kept
+pub StandsAfter-Noted : (limiter new : LimiterState) (past : List Event) (now : ℕ) → StandsAfter limiter past
+    → All (λ start. start ≤ now) limiter.starts → new ≡ with_start limiter now → StandsAfter new (Noted now ∷ past)
+StandsAfter-Noted limiter new past now stands late is =
+    let known : Remembers (last_ten (limiter.starts ++ now ∷ [])) (times_noted past ++ now ∷ []) =
+    Remembers-push limiter.starts (times_noted past) now (Remembers-StandsAfter limiter past stands) late in
+    record {
+      state = is ∙ same_state (last_ten (limiter.starts ++ now ∷ [])) (last_ten (times_noted past ++ now ∷ [])) limiter.held (hold_end past)
+          known.last (ap (λ (l : LimiterState). l.held) stands.state);
+      ordered = known.ordered;
+    }
+  where
+    same_state : (a b : List ℕ) (h k : Option ℕ) → a ≡ b → h ≡ k
+        → (let x : LimiterState = record { starts = a; held = h } in let y : LimiterState = record { starts = b; held = k } in x ≡ y)
+    same_state a b h k starts held = cc
+
+-- one more start that the limiter allows continues a run
+pub is_run-Noted : (limiter : LimiterState) (past : List Event) (now : ℕ) → StandsAfter limiter past → may_of limiter now ≡ Yes
+    → is_run past ≡ true → last_reading past ≤ now → is_run (Noted now ∷ past) ≡ true
+is_run-Noted limiter past now stands allowed run late =
+    let says : is_yes (answer (times_noted past) (hold_end past) now) ≡ true =
+    ap is_yes (sym (may_of-StandsAfter limiter past now stands) ∙ allowed) in
+    and_from (may_follow past (Noted now)) (is_run past)
+    (and_from (nat_le (last_reading past) now) (is_yes (answer (times_noted past) (hold_end past) now))
+    (le-leb (last_reading past) now late) says) run
+
+-- what came before is a run too
+pub is_run-earlier : (later past : List Event) → is_run (later ++ past) ≡ true → is_run past ≡ true
+is_run-earlier [] past run = run
+is_run-earlier (event ∷ later) past run =
+    is_run-earlier later past (and_parts (may_follow (later ++ past) event) (is_run (later ++ past)) run).1
+
+-- the starts noted since, after those noted before
+times_noted-append : (between past : List Event) → list_all is_no_clear between ≡ true
+    → times_noted (between ++ past) ≡ times_noted past ++ times_noted between
+times_noted-append [] past kept = sym (append-nil (times_noted past))
+times_noted-append (Noted time ∷ between) past kept =
+    rw (times_noted-append between past kept) (append_assoc (times_noted past) (times_noted between) (time ∷ []))
+times_noted-append (HeldAt time ∷ between) past kept = times_noted-append between past kept
+times_noted-append (Cleared ∷ between) past kept = cc
+
+-- what the readings since a moment are: none is below the last reading then
+record NoneEarlier (between past : List Event) : Type 0 where
+  starts : All (λ time. last_reading past ≤ time) (times_noted between)
+  reading : last_reading past ≤ last_reading (between ++ past)
+
+none_earlier : (between past : List Event) → is_run (between ++ past) ≡ true → list_all is_no_clear between ≡ true → NoneEarlier between past
+none_earlier [] past run kept = record { starts = All-nil (λ time. last_reading past ≤ time); reading = omega arith }
+none_earlier (Noted time ∷ between) past run kept =
+    let parts : (may_follow (between ++ past) (Noted time) ≡ true) × (is_run (between ++ past) ≡ true) =
+    and_parts (may_follow (between ++ past) (Noted time)) (is_run (between ++ past)) run in
+    let since : last_reading (between ++ past) ≤ time =
+    leb-true _ _ (and_parts (nat_le (last_reading (between ++ past)) time)
+    (is_yes (answer (times_noted (between ++ past)) (hold_end (between ++ past)) time)) parts.0).0 in
+    let before : NoneEarlier between past = none_earlier between past parts.1 kept in
+    record {
+      starts = All-push (λ time. last_reading past ≤ time) (times_noted between) time before.starts (omega arith);
+      reading = omega arith;
+    }
+none_earlier (HeldAt time ∷ between) past run kept =
+    let parts : (may_follow (between ++ past) (HeldAt time) ≡ true) × (is_run (between ++ past) ≡ true) =
+    and_parts (may_follow (between ++ past) (HeldAt time)) (is_run (between ++ past)) run in
+    let since : last_reading (between ++ past) ≤ time = leb-true _ _ parts.0 in
+    let before : NoneEarlier between past = none_earlier between past parts.1 kept in
+    record { starts = before.starts; reading = omega arith }
+none_earlier (Cleared ∷ between) past run kept = cc
+
+-- what a yes says of the tests before it
+yes_at : (full : Bool) (end : ℕ) → is_yes (cond full (HoldUntil end) Yes) ≡ true → full ≡ false
+yes_at true end says = cc
+yes_at false end says = refl
+
+yes_past : (held full : Bool) (end next : ℕ) → is_yes (cond held (HoldUntil end) (cond full (HoldUntil next) Yes)) ≡ true
+    → (held ≡ false) × (full ≡ false)
+yes_past true full end next says = cc
+yes_past false full end next says = (refl, yes_at full next says)
+
+-- at a yes the window isn't full
+room_at_yes : (noted : List ℕ) (end : Option ℕ) (now : ℕ) → is_yes (answer noted end now) ≡ true → is_full noted now ≡ false
+room_at_yes noted None now says = yes_at (is_full noted now) (now + 300) says
+room_at_yes noted (Some end) now says = (yes_past (nat_lt now end) (is_full noted now) end (now + 300) says).1
+
+-- at a yes the hold is over
+over_at_yes : (noted : List ℕ) (held : Option ℕ) (end now : ℕ) → held ≡ Some end → is_yes (answer noted held now) ≡ true → end ≤ now
+over_at_yes noted held end now is says =
+    let at_end : is_yes (answer noted (Some end) now) ≡ true = rw is at says in
+    ltb-false now end (yes_past (nat_lt now end) (is_full noted now) end (now + 300) at_end).0
+
+-- a start in a run was noted at a yes
+yes_at_start : (past : List Event) (now : ℕ) → is_run (Noted now ∷ past) ≡ true → is_yes (answer (times_noted past) (hold_end past) now) ≡ true
+yes_at_start past now run =
+    (and_parts (nat_le (last_reading past) now) (is_yes (answer (times_noted past) (hold_end past) now))
+    (and_parts (may_follow past (Noted now)) (is_run past) run).0).1
+
+-- a hold that ends five minutes after this moment or later
+record HoldStands (hold : ℕ) (past : List Event) : Type 0 where
+  end : ℕ
+  is : hold_end past ≡ Some end
+  late : hold + 300 ≤ end
+
+hold_stands : (between earlier : List Event) (hold : ℕ) → is_run (between ++ (HeldAt hold ∷ earlier)) ≡ true
+    → list_all is_no_clear between ≡ true → HoldStands hold (between ++ (HeldAt hold ∷ earlier))
+hold_stands [] earlier hold run kept = record { end = hold + 300; is = refl; late = omega arith }
+hold_stands (Noted time ∷ between) earlier hold run kept =
+    let rest : List Event = between ++ (HeldAt hold ∷ earlier) in
+    let before : HoldStands hold rest =
+    hold_stands between earlier hold (and_parts (may_follow rest (Noted time)) (is_run rest) run).1 kept in
+    record { end = before.end; is = before.is; late = before.late }
+hold_stands (HeldAt time ∷ between) earlier hold run kept =
+    let rest : List Event = between ++ (HeldAt hold ∷ earlier) in
+    let parts : (may_follow rest (HeldAt time) ≡ true) × (is_run rest ≡ true) = and_parts (may_follow rest (HeldAt time)) (is_run rest) run in
+    let since : last_reading rest ≤ time = leb-true _ _ parts.0 in
+    let readings : NoneEarlier between (HeldAt hold ∷ earlier) = none_earlier between (HeldAt hold ∷ earlier) parts.1 kept in
+    let reading : hold ≤ last_reading rest = readings.reading in
+    record { end = time + 300; is = refl; late = omega arith }
+hold_stands (Cleared ∷ between) earlier hold run kept = cc
+
+-- none is noted in the five minutes after a hold
+pub no_start_while_held : NoStartWhileHeld
+no_start_while_held later between earlier hold start run kept =
+    let rest : List Event = between ++ (HeldAt hold ∷ earlier) in
+    let here : is_run (Noted start ∷ rest) ≡ true = is_run-earlier later (Noted start ∷ rest) run in
+    let before : is_run rest ≡ true = (and_parts (may_follow rest (Noted start)) (is_run rest) here).1 in
+    let stands : HoldStands hold rest = hold_stands between earlier hold before kept in
+    let over : stands.end ≤ start =
+    over_at_yes (times_noted rest) (hold_end rest) stands.end start stands.is (yes_at_start rest start here) in
+    let late : hold + 300 ≤ stands.end = stands.late in
+    omega arith
+
+-- ten starts of which none is earlier than the first all count within two minutes of it
+full_within : (before after : List ℕ) (first now : ℕ) → 9 ≤ length after → All (λ time. first ≤ time) after → now < first + 120
+    → is_full ((before ++ first ∷ []) ++ after) now ≡ true
+full_within before after first now nine since soon =
+    let p : ℕ → Bool = is_recent now in
+    let each : AllPass p after = All-weaker (λ time. first ≤ time) (λ time. p time ≡ true) (λ time le. within time le) after since in
+    let here : p first ≡ true = grind (arith, nat_tests) in
+    let all : count_by p after ≡ length after = count_all p after each in
+    let joined : count_by p ((before ++ first ∷ []) ++ after) ≡ count_by p (before ++ first ∷ []) + count_by p after =
+    sum_by-append (λ y. cond (p y) 1 0) (before ++ first ∷ []) after in
+    let pushed : count_by p (before ++ first ∷ []) ≡ count_by p before + cond (p first) 1 0 =
+    sum_by_push (λ y. cond (p y) 1 0) before first in
+    let counted : count_by p (before ++ first ∷ []) ≡ count_by p before + 1 = rw here at pushed in
+    enough (count_by p ((before ++ first ∷ []) ++ after)) (omega arith)
+  where
+    within : (time : ℕ) → first ≤ time → is_recent now time ≡ true
+    within time le = grind (arith, nat_tests)
+
+    enough : (n : ℕ) → 10 ≤ n → nat_le 10 n ≡ true
+    enough n le = grind (arith, nat_tests)
+
+-- no test is both
+not_both : (b : Bool) → b ≡ true → b ≡ false → ⊥
+not_both b is isnt = cc
+
+-- eleven starts take two minutes
+pub eleven_starts : ElevenStartsTakeTwoMinutes
+eleven_starts later between earlier first last run kept nine =
+    let past : List Event = Noted first ∷ earlier in
+    let rest : List Event = between ++ past in
+    let here : is_run (Noted last ∷ rest) ≡ true = is_run-earlier later (Noted last ∷ rest) run in
+    let before : is_run rest ≡ true = (and_parts (may_follow rest (Noted last)) (is_run rest) here).1 in
+    let room : is_full (times_noted rest) last ≡ false =
+    room_at_yes (times_noted rest) (hold_end rest) last (yes_at_start rest last here) in
+    let joined : times_noted rest ≡ (times_noted earlier ++ first ∷ []) ++ times_noted between = times_noted-append between past kept in
+    let readings : NoneEarlier between past = none_earlier between past before kept in
+    elim (cases_lt last (first + 120)) [
+      | inr late ↦ late
+      | inl soon ↦
+          let full : is_full ((times_noted earlier ++ first ∷ []) ++ times_noted between) last ≡ true =
+          full_within (times_noted earlier) (times_noted between) first last nine readings.starts soon in
+          let none : is_full ((times_noted earlier ++ first ∷ []) ++ times_noted between) last ≡ false = rw joined at room in
+          absurd (not_both (is_full ((times_noted earlier ++ first ∷ []) ++ times_noted between) last) full none)
+    ]
+
+-- ten starts at 0
+abbrev ten_starts : List Event
+ten_starts = Noted 0 ∷ Noted 0 ∷ Noted 0 ∷ Noted 0 ∷ Noted 0 ∷ Noted 0 ∷ Noted 0 ∷ Noted 0 ∷ Noted 0 ∷ Noted 0 ∷ []
+
+-- the laws are sharp: ten starts at 0 and one at 120 are a run, and one at 119 is none
+sharp_window : is_run (Noted 120 ∷ ten_starts) ≡ true
+sharp_window = refl
+
+too_soon : is_run (Noted 119 ∷ ten_starts) ≡ false
+too_soon = refl
+
+-- a start five minutes after a hold is in a run, and one a second before is not, unless all was cleared
+sharp_hold : is_run (Noted 419 ∷ HeldAt 119 ∷ ten_starts) ≡ true
+sharp_hold = refl
+
+too_soon_held : is_run (Noted 418 ∷ HeldAt 119 ∷ ten_starts) ≡ false
+too_soon_held = refl
+
+cleared : is_run (Noted 119 ∷ Cleared ∷ HeldAt 119 ∷ ten_starts) ≡ true
+cleared = refl

@@ -1,0 +1,179 @@
+-- Why ten starts are enough: the window is full by the last ten of the times noted where it is full by all of them.
+use Rattle.std.proofs.Common.{◌≡◌, ℕ, ◌+◌, ◌-◌, ◌<◌, ◌≤◌, Bool, true, false, cond, inl, inr, List, [], ◌∷◌, ◌++◌, length, get_or, take, drop, refl, sym, ◌∙◌, ap, arith, length-append, length-drop, nat_le, Option, Some, None}
+use Rattle.std.specs.Prelude.{All, count_by}
+use Rattle.std.specs.List.{AllPass}
+use Rattle.std.specs.List.Sorted.{IsNonDecreasing}
+use Rattle.std.proofs.lemmas.Bool.{cases_Bool, cases_lt}
+use Rattle.std.proofs.lemmas.Bool.Decides.{nat_tests}
+use Rattle.std.proofs.lemmas.List.{get_or-drop, get_or-take, length-take-le, drop-append-le, drop-drop}
+use Rattle.std.proofs.lemmas.List.Elements.{All-head, All-tail, All-from_get_or, All-drop, All-push}
+use Rattle.std.proofs.lemmas.List.Sums.{sum_by-cons, sum_by-take-drop, count_by-le-length}
+use Rattle.std.proofs.lemmas.List.Sorted.{IsNonDecreasingBy-push, IsNonDecreasingBy-drop}
+use Rattle.respawn_limit.specs.Window.{is_recent, is_full, last_ten, answer, window_answer, Remembers}
+
+-- all pass a test
+pub count_all : (p : ℕ → Bool) (xs : List ℕ) → AllPass p xs → count_by p xs ≡ length xs
+count_all p [] each = refl
+count_all p (x ∷ xs) each =
+    let here : p x ≡ true = All-head (λ y. p y ≡ true) x xs each in
+    let rest : count_by p xs ≡ length xs = count_all p xs (All-tail (λ y. p y ≡ true) x xs each) in
+    sum_by-cons (λ y. cond (p y) 1 0) x xs ∙ rw here (omega (arith, rest))
+
+-- none passes a test
+pub count_none : (p : ℕ → Bool) (xs : List ℕ) → All (λ y. p y ≡ false) xs → count_by p xs ≡ 0
+count_none p [] each = refl
+count_none p (x ∷ xs) each =
+    let here : p x ≡ false = All-head (λ y. p y ≡ false) x xs each in
+    let rest : count_by p xs ≡ 0 = count_none p xs (All-tail (λ y. p y ≡ false) x xs each) in
+    sum_by-cons (λ y. cond (p y) 1 0) x xs ∙ rw here (omega (arith, rest))
+
+-- the first doesn't pass
+count_after_no : (p : ℕ → Bool) (x : ℕ) (xs : List ℕ) → p x ≡ false → count_by p (x ∷ xs) ≤ length xs
+count_after_no p x xs here =
+    rw (sum_by-cons (λ y. cond (p y) 1 0) x xs, here) (omega (arith, count_by-le-length p xs))
+
+-- a later start counts as long as an earlier one
+recent_later : (now early late : ℕ) → early ≤ late → is_recent now early ≡ true → is_recent now late ≡ true
+recent_later now early late le h = grind (arith, nat_tests)
+
+-- an earlier start counts no longer than a later one
+old_earlier : (now early late : ℕ) → early ≤ late → is_recent now late ≡ false → is_recent now early ≡ false
+old_earlier now early late le h = grind (arith, nat_tests)
+
+-- a test that is right about whether k are reached is that test
+fits_yes : (k n : ℕ) (b : Bool) → k ≤ n → b ≡ true → nat_le k n ≡ b
+fits_yes k n b le is = grind (arith, nat_tests)
+
+fits_no : (k n : ℕ) (b : Bool) → n < k → b ≡ false → nat_le k n ≡ b
+fits_no k n b lt is = grind (arith, nat_tests)
+
+-- enough in a part is enough
+more : (k a b c : ℕ) → a + b ≡ c → nat_le k b ≡ true → nat_le k b ≡ nat_le k c
+more k a b c sum h = grind (arith, nat_tests)
+
+-- k starts all count where the first of them does
+pub full_by_first : (k now : ℕ) (xs : List ℕ) → IsNonDecreasing xs → length xs ≡ k → 0 < k
+    → nat_le k (count_by (is_recent now) xs) ≡ is_recent now (get_or xs 0 0)
+full_by_first k now [] ordered size some = absurd (omega arith)
+full_by_first k now (x ∷ xs) ordered size some =
+    elim (cases_Bool (is_recent now x)) [
+      | inl counts ↦
+          let each : AllPass (is_recent now) (x ∷ xs) =
+          All-from_get_or (λ y. is_recent now y ≡ true) (x ∷ xs) 0
+          (λ i within. recent_later now x (get_or (x ∷ xs) i 0) (ordered 0 i 0 (omega arith) within) counts) in
+          let all : count_by (is_recent now) (x ∷ xs) ≡ length (x ∷ xs) = count_all (is_recent now) (x ∷ xs) each in
+          fits_yes k (count_by (is_recent now) (x ∷ xs)) (is_recent now x) (omega (arith, all, size)) counts
+      | inr aged ↦
+          fits_no k (count_by (is_recent now) (x ∷ xs)) (is_recent now x)
+          (omega (arith, count_after_no (is_recent now) x xs aged, size)) aged
+    ]
+
+-- the same with n for the number of those before the last k
+longer : (k now : ℕ) (noted : List ℕ) (n : ℕ) → IsNonDecreasing noted → 0 < k → n + k ≡ length noted
+    → nat_le k (count_by (is_recent now) (drop n noted)) ≡ nat_le k (count_by (is_recent now) noted)
+longer k now noted n ordered some size =
+    let p : ℕ → Bool = is_recent now in
+    let split : count_by p (take n noted) + count_by p (drop n noted) ≡ count_by p noted =
+    sum_by-take-drop (λ y. cond (p y) 1 0) noted n in
+    let kept_size : length (drop n noted) ≡ k = omega (arith, length-drop n noted) in
+    let kept_ordered : IsNonDecreasing (drop n noted) = IsNonDecreasingBy-drop (λ x. x) n noted ordered in
+    let kept_full : nat_le k (count_by p (drop n noted)) ≡ p (get_or (drop n noted) 0 0) =
+    full_by_first k now (drop n noted) kept_ordered kept_size some in
+    elim (cases_Bool (p (get_or (drop n noted) 0 0))) [
+      | inl counts ↦ more k (count_by p (take n noted)) (count_by p (drop n noted)) (count_by p noted) split (kept_full ∙ counts)
+      | inr aged ↦
+          let first : get_or (drop n noted) 0 0 ≡ get_or noted n 0 =
+          get_or-drop n noted 0 0 ∙ ap (λ i. get_or noted i 0) (omega arith) in
+          let old : All (λ y. p y ≡ false) (take n noted) =
+          All-from_get_or (λ y. p y ≡ false) (take n noted) 0 (λ i within.
+          let below : i < n = omega (arith, length-take-le n noted (omega arith)) in
+          let le : get_or noted i 0 ≤ get_or noted n 0 = ordered i n 0 (omega arith) (omega arith) in
+          rw (get_or-take n noted i 0 below) (old_earlier now (get_or noted i 0) (get_or noted n 0) le (rw first at aged))) in
+          let none : count_by p (take n noted) ≡ 0 = count_none p (take n noted) old in
+          ap (nat_le k) (omega (arith, split, none))
+    ]
+
+-- the last k tell whether k of all of them count
+pub full_by_last : (k now : ℕ) (noted : List ℕ) → IsNonDecreasing noted → 0 < k
+    → nat_le k (count_by (is_recent now) (drop (length noted - k) noted)) ≡ nat_le k (count_by (is_recent now) noted)
+full_by_last k now noted ordered some = elim (cases_lt k (length noted)) [
+  | inr short ↦
+      let none : length noted - k ≡ 0 = omega arith in
+      rw none refl
+  | inl long ↦ longer k now noted (length noted - k) ordered some (omega arith)
+]
+
+-- the window is full by the last ten where it is full by all
+pub is_full-last_ten : (noted : List ℕ) (now : ℕ) → IsNonDecreasing noted → is_full (last_ten noted) now ≡ is_full noted now
+is_full-last_ten noted now ordered = full_by_last 10 now noted ordered (omega arith)
+
+-- so is the answer
+pub window_answer-last_ten : (noted : List ℕ) (now : ℕ) → IsNonDecreasing noted
+    → window_answer (last_ten noted) now ≡ window_answer noted now
+window_answer-last_ten noted now ordered = rw (is_full-last_ten noted now ordered) refl
+
+-- the last k of the last k and one more
+pub drop_last_push : (k : ℕ) (noted : List ℕ) (y : ℕ)
+    → drop (length (drop (length noted - k) noted ++ y ∷ []) - k) (drop (length noted - k) noted ++ y ∷ [])
+    ≡ drop (length (noted ++ y ∷ []) - k) (noted ++ y ∷ [])
+drop_last_push k noted y =
+    let n : ℕ = length noted - k in
+    let joined : drop n (noted ++ y ∷ []) ≡ drop n noted ++ y ∷ [] = drop-append-le n noted (y ∷ []) (omega arith) in
+    rw (← joined) (drop-drop (length (drop n (noted ++ y ∷ [])) - k) n (noted ++ y ∷ [])
+    ∙ ap (λ m. drop m (noted ++ y ∷ [])) (omega (arith, length-drop n (noted ++ y ∷ []), length-append noted (y ∷ []))))
+
+-- ten or fewer are the last ten
+pub last_ten-few : (times : List ℕ) → length times ≤ 10 → last_ten times ≡ times
+last_ten-few times few = let none : length times - 10 ≡ 0 = omega arith in rw none refl
+
+-- there are ten at most
+pub length-last_ten : (times : List ℕ) → length (last_ten times) ≤ 10
+length-last_ten times = omega (arith, length-drop (length times - 10) times)
+
+-- the last of all is the last of those that are kept
+last_kept : (k : ℕ) (noted : List ℕ) (now d : ℕ) → 0 < k → All (λ start. start ≤ now) (drop (length noted - k) noted) → 0 < length noted
+    → get_or noted (length noted - 1) d ≤ now
+last_kept k noted now d ten late some =
+    let n : ℕ = length noted - k in
+    let at : get_or (drop n noted) (length noted - 1 - n) d ≡ get_or noted (length noted - 1) d =
+    get_or-drop n noted (length noted - 1 - n) d ∙ ap (λ i. get_or noted i d) (omega arith) in
+    rw at at (late (length noted - 1 - n) d (omega (arith, length-drop n noted)))
+
+-- the last ten of times in order are in order
+pub IsNonDecreasing-last_ten : (times : List ℕ) → IsNonDecreasing times → IsNonDecreasing (last_ten times)
+IsNonDecreasing-last_ten times ordered = IsNonDecreasingBy-drop (λ x. x) (length times - 10) times ordered
+
+-- a time that none of those before exceeds keeps the order
+pub IsNonDecreasing-push : (starts : List ℕ) (now : ℕ) → IsNonDecreasing starts → All (λ start. start ≤ now) starts
+    → IsNonDecreasing (starts ++ now ∷ [])
+IsNonDecreasing-push starts now ordered late =
+    IsNonDecreasingBy-push (λ x. x) starts now ordered (λ d some. late (length starts - 1) d (omega arith))
+
+-- ten times in order are remembered whole
+pub Remembers-few : (starts : List ℕ) → length starts ≤ 10 → IsNonDecreasing starts → Remembers starts starts
+Remembers-few starts few ordered = record { last = sym (last_ten-few starts few); ordered = ordered }
+
+-- what holds of the starts that are kept and of one more holds of those that are kept then
+pub All-last_ten_push : (P : ℕ → Type 0) (starts : List ℕ) (now : ℕ) → All P starts → P now → All P (last_ten (starts ++ now ∷ []))
+All-last_ten_push P starts now each here =
+    All-drop P (length (starts ++ now ∷ []) - 10) (starts ++ now ∷ []) (All-push P starts now each here)
+
+-- one more start, no earlier than those that are kept
+pub Remembers-push : (starts noted : List ℕ) (now : ℕ) → Remembers starts noted → All (λ start. start ≤ now) starts
+    → Remembers (last_ten (starts ++ now ∷ [])) (noted ++ now ∷ [])
+Remembers-push starts noted now known late = record {
+  last = rw known.last (drop_last_push 10 noted now);
+  ordered = IsNonDecreasingBy-push (λ x. x) noted now known.ordered
+      (λ d some. last_kept 10 noted now d (omega arith) (rw known.last at late) some);
+}
+
+-- the answer by the last ten of the times noted is that by all of them
+pub answer-last_ten : (noted : List ℕ) (held : Option ℕ) (now : ℕ) → IsNonDecreasing noted
+    → answer (last_ten noted) held now ≡ answer noted held now
+answer-last_ten noted None now ordered = window_answer-last_ten noted now ordered
+answer-last_ten noted (Some end) now ordered = rw (window_answer-last_ten noted now ordered) refl
+
+-- what a limiter answers by the starts that it keeps, it answers by all that were noted
+pub answer-Remembers : (starts noted : List ℕ) (held : Option ℕ) (now : ℕ) → Remembers starts noted
+    → answer starts held now ≡ answer noted held now
+answer-Remembers starts noted held now known = rw known.last (answer-last_ten noted held now known.ordered)
