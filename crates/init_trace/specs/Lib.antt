@@ -1,4 +1,5 @@
 pub mod Agreement
+pub mod Answered
 pub mod Bounds
 pub mod Due
 pub mod Event

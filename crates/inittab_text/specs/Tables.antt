@@ -1,9 +1,14 @@
 -- Tables: lists of entries, read by their ids (inittab(5)).
-use Rattle.std.specs.Prelude.{ℕ, Bool, true, not, ◌&&◌, List, [], ◌∷◌, map, find, Option}
+use Rattle.std.specs.Prelude.{ℕ, Bool, true, not, ◌&&◌, if◌then◌else◌, List, [], ◌∷◌, map, find, Option, Some, None}
 use Rattle.std.specs.List.{list_any}
-use Rattle.std.specs.Option.{option_map}
+use Rattle.std.specs.Option.{option_map, option_or}
 use Rattle.init_words.specs.declared.entries.Entry.{Entry}
 use Rattle.init_words.specs.declared.actions.Act.{Act}
+use Rattle.init_words.specs.declared.actions.Act.TheVariants.{Initdefault}
+use Rattle.init_words.specs.declared.levels.Level.{Level}
+use Rattle.init_words.specs.declared.levels.Mark.{Mark}
+use Rattle.init_words.specs.declared.levels.Mark.TheVariants.{At, OnCall}
+use Rattle.init_words.specs.Actions.{same_act}
 use Rattle.init_words.specs.Ids.{same_id}
 
 abbrev pub ids_of : List Entry → List (List ℕ)
@@ -24,3 +29,18 @@ act_of id table = option_map (λ (e : Entry). e.act) (entry_of id table)
 abbrev pub is_distinct : List Entry → Bool
 is_distinct [] = true
 is_distinct (e ∷ es) = not (list_any (has_id e.id) es) && is_distinct es
+
+-- the first runlevel among the marks
+abbrev pub first_level : List Mark → Option Level
+first_level [] = None
+first_level (At level ∷ marks) = Some level
+first_level (OnCall letter ∷ marks) = first_level marks
+
+-- the runlevel that an entry names as the default: an initdefault entry's first one
+abbrev pub default_of : Entry → Option Level
+default_of e = if same_act e.act Initdefault then first_level e.levels.items else None
+
+-- the default runlevel: that of the first entry that names one
+abbrev pub default_level_of : List Entry → Option Level
+default_level_of [] = None
+default_level_of (e ∷ table) = option_or (default_of e) (default_level_of table)

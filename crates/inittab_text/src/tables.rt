@@ -1,9 +1,9 @@
 ghost use Rattle.std.specs.Prelude.{◌≡◌, ℕ, List, None, length, slice_get, option_copied, OnOk, OnErr, ◌++◌, [], ◌∷◌};
 ghost use Rattle.init_words.specs.declared.entries.Entry.{Entry};
-ghost use Rattle.init_words.specs.declared.entries.Entry as declared;
+ghost use Rattle.inittab_text.specs.Tables.{first_level, default_of};
 
 use indexmap::IndexMap;
-use init_words::{Entry, Id, Memory};
+use init_words::{Act, Entry, Id, Level, Mark, Memory};
 use std::alloc::{AllocError, Allocator, Global};
 use std::hash::{BuildHasherDefault, FoldHasher};
 use std::marker::Model;
@@ -39,8 +39,8 @@ impl<A: Allocator + Copy> Table<A> {
 }
 
 impl<A: Allocator> Table<A> {
-    ghost use Rattle.inittab_text.specs.Tables.{ids_of, entry_of, is_distinct};
-    ghost use Rattle.std.specs.Prelude.{true};
+    ghost use Rattle.inittab_text.specs.Tables.{ids_of, entry_of, is_distinct, default_of, default_level_of};
+    ghost use Rattle.std.specs.Prelude.{true, ◌<◌, Some};
 
     /// How many entries it has.
     pub fn len(&self) -> usize
@@ -64,6 +64,29 @@ impl<A: Allocator> Table<A> {
         self.entries.get(id)
     }
 
+    /// The default runlevel: the first of the first initdefault entry that names one (inittab(5)).
+    pub fn default_level(&self) -> Option<Level>
+        ensures { result ≡ default_level_of self.now }
+    {
+        for place in 0..self.len() {
+            if let Some(level) = default_of(self.entry(place)) {
+                return Some(level);
+            }
+        }
+        None
+    }
+
+    /// The entry at a place below the length.
+    pub(crate) fn entry(&self, place: usize) -> &Entry
+        requires { place < length self.now }
+        ensures { slice_get self.now place ≡ Some result.now }
+    {
+        let Some(entry) = self.at(place) else {
+            unreachable!()
+        };
+        entry
+    }
+
     /// Adds an entry behind the others.
     pub(crate) fn push(&mut self, entry: Entry) -> Result<(), Memory>
         requires { entry_of entry.id self.old ≡ None }
@@ -73,4 +96,26 @@ impl<A: Allocator> Table<A> {
         self.entries.insert(entry.id, entry)?;
         Ok(())
     }
+}
+
+/// The first runlevel among the marks.
+fn first_level(marks: &[Mark]) -> Option<Level>
+    ensures { result ≡ first_level marks.now }
+{
+    for mark in marks {
+        if let Mark::At(level) = mark {
+            return Some(*level);
+        }
+    }
+    None
+}
+
+/// The runlevel that an entry names as the default.
+fn default_of(entry: &Entry) -> Option<Level>
+    ensures { result ≡ default_of entry.now }
+{
+    if entry.act != Act::Initdefault {
+        return None;
+    }
+    first_level(entry.levels.as_slice())
 }

@@ -1,0 +1,17 @@
+use Rattle.std.proofs.Common.{◌∙◌, ◌+◌, ap, sym, drop}
+use Rattle.std.specs.Option.{option_or}
+use Rattle.inittab_text.specs.Tables.{default_level_of}
+use Rattle.inittab_text.proofs.Entries.{default_level_of-drop}
+use Rattle.inittab_text.proofs.tables.Table.default_level.Goals as goal
+
+pub returns-in-Some : goal.returns-in-Some
+returns-in-Some g c =
+    let rest = default_level_of (drop (c.loop-place.place + 1) c.args.self.now) in
+    ap (λ o. option_or o rest) c.in-Some.ensures
+    ∙ sym (default_level_of-drop c.args.self.now c.loop-place.place c.entry.result.now c.entry.ensures) ∙ c.loop-place.invariant
+
+pub loop-place-preserved : goal.loop-place-preserved
+loop-place-preserved g c =
+    let rest = default_level_of (drop (c.loop-place.place + 1) c.args.self.now) in
+    ap (λ o. option_or o rest) (sym c.in_default.is ∙ c.default_of.ensures)
+    ∙ sym (default_level_of-drop c.args.self.now c.loop-place.place c.entry.result.now c.entry.ensures) ∙ c.loop-place.invariant

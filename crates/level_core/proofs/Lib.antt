@@ -1,0 +1,4 @@
+pub mod Opening
+pub mod Pairs
+pub mod Starts
+pub mod Timely
