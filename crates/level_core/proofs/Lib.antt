@@ -1,4 +1,11 @@
+pub mod FirstDue
+pub mod Fitting
+pub mod Heads
 pub mod Opening
 pub mod Pairs
+pub mod Plain
+pub mod Same
+pub mod Stepping
 pub mod Starts
 pub mod Timely
+pub mod Windows

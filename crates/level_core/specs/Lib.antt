@@ -1,2 +1,4 @@
 pub mod Decide
+pub mod Fit
+pub mod Path
 pub mod Slots

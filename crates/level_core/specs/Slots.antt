@@ -74,7 +74,7 @@ after_answer (Ended status) slot = record slot { order = None; child = None; loo
 after_answer _ slot = record slot { order = None }
 
 abbrev pub is_slot_of : List ℕ → Slot → Bool
-is_slot_of id slot = same_id id slot.id
+is_slot_of id slot = same_id slot.id id
 
 -- the records with one of an id changed
 abbrev pub changed : List ℕ → (Slot → Slot) → Slot → Slot

@@ -157,7 +157,7 @@ pub(crate) fn order_of(slots: &[Slot], id: Id) -> Option<Ask>
     ensures { result ≡ order_in id slots.now }
 {
     for slot in slots {
-        if id == slot.id {
+        if slot.id == id {
             return slot.order;
         }
     }
@@ -169,7 +169,7 @@ fn change_order(slot: &mut Slot, id: Id, ask: Ask, now: u64)
     requires timely { is_timely now slot.old ≡ true }
     ensures { slot.new ≡ changed id (after_order ask now) slot.old }
 {
-    if id == slot.id {
+    if slot.id == id {
         note_order(slot, ask, now);
     }
 }
@@ -189,7 +189,7 @@ fn change_hold(slot: &mut Slot, id: Id, now: u64)
     requires { now ≤ clock_limit }
     ensures { slot.new ≡ changed id (after_hold now) slot.old }
 {
-    if id == slot.id {
+    if slot.id == id {
         note_hold(slot, now);
     }
 }
@@ -207,7 +207,7 @@ pub(crate) fn hold_given(slots: &mut [Slot], id: Id, now: u64)
 fn change_answer(slot: &mut Slot, id: Id, answer: &Answer)
     ensures { slot.new ≡ changed id (after_answer answer.now) slot.old }
 {
-    if id == slot.id {
+    if slot.id == id {
         note_answer(slot, answer);
     }
 }

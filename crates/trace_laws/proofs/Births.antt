@@ -1,0 +1,91 @@
+-- What every sound trace keeps of the children: none is born out of place, and no id has two.
+use Rattle.std.proofs.Common.{◌≡◌, ◌≤◌, refl, sym, ◌∙◌, ap, ℕ, Bool, true, false, not, cond, List, [], ◌∷◌, ◌++◌, filter, length, lit≤, le_trans, arith}
+use Rattle.std.specs.List.{list_any}
+use Rattle.std.proofs.lemmas.Bool.{false≢true, and_parts}
+use Rattle.init_words.specs.declared.orders.Ask.TheVariants.{Start}
+use Rattle.init_words.specs.Ids.{same_id}
+use Rattle.init_trace.specs.declared.happenings.Happening.TheVariants.{NewTable, Birth, Reaped}
+use Rattle.init_trace.specs.declared.steps.Goal.{Goal}
+use Rattle.init_trace.specs.Event.{Event}
+use Rattle.init_trace.specs.Past.{Child, is_of, is_child, has_number, has_child, born, unreaped, kept, undone_of}
+use Rattle.init_trace.specs.Wanted.{is_order}
+use Rattle.init_trace.specs.Sound.{may_come, is_sound}
+use Rattle.init_trace.specs.Lawful.{is_alone, is_placed}
+use Rattle.trace_laws.proofs.Tests.{falsely, not_from, same_id-is, is_order-is, filter_none}
+use Rattle.trace_laws.proofs.Orders.{unreaped_kept}
+use Rattle.trace_laws.proofs.Keeps.{Ready, sound_holds, sound_ind}
+
+-- what came before a happening of a sound trace is sound
+sound_rest : (goal : Goal) (happening next : Event) (past : List Event) → is_sound goal (happening ∷ next ∷ past) ≡ true → (may_come goal happening (next ∷ past) ≡ true) × (is_sound goal (next ∷ past) ≡ true)
+sound_rest goal (NewTable table) next past h = and_parts (may_come goal (NewTable table) (next ∷ past)) (is_sound goal (next ∷ past)) h
+sound_rest goal happening next past h = and_parts (may_come goal happening (next ∷ past)) (is_sound goal (next ∷ past)) h
+
+pub sound_before : (goal : Goal) (later : List Event) (happening : Event) (past : List Event) → is_sound goal (later ++ happening ∷ past) ≡ true → is_sound goal (happening ∷ past) ≡ true
+sound_before goal [] happening past h = h
+sound_before goal (x ∷ []) happening past h = (sound_rest goal x happening past h).1
+sound_before goal (x ∷ y ∷ later) happening past h = sound_before goal (y ∷ later) happening past (sound_rest goal x y (later ++ happening ∷ past) h).1
+
+-- what holds of the empty past and of every sound one holds at each moment of a sound trace
+pub at_moment : (goal : Goal) (P : List Event → Type 0) → P [] → ((past : List Event) → is_sound goal past ≡ true → P past) → (later past : List Event) → is_sound goal (later ++ past) ≡ true → P past
+at_moment goal P none each later [] h = none
+at_moment goal P none each later (happening ∷ past) h = each (happening ∷ past) (sound_before goal later happening past h)
+
+-- a happening other than a table came to a sound past, where it may
+abbrev pub is_table : Event → Bool
+is_table (NewTable table) = true
+is_table _ = false
+
+pub sound_step : (goal : Goal) (happening : Event) (past : List Event) → is_table happening ≡ false → is_sound goal (happening ∷ past) ≡ true → (may_come goal happening past ≡ true) × (is_sound goal past ≡ true)
+sound_step goal (NewTable table) past other h = absurd (false≢true (sym other))
+sound_step goal happening past other h = and_parts (may_come goal happening past) (is_sound goal past) h
+
+pub step_at : (goal : Goal) (later : List Event) (happening : Event) (past : List Event) → is_table happening ≡ false → is_sound goal (later ++ happening ∷ past) ≡ true → (may_come goal happening past ≡ true) × (is_sound goal past ≡ true)
+step_at goal later happening past other h = sound_step goal happening past other (sound_before goal later happening past h)
+
+-- at a birth the id was ready for it
+birth_start : (goal : Goal) (id : List ℕ) (n : ℕ) (past : List Event) → may_come goal (Birth id n) past ≡ true → is_order Start (undone_of id past) ≡ true
+birth_start goal id n past may = (and_parts (is_order Start (undone_of id past)) (not (list_any (has_number n) (unreaped past))) may).0
+
+pub birth_ready : (goal : Goal) (later : List Event) (id : List ℕ) (n : ℕ) (past : List Event) → is_sound goal (later ++ Birth id n ∷ past) ≡ true → Ready id past
+birth_ready goal later id n past h = let parts = step_at goal later (Birth id n) past refl h in (sound_holds goal past parts.1).ready id (is_order-is Start (undone_of id past) (birth_start goal id n past parts.0))
+
+ready_alone : (id : List ℕ) (past : List Event) → Ready id past → has_child id (unreaped past) ≡ false
+ready_alone id past ready = falsely (has_child id (unreaped past)) (has_child id (kept past)) (unreaped_kept (is_of id) past) ready.childless
+
+pub birth_alone : (goal : Goal) (later : List Event) (id : List ℕ) (n : ℕ) (past : List Event) → is_sound goal (later ++ Birth id n ∷ past) ≡ true → is_alone id past ≡ true
+birth_alone goal later id n past h = not_from (has_child id (unreaped past)) (ready_alone id past (birth_ready goal later id n past h))
+
+pub birth_placed : (goal : Goal) (later : List Event) (id : List ℕ) (n : ℕ) (past : List Event) → is_sound goal (later ++ Birth id n ∷ past) ≡ true → is_placed id past ≡ true
+birth_placed goal later id n past h = (birth_ready goal later id n past h).placed
+
+-- no id has two unreaped children
+few_filtered : (p q : Child → Bool) (xs : List Child) → length (filter p (filter q xs)) ≤ length (filter p xs)
+few_filtered p q [] = lit≤ tt
+few_filtered p q (x ∷ xs) = split (q x) (few_filtered p q xs) where
+  both : (c : Bool) (ys zs : List Child) → length ys ≤ length zs → length (cond c (x ∷ ys) ys) ≤ length (cond c (x ∷ zs) zs)
+  both true ys zs less = omega arith
+  both false ys zs less = less
+
+  one : (c : Bool) (ys zs : List Child) → length ys ≤ length zs → length ys ≤ length (cond c (x ∷ zs) zs)
+  one true ys zs less = omega arith
+  one false ys zs less = less
+
+  split : (b : Bool) → length (filter p (filter q xs)) ≤ length (filter p xs) → length (filter p (cond b (x ∷ filter q xs) (filter q xs))) ≤ length (cond (p x) (x ∷ filter p xs) (filter p xs))
+  split true less = both (p x) (filter p (filter q xs)) (filter p xs) less
+  split false less = one (p x) (filter p (filter q xs)) (filter p xs) less
+
+one_birth : (goal : Goal) (i : List ℕ) (n : ℕ) (past : List Event) (id : List ℕ) → Ready i past → length (filter (is_of id) (unreaped past)) ≤ 1 → length (filter (is_of id) (unreaped (Birth i n ∷ past))) ≤ 1
+one_birth goal i n past id ready before = at_id (same_id id i) refl where
+  at_id : (b : Bool) → same_id id i ≡ b → length (cond b (born i n past ∷ filter (is_of id) (unreaped past)) (filter (is_of id) (unreaped past))) ≤ 1
+  at_id true same = rw (filter_none (is_of id) (unreaped past) (ap (λ x. has_child x (unreaped past)) (same_id-is id i same) ∙ ready_alone i past ready)) (lit≤ tt)
+  at_id false differ = before
+
+pub one_child : (goal : Goal) (past : List Event) → is_sound goal past ≡ true → (id : List ℕ) → length (filter (is_of id) (unreaped past)) ≤ 1
+one_child goal past h = sound_ind goal (λ before. (id : List ℕ) → length (filter (is_of id) (unreaped before)) ≤ 1) (λ table distinct id. lit≤ tt) next past h where
+  next : (happening : Event) (before : List Event) → may_come goal happening before ≡ true → is_sound goal before ≡ true → ((id : List ℕ) → length (filter (is_of id) (unreaped before)) ≤ 1) → (id : List ℕ) → length (filter (is_of id) (unreaped (happening ∷ before))) ≤ 1
+  next (Birth i n) before may sound one id = one_birth goal i n before id ((sound_holds goal before sound).ready i (is_order-is Start (undone_of i before) (birth_start goal i n before may))) (one id)
+  next (Reaped i n status) before may sound one id = le_trans (few_filtered (is_of id) (λ child. not (is_child i n child)) (unreaped before)) (one id)
+  next (_) before may sound one id = one id
+
+pub one_child_at : (goal : Goal) (later past : List Event) (id : List ℕ) → is_sound goal (later ++ past) ≡ true → length (filter (is_of id) (unreaped past)) ≤ 1
+one_child_at goal later past id h = at_moment goal (λ before. length (filter (is_of id) (unreaped before)) ≤ 1) (lit≤ tt) (λ before sound. one_child goal before sound id) later past h

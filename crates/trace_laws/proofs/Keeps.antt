@@ -1,0 +1,397 @@
+-- What every sound trace keeps at each of its moments.
+use Rattle.std.proofs.Common.{◌≡◌, refl, sym, ◌∙◌, ap, subst, inl, inr, ℕ, ◌==◌, Bool, true, false, not, ◌&&◌, ◌||◌, cond, List, [], ◌∷◌, Option, Some, None, is_some}
+use Rattle.std.specs.List.{list_any}
+use Rattle.std.specs.Option.{option_map, option_map_or}
+use Rattle.std.proofs.lemmas.Bool.{false≢true, and_parts, and_from, and_left, and_right, or_left, or_right, or_from, not_from_true}
+use Rattle.std.proofs.lemmas.Option.{none-some, same_Some}
+use Rattle.init_words.specs.declared.entries.Entry.{Entry}
+use Rattle.init_words.specs.declared.actions.Act.{Act}
+use Rattle.init_words.specs.declared.actions.Act.TheVariants as act
+use Rattle.init_words.specs.declared.levels.Mark.{Mark}
+use Rattle.init_words.specs.declared.stages.Stage.{Stage}
+use Rattle.init_words.specs.declared.stages.Stage.TheVariants as stage
+use Rattle.init_words.specs.declared.orders.Ask.{Ask}
+use Rattle.init_words.specs.declared.orders.Ask.TheVariants.{Start, Look, Term, Kill}
+use Rattle.init_words.specs.Ids.{same_id}
+use Rattle.init_words.specs.Orders.{same_ask}
+use Rattle.init_words.specs.Entries.{starts_by, lives_by, waited_by, waited_of}
+use Rattle.inittab_text.specs.Tables.{has_id, entry_of, act_of, is_distinct}
+use Rattle.init_trace.specs.declared.happenings.Happening.TheVariants.{NewTable, Enter, Call, Power, Asked, Birth, NoBirth, Reaped, Still, NoLook, Hit, Miss, Told}
+use Rattle.init_trace.specs.declared.steps.Step.TheVariants as step
+use Rattle.init_trace.specs.declared.steps.Goal.{Goal}
+use Rattle.init_trace.specs.Event.{Event}
+use Rattle.init_trace.specs.Past.{table_of, stage_of, Child, is_of, is_child, has_number, has_child, born, unreaped, kept, known, open_of, undone_of, is_untold, is_quiet, is_dead}
+use Rattle.init_trace.specs.Wanted.{starts_in, is_order, is_asked, is_called, wanted_by, is_wanted, is_owed, entries_before, is_owed_before, may_live, is_excluded}
+use Rattle.init_trace.specs.Spells.{stop_due, stop_by, is_missed, spell_hits}
+use Rattle.init_trace.specs.Lawful.{is_placed, may_term}
+use Rattle.init_trace.specs.Due.{is_due}
+use Rattle.init_trace.specs.Sound.{may_come, is_sound}
+use Rattle.trace_laws.proofs.Tests.{both_ways, falsely, or_either, not_is, not_from, same_id-is, same_id-self, same_id-apart, is_order-is, same_act-self, any_less, any_within}
+use Rattle.trace_laws.proofs.Orders.{cleared, undone_is_open, quiet_looks, told_known, unreaped_kept, kept_before_told, same_of}
+use Rattle.trace_laws.proofs.Dues.{is_signal, MayRun, MayStart, MayStop, due_facts}
+
+-- while a Start of the id is undone: no kept child of it, its entry starts in the stage, no earlier one is owed, no kept child is excluded
+pub record Ready (id : List ℕ) (past : List Event) : Type 0 where
+  pub childless : has_child id (kept past) ≡ false
+  pub placed : is_placed id past ≡ true
+  pub ahead : is_owed_before id past ≡ false
+  pub spared : list_any (is_excluded past) (kept past) ≡ false
+
+pub record Holds (past : List Event) : Type 0 where
+  pub distinct : is_distinct (table_of past) ≡ true
+  pub dawn : stage_of past ≡ None → list_any (λ (child : Child). true) (kept past) ≡ false
+  pub told : (id : List ℕ) → is_untold id past ≡ true → is_some (open_of id past) ≡ true
+  pub done : (id : List ℕ) (ask : Ask) → undone_of id past ≡ Some ask → is_untold id past ≡ false
+  pub ready : (id : List ℕ) → undone_of id past ≡ Some Start → Ready id past
+  pub stopping : (id : List ℕ) (ask : Ask) → undone_of id past ≡ Some ask → is_signal ask ≡ true → may_term id past ≡ true
+
+-- an order that is due is of an id with no open order
+pub asked_free : (goal : Goal) (i : List ℕ) (ask : Ask) (past : List Event) → is_due goal (step.Order i ask) past ≡ true → open_of i past ≡ None
+asked_free goal i Start past h = (due_facts goal past (step.Order i Start) h).run.unasked
+asked_free goal i Look past h = (due_facts goal past (step.Order i Look) h).unasked
+asked_free goal i Term past h = (due_facts goal past (step.Order i Term) h).unasked
+asked_free goal i Kill past h = (due_facts goal past (step.Order i Kill) h).unasked
+
+-- where no order of the id is open, nothing of it is untold
+pub free_told : (id : List ℕ) (past : List Event) → ((x : List ℕ) → is_untold x past ≡ true → is_some (open_of x past) ≡ true) → open_of id past ≡ None → is_untold id past ≡ false
+free_told id past told free = falsely (is_untold id past) (is_some (open_of id past)) (told id) (ap is_some free)
+
+signal_busy : (ask : Ask) → is_signal ask ≡ true → same_ask Look ask ≡ false
+signal_busy Term h = refl
+signal_busy Kill h = refl
+signal_busy Start h = absurd (false≢true h)
+signal_busy Look h = absurd (false≢true h)
+
+-- at a quiet point no Start and no signal is undone
+no_start : {P : Type 0} (id : List ℕ) (past : List Event) → is_quiet past ≡ true → undone_of id past ≡ Some Start → P
+no_start id past quiet is = absurd (false≢true (quiet_looks id Start past quiet (undone_is_open id Start past is)))
+
+no_signal : {P : Type 0} (id : List ℕ) (ask : Ask) (past : List Event) → is_quiet past ≡ true → undone_of id past ≡ Some ask → is_signal ask ≡ true → P
+no_signal id ask past quiet is signal = both_ways (same_ask Look ask) (quiet_looks id ask past quiet (undone_is_open id ask past is)) (signal_busy ask signal)
+
+-- an act is done on an order that was open
+pub undone_some : (ask : Ask) (id : List ℕ) (past : List Event) → is_order ask (undone_of id past) ≡ true → is_some (open_of id past) ≡ true
+undone_some ask id past h = ap is_some (undone_is_open id ask past (is_order-is ask (undone_of id past) h))
+
+signal_some : (id : List ℕ) (past : List Event) → (is_order Term (undone_of id past) || is_order Kill (undone_of id past)) ≡ true → is_some (open_of id past) ≡ true
+signal_some id past h = or_either (is_order Term (undone_of id past)) (is_order Kill (undone_of id past)) h (undone_some Term id past) (undone_some Kill id past)
+
+-- the field told
+act_told : (id i : List ℕ) (past : List Event) → (is_untold id past ≡ true → is_some (open_of id past) ≡ true) → is_some (open_of i past) ≡ true → (same_id id i || is_untold id past) ≡ true → is_some (open_of id past) ≡ true
+act_told id i past before here h = or_either (same_id id i) (is_untold id past) h (λ same. let P : List ℕ → Type 0 = λ x. is_some (open_of x past) ≡ true in subst P (sym (same_id-is id i same)) here) before
+
+told_keeps : (goal : Goal) (happening : Event) (past : List Event) → may_come goal happening past ≡ true → (id : List ℕ) → (is_untold id past ≡ true → is_some (open_of id past) ≡ true) → is_untold id (happening ∷ past) ≡ true → is_some (open_of id (happening ∷ past)) ≡ true
+told_keeps goal (Asked i ask) past may id before h = at_id (same_id id i) where
+  at_id : (b : Bool) → is_some (cond b (Some ask) (open_of id past)) ≡ true
+  at_id true = refl
+  at_id false = before h
+told_keeps goal (Told i) past may id before h = at_id (same_id id i) h where
+  at_id : (b : Bool) → (not b && is_untold id past) ≡ true → is_some (cond b None (open_of id past)) ≡ true
+  at_id true h = absurd (false≢true h)
+  at_id false h = before h
+told_keeps goal (Birth i n) past may id before h = act_told id i past before (undone_some Start i past (and_parts (is_order Start (undone_of i past)) (not (list_any (has_number n) (unreaped past))) may).0) h
+told_keeps goal (NoBirth i) past may id before h = act_told id i past before (undone_some Start i past may) h
+told_keeps goal (Reaped i n status) past may id before h = act_told id i past before (undone_some Look i past (and_parts (is_order Look (undone_of i past)) (list_any (is_child i n) (unreaped past)) (and_parts (is_order Look (undone_of i past) && list_any (is_child i n) (unreaped past)) (is_dead i n past) may).0).0) h
+told_keeps goal (Still i) past may id before h = act_told id i past before (undone_some Look i past may) h
+told_keeps goal (NoLook i) past may id before h = act_told id i past before (undone_some Look i past may) h
+told_keeps goal (Hit i) past may id before h = act_told id i past before (signal_some i past may) h
+told_keeps goal (Miss i) past may id before h = act_told id i past before (signal_some i past may) h
+told_keeps goal (_) past may id before h = before h
+
+-- the field done
+act_done : (id i : List ℕ) (ask : Ask) (past : List Event) → (undone_of id past ≡ Some ask → is_untold id past ≡ false) → cond (same_id id i) None (undone_of id past) ≡ Some ask → (same_id id i || is_untold id past) ≡ false
+act_done id i ask past before h = cleared (same_id id i) (undone_of id past) ask (λ differ is. or_from (same_id id i) (is_untold id past) differ (before is)) h
+
+done_keeps : (goal : Goal) (happening : Event) (past : List Event) → may_come goal happening past ≡ true → ((x : List ℕ) → is_untold x past ≡ true → is_some (open_of x past) ≡ true) → (id : List ℕ) (ask : Ask) → (undone_of id past ≡ Some ask → is_untold id past ≡ false) → undone_of id (happening ∷ past) ≡ Some ask → is_untold id (happening ∷ past) ≡ false
+done_keeps goal (Asked i given) past may told id ask before h = at_id (same_id id i) refl h where
+  at_id : (b : Bool) → same_id id i ≡ b → cond b (Some given) (undone_of id past) ≡ Some ask → is_untold id past ≡ false
+  at_id true same h = free_told id past told (ap (λ x. open_of x past) (same_id-is id i same) ∙ asked_free goal i given past may)
+  at_id false differ h = before h
+done_keeps goal (Told i) past may told id ask before h = cleared (same_id id i) (undone_of id past) ask (λ differ is. and_right (not (same_id id i)) (is_untold id past) (before is)) h
+done_keeps goal (Birth i n) past may told id ask before h = act_done id i ask past before h
+done_keeps goal (NoBirth i) past may told id ask before h = act_done id i ask past before h
+done_keeps goal (Reaped i n status) past may told id ask before h = act_done id i ask past before h
+done_keeps goal (Still i) past may told id ask before h = act_done id i ask past before h
+done_keeps goal (NoLook i) past may told id ask before h = act_done id i ask past before h
+done_keeps goal (Hit i) past may told id ask before h = act_done id i ask past before h
+done_keeps goal (Miss i) past may told id ask before h = act_done id i ask past before h
+done_keeps goal (_) past may told id ask before h = before h
+
+-- where an entry starts, its child may live
+starts_lives : (action : Act) (marks : List Mark) (now : Stage) → starts_by action marks now ≡ true → lives_by action marks now ≡ true
+starts_lives act.Boot marks (stage.Run l) h = refl
+starts_lives act.Bootwait marks (stage.Run l) h = refl
+starts_lives _ marks _ h = h
+
+placed_lives : (o : Option Entry) (now : Option Stage) → option_map_or (λ e. starts_in e now) o false ≡ true → may_live o (option_map (λ (e : Entry). e.act) o) now ≡ true
+placed_lives None now h = absurd (false≢true h)
+placed_lives (Some e) None h = absurd (false≢true h)
+placed_lives (Some e) (Some now) h = and_from _ _ (same_act-self e.act) (starts_lives e.act e.levels.items now h)
+
+-- a child that is born of an entry that starts in the stage is not excluded
+pub placed_spared : (id : List ℕ) (n : ℕ) (past : List Event) → is_placed id past ≡ true → is_excluded past (born id n past) ≡ false
+placed_spared id n past h = not_from_true (may_live (entry_of id (table_of past)) (act_of id (table_of past)) (stage_of past)) (placed_lives (entry_of id (table_of past)) (stage_of past) h)
+
+-- before the first stage no entry starts
+pub not_placed : {P : Type 0} (id : List ℕ) (past : List Event) → stage_of past ≡ None → is_placed id past ≡ true → P
+not_placed id past dawn h = nowhere (entry_of id (table_of past)) (stage_of past) dawn h where
+  nowhere : {P : Type 0} (o : Option Entry) (now : Option Stage) → now ≡ None → option_map_or (λ e. starts_in e now) o false ≡ true → P
+  nowhere None now is h = absurd (false≢true h)
+  nowhere (Some e) None is h = absurd (false≢true h)
+  nowhere (Some e) (Some now) is h = absurd (none-some now (sym is))
+
+-- owed, of what is read off the past: a child, an open Start, whether it starts, is fresh, is called
+abbrev owed_by : Act → Bool → Bool → Bool → Bool → Bool → Bool
+owed_by action child start starts fresh called = waited_by action && (child || start || starts && wanted_by action (not child && not start) fresh called)
+
+-- what makes a waited entry wanted is not that it is idle
+waited_wants : (action : Act) (idle other fresh called : Bool) → waited_by action ≡ true → wanted_by action idle fresh called ≡ wanted_by action other fresh called
+waited_wants act.Respawn idle other fresh called h = absurd (false≢true h)
+waited_wants _ idle other fresh called h = refl
+
+-- an entry that is owed with a child and a Start is owed with more of them
+owed_less : (action : Act) (child start more starting starts fresh called : Bool) → (child ≡ true → more ≡ true) → (start ≡ true → starting ≡ true) → owed_by action child start starts fresh called ≡ true → owed_by action more starting starts fresh called ≡ true
+owed_less action child start more starting starts fresh called f g h = and_from (waited_by action) _ parts.0 (or_either (child || start) wanted parts.1 (λ there. or_left (more || starting) later (or_either child start there (λ c. or_left more starting (f c)) (λ s. or_right more starting (g s)))) (λ due. or_right (more || starting) later (and_from starts _ (and_parts starts _ due).0 (waited_wants action (not more && not starting) (not child && not start) fresh called parts.0 ∙ (and_parts starts (wanted_by action (not child && not start) fresh called) due).1)))) where
+  wanted : Bool
+  wanted = starts && wanted_by action (not child && not start) fresh called
+
+  later : Bool
+  later = starts && wanted_by action (not more && not starting) fresh called
+
+  parts : (waited_by action ≡ true) × ((child || start || wanted) ≡ true)
+  parts = and_parts (waited_by action) (child || start || wanted) h
+
+owed_start : (action : Act) (child start starts fresh called : Bool) → waited_by action ≡ true → start ≡ true → owed_by action child start starts fresh called ≡ true
+owed_start action child start starts fresh called waited due = and_from (waited_by action) _ waited (or_left (child || start) _ (or_right child start due))
+
+owed_waited : (action : Act) (child start starts fresh called : Bool) → owed_by action child start starts fresh called ≡ true → waited_by action ≡ true
+owed_waited action child start starts fresh called h = (and_parts (waited_by action) (child || start || starts && wanted_by action (not child && not start) fresh called) h).0
+
+owed_wanted : (e : Entry) (past : List Event) → waited_of e ≡ true → is_wanted e past ≡ true → is_owed e past ≡ true
+owed_wanted e past waited wanted = and_from (waited_of e) _ waited (or_right (has_child e.id (kept past) || is_order Start (open_of e.id past)) (is_wanted e past) wanted)
+
+-- what is owed after a birth, a Told or an order was owed before it
+born_owed : (action : Act) (own child start starts fresh called : Bool) → (own ≡ true → start ≡ true) → owed_by action (own || child) start starts fresh called ≡ true → owed_by action child start starts fresh called ≡ true
+born_owed action true child start starts fresh called f h = owed_start action child start starts fresh called (owed_waited action true start starts fresh called h) (f refl)
+born_owed action false child start starts fresh called f h = h
+
+owed_birth : (e : Entry) (i : List ℕ) (n : ℕ) (past : List Event) → open_of i past ≡ Some Start → is_owed e (Birth i n ∷ past) ≡ true → is_owed e past ≡ true
+owed_birth e i n past started h = born_owed e.act (same_id e.id i) (has_child e.id (kept past)) (is_order Start (open_of e.id past)) (starts_in e (stage_of past)) (not (is_asked e.id past)) (is_called e past) (λ same. ap (is_order Start) (ap (λ x. open_of x past) (same_id-is e.id i same) ∙ started)) h
+
+order_cleared : (b : Bool) (ask : Ask) (o : Option Ask) → is_order ask (cond b None o) ≡ true → is_order ask o ≡ true
+order_cleared true ask o h = absurd (false≢true h)
+order_cleared false ask o h = h
+
+owed_told : (e : Entry) (i : List ℕ) (past : List Event) → is_owed e (Told i ∷ past) ≡ true → is_owed e past ≡ true
+owed_told e i past h = owed_less e.act (has_child e.id (kept (Told i ∷ past))) (is_order Start (cond (same_id e.id i) None (open_of e.id past))) (has_child e.id (kept past)) (is_order Start (open_of e.id past)) (starts_in e (stage_of past)) (not (is_asked e.id past)) (is_called e past) (kept_before_told (is_of e.id) i past) (order_cleared (same_id e.id i) Start (open_of e.id past)) h
+
+owed_order : (e : Entry) (b : Bool) (ask : Ask) (past : List Event) → same_ask Start ask ≡ false → owed_by e.act (has_child e.id (kept past)) (is_order Start (cond b (Some ask) (open_of e.id past))) (starts_in e (stage_of past)) (not (is_asked e.id past)) (is_called e past) ≡ true → is_owed e past ≡ true
+owed_order e b ask past other h = owed_less e.act (has_child e.id (kept past)) (is_order Start (cond b (Some ask) (open_of e.id past))) (has_child e.id (kept past)) (is_order Start (open_of e.id past)) (starts_in e (stage_of past)) (not (is_asked e.id past)) (is_called e past) (λ c. c) (at_id b) h where
+  at_id : (b : Bool) → is_order Start (cond b (Some ask) (open_of e.id past)) ≡ true → is_order Start (open_of e.id past) ≡ true
+  at_id true h = both_ways (same_ask Start ask) h other
+  at_id false h = h
+
+owed_asked : (e : Entry) (i : List ℕ) (past : List Event) → (same_id e.id i ≡ true → is_wanted e past ≡ true) → is_owed e (Asked i Start ∷ past) ≡ true → is_owed e past ≡ true
+owed_asked e i past wanted h = at_id (same_id e.id i) wanted h where
+  at_id : (b : Bool) → (b ≡ true → is_wanted e past ≡ true) → owed_by e.act (has_child e.id (kept past)) (is_order Start (cond b (Some Start) (open_of e.id past))) (starts_in e (stage_of past)) (not (b || is_asked e.id past)) (not b && is_called e past) ≡ true → is_owed e past ≡ true
+  at_id true wanted h = owed_wanted e past (owed_waited e.act (has_child e.id (kept past)) true (starts_in e (stage_of past)) false false h) (wanted refl)
+  at_id false wanted h = h
+
+-- an entry that is found stands in the table
+pub entry_listed : (id : List ℕ) (es : List Entry) (e : Entry) → entry_of id es ≡ Some e → list_any (has_id id) es ≡ true
+entry_listed id [] e h = absurd (none-some e h)
+entry_listed id (x ∷ es) e h = at_id (same_id id x.id) h (entry_listed id es e) where
+  at_id : (b : Bool) → cond b (Some x) (entry_of id es) ≡ Some e → (entry_of id es ≡ Some e → list_any (has_id id) es ≡ true) → (b || list_any (has_id id) es) ≡ true
+  at_id true h before = refl
+  at_id false h before = before h
+
+-- a test of the entries before an id's follows from another, where it does at each entry that its own id finds
+before_less : (p q : Entry → Bool) (id : List ℕ) (es : List Entry) → is_distinct es ≡ true → ((e : Entry) → entry_of e.id es ≡ Some e → p e ≡ true → q e ≡ true) → list_any p (entries_before id es) ≡ true → list_any q (entries_before id es) ≡ true
+before_less p q id [] distinct less h = h
+before_less p q id (x ∷ es) distinct less h = at_id (same_id id x.id) h (before_less p q id es parts.1 (λ e found. less e (later e found (same_id e.id x.id) refl))) where
+  parts : (not (list_any (has_id x.id) es) ≡ true) × (is_distinct es ≡ true)
+  parts = and_parts (not (list_any (has_id x.id) es)) (is_distinct es) distinct
+
+  later : (e : Entry) → entry_of e.id es ≡ Some e → (b : Bool) → same_id e.id x.id ≡ b → cond b (Some x) (entry_of e.id es) ≡ Some e
+  later e found true same = both_ways (list_any (has_id x.id) es) (subst (λ i. list_any (has_id i) es ≡ true) (same_id-is e.id x.id same) (entry_listed e.id es e found)) (not_is (list_any (has_id x.id) es) parts.0)
+  later e found false differ = found
+
+  first : entry_of x.id (x ∷ es) ≡ Some x
+  first = rw (same_id-self x.id) refl
+
+  at_id : (b : Bool) → list_any p (cond b [] (x ∷ entries_before id es)) ≡ true → (list_any p (entries_before id es) ≡ true → list_any q (entries_before id es) ≡ true) → list_any q (cond b [] (x ∷ entries_before id es)) ≡ true
+  at_id true h rest = h
+  at_id false h rest = or_either (p x) (list_any p (entries_before id es)) h (λ here. or_left (q x) (list_any q (entries_before id es)) (less x first here)) (λ more. or_right (q x) (list_any q (entries_before id es)) (rest more))
+
+-- where each entry that is owed after was owed before, no earlier entry becomes owed
+ahead_less : (id : List ℕ) (happening : Event) (past : List Event) → is_distinct (table_of past) ≡ true → ((e : Entry) → entry_of e.id (table_of past) ≡ Some e → is_owed e (happening ∷ past) ≡ true → is_owed e past ≡ true) → is_owed_before id past ≡ false → list_any (λ e. is_owed e (happening ∷ past)) (entries_before id (table_of past)) ≡ false
+ahead_less id happening past distinct less h = falsely (list_any (λ e. is_owed e (happening ∷ past)) (entries_before id (table_of past))) (is_owed_before id past) (before_less (λ e. is_owed e (happening ∷ past)) (λ e. is_owed e past) id (table_of past) distinct less) h
+
+-- an entry whose Start is due is wanted
+run_wanted : (i : List ℕ) (past : List Event) → MayRun i (table_of past) past → is_distinct (table_of past) ≡ true → (e : Entry) → entry_of e.id (table_of past) ≡ Some e → same_id e.id i ≡ true → is_wanted e past ≡ true
+run_wanted i past may distinct e found same = subst (λ (x : Entry). is_wanted x past ≡ true) is may.wanted where
+  is : may.entry ≡ e
+  is = same_Some may.entry e (sym (may.found distinct) ∙ ap (λ x. entry_of x (table_of past)) (sym (same_id-is e.id i same)) ∙ found)
+
+pub run_placed : (i : List ℕ) (past : List Event) → MayRun i (table_of past) past → is_distinct (table_of past) ≡ true → is_placed i past ≡ true
+run_placed i past may distinct = rw (may.found distinct) (and_parts (starts_in may.entry (stage_of past)) _ may.wanted).0
+
+ready_start : (i : List ℕ) (past : List Event) → is_distinct (table_of past) ≡ true → MayStart i (table_of past) past → Ready i (Asked i Start ∷ past)
+ready_start i past distinct may = record { childless = may.run.childless; placed = run_placed i past may.run distinct; ahead = ahead_less i (Asked i Start) past distinct (λ e found. owed_asked e i past (run_wanted i past may.run distinct e found)) may.run.ahead; spared = may.spared }
+
+-- the field ready
+start_stays : (b : Bool) (ask : Ask) (o : Option Ask) → same_ask Start ask ≡ false → cond b (Some ask) o ≡ Some Start → o ≡ Some Start
+start_stays true ask o other h = both_ways (same_ask Start ask) (ap (same_ask Start) (same_Some ask Start h)) other
+start_stays false ask o other h = h
+
+ready_asked : (goal : Goal) (i : List ℕ) (ask : Ask) (past : List Event) → is_due goal (step.Order i ask) past ≡ true → is_distinct (table_of past) ≡ true → (id : List ℕ) → (undone_of id past ≡ Some Start → Ready id past) → undone_of id (Asked i ask ∷ past) ≡ Some Start → Ready id (Asked i ask ∷ past)
+ready_asked goal i Start past may distinct id before h = at_id (same_id id i) refl h where
+  order : MayStart i (table_of past) past
+  order = due_facts goal past (step.Order i Start) may
+
+  at_id : (b : Bool) → same_id id i ≡ b → cond b (Some Start) (undone_of id past) ≡ Some Start → Ready id (Asked i Start ∷ past)
+  at_id true same h = let P : List ℕ → Type 0 = λ x. Ready x (Asked i Start ∷ past) in subst P (sym (same_id-is id i same)) (ready_start i past distinct order)
+  at_id false differ h = let was = before h in record { childless = was.childless; placed = was.placed; ahead = ahead_less id (Asked i Start) past distinct (λ e found. owed_asked e i past (run_wanted i past order.run distinct e found)) was.ahead; spared = was.spared }
+ready_asked goal i Look past may distinct id before h =
+    let was = before (start_stays (same_id id i) Look (undone_of id past) refl h) in
+    record { childless = was.childless; placed = was.placed; ahead = ahead_less id (Asked i Look) past distinct (λ e found. owed_order e (same_id e.id i) Look past refl) was.ahead; spared = was.spared }
+ready_asked goal i Term past may distinct id before h =
+    let was = before (start_stays (same_id id i) Term (undone_of id past) refl h) in
+    record { childless = was.childless; placed = was.placed; ahead = ahead_less id (Asked i Term) past distinct (λ e found. owed_order e (same_id e.id i) Term past refl) was.ahead; spared = was.spared }
+ready_asked goal i Kill past may distinct id before h =
+    let was = before (start_stays (same_id id i) Kill (undone_of id past) refl h) in
+    record { childless = was.childless; placed = was.placed; ahead = ahead_less id (Asked i Kill) past distinct (λ e found. owed_order e (same_id e.id i) Kill past refl) was.ahead; spared = was.spared }
+
+ready_birth : (goal : Goal) (i : List ℕ) (n : ℕ) (past : List Event) → is_order Start (undone_of i past) ≡ true → Holds past → (id : List ℕ) → undone_of id (Birth i n ∷ past) ≡ Some Start → Ready id (Birth i n ∷ past)
+ready_birth goal i n past may holds id h = cleared (same_id id i) (undone_of id past) Start other h where
+  started : undone_of i past ≡ Some Start
+  started = is_order-is Start (undone_of i past) may
+
+  other : same_id id i ≡ false → undone_of id past ≡ Some Start → Ready id (Birth i n ∷ past)
+  other differ is =
+      let was = holds.ready id is in
+      record {
+        childless = or_from (same_id id i) (has_child id (kept past)) differ was.childless;
+        placed = was.placed;
+        ahead = ahead_less id (Birth i n) past holds.distinct (λ e found. owed_birth e i n past (undone_is_open i Start past started)) was.ahead;
+        spared = or_from (is_excluded past (born i n past)) (list_any (is_excluded past) (kept past)) (placed_spared i n past (holds.ready i started).placed) was.spared;
+      }
+
+ready_told : (i : List ℕ) (past : List Event) → Holds past → (id : List ℕ) → undone_of id (Told i ∷ past) ≡ Some Start → Ready id (Told i ∷ past)
+ready_told i past holds id h = cleared (same_id id i) (undone_of id past) Start other h where
+  other : same_id id i ≡ false → undone_of id past ≡ Some Start → Ready id (Told i ∷ past)
+  other differ is =
+      let was = holds.ready id is in
+      record {
+        childless = falsely (has_child id (kept (Told i ∷ past))) (has_child id (kept past)) (kept_before_told (is_of id) i past) was.childless;
+        placed = was.placed;
+        ahead = ahead_less id (Told i) past holds.distinct (λ e found. owed_told e i past) was.ahead;
+        spared = falsely (list_any (is_excluded past) (kept (Told i ∷ past))) (list_any (is_excluded past) (kept past)) (kept_before_told (is_excluded past) i past) was.spared;
+      }
+
+-- an act on another order leaves what it found
+act_ready : (id : List ℕ) (past : List Event) (b : Bool) → cond b None (undone_of id past) ≡ Some Start → (undone_of id past ≡ Some Start → Ready id past) → Ready id past
+act_ready id past b h before = cleared b (undone_of id past) Start (λ differ is. before is) h
+
+same_ready : (id : List ℕ) (happening : Event) (past : List Event) → has_child id (kept (happening ∷ past)) ≡ has_child id (kept past) → is_placed id (happening ∷ past) ≡ is_placed id past → is_owed_before id (happening ∷ past) ≡ is_owed_before id past → list_any (is_excluded (happening ∷ past)) (kept (happening ∷ past)) ≡ list_any (is_excluded past) (kept past) → Ready id past → Ready id (happening ∷ past)
+same_ready id happening past e1 e2 e3 e4 was = record { childless = e1 ∙ was.childless; placed = e2 ∙ was.placed; ahead = e3 ∙ was.ahead; spared = e4 ∙ was.spared }
+
+ready_keeps : (goal : Goal) (happening : Event) (past : List Event) → may_come goal happening past ≡ true → Holds past → (id : List ℕ) → undone_of id (happening ∷ past) ≡ Some Start → Ready id (happening ∷ past)
+ready_keeps goal (NewTable table) past may holds id h = no_start id past (and_parts (is_quiet past) (is_distinct table) may).0 h
+ready_keeps goal (Enter s grace) past may holds id h = elim (due_facts goal past (step.Enter s grace) may) [ inl quiet ↦ no_start id past quiet h | inr dawn ↦ not_placed id past dawn (holds.ready id h).placed ]
+ready_keeps goal (Call letter) past may holds id h = no_start id past (due_facts goal past (step.Call letter) may) h
+ready_keeps goal (Power kind) past may holds id h = no_start id past (due_facts goal past (step.Power kind) may) h
+ready_keeps goal (Asked i ask) past may holds id h = ready_asked goal i ask past may holds.distinct id (holds.ready id) h
+ready_keeps goal (Birth i n) past may holds id h = ready_birth goal i n past (and_parts (is_order Start (undone_of i past)) (not (list_any (has_number n) (unreaped past))) may).0 holds id h
+ready_keeps goal (Told i) past may holds id h = ready_told i past holds id h
+ready_keeps goal (NoBirth i) past may holds id h = same_ready id (NoBirth i) past refl refl refl refl (act_ready id past (same_id id i) h (holds.ready id))
+ready_keeps goal (Reaped i n status) past may holds id h = same_ready id (Reaped i n status) past refl refl refl refl (act_ready id past (same_id id i) h (holds.ready id))
+ready_keeps goal (Still i) past may holds id h = same_ready id (Still i) past refl refl refl refl (act_ready id past (same_id id i) h (holds.ready id))
+ready_keeps goal (NoLook i) past may holds id h = same_ready id (NoLook i) past refl refl refl refl (act_ready id past (same_id id i) h (holds.ready id))
+ready_keeps goal (Hit i) past may holds id h = same_ready id (Hit i) past refl refl refl refl (act_ready id past (same_id id i) h (holds.ready id))
+ready_keeps goal (Miss i) past may holds id h = same_ready id (Miss i) past refl refl refl refl (act_ready id past (same_id id i) h (holds.ready id))
+ready_keeps goal happening past may holds id h = same_ready id happening past refl refl refl refl (holds.ready id h)
+
+-- the field stopping
+stop_excluded : (child : Child) (ask : Ask) (past : List Event) → stop_due child past ≡ Some ask → is_excluded past child ≡ true
+stop_excluded child ask past h = at_child (is_excluded past child) (is_missed child past) (stop_by _ _ (spell_hits child past)) h where
+  at_child : (b c : Bool) (o : Option Ask) → cond (b && not c) o None ≡ Some ask → b ≡ true
+  at_child true c o h = refl
+  at_child false c o h = absurd (none-some ask h)
+
+-- a child that a signal is due to is known, so unreaped where no order of its id is open
+pub stop_unreaped : (id : List ℕ) (ask : Ask) (past : List Event) → ((x : List ℕ) → is_untold x past ≡ true → is_some (open_of x past) ≡ true) → (may : MayStop id ask past) → (p : Child → Bool) → p may.child ≡ true → list_any (λ child. is_of id child && p child) (unreaped past) ≡ true
+stop_unreaped id ask past told may p holds = sym (same_of id p (known past) (unreaped past) (told_known id past (free_told id past told may.unasked))) ∙ may.within (λ child. is_of id child && p child) (and_from (is_of id may.child) (p may.child) may.own holds)
+
+stop_may : (id : List ℕ) (ask : Ask) (past : List Event) → ((x : List ℕ) → is_untold x past ≡ true → is_some (open_of x past) ≡ true) → MayStop id ask past → may_term id past ≡ true
+stop_may id ask past told may = stop_unreaped id ask past told may (is_excluded past) (stop_excluded may.child ask past may.due)
+
+pub asked_may_term : (goal : Goal) (i : List ℕ) (ask : Ask) (past : List Event) → is_due goal (step.Order i ask) past ≡ true → ((x : List ℕ) → is_untold x past ≡ true → is_some (open_of x past) ≡ true) → is_signal ask ≡ true → may_term i past ≡ true
+asked_may_term goal i Term past may told signal = stop_may i Term past told (due_facts goal past (step.Order i Term) may)
+asked_may_term goal i Kill past may told signal = stop_may i Kill past told (due_facts goal past (step.Order i Kill) may)
+asked_may_term goal i Start past may told signal = absurd (false≢true signal)
+asked_may_term goal i Look past may told signal = absurd (false≢true signal)
+
+stop_keeps : (goal : Goal) (happening : Event) (past : List Event) → may_come goal happening past ≡ true → Holds past → (id : List ℕ) (ask : Ask) → undone_of id (happening ∷ past) ≡ Some ask → is_signal ask ≡ true → may_term id (happening ∷ past) ≡ true
+stop_keeps goal (NewTable table) past may holds id ask h signal = no_signal id ask past (and_parts (is_quiet past) (is_distinct table) may).0 h signal
+stop_keeps goal (Enter s grace) past may holds id ask h signal = elim (due_facts goal past (step.Enter s grace) may) [ inl quiet ↦ no_signal id ask past quiet h signal | inr dawn ↦ absurd (none_there (holds.dawn dawn)) ] where
+  none_there : list_any (λ (child : Child). true) (kept past) ≡ false → ⊥
+  none_there none = both_ways (list_any (λ (child : Child). true) (kept past)) (unreaped_kept (λ child. true) past (any_less (λ child. is_of id child && is_excluded past child) (λ child. true) (λ child _. refl) (unreaped past) (holds.stopping id ask h signal))) none
+stop_keeps goal (Asked i given) past may holds id ask h signal = at_id (same_id id i) refl h where
+  at_id : (b : Bool) → same_id id i ≡ b → cond b (Some given) (undone_of id past) ≡ Some ask → may_term id past ≡ true
+  at_id true same h = ap (λ x. may_term x past) (same_id-is id i same) ∙ asked_may_term goal i given past may holds.told (ap is_signal (same_Some given ask h) ∙ signal)
+  at_id false differ h = holds.stopping id ask h signal
+stop_keeps goal (Birth i n) past may holds id ask h signal = cleared (same_id id i) (undone_of id past) ask (λ differ is. or_right (same_id id i && is_excluded past (born i n past)) (may_term id past) (holds.stopping id ask is signal)) h
+stop_keeps goal (Reaped i n status) past may holds id ask h signal = cleared (same_id id i) (undone_of id past) ask (λ differ is. any_within (λ child. is_of id child && is_excluded past child) (λ child. not (is_child i n child)) (other differ) (unreaped past) ∙ holds.stopping id ask is signal) h where
+  other : same_id id i ≡ false → (child : Child) → (is_of id child && is_excluded past child) ≡ true → not (is_child i n child) ≡ true
+  other differ child own = not_from (is_child i n child) (and_left (same_id i child.id) (n == child.number) (same_id-apart id i child.id differ (and_parts (is_of id child) (is_excluded past child) own).0))
+stop_keeps goal (Told i) past may holds id ask h signal = cleared (same_id id i) (undone_of id past) ask (λ differ is. holds.stopping id ask is signal) h
+stop_keeps goal (NoBirth i) past may holds id ask h signal = cleared (same_id id i) (undone_of id past) ask (λ differ is. holds.stopping id ask is signal) h
+stop_keeps goal (Still i) past may holds id ask h signal = cleared (same_id id i) (undone_of id past) ask (λ differ is. holds.stopping id ask is signal) h
+stop_keeps goal (NoLook i) past may holds id ask h signal = cleared (same_id id i) (undone_of id past) ask (λ differ is. holds.stopping id ask is signal) h
+stop_keeps goal (Hit i) past may holds id ask h signal = cleared (same_id id i) (undone_of id past) ask (λ differ is. holds.stopping id ask is signal) h
+stop_keeps goal (Miss i) past may holds id ask h signal = cleared (same_id id i) (undone_of id past) ask (λ differ is. holds.stopping id ask is signal) h
+stop_keeps goal (_) past may holds id ask h signal = holds.stopping id ask h signal
+
+-- the fields distinct and dawn
+distinct_keeps : (goal : Goal) (happening : Event) (past : List Event) → may_come goal happening past ≡ true → is_distinct (table_of past) ≡ true → is_distinct (table_of (happening ∷ past)) ≡ true
+distinct_keeps goal (NewTable table) past may distinct = (and_parts (is_quiet past) (is_distinct table) may).1
+distinct_keeps goal (_) past may distinct = distinct
+
+dawn_keeps : (goal : Goal) (happening : Event) (past : List Event) → may_come goal happening past ≡ true → Holds past → stage_of (happening ∷ past) ≡ None → list_any (λ (child : Child). true) (kept (happening ∷ past)) ≡ false
+dawn_keeps goal (Enter s grace) past may holds h = absurd (none-some s (sym h))
+dawn_keeps goal (Birth i n) past may holds h = not_placed i past h (holds.ready i (is_order-is Start (undone_of i past) (and_parts (is_order Start (undone_of i past)) (not (list_any (has_number n) (unreaped past))) may).0)).placed
+dawn_keeps goal (Told i) past may holds h = falsely (list_any (λ (child : Child). true) (kept (Told i ∷ past))) (list_any (λ (child : Child). true) (kept past)) (kept_before_told (λ child. true) i past) (holds.dawn h)
+dawn_keeps goal (_) past may holds h = holds.dawn h
+
+pub keeps : (goal : Goal) (happening : Event) (past : List Event) → may_come goal happening past ≡ true → Holds past → Holds (happening ∷ past)
+keeps goal happening past may holds = record {
+  distinct = distinct_keeps goal happening past may holds.distinct;
+  dawn = dawn_keeps goal happening past may holds;
+  told = λ id. told_keeps goal happening past may id (holds.told id);
+  done = λ id ask. done_keeps goal happening past may holds.told id ask (holds.done id ask);
+  ready = ready_keeps goal happening past may holds;
+  stopping = stop_keeps goal happening past may holds;
+}
+
+pub begins : (table : List Entry) → is_distinct table ≡ true → Holds (NewTable table ∷ [])
+begins table distinct = record {
+  distinct = distinct;
+  dawn = λ h. refl;
+  told = λ id h. absurd (false≢true h);
+  done = λ id ask h. refl;
+  ready = λ id h. absurd (none-some Start h);
+  stopping = λ id ask h signal. absurd (none-some ask h);
+}
+
+-- what holds at the first table and is kept by each happening that may come holds of every sound trace
+pub sound_ind : (goal : Goal) (P : List Event → Type 0) → ((table : List Entry) → is_distinct table ≡ true → P (NewTable table ∷ [])) → ((happening : Event) (past : List Event) → may_come goal happening past ≡ true → is_sound goal past ≡ true → P past → P (happening ∷ past)) → (past : List Event) → is_sound goal past ≡ true → P past
+sound_ind goal P first next [] h = absurd (false≢true h)
+sound_ind goal P first next (NewTable table ∷ []) h = first table h
+sound_ind goal P first next (happening ∷ past) h =
+    let parts = and_parts (may_come goal happening past) (is_sound goal past) h in
+    next happening past parts.0 parts.1 (sound_ind goal P first next past parts.1)
+
+-- every sound trace keeps all this
+pub sound_holds : (goal : Goal) (past : List Event) → is_sound goal past ≡ true → Holds past
+sound_holds goal past h = sound_ind goal Holds begins (λ happening before may sound. keeps goal happening before may) past h

@@ -1,0 +1,269 @@
+-- What a Told tells: the answer under way to an id's order, and the child that init knows of after it.
+use Rattle.std.proofs.Common.{◌≡◌, ◌≤◌, refl, sym, ◌∙◌, ap, subst, ℕ, Bool, true, false, not, ◌&&◌, ◌||◌, ◌==◌, cond, List, [], ◌∷◌, filter, find, length, Option, Some, None, is_some, arith}
+use Rattle.std.specs.List.{list_any}
+use Rattle.std.specs.Option.{option_map_or}
+use Rattle.std.proofs.lemmas.Bool.{false≢true, and_parts, or_from}
+use Rattle.std.proofs.lemmas.List.{nil_from_length}
+use Rattle.std.proofs.lemmas.Option.{none-some, same_Some}
+use Rattle.init_words.specs.declared.entries.Entry.{Entry}
+use Rattle.init_words.specs.declared.orders.Ask.{Ask}
+use Rattle.init_words.specs.declared.orders.Ask.TheVariants.{Start, Look, Term, Kill}
+use Rattle.init_words.specs.declared.orders.Answer.{Answer}
+use Rattle.init_words.specs.declared.orders.Answer.TheVariants as answer
+use Rattle.init_words.specs.Ids.{same_id}
+use Rattle.init_words.specs.Orders.{same_ask}
+use Rattle.inittab_text.specs.Tables.{has_id, entry_of, act_of, is_distinct}
+use Rattle.init_trace.specs.declared.happenings.Happening.TheVariants.{NewTable, Asked, Birth, NoBirth, Reaped, Still, NoLook, Hit, Miss, Told}
+use Rattle.init_trace.specs.declared.steps.Goal.{Goal}
+use Rattle.init_trace.specs.declared.steps.Step.TheVariants as step
+use Rattle.init_trace.specs.Event.{Event}
+use Rattle.init_trace.specs.Past.{table_of, Child, is_of, is_child, has_number, has_child, born, unreaped, kept, known, open_of, undone_of, is_untold, open_orders, is_quiet, is_dead}
+use Rattle.init_trace.specs.Wanted.{starts_now, is_order, is_excluded}
+use Rattle.init_trace.specs.Answered.{answered_of, child_after}
+use Rattle.init_trace.specs.Due.{is_due}
+use Rattle.init_trace.specs.Lawful.{is_placed}
+use Rattle.init_trace.specs.Sound.{may_come, is_sound}
+use Rattle.trace_laws.specs.Answers.{answers}
+use Rattle.trace_laws.specs.Tables.{keeps_table}
+use Rattle.trace_laws.proofs.Tests.{both_ways, falsely, or_either, same_id-is, same_id-self, is_order-is, any_filtered, any_less, any_none, filter_none}
+use Rattle.trace_laws.proofs.Orders.{cleared, undone_is_open, quiet_looks, open_listed, told_same, told_other, reaped_other, told_known, known_kept, kept_before_told}
+use Rattle.trace_laws.proofs.Dues.{MayStop, due_facts}
+use Rattle.trace_laws.proofs.Keeps.{sound_holds, sound_ind, asked_free, free_told, placed_spared, entry_listed}
+use Rattle.trace_laws.proofs.Births.{is_table, sound_step, one_child}
+
+-- an id with no open Start: its kept children are the known ones
+pub kept_known : (goal : Goal) (past : List Event) → is_sound goal past ≡ true → (id : List ℕ) → is_order Start (open_of id past) ≡ false → filter (is_of id) (kept past) ≡ filter (is_of id) (known past)
+kept_known goal past h = sound_ind goal (λ before. (id : List ℕ) → is_order Start (open_of id before) ≡ false → filter (is_of id) (kept before) ≡ filter (is_of id) (known before)) (λ table distinct id free. refl) next past h where
+  next : (happening : Event) (before : List Event) → may_come goal happening before ≡ true → is_sound goal before ≡ true → ((id : List ℕ) → is_order Start (open_of id before) ≡ false → filter (is_of id) (kept before) ≡ filter (is_of id) (known before)) → (id : List ℕ) → is_order Start (open_of id (happening ∷ before)) ≡ false → filter (is_of id) (kept (happening ∷ before)) ≡ filter (is_of id) (known (happening ∷ before))
+  next (Birth i n) before may sound same id free = at_id (same_id id i) refl where
+    started : open_of i before ≡ Some Start
+    started = undone_is_open i Start before (is_order-is Start (undone_of i before) (and_parts (is_order Start (undone_of i before)) (not (list_any (has_number n) (unreaped before))) may).0)
+
+    at_id : (b : Bool) → same_id id i ≡ b → cond b (born i n before ∷ filter (is_of id) (kept before)) (filter (is_of id) (kept before)) ≡ filter (is_of id) (known before)
+    at_id true own = both_ways (is_order Start (open_of id before)) (ap (λ x. is_order Start (open_of x before)) (same_id-is id i own) ∙ ap (is_order Start) started) free
+    at_id false differ = same id free
+  next (Told i) before may sound same id free = at_id (same_id id i) refl free where
+    at_id : (b : Bool) → same_id id i ≡ b → is_order Start (cond b None (open_of id before)) ≡ false → filter (is_of id) (kept (Told i ∷ before)) ≡ filter (is_of id) (known (Told i ∷ before))
+    at_id true own free = told_same id i (unreaped before) (kept before) own ∙ sym (told_same id i (unreaped before) (known before) own)
+    at_id false differ free = told_other id i (unreaped before) (kept before) differ ∙ same id free ∙ sym (told_other id i (unreaped before) (known before) differ)
+  next (Asked i ask) before may sound same id free = at_id (same_id id i) refl free where
+    at_id : (b : Bool) → same_id id i ≡ b → is_order Start (cond b (Some ask) (open_of id before)) ≡ false → filter (is_of id) (kept before) ≡ filter (is_of id) (known before)
+    at_id true own free = same id (ap (λ x. is_order Start (open_of x before)) (same_id-is id i own) ∙ ap (is_order Start) (asked_free goal i ask before may))
+    at_id false differ free = same id free
+  next (_) before may sound same id free = same id free
+
+one_answered : (b : Bool) (x : Answer) (id : List ℕ) (past : List Event) → is_some (answered_of id past) ≡ is_untold id past → is_some (cond b (Some x) (answered_of id past)) ≡ (b || is_untold id past)
+one_answered true x id past same = refl
+one_answered false x id past same = same
+
+-- an answer is under way exactly where something is untold
+pub answered_untold : (id : List ℕ) (past : List Event) → is_some (answered_of id past) ≡ is_untold id past
+answered_untold id [] = refl
+answered_untold id (Told i ∷ past) = at_id (same_id id i) (answered_untold id past) where
+  at_id : (b : Bool) → is_some (answered_of id past) ≡ is_untold id past → is_some (cond b None (answered_of id past)) ≡ (not b && is_untold id past)
+  at_id true same = refl
+  at_id false same = same
+answered_untold id (Birth i n ∷ past) = one_answered (same_id id i) (answer.Born n) id past (answered_untold id past)
+answered_untold id (NoBirth i ∷ past) = one_answered (same_id id i) answer.NotBorn id past (answered_untold id past)
+answered_untold id (Reaped i n status ∷ past) = one_answered (same_id id i) (answer.Ended status) id past (answered_untold id past)
+answered_untold id (Still i ∷ past) = one_answered (same_id id i) answer.Alive id past (answered_untold id past)
+answered_untold id (NoLook i ∷ past) = one_answered (same_id id i) answer.NoLook id past (answered_untold id past)
+answered_untold id (Hit i ∷ past) = one_answered (same_id id i) answer.Hit id past (answered_untold id past)
+answered_untold id (Miss i ∷ past) = one_answered (same_id id i) answer.Miss id past (answered_untold id past)
+answered_untold id (_ ∷ past) = answered_untold id past
+
+-- the order that is answered is open, and of the answer's kind
+abbrev pub Answers : List ℕ → List Event → Answer → Type 0
+Answers id past given = option_map_or (answers given) (open_of id past) false ≡ true
+
+act_answers : (id i : List ℕ) (past : List Event) (x given : Answer) → Answers i past x → (answered_of id past ≡ Some given → Answers id past given) → cond (same_id id i) (Some x) (answered_of id past) ≡ Some given → Answers id past given
+act_answers id i past x given here before h = at_id (same_id id i) refl h where
+  at_id : (b : Bool) → same_id id i ≡ b → cond b (Some x) (answered_of id past) ≡ Some given → Answers id past given
+  at_id true own h =
+      let P : List ℕ → Type 0 = λ y. Answers y past x in
+      subst (Answers id past) (same_Some x given h) (subst P (sym (same_id-is id i own)) here)
+  at_id false differ h = before h
+
+undone_answers : (id : List ℕ) (ask : Ask) (past : List Event) (x : Answer) → is_order ask (undone_of id past) ≡ true → answers x ask ≡ true → Answers id past x
+undone_answers id ask past x h is = ap (λ o. option_map_or (answers x) o false) (undone_is_open id ask past (is_order-is ask (undone_of id past) h)) ∙ is
+
+signal_answers : (id : List ℕ) (past : List Event) (x : Answer) → (is_order Term (undone_of id past) || is_order Kill (undone_of id past)) ≡ true → answers x Term ≡ true → answers x Kill ≡ true → Answers id past x
+signal_answers id past x h term kill = or_either (is_order Term (undone_of id past)) (is_order Kill (undone_of id past)) h (λ g. undone_answers id Term past x g term) (λ g. undone_answers id Kill past x g kill)
+
+look_undone : (goal : Goal) (i : List ℕ) (n : ℕ) (status : _) (past : List Event) → may_come goal (Reaped i n status) past ≡ true → (is_order Look (undone_of i past) ≡ true) × (list_any (is_child i n) (unreaped past) ≡ true)
+look_undone goal i n status past may = and_parts (is_order Look (undone_of i past)) (list_any (is_child i n) (unreaped past)) (and_parts (is_order Look (undone_of i past) && list_any (is_child i n) (unreaped past)) (is_dead i n past) may).0
+
+start_undone : (goal : Goal) (i : List ℕ) (n : ℕ) (past : List Event) → may_come goal (Birth i n) past ≡ true → is_order Start (undone_of i past) ≡ true
+start_undone goal i n past may = (and_parts (is_order Start (undone_of i past)) (not (list_any (has_number n) (unreaped past))) may).0
+
+pub answers_open : (goal : Goal) (past : List Event) → is_sound goal past ≡ true → (id : List ℕ) (given : Answer) → answered_of id past ≡ Some given → option_map_or (answers given) (open_of id past) false ≡ true
+answers_open goal past h = sound_ind goal (λ before. (id : List ℕ) (given : Answer) → answered_of id before ≡ Some given → Answers id before given) (λ table distinct id given is. absurd (none-some given is)) next past h where
+  next : (happening : Event) (before : List Event) → may_come goal happening before ≡ true → is_sound goal before ≡ true → ((id : List ℕ) (given : Answer) → answered_of id before ≡ Some given → Answers id before given) → (id : List ℕ) (given : Answer) → answered_of id (happening ∷ before) ≡ Some given → Answers id (happening ∷ before) given
+  next (Birth i n) before may sound rest id given is = act_answers id i before (answer.Born n) given (undone_answers i Start before (answer.Born n) (start_undone goal i n before may) refl) (rest id given) is
+  next (NoBirth i) before may sound rest id given is = act_answers id i before answer.NotBorn given (undone_answers i Start before answer.NotBorn may refl) (rest id given) is
+  next (Reaped i n status) before may sound rest id given is = act_answers id i before (answer.Ended status) given (undone_answers i Look before (answer.Ended status) (look_undone goal i n status before may).0 refl) (rest id given) is
+  next (Still i) before may sound rest id given is = act_answers id i before answer.Alive given (undone_answers i Look before answer.Alive may refl) (rest id given) is
+  next (NoLook i) before may sound rest id given is = act_answers id i before answer.NoLook given (undone_answers i Look before answer.NoLook may refl) (rest id given) is
+  next (Hit i) before may sound rest id given is = act_answers id i before answer.Hit given (signal_answers i before answer.Hit may refl refl) (rest id given) is
+  next (Miss i) before may sound rest id given is = act_answers id i before answer.Miss given (signal_answers i before answer.Miss may refl refl) (rest id given) is
+  next (Told i) before may sound rest id given is = at_id (same_id id i) is where
+    at_id : (b : Bool) → cond b None (answered_of id before) ≡ Some given → option_map_or (answers given) (cond b None (open_of id before)) false ≡ true
+    at_id true is = absurd (none-some given is)
+    at_id false is = rest id given is
+  next (Asked i ask) before may sound rest id given is = at_id (same_id id i) refl where
+    at_id : (b : Bool) → same_id id i ≡ b → option_map_or (answers given) (cond b (Some ask) (open_of id before)) false ≡ true
+    at_id true own = both_ways (is_untold id before) (sym (answered_untold id before) ∙ ap is_some is) (free_told id before (sound_holds goal before sound).told (ap (λ x. open_of x before) (same_id-is id i own) ∙ asked_free goal i ask before may))
+    at_id false differ = rest id given is
+  next (_) before may sound rest id given is = rest id given is
+
+-- the first child of an id, where two lists have the same children of it
+abbrev first_of : List Child → Option Child
+first_of [] = None
+first_of (child ∷ children) = Some child
+
+find_first : (p : Child → Bool) (xs : List Child) → find p xs ≡ first_of (filter p xs)
+find_first p [] = refl
+find_first p (x ∷ xs) = split (p x) (find_first p xs) where
+  split : (b : Bool) → find p xs ≡ first_of (filter p xs) → cond b (Some x) (find p xs) ≡ first_of (cond b (x ∷ filter p xs) (filter p xs))
+  split true same = refl
+  split false same = same
+
+pub same_find : (p : Child → Bool) (xs ys : List Child) → filter p xs ≡ filter p ys → find p xs ≡ find p ys
+same_find p xs ys same = find_first p xs ∙ ap first_of same ∙ sym (find_first p ys)
+
+-- of a single child of an id that is reaped nothing is left
+reaped_none : (id : List ℕ) (n : ℕ) (xs : List Child) → length (filter (is_of id) xs) ≤ 1 → list_any (is_child id n) xs ≡ true → list_any (is_of id) (filter (λ child. not (is_child id n child)) xs) ≡ false
+reaped_none id n [] one there = refl
+reaped_none id n (x ∷ xs) one there = split (same_id id x.id) refl (n == x.number) one there (reaped_none id n xs) where
+  left : Child → Bool
+  left child = not (is_child id n child)
+
+  alone : length (x ∷ filter (is_of id) xs) ≤ 1 → list_any (is_of id) xs ≡ false
+  alone few = any_none (is_of id) xs (nil_from_length (filter (is_of id) xs) (omega arith))
+
+  split : (b : Bool) → same_id id x.id ≡ b → (c : Bool) → length (cond b (x ∷ filter (is_of id) xs) (filter (is_of id) xs)) ≤ 1 → (b && c || list_any (is_child id n) xs) ≡ true → (length (filter (is_of id) xs) ≤ 1 → list_any (is_child id n) xs ≡ true → list_any (is_of id) (filter left xs) ≡ false) → list_any (is_of id) (cond (not (b && c)) (x ∷ filter left xs) (filter left xs)) ≡ false
+  split true own true one there rest = falsely (list_any (is_of id) (filter left xs)) (list_any (is_of id) xs) (any_filtered (is_of id) left xs) (alone one)
+  split true own false one there rest = both_ways (list_any (is_of id) xs) (any_less (is_child id n) (is_of id) (λ child own. (and_parts (same_id id child.id) (n == child.number) own).0) xs there) (alone one)
+  split false differ c one there rest = or_from (is_of id x) (list_any (is_of id) (filter left xs)) differ (rest one there)
+
+-- what child_after reads of the past is the table alone
+same_after : (id : List ℕ) (past before : List Event) (given : Answer) (child : Option Child) → table_of past ≡ table_of before → child_after id past given child ≡ child_after id before given child
+same_after id past before (answer.Born n) child same = ap (λ (table : List Entry). Some (record { id = id; number = n; act = act_of id table })) same
+same_after id past before _ child same = refl
+
+-- nor does a table matter at a quiet point, where no Start is open
+quiet_after : (id : List ℕ) (past before : List Event) (given : Answer) (child : Option Child) → is_quiet before ≡ true → Answers id before given → child_after id past given child ≡ child_after id before given child
+quiet_after id past before (answer.Born n) child quiet open_start = started (open_of id before) refl open_start where
+  started : {P : Type 0} (o : Option Ask) → open_of id before ≡ o → option_map_or (answers (answer.Born n)) o false ≡ true → P
+  started None is h = absurd (false≢true h)
+  started (Some Start) is h = absurd (false≢true (quiet_looks id Start before quiet is))
+  started (Some Look) is h = absurd (false≢true h)
+  started (Some Term) is h = absurd (false≢true h)
+  started (Some Kill) is h = absurd (false≢true h)
+quiet_after id past before _ child quiet open_start = refl
+
+-- of an act on an order: its own id's child is as its answer says, another's as before
+act_child : (id i : List ℕ) (x given : Answer) (before past : List Event) (child had there known_there : Option Child) → table_of past ≡ table_of before → (same_id id i ≡ true → there ≡ child_after id past x known_there) → (same_id id i ≡ false → (there ≡ child) × (known_there ≡ had)) → (answered_of id before ≡ Some given → child ≡ child_after id before given had) → cond (same_id id i) (Some x) (answered_of id before) ≡ Some given → there ≡ child_after id past given known_there
+act_child id i x given before past child had there known_there table own other rest h = at_id (same_id id i) refl h where
+  at_id : (b : Bool) → same_id id i ≡ b → cond b (Some x) (answered_of id before) ≡ Some given → there ≡ child_after id past given known_there
+  at_id true same h = own same ∙ ap (λ y. child_after id past y known_there) (same_Some x given h)
+  at_id false differ h = (other differ).0 ∙ rest h ∙ ap (child_after id before given) (sym (other differ).1) ∙ sym (same_after id past before given known_there table)
+
+-- where an order of the id is undone, its unreaped child is the known one
+undone_child : (goal : Goal) (i : List ℕ) (ask : Ask) (past : List Event) → is_sound goal past ≡ true → is_order ask (undone_of i past) ≡ true → (id : List ℕ) → same_id id i ≡ true → find (is_of id) (unreaped past) ≡ find (is_of id) (known past)
+undone_child goal i ask past sound h id own = let P : List ℕ → Type 0 = λ x. find (is_of x) (unreaped past) ≡ find (is_of x) (known past) in subst P (sym (same_id-is id i own)) (sym (same_find (is_of i) (known past) (unreaped past) (told_known i past ((sound_holds goal past sound).done i ask (is_order-is ask (undone_of i past) h)))))
+
+signal_child : (goal : Goal) (i : List ℕ) (past : List Event) → is_sound goal past ≡ true → (is_order Term (undone_of i past) || is_order Kill (undone_of i past)) ≡ true → (id : List ℕ) → same_id id i ≡ true → find (is_of id) (unreaped past) ≡ find (is_of id) (known past)
+signal_child goal i past sound h id own = or_either (is_order Term (undone_of i past)) (is_order Kill (undone_of i past)) h (λ g. undone_child goal i Term past sound g id own) (λ g. undone_child goal i Kill past sound g id own)
+
+find_none : (p : Child → Bool) (xs : List Child) → list_any p xs ≡ false → find p xs ≡ None
+find_none p xs h = find_first p xs ∙ ap first_of (filter_none p xs h)
+
+-- while an answer is under way, the unreaped child of the id is the one that the answer says
+answered_child : (goal : Goal) (past : List Event) → is_sound goal past ≡ true → (id : List ℕ) (given : Answer) → answered_of id past ≡ Some given → find (is_of id) (unreaped past) ≡ child_after id past given (find (is_of id) (known past))
+answered_child goal past h = sound_ind goal (λ before. (id : List ℕ) (given : Answer) → answered_of id before ≡ Some given → find (is_of id) (unreaped before) ≡ child_after id before given (find (is_of id) (known before))) (λ table distinct id given is. absurd (none-some given is)) next past h where
+  next : (happening : Event) (before : List Event) → may_come goal happening before ≡ true → is_sound goal before ≡ true → ((id : List ℕ) (given : Answer) → answered_of id before ≡ Some given → find (is_of id) (unreaped before) ≡ child_after id before given (find (is_of id) (known before))) → (id : List ℕ) (given : Answer) → answered_of id (happening ∷ before) ≡ Some given → find (is_of id) (unreaped (happening ∷ before)) ≡ child_after id (happening ∷ before) given (find (is_of id) (known (happening ∷ before)))
+  next (NewTable table) before may sound rest id given is = rest id given is ∙ sym (quiet_after id (NewTable table ∷ before) before given (find (is_of id) (known before)) (and_parts (is_quiet before) (is_distinct table) may).0 (answers_open goal before sound id given is))
+  next (Birth i n) before may sound rest id given is = act_child id i (answer.Born n) given before (Birth i n ∷ before) (find (is_of id) (unreaped before)) (find (is_of id) (known before)) (find (is_of id) (unreaped (Birth i n ∷ before))) (find (is_of id) (known before)) refl own (λ differ. (rw differ refl, refl)) (rest id given) is where
+    own : same_id id i ≡ true → cond (same_id id i) (Some (born i n before)) (find (is_of id) (unreaped before)) ≡ Some (born id n before)
+    own same = rw same (ap (λ x. Some (born x n before)) (sym (same_id-is id i same)))
+  next (Reaped i n status) before may sound rest id given is = act_child id i (answer.Ended status) given before (Reaped i n status ∷ before) (find (is_of id) (unreaped before)) (find (is_of id) (known before)) (find (is_of id) (unreaped (Reaped i n status ∷ before))) (find (is_of id) (known before)) refl own (λ differ. (same_find (is_of id) (unreaped (Reaped i n status ∷ before)) (unreaped before) (reaped_other id i n (unreaped before) differ), refl)) (rest id given) is where
+    own : same_id id i ≡ true → find (is_of id) (unreaped (Reaped i n status ∷ before)) ≡ None
+    own same = ap (λ x. find (is_of x) (unreaped (Reaped i n status ∷ before))) (same_id-is id i same) ∙ find_none (is_of i) (unreaped (Reaped i n status ∷ before)) (reaped_none i n (unreaped before) (one_child goal before sound i) (look_undone goal i n status before may).1)
+  next (NoBirth i) before may sound rest id given is = act_child id i answer.NotBorn given before (NoBirth i ∷ before) (find (is_of id) (unreaped before)) (find (is_of id) (known before)) (find (is_of id) (unreaped before)) (find (is_of id) (known before)) refl (undone_child goal i Start before sound may id) (λ differ. (refl, refl)) (rest id given) is
+  next (Still i) before may sound rest id given is = act_child id i answer.Alive given before (Still i ∷ before) (find (is_of id) (unreaped before)) (find (is_of id) (known before)) (find (is_of id) (unreaped before)) (find (is_of id) (known before)) refl (undone_child goal i Look before sound may id) (λ differ. (refl, refl)) (rest id given) is
+  next (NoLook i) before may sound rest id given is = act_child id i answer.NoLook given before (NoLook i ∷ before) (find (is_of id) (unreaped before)) (find (is_of id) (known before)) (find (is_of id) (unreaped before)) (find (is_of id) (known before)) refl (undone_child goal i Look before sound may id) (λ differ. (refl, refl)) (rest id given) is
+  next (Hit i) before may sound rest id given is = act_child id i answer.Hit given before (Hit i ∷ before) (find (is_of id) (unreaped before)) (find (is_of id) (known before)) (find (is_of id) (unreaped before)) (find (is_of id) (known before)) refl (signal_child goal i before sound may id) (λ differ. (refl, refl)) (rest id given) is
+  next (Miss i) before may sound rest id given is = act_child id i answer.Miss given before (Miss i ∷ before) (find (is_of id) (unreaped before)) (find (is_of id) (known before)) (find (is_of id) (unreaped before)) (find (is_of id) (known before)) refl (signal_child goal i before sound may id) (λ differ. (refl, refl)) (rest id given) is
+  next (Told i) before may sound rest id given is = cleared (same_id id i) (answered_of id before) given (λ differ under. rest id given under ∙ ap (child_after id before given) (sym (same_find (is_of id) (known (Told i ∷ before)) (known before) (told_other id i (unreaped before) (known before) differ))) ∙ sym (same_after id (Told i ∷ before) before given (find (is_of id) (known (Told i ∷ before))) refl)) is
+  next happening before may sound rest id given is = rest id given is ∙ sym (same_after id (happening ∷ before) before given (find (is_of id) (known before)) refl)
+
+-- the child that init knows of after a Told
+pub told_child : (goal : Goal) (past : List Event) → is_sound goal past ≡ true → (id : List ℕ) (given : Answer) → answered_of id past ≡ Some given → find (is_of id) (known (Told id ∷ past)) ≡ child_after id past given (find (is_of id) (known past))
+told_child goal past h id given is = same_find (is_of id) (known (Told id ∷ past)) (unreaped past) (told_same id id (unreaped past) (known past) (same_id-self id)) ∙ answered_child goal past h id given is
+
+-- a child that is born is not excluded
+pub newborn_lives : (goal : Goal) (id : List ℕ) (n : ℕ) (past : List Event) → is_sound goal (Birth id n ∷ past) ≡ true → is_excluded (Birth id n ∷ past) (born id n past) ≡ false
+newborn_lives goal id n past h =
+    let parts = sound_step goal (Birth id n) past refl h in
+    placed_spared id n past ((sound_holds goal past parts.1).ready id (is_order-is Start (undone_of id past) (start_undone goal id n past parts.0))).placed
+
+-- an order of an id is open exactly where it is among the open orders
+pub order_open : (id : List ℕ) (ask : Ask) (past : List Event) → list_any (λ order. same_id id order.id && same_ask ask order.ask) (open_orders past) ≡ is_order ask (open_of id past)
+order_open id ask past = open_listed (same_ask ask) id past ∙ given (open_of id past) where
+  given : (o : Option Ask) → option_map_or (same_ask ask) o false ≡ is_order ask o
+  given None = refl
+  given (Some a) = refl
+
+-- where no table came after the first, each open order and each kept child is of an entry of it
+record InTable (past : List Event) : Type 0 where
+  orders : (id : List ℕ) (ask : Ask) → open_of id past ≡ Some ask → list_any (has_id id) (table_of past) ≡ true
+  children : (id : List ℕ) → has_child id (kept past) ≡ true → list_any (has_id id) (table_of past) ≡ true
+
+stop_known : (id : List ℕ) (ask : Ask) (past : List Event) → MayStop id ask past → has_child id (known past) ≡ true
+stop_known id ask past may = may.within (is_of id) may.own
+
+asked_in_table : (goal : Goal) (i : List ℕ) (ask : Ask) (past : List Event) → is_due goal (step.Order i ask) past ≡ true → InTable past → list_any (has_id i) (table_of past) ≡ true
+asked_in_table goal i Start past may rest = (due_facts goal past (step.Order i Start) may).run.listed
+asked_in_table goal i Look past may rest = rest.children i (known_kept (is_of i) past (due_facts goal past (step.Order i Look) may).there)
+asked_in_table goal i Term past may rest = rest.children i (known_kept (is_of i) past (stop_known i Term past (due_facts goal past (step.Order i Term) may)))
+asked_in_table goal i Kill past may rest = rest.children i (known_kept (is_of i) past (stop_known i Kill past (due_facts goal past (step.Order i Kill) may)))
+
+orders_keep : (goal : Goal) (happening : Event) (past : List Event) → may_come goal happening past ≡ true → is_table happening ≡ false → InTable past → (id : List ℕ) (ask : Ask) → open_of id (happening ∷ past) ≡ Some ask → list_any (has_id id) (table_of (happening ∷ past)) ≡ true
+orders_keep goal (NewTable table) past may other rest id ask h = absurd (false≢true (sym other))
+orders_keep goal (Asked i given) past may other rest id ask h = at_id (same_id id i) refl h where
+  at_id : (b : Bool) → same_id id i ≡ b → cond b (Some given) (open_of id past) ≡ Some ask → list_any (has_id id) (table_of past) ≡ true
+  at_id true same h = ap (λ x. list_any (has_id x) (table_of past)) (same_id-is id i same) ∙ asked_in_table goal i given past may rest
+  at_id false differ h = rest.orders id ask h
+orders_keep goal (Told i) past may other rest id ask h = cleared (same_id id i) (open_of id past) ask (λ differ is. rest.orders id ask is) h
+orders_keep goal (_) past may other rest id ask h = rest.orders id ask h
+
+placed_listed : (id : List ℕ) (past : List Event) → is_placed id past ≡ true → list_any (has_id id) (table_of past) ≡ true
+placed_listed id past h = found (entry_of id (table_of past)) refl h where
+  found : (o : Option Entry) → entry_of id (table_of past) ≡ o → option_map_or (λ e. starts_now e past) o false ≡ true → list_any (has_id id) (table_of past) ≡ true
+  found None is h = absurd (false≢true h)
+  found (Some e) is h = entry_listed id (table_of past) e is
+
+children_keep : (goal : Goal) (happening : Event) (past : List Event) → may_come goal happening past ≡ true → is_table happening ≡ false → is_sound goal past ≡ true → InTable past → (id : List ℕ) → has_child id (kept (happening ∷ past)) ≡ true → list_any (has_id id) (table_of (happening ∷ past)) ≡ true
+children_keep goal (NewTable table) past may other sound rest id h = absurd (false≢true (sym other))
+children_keep goal (Birth i n) past may other sound rest id h = or_either (same_id id i) (has_child id (kept past)) h (λ same. ap (λ x. list_any (has_id x) (table_of past)) (same_id-is id i same) ∙ placed_listed i past ((sound_holds goal past sound).ready i (is_order-is Start (undone_of i past) (start_undone goal i n past may))).placed) (rest.children id)
+children_keep goal (Told i) past may other sound rest id h = rest.children id (kept_before_told (is_of id) i past h)
+children_keep goal (_) past may other sound rest id h = rest.children id h
+
+keeps_before : (happening next : Event) (past : List Event) → keeps_table (happening ∷ next ∷ past) ≡ true → (is_table happening ≡ false) × (keeps_table (next ∷ past) ≡ true)
+keeps_before (NewTable table) next past h = absurd (false≢true h)
+keeps_before _ next past h = (refl, h)
+
+in_table : (goal : Goal) (past : List Event) → is_sound goal past ≡ true → keeps_table past ≡ true → InTable past
+in_table goal past h = sound_ind goal (λ before. keeps_table before ≡ true → InTable before) (λ table distinct one. record { orders = λ id ask is. absurd (none-some ask is); children = λ id there. absurd (false≢true there) }) next past h where
+  next : (happening : Event) (before : List Event) → may_come goal happening before ≡ true → is_sound goal before ≡ true → (keeps_table before ≡ true → InTable before) → keeps_table (happening ∷ before) ≡ true → InTable (happening ∷ before)
+  next happening [] may sound rest one = absurd (false≢true sound)
+  next happening (x ∷ before) may sound rest one =
+      let parts = keeps_before happening x before one in
+      record { orders = orders_keep goal happening (x ∷ before) may parts.0 (rest parts.1); children = children_keep goal happening (x ∷ before) may parts.0 sound (rest parts.1) }
+
+pub open_in_table : (goal : Goal) (past : List Event) → is_sound goal past ≡ true → keeps_table past ≡ true → (id : List ℕ) (ask : Ask) → open_of id past ≡ Some ask → list_any (has_id id) (table_of past) ≡ true
+open_in_table goal past h one id ask is = (in_table goal past h one).orders id ask is
+
+pub child_in_table : (goal : Goal) (past : List Event) → is_sound goal past ≡ true → keeps_table past ≡ true → (id : List ℕ) → has_child id (kept past) ≡ true → list_any (has_id id) (table_of past) ≡ true
+child_in_table goal past h one id there = (in_table goal past h one).children id there

@@ -1,0 +1,19 @@
+-- Which orders an answer may answer.
+use Rattle.std.specs.Prelude.{Bool, true, false}
+use Rattle.init_words.specs.declared.orders.Ask.{Ask}
+use Rattle.init_words.specs.declared.orders.Ask.TheVariants.{Start, Look, Term, Kill}
+use Rattle.init_words.specs.declared.orders.Answer.{Answer}
+use Rattle.init_words.specs.declared.orders.Answer.TheVariants.{Born, NotBorn, Ended, Alive, NoLook, Hit, Miss}
+
+-- the answer is one to an order of this kind
+abbrev pub answers : Answer → Ask → Bool
+answers (Born n) Start = true
+answers NotBorn Start = true
+answers (Ended status) Look = true
+answers Alive Look = true
+answers NoLook Look = true
+answers Hit Term = true
+answers Hit Kill = true
+answers Miss Term = true
+answers Miss Kill = true
+answers _ _ = false
