@@ -1,5 +1,5 @@
 -- The step that the core takes is the first that is due.
-use Rattle.std.proofs.Common.{Bool, true, false, not, ◌≡◌, ◌&&◌, ◌||◌, ◌==◌, ℕ, List, [], ◌∷◌, ◌++◌, map, zip, filter, append-nil, Option, Some, None, is_some, is_none, refl, sym, ap, ◌∙◌, cond, if◌then◌else◌}
+use Rattle.std.proofs.Common.{Bool, true, false, not, ◌≡◌, ◌&&◌, ◌||◌, ℕ, List, [], ◌∷◌, ◌++◌, map, zip, append-nil, Option, Some, None, is_some, is_none, refl, sym, ap, ◌∙◌, cond}
 use Rattle.std.specs.List.{list_any, list_all}
 use Rattle.std.proofs.lemmas.Bool.{false≢true}
 use Rattle.init_words.specs.declared.entries.Entry.{Entry}
@@ -7,35 +7,32 @@ use Rattle.init_words.specs.declared.actions.Act.{Act}
 use Rattle.init_words.specs.declared.actions.Act.TheVariants as act
 use Rattle.init_words.specs.declared.levels.Level.{Level}
 use Rattle.init_words.specs.declared.levels.Level.TheVariants.{L0, L1, L2, L3, L4, L5, L6, L7, L8, L9, S}
-use Rattle.init_words.specs.declared.levels.Mark.TheVariants.{At}
 use Rattle.init_words.specs.declared.levels.Letter.TheVariants as letter
 use Rattle.init_words.specs.declared.orders.PowerKind.TheVariants as power
 use Rattle.init_words.specs.declared.stages.Stage.{Stage}
 use Rattle.init_words.specs.declared.stages.Stage.TheVariants as stage
 use Rattle.init_words.specs.declared.orders.Ask.{Ask}
 use Rattle.init_words.specs.declared.orders.Ask.TheVariants.{Start, Look, Term, Kill}
-use Rattle.init_words.specs.Levels.{same_level, names}
+use Rattle.init_words.specs.Levels.{same_level}
 use Rattle.init_words.specs.Entries.{waited_of}
-use Rattle.init_words.specs.Orders.{same_ask}
 use Rattle.inittab_text.specs.Tables.{ids_of}
 use Rattle.respawn_limit.specs.Window as window
 use Rattle.init_trace.specs.declared.steps.Step.{Step}
 use Rattle.init_trace.specs.declared.steps.Step.TheVariants.{Enter, Order, Settle}
 use Rattle.init_trace.specs.declared.steps.Goal.{Goal}
 use Rattle.init_trace.specs.Event.{Event}
-use Rattle.init_trace.specs.Past.{table_of, stage_of, time_of, Child, is_of, has_child, kept, known, open_of, open_orders, is_quiet, is_idle}
-use Rattle.init_trace.specs.Wanted.{is_wanted, is_owed, is_asked, is_order, is_excluded}
-use Rattle.init_trace.specs.Spells.{stop_due, stop_by, is_missed}
+use Rattle.init_trace.specs.Past.{table_of, stage_of, time_of, Child, is_of, has_child, kept, known, open_of, is_quiet, is_idle}
+use Rattle.init_trace.specs.Wanted.{is_wanted, is_asked, is_order, is_excluded}
 use Rattle.init_trace.specs.Timing.{is_held, start_times, hold_times}
 use Rattle.init_trace.specs.Wishes.{is_level, in_run, goal_of, wish_stands}
-use Rattle.init_trace.specs.Due.{due, first, step_if, steps_if, due_first, due_reexec, due_reread, due_level, due_news, due_stops, due_starts, due_stage, due_settle, due_looks, none_excluded, is_over, is_limited, is_announced, is_settled, is_served, served_by, settle_step, next_stage, stops_of, stops_among, stop_step, left_ids, record_ids, looks_among, can_look, wants_look, starts_among, power_steps, letter_steps, enter_level}
+use Rattle.init_trace.specs.Due.{due, first, step_if, steps_if, due_first, due_reexec, due_reread, due_level, due_news, due_stops, due_starts, due_stage, due_settle, due_looks, is_over, is_limited, is_announced, is_settled, is_served, served_by, settle_step, next_stage, stops_of, stops_among, record_ids, looks_among, can_look, wants_look, starts_among}
 use Rattle.level_core.specs.declared.slots.Slot.{Slot}
 use Rattle.level_core.specs.Decide as core
 use Rattle.level_core.specs.Decide.{CoreState, decide, or_else, or_idle, is_busy, is_done_slot, all_done, is_quiet_among, is_idle_among, is_served_slot, all_served, can_look_slot, look_among}
-use Rattle.level_core.specs.Fit.{Fits, record_of, records_of, known_child, limiter_by, last_hold_end, is_to_look}
-use Rattle.level_core.proofs.Heads.{head, first_by_head, head_append, head_step_if, head_steps_if, six_empty}
+use Rattle.level_core.specs.Fit.{Fits, record_of, records_of, known_child, limiter_by}
+use Rattle.level_core.proofs.Heads.{head, first_by_head, head_append, head_step_if, six_empty}
 use Rattle.level_core.proofs.Plain.{no_reexec, no_reread, no_level_wish, no_power, no_letter, no_wish, none_left}
-use Rattle.level_core.proofs.Same.{Tame, child_some, and_false, both_false, wanted_same, owed_same, along_same}
+use Rattle.level_core.proofs.Same.{Tame, child_some, wanted_same, owed_same, along_same}
 use Rattle.level_core.proofs.Windows.{held_fits}
 
 list_any-map : {X Y : Type 0} (f : X → Y) (p : Y → Bool) (xs : List X) → list_any p (map f xs) ≡ list_any (λ x. p (f x)) xs
@@ -70,6 +67,7 @@ stops_none past id (child ∷ children) none = at (is_excluded past child) refl 
     empty : (b : Bool) (rest : List Step) → rest ≡ [] → (steps_if b [] ++ rest) ≡ []
     empty true rest is = is
     empty false rest is = is
+
     at : (b : Bool) → is_excluded past child ≡ b → (b || list_any (is_excluded past) children) ≡ false → (list_any (is_excluded past) children ≡ false → stops_of id children past ≡ []) → stops_of id (child ∷ children) past ≡ []
     at true is h rest = absurd (false≢true (sym h))
     at false is h rest = rw is (empty (is_of id child) (stops_of id children past) (rest h))
@@ -90,7 +88,7 @@ step_if_false : (b c : Bool) (step : Step) → c ≡ false → step_if (b && c) 
 step_if_false true c step is = rw is refl
 step_if_false false c step is = refl
 
-same_level-refl : (l : Level) → same_level l l ≡ true
+pub same_level-refl : (l : Level) → same_level l l ≡ true
 same_level-refl L0 = refl
 same_level-refl L1 = refl
 same_level-refl L2 = refl
@@ -179,7 +177,7 @@ module _ (past : List Event) (tame : Tame past) where
     settled_same : is_settled level (known past) past ≡ all_served level (time_of past) (table_of past) (records_of past)
     settled_same = by (is_level level (stage_of past)) (list_any (is_excluded past) (known past)) (ap (is_level level) in_level ∙ same_level-refl level) tame.known_spared
         (all_same (is_served level (known past) past) (λ e. is_served_slot level (time_of past) e (record_of past e)) (table_of past) served_same
-            ∙ sym (all_pairs (record_of past) (λ (p : Entry × Slot). is_served_slot level (time_of past) p.0 p.1) (table_of past)))
+        ∙ sym (all_pairs (record_of past) (λ (p : Entry × Slot). is_served_slot level (time_of past) p.0 p.1) (table_of past)))
       where
         by : (a x : Bool) → a ≡ true → x ≡ false → {l l' : Bool} → l ≡ l' → (a && not x && l) ≡ l'
         by a x ha hx h = rw (ha, hx) h
@@ -229,7 +227,7 @@ module _ (past : List Event) (tame : Tame past) where
     first_none : stage_of past ≡ None → first (due opening past) ≡ Enter stage.Sysinit (goal_of opening past).grace
     first_none is = rw is refl
 
-    due_same : (stage : Stage) → stage_of past ≡ Some stage → due opening past ≡ due_starts past ++ due_stage opening past ++ due_settle past ++ due_looks past
+    pub due_same : (stage : Stage) → stage_of past ≡ Some stage → due opening past ≡ due_starts past ++ due_stage opening past ++ due_settle past ++ due_looks past
     due_same stage is = six_empty (due_first opening (stage_of past) past) (due_reexec past) (due_reread past) (due_level past) (due_news past) (due_stops past) (due_starts past) (due_stage opening past) (due_settle past) (due_looks past)
         (ap (λ o. due_first opening o past) is) (step_if_false (is_quiet past) _ _ (no_reexec past tame.one_table)) (step_if_false (is_quiet past) _ _ (no_reread past tame.one_table)) level_empty news_empty stops_empty
 
@@ -251,11 +249,13 @@ module _ (past : List Event) (tame : Tame past) where
         same_goal stage.Sysinit goal = ap (λ g. core.stage_step stage.Sysinit g (table_of past) (records_of past)) (goal refl)
         same_goal stage.Boot goal = ap (λ g. core.stage_step stage.Boot g (table_of past) (records_of past)) (goal refl)
         same_goal (stage.Run level) goal = refl
+
         read : (stage : Stage) → core.decide_in (Some stage) c ≡ or_idle (or_else (core.start_among stage (time_of past) (table_of past) (records_of past)) (or_else (core.stage_step stage c.goal (table_of past) (records_of past)) (or_else (core.settle_step stage (is_announced past) (time_of past) (table_of past) (records_of past)) (look_among (records_of past)))))
         read stage = λ i. or_idle (or_else (core.start_among stage (fits.time i) (fits.table i) (fits.slots i)) (or_else (core.stage_step stage c.goal (fits.table i) (fits.slots i)) (or_else (core.settle_step stage (fits.announced i) (fits.time i) (fits.table i) (fits.slots i)) (look_among (fits.slots i)))))
+
         at : (o : Option Stage) → stage_of past ≡ o → decide c ≡ first (due opening past)
         at None is = ap (λ o. core.decide_in o c) (fits.stage ∙ is) ∙ ap (λ (g : Goal). Enter stage.Sysinit g.grace) (fits.goal (ap in_run is)) ∙ sym (first_none is)
         at (Some stage) is = ap (λ o. core.decide_in o c) (fits.stage ∙ is) ∙ read stage
             ∙ ap (λ step. or_idle (or_else (core.start_among stage (time_of past) (table_of past) (records_of past)) (or_else step (or_else (core.settle_step stage (is_announced past) (time_of past) (table_of past) (records_of past)) (look_among (records_of past))))))
-                (same_goal stage (λ h. fits.goal (ap in_run is ∙ h)))
+            (same_goal stage (λ h. fits.goal (ap in_run is ∙ h)))
             ∙ sym (first_some stage is)

@@ -1,33 +1,26 @@
 -- Each happening leaves the records what the past says, and so the core fitting.
-use Rattle.std.proofs.Common.{Bool, true, false, not, ◌≡◌, ◌&&◌, ◌||◌, ◌+◌, ℕ, List, [], ◌∷◌, ◌++◌, map, find, filter, reverse, Option, Some, None, is_some, is_none, refl, sym, ap, ◌∙◌, cond, if◌then◌else◌, option_map}
+use Rattle.std.proofs.Common.{Bool, true, false, not, ◌≡◌, ◌&&◌, ◌||◌, ℕ, List, [], ◌∷◌, map, reverse, Some, refl, sym, ap, ◌∙◌, cond}
 use Rattle.std.specs.List.{list_any}
-use Rattle.std.specs.Option.{option_map_or}
 use Rattle.std.proofs.lemmas.Bool.{false≢true, and_parts}
 use Rattle.std.proofs.lemmas.Grind.{reverse_onto}
 use Rattle.init_words.specs.declared.entries.Entry.{Entry}
-use Rattle.init_words.specs.declared.actions.Act.{Act}
 use Rattle.init_words.specs.declared.stages.Stage.{Stage}
-use Rattle.init_words.specs.declared.orders.Ask.{Ask}
 use Rattle.init_words.specs.declared.orders.Ask.TheVariants.{Start, Look, Term, Kill}
 use Rattle.init_words.specs.Ids.{same_id}
-use Rattle.inittab_text.specs.Tables.{entry_of, act_of, has_id, is_distinct}
-use Rattle.respawn_limit.specs.State.{LimiterState, unused}
+use Rattle.inittab_text.specs.Tables.{act_of, has_id, is_distinct}
+use Rattle.respawn_limit.specs.State.{unused}
 use Rattle.respawn_limit.specs.Window as window
 use Rattle.respawn_limit.proofs.WindowLemmas.{drop_last_push}
 use Rattle.init_trace.specs.declared.happenings.Happening.TheVariants as event
-use Rattle.init_trace.specs.declared.steps.Goal.{Goal}
 use Rattle.init_trace.specs.Event.{Event}
-use Rattle.init_trace.specs.Past.{table_of, stage_of, time_of, is_of, has_child, known, open_of}
-use Rattle.init_trace.specs.Wanted.{is_asked}
+use Rattle.init_trace.specs.Past.{table_of, time_of, has_child, known}
 use Rattle.init_trace.specs.Timing.{is_held, is_full, start_times, hold_times}
-use Rattle.init_trace.specs.Wishes.{in_run, goal_of}
 use Rattle.init_trace.specs.Due.{is_limited, wants_look}
 use Rattle.init_trace.specs.Lawful.{is_limited_id, is_free}
 use Rattle.trace_laws.proofs.Tests.{same_id-is, same_id-self, same_id-sym}
 use Rattle.level_core.specs.declared.slots.Slot.{Slot}
 use Rattle.level_core.specs.Slots.{after_order, after_hold, after_enter, after_nudge, changed, is_slot_of, with_changed, with_allowed_start, allows}
-use Rattle.level_core.specs.Decide.{CoreState, after_step, after_round, after_clock}
-use Rattle.level_core.specs.Fit.{Fits, record_of, records_of, known_child, limiter_by, last_hold_end, is_to_look}
+use Rattle.level_core.specs.Fit.{record_of, limiter_by, last_hold_end}
 use Rattle.level_core.proofs.Same.{child_some, and_false}
 use Rattle.level_core.proofs.Windows.{held_fits, full_fits, allows_by}
 
@@ -36,7 +29,7 @@ abbrev pub Each : (Entry → Type 0) → List Entry → Type 0
 Each P [] = Unit {0}
 Each P (e ∷ es) = P e × Each P es
 
-each_of : (P : Entry → Type 0) → ((e : Entry) → P e) → (es : List Entry) → Each P es
+pub each_of : (P : Entry → Type 0) → ((e : Entry) → P e) → (es : List Entry) → Each P es
 each_of P all [] = tt
 each_of P all (e ∷ es) = (all e, each_of P all es)
 
@@ -83,7 +76,7 @@ entered stage grace past (e ∷ es) = rw (entered stage grace past es, limiter (
     limiter false = refl
 
 -- the records where one id's is changed: each entry of that id as changed, each other as it was
-one_changed : (id : List ℕ) (change : Slot → Slot) (f g : Entry → Slot) (e : Entry) → is_slot_of id (f e) ≡ same_id e.id id → (same_id e.id id ≡ true → change (f e) ≡ g e) → (same_id e.id id ≡ false → f e ≡ g e) → changed id change (f e) ≡ g e
+pub one_changed : (id : List ℕ) (change : Slot → Slot) (f g : Entry → Slot) (e : Entry) → is_slot_of id (f e) ≡ same_id e.id id → (same_id e.id id ≡ true → change (f e) ≡ g e) → (same_id e.id id ≡ false → f e ≡ g e) → changed id change (f e) ≡ g e
 one_changed id change f g e own here other = rw own (at (same_id e.id id) refl)
   where
     at : (b : Bool) → same_id e.id id ≡ b → cond b (change (f e)) (f e) ≡ g e
@@ -97,6 +90,24 @@ look_ordered id now past es = records_same (record_of past) (record_of (event.As
     same : (e : Entry) → Unit {0} → changed id (after_order Look now) (record_of past e) ≡ record_of (event.Asked id Look ∷ past) e
     same e u = one_changed id (after_order Look now) (record_of past) (record_of (event.Asked id Look ∷ past)) e refl
         (λ is. rw (is, and_false (has_child e.id (known past))) refl)
+        (λ is. rw is refl)
+
+-- a TERM was ordered
+pub term_ordered : (id : List ℕ) (now : ℕ) (past : List Event) (es : List Entry) → with_changed id (after_order Term now) (map (record_of past) es) ≡ map (record_of (event.Asked id Term ∷ past)) es
+term_ordered id now past es = records_same (record_of past) (record_of (event.Asked id Term ∷ past)) (changed id (after_order Term now)) (λ e. Unit {0}) same es (each_of (λ e. Unit {0}) (λ e. tt) es)
+  where
+    same : (e : Entry) → Unit {0} → changed id (after_order Term now) (record_of past e) ≡ record_of (event.Asked id Term ∷ past) e
+    same e u = one_changed id (after_order Term now) (record_of past) (record_of (event.Asked id Term ∷ past)) e refl
+        (λ is. rw is refl)
+        (λ is. rw is refl)
+
+-- a KILL was ordered
+pub kill_ordered : (id : List ℕ) (now : ℕ) (past : List Event) (es : List Entry) → with_changed id (after_order Kill now) (map (record_of past) es) ≡ map (record_of (event.Asked id Kill ∷ past)) es
+kill_ordered id now past es = records_same (record_of past) (record_of (event.Asked id Kill ∷ past)) (changed id (after_order Kill now)) (λ e. Unit {0}) same es (each_of (λ e. Unit {0}) (λ e. tt) es)
+  where
+    same : (e : Entry) → Unit {0} → changed id (after_order Kill now) (record_of past e) ≡ record_of (event.Asked id Kill ∷ past) e
+    same e u = one_changed id (after_order Kill now) (record_of past) (record_of (event.Asked id Kill ∷ past)) e refl
+        (λ is. rw is refl)
         (λ is. rw is refl)
 
 -- the limiter of an entry after a start of it that was free
@@ -130,6 +141,7 @@ start_ordered id past free es own = records_same (record_of past) (record_of (ev
         let both : (is_held id past ≡ false) × (is_full id past ≡ false) = free_by (is_limited_id id past) (is_held id past) (is_full id past) free (own_limited id past e mine is ∙ limited) in
         let same_one : e.id ≡ id = same_id-is e.id id is in
         rw same_one both
+
     same : (e : Entry) → IsOwn (table_of past) e → changed id (after_order Start (time_of past)) (record_of past e) ≡ record_of (event.Asked id Start ∷ past) e
     same e mine = one_changed id (after_order Start (time_of past)) (record_of past) (record_of (event.Asked id Start ∷ past)) e refl
         (λ is. rw (is, start_limiter (is_limited e.act) e.id past (at_own e mine is)) refl)

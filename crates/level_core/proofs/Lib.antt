@@ -5,7 +5,9 @@ pub mod Opening
 pub mod Pairs
 pub mod Plain
 pub mod Same
-pub mod Stepping
 pub mod Starts
+pub mod Stepping
+pub mod Taming
+pub mod Telling
 pub mod Timely
 pub mod Windows

@@ -1,20 +1,19 @@
 -- On a trace of one table no wish ever stands, nothing is called, and no id leaves the table.
-use Rattle.std.proofs.Common.{Bool, true, false, not, ◌≡◌, ◌&&◌, ◌||◌, List, [], ◌∷◌, Option, Some, None, refl, if◌then◌else◌, cond}
+use Rattle.std.proofs.Common.{Bool, true, false, not, ◌≡◌, ◌&&◌, List, [], ◌∷◌, Option, Some, None, refl}
 use Rattle.std.proofs.lemmas.Bool.{and_parts, false≢true}
 use Rattle.init_words.specs.declared.entries.Entry.{Entry}
 use Rattle.init_words.specs.declared.levels.Letter.{Letter}
-use Rattle.init_words.specs.declared.orders.Ask.TheVariants.{Start, Look, Term, Kill}
+use Rattle.init_words.specs.declared.orders.Ask.TheVariants.{Start}
 use Rattle.init_words.specs.declared.orders.PowerKind.{PowerKind}
 use Rattle.init_words.specs.declared.orders.PowerKind.TheVariants as power
 use Rattle.init_words.specs.declared.levels.Letter.TheVariants as letter
 use Rattle.init_words.specs.declared.stages.Stage.{Stage}
 use Rattle.init_words.specs.declared.stages.Stage.TheVariants.{Run}
 use Rattle.init_words.specs.Ids.{same_id}
-use Rattle.initctl_frame.specs.declared.requests.Got.TheVariants as got
-use Rattle.init_trace.specs.declared.happenings.Happening.TheVariants.{NewTable, NotRead, Enter, Call, Power, Asked, Hit, Miss, Got, Handed}
+use Rattle.init_trace.specs.declared.happenings.Happening.TheVariants.{NewTable, NotRead, Enter, Call, Power, Asked, Got, Handed}
 use Rattle.init_trace.specs.declared.steps.Goal.{Goal}
 use Rattle.init_trace.specs.Event.{Event}
-use Rattle.init_trace.specs.Past.{stage_of, table_of}
+use Rattle.init_trace.specs.Past.{stage_of}
 use Rattle.init_trace.specs.Wanted.{is_called}
 use Rattle.init_trace.specs.Wishes.{goal_of, wants_reexec, wants_reread, heard_level, other_than, level_wish, keeps_power, keeps_letter, wish_stands, in_run}
 use Rattle.init_trace.specs.Due.{left_ids}

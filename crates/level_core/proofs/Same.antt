@@ -1,29 +1,22 @@
 -- What the records say of an entry is what the past says of it.
-use Rattle.std.proofs.Common.{Bool, true, false, not, ◌≡◌, ◌&&◌, ◌||◌, ℕ, List, [], ◌∷◌, ◌++◌, map, zip, find, Option, Some, None, is_some, is_none, refl, sym, ap, ◌∙◌, cond, if◌then◌else◌, option_map}
-use Rattle.std.specs.List.{list_any, list_all}
-use Rattle.std.proofs.lemmas.Bool.{false≢true}
+use Rattle.std.proofs.Common.{Bool, true, false, not, ◌≡◌, ◌&&◌, ◌||◌, ℕ, List, [], ◌∷◌, map, zip, find, Option, Some, None, is_some, is_none, refl, sym, ap, ◌∙◌, cond, option_map}
+use Rattle.std.specs.List.{list_any}
 use Rattle.init_words.specs.declared.entries.Entry.{Entry}
-use Rattle.init_words.specs.declared.actions.Act.{Act}
-use Rattle.init_words.specs.declared.actions.Act.TheVariants as act
 use Rattle.init_words.specs.declared.stages.Stage.{Stage}
 use Rattle.init_words.specs.declared.orders.Ask.{Ask}
-use Rattle.init_words.specs.declared.orders.Ask.TheVariants.{Start, Look, Term, Kill}
-use Rattle.init_words.specs.Entries.{starts_of, waited_of}
+use Rattle.init_words.specs.declared.orders.Ask.TheVariants.{Start, Look}
 use Rattle.init_words.specs.Orders.{same_ask}
 use Rattle.respawn_limit.specs.State.{LimiterState}
 use Rattle.respawn_limit.specs.Window as window
-use Rattle.init_trace.specs.declared.steps.Step.{Step}
 use Rattle.init_trace.specs.declared.steps.Step.TheVariants.{Order, Hold}
 use Rattle.init_trace.specs.Event.{Event}
-use Rattle.init_trace.specs.Past.{table_of, stage_of, time_of, Child, is_of, has_child, kept, known, open_of, open_orders}
-use Rattle.init_trace.specs.Wanted.{is_wanted, is_owed, is_asked, is_called, is_order, is_excluded, wanted_by, starts_in}
+use Rattle.init_trace.specs.Past.{table_of, stage_of, time_of, is_of, has_child, kept, known, open_of, open_orders}
+use Rattle.init_trace.specs.Wanted.{is_wanted, is_owed, is_order, is_excluded}
 use Rattle.init_trace.specs.Timing.{is_held, is_full, start_times, hold_times}
-use Rattle.init_trace.specs.Due.{is_limited, can_start, start_steps, starts_among, steps_if, served_by}
-use Rattle.level_core.specs.declared.slots.Slot.{Slot}
-use Rattle.level_core.specs.declared.slots.Living.{Living}
+use Rattle.init_trace.specs.Due.{is_limited, can_start, start_steps, starts_among, steps_if}
 use Rattle.level_core.specs.Slots.{allows}
 use Rattle.level_core.specs.Decide.{is_wanted_slot, is_owed_slot, can_start_slot, limited_step, start_step, start_along, is_busy, or_else}
-use Rattle.level_core.specs.Fit.{living, known_child, record_of, limiter_by, last_hold_end}
+use Rattle.level_core.specs.Fit.{living, known_child, record_of, limiter_by}
 use Rattle.level_core.specs.Path.{is_of_one_table}
 use Rattle.level_core.proofs.Heads.{head, head_append}
 use Rattle.level_core.proofs.Plain.{none_called}
@@ -104,9 +97,11 @@ module _ (past : List Event) (tame : Tame past) where
         chosen true f = refl
         chosen false true = refl
         chosen false false = refl
+
         by_window : (l : LimiterState) → window.is_held l.held (time_of past) ≡ is_held e.id past → window.is_full l.starts (time_of past) ≡ is_full e.id past
             → head (steps_if (not (is_held e.id past)) (cond (is_full e.id past) (Hold e.id) (Order e.id Start) ∷ [])) ≡ cond (window.is_held l.held (time_of past)) None (Some (cond (allows (window.may_of l (time_of past))) (Order e.id Start) (Hold e.id)))
         by_window l held full = rw (allows_by l (time_of past), held, full) (chosen (is_held e.id past) (is_full e.id past))
+
         at : (b : Bool) → is_limited e.act ≡ b → head (start_steps e past) ≡ limited_step (time_of past) e (record_of past e)
         at true is = rw is (by_window (limiter_by true (start_times e.id past) (hold_times e.id past)) (held_fits e.id past) (full_fits e.id past))
         at false is = rw is refl

@@ -1,6 +1,6 @@
 -- The limiter's starts and hold say of the window what the past says.
-use Rattle.std.proofs.Common.{Bool, true, false, not, ◌≡◌, ◌≤◌, ◌<◌, ◌+◌, ◌-◌, ◌&&◌, ◌||◌, ℕ, zero, suc, List, [], ◌∷◌, ◌++◌, reverse, filter, length, max, min, nat_le, nat_lt, Option, Some, None, refl, sym, ap, ◌∙◌, arith, cond, if◌then◌else◌, All}
-use Rattle.std.specs.List.{list_any, list_all, count_by}
+use Rattle.std.proofs.Common.{Bool, true, false, not, ◌≡◌, ◌≤◌, ◌+◌, ◌&&◌, ◌||◌, ℕ, List, [], ◌∷◌, reverse, filter, length, max, min, nat_le, nat_lt, Option, Some, None, refl, sym, ap, ◌∙◌, arith, cond, All}
+use Rattle.std.specs.List.{list_any, list_all}
 use Rattle.std.specs.List.Sorted.{IsNonDecreasing}
 use Rattle.std.proofs.lemmas.Bool.{and_parts, and_from, leb-true, le-leb}
 use Rattle.std.proofs.lemmas.Bool.Decides.{nat_tests}
@@ -8,7 +8,7 @@ use Rattle.std.proofs.lemmas.Grind.{reverse_onto}
 use Rattle.std.proofs.lemmas.List.Elements.{All-push, filter-append}
 use Rattle.std.proofs.lemmas.List.Sums.{length-filter}
 use Rattle.std.proofs.lemmas.List.{length-append}
-use Rattle.init_words.specs.declared.orders.Ask.TheVariants.{Start, Look, Term, Kill}
+use Rattle.init_words.specs.declared.orders.Ask.TheVariants.{Start}
 use Rattle.init_words.specs.Ids.{same_id}
 use Rattle.respawn_limit.specs.State.{LimiterState}
 use Rattle.respawn_limit.specs.Window as window
@@ -32,7 +32,8 @@ later now next times h noted = record { ordered = noted.ordered; past = λ k d w
 noted_more : (now : ℕ) (times : List ℕ) → Noted now (reverse times) → Noted now (reverse (now ∷ times))
 noted_more now times noted = rw (reverse_onto times now []) (record {
   ordered = IsNonDecreasing-push (reverse times) now noted.ordered noted.past;
-  past = All-push (λ t. t ≤ now) (reverse times) now noted.past (omega arith) })
+  past = All-push (λ t. t ≤ now) (reverse times) now noted.past (omega arith);
+})
 
 -- the starts of an id, oldest first, are in order
 pub starts_noted : (id : List ℕ) (past : List Event) → Noted (time_of past) (reverse (start_times id past))
@@ -101,6 +102,7 @@ held_by_last id (Hold i ∷ past) now = at (same_id id i) (held_by_last id past 
     more : (b : Bool) → nat_lt now (time_of past + 300) ≡ b → nat_lt now (time_of past + 300) ≡ (b || list_any (λ began. nat_lt now (began + 300)) (hold_times id past))
     more true is = is
     more false is = is ∙ sym (none_of now (time_of past) (hold_times id past) (holds_past id past) is)
+
     at : (b : Bool) → window.is_held (last_hold_end (hold_times id past)) now ≡ list_any (λ began. nat_lt now (began + 300)) (hold_times id past)
         → window.is_held (last_hold_end (cond b (time_of past ∷ hold_times id past) (hold_times id past))) now ≡ list_any (λ began. nat_lt now (began + 300)) (cond b (time_of past ∷ hold_times id past) (hold_times id past))
     at true h = more (nat_lt now (time_of past + 300)) refl
@@ -117,9 +119,11 @@ allows_by limiter now = at limiter.held
     full : (b : Bool) → allows (cond b (HoldUntil (now + 300)) Yes) ≡ not b
     full true = refl
     full false = refl
+
     by_end : (b : Bool) (end : ℕ) → allows (cond b (HoldUntil end) (window.window_answer limiter.starts now)) ≡ (not b && not (window.is_full limiter.starts now))
     by_end true end = refl
     by_end false end = full (window.is_full limiter.starts now)
+
     at : (held : Option ℕ) → allows (window.answer limiter.starts held now) ≡ (not (window.is_held held now) && not (window.is_full limiter.starts now))
     at None = full (window.is_full limiter.starts now)
     at (Some end) = by_end (nat_lt now end) end

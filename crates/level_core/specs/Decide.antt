@@ -23,8 +23,9 @@ use Rattle.init_trace.specs.declared.steps.Goal.{Goal}
 use Rattle.init_trace.specs.Past.{clock_limit}
 use Rattle.init_trace.specs.Wanted.{wanted_by, is_order}
 use Rattle.init_trace.specs.Due.{is_limited, served_by}
+use Rattle.trace_laws.specs.Answers.{answers}
 use Rattle.level_core.specs.declared.slots.Slot.{Slot}
-use Rattle.level_core.specs.Slots.{new_slot, allows, after_order, after_hold, after_enter, after_nudge, after_answer, with_changed, answers}
+use Rattle.level_core.specs.Slots.{new_slot, allows, after_order, after_hold, after_enter, after_nudge, after_answer, with_changed}
 
 -- what init keeps: the table, the records in record order, the stage and its grace, the goal, whether Boot was entered,
 -- whether the level was announced settled, and the time in seconds

@@ -1,5 +1,5 @@
 -- When a core fits a trace: what it keeps is what the definitions read off the past.
-use Rattle.std.specs.Prelude.{◌≡◌, ℕ, Bool, true, false, not, ◌&&◌, ◌+◌, if◌then◌else◌, List, [], ◌∷◌, map, find, reverse, Option, Some, None}
+use Rattle.std.specs.Prelude.{◌≡◌, ℕ, Bool, true, false, ◌&&◌, ◌+◌, List, [], ◌∷◌, map, find, reverse, Option, Some, None}
 use Rattle.std.specs.Option.{option_map}
 use Rattle.init_words.specs.declared.entries.Entry.{Entry}
 use Rattle.respawn_limit.specs.State.{LimiterState, unused}
@@ -52,7 +52,8 @@ record_of past e = record {
   order = open_of e.id past;
   asked = is_asked e.id past;
   look = is_to_look e.id past;
-  limiter = limiter_of e past }
+  limiter = limiter_of e past;
+}
 
 -- the records, in the order of the table
 abbrev pub records_of : List Event → List Slot

@@ -1,7 +1,7 @@
 -- The runs of one table: no other table comes, no request, no signal and no hand-over.
 use Rattle.std.specs.Prelude.{Bool, true, false, ◌&&◌, List, [], ◌∷◌}
 use Rattle.init_words.specs.declared.orders.Ask.TheVariants.{Term, Kill}
-use Rattle.init_trace.specs.declared.happenings.Happening.TheVariants.{NewTable, NotRead, Call, Power, Asked, Hit, Miss, Got, Handed}
+use Rattle.init_trace.specs.declared.happenings.Happening.TheVariants.{NewTable, NotRead, Call, Power, Asked, Birth, NoBirth, Death, Reaped, Still, NoLook, Hit, Miss, Got, Handed}
 use Rattle.init_trace.specs.Event.{Event}
 
 -- the happening brings no table, request, signal or hand-over
@@ -23,3 +23,13 @@ abbrev pub is_of_one_table : List Event → Bool
 is_of_one_table [] = false
 is_of_one_table (NewTable table ∷ []) = true
 is_of_one_table (happening ∷ past) = is_plain happening && is_of_one_table past
+
+-- the happening is an act of the system on a start or a look, or a death
+abbrev pub is_act : Event → Bool
+is_act (Birth id n) = true
+is_act (NoBirth id) = true
+is_act (Death n) = true
+is_act (Reaped id n status) = true
+is_act (Still id) = true
+is_act (NoLook id) = true
+is_act _ = false

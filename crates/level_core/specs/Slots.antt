@@ -4,9 +4,9 @@ use Rattle.std.specs.List.{list_all}
 use Rattle.init_words.specs.declared.entries.Entry.{Entry}
 use Rattle.init_words.specs.declared.actions.Act.{Act}
 use Rattle.init_words.specs.declared.orders.Ask.{Ask}
-use Rattle.init_words.specs.declared.orders.Ask.TheVariants.{Start, Look, Term, Kill}
+use Rattle.init_words.specs.declared.orders.Ask.TheVariants.{Start, Look}
 use Rattle.init_words.specs.declared.orders.Answer.{Answer}
-use Rattle.init_words.specs.declared.orders.Answer.TheVariants.{Born, NotBorn, Ended, Alive, NoLook, Hit, Miss}
+use Rattle.init_words.specs.declared.orders.Answer.TheVariants.{Born, Ended}
 use Rattle.init_words.specs.Ids.{same_id}
 use Rattle.respawn_limit.specs.State.{LimiterState, unused}
 use Rattle.respawn_limit.specs.Window.{may_of, with_start, with_hold}
@@ -53,19 +53,6 @@ after_enter slot = record slot { asked = false; limiter = unused }
 -- a record after a round began: its child is to be looked at
 abbrev pub after_nudge : Slot → Slot
 after_nudge slot = record slot { look = is_some slot.child || slot.look }
-
--- an answer is one to this kind of order
-abbrev pub answers : Answer → Ask → Bool
-answers (Born number) Start = true
-answers NotBorn Start = true
-answers (Ended status) Look = true
-answers Alive Look = true
-answers NoLook Look = true
-answers Hit Term = true
-answers Hit Kill = true
-answers Miss Term = true
-answers Miss Kill = true
-answers _ _ = false
 
 -- a record after the answer to its order
 abbrev pub after_answer : Answer → Slot → Slot

@@ -44,12 +44,22 @@ impl<A: Allocator> Model for Core<A> {
 }
 
 impl<A: Allocator + Copy> Core<A> {
+    ghost use Rattle.std.specs.Prelude.{[], ◌∷◌};
+    ghost use Rattle.init_trace.specs.declared.happenings.Happening.TheVariants.{NewTable};
     ghost use Rattle.level_core.specs.Decide.{opening_goal, opening_state};
+    ghost use Rattle.level_core.specs.Fit.{Fits};
 
     /// The core before its first stage, with the goal of the level that is given, else of the table's default level,
     /// else of S.
     pub fn new(alloc: A, table: Table<A>, level: Option<Level>) -> Result<Core<A>, Memory>
         ensures state { IfOk result (λ core. core ≡ opening_state table (opening_goal level table)) }
+        ensures fits { IfOk result (λ core. Fits core (opening_goal level table) (NewTable table ∷ [])) }
+    {
+        Core::opened(alloc, table, level)
+    }
+
+    fn opened(alloc: A, table: Table<A>, level: Option<Level>) -> Result<Core<A>, Memory>
+        ensures { IfOk result (λ core. core ≡ opening_state table (opening_goal level table)) }
     {
         let level = level.or(table.default_level()).unwrap_or(Level::S);
         let slots = opening_slots(alloc, &table)?;
@@ -72,6 +82,15 @@ impl<A: Allocator + Copy> Core<A> {
 impl<A: Allocator> Core<A> {
     ghost use Rattle.level_core.specs.Decide.{decide, after_step, after_told, after_round, after_clock, refusal_of};
     ghost use Rattle.level_core.specs.Slots.{order_in};
+    ghost use Rattle.std.specs.Prelude.{IsTrue, IsOk, List, ◌∷◌, Some, ℕ};
+    ghost use Rattle.init_trace.specs.declared.happenings.Happening.TheVariants.{Nudge, Clock, Told};
+    ghost use Rattle.init_trace.specs.declared.steps.Goal.{Goal};
+    ghost use Rattle.init_trace.specs.Event.{Event};
+    ghost use Rattle.init_trace.specs.Answered.{answered_of};
+    ghost use Rattle.init_trace.specs.Due.{due, first};
+    ghost use Rattle.init_trace.specs.Sound.{is_sound};
+    ghost use Rattle.level_core.specs.Fit.{Fits, with_step};
+    ghost use Rattle.level_core.specs.Path.{is_of_one_table};
 
     /// The stage in force.
     pub fn stage(&self) -> Option<Stage>
@@ -154,15 +173,34 @@ impl<A: Allocator> Core<A> {
 
     /// What init does next, which counts as done from here on: the first step that is due, Idle where none is.
     /// It takes no memory.
+    ///
+    /// On traces of one table: a core that fits the trace gives the first due step, and fits the trace with that step.
     pub fn next(&mut self) -> Step
         ensures step { result ≡ decide self.old }
         ensures state { self.new ≡ after_step result self.old }
+        ensures due { (goal : Goal) (past : List Event) → IsTrue (is_sound goal past) → IsTrue (is_of_one_table past)
+            → Fits self.old goal past → result ≡ first (due goal past) }
+        ensures fits { (goal : Goal) (past : List Event) → IsTrue (is_sound goal past) → IsTrue (is_of_one_table past)
+            → Fits self.old goal past → Fits self.new goal (with_step result past) }
     {
         self.advance()
     }
 
-    /// Tells what came of the order that is open for the id.
+    /// Tells what came of the order that is open for the id: refused where none is open (`NotAsked`), or where it is of
+    /// another kind (`WrongAnswer`); a refusal changes nothing.
     pub fn answer(&mut self, id: Id, answer: Answer) -> Result<(), Refusal>
+        ensures told { OnOk result (self.new ≡ after_told id answer self.old) }
+        ensures refused { result ≡ refusal_of (order_in id self.old.slots) answer }
+        ensures unchanged { OnErr result (self.new ≡ self.old) }
+        ensures taken { (goal : Goal) (past : List Event) → IsTrue (is_sound goal past) → IsTrue (is_of_one_table past)
+            → Fits self.old goal past → answered_of id past ≡ Some answer → IsOk result }
+        ensures fits { (goal : Goal) (past : List Event) → IsTrue (is_sound goal past) → IsTrue (is_of_one_table past)
+            → Fits self.old goal past → answered_of id past ≡ Some answer → Fits self.new goal (Told id ∷ past) }
+    {
+        self.tell(id, answer)
+    }
+
+    fn tell(&mut self, id: Id, answer: Answer) -> Result<(), Refusal>
         ensures told { OnOk result (self.new ≡ after_told id answer self.old) }
         ensures refused { result ≡ refusal_of (order_in id self.old.slots) answer }
         ensures unchanged { OnErr result (self.new ≡ self.old) }
@@ -180,6 +218,13 @@ impl<A: Allocator> Core<A> {
     /// A round begins: each child is to be looked at.
     pub fn nudge(&mut self)
         ensures state { self.new ≡ after_round self.old }
+        ensures fits { (goal : Goal) (past : List Event) → Fits self.old goal past → Fits self.new goal (Nudge ∷ past) }
+    {
+        self.begin_round();
+    }
+
+    fn begin_round(&mut self)
+        ensures { self.new ≡ after_round self.old }
     {
         round_begun(&mut self.slots);
     }
@@ -187,6 +232,7 @@ impl<A: Allocator> Core<A> {
     /// The clock shows this reading, in seconds. The time is the greatest reading; one above 1,000,000,000,000 counts as that.
     pub fn clock(&mut self, reading: u64)
         ensures state { self.new ≡ after_clock reading self.old }
+        ensures fits { (goal : Goal) (past : List Event) → Fits self.old goal past → Fits self.new goal (Clock reading ∷ past) }
     {
         self.time = reading.min(CLOCK_LIMIT).max(self.time);
     }

@@ -6,8 +6,11 @@
 
 mod cores;
 mod deciding;
+mod laws;
 mod slots;
 
 pub use cores::Core;
 pub use init_trace::{Goal, Step};
+pub use laws::law_of_acts;
 pub use slots::{Living, Slot};
+pub use trace_laws::law_agreement;

@@ -1,6 +1,7 @@
 ghost use Rattle.std.specs.Prelude.{◌≡◌, ◌<◌, ◌≤◌, map, length, slice_get, option_map, true, IfOk};
 ghost use Rattle.init_trace.specs.Past.{clock_limit};
-ghost use Rattle.level_core.specs.Slots.{new_slot, after_order, after_hold, after_enter, after_nudge, after_answer, answers, is_timely, are_timely, changed, with_changed, order_in};
+ghost use Rattle.trace_laws.specs.Answers.{answers};
+ghost use Rattle.level_core.specs.Slots.{new_slot, after_order, after_hold, after_enter, after_nudge, after_answer, is_timely, are_timely, changed, with_changed, order_in};
 
 use init_words::{Act, Answer, Ask, ChildNo, Entry, Id};
 use inittab_text::Table;

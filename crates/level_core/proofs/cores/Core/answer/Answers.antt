@@ -1,6 +1,11 @@
-use Rattle.level_core.specs.Slots.{after_answer}
-use Rattle.level_core.proofs.Timely.{timely_left, timely_changed, timely_answer}
+use Rattle.std.proofs.Common.{◌∙◌, rules}
+use Rattle.level_core.proofs.Telling.{answer_taken, fits_told}
 use Rattle.level_core.proofs.cores.Core.answer.Goals as goal
 
-pub invariant_of-self : goal.invariant_of-self
-invariant_of-self g c = (c.self.invariant.0, timely_left c.self.inside.time c.self.inside.slots.len c.deref_mut.result.now c.answer_told.new.slots c.self.inside.slots.items c.self.inside.slots.ok.0 c.deref_mut.ensures.value c.answer_told.auto.slots (rw (c.answer_told.ensures, c.deref_mut.ensures.value) (timely_changed c.self.inside.time c.args.id (after_answer c.args.answer) (λ slot h. timely_answer c.args.answer c.self.inside.time slot h) c.self.inside.slots.items c.self.invariant.1)))
+pub returns-clause-taken : goal.returns-clause-taken
+returns-clause-taken g c goal past sound one fits told = rw (c.tell.ensures.refused ∙ answer_taken goal past sound one c.args.self.now fits c.args.id c.args.answer told) (search rules)
+
+pub returns-clause-fits : goal.returns-clause-fits
+returns-clause-fits g c goal past sound one fits told =
+    let state = rw (c.tell.ensures.refused ∙ answer_taken goal past sound one c.args.self.now fits c.args.id c.args.answer told) at c.tell.ensures.told in
+    rw state (fits_told goal past sound c.args.self.now fits c.args.id c.args.answer told)

@@ -1,6 +1,11 @@
-use Rattle.std.proofs.Common.{arith}
-use Rattle.level_core.proofs.Timely.{timely_opening}
+use Rattle.std.proofs.Common.{◌≡◌, [], ◌∷◌}
+use Rattle.std.proofs.lemmas.Result.{IfOk-weaker}
+use Rattle.init_trace.specs.declared.happenings.Happening.TheVariants.{NewTable}
+use Rattle.level_core.specs.Decide.{opening_state, opening_goal}
+use Rattle.level_core.specs.Fit.{Fits}
+use Rattle.level_core.proofs.Stepping.{fits_opening}
 use Rattle.level_core.proofs.cores.Core.new.Goals as goal
 
-pub invariant_of-result : goal.invariant_of-result
-invariant_of-result g c = (omega arith, rw c.in_ok-slots.ensures (timely_opening 0 c.args.table))
+pub returns-clause-fits : goal.returns-clause-fits
+returns-clause-fits g c = IfOk-weaker c.opened.result (λ core. core ≡ opening_state c.args.table (opening_goal c.args.level c.args.table)) (λ core. Fits core (opening_goal c.args.level c.args.table) (NewTable c.args.table ∷ []))
+    (λ core is. rw is (fits_opening c.args.table (opening_goal c.args.level c.args.table))) c.opened.ensures

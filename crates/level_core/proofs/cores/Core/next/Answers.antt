@@ -1,0 +1,11 @@
+use Rattle.std.proofs.Common.{◌∙◌}
+use Rattle.level_core.proofs.FirstDue.{decide_due}
+use Rattle.level_core.proofs.Taming.{tame}
+use Rattle.level_core.proofs.Stepping.{fits_step}
+use Rattle.level_core.proofs.cores.Core.next.Goals as goal
+
+pub returns-clause-due : goal.returns-clause-due
+returns-clause-due g c goal past sound one fits = c.advance.ensures.step ∙ decide_due past (tame goal past sound one) goal c.args.self.now fits
+
+pub returns-clause-fits : goal.returns-clause-fits
+returns-clause-fits g c goal past sound one fits = rw (c.advance.ensures.state, c.advance.ensures.step) (fits_step goal past c.args.self.now sound one fits)
