@@ -4,6 +4,7 @@ pub mod Bounds
 pub mod Due
 pub mod Event
 pub mod Lawful
+pub mod Lines
 pub mod Past
 pub mod Run
 pub mod Sound

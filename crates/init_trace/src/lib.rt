@@ -3,7 +3,9 @@
 #![tactic(auto)]
 
 mod happenings;
+mod printing;
 mod steps;
 
 pub use happenings::{Handed, Happening, HappeningIn};
+pub use printing::{print, print_one};
 pub use steps::{Goal, Step};

@@ -1,10 +1,18 @@
--- A map whose keys are the ids of its values is read as the list of the values.
-use Rattle.init_words.specs.declared.entries.Entry.{Entry}
-use Rattle.std.specs.Option.{option_or}
-use Rattle.inittab_text.specs.Tables.{default_level_of, default_of}
-use Rattle.std.proofs.Common.{◌≡◌, refl, ap, zero, suc, ◌+◌, Bool, List, [], ◌∷◌, ◌++◌, drop, slice_get, ℕ, map, Some, find, arith}
+-- Lists of entries: one more behind them, and what is left of them from a place on.
+use Rattle.std.proofs.Common.{◌≡◌, refl, sym, ◌∙◌, ap, cond, zero, suc, ◌+◌, ◌<◌, ◌≤◌, Bool, true, false, not, ◌&&◌, nat_le, List, [], ◌∷◌, ◌++◌, length, drop, slice_get, length-append, ℕ, map, Option, Some, None, find, subst, arith}
 use Rattle.std.specs.Map.{keys_of, values_of, lookup}
+use Rattle.std.specs.List.{list_any, list_all}
+use Rattle.std.specs.Option.{option_or}
+use Rattle.std.specs.Cmp.Lexicographic.{nat_list_eq_equiv}
+use Rattle.std.proofs.lemmas.Bool.{and_parts, and_from, or_parts, or_from, not-true, not_from_false, leb-true, le-leb}
+use Rattle.std.proofs.lemmas.List.{length_push}
+use Rattle.std.proofs.lemmas.List.Folds.{list_any-append, list_all-append}
+use Rattle.init_words.specs.declared.entries.Entry.{Entry}
+use Rattle.init_words.specs.Ids.{same_id}
+use Rattle.inittab_text.specs.Tables.{entry_of, has_id, is_distinct, default_level_of, default_of}
+use Rattle.inittab_text.specs.Written.{is_written, is_table, text_of, line_of}
 
+-- A map whose keys are the ids of its values is read as the list of the values.
 pub lookup-find : {K X : Type 0} (key : X → K) (test : K → Bool) (es : List (K × X)) → keys_of es ≡ map key (values_of es) → lookup test es ≡ find (λ x. test (key x)) (values_of es)
 lookup-find key test [] own = refl
 lookup-find {K} {X} key test (e ∷ es) own =
@@ -35,3 +43,66 @@ drop-slice_get (y ∷ xs) (suc i) x is =
 
 pub default_level_of-drop : (es : List Entry) (i : ℕ) (e : Entry) → slice_get es i ≡ Some e → default_level_of (drop i es) ≡ option_or (default_of e) (default_level_of (drop (i + 1) es))
 default_level_of-drop es i e is = ap default_level_of (drop-slice_get es i e is)
+
+pub text_of-drop : (es : List Entry) (i : ℕ) (e : Entry) → slice_get es i ≡ Some e → text_of (drop i es) ≡ line_of e ++ text_of (drop (i + 1) es)
+text_of-drop es i e is = ap text_of (drop-slice_get es i e is)
+
+-- an id that no entry has
+found_none : (id : List ℕ) (x : Entry) (b : Bool) (o : Option Entry) → cond b (Some x) o ≡ None → (b ≡ false) × (o ≡ None)
+found_none id x true o is = absurd (cc)
+found_none id x false o is = (refl, is)
+
+is_distinct-push : (es : List Entry) (e : Entry) → is_distinct es ≡ true → entry_of e.id es ≡ None → is_distinct (es ++ e ∷ []) ≡ true
+is_distinct-push [] e distinct new = refl
+is_distinct-push (x ∷ es) e distinct new =
+    let parts = and_parts (not (list_any (has_id x.id) es)) (is_distinct es) distinct in
+    let other = found_none e.id x (has_id e.id x) (entry_of e.id es) new in
+    let back : same_id x.id e.id ≡ false = nat_list_eq_equiv.symm x.id e.id ∙ other.0 in
+    let none : list_any (has_id x.id) (es ++ e ∷ []) ≡ false = list_any-append (has_id x.id) es (e ∷ []) ∙ or_from (list_any (has_id x.id) es) (list_any (has_id x.id) (e ∷ [])) (not-true (list_any (has_id x.id) es) parts.0) (or_from (has_id x.id e) false back refl) in
+    and_from (not (list_any (has_id x.id) (es ++ e ∷ []))) (is_distinct (es ++ e ∷ [])) (not_from_false (list_any (has_id x.id) (es ++ e ∷ [])) none) (is_distinct-push es e parts.1 other.1)
+
+-- what a table is, in parts
+pub table_parts : (es : List Entry) → is_table es ≡ true → (length es ≤ 512) × (is_distinct es ≡ true) × (list_all is_written es ≡ true)
+table_parts es is =
+    let outer = and_parts (nat_le (length es) 512 && is_distinct es) (list_all is_written es) is in
+    let inner = and_parts (nat_le (length es) 512) (is_distinct es) outer.0 in
+    (leb-true (length es) 512 inner.0, inner.1, outer.1)
+
+pub table_from : (es : List Entry) → length es ≤ 512 → is_distinct es ≡ true → list_all is_written es ≡ true → is_table es ≡ true
+table_from es few distinct written =
+    and_from (nat_le (length es) 512 && is_distinct es) (list_all is_written es)
+    (and_from (nat_le (length es) 512) (is_distinct es) (le-leb (length es) 512 few) distinct) written
+
+pub is_table-push : (es : List Entry) (e : Entry) → is_table es ≡ true → entry_of e.id es ≡ None → is_written e ≡ true → length es < 512 → is_table (es ++ e ∷ []) ≡ true
+is_table-push es e is new written room =
+    let parts = table_parts es is in
+    table_from (es ++ e ∷ []) (omega (arith, length_push es e)) (is_distinct-push es e parts.1 new)
+    (list_all-append is_written es (e ∷ []) ∙ and_from (list_all is_written es) (list_all is_written (e ∷ [])) parts.2 (and_from (is_written e) true written refl))
+
+-- an entry of a table has an id that none before it has
+pub distinct-new : (before : List Entry) (e : Entry) (table : List Entry) → is_distinct (before ++ e ∷ table) ≡ true → entry_of e.id before ≡ None
+distinct-new [] e table distinct = refl
+distinct-new (x ∷ before) e table distinct =
+    let parts = and_parts (not (list_any (has_id x.id) (before ++ e ∷ table))) (is_distinct (before ++ e ∷ table)) distinct in
+    let none = or_parts (list_any (has_id x.id) before) (list_any (has_id x.id) (e ∷ table)) (sym (list_any-append (has_id x.id) before (e ∷ table)) ∙ not-true (list_any (has_id x.id) (before ++ e ∷ table)) parts.0) in
+    let here : same_id x.id e.id ≡ false = (or_parts (has_id x.id e) (list_any (has_id x.id) table) none.1).0 in
+    let back : has_id e.id x ≡ false = nat_list_eq_equiv.symm e.id x.id ∙ here in
+    rw back (distinct-new before e table parts.1)
+
+-- what a table knows of the entry at a place
+pub known : (before : List Entry) (e : Entry) (table : List Entry) → is_table (before ++ e ∷ table) ≡ true → (is_written e ≡ true) × (entry_of e.id before ≡ None) × (length before < 512)
+known before e table is =
+    let all = table_parts (before ++ e ∷ table) is in
+    let tail = and_parts (list_all is_written before) (list_all is_written (e ∷ table)) (sym (list_all-append is_written before (e ∷ table)) ∙ all.2) in (
+      (and_parts (is_written e) (list_all is_written table) tail.1).0,
+      distinct-new before e table all.1,
+      omega (arith, all.0, length-append before (e ∷ table)),
+    )
+
+-- a table whose front was copied, with its entry at the next place
+pub copied : (es copy : List Entry) (i : ℕ) (e : Entry) → copy ++ drop i es ≡ es → slice_get es i ≡ Some e → copy ++ e ∷ drop (i + 1) es ≡ es
+copied es copy i e so_far is = ap (λ t. copy ++ t) (sym (drop-slice_get es i e is)) ∙ so_far
+
+-- what a table knows of it
+pub copied_known : (es copy : List Entry) (i : ℕ) (e : Entry) → is_table es ≡ true → copy ++ drop i es ≡ es → slice_get es i ≡ Some e → (is_written e ≡ true) × (entry_of e.id copy ≡ None) × (length copy < 512)
+copied_known es copy i e table so_far is = known copy e (drop (i + 1) es) (subst (λ xs. is_table xs ≡ true) (sym (copied es copy i e so_far is)) table)

@@ -1,1 +1,5 @@
+pub mod CutLemmas
 pub mod Entries
+pub mod MarkLemmas
+pub mod ReadLemmas
+pub mod WriteLemmas

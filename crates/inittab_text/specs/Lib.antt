@@ -1,1 +1,6 @@
+pub mod Checks
+pub mod Kept
+pub mod Lines
+pub mod Reading
 pub mod Tables
+pub mod Written

@@ -11,9 +11,11 @@ use Rattle.init_words.specs.declared.levels.Mark.TheVariants.{At, OnCall}
 use Rattle.init_words.specs.Actions.{same_act}
 use Rattle.init_words.specs.Ids.{same_id}
 
+-- the ids of the entries, in order
 abbrev pub ids_of : List Entry → List (List ℕ)
 ids_of table = map (λ (e : Entry). e.id) table
 
+-- the entry has the id
 abbrev pub has_id : List ℕ → Entry → Bool
 has_id id e = same_id id e.id
 

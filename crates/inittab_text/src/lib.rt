@@ -1,6 +1,22 @@
-//! The table of inittab(5): its entries in order, found by their ids.
+//! The reader and writer of inittab(5). A text is read line by line into a table of entries, in order and found by
+//! their ids; a line that fails a check is left out and told as a fault. A table is written one line an entry, and
+//! what is written is read as the same table.
 #![tactic(auto)]
 
+mod checks;
+mod cuts;
+mod faults;
+mod fields;
+mod kept;
+mod reading;
 mod tables;
+#[cfg(test)]
+mod tests;
+mod writing;
+mod written;
 
-pub use tables::Table;
+pub use faults::{LineFault, LineKind, TableFault};
+pub use reading::{TEXT_LIMIT, read};
+pub use tables::{ENTRY_LIMIT, Table};
+pub use writing::{write, write_line};
+pub use written::read_written;

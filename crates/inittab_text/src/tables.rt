@@ -8,23 +8,27 @@ use std::alloc::{AllocError, Allocator, Global};
 use std::hash::{BuildHasherDefault, FoldHasher};
 use std::marker::Model;
 
-/// The entries of an inittab, in the order of their lines, each id once.
+/// How many entries a table may have.
+pub const ENTRY_LIMIT: usize = 512;
+
+/// The entries of an inittab(5), in the order of their lines, each id once.
 #[derive(Clone, Drop)]
 pub struct Table<A: Allocator = Global> {
     entries: IndexMap<Id, Entry, BuildHasherDefault<FoldHasher>, A>,
 }
 
 impl<A: Allocator> Model for Table<A> {
-    ghost use Rattle.std.specs.Prelude.{◌≡◌, List};
+    ghost use Rattle.std.specs.Prelude.{◌≡◌, List, true};
     ghost use Rattle.indexmap.specs.IndexMap.{keys, values};
     ghost use Rattle.init_words.specs.declared.entries.Entry.{Entry};
     ghost use Rattle.inittab_text.specs.Tables.{ids_of};
+    ghost use Rattle.inittab_text.specs.Written.{is_table};
 
     ghost Value = { List Entry };
 
     ghost view = { λ t. values t.entries };
 
-    ghost invariant = { λ t. keys t.entries ≡ ids_of (values t.entries) };
+    ghost invariant = { λ t. (keys t.entries ≡ ids_of (values t.entries)) × (is_table (values t.entries) ≡ true) };
 }
 
 impl<A: Allocator + Copy> Table<A> {
@@ -39,12 +43,15 @@ impl<A: Allocator + Copy> Table<A> {
 }
 
 impl<A: Allocator> Table<A> {
-    ghost use Rattle.inittab_text.specs.Tables.{ids_of, entry_of, is_distinct, default_of, default_level_of};
-    ghost use Rattle.std.specs.Prelude.{true, ◌<◌, Some};
+    ghost use Rattle.inittab_text.specs.Tables.{entry_of, is_distinct, default_of, default_level_of};
+    ghost use Rattle.inittab_text.specs.Written.{is_written, is_table};
+    ghost use Rattle.std.specs.Prelude.{true, ◌<◌, Some, IfOk};
 
-    /// How many entries it has.
+    /// How many entries it has: at most 512, each as reading keeps it, no id twice.
     pub fn len(&self) -> usize
-        ensures { result ≡ length self.now }
+        ensures value { result ≡ length self.now }
+        ensures table { is_table self.now ≡ true }
+        ensures distinct { is_distinct self.now ≡ true }
     {
         self.entries.len()
     }
@@ -55,6 +62,18 @@ impl<A: Allocator> Table<A> {
     {
         let (_, entry) = self.entries.get_index(place)?;
         Some(entry)
+    }
+
+    /// The same table on another allocator.
+    pub fn copy<B: Allocator + Copy>(&self, alloc: B) -> Result<Table<B>, Memory>
+        ensures { IfOk result (λ copy. copy ≡ self.now) }
+    {
+        let mut copy = Table::new(alloc);
+        for place in 0..self.len() {
+            let entry = self.entry(place).clone()?;
+            copy.push(entry)?;
+        }
+        Ok(copy)
     }
 
     /// The entry of an id.
@@ -89,7 +108,9 @@ impl<A: Allocator> Table<A> {
 
     /// Adds an entry behind the others.
     pub(crate) fn push(&mut self, entry: Entry) -> Result<(), Memory>
-        requires { entry_of entry.id self.old ≡ None }
+        requires new { entry_of entry.id self.old ≡ None }
+        requires written { is_written entry ≡ true }
+        requires room { length self.old < 512 }
         ensures ok { OnOk result (self.new ≡ self.old ++ entry ∷ []) }
         ensures err { OnErr result (self.new ≡ self.old) }
     {

@@ -1,0 +1,200 @@
+-- The marks of a runlevels field, and their characters.
+use Rattle.std.proofs.Common.{◌≡◌, ℕ, suc, ◌+◌, ◌<◌, ◌≤◌, Bool, true, false, cond, not, List, [], ◌∷◌, ◌++◌, length, take, map, get_or, filter, Option, Some, None, refl, sym, ap, ◌∙◌, arith, subst}
+use Rattle.std.specs.List.{filter_map, cons_option}
+use Rattle.std.proofs.lemmas.Bool.{false≢true, false_from_ne_true, or_parts, and_parts, not-true, not_from_false, not_from_true, eqb-true, eq-eqb}
+use Rattle.std.proofs.lemmas.List.{take_more}
+use Rattle.std.proofs.lemmas.List.Elements.{filter_map-append, filter-append}
+use Rattle.std.proofs.lemmas.Map.Views.{any-filter_same}
+use Rattle.init_words.specs.declared.levels.Level.TheVariants.{L0, L1, L2, L3, L4, L5, L6, L7, L8, L9, S}
+use Rattle.init_words.specs.declared.levels.Letter.TheVariants.{A, B, C}
+use Rattle.init_words.specs.declared.levels.Mark.{Mark}
+use Rattle.init_words.specs.declared.levels.Mark.TheVariants.{At, OnCall}
+use Rattle.init_words.specs.Levels.{mark_code, mark_read, same_mark, names, level_code, letter_code}
+use Rattle.inittab_text.specs.Kept.{without_repeats, marks_of, with_mark}
+use Rattle.inittab_text.specs.Written.{has_no_repeat}
+
+-- a mark's character is read as the mark
+pub mark_read-code : (m : Mark) → mark_read (mark_code m) ≡ Some m
+mark_read-code (At L0) = refl
+mark_read-code (At L1) = refl
+mark_read-code (At L2) = refl
+mark_read-code (At L3) = refl
+mark_read-code (At L4) = refl
+mark_read-code (At L5) = refl
+mark_read-code (At L6) = refl
+mark_read-code (At L7) = refl
+mark_read-code (At L8) = refl
+mark_read-code (At L9) = refl
+mark_read-code (At S) = refl
+mark_read-code (OnCall A) = refl
+mark_read-code (OnCall B) = refl
+mark_read-code (OnCall C) = refl
+
+same_code : (a b : Mark) → same_mark a b ≡ true → mark_code a ≡ mark_code b
+same_code (At k) (At l) is = eqb-true (level_code k) (level_code l) is
+same_code (OnCall k) (OnCall l) is = eqb-true (letter_code k) (letter_code l) is
+same_code (At k) (OnCall l) is = absurd (false≢true is)
+same_code (OnCall k) (At l) is = absurd (false≢true is)
+
+pub same_mark-is : (a b : Mark) → same_mark a b ≡ true → a ≡ b
+same_mark-is a b is =
+    let some : Some a ≡ Some b = sym (mark_read-code a) ∙ ap mark_read (same_code a b is) ∙ mark_read-code b in
+    cc
+
+pub same_mark-self : (a : Mark) → same_mark a a ≡ true
+same_mark-self (At k) = eq-eqb (level_code k) (level_code k) refl
+same_mark-self (OnCall k) = eq-eqb (letter_code k) (letter_code k) refl
+
+flip : (a b : Mark) → same_mark a b ≡ true → same_mark b a ≡ true
+flip a b is = subst (λ x. same_mark x a ≡ true) (same_mark-is a b is) (same_mark-self a)
+
+apart : (a b : Mark) → same_mark a b ≡ false → same_mark b a ≡ false
+apart a b other = false_from_ne_true (same_mark b a) (λ is. false≢true (sym other ∙ flip b a is))
+
+-- the marks other than this one
+others : Mark → List Mark → List Mark
+others m ms = filter (λ other. not (same_mark m other)) ms
+
+names-others : (m x : Mark) (ms : List Mark) → same_mark x m ≡ false → names m (others x ms) ≡ names m ms
+unfolding others
+names-others m x ms other =
+    any-filter_same (same_mark m) (λ o. not (same_mark x o)) true (λ k is. let at : m ≡ k = same_mark-is m k is in rw (← at) (not_from_false (same_mark x m) other)) ms
+
+names-others_self : (m : Mark) (ms : List Mark) → names m (others m ms) ≡ false
+unfolding others
+names-others_self m ms = any-filter_same (same_mark m) (λ o. not (same_mark m o)) false (λ k is. not_from_true (same_mark m k) is) ms
+
+others-push_self : (x m : Mark) (ms : List Mark) → same_mark x m ≡ true → others x (ms ++ m ∷ []) ≡ others x ms
+unfolding others
+others-push_self x m ms is = filter-append (λ o. not (same_mark x o)) ms (m ∷ []) ∙ rw is (append_none (filter (λ o. not (same_mark x o)) ms))
+  where
+    append_none : (xs : List Mark) → xs ++ [] ≡ xs
+    append_none [] = refl
+    append_none (x ∷ xs) = ap (λ ys. x ∷ ys) (append_none xs)
+
+others-push : (x m : Mark) (ms : List Mark) → same_mark x m ≡ false → others x (ms ++ m ∷ []) ≡ others x ms ++ m ∷ []
+unfolding others
+others-push x m ms other = filter-append (λ o. not (same_mark x o)) ms (m ∷ []) ∙ rw other refl
+
+-- one more behind the marks, one more in front of them
+push_same : (x m : Mark) (ms : List Mark) (n : Bool) → same_mark x m ≡ true → others x (cond n ms (ms ++ m ∷ [])) ≡ others x ms
+push_same x m ms true is = refl
+push_same x m ms false is = others-push_self x m ms is
+
+push_other : (x m : Mark) (ms : List Mark) (n : Bool) → same_mark x m ≡ false → x ∷ others x (cond n ms (ms ++ m ∷ [])) ≡ cond n (x ∷ others x ms) ((x ∷ others x ms) ++ m ∷ [])
+push_other x m ms true other = refl
+push_other x m ms false other = ap (λ ys. x ∷ ys) (others-push x m ms other)
+
+with_mark-front : (x m : Mark) (ms : List Mark) (s : Bool) → same_mark x m ≡ s → x ∷ others x (with_mark ms (Some m)) ≡ with_mark (x ∷ others x ms) (Some m)
+with_mark-front x m ms true is =
+    let back : same_mark m x ≡ true = flip x m is in
+    rw back (ap (λ ys. x ∷ ys) (push_same x m ms (names m ms) is))
+with_mark-front x m ms false other =
+    let back : same_mark m x ≡ false = apart x m other in
+    rw (back, names-others m x ms other) (push_other x m ms (names m ms) other)
+
+pub without_repeats-push : (xs : List Mark) (m : Mark) → without_repeats (xs ++ m ∷ []) ≡ with_mark (without_repeats xs) (Some m)
+unfolding others
+without_repeats-push [] m = refl
+without_repeats-push (x ∷ xs) m =
+    ap (λ ys. x ∷ others x ys) (without_repeats-push xs m) ∙ with_mark-front x m (without_repeats xs) (same_mark x m) refl
+
+with_option : (xs : List Mark) (o : Option Mark) → without_repeats (xs ++ cons_option o []) ≡ with_mark (without_repeats xs) o
+with_option xs None = ap without_repeats (append_none xs)
+  where
+    append_none : (ys : List Mark) → ys ++ [] ≡ ys
+    append_none [] = refl
+    append_none (y ∷ ys) = ap (λ zs. y ∷ zs) (append_none ys)
+with_option xs (Some m) = without_repeats-push xs m
+
+-- the marks of one more character
+pub marks_more : (field : List ℕ) (i : ℕ) → i < length field → marks_of (take (i + 1) field) ≡ with_mark (marks_of (take i field)) (mark_read (get_or field i 0))
+marks_more field i within =
+    ap marks_of (take_more field i 0 within)
+    ∙ ap without_repeats (filter_map-append mark_read (take i field) (get_or field i 0 ∷ []))
+    ∙ with_option (filter_map mark_read (take i field)) (mark_read (get_or field i 0))
+
+pub length-with_mark : (ms : List Mark) (o : Option Mark) → length (with_mark ms o) ≤ length ms + 1
+length-with_mark ms None = omega arith
+length-with_mark ms (Some m) = by_test (names m ms)
+  where
+    by_test : (b : Bool) → length (cond b ms (ms ++ m ∷ [])) ≤ length ms + 1
+    by_test true = omega arith
+    by_test false = length_one ms
+      where
+        length_one : (xs : List Mark) → length (xs ++ m ∷ []) ≤ length xs + 1
+        length_one [] = omega arith
+        length_one (x ∷ xs) = omega (arith, length_one xs)
+
+length-filter_le : (p : Mark → Bool) (ms : List Mark) → length (filter p ms) ≤ length ms
+length-filter_le p [] = omega arith
+length-filter_le p (m ∷ ms) = by_test (p m) (length-filter_le p ms)
+  where
+    by_test : (b : Bool) → length (filter p ms) ≤ length ms → length (cond b (m ∷ filter p ms) (filter p ms)) ≤ suc (length ms)
+    by_test true h = omega arith
+    by_test false h = omega arith
+
+length-without_repeats : (ms : List Mark) → length (without_repeats ms) ≤ length ms
+length-without_repeats [] = omega arith
+length-without_repeats (m ∷ ms) = omega (arith, length-filter_le (λ other. not (same_mark m other)) (without_repeats ms), length-without_repeats ms)
+
+length-filter_map_le : (field : List ℕ) → length (filter_map mark_read field) ≤ length field
+length-filter_map_le [] = omega arith
+length-filter_map_le (b ∷ field) = by_mark (mark_read b) (length-filter_map_le field)
+  where
+    by_mark : (o : Option Mark) → length (filter_map mark_read field) ≤ length field → length (cons_option o (filter_map mark_read field)) ≤ suc (length field)
+    by_mark None h = omega arith
+    by_mark (Some m) h = omega arith
+
+pub length-marks_of : (field : List ℕ) → length (marks_of field) ≤ length field
+length-marks_of field = omega (arith, length-without_repeats (filter_map mark_read field), length-filter_map_le field)
+
+-- what a filter leaves names no more
+names-filter : (m : Mark) (p : Mark → Bool) (ms : List Mark) → names m ms ≡ false → names m (filter p ms) ≡ false
+names-filter m p [] lacks = refl
+names-filter m p (x ∷ ms) lacks =
+    let parts = or_parts (same_mark m x) (names m ms) lacks in
+    by_test (p x) parts.0 (names-filter m p ms parts.1)
+  where
+    by_test : (b : Bool) → same_mark m x ≡ false → names m (filter p ms) ≡ false → names m (cond b (x ∷ filter p ms) (filter p ms)) ≡ false
+    by_test true here rest = rw (here, rest) refl
+    by_test false here rest = rest
+
+has_no_repeat-filter : (p : Mark → Bool) (ms : List Mark) → has_no_repeat ms ≡ true → has_no_repeat (filter p ms) ≡ true
+has_no_repeat-filter p [] once = refl
+has_no_repeat-filter p (x ∷ ms) once =
+    let parts = and_parts (not (names x ms)) (has_no_repeat ms) once in
+    by_test (p x) (names-filter x p ms (not-true (names x ms) parts.0)) (has_no_repeat-filter p ms parts.1)
+  where
+    by_test : (b : Bool) → names x (filter p ms) ≡ false → has_no_repeat (filter p ms) ≡ true → has_no_repeat (cond b (x ∷ filter p ms) (filter p ms)) ≡ true
+    by_test true here rest = rw (here, rest) refl
+    by_test false here rest = rest
+
+pub has_no_repeat-without_repeats : (ms : List Mark) → has_no_repeat (without_repeats ms) ≡ true
+unfolding others
+has_no_repeat-without_repeats [] = refl
+has_no_repeat-without_repeats (m ∷ ms) =
+    let here : names m (others m (without_repeats ms)) ≡ false = names-others_self m (without_repeats ms) in
+    rw (here, has_no_repeat-filter (λ other. not (same_mark m other)) (without_repeats ms) (has_no_repeat-without_repeats ms)) refl
+
+others-none : (m : Mark) (ms : List Mark) → names m ms ≡ false → others m ms ≡ ms
+unfolding others
+others-none m [] lacks = refl
+others-none m (x ∷ ms) lacks =
+    let parts = or_parts (same_mark m x) (names m ms) lacks in
+    rw (parts.0, others-none m ms parts.1) refl
+
+pub without_repeats-kept : (ms : List Mark) → has_no_repeat ms ≡ true → without_repeats ms ≡ ms
+unfolding others
+without_repeats-kept [] once = refl
+without_repeats-kept (m ∷ ms) once =
+    let parts = and_parts (not (names m ms)) (has_no_repeat ms) once in
+    ap (λ ys. m ∷ others m ys) (without_repeats-kept ms parts.1) ∙ ap (λ ys. m ∷ ys) (others-none m ms (not-true (names m ms) parts.0))
+
+read_again : (ms : List Mark) → filter_map mark_read (map mark_code ms) ≡ ms
+read_again [] = refl
+read_again (m ∷ ms) = rw (mark_read-code m, read_again ms) refl
+
+-- marks written are read as they are
+pub marks_of-codes : (ms : List Mark) → has_no_repeat ms ≡ true → marks_of (map mark_code ms) ≡ ms
+marks_of-codes ms once = ap without_repeats (read_again ms) ∙ without_repeats-kept ms once

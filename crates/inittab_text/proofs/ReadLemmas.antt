@@ -1,0 +1,184 @@
+-- What the checks of a line say of the entry that is kept.
+use Rattle.std.proofs.Common.{◌≡◌, ℕ, ◌+◌, ◌<◌, ◌≤◌, Bool, true, false, cond, not, ◌==◌, nat_lt, nat_le, List, [], ◌∷◌, ◌++◌, length, drop, Option, Some, None, is_some, Result, Ok, Err, refl, sym, ap, ◌∙◌, arith, subst, length-append, get_or, lit≤}
+use Rattle.std.specs.Option.{option_map}
+use Rattle.std.specs.List.{filter_map}
+use Rattle.std.specs.Str.{IsUtf8, is_utf8}
+use Rattle.std.proofs.lemmas.Bool.{true≢false, or_parts, and_parts, and_from, not-true, not-false, not_from_false, ltb-false, leb-false, le-leb}
+use Rattle.std.proofs.lemmas.List.{drop_at, get_or_at, length_push, append_assoc}
+use Rattle.std.proofs.lemmas.Option.{option_and_then_some}
+use Rattle.std.proofs.lemmas.Str.{is_utf8-from_IsUtf8, IsUtf8-from_is_utf8, IsUtf8-nil, IsUtf8-drop, IsCharBoundary-after_ascii}
+use Rattle.init_words.specs.declared.entries.Entry.{Entry}
+use Rattle.init_words.specs.declared.actions.Act.{Act}
+use Rattle.init_words.specs.declared.actions.Act.TheVariants as act
+use Rattle.init_words.specs.declared.levels.Mark.{Mark}
+use Rattle.init_words.specs.Ids.{is_id}
+use Rattle.init_words.specs.Levels.{mark_read}
+use Rattle.inittab_text.specs.declared.faults.LineKind.{LineKind}
+use Rattle.inittab_text.specs.declared.faults.LineKind.TheVariants as fault
+use Rattle.inittab_text.specs.Lines.{FieldBytes, cut, fields_of, has_byte, is_ignored, skip_blanks}
+use Rattle.inittab_text.specs.Kept.{act_read, ignores_levels, has_process, needs_process, levels_meant, levels_kept, marks_of, kept_of}
+use Rattle.inittab_text.specs.Checks.{is_too_long, is_missing, is_text, checked_as, checked_with, checked, verdict_of}
+use Rattle.inittab_text.specs.Tables.{entry_of}
+use Rattle.inittab_text.specs.Written.{has_no_repeat, is_levels, is_process, is_written}
+use Rattle.inittab_text.proofs.CutLemmas.{cut-parts, has_byte-parts, has_byte-skip_blanks}
+use Rattle.inittab_text.proofs.MarkLemmas.{length-marks_of, has_no_repeat-without_repeats}
+
+-- a line of these fields
+abbrev pub spelled : FieldBytes → List ℕ
+spelled f = f.id ++ 58 ∷ (f.levels ++ 58 ∷ (f.action ++ 58 ∷ f.process))
+
+option_map_some : {X Y P : Type 0} (f : X → Y) (o : Option X) (y : Y) → option_map f o ≡ Some y → ((x : X) → o ≡ Some x → f x ≡ y → P) → P
+option_map_some f None y is next = absurd (cc)
+option_map_some f (Some x) y is next = next x refl (cc)
+
+-- a line is its fields and the colons between them
+pub fields_of-spelled : (line : List ℕ) (f : FieldBytes) → fields_of line ≡ Some f → line ≡ spelled f
+fields_of-spelled line f is =
+    option_and_then_some _ (cut 58 line) f is (λ first at more.
+    option_and_then_some _ (cut 58 first.1) f more (λ second at_second rest.
+    option_map_some _ (cut 58 second.1) f rest (λ third at_third same.
+    rw (← same, (cut-parts 58 line first.0 first.1 at).0, (cut-parts 58 first.1 second.0 second.1 at_second).0, (cut-parts 58 second.1 third.0 third.1 at_third).0) refl)))
+
+-- the checks that a kept line passed
+pub record Passed (before : List Entry) (line : List ℕ) (f : FieldBytes) (a : Act) (e : Entry) : Type 0 where
+  pub id : is_id f.id ≡ true
+  pub levels : length f.levels ≤ 11
+  pub action : act_read f.action ≡ Some a
+  pub long : is_too_long a f.process ≡ false
+  pub missing : is_missing a f.process ≡ false
+  pub text : is_text line ≡ true
+  pub new : entry_of f.id before ≡ None
+  pub room : length before < 512
+  pub is : e ≡ kept_of a f
+
+guard : {X E : Type 0} (b : Bool) (fault : E) (r : Result X E) (x : X) → cond b (Err fault) r ≡ Ok x → (b ≡ false) × (r ≡ Ok x)
+guard true fault r x is = absurd (cc)
+guard false fault r x is = (refl, is)
+
+guard_ignored : (b : Bool) (r : Result (Option Entry) LineKind) (e : Entry) → cond b (Ok None) r ≡ Ok (Some e) → r ≡ Ok (Some e)
+guard_ignored true r e is = absurd (cc)
+guard_ignored false r e is = is
+
+none_there : {X : Type 0} (o : Option X) → is_some o ≡ false → o ≡ None
+none_there None is = refl
+none_there (Some x) is = absurd (true≢false is)
+
+passed_as : (before : List Entry) (line : List ℕ) (f : FieldBytes) (a : Act) (e : Entry) → is_id f.id ≡ true → length f.levels ≤ 11 → act_read f.action ≡ Some a → checked_as a before line f ≡ Ok (Some e) → Passed before line f a e
+unfolding checked_as
+passed_as before line f a e id levels action is =
+    let long = guard (is_too_long a f.process) fault.Length _ (Some e) is in
+    let missing = guard (is_missing a f.process) fault.Empty _ (Some e) long.1 in
+    let text = guard (not (is_text line)) fault.Text _ (Some e) missing.1 in
+    let new = guard (is_some (entry_of f.id before)) fault.Twice _ (Some e) text.1 in
+    let room = guard (nat_le 512 (length before)) fault.Many (Ok (Some (kept_of a f))) (Some e) new.1 in
+    record {
+      id = id;
+      levels = levels;
+      action = action;
+      long = long.0;
+      missing = missing.0;
+      text = not-false (is_text line) text.0;
+      new = none_there (entry_of f.id before) new.0;
+      room = leb-false 512 (length before) room.0;
+      is = cc (room.1);
+    }
+
+passed_with : (before : List Entry) (line : List ℕ) (f : FieldBytes) (o : Option Act) (e : Entry) → is_id f.id ≡ true → length f.levels ≤ 11 → act_read f.action ≡ o → checked_with o before line f ≡ Ok (Some e) → (a : Act) × Passed before line f a e
+passed_with before line f None e id levels action is = absurd (cc)
+passed_with before line f (Some a) e id levels action is = (a, passed_as before line f a e id levels action is)
+
+passed_fields : (before : List Entry) (line : List ℕ) (o : Option FieldBytes) (e : Entry) → fields_of line ≡ o → checked before line o ≡ Ok (Some e) → (f : FieldBytes) × (a : Act) × (fields_of line ≡ Some f) × Passed before line f a e
+passed_fields before line None e at is = absurd (cc)
+passed_fields before line (Some f) e at is =
+    let id = guard (not (is_id f.id)) fault.Id _ (Some e) is in
+    let levels = guard (nat_lt 11 (length f.levels)) fault.Levels _ (Some e) id.1 in
+    let rest = passed_with before line f (act_read f.action) e (not-false (is_id f.id) id.0) (ltb-false 11 (length f.levels) levels.0) refl levels.1 in
+    (f, rest.0, at, rest.1)
+
+pub passed : (before : List Entry) (line : List ℕ) (e : Entry) → verdict_of before line ≡ Ok (Some e) → (f : FieldBytes) × (a : Act) × (fields_of (skip_blanks line) ≡ Some f) × Passed before (skip_blanks line) f a e
+unfolding verdict_of
+passed before line e is =
+    let text = skip_blanks line in
+    passed_fields before text (fields_of text) e refl (guard_ignored (is_ignored text) (checked before text (fields_of text)) e is)
+
+-- a part of a text behind an ASCII byte is text
+is_text-rest : (front rest : List ℕ) → is_text (front ++ 58 ∷ rest) ≡ true → is_text rest ≡ true
+is_text-rest front rest is =
+    let whole = front ++ 58 ∷ rest in
+    let parts = and_parts (is_utf8 whole) (not (has_byte 0 whole)) is in
+    let utf8 : IsUtf8 whole = IsUtf8-from_is_utf8 whole parts.0 in
+    let at : get_or whole (length front) 0 ≡ 58 = get_or_at front 58 rest 0 (length front) refl in
+    let within : length front < length whole = omega (arith, length-append front (58 ∷ rest)) in
+    let cut_there : drop (length front + 1) whole ≡ rest = ap (drop (length front + 1)) (sym (append_assoc front (58 ∷ []) rest)) ∙ drop_at (front ++ 58 ∷ []) rest (length front + 1) (length_push front 58) in
+    let valid : IsUtf8 (drop (length front + 1) whole) = IsUtf8-drop whole (length front + 1) utf8 (IsCharBoundary-after_ascii whole (length front) utf8 within (omega arith)) in
+    let lacks = has_byte-parts 0 front (58 ∷ rest) (not-true (has_byte 0 whole) parts.1) in
+    and_from (is_utf8 rest) (not (has_byte 0 rest)) (is_utf8-from_IsUtf8 rest (subst IsUtf8 cut_there valid))
+    (not_from_false (has_byte 0 rest) (or_parts (58 == 0) (has_byte 0 rest) lacks.1).1)
+
+is_text-process : (f : FieldBytes) → is_text (spelled f) ≡ true → is_text f.process ≡ true
+is_text-process f is =
+    is_text-rest f.action f.process (is_text-rest f.levels (f.action ++ 58 ∷ f.process) (is_text-rest f.id (f.levels ++ 58 ∷ (f.action ++ 58 ∷ f.process)) is))
+
+lacks-rest : (front rest : List ℕ) → has_byte 10 (front ++ 58 ∷ rest) ≡ false → has_byte 10 rest ≡ false
+lacks-rest front rest lacks = (or_parts (58 == 10) (has_byte 10 rest) (has_byte-parts 10 front (58 ∷ rest) lacks).1).1
+
+lacks-process : (f : FieldBytes) → has_byte 10 (spelled f) ≡ false → has_byte 10 f.process ≡ false
+lacks-process f is = lacks-rest f.action f.process (lacks-rest f.levels (f.action ++ 58 ∷ f.process) (lacks-rest f.id (f.levels ++ 58 ∷ (f.action ++ 58 ∷ f.process)) is))
+
+-- a field that may be left out means at most eleven characters
+length-levels_meant : (a : Act) (field : List ℕ) → length field ≤ 11 → length (levels_meant a field) ≤ 11
+length-levels_meant act.Sysinit [] few = lit≤ tt
+length-levels_meant act.Boot [] few = lit≤ tt
+length-levels_meant act.Bootwait [] few = lit≤ tt
+length-levels_meant act.Wait [] few = lit≤ tt
+length-levels_meant act.Once [] few = lit≤ tt
+length-levels_meant act.Respawn [] few = lit≤ tt
+length-levels_meant act.Ondemand [] few = lit≤ tt
+length-levels_meant act.Powerwait [] few = lit≤ tt
+length-levels_meant act.Powerfail [] few = lit≤ tt
+length-levels_meant act.Powerokwait [] few = lit≤ tt
+length-levels_meant act.Powerfailnow [] few = lit≤ tt
+length-levels_meant act.Off [] few = lit≤ tt
+length-levels_meant act.Initdefault [] few = lit≤ tt
+length-levels_meant act.Ctrlaltdel [] few = lit≤ tt
+length-levels_meant act.Kbrequest [] few = lit≤ tt
+length-levels_meant a (b ∷ field) few = few
+
+is_levels_by : (a : Act) (marks : List Mark) (b : Bool) → ignores_levels a ≡ b → length marks ≤ 11 → has_no_repeat marks ≡ true → is_levels a (cond b [] marks) ≡ true
+is_levels_by a marks true ignored few once = rw ignored refl
+is_levels_by a marks false ignored few once = rw (le-leb (length marks) 11 few, once, ignored) refl
+
+pub is_levels-kept : (a : Act) (field : List ℕ) → length field ≤ 11 → is_levels a (levels_kept a field) ≡ true
+is_levels-kept a field few =
+    let meant = levels_meant a field in
+    is_levels_by a (marks_of meant) (ignores_levels a) refl (omega (arith, length-marks_of meant, length-levels_meant a field few)) (has_no_repeat-without_repeats (filter_map mark_read meant))
+
+needs_none : (a : Act) → has_process a ≡ false → needs_process a ≡ false
+needs_none act.Initdefault none = refl
+needs_none _ none = absurd (true≢false none)
+
+is_process_by : (a : Act) (process : List ℕ) (b : Bool) → has_process a ≡ b → is_too_long a process ≡ false → is_missing a process ≡ false → is_text process ≡ true → has_byte 10 process ≡ false → is_process a (cond b process []) ≡ true
+is_process_by a process true has long missing text lacks = rw (long, missing, text, lacks, has) refl
+is_process_by a process false has long missing text lacks =
+    let valid : is_text [] ≡ true = and_from (is_utf8 []) true (is_utf8-from_IsUtf8 [] IsUtf8-nil) refl in
+    rw (has, needs_none a has, valid) refl
+
+-- what was kept is written as it was read
+pub is_written-kept : (before : List Entry) (line : List ℕ) (f : FieldBytes) (a : Act) (e : Entry) → Passed before line f a e → line ≡ spelled f → has_byte 10 line ≡ false → is_written e ≡ true
+unfolding is_written
+is_written-kept before line f a e h at lacks =
+    let text : is_text (spelled f) ≡ true = subst (λ l. is_text l ≡ true) at h.text in
+    let none : has_byte 10 (spelled f) ≡ false = subst (λ l. has_byte 10 l ≡ false) at lacks in
+    let process = is_process_by a f.process (has_process a) refl h.long h.missing (is_text-process f text) (lacks-process f none) in
+    rw h.is (and_from _ _ (and_from _ _ h.id (is_levels-kept a f.levels h.levels)) process)
+
+-- what a table must know before it takes the entry
+pub kept_entry : (before : List Entry) (line : List ℕ) (e : Entry) → verdict_of before line ≡ Ok (Some e) → has_byte 10 line ≡ false → (entry_of e.id before ≡ None) × (is_written e ≡ true) × (length before < 512)
+kept_entry before line e is lacks =
+    let all = passed before line e is in
+    let h = all.3 in
+    let id : e.id ≡ all.0.id = ap (λ (x : Entry). x.id) h.is in (
+      rw id h.new,
+      is_written-kept before (skip_blanks line) all.0 all.1 e h (fields_of-spelled (skip_blanks line) all.0 all.2) (has_byte-skip_blanks 10 line lacks),
+      h.room,
+    )

@@ -1,0 +1,9 @@
+use Rattle.std.proofs.Common.{◌≡◌, ◌≤◌, length, take}
+use Rattle.inittab_text.specs.Kept.{marks_of}
+use Rattle.inittab_text.proofs.kept.marks_of.Given as goal
+
+abbrev pub invariant-loop-code : goal.invariant-loop-code
+invariant-loop-code l = record {
+  marks : l.marks.items ≡ marks_of (take l.code-index l.field);
+  few : length l.marks.items ≤ l.code-index;
+}

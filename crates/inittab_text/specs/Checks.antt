@@ -1,0 +1,58 @@
+-- The nine checks of a line, in their order (inittab(5)).
+use Rattle.std.specs.Prelude.{ℕ, Bool, not, ◌==◌, ◌&&◌, nat_lt, nat_le, if◌then◌else◌, List, [], ◌∷◌, length, Option, Some, None, is_some, Result, Ok, Err}
+use Rattle.std.specs.List.{list_all}
+use Rattle.std.specs.Str.{is_utf8}
+use Rattle.init_words.specs.declared.entries.Entry.{Entry}
+use Rattle.init_words.specs.declared.actions.Act.{Act}
+use Rattle.init_words.specs.Ids.{is_id}
+use Rattle.inittab_text.specs.declared.faults.LineKind.{LineKind}
+use Rattle.inittab_text.specs.declared.faults.LineKind.TheVariants as fault
+use Rattle.inittab_text.specs.Lines.{FieldBytes, fields_of, has_byte, is_blank, is_ignored, skip_blanks}
+use Rattle.inittab_text.specs.Kept.{act_read, has_process, needs_process, kept_of}
+use Rattle.inittab_text.specs.Tables.{entry_of}
+
+-- a process without its leading '+'
+abbrev pub without_plus : List ℕ → List ℕ
+without_plus [] = []
+without_plus (b ∷ process) = if b == 43 then process else b ∷ process
+
+-- the process has more than 127 bytes, a '+' counted
+abbrev pub is_too_long : Act → List ℕ → Bool
+is_too_long act process = has_process act && nat_lt 127 (length process)
+
+-- the process is to have more than blanks and tabs, and has not
+abbrev pub is_missing : Act → List ℕ → Bool
+is_missing act process = needs_process act && list_all is_blank (without_plus process)
+
+-- UTF-8 without a NUL
+abbrev pub is_text : List ℕ → Bool
+is_text line = is_utf8 line && not (has_byte 0 line)
+
+-- the checks from the process on, of a line with this action
+unfoldable pub checked_as : Act → List Entry → List ℕ → FieldBytes → Result (Option Entry) LineKind
+checked_as act before line f =
+    if is_too_long act f.process then Err fault.Length
+    else if is_missing act f.process then Err fault.Empty
+    else if not (is_text line) then Err fault.Text
+    else if is_some (entry_of f.id before) then Err fault.Twice
+    else if nat_le 512 (length before) then Err fault.Many
+    else Ok (Some (kept_of act f))
+
+-- the checks from the action on
+abbrev pub checked_with : Option Act → List Entry → List ℕ → FieldBytes → Result (Option Entry) LineKind
+checked_with None before line f = Err fault.Action
+checked_with (Some act) before line f = checked_as act before line f
+
+-- the first check that fails names the fault; where none does, the entry is kept
+abbrev pub checked : List Entry → List ℕ → Option FieldBytes → Result (Option Entry) LineKind
+checked before line None = Err fault.Fields
+checked before line (Some f) =
+    if not (is_id f.id) then Err fault.Id
+    else if nat_lt 11 (length f.levels) then Err fault.Levels
+    else checked_with (act_read f.action) before line f
+
+-- what a line comes to after these entries: nothing, an entry or a fault
+unfoldable pub verdict_of : List Entry → List ℕ → Result (Option Entry) LineKind
+verdict_of before line =
+    let text = skip_blanks line in
+    if is_ignored text then Ok None else checked before text (fields_of text)

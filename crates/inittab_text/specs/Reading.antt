@@ -1,0 +1,37 @@
+-- The table and the faults of a text (inittab(5)).
+use Rattle.std.specs.Prelude.{ℕ, ◌+◌, List, [], ◌∷◌, ◌++◌, Option, Some, None, Result, Ok, Err}
+use Rattle.init_words.specs.declared.entries.Entry.{Entry}
+use Rattle.inittab_text.specs.declared.faults.LineKind.{LineKind}
+use Rattle.inittab_text.specs.declared.faults.LineFault.{LineFault}
+use Rattle.inittab_text.specs.Lines.{lines_of}
+use Rattle.inittab_text.specs.Checks.{verdict_of}
+
+-- the entries after a line: one more where the line is kept
+abbrev pub entries_after : List Entry → Result (Option Entry) LineKind → List Entry
+entries_after before (Ok (Some e)) = before ++ e ∷ []
+entries_after before (Ok None) = before
+entries_after before (Err kind) = before
+
+-- the fault of the line of a number, where it has one
+abbrev pub faults_at : ℕ → Result (Option Entry) LineKind → List LineFault
+faults_at number (Ok kept) = []
+faults_at number (Err kind) = record { line = number; kind = kind } ∷ []
+
+-- the entries, with those of the lines behind them
+abbrev pub entries_from : List Entry → List (List ℕ) → List Entry
+entries_from before [] = before
+entries_from before (line ∷ lines) = entries_from (entries_after before (verdict_of before line)) lines
+
+-- the faults of the lines from a number on, after these entries
+abbrev pub faults_from : List Entry → ℕ → List (List ℕ) → List LineFault
+faults_from before number [] = []
+faults_from before number (line ∷ lines) =
+    faults_at number (verdict_of before line) ++ faults_from (entries_after before (verdict_of before line)) (number + 1) lines
+
+-- the table of a text
+abbrev pub table_of_text : List ℕ → List Entry
+table_of_text text = entries_from [] (lines_of text)
+
+-- its faults, in line order; lines are counted from 1
+abbrev pub faults_of_text : List ℕ → List LineFault
+faults_of_text text = faults_from [] 1 (lines_of text)

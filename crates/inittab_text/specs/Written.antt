@@ -1,0 +1,64 @@
+-- The written form of entries, and what each entry of a table is known to be (inittab(5)).
+use Rattle.std.specs.Prelude.{ℕ, Bool, true, false, not, ◌&&◌, nat_le, if◌then◌else◌, List, [], ◌∷◌, ◌++◌, map, length, Option, Some, None, codes}
+use Rattle.std.specs.List.{flat_map, list_all}
+use Rattle.std.specs.Str.{bytes_eq}
+use Rattle.init_words.specs.declared.entries.Entry.{Entry}
+use Rattle.init_words.specs.declared.actions.Act.{Act}
+use Rattle.init_words.specs.declared.levels.Mark.{Mark}
+use Rattle.init_words.specs.Actions.{word_of}
+use Rattle.init_words.specs.Ids.{is_id}
+use Rattle.init_words.specs.Levels.{mark_code, names}
+use Rattle.inittab_text.specs.Lines.{has_byte}
+use Rattle.inittab_text.specs.Kept.{ignores_levels, has_process}
+use Rattle.inittab_text.specs.Checks.{is_too_long, is_missing, is_text}
+use Rattle.inittab_text.specs.Tables.{is_distinct}
+use Rattle.inittab_text.specs.Reading.{table_of_text}
+
+-- the runlevels as written: the marks' characters; none is "-", or nothing where they count for nothing
+abbrev pub levels_written : Act → List Mark → List ℕ
+levels_written act [] = if ignores_levels act then [] else codes "-"
+levels_written act (mark ∷ marks) = map mark_code (mark ∷ marks)
+
+-- the fields of an entry, id:runlevels:action:process
+abbrev pub fields_written : Entry → List ℕ
+fields_written e = e.id ++ 58 ∷ (levels_written e.act e.levels.items ++ 58 ∷ (word_of e.act ++ 58 ∷ e.process.items))
+
+-- the line of an entry, with its newline
+abbrev pub line_of : Entry → List ℕ
+line_of e = fields_written e ++ 10 ∷ []
+
+-- the lines of a table
+abbrev pub text_of : List Entry → List ℕ
+text_of table = flat_map line_of table
+
+-- the table whose written text this is, where there is one: the table that the text is read as, if it is written so
+abbrev pub table_written : List ℕ → Option (List Entry)
+table_written text = if bytes_eq (text_of (table_of_text text)) text then Some (table_of_text text) else None
+
+-- nothing is there
+abbrev pub is_empty : {X : Type 0} → List X → Bool
+is_empty [] = true
+is_empty (x ∷ xs) = false
+
+-- no mark stands twice
+abbrev pub has_no_repeat : List Mark → Bool
+has_no_repeat [] = true
+has_no_repeat (mark ∷ marks) = not (names mark marks) && has_no_repeat marks
+
+-- at most eleven marks, each once, and none for an action whose runlevels count for nothing
+abbrev pub is_levels : Act → List Mark → Bool
+is_levels act marks = nat_le (length marks) 11 && has_no_repeat marks && (if ignores_levels act then is_empty marks else true)
+
+-- text of one line that passes the checks on a process; nothing where the action has none
+abbrev pub is_process : Act → List ℕ → Bool
+is_process act process =
+    not (is_too_long act process) && not (is_missing act process) && is_text process && not (has_byte 10 process)
+    && (if has_process act then true else is_empty process)
+
+-- an entry as reading keeps it
+unfoldable pub is_written : Entry → Bool
+is_written e = is_id e.id && is_levels e.act e.levels.items && is_process e.act e.process.items
+
+-- a table: at most 512 such entries, no id twice
+abbrev pub is_table : List Entry → Bool
+is_table table = nat_le (length table) 512 && is_distinct table && list_all is_written table

@@ -1,0 +1,159 @@
+ghost use Rattle.std.specs.Prelude.{◌≡◌, ◌≤◌, Some, length};
+ghost use Rattle.std.specs.List.{list_all};
+ghost use Rattle.std.specs.Str.{is_utf8};
+ghost use Rattle.inittab_text.specs.Kept.{needs_process};
+ghost use Rattle.inittab_text.specs.Lines.{fields_at, has_byte, is_blank, is_ignored};
+ghost use Rattle.inittab_text.specs.Checks.{without_plus, is_too_long, is_missing, is_text, checked_as, checked, verdict_of};
+
+use crate::cuts::without_blanks;
+use crate::faults::LineKind;
+use crate::fields::Fields;
+use crate::kept::{act_of, entry_of, has_process};
+use crate::tables::{ENTRY_LIMIT, Table};
+use init_words::{Act, Entry, Id, MARK_LIMIT, PROCESS_LIMIT};
+use std::alloc::Allocator;
+use std::str;
+
+/// Nothing, or a comment.
+fn is_ignored(line: &[u8]) -> bool
+    ensures { result ≡ is_ignored line.now }
+{
+    match line {
+        [] => true,
+        [first, ..] => *first == b'#',
+    }
+}
+
+fn is_utf8(line: &[u8]) -> bool
+    ensures { result ≡ is_utf8 line.now }
+{
+    str::from_utf8(line).is_ok()
+}
+
+fn has_nul(line: &[u8]) -> bool
+    ensures { result ≡ has_byte 0 line.now }
+{
+    line.contains(&0)
+}
+
+/// UTF-8 without a NUL.
+fn is_text(line: &[u8]) -> bool
+    ensures { result ≡ is_text line.now }
+{
+    is_utf8(line) && !has_nul(line)
+}
+
+fn is_blank(byte: u8) -> bool
+    ensures { result ≡ is_blank byte }
+{
+    byte == b' ' || byte == b'\t'
+}
+
+fn is_all_blank(text: &[u8]) -> bool
+    ensures { result ≡ list_all is_blank text.now }
+{
+    text.iter().all(|byte| is_blank(*byte))
+}
+
+/// A process without its leading `+`.
+fn without_plus(process: &[u8]) -> &[u8]
+    ensures { result.now ≡ without_plus process.now }
+{
+    match process {
+        [b'+', rest @ ..] => rest,
+        _ => process,
+    }
+}
+
+/// The process is to have more than blanks and tabs.
+fn needs_process(act: Act) -> bool
+    ensures { result ≡ needs_process act }
+{
+    !matches!(
+        act,
+        Act::Initdefault | Act::Off | Act::Ctrlaltdel | Act::Kbrequest
+    )
+}
+
+/// The process has more bytes than a line may have.
+fn is_too_long(act: Act, process: &[u8]) -> bool
+    ensures { result ≡ is_too_long act process.now }
+{
+    has_process(act) && process.len() > PROCESS_LIMIT
+}
+
+/// The process is to be there, and is not.
+fn is_missing(act: Act, process: &[u8]) -> bool
+    ensures { result ≡ is_missing act process.now }
+{
+    needs_process(act) && is_all_blank(without_plus(process))
+}
+
+/// The entry of a line with these fields, whose id and action were read, or the first further check that it fails.
+#[tactic(auto, unfolding(crate::specs::Checks::checked_as))]
+fn checked_as<A: Allocator>(
+    act: Act,
+    id: Id,
+    table: &Table<A>,
+    line: &[u8],
+    fields: &Fields,
+) -> Result<Option<Entry>, LineKind>
+    requires id { fields.now.id.now ≡ id }
+    requires levels { length fields.now.levels.now ≤ 11 }
+    ensures { result ≡ checked_as act table.now line.now (fields_at fields.now) }
+{
+    if is_too_long(act, fields.process) {
+        return Err(LineKind::Length);
+    }
+    if is_missing(act, fields.process) {
+        return Err(LineKind::Empty);
+    }
+    if !is_text(line) {
+        return Err(LineKind::Text);
+    }
+    if table.get(&id).is_some() {
+        return Err(LineKind::Twice);
+    }
+    if table.len() >= ENTRY_LIMIT {
+        return Err(LineKind::Many);
+    }
+    Ok(Some(entry_of(id, act, fields)))
+}
+
+/// The entry of a line with these fields, or the first check that the line fails.
+fn checked<A: Allocator>(
+    table: &Table<A>,
+    line: &[u8],
+    fields: &Fields,
+) -> Result<Option<Entry>, LineKind>
+    ensures { result ≡ checked table.now line.now (Some (fields_at fields.now)) }
+{
+    let Some(id) = Id::read(fields.id) else {
+        return Err(LineKind::Id);
+    };
+    if fields.levels.len() > MARK_LIMIT {
+        return Err(LineKind::Levels);
+    }
+    let Some(act) = act_of(fields.action) else {
+        return Err(LineKind::Action);
+    };
+    checked_as(act, id, table, line, fields)
+}
+
+/// What a line comes to after the entries of the table: nothing, an entry or a fault.
+#[tactic(auto, unfolding(crate::specs::Checks::verdict_of))]
+pub(crate) fn verdict_of<A: Allocator>(
+    table: &Table<A>,
+    line: &[u8],
+) -> Result<Option<Entry>, LineKind>
+    ensures { result ≡ verdict_of table.now line.now }
+{
+    let text = without_blanks(line);
+    if is_ignored(text) {
+        return Ok(None);
+    }
+    let Some(fields) = Fields::of(text) else {
+        return Err(LineKind::Fields);
+    };
+    checked(table, text, &fields)
+}

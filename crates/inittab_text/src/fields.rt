@@ -1,0 +1,32 @@
+ghost use Rattle.std.specs.Prelude.{◌≡◌};
+ghost use Rattle.std.specs.Option.{option_map};
+
+use crate::cuts::cut;
+
+/// The four fields of a line, `id:runlevels:action:process` (inittab(5)).
+#[derive(Clone, Copy)]
+pub(crate) struct Fields<'a> {
+    pub(crate) id: &'a [u8],
+    pub(crate) levels: &'a [u8],
+    pub(crate) action: &'a [u8],
+    pub(crate) process: &'a [u8],
+}
+
+impl<'a> Fields<'a> {
+    ghost use Rattle.inittab_text.specs.Lines.{fields_of, fields_at};
+
+    /// The fields of a line, split at its first three colons; the process is the rest.
+    pub(crate) fn of(line: &'a [u8]) -> Option<Fields<'a>>
+        ensures { option_map fields_at result ≡ fields_of line.now }
+    {
+        let (id, rest) = cut(b':', line)?;
+        let (levels, rest) = cut(b':', rest)?;
+        let (action, process) = cut(b':', rest)?;
+        Some(Fields {
+            id,
+            levels,
+            action,
+            process,
+        })
+    }
+}

@@ -1,0 +1,85 @@
+ghost use Rattle.std.specs.Prelude.{◌≡◌, ◌≤◌, ◌++◌, ◌∷◌, [], length, take, IfOk, OnOk, OnErr, map};
+ghost use Rattle.init_words.specs.Levels.{mark_code};
+ghost use Rattle.inittab_text.specs.Written.{levels_written, line_of, text_of};
+ghost use Rattle.inittab_text.specs.Reading.{table_of_text, faults_of_text};
+
+use crate::kept::ignores_levels;
+use crate::tables::Table;
+use arrayvec::ArrayVec;
+use init_words::{Act, Entry, MARK_LIMIT, Mark, Memory};
+use std::alloc::Allocator;
+
+/// The characters of the marks.
+fn codes_of(marks: &[Mark]) -> ArrayVec<u8, MARK_LIMIT>
+    requires { length marks.now ≤ 11 }
+    ensures { result.items ≡ map mark_code marks.now }
+{
+    let mut codes = ArrayVec::new();
+    for mark in marks {
+        codes.push(mark.code());
+    }
+    codes
+}
+
+/// The runlevels field as it is written.
+fn levels_written(act: Act, marks: &[Mark]) -> ArrayVec<u8, MARK_LIMIT>
+    requires { length marks.now ≤ 11 }
+    ensures { result.items ≡ levels_written act marks.now }
+{
+    let mut field = codes_of(marks);
+    if marks.is_empty() && !ignores_levels(act) {
+        field.push(b'-');
+    }
+    field
+}
+
+/// Appends a field and the byte that ends it. Where memory is wanted, a part of it may be appended.
+fn write_field<A: Allocator>(text: &mut Vec<u8, A>, field: &[u8], end: u8) -> Result<(), Memory>
+    ensures ok { OnOk result (text.new.items ≡ text.old.items ++ (field.now ++ end ∷ [])) }
+    ensures err { OnErr result (take (length text.old.items) text.new.items ≡ text.old.items) }
+{
+    text.extend_from_slice(field)?;
+    text.push(end)?;
+    Ok(())
+}
+
+/// Appends an entry's line. Where memory is wanted, a part of it may be appended.
+fn write_fields<A: Allocator>(text: &mut Vec<u8, A>, entry: &Entry) -> Result<(), Memory>
+    ensures ok { OnOk result (text.new.items ≡ text.old.items ++ line_of entry.now) }
+    ensures err { OnErr result (take (length text.old.items) text.new.items ≡ text.old.items) }
+{
+    let levels = levels_written(entry.act, entry.levels.as_slice());
+    write_field(text, entry.id.as_bytes(), b':')?;
+    write_field(text, levels.as_slice(), b':')?;
+    write_field(text, entry.act.word(), b':')?;
+    write_field(text, entry.process.as_slice(), b'\n')
+}
+
+/// Appends an entry's line of inittab(5), `id:runlevels:action:process` and a newline. A refusal leaves the text as it was.
+pub fn write_line<A: Allocator>(text: &mut Vec<u8, A>, entry: &Entry) -> Result<(), Memory>
+    ensures ok { OnOk result (text.new.items ≡ text.old.items ++ line_of entry.now) }
+    ensures err { OnErr result (text.new.items ≡ text.old.items) }
+{
+    let start = text.len();
+    if write_fields(text, entry).is_err() {
+        text.truncate(start);
+        return Err(Memory);
+    }
+    Ok(())
+}
+
+/// Writes a table as an inittab(5), one line an entry. What is written is read as the same table, without faults.
+pub fn write<A: Allocator + Copy, B: Allocator>(
+    alloc: A,
+    table: &Table<B>,
+) -> Result<Vec<u8, A>, Memory>
+    ensures text { IfOk result (λ text. text.items ≡ text_of table.now) }
+    ensures table { IfOk result (λ text. table_of_text text.items ≡ table.now) }
+    ensures no_faults { IfOk result (λ text. faults_of_text text.items ≡ []) }
+{
+    let mut text = Vec::new(alloc);
+    for place in 0..table.len() {
+        write_line(&mut text, table.entry(place))?;
+    }
+    Ok(text)
+}

@@ -1,0 +1,61 @@
+ghost use Rattle.std.specs.Prelude.{◌≡◌, ◌≢◌, List, Some, false, true, IfOk, IfSome, IfNone, OnOk};
+ghost use Rattle.init_words.specs.declared.entries.Entry.{Entry};
+ghost use Rattle.inittab_text.specs.Lines.{has_byte};
+ghost use Rattle.inittab_text.specs.Checks.{verdict_of};
+ghost use Rattle.inittab_text.specs.Reading.{entries_after, table_of_text};
+ghost use Rattle.inittab_text.specs.Written.{is_table, text_of, table_written};
+
+use crate::checks::verdict_of;
+use crate::cuts::first_line;
+use crate::tables::Table;
+use crate::writing::write;
+use init_words::Memory;
+use std::alloc::Allocator;
+
+/// Adds a line's entry to the table, if it is kept.
+fn keep_line<A: Allocator>(table: &mut Table<A>, line: &[u8]) -> Result<(), Memory>
+    requires { has_byte 10 line.now ≡ false }
+    ensures { OnOk result (table.new ≡ entries_after table.old (verdict_of table.old line.now)) }
+{
+    if let Ok(Some(entry)) = verdict_of(table, line) {
+        table.push(entry)?;
+    }
+    Ok(())
+}
+
+/// The entries of the lines that are kept.
+fn read_entries<A: Allocator + Copy>(alloc: A, text: &[u8]) -> Result<Table<A>, Memory>
+    ensures { IfOk result (λ table. table ≡ table_of_text text.now) }
+{
+    let mut table = Table::new(alloc);
+    let mut rest = text;
+    while !rest.is_empty() {
+        let (line, more) = first_line(rest);
+        keep_line(&mut table, line)?;
+        rest = more;
+    }
+    Ok(table)
+}
+
+/// The table that the text is read as, if it is written so.
+fn table_written<A: Allocator + Copy>(alloc: A, text: &[u8]) -> Result<Option<Table<A>>, Memory>
+    ensures { IfOk result (λ got. got ≡ table_written text.now) }
+{
+    let table = read_entries(alloc, text)?;
+    let again = write(alloc, &table)?;
+    if again.as_slice() != text {
+        return Ok(None);
+    }
+    Ok(Some(table))
+}
+
+/// The table whose written text the bytes are, of any length; `None` where there is none.
+pub fn read_written<A: Allocator + Copy>(alloc: A, text: &[u8]) -> Result<Option<Table<A>>, Memory>
+    ensures value { IfOk result (λ got. got ≡ table_written text.now) }
+    ensures found { IfOk result (λ got. IfSome got (λ table. text_of table ≡ text.now)) }
+    // No other table has the text.
+    ensures only { IfOk result (λ got. (table : List Entry) → is_table table ≡ true → text_of table ≡ text.now → got ≡ Some table) }
+    ensures none { IfOk result (λ got. IfNone got ((table : List Entry) → is_table table ≡ true → text_of table ≢ text.now)) }
+{
+    table_written(alloc, text)
+}
