@@ -1,0 +1,4 @@
+pub mod Blocks
+pub mod Frames
+pub mod Pieces
+pub mod Signs

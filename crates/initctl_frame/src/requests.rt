@@ -1,3 +1,4 @@
+use crate::signs::Sign;
 use init_words::{Letter, Level, PowerKind};
 
 /// What init got by a request block (initreq.h, telinit(8)).
@@ -28,4 +29,13 @@ pub enum Cause {
     LeftOut,
     /// It asks for a runlevel whose character is none of telinit(8).
     Character,
+}
+
+/// What is asked of init by a request block.
+#[derive(Clone, Copy, Debug, PartialEq, Eq)]
+pub enum Request {
+    /// RUNLVL of initreq.h: a character of telinit(8), and the seconds between the two signals that stop a child.
+    Runlvl(Sign, u16),
+    /// POWERFAIL, POWERFAILNOW or POWEROK of initreq.h.
+    Power(PowerKind),
 }

@@ -1,0 +1,166 @@
+-- The blocks of a byte list, as more bytes come.
+use Rattle.std.proofs.Common.{◌≡◌, ◌∙◌, ℕ, ℤ, zero, suc, ◌+◌, ◌-◌, ◌*◌, ◌/◌, ◌<◌, ◌≤◌, List, [], ◌∷◌, ◌++◌, length, take, drop, map, get_or, min, ap, ap₂, sym, refl, arith, append_assoc, append-nil, length-append, length-drop, length-take-le, ⊎_elim, take-append-drop, w32}
+use Rattle.std.specs.Prelude.{All, flat_map}
+use Rattle.std.proofs.lemmas.List.Concat.{flat_map-cons}
+use Rattle.std.proofs.lemmas.List.Elements.{All-nil, All-cons}
+use Rattle.std.proofs.lemmas.List.{map-append, take-append-le, drop-append-le, drop-drop, take_all, take-take, get_or-drop, get_or-take}
+use Rattle.std.proofs.lemmas.Bool.{cases_lt}
+use Rattle.std.proofs.Math.Seq.{take-append-add}
+use Rattle.std.specs.Int.{cast_signed, from_le_bytes}
+use Rattle.initctl_frame.specs.Frames.{got_of, got_of_ints, int_at}
+use Rattle.initctl_frame.specs.Blocks.{blocks_of, gots_of, over_of, parts}
+
+-- ---- parts of any size
+
+-- bytes behind the first n parts change none of them
+parts-append : (size n : ℕ) (xs ys : List ℕ) → size * n ≤ length xs → parts size n (xs ++ ys) ≡ parts size n xs
+parts-append size zero xs ys fits = refl
+parts-append size (suc n) xs ys fits =
+    let long : size ≤ length xs = omega (arith) in
+    ap₂ (λ (part : List ℕ) (others : List (List ℕ)). part ∷ others) (take-append-le size xs ys long)
+    (ap (parts size n) (drop-append-le size xs ys long) ∙ parts-append size n (drop size xs) ys (omega (arith, length-drop size xs)))
+
+-- one part more is the next part behind the first n
+parts-last : (size n : ℕ) (xs : List ℕ) → parts size (suc n) xs ≡ parts size n xs ++ take size (drop (size * n) xs) ∷ []
+parts-last size zero xs =
+    let none : size * 0 ≡ 0 = omega arith in
+    ap (λ (k : ℕ). take size (drop k xs) ∷ []) (sym none)
+parts-last size (suc n) xs =
+    let next : size + size * n ≡ size * suc n = omega arith in
+    ap (λ (others : List (List ℕ)). take size xs ∷ others) (parts-last size n (drop size xs)
+    ∙ ap (λ (ys : List ℕ). parts size n (drop size xs) ++ take size ys ∷ [])
+    (drop-drop (size * n) size xs ∙ ap (λ (k : ℕ). drop k xs) next))
+
+-- ---- blocks
+
+over_size : (bytes : List ℕ) → length (over_of bytes) ≡ length bytes - 384 * (length bytes / 384)
+over_size bytes = length-drop (384 * (length bytes / 384)) bytes
+
+count_stays : (bytes more : List ℕ) → length (over_of bytes) + length more < 384 → length (bytes ++ more) / 384 ≡ length bytes / 384
+count_stays bytes more short = omega (arith, length-append bytes more, over_size bytes)
+
+count_grows : (bytes more : List ℕ) → length (over_of bytes) + length more ≡ 384 → length (bytes ++ more) / 384 ≡ suc (length bytes / 384)
+count_grows bytes more full = omega (arith, length-append bytes more, over_size bytes)
+
+joined_over : (bytes more : List ℕ) → drop (384 * (length bytes / 384)) (bytes ++ more) ≡ over_of bytes ++ more
+joined_over bytes more = drop-append-le (384 * (length bytes / 384)) bytes more (omega arith)
+
+-- while the block isn't full, the bytes are over
+over_stays : (bytes more : List ℕ) → length (over_of bytes) + length more < 384 → over_of (bytes ++ more) ≡ over_of bytes ++ more
+over_stays bytes more short =
+    ap (λ (n : ℕ). drop (384 * n) (bytes ++ more)) (count_stays bytes more short) ∙ joined_over bytes more
+
+pub gots_stay : (bytes more : List ℕ) → length (over_of bytes) + length more < 384 → gots_of (bytes ++ more) ≡ gots_of bytes
+gots_stay bytes more short =
+    ap (map got_of) (ap (λ (n : ℕ). parts 384 n (bytes ++ more)) (count_stays bytes more short)
+    ∙ parts-append 384 (length bytes / 384) bytes more (omega arith))
+
+-- where the block is full, it is one more
+pub gots_grow : (bytes more : List ℕ) → length (over_of bytes) + length more ≡ 384 → gots_of (bytes ++ more) ≡ gots_of bytes ++ got_of (over_of bytes ++ more) ∷ []
+gots_grow bytes more full =
+    let n : ℕ = length bytes / 384 in
+    let last : take 384 (drop (384 * n) (bytes ++ more)) ≡ over_of bytes ++ more =
+    ap (take 384) (joined_over bytes more) ∙ take_all 384 (over_of bytes ++ more) (omega (arith, length-append (over_of bytes) more)) in
+    ap (map got_of) (ap (λ (k : ℕ). parts 384 k (bytes ++ more)) (count_grows bytes more full)
+    ∙ parts-last 384 n (bytes ++ more)
+    ∙ ap₂ (λ (fronts : List (List ℕ)) (block : List ℕ). fronts ++ block ∷ []) (parts-append 384 n bytes more (omega arith)) last)
+    ∙ map-append got_of (blocks_of bytes) ((over_of bytes ++ more) ∷ [])
+
+-- ---- the blocks are the parts of the bytes
+
+parts-whole : (size n : ℕ) (xs : List ℕ) → size * n ≤ length xs → All (λ part. length part ≡ size) (parts size n xs)
+parts-whole size zero xs fits = All-nil (λ part. length part ≡ size)
+parts-whole size (suc n) xs fits =
+    All-cons (λ part. length part ≡ size) (take size xs) (parts size n (drop size xs)) (length-take-le size xs (omega arith))
+    (parts-whole size n (drop size xs) (omega (arith, length-drop size xs)))
+
+parts-joined : (size n : ℕ) (xs : List ℕ) → flat_map (λ part. part) (parts size n xs) ++ drop (size * n) xs ≡ xs
+parts-joined size zero xs =
+    let none : size * 0 ≡ 0 = omega arith in
+    ap (λ (k : ℕ). drop k xs) none
+parts-joined size (suc n) xs =
+    let next : size + size * n ≡ size * suc n = omega arith in
+    let others : List ℕ = flat_map (λ part. part) (parts size n (drop size xs)) in
+    ap (λ (ys : List ℕ). ys ++ drop (size * suc n) xs) (flat_map-cons (λ part. part) (take size xs) (parts size n (drop size xs)))
+    ∙ append_assoc (take size xs) others (drop (size * suc n) xs)
+    ∙ ap (λ (k : ℕ). take size xs ++ (others ++ drop k xs)) (sym next)
+    ∙ ap (λ (ys : List ℕ). take size xs ++ (others ++ ys)) (sym (drop-drop (size * n) size xs))
+    ∙ ap (λ (ys : List ℕ). take size xs ++ ys) (parts-joined size n (drop size xs))
+    ∙ take-append-drop size xs
+
+pub blocks-whole : (bytes : List ℕ) → All (λ block. length block ≡ 384) (blocks_of bytes)
+blocks-whole bytes = parts-whole 384 (length bytes / 384) bytes (omega arith)
+
+pub blocks-partial : (bytes : List ℕ) → length (over_of bytes) < 384
+blocks-partial bytes = omega (arith, over_size bytes)
+
+pub blocks-joined : (bytes : List ℕ) → flat_map (λ block. block) (blocks_of bytes) ++ over_of bytes ≡ bytes
+blocks-joined bytes = parts-joined 384 (length bytes / 384) bytes
+
+-- ---- the front of a block
+
+from_four : (xs ys : List ℕ) → ((i : ℕ) → i < 4 → get_or xs i 0 ≡ get_or ys i 0) → from_le_bytes w32 xs ≡ from_le_bytes w32 ys
+from_four xs ys same =
+    let zeroth = same 0 (omega arith) in
+    let first = same 1 (omega arith) in
+    let second = same 2 (omega arith) in
+    let third = same 3 (omega arith) in
+    cc
+
+-- an int is read from its own four bytes
+int_in_front : (n place : ℕ) (bytes : List ℕ) → place + 4 ≤ n → int_at place (take n bytes) ≡ int_at place bytes
+int_in_front n place bytes within =
+    ap (cast_signed w32) (from_four (drop place (take n bytes)) (drop place bytes) (λ i below.
+    get_or-drop place (take n bytes) i 0 ∙ get_or-take n bytes (place + i) 0 (omega arith) ∙ sym (get_or-drop place bytes i 0)))
+
+pub got_of_front : (n : ℕ) (block : List ℕ) → 16 ≤ n → got_of (take n block) ≡ got_of block
+got_of_front n block within =
+    ap₂ (λ (magic command : ℤ). got_of_ints magic command (int_at 8 (take n block)) (int_at 12 (take n block)))
+    (int_in_front n 0 block (omega arith)) (int_in_front n 4 block (omega arith))
+    ∙ ap₂ (λ (runlevel sleeptime : ℤ). got_of_ints (int_at 0 block) (int_at 4 block) runlevel sleeptime)
+    (int_in_front n 8 block (omega arith)) (int_in_front n 12 block (omega arith))
+
+take_min : (m taken : ℕ) (piece : List ℕ) → taken ≤ length piece → take (min taken m) piece ≡ take m (take taken piece)
+take_min m taken piece within =
+    let size : length (take taken piece) ≡ taken = length-take-le taken piece within in
+    ⊎_elim (λ below. let few : min taken m ≡ m = omega arith in
+    ap (λ (k : ℕ). take k piece) few ∙ sym (take-take m taken piece (omega arith)))
+    (λ above. let all : min taken m ≡ taken = omega arith in
+    ap (λ (k : ℕ). take k piece) all ∙ sym (take_all m (take taken piece) (omega arith)))
+    (cases_lt m taken)
+
+-- the kept bytes of a piece behind the kept bytes of what was over
+front_after : (n taken : ℕ) (over piece : List ℕ) → taken ≤ length piece
+    → take n over ++ take (min taken (n - length (take n over))) piece ≡ take n (over ++ take taken piece)
+front_after n taken over piece within =
+    ⊎_elim (λ below.
+    let size : length (take n over) ≡ n = length-take-le n over (omega arith) in
+    let none : min taken (n - length (take n over)) ≡ 0 = omega arith in
+    ap (λ (k : ℕ). take n over ++ take k piece) none ∙ append-nil (take n over) ∙ sym (take-append-le n over (take taken piece) (omega arith)))
+    (λ above.
+    let m : ℕ = n - length over in
+    let whole : take n over ≡ over = take_all n over above in
+    let size : length over + m ≡ n = omega arith in
+    ap (λ (xs : List ℕ). xs ++ take (min taken (n - length xs)) piece) whole
+    ∙ ap (λ (ys : List ℕ). over ++ ys) (take_min m taken piece within)
+    ∙ sym (take-append-add over (take taken piece) m)
+    ∙ ap (λ (k : ℕ). take k (over ++ take taken piece)) size)
+    (cases_lt n (length over))
+
+pub front_joins : (n taken : ℕ) (over piece front : List ℕ) → taken ≤ length piece → front ≡ take n over
+    → front ++ take (min taken (n - length front)) piece ≡ take n (over ++ take taken piece)
+front_joins n taken over piece front within is =
+    ap (λ (xs : List ℕ). xs ++ take (min taken (n - length xs)) piece) is ∙ front_after n taken over piece within
+
+-- ---- a piece that leaves the block under way
+
+pub over_feeds : (bytes piece : List ℕ) (taken : ℕ) → taken ≤ length piece → length (over_of bytes) + taken < 384
+    → over_of (bytes ++ take taken piece) ≡ over_of bytes ++ take taken piece
+over_feeds bytes piece taken within short =
+    over_stays bytes (take taken piece) (omega (arith, length-take-le taken piece within))
+
+pub count_feeds : (bytes piece : List ℕ) (taken : ℕ) → taken ≤ length piece → length (over_of bytes) + taken < 384
+    → length (over_of (bytes ++ take taken piece)) ≡ length (over_of bytes) + taken
+count_feeds bytes piece taken within short =
+    ap length (over_feeds bytes piece taken within short) ∙ length-append (over_of bytes) (take taken piece)
+    ∙ ap (λ (k : ℕ). length (over_of bytes) + k) (length-take-le taken piece within)

@@ -1,0 +1,12 @@
+use Rattle.std.proofs.Common.{◌≤◌, length, take}
+use Rattle.std.specs.Prelude.{flat_map}
+use Rattle.initctl_frame.specs.Blocks.{Stands, gots_of}
+use Rattle.initctl_frame.specs.Pieces.{Fills}
+use Rattle.initctl_frame.proofs.pieces.read_pieces.Given as goal
+
+abbrev pub invariant-loop-piece : goal.invariant-loop-piece
+invariant-loop-piece l = record {
+  within : l.count ≤ length l.room;
+  stands : Stands l.blocks (flat_map (λ piece. piece.now) (take l.piece-index l.pieces));
+  fills : Fills l.fn.room (gots_of (flat_map (λ piece. piece.now) (take l.piece-index l.pieces))) l.count l.room;
+}

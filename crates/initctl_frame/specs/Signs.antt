@@ -1,0 +1,42 @@
+-- The characters that telinit(8) takes, and what each asks for.
+use Rattle.std.specs.Prelude.{ℕ, Bool, ◌==◌, ◌||◌, if◌then◌else◌, List, codes, Option, Some, None}
+use Rattle.std.specs.List.{list_any}
+use Rattle.init_words.specs.declared.levels.Level.{Level}
+use Rattle.init_words.specs.declared.levels.Letter.{Letter}
+use Rattle.init_words.specs.Levels.{level_read, letter_read}
+use Rattle.initctl_frame.specs.declared.requests.Got.{Got}
+use Rattle.initctl_frame.specs.declared.requests.Got.TheVariants as got
+use Rattle.initctl_frame.specs.declared.requests.Cause.TheVariants.{Character}
+
+-- the characters of the list, as bytes
+abbrev pub sign_codes : List ℕ
+sign_codes = codes "0123456789SsABCabcQqUu"
+
+-- a byte is one of them
+abbrev pub is_sign : ℕ → Bool
+is_sign code = list_any (λ listed. listed == code) sign_codes
+
+-- the character that was typed, where it is one of the list
+abbrev pub sign_read : ℕ → Option ℕ
+sign_read code = if is_sign code then Some code else None
+
+-- `Q q` reads inittab again, `U u` executes init anew, any other is no character
+abbrev pub got_of_last : ℕ → Got
+got_of_last code =
+    if code == 81 || code == 113 then got.Reload
+    else if code == 85 || code == 117 then got.Reexec
+    else got.Nothing Character
+
+-- `A B C a b c` call the ondemand entries of the letter
+abbrev pub got_of_letter : Option Letter → ℕ → Got
+got_of_letter (Some letter) code = got.Call letter
+got_of_letter None code = got_of_last code
+
+-- `0-9 S s` go to the level, with these seconds between the two signals
+abbrev pub got_of_level : Option Level → ℕ → ℕ → Got
+got_of_level (Some level) code seconds = got.Level level seconds
+got_of_level None code seconds = got_of_letter (letter_read code) code
+
+-- what a character asks for
+abbrev pub got_of_sign : ℕ → ℕ → Got
+got_of_sign code seconds = got_of_level (level_read code) code seconds

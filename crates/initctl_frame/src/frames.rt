@@ -1,0 +1,158 @@
+ghost use Rattle.std.specs.Prelude.{◌≡◌, ◌+◌, ◌-◌, ◌≤◌, ◌++◌, ℕ, List, length, replicate};
+ghost use Rattle.initctl_frame.specs.Signs.{got_of_sign};
+ghost use Rattle.initctl_frame.specs.Frames.{block_of, block_of_ints, got_of, got_of_command, got_of_ints, got_of_runlevel, int_at, meaning_of, power_command, seconds_of};
+
+use crate::requests::{Cause, Got, Request};
+use crate::signs::Sign;
+use init_words::{Letter, Level, PowerKind};
+
+/// How many bytes a request block has (initreq.h).
+pub const BLOCK: usize = 384;
+
+/// How many bytes of a block are read: its four ints.
+pub(crate) const FRONT: usize = 16;
+
+/// The first int of a block (initreq.h).
+const MAGIC: i32 = 0x03091969;
+
+/// The longest time between the two signals, in seconds.
+const SECONDS_LIMIT: u16 = 3600;
+
+/// What a block asks for (initreq.h). A block is judged by itself: nothing in it is looked for elsewhere than in its place.
+pub fn decode(block: &[u8; BLOCK]) -> Got
+    ensures { result ≡ got_of block.now }
+{
+    decode_front(block)
+}
+
+/// The block of a request: its ints, and 368 zeros. News of the power has 0 as its runlevel and its sleeptime.
+pub fn encode(request: &Request) -> [u8; BLOCK]
+    ensures bytes { result ≡ block_of request.now }
+    ensures read_back { got_of result ≡ meaning_of request.now }
+{
+    match *request {
+        Request::Runlvl(sign, seconds) => block_of_ints(1, sign.code(), seconds),
+        Request::Power(kind) => block_of_ints(power_command(kind), 0, 0),
+    }
+}
+
+/// What a request means to init: what it gets by the request's block.
+pub fn meaning(request: &Request) -> Got
+    ensures { result ≡ meaning_of request.now }
+{
+    match *request {
+        Request::Runlvl(sign, seconds) => got_of_sign(sign.code(), seconds.min(SECONDS_LIMIT)),
+        Request::Power(kind) => Got::Power(kind),
+    }
+}
+
+/// What the block that begins with these bytes asks for.
+pub(crate) fn decode_front(front: &[u8]) -> Got
+    requires { FRONT ≤ length front.now }
+    ensures { result ≡ got_of front.now }
+{
+    got_of_ints(
+        int_at(front, 0),
+        int_at(front, 4),
+        int_at(front, 8),
+        int_at(front, 12),
+    )
+}
+
+/// The int whose four bytes begin at this place.
+fn int_at(bytes: &[u8], place: usize) -> i32
+    requires { place + 4 ≤ length bytes.now }
+    ensures { result ≡ int_at place bytes.now }
+{
+    i32::from_le_bytes([
+        bytes[place],
+        bytes[place + 1],
+        bytes[place + 2],
+        bytes[place + 3],
+    ])
+}
+
+fn got_of_ints(magic: i32, command: i32, runlevel: i32, sleeptime: i32) -> Got
+    ensures { result ≡ got_of_ints magic command runlevel sleeptime }
+{
+    if magic != MAGIC {
+        return Got::Nothing(Cause::Magic);
+    }
+    got_of_command(command, runlevel, sleeptime)
+}
+
+fn got_of_command(command: i32, runlevel: i32, sleeptime: i32) -> Got
+    ensures { result ≡ got_of_command command runlevel sleeptime }
+{
+    match command {
+        1 => got_of_runlevel(runlevel, seconds_of(sleeptime)),
+        2 => Got::Power(PowerKind::Fail),
+        3 => Got::Power(PowerKind::FailNow),
+        4 => Got::Power(PowerKind::Ok),
+        0 | 5 | 6 | 7 | 12345 => Got::Nothing(Cause::LeftOut),
+        _ => Got::Nothing(Cause::Unknown),
+    }
+}
+
+fn seconds_of(sleeptime: i32) -> u16
+    ensures { result ≡ seconds_of sleeptime }
+{
+    sleeptime.clamp(0, SECONDS_LIMIT as i32) as u16
+}
+
+fn got_of_runlevel(runlevel: i32, seconds: u16) -> Got
+    ensures { result ≡ got_of_runlevel runlevel seconds }
+{
+    match u8::try_from(runlevel) {
+        Ok(code) => got_of_sign(code, seconds),
+        Err(_) => Got::Nothing(Cause::Character),
+    }
+}
+
+fn got_of_sign(code: u8, seconds: u16) -> Got
+    ensures { result ≡ got_of_sign code seconds }
+{
+    if let Some(level) = Level::read(code) {
+        return Got::Level(level, seconds);
+    }
+    if let Some(letter) = Letter::read(code) {
+        return Got::Call(letter);
+    }
+    match code {
+        b'Q' | b'q' => Got::Reload,
+        b'U' | b'u' => Got::Reexec,
+        _ => Got::Nothing(Cause::Character),
+    }
+}
+
+fn power_command(kind: PowerKind) -> u8
+    ensures { result ≡ power_command kind }
+{
+    match kind {
+        PowerKind::Fail => 2,
+        PowerKind::FailNow => 3,
+        PowerKind::Ok => 4,
+    }
+}
+
+fn block_of_ints(command: u8, runlevel: u8, sleeptime: u16) -> [u8; BLOCK]
+    ensures { result ≡ block_of_ints command runlevel sleeptime }
+{
+    let [m0, m1, m2, m3] = MAGIC.to_le_bytes();
+    let [c0, c1, c2, c3] = u32::from(command).to_le_bytes();
+    let [r0, r1, r2, r3] = u32::from(runlevel).to_le_bytes();
+    let [s0, s1, s2, s3] = u32::from(sleeptime).to_le_bytes();
+    padded(&[
+        m0, m1, m2, m3, c0, c1, c2, c3, r0, r1, r2, r3, s0, s1, s2, s3,
+    ])
+}
+
+/// The bytes with zeros behind them.
+fn padded<const N: usize>(bytes: &[u8]) -> [u8; N]
+    requires { length bytes.now ≤ N }
+    ensures { result ≡ bytes.now ++ replicate (N - length bytes.now) 0 }
+{
+    let mut block = [0; N];
+    block[..bytes.len()].copy_from_slice(bytes);
+    block
+}
