@@ -8,9 +8,9 @@ use Rattle.init_trace.specs.declared.happenings.Happening.TheVariants.{NewTable,
 use Rattle.init_trace.specs.declared.steps.Goal.{Goal}
 use Rattle.init_trace.specs.Event.{Event}
 use Rattle.init_trace.specs.Past.{Child, is_of, is_child, has_number, has_child, born, unreaped, kept, undone_of}
-use Rattle.init_trace.specs.Wanted.{is_order}
+use Rattle.init_trace.specs.Wanted.{is_order, is_owed_before, is_excluded}
 use Rattle.init_trace.specs.Sound.{may_come, is_sound}
-use Rattle.init_trace.specs.Lawful.{is_alone, is_placed}
+use Rattle.init_trace.specs.Lawful.{is_alone, is_placed, is_in_turn, are_spared}
 use Rattle.trace_laws.proofs.Tests.{falsely, not_from, same_id-is, is_order-is, filter_none}
 use Rattle.trace_laws.proofs.Orders.{unreaped_kept}
 use Rattle.trace_laws.proofs.Keeps.{Ready, sound_holds, sound_ind}
@@ -89,3 +89,9 @@ one_child goal past h = sound_ind goal (λ before. (id : List ℕ) → length (f
 
 pub one_child_at : (goal : Goal) (later past : List Event) (id : List ℕ) → is_sound goal (later ++ past) ≡ true → length (filter (is_of id) (unreaped past)) ≤ 1
 one_child_at goal later past id h = at_moment goal (λ before. length (filter (is_of id) (unreaped before)) ≤ 1) (lit≤ tt) (λ before sound. one_child goal before sound id) later past h
+
+pub birth_in_turn : (goal : Goal) (later : List Event) (id : List ℕ) (n : ℕ) (past : List Event) → is_sound goal (later ++ Birth id n ∷ past) ≡ true → is_in_turn id past ≡ true
+birth_in_turn goal later id n past h = not_from (is_owed_before id past) (birth_ready goal later id n past h).ahead
+
+pub birth_spared : (goal : Goal) (later : List Event) (id : List ℕ) (n : ℕ) (past : List Event) → is_sound goal (later ++ Birth id n ∷ past) ≡ true → are_spared past ≡ true
+birth_spared goal later id n past h = not_from (list_any (is_excluded past) (unreaped past)) (falsely (list_any (is_excluded past) (unreaped past)) (list_any (is_excluded past) (kept past)) (unreaped_kept (is_excluded past) past) (birth_ready goal later id n past h).spared)

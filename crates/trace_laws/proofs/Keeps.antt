@@ -313,7 +313,7 @@ ready_keeps goal (Miss i) past may holds id h = same_ready id (Miss i) past refl
 ready_keeps goal happening past may holds id h = same_ready id happening past refl refl refl refl (holds.ready id h)
 
 -- the field stopping
-stop_excluded : (child : Child) (ask : Ask) (past : List Event) → stop_due child past ≡ Some ask → is_excluded past child ≡ true
+pub stop_excluded : (child : Child) (ask : Ask) (past : List Event) → stop_due child past ≡ Some ask → is_excluded past child ≡ true
 stop_excluded child ask past h = at_child (is_excluded past child) (is_missed child past) (stop_by _ _ (spell_hits child past)) h where
   at_child : (b c : Bool) (o : Option Ask) → cond (b && not c) o None ≡ Some ask → b ≡ true
   at_child true c o h = refl

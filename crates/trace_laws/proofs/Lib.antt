@@ -4,3 +4,14 @@ pub mod Dues
 pub mod Keeps
 pub mod Births
 pub mod Told
+pub mod Settling
+pub mod Limits
+pub mod Signals
+pub mod Laws
+pub mod Agreement
+pub mod Pace
+pub mod Targets
+pub mod Kills
+pub mod Pairs
+pub mod Warnings
+pub mod Known

@@ -145,10 +145,10 @@ told_known id (Miss i ∷ past) h = told_known id past (or_parts (same_id id i) 
 told_known id (_ ∷ past) h = told_known id past h
 
 -- a child that a test finds after a Told was among the unreaped or the others before it
-told_any : (p : Child → Bool) (i : List ℕ) (there before : List Child) → list_any p (filter (is_of i) there ++ filter (λ child. not (is_of i child)) before) ≡ true → (list_any (λ child. is_of i child && p child) there ≡ true) ⊎ (list_any (λ child. not (is_of i child) && p child) before ≡ true)
+pub told_any : (p : Child → Bool) (i : List ℕ) (there before : List Child) → list_any p (filter (is_of i) there ++ filter (λ child. not (is_of i child)) before) ≡ true → (list_any (λ child. is_of i child && p child) there ≡ true) ⊎ (list_any (λ child. not (is_of i child) && p child) before ≡ true)
 told_any p i there before h = or_either (list_any p (filter (is_of i) there)) (list_any p (filter (λ child. not (is_of i child)) before)) (sym (list_any-append p (filter (is_of i) there) (filter (λ child. not (is_of i child)) before)) ∙ h) (λ first. inl (sym (any_filter p (is_of i) there) ∙ first)) (λ second. inr (sym (any_filter p (λ child. not (is_of i child)) before) ∙ second))
 
-told_finds : (p : Child → Bool) (i : List ℕ) (there before : List Child) → (list_any (λ child. is_of i child && p child) there ≡ true) ⊎ (list_any (λ child. not (is_of i child) && p child) before ≡ true) → list_any p (filter (is_of i) there ++ filter (λ child. not (is_of i child)) before) ≡ true
+pub told_finds : (p : Child → Bool) (i : List ℕ) (there before : List Child) → (list_any (λ child. is_of i child && p child) there ≡ true) ⊎ (list_any (λ child. not (is_of i child) && p child) before ≡ true) → list_any p (filter (is_of i) there ++ filter (λ child. not (is_of i child)) before) ≡ true
 told_finds p i there before (inl h) = list_any-append p (filter (is_of i) there) (filter (λ child. not (is_of i child)) before) ∙ or_left (list_any p (filter (is_of i) there)) (list_any p (filter (λ child. not (is_of i child)) before)) (any_filter p (is_of i) there ∙ h)
 told_finds p i there before (inr h) = list_any-append p (filter (is_of i) there) (filter (λ child. not (is_of i child)) before) ∙ or_right (list_any p (filter (is_of i) there)) (list_any p (filter (λ child. not (is_of i child)) before)) (any_filter p (λ child. not (is_of i child)) before ∙ h)
 

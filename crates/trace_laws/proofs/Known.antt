@@ -1,0 +1,101 @@
+-- What init reads of its kept children off the known ones.
+use Rattle.std.proofs.Common.{◌≡◌, ◌≤◌, refl, sym, ◌∙◌, ap, ℕ, Bool, true, false, not, ◌&&◌, ◌||◌, List, ◌∷◌, filter, length, Option, Some, None, lit≤, ◌⊎◌, inl, inr}
+use Rattle.std.specs.List.{list_any}
+use Rattle.std.proofs.lemmas.Bool.{false≢true, and_parts, and_from}
+use Rattle.init_words.specs.declared.orders.Ask.{Ask}
+use Rattle.init_words.specs.declared.orders.Ask.TheVariants.{Start, Look, Term, Kill}
+use Rattle.init_words.specs.Ids.{same_id}
+use Rattle.inittab_text.specs.Tables.{is_distinct}
+use Rattle.init_trace.specs.declared.happenings.Happening.TheVariants.{NewTable, Enter, Birth, Told}
+use Rattle.init_trace.specs.declared.steps.Goal.{Goal}
+use Rattle.init_trace.specs.declared.steps.Step.TheVariants as step
+use Rattle.init_trace.specs.Event.{Event}
+use Rattle.init_trace.specs.Past.{Child, is_of, has_number, has_child, born, unreaped, kept, known, open_of, undone_of, is_quiet}
+use Rattle.init_trace.specs.Wanted.{is_order, is_excluded}
+use Rattle.init_trace.specs.Sound.{may_come, is_sound}
+use Rattle.trace_laws.proofs.Tests.{both_ways, same_tests, or_either, is_order-is, any_less}
+use Rattle.trace_laws.proofs.Orders.{quiet_looks, known_kept, told_any, told_finds, told_same, told_other, same_has}
+use Rattle.trace_laws.proofs.Dues.{due_facts}
+use Rattle.trace_laws.proofs.Keeps.{sound_holds, sound_ind, placed_spared}
+use Rattle.trace_laws.proofs.Births.{one_child}
+use Rattle.trace_laws.proofs.Settling.{same_any}
+use Rattle.trace_laws.proofs.Told.{kept_known}
+
+-- at a quiet point no Start is open
+pub quiet_start : (id : List ℕ) (past : List Event) → is_quiet past ≡ true → is_order Start (open_of id past) ≡ false
+quiet_start id past quiet = read (open_of id past) refl where
+  read : (o : Option Ask) → open_of id past ≡ o → is_order Start o ≡ false
+  read None is = refl
+  read (Some Start) is = absurd (false≢true (quiet_looks id Start past quiet is))
+  read (Some Look) is = refl
+  read (Some Term) is = refl
+  read (Some Kill) is = refl
+
+-- at a quiet point the kept children of each id are the known ones
+pub quiet_known : (goal : Goal) (past : List Event) → is_sound goal past ≡ true → is_quiet past ≡ true → (id : List ℕ) → filter (is_of id) (kept past) ≡ filter (is_of id) (known past)
+quiet_known goal past sound quiet id = kept_known goal past sound id (quiet_start id past quiet)
+
+-- an id with no open Start has a kept child exactly if it has a known one
+pub has_known : (goal : Goal) (past : List Event) → is_sound goal past ≡ true → (id : List ℕ) → is_order Start (open_of id past) ≡ false → has_child id (kept past) ≡ has_child id (known past)
+has_known goal past sound id free = same_has id (kept past) (known past) (kept_known goal past sound id free)
+
+-- an id has a kept child or an open Start exactly if it has a known child or an open Start
+pub busy_known : (goal : Goal) (past : List Event) → is_sound goal past ≡ true → (id : List ℕ) → (has_child id (kept past) || is_order Start (open_of id past)) ≡ (has_child id (known past) || is_order Start (open_of id past))
+busy_known goal past sound id = split (is_order Start (open_of id past)) (has_known goal past sound id) where
+  or_true : (b : Bool) → (b || true) ≡ true
+  or_true true = refl
+  or_true false = refl
+
+  split : (b : Bool) → (b ≡ false → has_child id (kept past) ≡ has_child id (known past)) → (has_child id (kept past) || b) ≡ (has_child id (known past) || b)
+  split true same = or_true (has_child id (kept past)) ∙ sym (or_true (has_child id (known past)))
+  split false same = ap (λ b. b || false) (same refl)
+
+-- an excluded child that is kept is known: one whose birth is not told is not excluded
+excluded_told : (goal : Goal) (past : List Event) → is_sound goal past ≡ true → (q : Child → Bool) → list_any (λ child. is_excluded past child && q child) (kept past) ≡ true → list_any (λ child. is_excluded past child && q child) (known past) ≡ true
+excluded_told goal past h = sound_ind goal (λ before. (q : Child → Bool) → list_any (λ child. is_excluded before child && q child) (kept before) ≡ true → list_any (λ child. is_excluded before child && q child) (known before) ≡ true) (λ table distinct q there. there) next past h where
+  at_quiet : (before : List Event) → is_sound goal before ≡ true → is_quiet before ≡ true → (p : Child → Bool) → list_any p (kept before) ≡ true → list_any p (known before) ≡ true
+  at_quiet before sound quiet p there = same_any p (kept before) (known before) (quiet_known goal before sound quiet) there
+
+  next : (happening : Event) (before : List Event) → may_come goal happening before ≡ true → is_sound goal before ≡ true → ((q : Child → Bool) → list_any (λ child. is_excluded before child && q child) (kept before) ≡ true → list_any (λ child. is_excluded before child && q child) (known before) ≡ true) → (q : Child → Bool) → list_any (λ child. is_excluded (happening ∷ before) child && q child) (kept (happening ∷ before)) ≡ true → list_any (λ child. is_excluded (happening ∷ before) child && q child) (known (happening ∷ before)) ≡ true
+  next (NewTable table) before may sound rest q there = at_quiet before sound (and_parts (is_quiet before) (is_distinct table) may).0 (λ child. is_excluded (NewTable table ∷ before) child && q child) there
+  next (Enter s grace) before may sound rest q there = elim (due_facts goal before (step.Enter s grace) may) [ inl quiet ↦ at_quiet before sound quiet (λ child. is_excluded (Enter s grace ∷ before) child && q child) there | inr dawn ↦ both_ways (list_any (λ (child : Child). true) (kept before)) (any_less (λ child. is_excluded (Enter s grace ∷ before) child && q child) (λ child. true) (λ child _. refl) (kept before) there) ((sound_holds goal before sound).dawn dawn) ]
+  next (Birth i n) before may sound rest q there = or_either (is_excluded before (born i n before) && q (born i n before)) (list_any (λ child. is_excluded before child && q child) (kept before)) there (λ here. both_ways (is_excluded before (born i n before)) (and_parts (is_excluded before (born i n before)) (q (born i n before)) here).0 (placed_spared i n before ((sound_holds goal before sound).ready i (is_order-is Start (undone_of i before) (and_parts (is_order Start (undone_of i before)) (not (list_any (has_number n) (unreaped before))) may).0)).placed)) (rest q)
+  next (Told i) before may sound rest q there = told_finds excluded i (unreaped before) (known before) (read (told_any excluded i (unreaped before) (kept before) there)) where
+    excluded : Child → Bool
+    excluded child = is_excluded before child && q child
+
+    others : Child → Bool
+    others child = not (is_of i child) && q child
+
+    swap : (child : Child) → (not (is_of i child) && excluded child) ≡ true → (is_excluded before child && others child) ≡ true
+    swap child both =
+        let outer = and_parts (not (is_of i child)) (excluded child) both in
+        let inner = and_parts (is_excluded before child) (q child) outer.1 in
+        and_from (is_excluded before child) (others child) inner.0 (and_from (not (is_of i child)) (q child) outer.0 inner.1)
+
+    back : (child : Child) → (is_excluded before child && others child) ≡ true → (not (is_of i child) && excluded child) ≡ true
+    back child both =
+        let outer = and_parts (is_excluded before child) (others child) both in
+        let inner = and_parts (not (is_of i child)) (q child) outer.1 in
+        and_from (not (is_of i child)) (excluded child) inner.0 (and_from (is_excluded before child) (q child) outer.0 inner.1)
+
+    read : (list_any (λ child. is_of i child && excluded child) (unreaped before) ≡ true) ⊎ (list_any (λ child. not (is_of i child) && excluded child) (kept before) ≡ true) → (list_any (λ child. is_of i child && excluded child) (unreaped before) ≡ true) ⊎ (list_any (λ child. not (is_of i child) && excluded child) (known before) ≡ true)
+    read (inl own) = inl own
+    read (inr other) = inr (any_less (λ child. is_excluded before child && others child) (λ child. not (is_of i child) && excluded child) back (known before) (rest others (any_less (λ child. not (is_of i child) && excluded child) (λ child. is_excluded before child && others child) swap (kept before) other)))
+  next happening before may sound rest q there = rest q there
+
+-- a kept child is excluded exactly if a known one is
+pub excluded_known : (goal : Goal) (past : List Event) → is_sound goal past ≡ true → list_any (is_excluded past) (kept past) ≡ list_any (is_excluded past) (known past)
+excluded_known goal past sound = same_tests (list_any (is_excluded past) (kept past)) (list_any (is_excluded past) (known past)) (λ there. any_less all (is_excluded past) (λ child both. (and_parts (is_excluded past child) true both).0) (known past) (excluded_told goal past sound (λ child. true) (any_less (is_excluded past) all (λ child own. and_from (is_excluded past child) true own refl) (kept past) there))) (known_kept (is_excluded past) past) where
+  all : Child → Bool
+  all child = is_excluded past child && true
+
+-- no id has two known children
+pub known_single : (goal : Goal) (past : List Event) → is_sound goal past ≡ true → (id : List ℕ) → length (filter (is_of id) (known past)) ≤ 1
+known_single goal past h = sound_ind goal (λ before. (id : List ℕ) → length (filter (is_of id) (known before)) ≤ 1) (λ table distinct id. lit≤ tt) next past h where
+  next : (happening : Event) (before : List Event) → may_come goal happening before ≡ true → is_sound goal before ≡ true → ((id : List ℕ) → length (filter (is_of id) (known before)) ≤ 1) → (id : List ℕ) → length (filter (is_of id) (known (happening ∷ before))) ≤ 1
+  next (Told i) before may sound rest id = at_id (same_id id i) refl where
+    at_id : (b : Bool) → same_id id i ≡ b → length (filter (is_of id) (known (Told i ∷ before))) ≤ 1
+    at_id true same = rw (told_same id i (unreaped before) (known before) same) (one_child goal before sound id)
+    at_id false differ = rw (told_other id i (unreaped before) (known before) differ) (rest id)
+  next _ before may sound rest id = rest id

@@ -1,0 +1,81 @@
+-- Where a level is announced settled, it is settled by the unreaped children.
+use Rattle.std.proofs.Common.{◌≡◌, refl, sym, ◌∙◌, ap, ℕ, Bool, true, false, not, ◌&&◌, ◌||◌, List, ◌∷◌, ◌++◌, filter, Option, Some, None}
+use Rattle.std.specs.List.{list_any, list_all}
+use Rattle.std.proofs.lemmas.Bool.{false≢true, and_parts, and_from}
+use Rattle.init_words.specs.declared.entries.Entry.{Entry}
+use Rattle.init_words.specs.declared.levels.Level.{Level}
+use Rattle.init_words.specs.declared.levels.Mark.TheVariants.{At}
+use Rattle.init_words.specs.declared.stages.Stage.{Stage}
+use Rattle.init_words.specs.declared.stages.Stage.TheVariants as stage
+use Rattle.init_words.specs.Levels.{names}
+use Rattle.inittab_text.specs.Tables.{entry_of}
+use Rattle.init_trace.specs.declared.happenings.Happening.TheVariants.{Settle}
+use Rattle.init_trace.specs.declared.steps.Goal.{Goal}
+use Rattle.init_trace.specs.declared.steps.Step.TheVariants as step
+use Rattle.init_trace.specs.Event.{Event}
+use Rattle.init_trace.specs.Past.{table_of, stage_of, Child, is_of, unreaped, known, is_idle}
+use Rattle.init_trace.specs.Wanted.{is_asked, is_owed, may_live, is_excluded}
+use Rattle.init_trace.specs.Timing.{is_held}
+use Rattle.init_trace.specs.Wishes.{is_level}
+use Rattle.init_trace.specs.Due.{served_by, is_served, is_settled}
+use Rattle.init_trace.specs.Sound.{may_come, is_sound}
+use Rattle.trace_laws.specs.Belonging.{belongs}
+use Rattle.trace_laws.proofs.Tests.{Passing, passing, falsely, not_is, not_from, same_id-self, same_level-is, any_less, all_less, all_fail}
+use Rattle.trace_laws.proofs.Orders.{idle_none, told_known, same_of, same_has}
+use Rattle.trace_laws.proofs.Dues.{MaySettle, due_facts}
+use Rattle.trace_laws.proofs.Keeps.{sound_holds, free_told}
+use Rattle.trace_laws.proofs.Births.{step_at}
+
+-- where no order is open, the known children of each id are its unreaped ones
+pub idle_known : (goal : Goal) (past : List Event) → is_sound goal past ≡ true → is_idle past ≡ true → (id : List ℕ) → filter (is_of id) (known past) ≡ filter (is_of id) (unreaped past)
+idle_known goal past sound idle id = told_known id past (free_told id past (sound_holds goal past sound).told (idle_none id past idle))
+
+-- a test that finds a child in one list finds it in another that has the same children of each id
+pub same_any : (p : Child → Bool) (xs ys : List Child) → ((id : List ℕ) → filter (is_of id) xs ≡ filter (is_of id) ys) → list_any p xs ≡ true → list_any p ys ≡ true
+same_any p xs ys same h = any_less own p (λ child both. (and_parts (is_of found.item.id child) (p child) both).1) ys (sym (same_of found.item.id p xs ys (same found.item.id)) ∙ found.within own (and_from (is_of found.item.id found.item) (p found.item) (same_id-self found.item.id) found.passes)) where
+  found : Passing p xs
+  found = passing p xs h
+
+  own : Child → Bool
+  own child = is_of found.item.id child && p child
+
+same_served : (level : Level) (xs ys : List Child) (past : List Event) → ((id : List ℕ) → filter (is_of id) xs ≡ filter (is_of id) ys) → (e : Entry) → is_served level xs past e ≡ true → is_served level ys past e ≡ true
+same_served level xs ys past same e h = ap (λ b. not (is_owed e past) && (not (names (At level) e.levels.items) || served_by e.act (is_asked e.id past) (b || is_held e.id past))) (sym (same_has e.id xs ys (same e.id))) ∙ h
+
+same_settled : (level : Level) (xs ys : List Child) (past : List Event) → ((id : List ℕ) → filter (is_of id) xs ≡ filter (is_of id) ys) → ((id : List ℕ) → filter (is_of id) ys ≡ filter (is_of id) xs) → is_settled level xs past ≡ true → is_settled level ys past ≡ true
+same_settled level xs ys past same back h =
+    let all = and_parts (is_level level (stage_of past) && not (list_any (is_excluded past) xs)) (list_all (is_served level xs past) (table_of past)) h in
+    let two = and_parts (is_level level (stage_of past)) (not (list_any (is_excluded past) xs)) all.0 in
+    and_from (is_level level (stage_of past) && not (list_any (is_excluded past) ys)) (list_all (is_served level ys past) (table_of past)) (and_from (is_level level (stage_of past)) (not (list_any (is_excluded past) ys)) two.0 (not_from (list_any (is_excluded past) ys) (falsely (list_any (is_excluded past) ys) (list_any (is_excluded past) xs) (same_any (is_excluded past) ys xs back) (not_is (list_any (is_excluded past) xs) two.1)))) (all_less (is_served level xs past) (is_served level ys past) (same_served level xs ys past same) (table_of past) all.1)
+
+pub settle_settled : (goal : Goal) (later : List Event) (level : Level) (past : List Event) → is_sound goal (later ++ Settle level ∷ past) ≡ true → is_settled level (unreaped past) past ≡ true
+settle_settled goal later level past h = same_settled level (known past) (unreaped past) past same (λ id. sym (same id)) may.settled where
+  parts : (may_come goal (Settle level) past ≡ true) × (is_sound goal past ≡ true)
+  parts = step_at goal later (Settle level) past refl h
+
+  may : MaySettle level past
+  may = due_facts goal past (step.Settle level) parts.0
+
+  same : (id : List ℕ) → filter (is_of id) (known past) ≡ filter (is_of id) (unreaped past)
+  same = idle_known goal past parts.1 may.idle
+
+-- in a settled level each unreaped child belongs to an entry of the level
+level_stage : (level : Level) (now : Option Stage) → is_level level now ≡ true → now ≡ Some (stage.Run level)
+level_stage level None h = absurd (false≢true h)
+level_stage level (Some stage.Sysinit) h = absurd (false≢true h)
+level_stage level (Some stage.Boot) h = absurd (false≢true h)
+level_stage level (Some (stage.Run l)) h = ap (λ k. Some (stage.Run k)) (sym (same_level-is level l h))
+
+pub settle_belongs : (goal : Goal) (later : List Event) (level : Level) (past : List Event) → is_sound goal (later ++ Settle level ∷ past) ≡ true → list_all (belongs level past) (unreaped past) ≡ true
+settle_belongs goal later level past h = all_less (λ child. not (is_excluded past child)) (belongs level past) live (unreaped past) (all_fail (is_excluded past) (unreaped past) (not_is (list_any (is_excluded past) (unreaped past)) two.1)) where
+  all : ((is_level level (stage_of past) && not (list_any (is_excluded past) (unreaped past))) ≡ true) × (list_all (is_served level (unreaped past) past) (table_of past) ≡ true)
+  all = and_parts (is_level level (stage_of past) && not (list_any (is_excluded past) (unreaped past))) (list_all (is_served level (unreaped past) past) (table_of past)) (settle_settled goal later level past h)
+
+  two : (is_level level (stage_of past) ≡ true) × (not (list_any (is_excluded past) (unreaped past)) ≡ true)
+  two = and_parts (is_level level (stage_of past)) (not (list_any (is_excluded past) (unreaped past))) all.0
+
+  live : (child : Child) → not (is_excluded past child) ≡ true → belongs level past child ≡ true
+  live child free = ap (λ now. may_live (entry_of child.id (table_of past)) child.act now) (sym (level_stage level (stage_of past) two.0)) ∙ twice (may_live (entry_of child.id (table_of past)) child.act (stage_of past)) free where
+    twice : (b : Bool) → not (not b) ≡ true → b ≡ true
+    twice true h = refl
+    twice false h = h

@@ -1,0 +1,29 @@
+-- Stretches of a trace, between one happening and a later one.
+use Rattle.std.specs.Prelude.{ℕ, Bool, true, false, ◌&&◌, ◌==◌, ◌+◌, if◌then◌else◌, List, [], ◌∷◌}
+use Rattle.init_words.specs.declared.orders.Ask.TheVariants.{Start}
+use Rattle.init_words.specs.Ids.{same_id}
+use Rattle.init_trace.specs.declared.happenings.Happening.TheVariants.{NewTable, Enter, Asked, Reaped}
+use Rattle.init_trace.specs.Event.{Event}
+
+-- no stage begins and no table comes in the stretch
+abbrev pub is_steady : List Event → Bool
+is_steady [] = true
+is_steady (NewTable table ∷ stretch) = false
+is_steady (Enter stage grace ∷ stretch) = false
+is_steady (_ ∷ stretch) = is_steady stretch
+
+-- how many Starts of the id are ordered in the stretch
+abbrev pub count_starts : List ℕ → List Event → ℕ
+count_starts id [] = 0
+count_starts id (Asked i Start ∷ stretch) = if same_id id i then count_starts id stretch + 1 else count_starts id stretch
+count_starts id (_ ∷ stretch) = count_starts id stretch
+
+-- the happening is an order about the id
+abbrev pub is_order_of : List ℕ → Event → Bool
+is_order_of id (Asked i ask) = same_id id i
+is_order_of id _ = false
+
+-- the happening is the reaping of the child of this id and number
+abbrev pub is_reaping_of : List ℕ → ℕ → Event → Bool
+is_reaping_of id n (Reaped i m status) = same_id id i && n == m
+is_reaping_of id n _ = false

@@ -1,0 +1,27 @@
+-- What comes before a KILL: a TERM that was sent to the child, told in its spell, and the grace.
+use Rattle.std.specs.Prelude.{◌≡◌, ◌≤◌, ◌+◌, ℕ, Bool, true, IsTrue, ◌&&◌, List, [], ◌∷◌, ◌++◌}
+use Rattle.std.specs.List.{list_any}
+use Rattle.init_words.specs.declared.orders.Ask.TheVariants.{Term}
+use Rattle.init_trace.specs.declared.happenings.Happening.TheVariants.{Told}
+use Rattle.init_trace.specs.Event.{Event}
+use Rattle.init_trace.specs.Past.{Child, grace_of, time_of, is_of}
+use Rattle.init_trace.specs.Wanted.{is_order}
+use Rattle.init_trace.specs.Spells.{untold_hits, in_spell}
+use Rattle.init_trace.specs.Agreement.{is_unreaped}
+
+-- each happening of a stretch belongs to the spell of the child
+abbrev pub stays_excluded : Child → List Event → List Event → Bool
+stays_excluded child [] before = true
+stays_excluded child (happening ∷ stretch) before = in_spell child happening (stretch ++ before) && stays_excluded child stretch before
+
+-- an unreaped child of the id, to which a TERM was sent: that was told in its spell, at least the grace ago
+pub record Warned (id : List ℕ) (past : List Event) : Type 0 where
+  pub child : Child
+  pub own : IsTrue (is_of id child)
+  pub there : IsTrue (is_unreaped id child.number past)
+  pub since : List Event
+  pub before : List Event
+  pub told : past ≡ since ++ Told id ∷ before
+  pub termed : IsTrue (list_any (is_order Term) (untold_hits id before))
+  pub excluded : IsTrue (stays_excluded child (since ++ Told id ∷ []) before)
+  pub late : time_of before + grace_of past ≤ time_of past
