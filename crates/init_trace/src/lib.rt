@@ -7,5 +7,5 @@ mod printing;
 mod steps;
 
 pub use happenings::{Handed, Happening, HappeningIn};
-pub use printing::{print, print_one};
+pub use printing::{print, print_one, print_table};
 pub use steps::{Goal, Step};

@@ -1,5 +1,6 @@
 ghost use Rattle.std.specs.Prelude.{◌≡◌, ◌++◌, ◌∷◌, [], map, length, codes, decimal, IfOk, OnOk};
 ghost use Rattle.inittab_text.specs.Written.{text_of};
+ghost use Rattle.init_trace.specs.declared.happenings.Happening.TheVariants.{NewTable};
 ghost use Rattle.init_trace.specs.Lines.{stage_word, order_word, power_word, cause_number, words_behind, line_of_words, status_words, got_words, handed_words, event_text, trace_text};
 
 use crate::happenings::{Handed, Happening, HappeningIn};
@@ -218,6 +219,18 @@ fn put_happening<A: Allocator + Copy, B: Allocator>(
         Happening::Handed(how) => put_handed(text, *how)?,
     }
     Ok(())
+}
+
+/// The text of the happening that brings a table: `use`, how many entries, and their lines.
+pub fn print_table<A: Allocator + Copy, B: Allocator>(
+    alloc: A,
+    table: &Table<B>,
+) -> Result<Vec<u8, A>, Memory>
+    ensures { IfOk result (λ text. text.items ≡ event_text (NewTable table.now)) }
+{
+    let mut text = Vec::new(alloc);
+    put_table(&mut text, table)?;
+    Ok(text)
 }
 
 /// The text of one happening: a line, and behind a table's the lines of the table.

@@ -1,4 +1,4 @@
-ghost use Rattle.std.specs.Prelude.{◌≡◌, ◌<◌, ◌∷◌, false, length};
+ghost use Rattle.std.specs.Prelude.{◌≡◌, ◌<◌, [], ◌∷◌, false, length, IfSome, IfNone};
 ghost use Rattle.std.specs.Option.{option_map};
 ghost use Rattle.inittab_text.specs.Lines.{cut, has_byte, lines_of, skip_blanks};
 
@@ -23,6 +23,19 @@ pub(crate) fn first_line(text: &[u8]) -> (&[u8], &[u8])
         Some(parts) => parts,
         None => (text, &[]),
     }
+}
+
+/// The first line of a text, without its newline, and the text after it; None where the text is empty. A last line
+/// without a newline counts.
+pub fn next_line(text: &[u8]) -> Option<(&[u8], &[u8])>
+    ensures lines { IfSome result (λ parts. lines_of text.now ≡ parts.0.now ∷ lines_of parts.1.now) }
+    ensures shorter { IfSome result (λ parts. length parts.1.now < length text.now) }
+    ensures none { IfNone result (text.now ≡ []) }
+{
+    if text.is_empty() {
+        return None;
+    }
+    Some(first_line(text))
 }
 
 /// A line without its leading blanks and tabs.

@@ -15,6 +15,7 @@ mod tests;
 mod writing;
 mod written;
 
+pub use cuts::next_line;
 pub use faults::{LineFault, LineKind, TableFault};
 pub use reading::{TEXT_LIMIT, read};
 pub use tables::{ENTRY_LIMIT, Table};

@@ -11,3 +11,4 @@ pub mod Taming
 pub mod Telling
 pub mod Timely
 pub mod Windows
+pub mod Working

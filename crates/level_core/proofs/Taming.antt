@@ -142,7 +142,7 @@ pub record Comes (goal : Goal) (next : Stage) (grace : ℕ) (now : Stage) (past 
   pub over : is_over past ≡ true
   pub is_next : enters next grace (next_stage (goal_of goal past) (Some now)) ≡ true
 
-stage_due : (goal : Goal) (next : Stage) (grace : ℕ) (now : Stage) (past : List Event) → Tame past → stage_of past ≡ Some now → is_due goal (Enter next grace) past ≡ true → Comes goal next grace now past
+pub stage_due : (goal : Goal) (next : Stage) (grace : ℕ) (now : Stage) (past : List Event) → Tame past → stage_of past ≡ Some now → is_due goal (Enter next grace) past ≡ true → Comes goal next grace now past
 stage_due goal next grace now past tame is due_now =
     let four : enters next grace (due_starts past ++ due_stage goal past ++ due_settle past ++ due_looks past) ≡ true = sym (ap (enters next grace) (due_same past tame goal now is)) ∙ due_now in
     by (is_over past) refl (third (due_starts past) (due_stage goal past) (due_settle past) (due_looks past)

@@ -82,7 +82,7 @@ impl<A: Allocator + Copy> Core<A> {
 impl<A: Allocator> Core<A> {
     ghost use Rattle.level_core.specs.Decide.{decide, after_step, after_told, after_round, after_clock, refusal_of};
     ghost use Rattle.level_core.specs.Slots.{order_in};
-    ghost use Rattle.std.specs.Prelude.{IsTrue, IsOk, List, ◌∷◌, Some, ℕ};
+    ghost use Rattle.std.specs.Prelude.{IsTrue, IsOk, List, ◌∷◌, ◌<◌, Some, false, ℕ};
     ghost use Rattle.init_trace.specs.declared.happenings.Happening.TheVariants.{Nudge, Clock, Told};
     ghost use Rattle.init_trace.specs.declared.steps.Goal.{Goal};
     ghost use Rattle.init_trace.specs.Event.{Event};
@@ -91,6 +91,8 @@ impl<A: Allocator> Core<A> {
     ghost use Rattle.init_trace.specs.Sound.{is_sound};
     ghost use Rattle.level_core.specs.Fit.{Fits, with_step};
     ghost use Rattle.level_core.specs.Path.{is_of_one_table};
+    ghost use Rattle.level_core.specs.Work.{work_left};
+    ghost use Rattle.init_trace.specs.Run.{is_rest};
 
     /// The stage in force.
     pub fn stage(&self) -> Option<Stage>
@@ -182,6 +184,9 @@ impl<A: Allocator> Core<A> {
             → Fits self.old goal past → result ≡ first (due goal past) }
         ensures fits { (goal : Goal) (past : List Event) → IsTrue (is_sound goal past) → IsTrue (is_of_one_table past)
             → Fits self.old goal past → Fits self.new goal (with_step result past) }
+        // its own steps end: each leaves less to do
+        ensures falls { (goal : Goal) (past : List Event) → IsTrue (is_sound goal past) → IsTrue (is_of_one_table past)
+            → Fits self.old goal past → is_rest result ≡ false → work_left self.new < work_left self.old }
     {
         self.advance()
     }

@@ -7,13 +7,13 @@ use Rattle.init_words.specs.Ids.{same_id}
 use Rattle.init_trace.specs.declared.happenings.Happening.TheVariants.{Birth, NoBirth, Reaped, Still, NoLook, Hit, Miss, Told}
 use Rattle.init_trace.specs.declared.steps.Goal.{Goal}
 use Rattle.init_trace.specs.Event.{Event}
-use Rattle.init_trace.specs.Past.{Child, is_of, is_child, unreaped, known, undone_of, is_untold, is_dead}
+use Rattle.init_trace.specs.Past.{Child, is_of, is_child, unreaped, known, undone_of, is_untold}
 use Rattle.init_trace.specs.Wanted.{is_order}
 use Rattle.init_trace.specs.Sound.{may_come, is_sound}
 use Rattle.init_trace.specs.Agreement.{has_untold_birth, has_untold_end, is_unreaped, is_known, Agrees}
-use Rattle.trace_laws.proofs.Tests.{falsely, same_id-is, same_id-from, is_order-is, any_within, any_without, not_from}
+use Rattle.trace_laws.proofs.Tests.{or_true, falsely, same_id-is, same_id-from, is_order-is, any_within, any_without, not_from}
 use Rattle.trace_laws.proofs.Orders.{told_same, told_other}
-use Rattle.trace_laws.proofs.Keeps.{sound_holds, sound_ind}
+use Rattle.trace_laws.proofs.Keeps.{look_undone, sound_holds, sound_ind}
 use Rattle.trace_laws.proofs.Births.{at_moment}
 
 -- where nothing of the id is untold, no birth of it is
@@ -42,10 +42,7 @@ same_pair id n xs ys same = sym (any_within (is_child id n) (is_of id) own xs) �
 
 -- accounts in plain tests
 born_agrees : (born u k e b : Bool) → u ≡ (k && not e || b) → (born || u) ≡ (k && not e || (born || b))
-born_agrees true u k e b h = sym (or_true (k && not e)) where
-  or_true : (x : Bool) → (x || true) ≡ true
-  or_true true = refl
-  or_true false = refl
+born_agrees true u k e b h = sym (or_true (k && not e))
 born_agrees false u k e b h = h
 
 reaped_agrees : (x u k e b : Bool) → u ≡ (k && not e || b) → (x ≡ true → b ≡ false) → (not x && u) ≡ (k && not (x || e) || b)
@@ -80,7 +77,7 @@ sound_agrees goal past h = sound_ind goal (λ before. (id : List ℕ) (n : ℕ) 
   next (Birth i m) before may sound rest id n = born_agrees (same_id id i && n == m) (is_unreaped id n before) (is_known id n before) (has_untold_end id n before) (has_untold_birth id n before) (rest id n)
   next (Reaped i m status) before may sound rest id n = reaped_pair id i n m (unreaped before) (same_id id i && n == m) refl ∙ reaped_agrees (same_id id i && n == m) (is_unreaped id n before) (is_known id n before) (has_untold_end id n before) (has_untold_birth id n before) (rest id n) told where
     looked : is_order Look (undone_of i before) ≡ true
-    looked = (and_parts (is_order Look (undone_of i before)) (list_any (is_child i m) (unreaped before)) (and_parts (is_order Look (undone_of i before) && list_any (is_child i m) (unreaped before)) (is_dead i m before) may).0).0
+    looked = (look_undone goal i m status before may).0
 
     told : (same_id id i && n == m) ≡ true → has_untold_birth id n before ≡ false
     told same = born_told id n before (ap (λ x. is_untold x before) (same_id-is id i (and_parts (same_id id i) (n == m) same).0) ∙ (sound_holds goal before sound).done i Look (is_order-is Look (undone_of i before) looked))

@@ -2,18 +2,17 @@
 use Rattle.std.proofs.Common.{◌≡◌, ◌≤◌, refl, sym, ◌∙◌, ap, ℕ, Bool, true, false, not, cond, List, [], ◌∷◌, ◌++◌, filter, length, lit≤, le_trans, arith}
 use Rattle.std.specs.List.{list_any}
 use Rattle.std.proofs.lemmas.Bool.{false≢true, and_parts}
-use Rattle.init_words.specs.declared.orders.Ask.TheVariants.{Start}
 use Rattle.init_words.specs.Ids.{same_id}
 use Rattle.init_trace.specs.declared.happenings.Happening.TheVariants.{NewTable, Birth, Reaped}
 use Rattle.init_trace.specs.declared.steps.Goal.{Goal}
 use Rattle.init_trace.specs.Event.{Event}
-use Rattle.init_trace.specs.Past.{Child, is_of, is_child, has_number, has_child, born, unreaped, kept, undone_of}
-use Rattle.init_trace.specs.Wanted.{is_order, is_owed_before, is_excluded}
+use Rattle.init_trace.specs.Past.{Child, is_of, is_child, has_child, born, unreaped, kept}
+use Rattle.init_trace.specs.Wanted.{is_owed_before, is_excluded}
 use Rattle.init_trace.specs.Sound.{may_come, is_sound}
 use Rattle.init_trace.specs.Lawful.{is_alone, is_placed, is_in_turn, are_spared}
-use Rattle.trace_laws.proofs.Tests.{falsely, not_from, same_id-is, is_order-is, filter_none}
+use Rattle.trace_laws.proofs.Tests.{falsely, not_from, same_id-is, filter_none}
 use Rattle.trace_laws.proofs.Orders.{unreaped_kept}
-use Rattle.trace_laws.proofs.Keeps.{Ready, sound_holds, sound_ind}
+use Rattle.trace_laws.proofs.Keeps.{born_ready, Ready, sound_holds, sound_ind}
 
 -- what came before a happening of a sound trace is sound
 sound_rest : (goal : Goal) (happening next : Event) (past : List Event) → is_sound goal (happening ∷ next ∷ past) ≡ true → (may_come goal happening (next ∷ past) ≡ true) × (is_sound goal (next ∷ past) ≡ true)
@@ -43,11 +42,8 @@ pub step_at : (goal : Goal) (later : List Event) (happening : Event) (past : Lis
 step_at goal later happening past other h = sound_step goal happening past other (sound_before goal later happening past h)
 
 -- at a birth the id was ready for it
-birth_start : (goal : Goal) (id : List ℕ) (n : ℕ) (past : List Event) → may_come goal (Birth id n) past ≡ true → is_order Start (undone_of id past) ≡ true
-birth_start goal id n past may = (and_parts (is_order Start (undone_of id past)) (not (list_any (has_number n) (unreaped past))) may).0
-
 pub birth_ready : (goal : Goal) (later : List Event) (id : List ℕ) (n : ℕ) (past : List Event) → is_sound goal (later ++ Birth id n ∷ past) ≡ true → Ready id past
-birth_ready goal later id n past h = let parts = step_at goal later (Birth id n) past refl h in (sound_holds goal past parts.1).ready id (is_order-is Start (undone_of id past) (birth_start goal id n past parts.0))
+birth_ready goal later id n past h = let parts = step_at goal later (Birth id n) past refl h in born_ready goal id n past parts.0 (sound_holds goal past parts.1)
 
 ready_alone : (id : List ℕ) (past : List Event) → Ready id past → has_child id (unreaped past) ≡ false
 ready_alone id past ready = falsely (has_child id (unreaped past)) (has_child id (kept past)) (unreaped_kept (is_of id) past) ready.childless
@@ -83,7 +79,7 @@ one_birth goal i n past id ready before = at_id (same_id id i) refl where
 pub one_child : (goal : Goal) (past : List Event) → is_sound goal past ≡ true → (id : List ℕ) → length (filter (is_of id) (unreaped past)) ≤ 1
 one_child goal past h = sound_ind goal (λ before. (id : List ℕ) → length (filter (is_of id) (unreaped before)) ≤ 1) (λ table distinct id. lit≤ tt) next past h where
   next : (happening : Event) (before : List Event) → may_come goal happening before ≡ true → is_sound goal before ≡ true → ((id : List ℕ) → length (filter (is_of id) (unreaped before)) ≤ 1) → (id : List ℕ) → length (filter (is_of id) (unreaped (happening ∷ before))) ≤ 1
-  next (Birth i n) before may sound one id = one_birth goal i n before id ((sound_holds goal before sound).ready i (is_order-is Start (undone_of i before) (birth_start goal i n before may))) (one id)
+  next (Birth i n) before may sound one id = one_birth goal i n before id (born_ready goal i n before may (sound_holds goal before sound)) (one id)
   next (Reaped i n status) before may sound one id = le_trans (few_filtered (is_of id) (λ child. not (is_child i n child)) (unreaped before)) (one id)
   next (_) before may sound one id = one id
 

@@ -256,69 +256,69 @@ looks past (id ∷ ids) = each_append (Facts past) (step_if (can_look id past) (
 
 -- all the ranks
 dues : (goal : Goal) (past : List Event) → Each (Facts past) (due goal past)
-dues goal past = join (l1 ++ l2 ++ l3 ++ l4 ++ l5 ++ l6 ++ l7 ++ l8 ++ l9) l10 (join (l1 ++ l2 ++ l3 ++ l4 ++ l5 ++ l6 ++ l7 ++ l8) l9 (join (l1 ++ l2 ++ l3 ++ l4 ++ l5 ++ l6 ++ l7) l8 (join (l1 ++ l2 ++ l3 ++ l4 ++ l5 ++ l6) l7 (join (l1 ++ l2 ++ l3 ++ l4 ++ l5) l6 (join (l1 ++ l2 ++ l3 ++ l4) l5 (join (l1 ++ l2 ++ l3) l4 (join (l1 ++ l2) l3 (join l1 l2 r1 r2) r3) r4) r5) r6) r7) r8) r9) r10 where
+dues goal past = join (rank1 ++ rank2 ++ rank3 ++ rank4 ++ rank5 ++ rank6 ++ rank7 ++ rank8 ++ rank9) rank10 (join (rank1 ++ rank2 ++ rank3 ++ rank4 ++ rank5 ++ rank6 ++ rank7 ++ rank8) rank9 (join (rank1 ++ rank2 ++ rank3 ++ rank4 ++ rank5 ++ rank6 ++ rank7) rank8 (join (rank1 ++ rank2 ++ rank3 ++ rank4 ++ rank5 ++ rank6) rank7 (join (rank1 ++ rank2 ++ rank3 ++ rank4 ++ rank5) rank6 (join (rank1 ++ rank2 ++ rank3 ++ rank4) rank5 (join (rank1 ++ rank2 ++ rank3) rank4 (join (rank1 ++ rank2) rank3 (join rank1 rank2 facts1 facts2) facts3) facts4) facts5) facts6) facts7) facts8) facts9) facts10 where
   join : (xs ys : List Step) → Each (Facts past) xs → Each (Facts past) ys → Each (Facts past) (xs ++ ys)
   join xs ys f g = each_append (Facts past) xs ys f g
 
-  l1 : List Step
-  l1 = due_first goal (stage_of past) past
+  rank1 : List Step
+  rank1 = due_first goal (stage_of past) past
 
-  l2 : List Step
-  l2 = due_reexec past
+  rank2 : List Step
+  rank2 = due_reexec past
 
-  l3 : List Step
-  l3 = due_reread past
+  rank3 : List Step
+  rank3 = due_reread past
 
-  l4 : List Step
-  l4 = due_level past
+  rank4 : List Step
+  rank4 = due_level past
 
-  l5 : List Step
-  l5 = due_news past
+  rank5 : List Step
+  rank5 = due_news past
 
-  l6 : List Step
-  l6 = due_stops past
+  rank6 : List Step
+  rank6 = due_stops past
 
-  l7 : List Step
-  l7 = due_starts past
+  rank7 : List Step
+  rank7 = due_starts past
 
-  l8 : List Step
-  l8 = due_stage goal past
+  rank8 : List Step
+  rank8 = due_stage goal past
 
-  l9 : List Step
-  l9 = due_settle past
+  rank9 : List Step
+  rank9 = due_settle past
 
-  l10 : List Step
-  l10 = due_looks past
+  rank10 : List Step
+  rank10 = due_looks past
 
-  r1 : Each (Facts past) (due_first goal (stage_of past) past)
-  r1 = firsts goal past (stage_of past) refl
+  facts1 : Each (Facts past) (due_first goal (stage_of past) past)
+  facts1 = firsts goal past (stage_of past) refl
 
-  r2 : Each (Facts past) (due_reexec past)
-  r2 = each_step_if (Facts past) (is_quiet past && wants_reexec past) Reexec (λ _. tt)
+  facts2 : Each (Facts past) (due_reexec past)
+  facts2 = each_step_if (Facts past) (is_quiet past && wants_reexec past) Reexec (λ _. tt)
 
-  r3 : Each (Facts past) (due_reread past)
-  r3 = each_step_if (Facts past) (is_quiet past && wants_reread past) Reread (λ _. tt)
+  facts3 : Each (Facts past) (due_reread past)
+  facts3 = each_step_if (Facts past) (is_quiet past && wants_reread past) Reread (λ _. tt)
 
-  r4 : Each (Facts past) (due_level past)
-  r4 = each_steps_if (Facts past) (is_quiet past) (enter_level (level_wish past) past) (levels past (level_wish past))
+  facts4 : Each (Facts past) (due_level past)
+  facts4 = each_steps_if (Facts past) (is_quiet past) (enter_level (level_wish past) past) (levels past (level_wish past))
 
-  r5 : Each (Facts past) (due_news past)
-  r5 = each_steps_if (Facts past) (is_quiet past && in_run (stage_of past)) (power_steps powers past ++ letter_steps letters past) (λ h. let quiet = (and_parts (is_quiet past) (in_run (stage_of past)) h).0 in each_append (Facts past) (power_steps powers past) (letter_steps letters past) (news past powers quiet) (calls past letters quiet))
+  facts5 : Each (Facts past) (due_news past)
+  facts5 = each_steps_if (Facts past) (is_quiet past && in_run (stage_of past)) (power_steps powers past ++ letter_steps letters past) (λ h. let quiet = (and_parts (is_quiet past) (in_run (stage_of past)) h).0 in each_append (Facts past) (power_steps powers past) (letter_steps letters past) (news past powers quiet) (calls past letters quiet))
 
-  r6 : Each (Facts past) (due_stops past)
-  r6 = each_steps_if (Facts past) (not (wish_stands past)) (stops_among (record_ids past) past) (λ _. stops_all (record_ids past) past)
+  facts6 : Each (Facts past) (due_stops past)
+  facts6 = each_steps_if (Facts past) (not (wish_stands past)) (stops_among (record_ids past) past) (λ _. stops_all (record_ids past) past)
 
-  r7 : Each (Facts past) (due_starts past)
-  r7 = each_steps_if (Facts past) (not (wish_stands past) && none_excluded past) (starts_among (table_of past) past) (λ h. starts past (not_is (list_any (is_excluded past) (kept past)) (and_parts (not (wish_stands past)) (none_excluded past) h).1) (table_of past))
+  facts7 : Each (Facts past) (due_starts past)
+  facts7 = each_steps_if (Facts past) (not (wish_stands past) && none_excluded past) (starts_among (table_of past) past) (λ h. starts past (not_is (list_any (is_excluded past) (kept past)) (and_parts (not (wish_stands past)) (none_excluded past) h).1) (table_of past))
 
-  r8 : Each (Facts past) (due_stage goal past)
-  r8 = each_steps_if (Facts past) (is_over past) (next_stage (goal_of goal past) (stage_of past)) (λ h. stages past (over_quiet past h) (goal_of goal past) (stage_of past))
+  facts8 : Each (Facts past) (due_stage goal past)
+  facts8 = each_steps_if (Facts past) (is_over past) (next_stage (goal_of goal past) (stage_of past)) (λ h. stages past (over_quiet past h) (goal_of goal past) (stage_of past))
 
-  r9 : Each (Facts past) (due_settle past)
-  r9 = each_steps_if (Facts past) (not (wish_stands past) && is_idle past && not (is_announced past)) (settle_step (stage_of past) past) (λ h. settles past (and_parts (not (wish_stands past)) (is_idle past) (and_parts (not (wish_stands past) && is_idle past) (not (is_announced past)) h).0).1 (stage_of past))
+  facts9 : Each (Facts past) (due_settle past)
+  facts9 = each_steps_if (Facts past) (not (wish_stands past) && is_idle past && not (is_announced past)) (settle_step (stage_of past) past) (λ h. settles past (and_parts (not (wish_stands past)) (is_idle past) (and_parts (not (wish_stands past) && is_idle past) (not (is_announced past)) h).0).1 (stage_of past))
 
-  r10 : Each (Facts past) (due_looks past)
-  r10 = looks past (record_ids past)
+  facts10 : Each (Facts past) (due_looks past)
+  facts10 = looks past (record_ids past)
 
 order_same : (past : List Event) (id : List ℕ) (ask : Ask) (i : List ℕ) (given : Ask) → id ≡ i → ask ≡ given → OrderFacts (table_of past) past i given → OrderFacts (table_of past) past id ask
 order_same past id ask i given is same may =

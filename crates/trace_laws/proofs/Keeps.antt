@@ -10,6 +10,7 @@ use Rattle.init_words.specs.declared.actions.Act.TheVariants as act
 use Rattle.init_words.specs.declared.levels.Mark.{Mark}
 use Rattle.init_words.specs.declared.stages.Stage.{Stage}
 use Rattle.init_words.specs.declared.stages.Stage.TheVariants as stage
+use Rattle.init_words.specs.declared.children.Status.{Status}
 use Rattle.init_words.specs.declared.orders.Ask.{Ask}
 use Rattle.init_words.specs.declared.orders.Ask.TheVariants.{Start, Look, Term, Kill}
 use Rattle.init_words.specs.Ids.{same_id}
@@ -20,7 +21,7 @@ use Rattle.init_trace.specs.declared.happenings.Happening.TheVariants.{NewTable,
 use Rattle.init_trace.specs.declared.steps.Step.TheVariants as step
 use Rattle.init_trace.specs.declared.steps.Goal.{Goal}
 use Rattle.init_trace.specs.Event.{Event}
-use Rattle.init_trace.specs.Past.{table_of, stage_of, Child, is_of, is_child, has_number, has_child, born, unreaped, kept, known, open_of, undone_of, is_untold, is_quiet, is_dead}
+use Rattle.init_trace.specs.Past.{table_of, stage_of, grace_of, time_of, Child, is_of, is_child, has_number, has_child, born, unreaped, kept, known, open_of, undone_of, is_untold, is_quiet, is_dead}
 use Rattle.init_trace.specs.Wanted.{starts_in, is_order, is_asked, is_called, wanted_by, is_wanted, is_owed, entries_before, is_owed_before, may_live, is_excluded}
 use Rattle.init_trace.specs.Spells.{stop_due, stop_by, is_missed, spell_hits}
 use Rattle.init_trace.specs.Lawful.{is_placed, may_term}
@@ -73,6 +74,17 @@ no_signal id ask past quiet is signal = both_ways (same_ask Look ask) (quiet_loo
 pub undone_some : (ask : Ask) (id : List ℕ) (past : List Event) → is_order ask (undone_of id past) ≡ true → is_some (open_of id past) ≡ true
 undone_some ask id past h = ap is_some (undone_is_open id ask past (is_order-is ask (undone_of id past) h))
 
+-- a birth came on an undone Start, a reaping on an undone Look
+pub start_undone : (goal : Goal) (id : List ℕ) (n : ℕ) (past : List Event) → may_come goal (Birth id n) past ≡ true → is_order Start (undone_of id past) ≡ true
+start_undone goal id n past may = (and_parts (is_order Start (undone_of id past)) (not (list_any (has_number n) (unreaped past))) may).0
+
+pub look_undone : (goal : Goal) (id : List ℕ) (n : ℕ) (status : Status) (past : List Event) → may_come goal (Reaped id n status) past ≡ true → (is_order Look (undone_of id past) ≡ true) × (list_any (is_child id n) (unreaped past) ≡ true)
+look_undone goal id n status past may = and_parts (is_order Look (undone_of id past)) (list_any (is_child id n) (unreaped past)) (and_parts (is_order Look (undone_of id past) && list_any (is_child id n) (unreaped past)) (is_dead id n past) may).0
+
+-- so its id was ready for it
+pub born_ready : (goal : Goal) (id : List ℕ) (n : ℕ) (past : List Event) → may_come goal (Birth id n) past ≡ true → Holds past → Ready id past
+born_ready goal id n past may holds = holds.ready id (is_order-is Start (undone_of id past) (start_undone goal id n past may))
+
 signal_some : (id : List ℕ) (past : List Event) → (is_order Term (undone_of id past) || is_order Kill (undone_of id past)) ≡ true → is_some (open_of id past) ≡ true
 signal_some id past h = or_either (is_order Term (undone_of id past)) (is_order Kill (undone_of id past)) h (undone_some Term id past) (undone_some Kill id past)
 
@@ -89,9 +101,9 @@ told_keeps goal (Told i) past may id before h = at_id (same_id id i) h where
   at_id : (b : Bool) → (not b && is_untold id past) ≡ true → is_some (cond b None (open_of id past)) ≡ true
   at_id true h = absurd (false≢true h)
   at_id false h = before h
-told_keeps goal (Birth i n) past may id before h = act_told id i past before (undone_some Start i past (and_parts (is_order Start (undone_of i past)) (not (list_any (has_number n) (unreaped past))) may).0) h
+told_keeps goal (Birth i n) past may id before h = act_told id i past before (undone_some Start i past (start_undone goal i n past may)) h
 told_keeps goal (NoBirth i) past may id before h = act_told id i past before (undone_some Start i past may) h
-told_keeps goal (Reaped i n status) past may id before h = act_told id i past before (undone_some Look i past (and_parts (is_order Look (undone_of i past)) (list_any (is_child i n) (unreaped past)) (and_parts (is_order Look (undone_of i past) && list_any (is_child i n) (unreaped past)) (is_dead i n past) may).0).0) h
+told_keeps goal (Reaped i n status) past may id before h = act_told id i past before (undone_some Look i past (look_undone goal i n status past may).0) h
 told_keeps goal (Still i) past may id before h = act_told id i past before (undone_some Look i past may) h
 told_keeps goal (NoLook i) past may id before h = act_told id i past before (undone_some Look i past may) h
 told_keeps goal (Hit i) past may id before h = act_told id i past before (signal_some i past may) h
@@ -240,7 +252,7 @@ ready_start : (i : List ℕ) (past : List Event) → is_distinct (table_of past)
 ready_start i past distinct may = record { childless = may.run.childless; placed = run_placed i past may.run distinct; ahead = ahead_less i (Asked i Start) past distinct (λ e found. owed_asked e i past (run_wanted i past may.run distinct e found)) may.run.ahead; spared = may.spared }
 
 -- the field ready
-start_stays : (b : Bool) (ask : Ask) (o : Option Ask) → same_ask Start ask ≡ false → cond b (Some ask) o ≡ Some Start → o ≡ Some Start
+pub start_stays : (b : Bool) (ask : Ask) (o : Option Ask) → same_ask Start ask ≡ false → cond b (Some ask) o ≡ Some Start → o ≡ Some Start
 start_stays true ask o other h = both_ways (same_ask Start ask) (ap (same_ask Start) (same_Some ask Start h)) other
 start_stays false ask o other h = h
 
@@ -302,7 +314,7 @@ ready_keeps goal (Enter s grace) past may holds id h = elim (due_facts goal past
 ready_keeps goal (Call letter) past may holds id h = no_start id past (due_facts goal past (step.Call letter) may) h
 ready_keeps goal (Power kind) past may holds id h = no_start id past (due_facts goal past (step.Power kind) may) h
 ready_keeps goal (Asked i ask) past may holds id h = ready_asked goal i ask past may holds.distinct id (holds.ready id) h
-ready_keeps goal (Birth i n) past may holds id h = ready_birth goal i n past (and_parts (is_order Start (undone_of i past)) (not (list_any (has_number n) (unreaped past))) may).0 holds id h
+ready_keeps goal (Birth i n) past may holds id h = ready_birth goal i n past (start_undone goal i n past may) holds id h
 ready_keeps goal (Told i) past may holds id h = ready_told i past holds id h
 ready_keeps goal (NoBirth i) past may holds id h = same_ready id (NoBirth i) past refl refl refl refl (act_ready id past (same_id id i) h (holds.ready id))
 ready_keeps goal (Reaped i n status) past may holds id h = same_ready id (Reaped i n status) past refl refl refl refl (act_ready id past (same_id id i) h (holds.ready id))
@@ -314,7 +326,7 @@ ready_keeps goal happening past may holds id h = same_ready id happening past re
 
 -- the field stopping
 pub stop_excluded : (child : Child) (ask : Ask) (past : List Event) → stop_due child past ≡ Some ask → is_excluded past child ≡ true
-stop_excluded child ask past h = at_child (is_excluded past child) (is_missed child past) (stop_by _ _ (spell_hits child past)) h where
+stop_excluded child ask past h = at_child (is_excluded past child) (is_missed child past) (stop_by (grace_of past) (time_of past) (spell_hits child past)) h where
   at_child : (b c : Bool) (o : Option Ask) → cond (b && not c) o None ≡ Some ask → b ≡ true
   at_child true c o h = refl
   at_child false c o h = absurd (none-some ask h)
@@ -360,7 +372,7 @@ distinct_keeps goal (_) past may distinct = distinct
 
 dawn_keeps : (goal : Goal) (happening : Event) (past : List Event) → may_come goal happening past ≡ true → Holds past → stage_of (happening ∷ past) ≡ None → list_any (λ (child : Child). true) (kept (happening ∷ past)) ≡ false
 dawn_keeps goal (Enter s grace) past may holds h = absurd (none-some s (sym h))
-dawn_keeps goal (Birth i n) past may holds h = not_placed i past h (holds.ready i (is_order-is Start (undone_of i past) (and_parts (is_order Start (undone_of i past)) (not (list_any (has_number n) (unreaped past))) may).0)).placed
+dawn_keeps goal (Birth i n) past may holds h = not_placed i past h (born_ready goal i n past may holds).placed
 dawn_keeps goal (Told i) past may holds h = falsely (list_any (λ (child : Child). true) (kept (Told i ∷ past))) (list_any (λ (child : Child). true) (kept past)) (kept_before_told (λ child. true) i past) (holds.dawn h)
 dawn_keeps goal (_) past may holds h = holds.dawn h
 

@@ -113,7 +113,7 @@ kills_less goal (Miss i) past may other child = add_less _ _ _ _ (spell_same (in
 kills_less goal happening past may other child = add_less _ _ _ _ (spell_same (in_spell child happening past) (spell_hits child past)) (le_refl (other_kills child.id past))
 
 -- where nothing of an id is untold, no Hit of it is
-hits_told : (id : List ℕ) (past : List Event) → is_untold id past ≡ false → untold_hits id past ≡ []
+pub hits_told : (id : List ℕ) (past : List Event) → is_untold id past ≡ false → untold_hits id past ≡ []
 hits_told id [] h = refl
 hits_told id (Told i ∷ past) h = at_id (same_id id i) h (hits_told id past) where
   at_id : (b : Bool) → (not b && is_untold id past) ≡ false → (is_untold id past ≡ false → untold_hits id past ≡ []) → cond b [] (untold_hits id past) ≡ []

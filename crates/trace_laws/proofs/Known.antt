@@ -1,22 +1,25 @@
 -- What init reads of its kept children off the known ones.
-use Rattle.std.proofs.Common.{◌≡◌, ◌≤◌, refl, sym, ◌∙◌, ap, ℕ, Bool, true, false, not, ◌&&◌, ◌||◌, List, ◌∷◌, filter, length, Option, Some, None, lit≤, ◌⊎◌, inl, inr}
+use Rattle.std.proofs.Common.{is_none, ◌≡◌, ◌≤◌, refl, sym, ◌∙◌, ap, ℕ, Bool, true, false, not, ◌&&◌, ◌||◌, List, ◌∷◌, filter, length, Option, Some, None, lit≤, ◌⊎◌, inl, inr}
 use Rattle.std.specs.List.{list_any}
-use Rattle.std.proofs.lemmas.Bool.{false≢true, and_parts, and_from}
+use Rattle.std.proofs.lemmas.Bool.{and_right, false≢true, and_parts, and_from}
+use Rattle.init_words.specs.declared.entries.Entry.{Entry}
 use Rattle.init_words.specs.declared.orders.Ask.{Ask}
 use Rattle.init_words.specs.declared.orders.Ask.TheVariants.{Start, Look, Term, Kill}
 use Rattle.init_words.specs.Ids.{same_id}
+use Rattle.init_words.specs.Entries.{waited_of}
 use Rattle.inittab_text.specs.Tables.{is_distinct}
 use Rattle.init_trace.specs.declared.happenings.Happening.TheVariants.{NewTable, Enter, Birth, Told}
 use Rattle.init_trace.specs.declared.steps.Goal.{Goal}
 use Rattle.init_trace.specs.declared.steps.Step.TheVariants as step
 use Rattle.init_trace.specs.Event.{Event}
-use Rattle.init_trace.specs.Past.{Child, is_of, has_number, has_child, born, unreaped, kept, known, open_of, undone_of, is_quiet}
-use Rattle.init_trace.specs.Wanted.{is_order, is_excluded}
+use Rattle.init_trace.specs.Past.{Child, is_of, has_child, born, unreaped, kept, known, open_of, is_quiet}
+use Rattle.init_trace.specs.Wanted.{starts_now, is_order, is_asked, is_called, wanted_by, is_wanted, is_owed, is_excluded}
+use Rattle.init_trace.specs.Due.{can_start}
 use Rattle.init_trace.specs.Sound.{may_come, is_sound}
-use Rattle.trace_laws.proofs.Tests.{both_ways, same_tests, or_either, is_order-is, any_less}
+use Rattle.trace_laws.proofs.Tests.{or_true, both_ways, same_tests, or_either, any_less}
 use Rattle.trace_laws.proofs.Orders.{quiet_looks, known_kept, told_any, told_finds, told_same, told_other, same_has}
 use Rattle.trace_laws.proofs.Dues.{due_facts}
-use Rattle.trace_laws.proofs.Keeps.{sound_holds, sound_ind, placed_spared}
+use Rattle.trace_laws.proofs.Keeps.{born_ready, sound_holds, sound_ind, placed_spared}
 use Rattle.trace_laws.proofs.Births.{one_child}
 use Rattle.trace_laws.proofs.Settling.{same_any}
 use Rattle.trace_laws.proofs.Told.{kept_known}
@@ -42,16 +45,31 @@ has_known goal past sound id free = same_has id (kept past) (known past) (kept_k
 -- an id has a kept child or an open Start exactly if it has a known child or an open Start
 pub busy_known : (goal : Goal) (past : List Event) → is_sound goal past ≡ true → (id : List ℕ) → (has_child id (kept past) || is_order Start (open_of id past)) ≡ (has_child id (known past) || is_order Start (open_of id past))
 busy_known goal past sound id = split (is_order Start (open_of id past)) (has_known goal past sound id) where
-  or_true : (b : Bool) → (b || true) ≡ true
-  or_true true = refl
-  or_true false = refl
-
   split : (b : Bool) → (b ≡ false → has_child id (kept past) ≡ has_child id (known past)) → (has_child id (kept past) || b) ≡ (has_child id (known past) || b)
   split true same = or_true (has_child id (kept past)) ∙ sym (or_true (has_child id (known past)))
   split false same = ap (λ b. b || false) (same refl)
 
+-- so what init reads of an entry off its kept children it may read off the known ones: whether it is idle, wanted, owed, can start
+pub idle_known_child : (goal : Goal) (past : List Event) → is_sound goal past ≡ true → (id : List ℕ) → (not (has_child id (kept past)) && not (is_order Start (open_of id past))) ≡ (not (has_child id (known past)) && not (is_order Start (open_of id past)))
+idle_known_child goal past sound id = split (is_order Start (open_of id past)) (has_known goal past sound id) where
+  split : (b : Bool) → (b ≡ false → has_child id (kept past) ≡ has_child id (known past)) → (not (has_child id (kept past)) && not b) ≡ (not (has_child id (known past)) && not b)
+  split true same = and_right (not (has_child id (kept past))) false refl ∙ sym (and_right (not (has_child id (known past))) false refl)
+  split false same = ap (λ b. not b && true) (same refl)
+
+pub wanted_known : (goal : Goal) (past : List Event) → is_sound goal past ≡ true → (e : Entry) → is_wanted e past ≡ (starts_now e past && wanted_by e.act (not (has_child e.id (known past)) && not (is_order Start (open_of e.id past))) (not (is_asked e.id past)) (is_called e past))
+wanted_known goal past sound e = ap (λ idle. starts_now e past && wanted_by e.act idle (not (is_asked e.id past)) (is_called e past)) (idle_known_child goal past sound e.id)
+
+pub owed_known : (goal : Goal) (past : List Event) → is_sound goal past ≡ true → (e : Entry) → is_owed e past ≡ (waited_of e && (has_child e.id (known past) || is_order Start (open_of e.id past) || is_wanted e past))
+owed_known goal past sound e = ap (λ busy. waited_of e && (busy || is_wanted e past)) (busy_known goal past sound e.id)
+
+pub can_start_known : (goal : Goal) (past : List Event) → is_sound goal past ≡ true → (e : Entry) → can_start e past ≡ (is_wanted e past && not (has_child e.id (known past)) && is_none (open_of e.id past))
+can_start_known goal past sound e = read (open_of e.id past) refl where
+  read : (o : Option Ask) → open_of e.id past ≡ o → (is_wanted e past && not (has_child e.id (kept past)) && is_none o) ≡ (is_wanted e past && not (has_child e.id (known past)) && is_none o)
+  read None is = ap (λ b. is_wanted e past && not b && true) (has_known goal past sound e.id (ap (is_order Start) is))
+  read (Some ask) is = and_right (is_wanted e past && not (has_child e.id (kept past))) false refl ∙ sym (and_right (is_wanted e past && not (has_child e.id (known past))) false refl)
+
 -- an excluded child that is kept is known: one whose birth is not told is not excluded
-excluded_told : (goal : Goal) (past : List Event) → is_sound goal past ≡ true → (q : Child → Bool) → list_any (λ child. is_excluded past child && q child) (kept past) ≡ true → list_any (λ child. is_excluded past child && q child) (known past) ≡ true
+pub excluded_told : (goal : Goal) (past : List Event) → is_sound goal past ≡ true → (q : Child → Bool) → list_any (λ child. is_excluded past child && q child) (kept past) ≡ true → list_any (λ child. is_excluded past child && q child) (known past) ≡ true
 excluded_told goal past h = sound_ind goal (λ before. (q : Child → Bool) → list_any (λ child. is_excluded before child && q child) (kept before) ≡ true → list_any (λ child. is_excluded before child && q child) (known before) ≡ true) (λ table distinct q there. there) next past h where
   at_quiet : (before : List Event) → is_sound goal before ≡ true → is_quiet before ≡ true → (p : Child → Bool) → list_any p (kept before) ≡ true → list_any p (known before) ≡ true
   at_quiet before sound quiet p there = same_any p (kept before) (known before) (quiet_known goal before sound quiet) there
@@ -59,7 +77,7 @@ excluded_told goal past h = sound_ind goal (λ before. (q : Child → Bool) → 
   next : (happening : Event) (before : List Event) → may_come goal happening before ≡ true → is_sound goal before ≡ true → ((q : Child → Bool) → list_any (λ child. is_excluded before child && q child) (kept before) ≡ true → list_any (λ child. is_excluded before child && q child) (known before) ≡ true) → (q : Child → Bool) → list_any (λ child. is_excluded (happening ∷ before) child && q child) (kept (happening ∷ before)) ≡ true → list_any (λ child. is_excluded (happening ∷ before) child && q child) (known (happening ∷ before)) ≡ true
   next (NewTable table) before may sound rest q there = at_quiet before sound (and_parts (is_quiet before) (is_distinct table) may).0 (λ child. is_excluded (NewTable table ∷ before) child && q child) there
   next (Enter s grace) before may sound rest q there = elim (due_facts goal before (step.Enter s grace) may) [ inl quiet ↦ at_quiet before sound quiet (λ child. is_excluded (Enter s grace ∷ before) child && q child) there | inr dawn ↦ both_ways (list_any (λ (child : Child). true) (kept before)) (any_less (λ child. is_excluded (Enter s grace ∷ before) child && q child) (λ child. true) (λ child _. refl) (kept before) there) ((sound_holds goal before sound).dawn dawn) ]
-  next (Birth i n) before may sound rest q there = or_either (is_excluded before (born i n before) && q (born i n before)) (list_any (λ child. is_excluded before child && q child) (kept before)) there (λ here. both_ways (is_excluded before (born i n before)) (and_parts (is_excluded before (born i n before)) (q (born i n before)) here).0 (placed_spared i n before ((sound_holds goal before sound).ready i (is_order-is Start (undone_of i before) (and_parts (is_order Start (undone_of i before)) (not (list_any (has_number n) (unreaped before))) may).0)).placed)) (rest q)
+  next (Birth i n) before may sound rest q there = or_either (is_excluded before (born i n before) && q (born i n before)) (list_any (λ child. is_excluded before child && q child) (kept before)) there (λ here. both_ways (is_excluded before (born i n before)) (and_parts (is_excluded before (born i n before)) (q (born i n before)) here).0 (placed_spared i n before (born_ready goal i n before may (sound_holds goal before sound)).placed)) (rest q)
   next (Told i) before may sound rest q there = told_finds excluded i (unreaped before) (known before) (read (told_any excluded i (unreaped before) (kept before) there)) where
     excluded : Child → Bool
     excluded child = is_excluded before child && q child

@@ -1,6 +1,6 @@
 -- A sound trace is lawful.
-use Rattle.std.proofs.Common.{◌≡◌, refl, ℕ, Bool, true, not, cond, List, [], Some, None, is_none}
-use Rattle.std.proofs.lemmas.Bool.{and_from}
+use Rattle.std.proofs.Common.{◌≡◌, ◌∷◌, refl, ℕ, Bool, true, not, cond, List, [], Some, None, is_none}
+use Rattle.std.proofs.lemmas.Bool.{and_parts, and_from}
 use Rattle.init_words.specs.declared.orders.Ask.TheVariants.{Start, Look, Term, Kill}
 use Rattle.init_trace.specs.declared.happenings.Happening.TheVariants.{Birth, Settle, Asked, Hold}
 use Rattle.init_trace.specs.declared.steps.Goal.{Goal}
@@ -8,7 +8,8 @@ use Rattle.init_trace.specs.Event.{Event}
 use Rattle.init_trace.specs.Past.{unreaped}
 use Rattle.init_trace.specs.Due.{is_settled}
 use Rattle.init_trace.specs.Sound.{may_come, is_sound}
-use Rattle.init_trace.specs.Lawful.{is_alone, is_placed, is_in_turn, are_spared, is_free, is_due_hold, may_term, may_kill, broken, is_lawful}
+use Rattle.init_trace.specs.Lawful.{is_alone, is_placed, is_in_turn, are_spared, is_free, is_due_hold, may_term, may_kill, broken, is_lawful, first_breach}
+use Rattle.trace_laws.proofs.Tests.{is_none-is}
 use Rattle.trace_laws.proofs.Keeps.{sound_ind}
 use Rattle.trace_laws.proofs.Births.{birth_alone, birth_placed, birth_in_turn, birth_spared}
 use Rattle.trace_laws.proofs.Settling.{settle_settled}
@@ -36,3 +37,10 @@ unbroken goal _ past may sound = refl
 
 pub sound_lawful : (goal : Goal) (past : List Event) → is_sound goal past ≡ true → is_lawful past ≡ true
 sound_lawful goal past h = sound_ind goal (λ before. is_lawful before ≡ true) (λ table distinct. refl) (λ happening before may sound lawful. and_from (is_none (broken happening before)) (is_lawful before) (unbroken goal happening before may sound) lawful) past h
+
+-- a lawful trace has no first breach
+pub lawful_unbroken : (past : List Event) → is_lawful past ≡ true → first_breach past ≡ None
+lawful_unbroken [] h = refl
+lawful_unbroken (happening ∷ past) h =
+    let parts = and_parts (is_none (broken happening past)) (is_lawful past) h in
+    rw (lawful_unbroken past parts.1, is_none-is (broken happening past) parts.0) refl

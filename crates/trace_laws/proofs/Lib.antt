@@ -15,3 +15,6 @@ pub mod Kills
 pub mod Pairs
 pub mod Warnings
 pub mod Known
+pub mod Records
+pub mod Spells
+pub mod Runs

@@ -1,5 +1,5 @@
 -- Lemmas on tests, and on lists filtered by them.
-use Rattle.std.proofs.Common.{◌≡◌, refl, sym, ◌∙◌, ap, inl, inr, ℕ, Bool, true, false, not, ◌&&◌, ◌||◌, cond, List, [], ◌∷◌, filter, Option, Some, None, is_some, is_none, eq-eqb}
+use Rattle.std.proofs.Common.{◌≡◌, refl, sym, ◌∙◌, ap, inl, inr, ℕ, Bool, true, false, not, ◌&&◌, ◌||◌, cond, List, [], ◌∷◌, filter, Option, Some, None, is_none, eq-eqb}
 use Rattle.std.specs.List.{list_any, list_all}
 use Rattle.std.proofs.lemmas.Bool.{false≢true, false_from_ne_true, and_parts, and_from, or_cases, or_left, or_right, or_parts, or_from, eqb-true}
 use Rattle.std.proofs.lemmas.Option.{same_Some}
@@ -39,6 +39,14 @@ not_is false h = refl
 pub not_from : (b : Bool) → b ≡ false → not b ≡ true
 not_from true h = sym h
 not_from false h = refl
+
+pub or_true : (b : Bool) → (b || true) ≡ true
+or_true true = refl
+or_true false = refl
+
+pub and_true : (b : Bool) → (b && true) ≡ b
+and_true true = refl
+and_true false = refl
 
 pub or_false : (b : Bool) → (b || false) ≡ b
 or_false true = refl
@@ -106,10 +114,6 @@ pub is_none-is : {X : Type 0} (o : Option X) → is_none o ≡ true → o ≡ No
 is_none-is None h = refl
 is_none-is (Some x) h = absurd (false≢true h)
 
-pub found_some : {X : Type 0} (o : Option X) → is_some o ≡ false → o ≡ None
-found_some None h = refl
-found_some (Some x) h = absurd (false≢true (sym h))
-
 -- a test over a list
 pub any_less : {X : Type 0} (p q : X → Bool) → ((x : X) → p x ≡ true → q x ≡ true) → (xs : List X) → list_any p xs ≡ true → list_any q xs ≡ true
 any_less p q less [] h = h
@@ -146,12 +150,6 @@ passing {X} p (x ∷ xs) h = or_either (p x) (list_any p xs) h here (λ more. la
 
   later : Passing p xs → Passing p (x ∷ xs)
   later rest = record { item = rest.item; passes = rest.passes; within = λ q is. or_right (q x) (list_any q xs) (rest.within q is) }
-
-pub all_at : {X : Type 0} (p q : X → Bool) (xs : List X) → list_all p xs ≡ true → ((x : X) → p x ≡ true → q x ≡ false) → list_any q xs ≡ false
-all_at p q [] h none = refl
-all_at p q (x ∷ xs) h none =
-    let parts = and_parts (p x) (list_all p xs) h in
-    or_from (q x) (list_any q xs) (none x parts.0) (all_at p q xs parts.1 none)
 
 -- filters
 pub any_filter : {X : Type 0} (p q : X → Bool) (xs : List X) → list_any p (filter q xs) ≡ list_any (λ x. q x && p x) xs

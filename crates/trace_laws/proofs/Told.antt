@@ -17,7 +17,7 @@ use Rattle.init_trace.specs.declared.happenings.Happening.TheVariants.{NewTable,
 use Rattle.init_trace.specs.declared.steps.Goal.{Goal}
 use Rattle.init_trace.specs.declared.steps.Step.TheVariants as step
 use Rattle.init_trace.specs.Event.{Event}
-use Rattle.init_trace.specs.Past.{table_of, Child, is_of, is_child, has_number, has_child, born, unreaped, kept, known, open_of, undone_of, is_untold, open_orders, is_quiet, is_dead}
+use Rattle.init_trace.specs.Past.{table_of, Child, is_of, is_child, has_child, born, unreaped, kept, known, open_of, undone_of, is_untold, open_orders, is_quiet}
 use Rattle.init_trace.specs.Wanted.{starts_now, is_order, is_excluded}
 use Rattle.init_trace.specs.Answered.{answered_of, child_after}
 use Rattle.init_trace.specs.Due.{is_due}
@@ -28,7 +28,7 @@ use Rattle.trace_laws.specs.Tables.{keeps_table}
 use Rattle.trace_laws.proofs.Tests.{both_ways, falsely, or_either, same_id-is, same_id-self, is_order-is, any_filtered, any_less, any_none, filter_none}
 use Rattle.trace_laws.proofs.Orders.{cleared, undone_is_open, quiet_looks, open_listed, told_same, told_other, reaped_other, told_known, known_kept, kept_before_told}
 use Rattle.trace_laws.proofs.Dues.{MayStop, due_facts}
-use Rattle.trace_laws.proofs.Keeps.{sound_holds, sound_ind, asked_free, free_told, placed_spared, entry_listed}
+use Rattle.trace_laws.proofs.Keeps.{start_undone, look_undone, born_ready, sound_holds, sound_ind, asked_free, free_told, placed_spared, entry_listed}
 use Rattle.trace_laws.proofs.Births.{is_table, sound_step, one_child}
 
 -- an id with no open Start: its kept children are the known ones
@@ -37,7 +37,7 @@ kept_known goal past h = sound_ind goal (λ before. (id : List ℕ) → is_order
   next : (happening : Event) (before : List Event) → may_come goal happening before ≡ true → is_sound goal before ≡ true → ((id : List ℕ) → is_order Start (open_of id before) ≡ false → filter (is_of id) (kept before) ≡ filter (is_of id) (known before)) → (id : List ℕ) → is_order Start (open_of id (happening ∷ before)) ≡ false → filter (is_of id) (kept (happening ∷ before)) ≡ filter (is_of id) (known (happening ∷ before))
   next (Birth i n) before may sound same id free = at_id (same_id id i) refl where
     started : open_of i before ≡ Some Start
-    started = undone_is_open i Start before (is_order-is Start (undone_of i before) (and_parts (is_order Start (undone_of i before)) (not (list_any (has_number n) (unreaped before))) may).0)
+    started = undone_is_open i Start before (is_order-is Start (undone_of i before) (start_undone goal i n before may))
 
     at_id : (b : Bool) → same_id id i ≡ b → cond b (born i n before ∷ filter (is_of id) (kept before)) (filter (is_of id) (kept before)) ≡ filter (is_of id) (known before)
     at_id true own = both_ways (is_order Start (open_of id before)) (ap (λ x. is_order Start (open_of x before)) (same_id-is id i own) ∙ ap (is_order Start) started) free
@@ -89,12 +89,6 @@ undone_answers id ask past x h is = ap (λ o. option_map_or (answers x) o false)
 
 signal_answers : (id : List ℕ) (past : List Event) (x : Answer) → (is_order Term (undone_of id past) || is_order Kill (undone_of id past)) ≡ true → answers x Term ≡ true → answers x Kill ≡ true → Answers id past x
 signal_answers id past x h term kill = or_either (is_order Term (undone_of id past)) (is_order Kill (undone_of id past)) h (λ g. undone_answers id Term past x g term) (λ g. undone_answers id Kill past x g kill)
-
-look_undone : (goal : Goal) (i : List ℕ) (n : ℕ) (status : _) (past : List Event) → may_come goal (Reaped i n status) past ≡ true → (is_order Look (undone_of i past) ≡ true) × (list_any (is_child i n) (unreaped past) ≡ true)
-look_undone goal i n status past may = and_parts (is_order Look (undone_of i past)) (list_any (is_child i n) (unreaped past)) (and_parts (is_order Look (undone_of i past) && list_any (is_child i n) (unreaped past)) (is_dead i n past) may).0
-
-start_undone : (goal : Goal) (i : List ℕ) (n : ℕ) (past : List Event) → may_come goal (Birth i n) past ≡ true → is_order Start (undone_of i past) ≡ true
-start_undone goal i n past may = (and_parts (is_order Start (undone_of i past)) (not (list_any (has_number n) (unreaped past))) may).0
 
 pub answers_open : (goal : Goal) (past : List Event) → is_sound goal past ≡ true → (id : List ℕ) (given : Answer) → answered_of id past ≡ Some given → option_map_or (answers given) (open_of id past) false ≡ true
 answers_open goal past h = sound_ind goal (λ before. (id : List ℕ) (given : Answer) → answered_of id before ≡ Some given → Answers id before given) (λ table distinct id given is. absurd (none-some given is)) next past h where
@@ -180,7 +174,7 @@ find_none : (p : Child → Bool) (xs : List Child) → list_any p xs ≡ false �
 find_none p xs h = find_first p xs ∙ ap first_of (filter_none p xs h)
 
 -- while an answer is under way, the unreaped child of the id is the one that the answer says
-answered_child : (goal : Goal) (past : List Event) → is_sound goal past ≡ true → (id : List ℕ) (given : Answer) → answered_of id past ≡ Some given → find (is_of id) (unreaped past) ≡ child_after id past given (find (is_of id) (known past))
+pub answered_child : (goal : Goal) (past : List Event) → is_sound goal past ≡ true → (id : List ℕ) (given : Answer) → answered_of id past ≡ Some given → find (is_of id) (unreaped past) ≡ child_after id past given (find (is_of id) (known past))
 answered_child goal past h = sound_ind goal (λ before. (id : List ℕ) (given : Answer) → answered_of id before ≡ Some given → find (is_of id) (unreaped before) ≡ child_after id before given (find (is_of id) (known before))) (λ table distinct id given is. absurd (none-some given is)) next past h where
   next : (happening : Event) (before : List Event) → may_come goal happening before ≡ true → is_sound goal before ≡ true → ((id : List ℕ) (given : Answer) → answered_of id before ≡ Some given → find (is_of id) (unreaped before) ≡ child_after id before given (find (is_of id) (known before))) → (id : List ℕ) (given : Answer) → answered_of id (happening ∷ before) ≡ Some given → find (is_of id) (unreaped (happening ∷ before)) ≡ child_after id (happening ∷ before) given (find (is_of id) (known (happening ∷ before)))
   next (NewTable table) before may sound rest id given is = rest id given is ∙ sym (quiet_after id (NewTable table ∷ before) before given (find (is_of id) (known before)) (and_parts (is_quiet before) (is_distinct table) may).0 (answers_open goal before sound id given is))
@@ -220,7 +214,7 @@ record InTable (past : List Event) : Type 0 where
   orders : (id : List ℕ) (ask : Ask) → open_of id past ≡ Some ask → list_any (has_id id) (table_of past) ≡ true
   children : (id : List ℕ) → has_child id (kept past) ≡ true → list_any (has_id id) (table_of past) ≡ true
 
-stop_known : (id : List ℕ) (ask : Ask) (past : List Event) → MayStop id ask past → has_child id (known past) ≡ true
+pub stop_known : (id : List ℕ) (ask : Ask) (past : List Event) → MayStop id ask past → has_child id (known past) ≡ true
 stop_known id ask past may = may.within (is_of id) may.own
 
 asked_in_table : (goal : Goal) (i : List ℕ) (ask : Ask) (past : List Event) → is_due goal (step.Order i ask) past ≡ true → InTable past → list_any (has_id i) (table_of past) ≡ true
@@ -238,7 +232,7 @@ orders_keep goal (Asked i given) past may other rest id ask h = at_id (same_id i
 orders_keep goal (Told i) past may other rest id ask h = cleared (same_id id i) (open_of id past) ask (λ differ is. rest.orders id ask is) h
 orders_keep goal (_) past may other rest id ask h = rest.orders id ask h
 
-placed_listed : (id : List ℕ) (past : List Event) → is_placed id past ≡ true → list_any (has_id id) (table_of past) ≡ true
+pub placed_listed : (id : List ℕ) (past : List Event) → is_placed id past ≡ true → list_any (has_id id) (table_of past) ≡ true
 placed_listed id past h = found (entry_of id (table_of past)) refl h where
   found : (o : Option Entry) → entry_of id (table_of past) ≡ o → option_map_or (λ e. starts_now e past) o false ≡ true → list_any (has_id id) (table_of past) ≡ true
   found None is h = absurd (false≢true h)
@@ -246,7 +240,7 @@ placed_listed id past h = found (entry_of id (table_of past)) refl h where
 
 children_keep : (goal : Goal) (happening : Event) (past : List Event) → may_come goal happening past ≡ true → is_table happening ≡ false → is_sound goal past ≡ true → InTable past → (id : List ℕ) → has_child id (kept (happening ∷ past)) ≡ true → list_any (has_id id) (table_of (happening ∷ past)) ≡ true
 children_keep goal (NewTable table) past may other sound rest id h = absurd (false≢true (sym other))
-children_keep goal (Birth i n) past may other sound rest id h = or_either (same_id id i) (has_child id (kept past)) h (λ same. ap (λ x. list_any (has_id x) (table_of past)) (same_id-is id i same) ∙ placed_listed i past ((sound_holds goal past sound).ready i (is_order-is Start (undone_of i past) (start_undone goal i n past may))).placed) (rest.children id)
+children_keep goal (Birth i n) past may other sound rest id h = or_either (same_id id i) (has_child id (kept past)) h (λ same. ap (λ x. list_any (has_id x) (table_of past)) (same_id-is id i same) ∙ placed_listed i past (born_ready goal i n past may (sound_holds goal past sound)).placed) (rest.children id)
 children_keep goal (Told i) past may other sound rest id h = rest.children id (kept_before_told (is_of id) i past h)
 children_keep goal (_) past may other sound rest id h = rest.children id h
 

@@ -17,3 +17,13 @@ answers Hit Kill = true
 answers Miss Term = true
 answers Miss Kill = true
 answers _ _ = false
+
+-- a signal was sent
+abbrev pub is_hit : Answer → Bool
+is_hit Hit = true
+is_hit _ = false
+
+-- a signal could not be sent
+abbrev pub is_miss : Answer → Bool
+is_miss Miss = true
+is_miss _ = false

@@ -5,7 +5,8 @@
 //! What init knows of its children, corrected by the answers under way, is the children that the system has.
 //! The respawn limit holds at each start, and the signals that stop a child come in their order and time.
 //!
-//! A trace is a list of happenings, the newest first: `later ++ past` is a trace, looked at in the moment after `past`.
+//! The words of the contract are those of `init_trace`. A trace is a list of happenings, the newest first:
+//! `later ++ past` is a trace, looked at in the moment after `past`.
 //! The laws stand for all readings of the clock, one set back among them, and across every hand-over of init's state.
 #![tactic(auto)]
 
@@ -50,22 +51,22 @@ pub fn law_agreement()
     // a TERM goes to an excluded child, a KILL to one to which a TERM was sent in its spell at least the grace ago
     ensures termed { (goal : Goal) (later past : List Event) (id : List ℕ) → IsTrue (is_sound goal (later ++ Asked id Term ∷ past)) → IsTrue (may_term id past) }
     ensures killed { (goal : Goal) (later past : List Event) (id : List ℕ) → IsTrue (is_sound goal (later ++ Asked id Kill ∷ past)) → IsTrue (may_kill id past) }
-    // the same of two happenings: the order of a KILL, and the telling of a TERM that was sent to the child
+    // the same, of two happenings: the order of a KILL, and the telling of a TERM that was sent to the child
     ensures warned { (goal : Goal) (later past : List Event) (id : List ℕ) → IsTrue (is_sound goal (later ++ Asked id Kill ∷ past)) → Warned id past }
-    // of eleven starts of an entry that the respawn limit holds for, with no new stage and no table between, the last is at least two minutes
-    // after the first, and a start is at least five minutes after a hold
-    ensures paced { (goal : Goal) (later past : List Event) (id : List ℕ) → IsTrue (is_sound goal (later ++ Asked id Start ∷ past)) → IsTrue (keeps_pace (Asked id Start) past) }
-    // the same of two happenings: a start that comes after another with nine between them, and a start that comes after a hold
-    ensures eleven { (goal : Goal) (later between past : List Event) (id : List ℕ) → IsTrue (is_sound goal (later ++ Asked id Start ∷ (between ++ Asked id Start ∷ past))) → IsTrue (is_steady between) → 9 ≤ count_starts id between → IsTrue (is_limited_id id past) → time_of past + 120 ≤ time_of (between ++ Asked id Start ∷ past) }
-    ensures rested { (goal : Goal) (later between past : List Event) (id : List ℕ) → IsTrue (is_sound goal (later ++ Asked id Start ∷ (between ++ Hold id ∷ past))) → IsTrue (is_steady between) → time_of past + 300 ≤ time_of (between ++ Hold id ∷ past) }
-    // a signal that is sent reaches the child that was known at its order, which is still unreaped and excluded
-    ensures on_target { (goal : Goal) (later past : List Event) (id : List ℕ) → IsTrue (is_sound goal (later ++ Hit id ∷ past)) → IsTrue (hits_its_own (Hit id) past) }
-    // the same of two happenings: an order, and the Hit that comes after it with no other order about the id between
-    ensures on_order { (goal : Goal) (later between past : List Event) (id : List ℕ) (ask : Ask) → IsTrue (is_sound goal (later ++ Hit id ∷ (between ++ Asked id ask ∷ past))) → list_any (is_order_of id) between ≡ false → IsTrue (has_child id (known past)) × IsTrue (list_all (λ child. is_excluded (between ++ Asked id ask ∷ past) child && is_unreaped id child.number (between ++ Asked id ask ∷ past)) (filter (is_of id) (known past))) }
-    // of each unreaped child at most one sent KILL is told in a spell
-    ensures killed_once { (goal : Goal) (later past : List Event) → IsTrue (is_sound goal (later ++ past)) → IsTrue (kills_once past) }
     // so no happening of a sound trace breaks a law
     ensures lawful { (goal : Goal) (trace : List Event) → IsTrue (is_sound goal trace) → IsTrue (is_lawful trace) }
     // at any moment the unreaped children, as pairs of id and number, are the known ones, less those whose end is not told, with those whose birth is not told
     ensures agreement { (goal : Goal) (later past : List Event) (id : List ℕ) (n : ℕ) → IsTrue (is_sound goal (later ++ past)) → Agrees id n past }
+    // of eleven starts of an entry that the respawn limit holds for, with no new stage and no table between, the last is at least two minutes
+    // after the first, and a start is at least five minutes after a hold
+    ensures paced { (goal : Goal) (later past : List Event) (id : List ℕ) → IsTrue (is_sound goal (later ++ Asked id Start ∷ past)) → IsTrue (keeps_pace (Asked id Start) past) }
+    // the same, of two happenings: a start that comes after another with nine between them, and a start that comes after a hold
+    ensures eleven { (goal : Goal) (later between past : List Event) (id : List ℕ) → IsTrue (is_sound goal (later ++ Asked id Start ∷ (between ++ Asked id Start ∷ past))) → IsTrue (is_steady between) → 9 ≤ count_starts id between → IsTrue (is_limited_id id past) → time_of past + 120 ≤ time_of (between ++ Asked id Start ∷ past) }
+    ensures rested { (goal : Goal) (later between past : List Event) (id : List ℕ) → IsTrue (is_sound goal (later ++ Asked id Start ∷ (between ++ Hold id ∷ past))) → IsTrue (is_steady between) → time_of past + 300 ≤ time_of (between ++ Hold id ∷ past) }
+    // a signal that is sent reaches the child that was known at its order, which is still unreaped and excluded
+    ensures on_target { (goal : Goal) (later past : List Event) (id : List ℕ) → IsTrue (is_sound goal (later ++ Hit id ∷ past)) → IsTrue (hits_its_own (Hit id) past) }
+    // the same, of two happenings: an order, and the Hit that comes after it with no other order about the id between
+    ensures on_order { (goal : Goal) (later between past : List Event) (id : List ℕ) (ask : Ask) → IsTrue (is_sound goal (later ++ Hit id ∷ (between ++ Asked id ask ∷ past))) → list_any (is_order_of id) between ≡ false → IsTrue (has_child id (known past)) × IsTrue (list_all (λ child. is_excluded (between ++ Asked id ask ∷ past) child && is_unreaped id child.number (between ++ Asked id ask ∷ past)) (filter (is_of id) (known past))) }
+    // of each unreaped child at most one sent KILL is told in a spell
+    ensures killed_once { (goal : Goal) (later past : List Event) → IsTrue (is_sound goal (later ++ past)) → IsTrue (kills_once past) }
 {}

@@ -1,3 +1,4 @@
+use Rattle.level_core.proofs.Working.{work_falls}
 use Rattle.std.proofs.Common.{◌∙◌}
 use Rattle.level_core.proofs.FirstDue.{decide_due}
 use Rattle.level_core.proofs.Taming.{tame}
@@ -9,3 +10,6 @@ returns-clause-due g c goal past sound one fits = c.advance.ensures.step ∙ dec
 
 pub returns-clause-fits : goal.returns-clause-fits
 returns-clause-fits g c goal past sound one fits = rw (c.advance.ensures.state, c.advance.ensures.step) (fits_step goal past c.args.self.now sound one fits)
+
+pub returns-clause-falls : goal.returns-clause-falls
+returns-clause-falls g c goal past sound one fits busy = rw (c.advance.ensures.state, c.advance.ensures.step) (work_falls goal past c.args.self.now sound one fits (rw c.advance.ensures.step at busy))

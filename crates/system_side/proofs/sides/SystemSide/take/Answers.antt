@@ -1,0 +1,11 @@
+use Rattle.std.specs.Prelude.{Result, Ok, Err, OnOk}
+use Rattle.system_side.proofs.Taking.{follows_after}
+use Rattle.system_side.proofs.sides.SystemSide.take.Goals as goal
+
+-- what three clauses say together of the same `Ok`
+three : {T E : Type 0} (r : Result T E) (P Q R S : Type 0) → (P → Q → R → S) → OnOk r P → OnOk r Q → OnOk r R → OnOk r S
+three (Ok x) P Q R S f p q t = f p q t
+three (Err e) P Q R S f p q t = tt
+
+pub returns-clause-ok : goal.returns-clause-ok
+returns-clause-ok g c = three c.enter.result _ _ _ _ (λ orders answers children goal past sound fits. follows_after goal c.args.happening.now past c.args.self.now c.enter.new.self orders answers children sound fits) c.enter.ensures.orders c.enter.ensures.answers c.enter.ensures.children

@@ -1,0 +1,239 @@
+ghost use Rattle.std.specs.Prelude.{◌≡◌, OnOk, OnErr};
+
+use indexmap::IndexMap;
+use init_trace::{Happening, HappeningIn};
+use init_words::{Answer, Ask, ChildNo, Id, Memory};
+use std::alloc::{Allocator, Global};
+use std::hash::{BuildHasherDefault, FoldHasher};
+use std::marker::Model;
+
+/// A child that is not reaped: the id that it was born for, and whether it died.
+#[derive(Clone, Copy)]
+pub struct Process {
+    pub id: Id,
+    pub is_dead: bool,
+}
+
+/// What the system holds between two happenings: the orders on which nothing was done, the acts that were not told,
+/// and the unreaped children.
+#[derive(Drop)]
+pub struct SystemSide<A: Allocator = Global> {
+    orders: IndexMap<Id, Ask, BuildHasherDefault<FoldHasher>, A>,
+    answers: IndexMap<Id, Answer, BuildHasherDefault<FoldHasher>, A>,
+    children: IndexMap<u32, Process, BuildHasherDefault<FoldHasher>, A>,
+}
+
+impl<A: Allocator> Model for SystemSide<A> {
+    ghost use Rattle.system_side.specs.State.{State};
+
+    ghost Value = { State };
+
+    ghost view = { λ side. record { orders = side.orders.entries; answers = side.answers.entries; children = side.children.entries } };
+}
+
+impl<A: Allocator + Copy> SystemSide<A> {
+    ghost use Rattle.std.specs.Prelude.{List, [], ◌∷◌};
+    ghost use Rattle.init_words.specs.declared.entries.Entry.{Entry};
+    ghost use Rattle.init_trace.specs.declared.happenings.Happening.TheVariants.{NewTable};
+    ghost use Rattle.system_side.specs.State.{State, empty};
+    ghost use Rattle.system_side.specs.Follows.{Follows};
+
+    /// The system before init's first step: it fits the trace that is a table alone. It takes no memory.
+    pub fn new(alloc: A) -> SystemSide<A>
+        ensures { (table : List Entry) → Follows result (NewTable table ∷ []) }
+    {
+        SystemSide::empty(alloc)
+    }
+
+    fn empty(alloc: A) -> SystemSide<A>
+        ensures { result ≡ empty }
+    {
+        SystemSide {
+            orders: IndexMap::new(alloc),
+            answers: IndexMap::new(alloc),
+            children: IndexMap::new(alloc),
+        }
+    }
+}
+
+impl<A: Allocator> SystemSide<A> {
+    ghost use Rattle.std.specs.Prelude.{ℕ, List, ◌∷◌, false, ◌&&◌, IsTrue, IsOk};
+    ghost use Rattle.init_trace.specs.declared.steps.Goal.{Goal};
+    ghost use Rattle.init_trace.specs.Event.{Event};
+    ghost use Rattle.init_trace.specs.Answered.{answered_of};
+    ghost use Rattle.init_trace.specs.Sound.{may_come, is_sound};
+    ghost use Rattle.init_trace.specs.Wanted.{is_order};
+    ghost use Rattle.init_words.specs.declared.orders.Answer.TheVariants.{Born};
+    ghost use Rattle.system_side.specs.State.{order_in, answer_in, child_in, is_living_in, is_dead_in, without, with, with_child, with_death};
+    ghost use Rattle.system_side.specs.Steps.{is_script, needs_memory, allowed, order_after, answer_after, child_after};
+    ghost use Rattle.system_side.specs.Follows.{Follows};
+
+    /// The happening may come next, and is one of the system or of the edge: an act on an order, a death, a telling, a
+    /// nudge or a reading of the clock. A step of init is never allowed.
+    pub fn allows<B: Allocator>(&self, happening: &HappeningIn<B>) -> bool
+        ensures may_come { (goal : Goal) (past : List Event) → IsTrue (is_sound goal past) → Follows self.now past
+            → result ≡ (is_script happening.now && may_come goal happening.now past) }
+        ensures other { is_script happening.now ≡ false → result ≡ false }
+    {
+        self.allows_by(happening)
+    }
+
+    fn allows_by<B: Allocator>(&self, happening: &HappeningIn<B>) -> bool
+        ensures { result ≡ allowed self.now happening.now }
+    {
+        match happening {
+            Happening::Birth(id, number) => {
+                self.is_undone(id, Ask::Start) && self.children.get(&number.0).is_none()
+            }
+            Happening::NoBirth(id) => self.is_undone(id, Ask::Start),
+            Happening::Death(number) => self.is_living(*number),
+            Happening::Reaped(id, number, _) => {
+                self.is_undone(id, Ask::Look) && self.is_dead(id, *number)
+            }
+            Happening::Still(id) | Happening::NoLook(id) => self.is_undone(id, Ask::Look),
+            Happening::Hit(id) | Happening::Miss(id) => {
+                self.is_undone(id, Ask::Term) || self.is_undone(id, Ask::Kill)
+            }
+            Happening::Told(id) => self.answers.get(id).is_some(),
+            Happening::Nudge | Happening::Clock(_) => true,
+            _ => false,
+        }
+    }
+
+    /// An order of this kind waits for the system at the id.
+    fn is_undone(&self, id: &Id, ask: Ask) -> bool
+        ensures { result ≡ is_order ask (order_in id.now self.now) }
+    {
+        match self.orders.get(id) {
+            Some(given) => *given == ask,
+            None => false,
+        }
+    }
+
+    fn is_living(&self, number: ChildNo) -> bool
+        ensures { result ≡ is_living_in number self.now }
+    {
+        match self.children.get(&number.0) {
+            Some(child) => !child.is_dead,
+            None => false,
+        }
+    }
+
+    fn is_dead(&self, id: &Id, number: ChildNo) -> bool
+        ensures { result ≡ is_dead_in id.now number self.now }
+    {
+        match self.children.get(&number.0) {
+            Some(child) => *id == child.id && child.is_dead,
+            None => false,
+        }
+    }
+
+    /// The answer under way to the id's order: what the system did for it that was not told.
+    pub fn answer(&self, id: &Id) -> Option<Answer>
+        ensures { (past : List Event) → Follows self.now past → result ≡ answered_of id.now past }
+    {
+        self.answer_held(id)
+    }
+
+    fn answer_held(&self, id: &Id) -> Option<Answer>
+        ensures { result ≡ answer_in id.now self.now }
+    {
+        self.answers.get(id).copied()
+    }
+
+    /// Takes a happening in, whichever it is: the state fits the longer trace. Without the memory for it the state is
+    /// as it was; only an order and an act may want memory.
+    pub fn take<B: Allocator>(&mut self, happening: &HappeningIn<B>) -> Result<(), Memory>
+        ensures ok { OnOk result ((goal : Goal) (past : List Event) → IsTrue (is_sound goal (happening.now ∷ past))
+            → Follows self.old past → Follows self.new (happening.now ∷ past)) }
+        ensures err { OnErr result (self.new ≡ self.old) }
+        ensures succeeds { needs_memory happening.now ≡ false → IsOk result }
+    {
+        self.enter(happening)
+    }
+
+    fn enter<B: Allocator>(&mut self, happening: &HappeningIn<B>) -> Result<(), Memory>
+        ensures orders { OnOk result ((id : List ℕ) → order_in id self.new ≡ order_after happening.now id (order_in id self.old)) }
+        ensures answers { OnOk result ((id : List ℕ) → answer_in id self.new ≡ answer_after happening.now id (answer_in id self.old)) }
+        ensures children { OnOk result ((number : ℕ) → child_in number self.new ≡ child_after happening.now number (child_in number self.old)) }
+        ensures err { OnErr result (self.new ≡ self.old) }
+        ensures succeeds { needs_memory happening.now ≡ false → IsOk result }
+    {
+        match happening {
+            Happening::Asked(id, ask) => {
+                self.orders.insert(*id, *ask)?;
+                Ok(())
+            }
+            Happening::Birth(id, number) => self.birth(*id, *number),
+            Happening::NoBirth(id) => self.act(*id, Answer::NotBorn),
+            Happening::Death(number) => {
+                self.death(*number);
+                Ok(())
+            }
+            Happening::Reaped(id, number, status) => {
+                self.act(*id, Answer::Ended(*status))?;
+                self.children.swap_remove(&number.0);
+                Ok(())
+            }
+            Happening::Still(id) => self.act(*id, Answer::Alive),
+            Happening::NoLook(id) => self.act(*id, Answer::NoLook),
+            Happening::Hit(id) => self.act(*id, Answer::Hit),
+            Happening::Miss(id) => self.act(*id, Answer::Miss),
+            Happening::Told(id) => {
+                self.tell(id);
+                Ok(())
+            }
+            _ => Ok(()),
+        }
+    }
+
+    /// The system acts on the id's order: the order is done, and its answer under way.
+    fn act(&mut self, id: Id, answer: Answer) -> Result<(), Memory>
+        ensures orders { OnOk result ((other : List ℕ) → order_in other self.new ≡ without other id (order_in other self.old)) }
+        ensures answers { OnOk result ((other : List ℕ) → answer_in other self.new ≡ with other id answer (answer_in other self.old)) }
+        ensures children { self.new.children ≡ self.old.children }
+        ensures err { OnErr result (self.new ≡ self.old) }
+    {
+        self.answers.insert(id, answer)?;
+        self.orders.swap_remove(&id);
+        Ok(())
+    }
+
+    /// A child is born: there is room for its answer before it is put down.
+    fn birth(&mut self, id: Id, number: ChildNo) -> Result<(), Memory>
+        ensures orders { OnOk result ((other : List ℕ) → order_in other self.new ≡ without other id (order_in other self.old)) }
+        ensures answers { OnOk result ((other : List ℕ) → answer_in other self.new ≡ with other id (Born number) (answer_in other self.old)) }
+        ensures children { OnOk result ((other : ℕ) → child_in other self.new ≡ with_child other number id (child_in other self.old)) }
+        ensures err { OnErr result (self.new ≡ self.old) }
+    {
+        self.answers.reserve(1)?;
+        let child = Process { id, is_dead: false };
+        self.children.insert(number.0, child)?;
+        if self.answers.insert(id, Answer::Born(number)).is_err() {
+            unreachable!()
+        }
+        self.orders.swap_remove(&id);
+        Ok(())
+    }
+
+    /// The child of the number, if there is one, is dead from here on.
+    fn death(&mut self, number: ChildNo)
+        ensures orders { self.new.orders ≡ self.old.orders }
+        ensures answers { self.new.answers ≡ self.old.answers }
+        ensures children { (other : ℕ) → child_in other self.new ≡ with_death other number (child_in other self.old) }
+    {
+        if let Some(child) = self.children.get_mut(&number.0) {
+            child.is_dead = true;
+        }
+    }
+
+    /// The id's order is done and told.
+    fn tell(&mut self, id: &Id)
+        ensures orders { (other : List ℕ) → order_in other self.new ≡ without other id.now (order_in other self.old) }
+        ensures answers { (other : List ℕ) → answer_in other self.new ≡ without other id.now (answer_in other self.old) }
+        ensures children { self.new.children ≡ self.old.children }
+    {
+        self.orders.swap_remove(id);
+        self.answers.swap_remove(id);
+    }
+}

@@ -1,0 +1,101 @@
+-- Each open order and each kept child has its place among init's records, whatever tables came.
+use Rattle.std.proofs.Common.{◌≡◌, refl, sym, ◌∙◌, ap, ◌⊎◌, inl, inr, ℕ, Bool, true, false, not, ◌||◌, cond, List, [], ◌∷◌, ◌++◌, filter, Some}
+use Rattle.std.specs.List.{list_any}
+use Rattle.std.proofs.lemmas.Bool.{false≢true, and_parts, or_left, or_right}
+use Rattle.std.proofs.lemmas.Option.{none-some, same_Some}
+use Rattle.std.proofs.lemmas.List.Folds.{list_any-append}
+use Rattle.init_words.specs.declared.entries.Entry.{Entry}
+use Rattle.init_words.specs.declared.orders.Ask.{Ask}
+use Rattle.init_words.specs.declared.orders.Ask.TheVariants.{Start, Look, Term, Kill}
+use Rattle.init_words.specs.Ids.{same_id}
+use Rattle.init_words.specs.Orders.{same_ask}
+use Rattle.inittab_text.specs.Tables.{ids_of, has_id, is_distinct}
+use Rattle.init_trace.specs.declared.happenings.Happening.TheVariants.{NewTable, Asked, Birth, Told}
+use Rattle.init_trace.specs.declared.steps.Goal.{Goal}
+use Rattle.init_trace.specs.declared.steps.Step.TheVariants as step
+use Rattle.init_trace.specs.Event.{Event}
+use Rattle.init_trace.specs.Past.{table_of, is_of, has_child, unreaped, kept, known, open_of, is_quiet}
+use Rattle.init_trace.specs.Due.{is_due, left_ids, record_ids}
+use Rattle.init_trace.specs.Sound.{may_come, is_sound}
+use Rattle.trace_laws.proofs.Tests.{or_either, not_from, same_id-is, any_within}
+use Rattle.trace_laws.proofs.Orders.{cleared, quiet_looks, known_kept, kept_before_told, told_other, same_has}
+use Rattle.trace_laws.proofs.Dues.{due_facts}
+use Rattle.trace_laws.proofs.Keeps.{start_stays, born_ready, sound_holds, sound_ind}
+use Rattle.trace_laws.proofs.Told.{stop_known, placed_listed}
+
+-- an open Look or signal is of an id with a known child
+asked_known : (goal : Goal) (i : List ℕ) (ask : Ask) (past : List Event) → is_due goal (step.Order i ask) past ≡ true → same_ask Start ask ≡ false → has_child i (known past) ≡ true
+asked_known goal i Start past may other = absurd (false≢true (sym other))
+asked_known goal i Look past may other = (due_facts goal past (step.Order i Look) may).there
+asked_known goal i Term past may other = stop_known i Term past (due_facts goal past (step.Order i Term) may)
+asked_known goal i Kill past may other = stop_known i Kill past (due_facts goal past (step.Order i Kill) may)
+
+pub order_known : (goal : Goal) (past : List Event) → is_sound goal past ≡ true → (id : List ℕ) (ask : Ask) → open_of id past ≡ Some ask → same_ask Start ask ≡ false → has_child id (known past) ≡ true
+order_known goal past h = sound_ind goal (λ before. (id : List ℕ) (ask : Ask) → open_of id before ≡ Some ask → same_ask Start ask ≡ false → has_child id (known before) ≡ true) (λ table distinct id ask is other. absurd (none-some ask is)) next past h where
+  next : (happening : Event) (before : List Event) → may_come goal happening before ≡ true → is_sound goal before ≡ true → ((id : List ℕ) (ask : Ask) → open_of id before ≡ Some ask → same_ask Start ask ≡ false → has_child id (known before) ≡ true) → (id : List ℕ) (ask : Ask) → open_of id (happening ∷ before) ≡ Some ask → same_ask Start ask ≡ false → has_child id (known (happening ∷ before)) ≡ true
+  next (Asked i given) before may sound rest id ask is other = at_id (same_id id i) refl is where
+    at_id : (b : Bool) → same_id id i ≡ b → cond b (Some given) (open_of id before) ≡ Some ask → has_child id (known before) ≡ true
+    at_id true same is = ap (λ x. has_child x (known before)) (same_id-is id i same) ∙ asked_known goal i given before may (ap (same_ask Start) (same_Some given ask is) ∙ other)
+    at_id false differ is = rest id ask is other
+  next (Told i) before may sound rest id ask is other = cleared (same_id id i) (open_of id before) ask (λ differ was. same_has id (known (Told i ∷ before)) (known before) (told_other id i (unreaped before) (known before) differ) ∙ rest id ask was other) is
+  next _ before may sound rest id ask is other = rest id ask is other
+
+-- an open Start is of an entry of the table in force
+pub start_in_table : (goal : Goal) (past : List Event) → is_sound goal past ≡ true → (id : List ℕ) → open_of id past ≡ Some Start → list_any (has_id id) (table_of past) ≡ true
+start_in_table goal past h = sound_ind goal (λ before. (id : List ℕ) → open_of id before ≡ Some Start → list_any (has_id id) (table_of before) ≡ true) (λ table distinct id is. absurd (none-some Start is)) next past h where
+  next : (happening : Event) (before : List Event) → may_come goal happening before ≡ true → is_sound goal before ≡ true → ((id : List ℕ) → open_of id before ≡ Some Start → list_any (has_id id) (table_of before) ≡ true) → (id : List ℕ) → open_of id (happening ∷ before) ≡ Some Start → list_any (has_id id) (table_of (happening ∷ before)) ≡ true
+  next (NewTable table) before may sound rest id is = absurd (false≢true (quiet_looks id Start before (and_parts (is_quiet before) (is_distinct table) may).0 is))
+  next (Asked i Start) before may sound rest id is = at_id (same_id id i) refl is where
+    at_id : (b : Bool) → same_id id i ≡ b → cond b (Some Start) (open_of id before) ≡ Some Start → list_any (has_id id) (table_of before) ≡ true
+    at_id true same is = ap (λ x. list_any (has_id x) (table_of before)) (same_id-is id i same) ∙ (due_facts goal before (step.Order i Start) may).run.listed
+    at_id false differ is = rest id is
+  next (Asked i ask) before may sound rest id is = rest id (start_stays (same_id id i) ask (open_of id before) refl is)
+  next (Told i) before may sound rest id is = cleared (same_id id i) (open_of id before) Start (λ differ was. rest id was) is
+  next _ before may sound rest id is = rest id is
+
+-- an id of a table's entries
+ids_listed : (id : List ℕ) (es : List Entry) → list_any (same_id id) (ids_of es) ≡ list_any (has_id id) es
+ids_listed id [] = refl
+ids_listed id (e ∷ es) = ap (λ b. same_id id e.id || b) (ids_listed id es)
+
+-- a kept child is of an entry of the table in force, or its id left the table
+abbrev Listed : List ℕ → List Event → Type 0
+Listed id past = (list_any (has_id id) (table_of past) ≡ true) ⊎ (list_any (same_id id) (left_ids past) ≡ true)
+
+listed_after : (id : List ℕ) (table : List Entry) (past : List Event) → Listed id past → Listed id (NewTable table ∷ past)
+listed_after id table past was = split (list_any (has_id id) table) refl where
+  stays : (x : List ℕ) → list_any (has_id id) table ≡ false → same_id id x ≡ true → not (list_any (has_id x) table) ≡ true
+  stays x gone same = not_from (list_any (has_id x) table) (ap (λ y. list_any (has_id y) table) (sym (same_id-is id x same)) ∙ gone)
+
+  before : Listed id past → list_any (same_id id) (ids_of (table_of past) ++ left_ids past) ≡ true
+  before (inl there) = list_any-append (same_id id) (ids_of (table_of past)) (left_ids past) ∙ or_left (list_any (same_id id) (ids_of (table_of past))) (list_any (same_id id) (left_ids past)) (ids_listed id (table_of past) ∙ there)
+  before (inr left) = list_any-append (same_id id) (ids_of (table_of past)) (left_ids past) ∙ or_right (list_any (same_id id) (ids_of (table_of past))) (list_any (same_id id) (left_ids past)) left
+
+  split : (b : Bool) → list_any (has_id id) table ≡ b → Listed id (NewTable table ∷ past)
+  split true there = inl there
+  split false gone = inr (any_within (same_id id) (λ x. not (list_any (has_id x) table)) (λ x. stays x gone) (ids_of (table_of past) ++ left_ids past) ∙ before was)
+
+child_listed : (goal : Goal) (past : List Event) → is_sound goal past ≡ true → (id : List ℕ) → has_child id (kept past) ≡ true → Listed id past
+child_listed goal past h = sound_ind goal (λ before. (id : List ℕ) → has_child id (kept before) ≡ true → Listed id before) (λ table distinct id there. absurd (false≢true there)) next past h where
+  next : (happening : Event) (before : List Event) → may_come goal happening before ≡ true → is_sound goal before ≡ true → ((id : List ℕ) → has_child id (kept before) ≡ true → Listed id before) → (id : List ℕ) → has_child id (kept (happening ∷ before)) ≡ true → Listed id (happening ∷ before)
+  next (NewTable table) before may sound rest id there = listed_after id table before (rest id there)
+  next (Birth i n) before may sound rest id there = or_either (same_id id i) (has_child id (kept before)) there (λ same. inl (ap (λ x. list_any (has_id x) (table_of before)) (same_id-is id i same) ∙ placed_listed i before (born_ready goal i n before may (sound_holds goal before sound)).placed)) (rest id)
+  next (Told i) before may sound rest id there = rest id (kept_before_told (is_of id) i before there)
+  next _ before may sound rest id there = rest id there
+
+-- each known child has a record
+pub child_in_records : (goal : Goal) (past : List Event) → is_sound goal past ≡ true → (id : List ℕ) → has_child id (known past) ≡ true → list_any (same_id id) (record_ids past) ≡ true
+child_in_records goal past sound id there = list_any-append (same_id id) (ids_of (table_of past)) (filter (λ x. has_child x (known past)) (left_ids past)) ∙ read (child_listed goal past sound id (known_kept (is_of id) past there)) where
+  own : (x : List ℕ) → same_id id x ≡ true → has_child x (known past) ≡ true
+  own x same = ap (λ y. has_child y (known past)) (sym (same_id-is id x same)) ∙ there
+
+  read : Listed id past → (list_any (same_id id) (ids_of (table_of past)) || list_any (same_id id) (filter (λ x. has_child x (known past)) (left_ids past))) ≡ true
+  read (inl in_table) = or_left (list_any (same_id id) (ids_of (table_of past))) (list_any (same_id id) (filter (λ x. has_child x (known past)) (left_ids past))) (ids_listed id (table_of past) ∙ in_table)
+  read (inr left) = or_right (list_any (same_id id) (ids_of (table_of past))) (list_any (same_id id) (filter (λ x. has_child x (known past)) (left_ids past))) (any_within (same_id id) (λ x. has_child x (known past)) own (left_ids past) ∙ left)
+
+-- each open order has a record
+pub open_in_records : (goal : Goal) (past : List Event) → is_sound goal past ≡ true → (id : List ℕ) (ask : Ask) → open_of id past ≡ Some ask → list_any (same_id id) (record_ids past) ≡ true
+open_in_records goal past sound id Start is = list_any-append (same_id id) (ids_of (table_of past)) (filter (λ x. has_child x (known past)) (left_ids past)) ∙ or_left (list_any (same_id id) (ids_of (table_of past))) (list_any (same_id id) (filter (λ x. has_child x (known past)) (left_ids past))) (ids_listed id (table_of past) ∙ start_in_table goal past sound id is)
+open_in_records goal past sound id Look is = child_in_records goal past sound id (order_known goal past sound id Look is refl)
+open_in_records goal past sound id Term is = child_in_records goal past sound id (order_known goal past sound id Term is refl)
+open_in_records goal past sound id Kill is = child_in_records goal past sound id (order_known goal past sound id Kill is refl)
