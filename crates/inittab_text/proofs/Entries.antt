@@ -52,7 +52,7 @@ found_none : (id : List ℕ) (x : Entry) (b : Bool) (o : Option Entry) → cond 
 found_none id x true o is = absurd (cc)
 found_none id x false o is = (refl, is)
 
-is_distinct-push : (es : List Entry) (e : Entry) → is_distinct es ≡ true → entry_of e.id es ≡ None → is_distinct (es ++ e ∷ []) ≡ true
+pub is_distinct-push : (es : List Entry) (e : Entry) → is_distinct es ≡ true → entry_of e.id es ≡ None → is_distinct (es ++ e ∷ []) ≡ true
 is_distinct-push [] e distinct new = refl
 is_distinct-push (x ∷ es) e distinct new =
     let parts = and_parts (not (list_any (has_id x.id) es)) (is_distinct es) distinct in

@@ -1,4 +1,5 @@
 pub mod CutLemmas
+pub mod Distinct
 pub mod Entries
 pub mod MarkLemmas
 pub mod ReadLemmas

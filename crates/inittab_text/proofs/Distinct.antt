@@ -1,0 +1,30 @@
+-- What is read has each id once.
+use Rattle.std.proofs.Common.{◌≡◌, true, List, [], ◌∷◌, Option, Some, None, Result, Ok, Err, refl, sym, ap, ◌∙◌, ℕ}
+use Rattle.init_words.specs.declared.entries.Entry.{Entry}
+use Rattle.inittab_text.specs.declared.faults.LineKind.{LineKind}
+use Rattle.inittab_text.specs.Tables.{entry_of, is_distinct}
+use Rattle.inittab_text.specs.Lines.{lines_of}
+use Rattle.inittab_text.specs.Checks.{verdict_of}
+use Rattle.inittab_text.specs.Reading.{entries_after, entries_from, table_of_text}
+use Rattle.inittab_text.proofs.Entries.{is_distinct-push}
+use Rattle.inittab_text.proofs.ReadLemmas.{passed}
+
+new_entry : (before : List Entry) (line : List ℕ) (e : Entry) → verdict_of before line ≡ Ok (Some e) → entry_of e.id before ≡ None
+new_entry before line e is =
+    let all = passed before line e is in
+    let h = all.3 in
+    let id : e.id ≡ all.0.id = ap (λ (x : Entry). x.id) h.is in
+    rw id h.new
+
+distinct_after : (before : List Entry) (v : Result (Option Entry) LineKind) → ((e : Entry) → v ≡ Ok (Some e) → entry_of e.id before ≡ None) → is_distinct before ≡ true → is_distinct (entries_after before v) ≡ true
+distinct_after before (Ok (Some e)) new distinct = is_distinct-push before e distinct (new e refl)
+distinct_after before (Ok None) new distinct = distinct
+distinct_after before (Err kind) new distinct = distinct
+
+distinct_from : (before : List Entry) (lines : List (List ℕ)) → is_distinct before ≡ true → is_distinct (entries_from before lines) ≡ true
+distinct_from before [] distinct = distinct
+distinct_from before (line ∷ lines) distinct = distinct_from (entries_after before (verdict_of before line)) lines (distinct_after before (verdict_of before line) (new_entry before line) distinct)
+
+-- the table of a text has each id once
+pub distinct_text : (text : List ℕ) → is_distinct (table_of_text text) ≡ true
+distinct_text text = distinct_from [] (lines_of text) refl

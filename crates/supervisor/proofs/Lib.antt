@@ -1,0 +1,5 @@
+pub mod Hearing
+pub mod Many
+pub mod Moves
+pub mod Numbers
+pub mod Whole

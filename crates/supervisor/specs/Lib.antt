@@ -1,0 +1,3 @@
+pub mod Moments
+pub mod Script
+pub mod Simulation

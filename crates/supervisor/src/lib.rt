@@ -1,0 +1,8 @@
+//! The edge of init: a run of it over a script of what the system did, and the program `initd`.
+#![tactic(auto)]
+
+mod running;
+mod script;
+
+pub use running::{SimFault, simulate, write_text};
+pub use script::read_line;
