@@ -1,3 +1,4 @@
 pub mod Moments
 pub mod Script
 pub mod Simulation
+pub mod Statuses
