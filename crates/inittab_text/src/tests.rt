@@ -58,6 +58,24 @@ inittab line 5: duplicate id
 }
 
 #[test]
+fn the_earlier_of_two_is_left(rt: HostRuntime) -> Result<(), Fail> {
+    let text = b"toolong:3:once:x
+a:3:bogus:x
+a:3:respawn:
+b:3:respawn:y
+b:2:wait:x
+";
+    let told = "inittab line 1: bad id
+inittab line 2: unknown action
+inittab line 3: no process
+inittab line 5: duplicate id
+";
+    assert_eq!(rt; faults_of(rt.alloc(), text)?.as_str(), told);
+    assert_eq!(rt; written(rt.alloc(), text)?.as_slice(), b"b:3:respawn:y\n".as_slice());
+    Ok(())
+}
+
+#[test]
 fn each_check(rt: HostRuntime) -> Result<(), Fail> {
     let text = b"# a comment::
  \t# another
