@@ -1,0 +1,6 @@
+pub mod Blocks
+pub mod Forms
+pub mod Headers
+pub mod HeaderText
+pub mod Keywords
+pub mod Lines

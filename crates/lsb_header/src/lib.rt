@@ -1,0 +1,18 @@
+//! The reader of the comment block at the head of an init script (LSB Core 5.0, System Initialization): what the
+//! script provides, what it needs, the runlevels where it starts and stops, and its two descriptions.
+#![tactic(auto)]
+
+mod blocks;
+mod checks;
+mod cuts;
+mod faults;
+mod forms;
+mod headers;
+mod keywords;
+mod pieces;
+#[cfg(test)]
+mod tests;
+
+pub use faults::HeaderFault;
+pub use headers::{Header, read};
+pub use keywords::Keyword;

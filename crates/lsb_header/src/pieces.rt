@@ -1,0 +1,111 @@
+ghost use Rattle.std.specs.Prelude.{◌≡◌, ◌++◌, ◌∷◌, [], map, unwrap_or, IfOk, OnOk};
+ghost use Rattle.std.specs.Option.{option_map};
+ghost use Rattle.lsb_header.specs.Lines.{lines_of, trim, words_of};
+ghost use Rattle.lsb_header.specs.Blocks.{args_of, block_of, continued, description_of, level_in, levels_of};
+
+use crate::blocks::block_line;
+use crate::cuts::{next_word, trimmed};
+use crate::forms::{args_in, is_empty_comment, is_indented};
+use crate::keywords::Keyword;
+use init_words::{Level, Memory};
+use std::alloc::Allocator;
+
+/// What stands behind the colon of the header's line of this keyword.
+fn find_args(keyword: Keyword, body: &[u8]) -> Option<&[u8]>
+    ensures { option_map (λ args. args.now) result ≡ args_of keyword (block_of (lines_of body.now)) }
+{
+    let mut rest = body;
+    while let Some((line, more)) = block_line(rest) {
+        if let Some(args) = args_in(keyword, line) {
+            return Some(args);
+        }
+        rest = more;
+    }
+    None
+}
+
+/// The same, and nothing where there is no such line.
+pub(crate) fn args_of(keyword: Keyword, body: &[u8]) -> &[u8]
+    ensures { result.now ≡ unwrap_or (args_of keyword (block_of (lines_of body.now))) [] }
+{
+    match find_args(keyword, body) {
+        Some(args) => args,
+        None => &[],
+    }
+}
+
+/// The words of a text, split at blanks and tabs.
+pub(crate) fn words_of<A: Allocator + Copy>(
+    alloc: A,
+    text: &[u8],
+) -> Result<Vec<Vec<u8, A>, A>, Memory>
+    ensures { IfOk result (λ words. map (λ word. word.items) words.items ≡ words_of text.now) }
+{
+    let mut words = Vec::new(alloc);
+    let mut rest = text;
+    while let Some((word, more)) = next_word(rest) {
+        words.push(Vec::from_slice(alloc, word)?)?;
+        rest = more;
+    }
+    Ok(words)
+}
+
+/// The runlevel of a word, where it is one character that names a runlevel.
+fn level_in(word: &[u8]) -> Option<Level>
+    ensures { result ≡ level_in word.now }
+{
+    match word {
+        [code] => Level::read(*code),
+        _ => None,
+    }
+}
+
+/// The runlevels among the words of a text.
+pub(crate) fn levels_of<A: Allocator>(alloc: A, text: &[u8]) -> Result<Vec<Level, A>, Memory>
+    ensures { IfOk result (λ levels. levels.items ≡ levels_of (words_of text.now)) }
+{
+    let mut levels = Vec::new(alloc);
+    let mut rest = text;
+    while let Some((word, more)) = next_word(rest) {
+        if let Some(level) = level_in(word) {
+            levels.push(level)?;
+        }
+        rest = more;
+    }
+    Ok(levels)
+}
+
+/// Appends what continues a description, each piece with a blank before it.
+fn continue_text<A: Allocator>(text: &mut Vec<u8, A>, body: &[u8]) -> Result<(), Memory>
+    ensures { OnOk result (text.new.items ≡ text.old.items ++ continued (block_of (lines_of body.now))) }
+{
+    let mut rest = body;
+    while let Some((line, more)) = block_line(rest) {
+        if !is_empty_comment(line) {
+            if !is_indented(line) {
+                return Ok(());
+            }
+            text.push(b' ')?;
+            text.extend_from_slice(trimmed(&line[1..]))?;
+        }
+        rest = more;
+    }
+    Ok(())
+}
+
+/// The description, with the lines that continue it.
+pub(crate) fn description_of<A: Allocator>(alloc: A, body: &[u8]) -> Result<Vec<u8, A>, Memory>
+    ensures { IfOk result (λ text. text.items ≡ description_of (block_of (lines_of body.now))) }
+{
+    let mut text = Vec::new(alloc);
+    let mut rest = body;
+    while let Some((line, more)) = block_line(rest) {
+        if let Some(args) = args_in(Keyword::Description, line) {
+            text.extend_from_slice(trimmed(args))?;
+            continue_text(&mut text, more)?;
+            return Ok(text);
+        }
+        rest = more;
+    }
+    Ok(text)
+}

@@ -1,0 +1,2 @@
+pub mod CycleLemmas
+pub mod PassLemmas

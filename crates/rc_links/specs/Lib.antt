@@ -1,0 +1,4 @@
+pub mod Graph
+pub mod Passes
+pub mod ScriptText
+pub mod Scripts

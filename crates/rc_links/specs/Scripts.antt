@@ -1,0 +1,72 @@
+-- What scripts provide and need (LSB Core 5.0). A script is its place in the list, counted from 0.
+use Rattle.std.specs.Prelude.{ℕ, ◌+◌, Bool, false, not, ◌==◌, ◌&&◌, if◌then◌else◌, List, [], ◌∷◌, ◌++◌, map, find, Option, Some, None, is_some}
+use Rattle.std.specs.List.{list_any, filter_map}
+use Rattle.std.specs.Option.{option_or}
+use Rattle.std.specs.Str.{bytes_eq}
+use Rattle.rc_links.specs.ScriptText.{ScriptText}
+
+-- the name is one of these
+abbrev pub has_name : List ℕ → List (List ℕ) → Bool
+has_name name names = list_any (λ other. bytes_eq name other) names
+
+-- the place of the first script that provides the name; the first of these has this place
+abbrev pub place_from : ℕ → List ScriptText → List ℕ → Option ℕ
+place_from place [] name = None
+place_from place (s ∷ scripts) name = if has_name name s.header.provides then Some place else place_from (place + 1) scripts name
+
+-- the place of the script that provides the name
+abbrev pub place_of : List ScriptText → List ℕ → Option ℕ
+place_of scripts name = place_from 0 scripts name
+
+-- a script has the name
+abbrev pub is_named : List ScriptText → List ℕ → Bool
+is_named scripts name = list_any (λ (s : ScriptText). bytes_eq s.name name) scripts
+
+-- what a script provides though an earlier one does, or its name if an earlier one has it
+abbrev pub doubled : List ScriptText → ScriptText → Option (List ℕ)
+doubled before s =
+    option_or (find (λ name. is_some (place_of before name)) s.header.provides)
+    (if is_named before s.name then Some s.name else None)
+
+-- the first name that is provided twice, or stands twice
+abbrev pub double_from : List ScriptText → List ScriptText → Option (List ℕ)
+double_from before [] = None
+double_from before (s ∷ scripts) = option_or (doubled before s) (double_from (before ++ s ∷ []) scripts)
+
+-- a name of the system, which begins with '$'
+abbrev pub is_system : List ℕ → Bool
+is_system [] = false
+is_system (b ∷ name) = b == 36
+
+-- the first of the names that no script provides, those of the system apart
+abbrev pub missing_in : List ScriptText → List (List ℕ) → Option (List ℕ)
+missing_in scripts names = find (λ name. not (is_system name) && not (is_some (place_of scripts name))) names
+
+-- the first required name that is missing, script by script, what starting requires first
+abbrev pub missing_from : List ScriptText → List ScriptText → Option (List ℕ)
+missing_from all [] = None
+missing_from all (s ∷ scripts) =
+    option_or (missing_in all s.header.required_start) (option_or (missing_in all s.header.required_stop) (missing_from all scripts))
+
+-- the places of the scripts that provide these names
+abbrev pub places_of : List ScriptText → List (List ℕ) → List ℕ
+places_of scripts names = filter_map (place_of scripts) names
+
+-- who needs whom to start: a script those whose names it requires or should have; the first of these has this place
+abbrev pub start_from : List ScriptText → ℕ → List ScriptText → List (ℕ × ℕ)
+start_from all place [] = []
+start_from all place (s ∷ scripts) =
+    map (λ other. (place, other)) (places_of all (s.header.required_start ++ s.header.should_start)) ++ start_from all (place + 1) scripts
+
+-- who waits for whom to stop: those whose names a script requires or should have, for the script
+abbrev pub stop_from : List ScriptText → ℕ → List ScriptText → List (ℕ × ℕ)
+stop_from all place [] = []
+stop_from all place (s ∷ scripts) =
+    map (λ other. (other, place)) (places_of all (s.header.required_stop ++ s.header.should_stop)) ++ stop_from all (place + 1) scripts
+
+-- the needs of all scripts, to start and to stop
+abbrev pub start_needs : List ScriptText → List (ℕ × ℕ)
+start_needs scripts = start_from scripts 0 scripts
+
+abbrev pub stop_needs : List ScriptText → List (ℕ × ℕ)
+stop_needs scripts = stop_from scripts 0 scripts

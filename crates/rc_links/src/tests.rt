@@ -1,0 +1,140 @@
+use crate::{Plan, PlanFault, Script, plan};
+use lsb_header::read;
+use std::alloc::Global;
+use std::test::Fail;
+
+/// A script that provides its own name and others, requires names to start and stop, and starts at runlevel 3.
+fn script(alloc: Global, name: &str, provides: &str, needs: &str) -> Result<Script, Fail> {
+    let text = format!(in alloc;
+        "### BEGIN INIT INFO
+# Provides: {name} {provides}
+# Required-Start: {needs}
+# Required-Stop: {needs}
+# Should-Start: absent
+# Default-Start: 3
+### END INIT INFO
+"
+    )?;
+    let header = read(alloc, text.as_bytes()).map_err(|_| Fail::from("header"))?;
+    Ok(Script::new(Vec::from_slice(alloc, name.as_bytes())?, header))
+}
+
+/// What a plan comes to: its text, or its fault.
+fn told(alloc: Global, scripts: &[Script]) -> Result<Vec<u8>, Fail> {
+    let mut text = Vec::new(alloc);
+    match plan(alloc, scripts) {
+        Ok(plan) => return Ok(plan.print(alloc).map_err(|_| Fail::from("memory"))?),
+        Err(PlanFault::Missing(name)) => {
+            text.extend_from_slice(b"missing ")?;
+            text.extend_from_slice(name.as_slice())?;
+        }
+        Err(PlanFault::DoubleProvide(name)) => {
+            text.extend_from_slice(b"double ")?;
+            text.extend_from_slice(name.as_slice())?;
+        }
+        Err(PlanFault::Cycle(names)) => {
+            text.extend_from_slice(b"cycle")?;
+            for name in &names {
+                text.push(b' ')?;
+                text.extend_from_slice(name.as_slice())?;
+            }
+        }
+        Err(PlanFault::TooDeep) => text.extend_from_slice(b"too deep")?,
+        Err(PlanFault::Memory) => text.extend_from_slice(b"memory")?,
+    }
+    Ok(text)
+}
+
+#[test]
+fn three_scripts(rt: HostRuntime) -> Result<(), Fail> {
+    let alloc = rt.alloc();
+    let mut scripts = Vec::new(alloc);
+    scripts.push(script(alloc, "net", "", "$network")?)?;
+    scripts.push(script(alloc, "web", "www", "db")?)?;
+    assert_eq!(rt;
+        told(alloc, scripts.as_slice())?.as_slice(),
+        b"missing db".as_slice()
+    );
+    scripts.push(script(alloc, "db", "", "net")?)?;
+    let want =
+        b"rc3.d/S01net ../init.d/net\nrc3.d/S02db ../init.d/db\nrc3.d/S03web ../init.d/web\n";
+    assert_eq!(rt;
+        told(alloc, scripts.as_slice())?.as_slice(),
+        want.as_slice()
+    );
+    scripts.push(script(alloc, "x", "www", "")?)?;
+    assert_eq!(rt;
+        told(alloc, scripts.as_slice())?.as_slice(),
+        b"double www".as_slice()
+    );
+    Ok(())
+}
+
+/// The start and stop number of a name.
+fn numbers(plan: &Plan, name: &str) -> Option<(u8, u8)> {
+    Some((plan.start_number(name)?, plan.stop_number(name)?))
+}
+
+#[test]
+fn stop_numbers(rt: HostRuntime) -> Result<(), Fail> {
+    let alloc = rt.alloc();
+    let mut scripts = Vec::new(alloc);
+    scripts.push(script(alloc, "net", "", "")?)?;
+    scripts.push(script(alloc, "db", "", "net")?)?;
+    let Ok(plan) = plan(alloc, scripts.as_slice()) else {
+        return Err(Fail::from("no plan"));
+    };
+    assert_eq!(rt; numbers(&plan, "net"), Some((1, 2)));
+    assert_eq!(rt; numbers(&plan, "db"), Some((2, 1)));
+    assert_eq!(rt; numbers(&plan, "web"), None);
+    Ok(())
+}
+
+#[test]
+fn cycles(rt: HostRuntime) -> Result<(), Fail> {
+    let alloc = rt.alloc();
+    let mut scripts = Vec::new(alloc);
+    scripts.push(script(alloc, "top", "", "b")?)?;
+    scripts.push(script(alloc, "a", "", "b")?)?;
+    scripts.push(script(alloc, "b", "", "a")?)?;
+    assert_eq!(rt;
+        told(alloc, scripts.as_slice())?.as_slice(),
+        b"cycle a b".as_slice()
+    );
+    let mut scripts = Vec::new(alloc);
+    scripts.push(script(alloc, "a", "", "a")?)?;
+    assert_eq!(rt;
+        told(alloc, scripts.as_slice())?.as_slice(),
+        b"cycle a".as_slice()
+    );
+    Ok(())
+}
+
+/// Scripts of which each needs the one before.
+fn chain(alloc: Global, count: u32) -> Result<Vec<Script>, Fail> {
+    let mut scripts = Vec::new(alloc);
+    for place in 0..count {
+        let name = format!(in alloc; "s{place}")?;
+        let before = place.wrapping_sub(1);
+        let need = if place == 0 {
+            String::new(alloc)
+        } else {
+            format!(in alloc; "s{before}")?
+        };
+        scripts.push(script(alloc, name.as_str(), "", need.as_str())?)?;
+    }
+    Ok(scripts)
+}
+
+#[test]
+fn chains(rt: HostRuntime) -> Result<(), Fail> {
+    let alloc = rt.alloc();
+    let scripts = chain(alloc, 100)?;
+    assert_eq!(rt;
+        told(alloc, scripts.as_slice())?.as_slice(),
+        b"too deep".as_slice()
+    );
+    let scripts = chain(alloc, 99)?;
+    assert!(rt; plan(alloc, scripts.as_slice()).is_ok());
+    Ok(())
+}
