@@ -71,7 +71,10 @@ inittab line 3: no process
 inittab line 5: duplicate id
 ";
     assert_eq!(rt; faults_of(rt.alloc(), text)?.as_str(), told);
-    assert_eq!(rt; written(rt.alloc(), text)?.as_slice(), b"b:3:respawn:y\n".as_slice());
+    assert_eq!(rt;
+        written(rt.alloc(), text)?.as_slice(),
+        b"b:3:respawn:y\n".as_slice()
+    );
     Ok(())
 }
 

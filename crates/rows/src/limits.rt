@@ -11,13 +11,7 @@ fn passes(alloc: Global, script: &str, trace: &str) -> Result<bool, AllocError> 
     let script = lines(alloc, script)?;
     let trace = lines(alloc, trace)?;
     let mut out: Vec<u8> = Vec::new(alloc);
-    let end = simulate(
-        alloc,
-        b"r:S:respawn:x\n",
-        None,
-        script.as_bytes(),
-        &mut out,
-    );
+    let end = simulate(alloc, b"r:S:respawn:x\n", None, script.as_bytes(), &mut out);
     Ok(end == Ok(()) && out.as_slice() == trace.as_bytes())
 }
 
@@ -67,7 +61,13 @@ fn the_window_of_starts_slides(rt: HostRuntime) -> Result<(), Fail> {
         8,
         " / birth r 7 / told r / clock 120 / nudge / death 7 / reaped r 7 exit 1 / told r / nobirth r / told r",
     )?;
-    let head = repeated(alloc, OPENING, " / ask r start / clock 60 / nobirth r / told r", 1, "")?;
+    let head = repeated(
+        alloc,
+        OPENING,
+        " / ask r start / clock 60 / nobirth r / told r",
+        1,
+        "",
+    )?;
     let trace = repeated(
         alloc,
         head.as_str(),

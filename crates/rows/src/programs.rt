@@ -32,15 +32,33 @@ fn script_faults_are_told(rt: HostRuntime) -> Result<(), Fail> {
     let alloc = rt.alloc();
     fs::write(&rt, "row-table", "")?;
     for (script, status, trace, told) in [
-        ("nudge", 0, "use 0 / enter sysinit 5 / enter S 5 / settle S / nudge", ""),
-        ("birth r 9", 1, OPENED, "initd: script line 1 is not allowed"),
+        (
+            "nudge",
+            0,
+            "use 0 / enter sysinit 5 / enter S 5 / settle S / nudge",
+            "",
+        ),
+        (
+            "birth r 9",
+            1,
+            OPENED,
+            "initd: script line 1 is not allowed",
+        ),
         ("birth r", 1, OPENED, "initd: script line 1 is not a line"),
     ] {
         fs::write(&rt, "row-script", script)?;
         let (ended, out, err) = run(&rt, "simulate row-table row-script")?;
         assert_eq!(rt; ended, status, "at {script:?}");
-        assert_eq!(rt; out.as_slice(), lines(alloc, trace)?.as_bytes(), "at {script:?}");
-        assert_eq!(rt; err.as_slice(), lines(alloc, told)?.as_bytes(), "at {script:?}");
+        assert_eq!(rt;
+            out.as_slice(),
+            lines(alloc, trace)?.as_bytes(),
+            "at {script:?}"
+        );
+        assert_eq!(rt;
+            err.as_slice(),
+            lines(alloc, told)?.as_bytes(),
+            "at {script:?}"
+        );
     }
     fs::remove_file(&rt, "row-table")?;
     fs::remove_file(&rt, "row-script")?;
@@ -66,7 +84,11 @@ fn the_level_is_one_character(rt: HostRuntime) -> Result<(), Fail> {
         row.push_str(level)?;
         let (status, out, err) = run(&rt, line)?;
         assert_eq!(rt; status, 0, "at {line:?}");
-        assert_eq!(rt; out.as_slice(), lines(alloc, row.as_str())?.as_bytes(), "at {line:?}");
+        assert_eq!(rt;
+            out.as_slice(),
+            lines(alloc, row.as_str())?.as_bytes(),
+            "at {line:?}"
+        );
         assert!(rt; err.is_empty(), "at {line:?}");
     }
     fs::remove_file(&rt, "level-table")?;
