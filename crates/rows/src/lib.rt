@@ -9,3 +9,5 @@ mod programs;
 mod rows;
 #[cfg(test)]
 mod texts;
+#[cfg(test)]
+mod writers;
