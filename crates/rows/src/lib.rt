@@ -4,6 +4,8 @@
 #[cfg(test)]
 mod limits;
 #[cfg(test)]
+mod prints;
+#[cfg(test)]
 mod programs;
 #[cfg(test)]
 mod rows;

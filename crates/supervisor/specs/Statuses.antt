@@ -1,5 +1,7 @@
 -- The exit statuses of initd.
 use Rattle.std.specs.Prelude.{ℕ}
+use Rattle.supervisor.specs.declared.command.WordFault.{WordFault}
+use Rattle.supervisor.specs.declared.command.WordFault.TheVariants as word
 use Rattle.supervisor.specs.declared.running.SimFault.{SimFault}
 use Rattle.supervisor.specs.declared.running.SimFault.TheVariants.{Table, Script, Forbidden, Write, Memory}
 
@@ -10,3 +12,8 @@ status_of (Script n) = 1
 status_of (Forbidden n) = 1
 status_of Write = 4
 status_of Memory = 4
+
+-- 1 where the words are no command line, 4 for want of memory
+abbrev pub word_status : WordFault → ℕ
+word_status word.Usage = 1
+word_status word.Memory = 4

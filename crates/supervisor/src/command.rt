@@ -1,15 +1,15 @@
-ghost use Rattle.std.specs.Prelude.{◌≡◌, ◌⊎◌};
+ghost use Rattle.std.specs.Prelude.{◌≡◌, ◌≢◌, ◌⊎◌};
+ghost use Rattle.std.specs.IoError.{error_kind};
 ghost use Rattle.supervisor.specs.declared.running.SimFault.{SimFault};
-ghost use Rattle.supervisor.specs.Statuses.{status_of};
+ghost use Rattle.supervisor.specs.Statuses.{status_of, word_status};
 
 use crate::running::{SimFault, simulate};
-use clap::error::ErrorKind;
-use clap::{Arg, ArgMatches, Command, Error};
+use clap::{Arg, ArgMatches, Command, Error, error};
 use init_words::Level;
 use std::alloc::{AllocError, Global};
 use std::fs::File;
 use std::io;
-use std::io::{Read, Write};
+use std::io::{ErrorKind, Read, Write};
 use std::rt::Files;
 
 /// The command line was carried out.
@@ -115,8 +115,8 @@ fn level_of(word: &str) -> Option<Level> {
     }
 }
 
-fn word_fault(error: &Error) -> WordFault {
-    if error.kind() == ErrorKind::OutOfMemory {
+fn word_fault(fault: &Error) -> WordFault {
+    if fault.kind() == error::ErrorKind::OutOfMemory {
         WordFault::Memory
     } else {
         WordFault::Usage
@@ -158,7 +158,7 @@ fn read_whole<R: Files>(rt: &R, alloc: Global, path: &str) -> io::Result<Vec<u8>
         }
         bytes.extend_from_slice(&part[..taken])?;
     }
-    Err(io::Error::from(io::ErrorKind::FileTooLarge))
+    Err(io::Error::from(ErrorKind::FileTooLarge))
 }
 
 /// The exit status of a run that ended so.
@@ -188,9 +188,10 @@ fn tell_file<E: Write>(path: &str, error: &io::Error, err: &mut E) -> u8
 /// Tells why the command line itself could not be had, and gives the exit status: 4 for want of memory, 1 for a word that
 /// is no text.
 pub fn tell_unread<E: Write>(error: &io::Error, err: &mut E) -> u8
-    ensures { (result ≡ 1) ⊎ (result ≡ 4) }
+    ensures memory { error_kind error.now ≡ ErrorKind.OutOfMemory → result ≡ 4 }
+    ensures text { error_kind error.now ≢ ErrorKind.OutOfMemory → result ≡ 1 }
 {
-    if error.kind() == io::ErrorKind::OutOfMemory {
+    if error.kind() == ErrorKind::OutOfMemory {
         tell_words(&WordFault::Memory, err)
     } else {
         tell_words(&WordFault::Usage, err)
@@ -198,7 +199,7 @@ pub fn tell_unread<E: Write>(error: &io::Error, err: &mut E) -> u8
 }
 
 fn tell_words<E: Write>(fault: &WordFault, err: &mut E) -> u8
-    ensures { (result ≡ 1) ⊎ (result ≡ 4) }
+    ensures { result ≡ word_status fault.now }
 {
     match fault {
         WordFault::Usage => {
