@@ -1,2 +1,5 @@
 pub mod CycleLemmas
+pub mod EdgeLemmas
+pub mod NameLemmas
 pub mod PassLemmas
+pub mod PlanLemmas

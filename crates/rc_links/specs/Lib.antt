@@ -1,4 +1,7 @@
+pub mod Faults
 pub mod Graph
 pub mod Passes
+pub mod PlannedText
+pub mod Plans
 pub mod ScriptText
 pub mod Scripts

@@ -3,6 +3,9 @@ use Rattle.std.specs.Prelude.{ℕ, ◌+◌, Bool, false, not, ◌==◌, ◌&&◌
 use Rattle.std.specs.List.{list_any, filter_map}
 use Rattle.std.specs.Option.{option_or}
 use Rattle.std.specs.Str.{bytes_eq}
+use Rattle.lsb_header.specs.HeaderText.{HeaderText}
+use Rattle.rc_links.specs.declared.edges.Phase.{Phase}
+use Rattle.rc_links.specs.declared.edges.Phase.TheVariants as phase
 use Rattle.rc_links.specs.ScriptText.{ScriptText}
 
 -- the name is one of these
@@ -42,31 +45,35 @@ is_system (b ∷ name) = b == 36
 abbrev pub missing_in : List ScriptText → List (List ℕ) → Option (List ℕ)
 missing_in scripts names = find (λ name. not (is_system name) && not (is_some (place_of scripts name))) names
 
--- the first required name that is missing, script by script, what starting requires first
+-- the first name that a script requires and that is missing, what starting requires first
+abbrev pub missing_of : List ScriptText → ScriptText → Option (List ℕ)
+missing_of scripts s = option_or (missing_in scripts s.header.required_start) (missing_in scripts s.header.required_stop)
+
+-- the first of these, script by script
 abbrev pub missing_from : List ScriptText → List ScriptText → Option (List ℕ)
 missing_from all [] = None
-missing_from all (s ∷ scripts) =
-    option_or (missing_in all s.header.required_start) (option_or (missing_in all s.header.required_stop) (missing_from all scripts))
+missing_from all (s ∷ scripts) = option_or (missing_of all s) (missing_from all scripts)
 
 -- the places of the scripts that provide these names
 abbrev pub places_of : List ScriptText → List (List ℕ) → List ℕ
 places_of scripts names = filter_map (place_of scripts) names
 
--- who needs whom to start: a script those whose names it requires or should have; the first of these has this place
-abbrev pub start_from : List ScriptText → ℕ → List ScriptText → List (ℕ × ℕ)
-start_from all place [] = []
-start_from all place (s ∷ scripts) =
-    map (λ other. (place, other)) (places_of all (s.header.required_start ++ s.header.should_start)) ++ start_from all (place + 1) scripts
+-- the names that a header gives for starting, or for stopping
+abbrev pub named : Phase → HeaderText → List (List ℕ)
+named phase.Start header = header.required_start ++ header.should_start
+named phase.Stop header = header.required_stop ++ header.should_stop
 
--- who waits for whom to stop: those whose names a script requires or should have, for the script
-abbrev pub stop_from : List ScriptText → ℕ → List ScriptText → List (ℕ × ℕ)
-stop_from all place [] = []
-stop_from all place (s ∷ scripts) =
-    map (λ other. (other, place)) (places_of all (s.header.required_stop ++ s.header.should_stop)) ++ stop_from all (place + 1) scripts
+-- who needs whom, where a script names another: to start, it the other; to stop, the other it
+abbrev pub need : Phase → ℕ → ℕ → ℕ × ℕ
+need phase.Start place other = (place, other)
+need phase.Stop place other = (other, place)
 
--- the needs of all scripts, to start and to stop
-abbrev pub start_needs : List ScriptText → List (ℕ × ℕ)
-start_needs scripts = start_from scripts 0 scripts
+-- the needs by the names of each script; the first of these has this place
+abbrev pub needs_from : Phase → List ScriptText → ℕ → List ScriptText → List (ℕ × ℕ)
+needs_from turn all place [] = []
+needs_from turn all place (s ∷ scripts) =
+    map (need turn place) (places_of all (named turn s.header)) ++ needs_from turn all (place + 1) scripts
 
-abbrev pub stop_needs : List ScriptText → List (ℕ × ℕ)
-stop_needs scripts = stop_from scripts 0 scripts
+-- the needs of all scripts, to start or to stop
+abbrev pub needs_of : Phase → List ScriptText → List (ℕ × ℕ)
+needs_of turn scripts = needs_from turn scripts 0 scripts

@@ -1,5 +1,10 @@
-ghost use Rattle.std.specs.Prelude.{◌<◌, ℕ, OnOk, IfOk, length};
+ghost use Rattle.std.specs.Prelude.{◌≡◌, ◌++◌, [], ℕ, List, OnOk, IfOk, length, map};
+ghost use Rattle.std.specs.List.{filter_map, cons_option};
+ghost use Rattle.std.specs.Option.{option_map};
+ghost use Rattle.std.specs.Str.{bytes_eq};
+ghost use Rattle.indexmap.specs.IndexMap.{get_by};
 ghost use Rattle.rc_links.specs.Passes.{InRange};
+ghost use Rattle.rc_links.specs.Scripts.{need, named, needs_of, place_of};
 
 use crate::scripts::Script;
 use crate::tables::{Table, place_at};
@@ -13,54 +18,67 @@ pub(crate) enum Phase {
     Stop,
 }
 
-/// Adds who needs whom, where the script at this place gives these names.
-fn add_names<A: Allocator + Copy, B: Allocator>(
+/// Who needs whom, where the script at this place names another: to start, it the other; to stop, the other it.
+fn need(phase: Phase, place: usize, other: usize) -> (usize, usize)
+    ensures { result ≡ need phase place other }
+{
+    match phase {
+        Phase::Start => (place, other),
+        Phase::Stop => (other, place),
+    }
+}
+
+/// Adds who needs whom by one name, if a script provides it.
+fn add_name<A: Allocator>(
     edges: &mut Vec<(usize, usize), A>,
     phase: Phase,
-    count: usize,
+    place: usize,
+    table: &Table<'_, A>,
+    name: &[u8],
+) -> Result<(), Memory>
+    ensures { OnOk result (edges.new.items ≡ edges.old.items ++ cons_option (option_map (need phase place) (get_by (λ key. bytes_eq name.now key.now) table.now)) []) }
+{
+    if let Some(other) = place_at(table, name) {
+        edges.push(need(phase, place, other))?;
+    }
+    Ok(())
+}
+
+/// Adds who needs whom, where the script at this place gives these names.
+fn add_names<A: Allocator, B: Allocator>(
+    edges: &mut Vec<(usize, usize), A>,
+    phase: Phase,
     place: usize,
     table: &Table<'_, A>,
     names: &[Vec<u8, B>],
 ) -> Result<(), Memory>
-    requires place { place < count }
-    requires range { InRange count edges.old.items }
-    ensures { OnOk result (InRange count edges.new.items) }
+    ensures { OnOk result (edges.new.items ≡ edges.old.items ++ map (need phase place) (filter_map (λ bs. get_by (λ key. bytes_eq bs key.now) table.now) (map (λ w. w.items) names.now))) }
 {
     for name in names {
-        if let Some(other) = place_at(table, name.as_slice()) {
-            if other < count {
-                match phase {
-                    Phase::Start => edges.push((place, other))?,
-                    Phase::Stop => edges.push((other, place))?,
-                }
-            }
-        }
+        add_name(edges, phase, place, table, name.as_slice())?;
     }
     Ok(())
 }
 
 /// Adds who needs whom by the names of a script's header.
-fn add_script<A: Allocator + Copy>(
+fn add_script<A: Allocator>(
     edges: &mut Vec<(usize, usize), A>,
     phase: Phase,
-    scripts: &[Script<A>],
     place: usize,
+    script: &Script<A>,
     table: &Table<'_, A>,
 ) -> Result<(), Memory>
-    requires place { place < length scripts.now }
-    requires range { InRange (length scripts.now) edges.old.items }
-    ensures { OnOk result (InRange (length scripts.now) edges.new.items) }
+    ensures { OnOk result (edges.new.items ≡ edges.old.items ++ map (need phase place) (filter_map (λ bs. get_by (λ key. bytes_eq bs key.now) table.now) (named phase script.now.header))) }
 {
-    let count = scripts.len();
-    let header = scripts[place].header();
+    let header = script.header();
     match phase {
         Phase::Start => {
-            add_names(edges, phase, count, place, table, header.required_start())?;
-            add_names(edges, phase, count, place, table, header.should_start())
+            add_names(edges, phase, place, table, header.required_start())?;
+            add_names(edges, phase, place, table, header.should_start())
         }
         Phase::Stop => {
-            add_names(edges, phase, count, place, table, header.required_stop())?;
-            add_names(edges, phase, count, place, table, header.should_stop())
+            add_names(edges, phase, place, table, header.required_stop())?;
+            add_names(edges, phase, place, table, header.should_stop())
         }
     }
 }
@@ -72,11 +90,13 @@ pub(crate) fn needs<A: Allocator + Copy>(
     scripts: &[Script<A>],
     table: &Table<'_, A>,
 ) -> Result<Vec<(usize, usize), A>, Memory>
-    ensures { IfOk result (λ edges. InRange (length scripts.now) edges.items) }
+    requires { (bs : List ℕ) → get_by (λ key. bytes_eq bs key.now) table.now ≡ place_of scripts.now bs }
+    ensures needs { IfOk result (λ edges. edges.items ≡ needs_of phase scripts.now) }
+    ensures range { IfOk result (λ edges. InRange (length scripts.now) edges.items) }
 {
     let mut edges = Vec::new(alloc);
     for place in 0..scripts.len() {
-        add_script(&mut edges, phase, scripts, place, table)?;
+        add_script(&mut edges, phase, place, &scripts[place], table)?;
     }
     Ok(edges)
 }

@@ -1,5 +1,5 @@
 use init_words::Memory;
-use std::alloc::{Allocator, Global};
+use std::alloc::{AllocFailed, Allocator, Global};
 
 /// Why scripts have no plan: the first check that fails, in this order.
 #[derive(Drop)]
@@ -17,7 +17,23 @@ pub enum PlanFault<A: Allocator = Global> {
 }
 
 impl<A: Allocator> From<Memory> for PlanFault<A> {
+    ghost use Rattle.std.specs.Prelude.{◌≡◌};
+    ghost use Rattle.rc_links.specs.declared.faults.PlanFault.TheVariants as fault;
+
+    ghost from_gives = { λ _ given. given ≡ fault.Memory };
+
     fn from(_error: Memory) -> PlanFault<A> {
+        PlanFault::Memory
+    }
+}
+
+impl<T: Drop, A: Allocator> From<AllocFailed<T>> for PlanFault<A> {
+    ghost use Rattle.std.specs.Prelude.{◌≡◌};
+    ghost use Rattle.rc_links.specs.declared.faults.PlanFault.TheVariants as fault;
+
+    ghost from_gives = { λ _ given. given ≡ fault.Memory };
+
+    fn from(_error: AllocFailed<T>) -> PlanFault<A> {
         PlanFault::Memory
     }
 }

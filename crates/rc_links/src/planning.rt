@@ -1,5 +1,11 @@
-ghost use Rattle.std.specs.Prelude.{◌≡◌, ◌≤◌, ◌<◌, IfOk, IfSome, IfNone, length};
+ghost use Rattle.std.specs.Prelude.{◌≡◌, ◌≤◌, ◌<◌, ℕ, List, IfOk, IfErr, IfSome, IfNone, length, map};
+ghost use Rattle.std.specs.List.{AllByRecursion};
+ghost use Rattle.std.specs.Str.{bytes_eq};
+ghost use Rattle.indexmap.specs.IndexMap.{get_by};
+ghost use Rattle.rc_links.specs.Faults.{IsAnyDeep, IsNamed, IsRound, IsTooDeep};
 ghost use Rattle.rc_links.specs.Passes.{AllBelow};
+ghost use Rattle.rc_links.specs.Plans.{AreLeast, IsPlan, IsRefused, IsShort, names_at, planned, planned_all};
+ghost use Rattle.rc_links.specs.Scripts.{place_of};
 
 use crate::edges::{Phase, needs};
 use crate::faults::PlanFault;
@@ -20,12 +26,28 @@ fn names_at<A: Allocator + Copy>(
     places: &[usize],
 ) -> Result<Vec<Vec<u8, A>, A>, Memory>
     requires { AllBelow (length scripts.now) places.now }
+    ensures { IfOk result (λ names. map (λ w. w.items) names.items ≡ names_at scripts.now places.now) }
 {
     let mut names = Vec::new(alloc);
     for place in places {
         names.push(Vec::from_slice(alloc, scripts[*place].name())?)?;
     }
     Ok(names)
+}
+
+/// The fault of a cycle of the scripts at these places.
+fn cycle_told<A: Allocator + Copy>(
+    alloc: A,
+    scripts: &[Script<A>],
+    places: &[usize],
+) -> PlanFault<A>
+    requires { AllBelow (length scripts.now) places.now }
+    ensures { IsNamed (names_at scripts.now places.now) result }
+{
+    match names_at(alloc, scripts, places) {
+        Ok(names) => PlanFault::Cycle(names),
+        Err(_) => PlanFault::Memory,
+    }
 }
 
 /// The least numbers of the scripts, or a cycle.
@@ -35,12 +57,14 @@ fn numbered<A: Allocator + Copy>(
     scripts: &[Script<A>],
     table: &Table<'_, A>,
 ) -> Result<Vec<usize, A>, PlanFault<A>>
-    ensures { IfOk result (λ numbers. length numbers.items ≡ length scripts.now) }
+    requires { (bs : List ℕ) → get_by (λ key. bytes_eq bs key.now) table.now ≡ place_of scripts.now bs }
+    ensures least { IfOk result (λ numbers. AreLeast phase scripts.now numbers.items) }
+    ensures round { IfErr result (λ fault. IsRound phase scripts.now fault) }
 {
     let edges = needs(alloc, phase, scripts, table)?;
     match ordered(alloc, scripts.len(), edges.as_slice())? {
         Ok(numbers) => Ok(numbers),
-        Err(cycle) => Err(PlanFault::Cycle(names_at(alloc, scripts, cycle.as_slice())?)),
+        Err(cycle) => Err(cycle_told(alloc, scripts, cycle.as_slice())),
     }
 }
 
@@ -56,34 +80,68 @@ fn link_number(number: usize) -> Option<u8>
 }
 
 /// A script with these numbers.
+fn planned<A: Allocator + Copy>(
+    alloc: A,
+    script: &Script<A>,
+    start: u8,
+    stop: u8,
+) -> Result<Planned<A>, Memory>
+    ensures { IfOk result (λ s. s ≡ planned script.now start stop) }
+{
+    let header = script.header();
+    let name = Vec::from_slice(alloc, script.name())?;
+    let starts = Vec::from_slice(alloc, header.default_start())?;
+    let stops = Vec::from_slice(alloc, header.default_stop())?;
+    Ok(Planned::new(name, start, stop, starts, stops))
+}
+
+/// A script with these numbers, where they are not too great.
 fn with_numbers<A: Allocator + Copy>(
     alloc: A,
     script: &Script<A>,
     start: usize,
     stop: usize,
-) -> Result<Planned<A>, PlanFault<A>> {
+) -> Result<Planned<A>, PlanFault<A>>
+    ensures planned { IfOk result (λ s. s ≡ planned script.now start stop) }
+    ensures short { IfOk result IsShort }
+    ensures deep { IfErr result (λ fault. IsTooDeep start stop fault) }
+{
     let (Some(start), Some(stop)) = (link_number(start), link_number(stop)) else {
         return Err(PlanFault::TooDeep);
     };
-    Ok(Planned {
-        name: Vec::from_slice(alloc, script.name()).map_err(Memory::from)?,
-        start,
-        stop,
-        starts: Vec::from_slice(alloc, script.header().default_start()).map_err(Memory::from)?,
-        stops: Vec::from_slice(alloc, script.header().default_stop()).map_err(Memory::from)?,
-    })
+    Ok(planned(alloc, script, start, stop)?)
+}
+
+/// The scripts with these numbers, where they are not too great.
+fn planned_all<A: Allocator + Copy>(
+    alloc: A,
+    scripts: &[Script<A>],
+    starts: &[usize],
+    stops: &[usize],
+) -> Result<Vec<Planned<A>, A>, PlanFault<A>>
+    requires starts { length starts.now ≡ length scripts.now }
+    requires stops { length stops.now ≡ length scripts.now }
+    ensures planned { IfOk result (λ plan. plan.items ≡ planned_all scripts.now starts.now stops.now) }
+    ensures short { IfOk result (λ plan. AllByRecursion IsShort plan.items) }
+    ensures deep { IfErr result (λ fault. IsAnyDeep starts.now stops.now fault) }
+{
+    let mut plan = Vec::new(alloc);
+    for place in 0..scripts.len() {
+        let script = with_numbers(alloc, &scripts[place], starts[place], stops[place])?;
+        plan.push(script)?;
+    }
+    Ok(plan)
 }
 
 /// Gives each script its least numbers, or says which check fails first.
-pub fn plan<A: Allocator + Copy>(alloc: A, scripts: &[Script<A>]) -> Result<Plan<A>, PlanFault<A>> {
+pub fn plan<A: Allocator + Copy>(alloc: A, scripts: &[Script<A>]) -> Result<Plan<A>, PlanFault<A>>
+    ensures planned { IfOk result (λ plan. IsPlan scripts.now plan) }
+    ensures refused { IfErr result (λ fault. IsRefused scripts.now fault) }
+{
     let table = table_of(alloc, scripts)?;
     check_missing(alloc, scripts, &table)?;
     let starts = numbered(alloc, Phase::Start, scripts, &table)?;
     let stops = numbered(alloc, Phase::Stop, scripts, &table)?;
-    let mut plan = Vec::new(alloc);
-    for place in 0..scripts.len() {
-        let script = with_numbers(alloc, &scripts[place], starts[place], stops[place])?;
-        plan.push(script).map_err(Memory::from)?;
-    }
+    let plan = planned_all(alloc, scripts, starts.as_slice(), stops.as_slice())?;
     Ok(Plan::new(plan))
 }

@@ -40,12 +40,12 @@ fn add_link<A: Allocator + Copy>(
     level: Level,
     stops: bool,
 ) -> Result<(), Memory> {
-    let name = script.name.as_slice();
-    if stops && script.stops.contains(&level) {
-        links.push(link_of(alloc, b'K', script.stop, name)?)?;
+    let name = script.name();
+    if stops && script.stops().contains(&level) {
+        links.push(link_of(alloc, b'K', script.stop(), name)?)?;
     }
-    if !stops && script.starts.contains(&level) {
-        links.push(link_of(alloc, b'S', script.start, name)?)?;
+    if !stops && script.starts().contains(&level) {
+        links.push(link_of(alloc, b'S', script.start(), name)?)?;
     }
     Ok(())
 }

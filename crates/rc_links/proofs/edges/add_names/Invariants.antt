@@ -1,5 +1,11 @@
-use Rattle.rc_links.specs.Passes.{InRange}
+use Rattle.std.proofs.Common.{◌≡◌, ◌++◌, map, drop}
+use Rattle.std.specs.List.{filter_map}
+use Rattle.std.specs.Str.{bytes_eq}
+use Rattle.indexmap.specs.IndexMap.{get_by}
+use Rattle.rc_links.specs.Scripts.{need}
 use Rattle.rc_links.proofs.edges.add_names.Given as goal
 
 abbrev pub invariant-loop-name : goal.invariant-loop-name
-invariant-loop-name g l = InRange l.count l.edges.items
+invariant-loop-name g l =
+    l.edges.items ++ map (need l.phase l.place) (filter_map (λ bs. get_by (λ key. bytes_eq bs key.now) l.table) (map (λ w. w.items) (drop l.name-index l.names)))
+    ≡ l.fn.edges.items ++ map (need l.phase l.place) (filter_map (λ bs. get_by (λ key. bytes_eq bs key.now) l.table) (map (λ w. w.items) l.names))

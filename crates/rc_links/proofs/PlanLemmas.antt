@@ -1,0 +1,143 @@
+-- Plans: their fields, their names, and the faults that a step gives on.
+use Rattle.std.proofs.Common.{◌≡◌, ℕ, zero, suc, ◌+◌, ◌<◌, List, [], ◌∷◌, ◌++◌, length, map, get_or, drop, None, refl, sym, ap, ◌∙◌, subst, arith, inl, inr}
+use Rattle.std.specs.List.{AllByRecursion}
+use Rattle.rc_links.specs.declared.edges.Phase.{Phase}
+use Rattle.rc_links.specs.declared.edges.Phase.TheVariants as phase
+use Rattle.rc_links.specs.declared.faults.PlanFault.{PlanFault}
+use Rattle.rc_links.specs.declared.faults.PlanFault.TheVariants as fault
+use Rattle.rc_links.specs.Faults.{IsAnyDeep, IsDouble, IsMissing, IsNamed, IsRound, IsTooDeep}
+use Rattle.rc_links.specs.Graph.{IsCycle, IsNumbering}
+use Rattle.rc_links.specs.ScriptText.{ScriptText}
+use Rattle.rc_links.specs.PlannedText.{PlannedText}
+use Rattle.rc_links.specs.Plans.{AreLeast, IsPlan, IsProvided, IsRefused, IsShort, names_at, planned, planned_all}
+use Rattle.rc_links.specs.Scripts.{double_from, missing_from, needs_of}
+use Rattle.rc_links.proofs.EdgeLemmas.{append_assoc}
+
+-- the name at a place
+pub name_is : (scripts : List ScriptText) (place : ℕ) (s : ScriptText) → place < length scripts → s ≡ get_or scripts place s → get_or (map (λ t. t.name) scripts) place [] ≡ s.name
+name_is [] place s within is = absurd (omega arith)
+name_is (x ∷ scripts) zero s within is = ap (λ t. t.name) (sym is)
+name_is (x ∷ scripts) (suc place) s within is = name_is scripts place s (omega arith) is
+
+pub names-step : (scripts : List ScriptText) (place : ℕ) (rest : List ℕ) (names whole : List (List ℕ)) (s : ScriptText) → place < length scripts → s ≡ get_or scripts place s → names ++ names_at scripts (place ∷ rest) ≡ whole → (names ++ s.name ∷ []) ++ names_at scripts rest ≡ whole
+names-step scripts place rest names whole s within is same =
+    let P : List ℕ → Type 0 = λ name. names ++ name ∷ names_at scripts rest ≡ whole in
+    append_assoc names (s.name ∷ []) (names_at scripts rest) ∙ subst P (name_is scripts place s within is) same
+
+-- one more script of a plan
+pub planned-step : (plan whole : List PlannedText) (s : ScriptText) (scripts : List ScriptText) (start stop : ℕ) (starts stops : List ℕ) → plan ++ planned_all (s ∷ scripts) (start ∷ starts) (stop ∷ stops) ≡ whole → (plan ++ planned s start stop ∷ []) ++ planned_all scripts starts stops ≡ whole
+planned-step plan whole s scripts start stop starts stops same = append_assoc plan (planned s start stop ∷ []) (planned_all scripts starts stops) ∙ same
+
+pub short-push : (plan : List PlannedText) (s : PlannedText) → AllByRecursion IsShort plan → IsShort s → AllByRecursion IsShort (plan ++ s ∷ [])
+short-push [] s all short = (short, tt)
+short-push (t ∷ plan) s all short = (all.0, short-push plan s all.1 short)
+
+-- a list of numbers at one of its places
+pub cut_number : (xs : List ℕ) (n : ℕ) → n < length xs → drop n xs ≡ get_or xs n 0 ∷ drop (n + 1) xs
+cut_number [] n within = absurd (omega arith)
+cut_number (x ∷ xs) zero within = refl
+cut_number (x ∷ xs) (suc n) within = let e : suc n + 1 ≡ suc (n + 1) = omega arith in rw e (cut_number xs n (omega arith))
+
+pub map-last : {X Y : Type 0} (f : X → Y) (xs : List X) (x : X) → map f (xs ++ x ∷ []) ≡ map f xs ++ f x ∷ []
+map-last f [] x = refl
+map-last f (y ∷ xs) x = ap (λ ys. f y ∷ ys) (map-last f xs x)
+
+-- a number that is too great, of all
+pub any_deep : {A : Type 0} (starts stops : List ℕ) (place : ℕ) (f : PlanFault A) → IsTooDeep (get_or starts place 0) (get_or stops place 0) f → IsAnyDeep starts stops f
+any_deep starts stops place (fault.DoubleProvide name) deep = deep
+any_deep starts stops place (fault.Missing name) deep = deep
+any_deep starts stops place (fault.Cycle names) deep = deep
+any_deep starts stops place fault.TooDeep deep = elim deep [
+  | inl high ↦ inl (place, high)
+  | inr high ↦ inr (place, high)
+]
+any_deep starts stops place fault.Memory deep = deep
+
+-- the fields of a plan
+pub names-planned : (scripts : List ScriptText) (starts stops : List ℕ) → length starts ≡ length scripts → length stops ≡ length scripts → map (λ s. s.name) (planned_all scripts starts stops) ≡ map (λ s. s.name) scripts
+names-planned [] starts stops first second = refl
+names-planned (s ∷ scripts) [] stops first second = absurd (omega arith)
+names-planned (s ∷ scripts) (a ∷ starts) [] first second = absurd (omega arith)
+names-planned (s ∷ scripts) (a ∷ starts) (b ∷ stops) first second = ap (λ names. s.name ∷ names) (names-planned scripts starts stops (omega arith) (omega arith))
+
+pub starts-planned : (scripts : List ScriptText) (starts stops : List ℕ) → length starts ≡ length scripts → length stops ≡ length scripts → map (λ s. s.starts) (planned_all scripts starts stops) ≡ map (λ s. s.header.default_start) scripts
+starts-planned [] starts stops first second = refl
+starts-planned (s ∷ scripts) [] stops first second = absurd (omega arith)
+starts-planned (s ∷ scripts) (a ∷ starts) [] first second = absurd (omega arith)
+starts-planned (s ∷ scripts) (a ∷ starts) (b ∷ stops) first second = ap (λ levels. s.header.default_start ∷ levels) (starts-planned scripts starts stops (omega arith) (omega arith))
+
+pub stops-planned : (scripts : List ScriptText) (starts stops : List ℕ) → length starts ≡ length scripts → length stops ≡ length scripts → map (λ s. s.stops) (planned_all scripts starts stops) ≡ map (λ s. s.header.default_stop) scripts
+stops-planned [] starts stops first second = refl
+stops-planned (s ∷ scripts) [] stops first second = absurd (omega arith)
+stops-planned (s ∷ scripts) (a ∷ starts) [] first second = absurd (omega arith)
+stops-planned (s ∷ scripts) (a ∷ starts) (b ∷ stops) first second = ap (λ levels. s.header.default_stop ∷ levels) (stops-planned scripts starts stops (omega arith) (omega arith))
+
+pub start-planned : (scripts : List ScriptText) (starts stops : List ℕ) → length starts ≡ length scripts → length stops ≡ length scripts → map (λ s. s.start) (planned_all scripts starts stops) ≡ starts
+start-planned [] [] stops first second = refl
+start-planned [] (a ∷ starts) stops first second = absurd (omega arith)
+start-planned (s ∷ scripts) [] stops first second = refl
+start-planned (s ∷ scripts) (a ∷ starts) [] first second = absurd (omega arith)
+start-planned (s ∷ scripts) (a ∷ starts) (b ∷ stops) first second = ap (λ numbers. a ∷ numbers) (start-planned scripts starts stops (omega arith) (omega arith))
+
+pub stop-planned : (scripts : List ScriptText) (starts stops : List ℕ) → length starts ≡ length scripts → length stops ≡ length scripts → map (λ s. s.stop) (planned_all scripts starts stops) ≡ stops
+stop-planned [] starts [] first second = refl
+stop-planned [] starts (b ∷ stops) first second = absurd (omega arith)
+stop-planned (s ∷ scripts) [] stops first second = absurd (omega arith)
+stop-planned (s ∷ scripts) (a ∷ starts) [] first second = absurd (omega arith)
+stop-planned (s ∷ scripts) (a ∷ starts) (b ∷ stops) first second = ap (λ numbers. b ∷ numbers) (stop-planned scripts starts stops (omega arith) (omega arith))
+
+-- a plan that is made
+pub plan_made : (scripts : List ScriptText) (starts stops : List ℕ) (plan : List PlannedText) → IsProvided scripts → AreLeast phase.Start scripts starts → AreLeast phase.Stop scripts stops → plan ≡ planned_all scripts starts stops → AllByRecursion IsShort plan → IsPlan scripts plan
+plan_made scripts starts stops plan provided first second is short = record {
+  provided = provided;
+  names = rw is (names-planned scripts starts stops first.size second.size);
+  starts = rw is (starts-planned scripts starts stops first.size second.size);
+  stops = rw is (stops-planned scripts starts stops first.size second.size);
+  least_starts = rw (is, start-planned scripts starts stops first.size second.size) first;
+  least_stops = rw (is, stop-planned scripts starts stops first.size second.size) second;
+  short = short;
+}
+
+-- a cycle, by its names
+pub round : {A : Type 0} (turn : Phase) (scripts : List ScriptText) (places : List ℕ) (f : PlanFault A) → IsCycle (needs_of turn scripts) places → ((number : ℕ → ℕ) → IsNumbering (needs_of turn scripts) number → ⊥) → IsNamed (names_at scripts places) f → IsRound turn scripts f
+round turn scripts places (fault.DoubleProvide name) cycle none named = named
+round turn scripts places (fault.Missing name) cycle none named = named
+round turn scripts places (fault.Cycle names) cycle none named = record { places = places; named = named; cycle = cycle; none = none }
+round turn scripts places fault.TooDeep cycle none named = named
+round turn scripts places fault.Memory cycle none named = named
+
+-- why there is no plan, step by step
+pub refused-double : {A : Type 0} (scripts : List ScriptText) (f : PlanFault A) → IsDouble (double_from [] scripts) f → IsRefused scripts f
+refused-double scripts (fault.DoubleProvide name) is = is
+refused-double scripts (fault.Missing name) is = absurd is
+refused-double scripts (fault.Cycle names) is = absurd is
+refused-double scripts fault.TooDeep is = absurd is
+refused-double scripts fault.Memory is = is
+
+pub refused-missing : {A : Type 0} (scripts : List ScriptText) (f : PlanFault A) → double_from [] scripts ≡ None → IsMissing (missing_from scripts scripts) f → IsRefused scripts f
+refused-missing scripts (fault.DoubleProvide name) single is = absurd is
+refused-missing scripts (fault.Missing name) single is = (single, is)
+refused-missing scripts (fault.Cycle names) single is = absurd is
+refused-missing scripts fault.TooDeep single is = absurd is
+refused-missing scripts fault.Memory single is = is
+
+pub refused-start : {A : Type 0} (scripts : List ScriptText) (f : PlanFault A) → IsProvided scripts → IsRound phase.Start scripts f → IsRefused scripts f
+refused-start scripts (fault.DoubleProvide name) provided is = absurd is
+refused-start scripts (fault.Missing name) provided is = absurd is
+refused-start scripts (fault.Cycle names) provided is = (provided, inl is)
+refused-start scripts fault.TooDeep provided is = absurd is
+refused-start scripts fault.Memory provided is = is
+
+pub refused-stop : {A : Type 0} (scripts : List ScriptText) (starts : List ℕ) (f : PlanFault A) → IsProvided scripts → AreLeast phase.Start scripts starts → IsRound phase.Stop scripts f → IsRefused scripts f
+refused-stop scripts starts (fault.DoubleProvide name) provided first is = absurd is
+refused-stop scripts starts (fault.Missing name) provided first is = absurd is
+refused-stop scripts starts (fault.Cycle names) provided first is = (provided, inr (starts, first, is))
+refused-stop scripts starts fault.TooDeep provided first is = absurd is
+refused-stop scripts starts fault.Memory provided first is = is
+
+pub refused-deep : {A : Type 0} (scripts : List ScriptText) (starts stops : List ℕ) (f : PlanFault A) → IsProvided scripts → AreLeast phase.Start scripts starts → AreLeast phase.Stop scripts stops → IsAnyDeep starts stops f → IsRefused scripts f
+refused-deep scripts starts stops (fault.DoubleProvide name) provided first second is = absurd is
+refused-deep scripts starts stops (fault.Missing name) provided first second is = absurd is
+refused-deep scripts starts stops (fault.Cycle names) provided first second is = absurd is
+refused-deep scripts starts stops fault.TooDeep provided first second is = (provided, starts, stops, first, second, is)
+refused-deep scripts starts stops fault.Memory provided first second is = is

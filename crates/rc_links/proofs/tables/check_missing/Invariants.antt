@@ -1,0 +1,6 @@
+use Rattle.std.proofs.Common.{◌≡◌, drop}
+use Rattle.rc_links.specs.Scripts.{missing_from}
+use Rattle.rc_links.proofs.tables.check_missing.Given as goal
+
+abbrev pub invariant-loop-script : goal.invariant-loop-script
+invariant-loop-script g l = missing_from l.scripts (drop l.script-index l.scripts) ≡ missing_from l.scripts l.scripts

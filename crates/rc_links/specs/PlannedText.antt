@@ -1,0 +1,11 @@
+-- A script with its numbers, as lists.
+use Rattle.std.specs.Prelude.{ℕ, List}
+use Rattle.init_words.specs.declared.levels.Level.{Level}
+
+-- its name, its numbers, and the runlevels where it starts and stops
+pub record PlannedText : Type 0 where
+  pub name : List ℕ
+  pub start : ℕ
+  pub stop : ℕ
+  pub starts : List Level
+  pub stops : List Level
