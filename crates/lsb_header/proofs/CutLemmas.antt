@@ -1,7 +1,7 @@
 -- A text, cut at the first byte of a kind, its lines, and the words of a line.
 use Rattle.std.proofs.Common.{◌≡◌, ◌⊎◌, ℕ, zero, suc, ◌+◌, ◌<◌, ◌≤◌, Bool, true, false, cond, ◌==◌, List, [], ◌∷◌, ◌++◌, length, take, drop, get_or, slice_index, Option, Some, None, reverse, refl, sym, ap, ◌∙◌, arith, inl, inr}
 use Rattle.std.specs.Option.{option_map}
-use Rattle.std.proofs.lemmas.Bool.{false_from_ne_true}
+use Rattle.std.proofs.lemmas.Bool.{eqb-true, false_from_ne_true}
 use Rattle.std.proofs.lemmas.List.{reverse-append, reverse-reverse}
 use Rattle.std.proofs.lemmas.Option.{some_pair_parts}
 use Rattle.lsb_header.specs.Lines.{onto_first, onto_first_line, cut, lines_of, skip_blanks, is_blank, trim_end, word_length, words_of}
@@ -44,6 +44,15 @@ began_by mark b text left right false other is = began_later mark b text left ri
 
 began : (mark b : ℕ) (text left right : List ℕ) → cut mark (b ∷ text) ≡ Some (left, right) → Began mark b text left right
 began mark b text left right is = began_by mark b text left right (b == mark) refl is
+
+-- the parts of a cut
+pub cut-parts : (mark : ℕ) (text left right : List ℕ) → cut mark text ≡ Some (left, right) → text ≡ left ++ mark ∷ right
+cut-parts mark [] left right is = absurd (cc)
+cut-parts mark (b ∷ text) left right is =
+    elim (began mark b text left right is) [
+      | inl g ↦ rw (g.0, g.1) (ap (λ x. x ∷ text) (eqb-true b mark g.2))
+      | inr g ↦ rw g.1 (ap (λ t. b ∷ t) (cut-parts mark text g.0 right g.2))
+    ]
 
 -- what stands behind a cut is shorter
 pub length-cut : (mark : ℕ) (text left right : List ℕ) → cut mark text ≡ Some (left, right) → length right < length text

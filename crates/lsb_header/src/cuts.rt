@@ -1,6 +1,7 @@
 ghost use Rattle.std.specs.Prelude.{◌≡◌, ◌<◌, ◌≤◌, ◌∷◌, [], None, length, IfSome, IfNone};
 ghost use Rattle.std.specs.List.{list_all, list_any as any};
 ghost use Rattle.std.specs.Option.{option_map};
+ghost use Rattle.std.specs.Str.{IsUtf8};
 ghost use Rattle.lsb_header.specs.Lines.{cut, is_blank, lines_of, skip_blanks, trim, trim_end, word_length, words_of};
 
 use memchr::memchr;
@@ -92,6 +93,7 @@ pub(crate) fn next_word(text: &[u8]) -> Option<(&[u8], &[u8])>
     ensures none { IfNone result (words_of text.now ≡ []) }
     ensures some { IfSome result (λ parts. words_of text.now ≡ parts.0.now ∷ words_of parts.1.now) }
     ensures shorter { IfSome result (λ parts. length parts.1.now < length text.now) }
+    ensures utf8 { IfSome result (λ parts. IsUtf8 text.now → IsUtf8 parts.0.now × IsUtf8 parts.1.now) }
 {
     let rest = without_blanks(text);
     if rest.is_empty() {

@@ -1,14 +1,15 @@
-ghost use Rattle.std.specs.Prelude.{◌≡◌, ◌≢◌, Ok, Err, map, IfOk, IfErr};
-ghost use Rattle.lsb_header.specs.Lines.{lines_of};
+ghost use Rattle.std.specs.Prelude.{◌≡◌, ◌≢◌, Ok, Err, map, string_bytes, IfOk, IfErr};
+ghost use Rattle.std.specs.List.{AllByRecursion};
+ghost use Rattle.std.specs.Str.{IsUtf8};
+ghost use Rattle.lsb_header.specs.Lines.{lines_of, words_of};
 ghost use Rattle.lsb_header.specs.Blocks.{block_of};
-ghost use Rattle.lsb_header.specs.Headers.{header_of, header_read};
+ghost use Rattle.lsb_header.specs.Headers.{header_of, header_read, text_at};
 
 use crate::blocks::{begun, has_end};
 use crate::checks::check;
-use crate::cuts::trimmed;
 use crate::faults::HeaderFault;
 use crate::keywords::Keyword;
-use crate::pieces::{args_of, description_of, levels_of, words_of};
+use crate::pieces::{args_of, description_of, levels_of, short_description_of, words_of};
 use init_words::{Level, Memory};
 use std::alloc::{Allocator, Global};
 use std::marker::Model;
@@ -16,68 +17,68 @@ use std::marker::Model;
 /// What the header of an init script says (LSB Core 5.0). Names and descriptions are UTF-8.
 #[derive(Drop)]
 pub struct Header<A: Allocator = Global> {
-    provides: Vec<Vec<u8, A>, A>,
-    required_start: Vec<Vec<u8, A>, A>,
-    required_stop: Vec<Vec<u8, A>, A>,
-    should_start: Vec<Vec<u8, A>, A>,
-    should_stop: Vec<Vec<u8, A>, A>,
+    provides: Vec<String<A>, A>,
+    required_start: Vec<String<A>, A>,
+    required_stop: Vec<String<A>, A>,
+    should_start: Vec<String<A>, A>,
+    should_stop: Vec<String<A>, A>,
     default_start: Vec<Level, A>,
     default_stop: Vec<Level, A>,
-    short_description: Vec<u8, A>,
-    description: Vec<u8, A>,
+    short_description: String<A>,
+    description: String<A>,
 }
 
 impl<A: Allocator> Model for Header<A> {
-    ghost use Rattle.std.specs.Prelude.{map};
+    ghost use Rattle.std.specs.Prelude.{map, string_bytes};
     ghost use Rattle.lsb_header.specs.HeaderText.{HeaderText};
 
     ghost Value = { HeaderText };
 
     ghost view = { λ h. record {
-      provides = map (λ w. w.items) h.provides.items;
-      required_start = map (λ w. w.items) h.required_start.items;
-      required_stop = map (λ w. w.items) h.required_stop.items;
-      should_start = map (λ w. w.items) h.should_start.items;
-      should_stop = map (λ w. w.items) h.should_stop.items;
+      provides = map string_bytes h.provides.items;
+      required_start = map string_bytes h.required_start.items;
+      required_stop = map string_bytes h.required_stop.items;
+      should_start = map string_bytes h.should_start.items;
+      should_stop = map string_bytes h.should_stop.items;
       default_start = h.default_start.items;
       default_stop = h.default_stop.items;
-      short_description = h.short_description.items;
-      description = h.description.items;
+      short_description = string_bytes h.short_description;
+      description = string_bytes h.description;
     } };
 }
 
 impl<A: Allocator> Header<A> {
     /// The names that the script provides, at least one.
-    pub fn provides(&self) -> &[Vec<u8, A>]
-        ensures { map (λ w. w.items) result.now ≡ self.now.provides }
+    pub fn provides(&self) -> &[String<A>]
+        ensures { map string_bytes result.now ≡ self.now.provides }
     {
         self.provides.as_slice()
     }
 
     /// The names that have to be started before it.
-    pub fn required_start(&self) -> &[Vec<u8, A>]
-        ensures { map (λ w. w.items) result.now ≡ self.now.required_start }
+    pub fn required_start(&self) -> &[String<A>]
+        ensures { map string_bytes result.now ≡ self.now.required_start }
     {
         self.required_start.as_slice()
     }
 
     /// The names that have to be there until it is stopped.
-    pub fn required_stop(&self) -> &[Vec<u8, A>]
-        ensures { map (λ w. w.items) result.now ≡ self.now.required_stop }
+    pub fn required_stop(&self) -> &[String<A>]
+        ensures { map string_bytes result.now ≡ self.now.required_stop }
     {
         self.required_stop.as_slice()
     }
 
     /// The names that are started before it, where they are there.
-    pub fn should_start(&self) -> &[Vec<u8, A>]
-        ensures { map (λ w. w.items) result.now ≡ self.now.should_start }
+    pub fn should_start(&self) -> &[String<A>]
+        ensures { map string_bytes result.now ≡ self.now.should_start }
     {
         self.should_start.as_slice()
     }
 
     /// The names that are stopped after it, where they are there.
-    pub fn should_stop(&self) -> &[Vec<u8, A>]
-        ensures { map (λ w. w.items) result.now ≡ self.now.should_stop }
+    pub fn should_stop(&self) -> &[String<A>]
+        ensures { map string_bytes result.now ≡ self.now.should_stop }
     {
         self.should_stop.as_slice()
     }
@@ -97,34 +98,46 @@ impl<A: Allocator> Header<A> {
     }
 
     /// The short description.
-    pub fn short_description(&self) -> &[u8]
+    pub fn short_description(&self) -> &str
         ensures { result.now ≡ self.now.short_description }
     {
-        self.short_description.as_slice()
+        self.short_description.as_str()
     }
 
     /// The description, continuation lines joined by blanks.
-    pub fn description(&self) -> &[u8]
+    pub fn description(&self) -> &str
         ensures { result.now ≡ self.now.description }
     {
-        self.description.as_slice()
+        self.description.as_str()
     }
+}
+
+/// The words behind the colon of a keyword's line.
+fn names_of<A: Allocator + Copy>(
+    alloc: A,
+    keyword: Keyword,
+    body: &[u8],
+) -> Result<Vec<String<A>, A>, Memory>
+    requires { AllByRecursion IsUtf8 (block_of (lines_of body.now)) }
+    ensures { IfOk result (λ words. map string_bytes words.items ≡ words_of (text_at keyword (block_of (lines_of body.now)))) }
+{
+    words_of(alloc, args_of(keyword, body))
 }
 
 /// The header in the lines before the one that ends it.
 fn header_of<A: Allocator + Copy>(alloc: A, body: &[u8]) -> Result<Header<A>, Memory>
+    requires { AllByRecursion IsUtf8 (block_of (lines_of body.now)) }
     ensures { IfOk result (λ header. header ≡ header_of (block_of (lines_of body.now))) }
 {
-    let short_description = trimmed(args_of(Keyword::ShortDescription, body));
     Ok(Header {
-        provides: words_of(alloc, args_of(Keyword::Provides, body))?,
-        required_start: words_of(alloc, args_of(Keyword::RequiredStart, body))?,
-        required_stop: words_of(alloc, args_of(Keyword::RequiredStop, body))?,
-        should_start: words_of(alloc, args_of(Keyword::ShouldStart, body))?,
-        should_stop: words_of(alloc, args_of(Keyword::ShouldStop, body))?,
+        provides: names_of(alloc, Keyword::Provides, body)?,
+        required_start: names_of(alloc, Keyword::RequiredStart, body)?,
+        required_stop: names_of(alloc, Keyword::RequiredStop, body)?,
+        should_start: names_of(alloc, Keyword::ShouldStart, body)?,
+        should_stop: names_of(alloc, Keyword::ShouldStop, body)?,
         default_start: levels_of(alloc, args_of(Keyword::DefaultStart, body))?,
         default_stop: levels_of(alloc, args_of(Keyword::DefaultStop, body))?,
-        short_description: Vec::from_slice(alloc, short_description)?,
+        short_description: short_description_of(alloc, body)?,
         description: description_of(alloc, body)?,
     })
 }

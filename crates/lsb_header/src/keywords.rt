@@ -69,6 +69,11 @@ impl Keyword {
 }
 
 impl fmt::Display for Keyword {
+    ghost use Rattle.std.specs.Prelude.{Some};
+    ghost use Rattle.lsb_header.specs.Keywords.{word_of};
+
+    ghost output = { λ keyword. Some (word_of keyword) };
+
     fn fmt<W: fmt::Write>(&self, f: &mut fmt::Formatter<W>) -> fmt::Result {
         f.write_str(match self {
             Keyword::Provides => "Provides",

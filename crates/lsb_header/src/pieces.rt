@@ -1,6 +1,9 @@
-ghost use Rattle.std.specs.Prelude.{◌≡◌, ◌++◌, ◌∷◌, [], map, unwrap_or, IfOk, OnOk};
+ghost use Rattle.std.specs.Prelude.{◌≡◌, ◌++◌, ◌∷◌, [], map, string_bytes, unwrap_or, IfOk, OnOk};
+ghost use Rattle.std.specs.List.{AllByRecursion};
+ghost use Rattle.std.specs.Str.{IsUtf8};
 ghost use Rattle.std.specs.Option.{option_map};
 ghost use Rattle.lsb_header.specs.Lines.{lines_of, trim, words_of};
+ghost use Rattle.lsb_header.specs.Headers.{text_at};
 ghost use Rattle.lsb_header.specs.Blocks.{args_of, block_of, continued, description_of, level_in, levels_of};
 
 use crate::blocks::block_line;
@@ -34,17 +37,29 @@ pub(crate) fn args_of(keyword: Keyword, body: &[u8]) -> &[u8]
     }
 }
 
+/// A string of bytes that are UTF-8.
+fn string_of<A: Allocator>(bytes: Vec<u8, A>) -> String<A>
+    requires { IsUtf8 bytes.items }
+    ensures { string_bytes result ≡ bytes.items }
+{
+    match String::from_utf8(bytes) {
+        Ok(text) => text,
+        Err(_) => unreachable!(),
+    }
+}
+
 /// The words of a text, split at blanks and tabs.
 pub(crate) fn words_of<A: Allocator + Copy>(
     alloc: A,
     text: &[u8],
-) -> Result<Vec<Vec<u8, A>, A>, Memory>
-    ensures { IfOk result (λ words. map (λ word. word.items) words.items ≡ words_of text.now) }
+) -> Result<Vec<String<A>, A>, Memory>
+    requires { IsUtf8 text.now }
+    ensures { IfOk result (λ words. map string_bytes words.items ≡ words_of text.now) }
 {
     let mut words = Vec::new(alloc);
     let mut rest = text;
     while let Some((word, more)) = next_word(rest) {
-        words.push(Vec::from_slice(alloc, word)?)?;
+        words.push(string_of(Vec::from_slice(alloc, word)?))?;
         rest = more;
     }
     Ok(words)
@@ -93,8 +108,17 @@ fn continue_text<A: Allocator>(text: &mut Vec<u8, A>, body: &[u8]) -> Result<(),
     Ok(())
 }
 
-/// The description, with the lines that continue it.
-pub(crate) fn description_of<A: Allocator>(alloc: A, body: &[u8]) -> Result<Vec<u8, A>, Memory>
+/// The short description.
+pub(crate) fn short_description_of<A: Allocator>(alloc: A, body: &[u8]) -> Result<String<A>, Memory>
+    requires { AllByRecursion IsUtf8 (block_of (lines_of body.now)) }
+    ensures { IfOk result (λ text. string_bytes text ≡ trim (text_at Keyword.ShortDescription (block_of (lines_of body.now)))) }
+{
+    let text = trimmed(args_of(Keyword::ShortDescription, body));
+    Ok(string_of(Vec::from_slice(alloc, text)?))
+}
+
+/// The bytes of the description, with the lines that continue it.
+fn described<A: Allocator>(alloc: A, body: &[u8]) -> Result<Vec<u8, A>, Memory>
     ensures { IfOk result (λ text. text.items ≡ description_of (block_of (lines_of body.now))) }
 {
     let mut text = Vec::new(alloc);
@@ -108,4 +132,12 @@ pub(crate) fn description_of<A: Allocator>(alloc: A, body: &[u8]) -> Result<Vec<
         rest = more;
     }
     Ok(text)
+}
+
+/// The description, with the lines that continue it.
+pub(crate) fn description_of<A: Allocator>(alloc: A, body: &[u8]) -> Result<String<A>, Memory>
+    requires { AllByRecursion IsUtf8 (block_of (lines_of body.now)) }
+    ensures { IfOk result (λ text. string_bytes text ≡ description_of (block_of (lines_of body.now))) }
+{
+    Ok(string_of(described(alloc, body)?))
 }

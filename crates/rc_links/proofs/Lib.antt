@@ -1,5 +1,7 @@
 pub mod CycleLemmas
 pub mod EdgeLemmas
+pub mod LinkLemmas
 pub mod NameLemmas
 pub mod PassLemmas
 pub mod PlanLemmas
+pub mod StepLemmas

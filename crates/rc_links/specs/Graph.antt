@@ -1,5 +1,5 @@
 -- Needs among places, their numberings and their cycles.
-use Rattle.std.specs.Prelude.{◌≡◌, ℕ, ◌<◌, ◌≤◌, List, [], ◌∷◌, get_or, ◌⊎◌}
+use Rattle.std.specs.Prelude.{◌≡◌, ℕ, ◌<◌, ◌≤◌, List, [], ◌∷◌, get_or, ◌⊎◌, Option, Some, None}
 
 -- the first of a pair needs the second
 abbrev pub Needs : List (ℕ × ℕ) → ℕ → ℕ → Type 0
@@ -36,3 +36,7 @@ Earliest a (x ∷ xs) = (a ≤ x) × Earliest a xs
 abbrev pub IsCycle : List (ℕ × ℕ) → List ℕ → Type 0
 IsCycle edges [] = ⊥
 IsCycle edges (a ∷ xs) = Walk edges a xs a × Earliest a xs
+
+-- a place with a step needs the place to which it leads
+abbrev pub AreSteps : List (ℕ × ℕ) → List (Option ℕ) → Type 0
+AreSteps edges steps = (a b : ℕ) → get_or steps a None ≡ Some b → Needs edges a b

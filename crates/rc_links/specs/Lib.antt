@@ -1,5 +1,6 @@
 pub mod Faults
 pub mod Graph
+pub mod Links
 pub mod Passes
 pub mod PlannedText
 pub mod Plans

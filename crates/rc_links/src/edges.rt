@@ -1,4 +1,4 @@
-ghost use Rattle.std.specs.Prelude.{◌≡◌, ◌++◌, [], ℕ, List, OnOk, IfOk, length, map};
+ghost use Rattle.std.specs.Prelude.{string_bytes, ◌≡◌, ◌++◌, [], ℕ, List, OnOk, IfOk, length, map};
 ghost use Rattle.std.specs.List.{filter_map, cons_option};
 ghost use Rattle.std.specs.Option.{option_map};
 ghost use Rattle.std.specs.Str.{bytes_eq};
@@ -50,12 +50,12 @@ fn add_names<A: Allocator, B: Allocator>(
     phase: Phase,
     place: usize,
     table: &Table<'_, A>,
-    names: &[Vec<u8, B>],
+    names: &[String<B>],
 ) -> Result<(), Memory>
-    ensures { OnOk result (edges.new.items ≡ edges.old.items ++ map (need phase place) (filter_map (λ bs. get_by (λ key. bytes_eq bs key.now) table.now) (map (λ w. w.items) names.now))) }
+    ensures { OnOk result (edges.new.items ≡ edges.old.items ++ map (need phase place) (filter_map (λ bs. get_by (λ key. bytes_eq bs key.now) table.now) (map string_bytes names.now))) }
 {
     for name in names {
-        add_name(edges, phase, place, table, name.as_slice())?;
+        add_name(edges, phase, place, table, name.as_bytes())?;
     }
     Ok(())
 }

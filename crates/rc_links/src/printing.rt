@@ -1,3 +1,6 @@
+ghost use Rattle.std.specs.Prelude.{◌≡◌, ◌++◌, map, flat_map, [], ◌∷◌, IfOk, OnOk};
+ghost use Rattle.rc_links.specs.Links.{has_level, in_byte_order, level_text, link_line, link_of, linked_name, plan_text, start_links, stop_links};
+
 use crate::plans::{Plan, Planned};
 use init_words::{Level, Memory};
 use std::alloc::Allocator;
@@ -23,7 +26,9 @@ fn link_of<A: Allocator>(
     letter: u8,
     number: u8,
     name: &[u8],
-) -> Result<Vec<u8, A>, Memory> {
+) -> Result<Vec<u8, A>, Memory>
+    ensures { IfOk result (λ link. link.items ≡ link_of letter number name.now) }
+{
     let mut link = Vec::new(alloc);
     link.push(letter)?;
     link.push(b'0' + number / 10 % 10)?;
@@ -32,67 +37,139 @@ fn link_of<A: Allocator>(
     Ok(link)
 }
 
-/// Adds the link of a script that is stopped at a runlevel, or started there.
-fn add_link<A: Allocator + Copy>(
+/// The level is one of these.
+fn has_level(levels: &[Level], level: Level) -> bool
+    ensures { result ≡ has_level level levels.now }
+{
+    levels.contains(&level)
+}
+
+/// Adds the link of a script that stops at a runlevel.
+fn add_stop_link<A: Allocator + Copy>(
     alloc: A,
     links: &mut Vec<Vec<u8, A>, A>,
     script: &Planned<A>,
     level: Level,
-    stops: bool,
-) -> Result<(), Memory> {
-    let name = script.name();
-    if stops && script.stops().contains(&level) {
-        links.push(link_of(alloc, b'K', script.stop(), name)?)?;
-    }
-    if !stops && script.starts().contains(&level) {
-        links.push(link_of(alloc, b'S', script.start(), name)?)?;
+) -> Result<(), Memory>
+    ensures { OnOk result (map (λ link. link.items) links.new.items ≡ map (λ link. link.items) links.old.items ++ stop_links level (script.now ∷ [])) }
+{
+    if has_level(script.stops(), level) {
+        links.push(link_of(alloc, b'K', script.stop(), script.name())?)?;
     }
     Ok(())
 }
 
-/// The links of a runlevel in byte order: those that stop, or those that start.
-fn links_at<A: Allocator + Copy>(
+/// Adds the link of a script that starts at a runlevel.
+fn add_start_link<A: Allocator + Copy>(
+    alloc: A,
+    links: &mut Vec<Vec<u8, A>, A>,
+    script: &Planned<A>,
+    level: Level,
+) -> Result<(), Memory>
+    ensures { OnOk result (map (λ link. link.items) links.new.items ≡ map (λ link. link.items) links.old.items ++ start_links level (script.now ∷ [])) }
+{
+    if has_level(script.starts(), level) {
+        links.push(link_of(alloc, b'S', script.start(), script.name())?)?;
+    }
+    Ok(())
+}
+
+/// The links of the scripts that stop at a runlevel.
+fn stop_links<A: Allocator + Copy>(
     alloc: A,
     scripts: &[Planned<A>],
     level: Level,
-    stops: bool,
-) -> Result<Vec<Vec<u8, A>, A>, Memory> {
+) -> Result<Vec<Vec<u8, A>, A>, Memory>
+    ensures { IfOk result (λ links. map (λ link. link.items) links.items ≡ stop_links level scripts.now) }
+{
     let mut links = Vec::new(alloc);
     for script in scripts {
-        add_link(alloc, &mut links, script, level, stops)?;
+        add_stop_link(alloc, &mut links, script, level)?;
     }
-    links.sort_unstable();
     Ok(links)
 }
 
-/// Appends the lines of a runlevel's links.
-fn add_lines<A: Allocator + Copy>(
+/// The links of the scripts that start at a runlevel.
+fn start_links<A: Allocator + Copy>(
+    alloc: A,
+    scripts: &[Planned<A>],
+    level: Level,
+) -> Result<Vec<Vec<u8, A>, A>, Memory>
+    ensures { IfOk result (λ links. map (λ link. link.items) links.items ≡ start_links level scripts.now) }
+{
+    let mut links = Vec::new(alloc);
+    for script in scripts {
+        add_start_link(alloc, &mut links, script, level)?;
+    }
+    Ok(links)
+}
+
+/// The script's name in a link.
+fn linked_name(link: &[u8]) -> &[u8]
+    ensures { result.now ≡ linked_name link.now }
+{
+    link.get(3..).unwrap_or(&[])
+}
+
+/// Appends a link's line.
+fn add_line<A: Allocator>(text: &mut Vec<u8, A>, level: Level, link: &[u8]) -> Result<(), Memory>
+    ensures { OnOk result (text.new.items ≡ text.old.items ++ link_line level link.now) }
+{
+    text.extend_from_slice(b"rc")?;
+    text.push(level.code())?;
+    text.extend_from_slice(b".d/")?;
+    text.extend_from_slice(link)?;
+    text.extend_from_slice(b" ../init.d/")?;
+    text.extend_from_slice(linked_name(link))?;
+    text.push(b'\n')?;
+    Ok(())
+}
+
+/// Puts links into byte order.
+fn sort_links<A: Allocator>(links: &mut Vec<Vec<u8, A>, A>)
+    ensures { map (λ link. link.items) links.new.items ≡ in_byte_order (map (λ link. link.items) links.old.items) }
+{
+    links.sort_unstable();
+}
+
+/// Appends the lines of links at a runlevel, in byte order.
+fn add_lines<A: Allocator>(
     text: &mut Vec<u8, A>,
     level: Level,
-    links: &[Vec<u8, A>],
-) -> Result<(), Memory> {
-    for link in links {
-        text.extend_from_slice(b"rc")?;
-        text.push(level.code())?;
-        text.extend_from_slice(b".d/")?;
-        text.extend_from_slice(link.as_slice())?;
-        text.extend_from_slice(b" ../init.d/")?;
-        text.extend_from_slice(link.get(3..).unwrap_or(&[]))?;
-        text.push(b'\n')?;
+    mut links: Vec<Vec<u8, A>, A>,
+) -> Result<(), Memory>
+    ensures { OnOk result (text.new.items ≡ text.old.items ++ flat_map (link_line level) (in_byte_order (map (λ link. link.items) links.items))) }
+{
+    sort_links(&mut links);
+    for link in &links {
+        add_line(text, level, link.as_slice())?;
     }
+    Ok(())
+}
+
+/// Appends the lines of a runlevel: the links that stop, then those that start.
+fn add_level<A: Allocator + Copy>(
+    alloc: A,
+    text: &mut Vec<u8, A>,
+    scripts: &[Planned<A>],
+    level: Level,
+) -> Result<(), Memory>
+    ensures { OnOk result (text.new.items ≡ text.old.items ++ level_text scripts.now level) }
+{
+    add_lines(text, level, stop_links(alloc, scripts, level)?)?;
+    add_lines(text, level, start_links(alloc, scripts, level)?)?;
     Ok(())
 }
 
 impl<A: Allocator + Copy> Plan<A> {
     /// The links of all runlevels, one a line: for each of 0 to 9 and S those that stop, then those that start, each
     /// set in byte order.
-    pub fn print(&self, alloc: A) -> Result<Vec<u8, A>, Memory> {
+    pub fn print(&self, alloc: A) -> Result<Vec<u8, A>, Memory>
+        ensures { IfOk result (λ text. text.items ≡ plan_text self.now) }
+    {
         let mut text = Vec::new(alloc);
         for level in LEVELS {
-            let stops = links_at(alloc, self.scripts(), level, true)?;
-            add_lines(&mut text, level, stops.as_slice())?;
-            let starts = links_at(alloc, self.scripts(), level, false)?;
-            add_lines(&mut text, level, starts.as_slice())?;
+            add_level(alloc, &mut text, self.scripts(), level)?;
         }
         Ok(text)
     }

@@ -1,4 +1,4 @@
-ghost use Rattle.std.specs.Prelude.{◌≡◌, ◌&&◌, [], ℕ, Some, List, find, if◌then◌else◌, is_some, map, not, None, IfErr, IfOk, OnOk};
+ghost use Rattle.std.specs.Prelude.{◌≡◌, ◌&&◌, [], string_bytes, ℕ, Some, List, find, if◌then◌else◌, is_some, map, not, None, IfErr, IfOk, OnOk};
 ghost use Rattle.std.specs.Option.{option_map, option_or};
 ghost use Rattle.std.specs.Str.{bytes_eq};
 ghost use Rattle.indexmap.specs.IndexMap.{get_by};
@@ -43,7 +43,7 @@ fn add_provided<'a, A: Allocator + Clone>(
     ensures { OnOk result ((bs : List ℕ) → get_by (λ key. bytes_eq bs key.now) table.new ≡ (if has_name bs script.now.header.provides then Some place else get_by (λ key. bytes_eq bs key.now) table.old)) }
 {
     for name in script.header().provides() {
-        set_place(table, name.as_slice(), place)?;
+        set_place(table, name.as_bytes(), place)?;
     }
     Ok(())
 }
@@ -51,13 +51,13 @@ fn add_provided<'a, A: Allocator + Clone>(
 /// The first of the names that the table has.
 fn first_known<'s, A: Allocator, B: Allocator>(
     table: &Table<'_, A>,
-    names: &'s [Vec<u8, B>],
+    names: &'s [String<B>],
 ) -> Option<&'s [u8]>
-    ensures { option_map (λ name. name.now) result ≡ find (λ name. is_some (get_by (λ key. bytes_eq name key.now) table.now)) (map (λ w. w.items) names.now) }
+    ensures { option_map (λ name. name.now) result ≡ find (λ name. is_some (get_by (λ key. bytes_eq name key.now) table.now)) (map string_bytes names.now) }
 {
     for name in names {
-        if place_at(table, name.as_slice()).is_some() {
-            return Some(name.as_slice());
+        if place_at(table, name.as_bytes()).is_some() {
+            return Some(name.as_bytes());
         }
     }
     None
@@ -135,13 +135,13 @@ fn is_system(name: &[u8]) -> bool
 /// The first of the names that no script provides, those of the system apart.
 fn missing_in<'s, A: Allocator, B: Allocator>(
     table: &Table<'_, A>,
-    names: &'s [Vec<u8, B>],
+    names: &'s [String<B>],
 ) -> Option<&'s [u8]>
-    ensures { option_map (λ name. name.now) result ≡ find (λ name. not (is_system name) && not (is_some (get_by (λ key. bytes_eq name key.now) table.now))) (map (λ w. w.items) names.now) }
+    ensures { option_map (λ name. name.now) result ≡ find (λ name. not (is_system name) && not (is_some (get_by (λ key. bytes_eq name key.now) table.now))) (map string_bytes names.now) }
 {
     for name in names {
-        if !is_system(name.as_slice()) && place_at(table, name.as_slice()).is_none() {
-            return Some(name.as_slice());
+        if !is_system(name.as_bytes()) && place_at(table, name.as_bytes()).is_none() {
+            return Some(name.as_bytes());
         }
     }
     None

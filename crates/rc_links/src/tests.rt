@@ -138,3 +138,120 @@ fn chains(rt: HostRuntime) -> Result<(), Fail> {
     assert!(rt; plan(alloc, scripts.as_slice()).is_ok());
     Ok(())
 }
+
+#[test]
+fn several_cycles(rt: HostRuntime) -> Result<(), Fail> {
+    let alloc = rt.alloc();
+    let mut scripts = Vec::new(alloc);
+    scripts.push(script(alloc, "a", "", "b c")?)?;
+    scripts.push(script(alloc, "b", "", "a")?)?;
+    scripts.push(script(alloc, "c", "", "d")?)?;
+    scripts.push(script(alloc, "d", "", "a")?)?;
+    assert_eq!(rt;
+        told(alloc, scripts.as_slice())?.as_slice(),
+        b"cycle a b".as_slice()
+    );
+    let mut scripts = Vec::new(alloc);
+    scripts.push(script(alloc, "top", "", "b y")?)?;
+    scripts.push(script(alloc, "a", "", "b")?)?;
+    scripts.push(script(alloc, "b", "", "c x")?)?;
+    scripts.push(script(alloc, "c", "", "a")?)?;
+    scripts.push(script(alloc, "x", "", "y")?)?;
+    scripts.push(script(alloc, "y", "", "x")?)?;
+    assert_eq!(rt;
+        told(alloc, scripts.as_slice())?.as_slice(),
+        b"cycle a b c".as_slice()
+    );
+    Ok(())
+}
+
+/// The names of the ten scripts that stand this many places and more before a place, as far as there are any.
+fn ten_before(alloc: Global, place: u32, gap: u32) -> Result<String, Fail> {
+    let mut names = String::new(alloc);
+    for more in 0..10u32 {
+        if let Some(need) = place.checked_sub(gap.wrapping_add(more)) {
+            names.push_str(format!(in alloc; " s{need}")?.as_str())?;
+        }
+    }
+    Ok(names)
+}
+
+/// Scripts of which each needs ten to start that stand this many places and more before it.
+fn crowd(alloc: Global, count: u32, gap: u32) -> Result<Vec<Script>, Fail> {
+    let mut scripts = Vec::new(alloc);
+    for place in 0..count {
+        let name = format!(in alloc; "s{place}")?;
+        let needs = ten_before(alloc, place, gap)?;
+        let text = format!(in alloc;
+            "### BEGIN INIT INFO
+# Provides: {name}
+# Required-Start:{needs}
+### END INIT INFO
+"
+        )?;
+        let header = read(alloc, text.as_bytes()).map_err(|_| Fail::from("header"))?;
+        let name = Vec::from_slice(alloc, name.as_bytes())?;
+        scripts.push(Script::new(name, header))?;
+    }
+    Ok(scripts)
+}
+
+#[test]
+fn crowds(rt: HostRuntime) -> Result<(), Fail> {
+    let alloc = rt.alloc();
+    let scripts = crowd(alloc, 2000, 100)?;
+    let Ok(plan) = plan(alloc, scripts.as_slice()) else {
+        return Err(Fail::from("no plan"));
+    };
+    assert_eq!(rt; numbers(&plan, "s99"), Some((1, 1)));
+    assert_eq!(rt; numbers(&plan, "s100"), Some((2, 1)));
+    assert_eq!(rt; numbers(&plan, "s1999"), Some((20, 1)));
+    Ok(())
+}
+
+/// A script of this name and header.
+fn headed(alloc: Global, name: &str, header: &str) -> Result<Script, Fail> {
+    let header = read(alloc, header.as_bytes()).map_err(|_| Fail::from("header"))?;
+    Ok(Script::new(Vec::from_slice(alloc, name.as_bytes())?, header))
+}
+
+/// Starts and stops at several runlevels, some of them named twice.
+const WEB: &str = "### BEGIN INIT INFO
+# Provides: web
+# Required-Start: net
+# Required-Stop: net
+# Default-Start: S 3 5 3
+# Default-Stop: 0 5 6 0
+### END INIT INFO
+";
+
+const NET: &str = "### BEGIN INIT INFO
+# Provides: net
+# Default-Start: 3
+# Default-Stop: 0
+### END INIT INFO
+";
+
+/// `net` starts first and stops last.
+const LINKS: &str = "rc0.d/K01web ../init.d/web
+rc0.d/K02net ../init.d/net
+rc3.d/S01net ../init.d/net
+rc3.d/S02web ../init.d/web
+rc5.d/K01web ../init.d/web
+rc5.d/S02web ../init.d/web
+rc6.d/K01web ../init.d/web
+rcS.d/S02web ../init.d/web
+";
+
+#[test]
+fn links_of_levels(rt: HostRuntime) -> Result<(), Fail> {
+    let alloc = rt.alloc();
+    let mut scripts = Vec::new(alloc);
+    scripts.push(headed(alloc, "web", WEB)?)?;
+    scripts.push(headed(alloc, "net", NET)?)?;
+    assert_eq!(rt;
+        told(alloc, scripts.as_slice())?.as_slice(),
+        LINKS.as_bytes()
+    );
+    Ok(())
+}

@@ -1,4 +1,4 @@
-use Rattle.std.proofs.Common.{◌∙◌, ◌+◌, ◌++◌, sym, ap, List, ℕ, drop, map}
+use Rattle.std.proofs.Common.{string_bytes, ◌∙◌, ◌+◌, ◌++◌, sym, ap, List, ℕ, drop, map}
 use Rattle.std.specs.List.{filter_map}
 use Rattle.std.specs.Str.{bytes_eq}
 use Rattle.indexmap.specs.IndexMap.{get_by}
@@ -14,5 +14,5 @@ loop-name-preserved g c =
     let names = c.args.names.now in
     let n = c.loop-name.name-index in
     let cut = cut_at names n c.name-item.result c.loop-name-test.true c.name-item.is in
-    let kept = ap (λ xs. c.loop-name.edges.items ++ map f (filter_map h (map (λ w. w.items) xs))) (sym cut.0) ∙ c.loop-name.invariant in
-    rw (c.in_ok-add_name.ensures, c.as_slice.ensures.value) (names-step f h c.name-item.result.items (map (λ w. w.items) (drop (n + 1) names)) c.loop-name.edges.items _ kept)
+    let kept = ap (λ xs. c.loop-name.edges.items ++ map f (filter_map h (map string_bytes xs))) (sym cut.0) ∙ c.loop-name.invariant in
+    rw (c.in_ok-add_name.ensures, c.as_bytes.ensures.value) (names-step f h (string_bytes c.name-item.result) (map string_bytes (drop (n + 1) names)) c.loop-name.edges.items _ kept)

@@ -1,4 +1,4 @@
-use Rattle.std.proofs.Common.{◌≡◌, ◌++◌, map, drop}
+use Rattle.std.proofs.Common.{string_bytes, ◌≡◌, ◌++◌, map, drop}
 use Rattle.std.specs.List.{filter_map}
 use Rattle.std.specs.Str.{bytes_eq}
 use Rattle.indexmap.specs.IndexMap.{get_by}
@@ -7,5 +7,5 @@ use Rattle.rc_links.proofs.edges.add_names.Given as goal
 
 abbrev pub invariant-loop-name : goal.invariant-loop-name
 invariant-loop-name g l =
-    l.edges.items ++ map (need l.phase l.place) (filter_map (λ bs. get_by (λ key. bytes_eq bs key.now) l.table) (map (λ w. w.items) (drop l.name-index l.names)))
-    ≡ l.fn.edges.items ++ map (need l.phase l.place) (filter_map (λ bs. get_by (λ key. bytes_eq bs key.now) l.table) (map (λ w. w.items) l.names))
+    l.edges.items ++ map (need l.phase l.place) (filter_map (λ bs. get_by (λ key. bytes_eq bs key.now) l.table) (map string_bytes (drop l.name-index l.names)))
+    ≡ l.fn.edges.items ++ map (need l.phase l.place) (filter_map (λ bs. get_by (λ key. bytes_eq bs key.now) l.table) (map string_bytes l.names))

@@ -1,7 +1,7 @@
 use Rattle.std.proofs.Common.{◌≡◌, [], length}
 use Rattle.lsb_header.specs.Lines.{lines_of}
 use Rattle.lsb_header.specs.Blocks.{block_of, description_of}
-use Rattle.lsb_header.proofs.pieces.description_of.Given as goal
+use Rattle.lsb_header.proofs.pieces.described.Given as goal
 
 abbrev pub invariant-loop-line : goal.invariant-loop-line
 invariant-loop-line g l = record {

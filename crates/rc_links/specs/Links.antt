@@ -1,0 +1,57 @@
+-- The links of a plan, and the text that lists them (LSB Core 5.0).
+use Rattle.std.specs.Prelude.{ℕ, ◌+◌, ◌/◌, ◌%◌, Bool, if◌then◌else◌, List, [], ◌∷◌, ◌++◌, map, drop, flat_map, codes}
+use Rattle.std.specs.List.{filter, list_any}
+use Rattle.std.specs.Str.{byte}
+use Rattle.std.specs.Ordering.{nat_cmp, is_lt}
+use Rattle.std.specs.Cmp.Lexicographic.{slice_cmp}
+use Rattle.init_words.specs.declared.levels.Level.{Level}
+use Rattle.init_words.specs.declared.levels.Level.TheVariants.{L0, L1, L2, L3, L4, L5, L6, L7, L8, L9, S}
+use Rattle.init_words.specs.Levels.{level_code, same_level}
+use Rattle.rc_links.specs.PlannedText.{PlannedText}
+
+-- the level is one of these
+abbrev pub has_level : Level → List Level → Bool
+has_level level levels = list_any (λ other. same_level other level) levels
+
+-- a link: its letter, its number in two digits and the script's name
+abbrev pub link_of : ℕ → ℕ → List ℕ → List ℕ
+link_of letter number name = letter ∷ (byte "0" + number / 10 % 10) ∷ (byte "0" + number % 10) ∷ name
+
+-- the script's name in a link
+abbrev pub linked_name : List ℕ → List ℕ
+linked_name link = drop 3 link
+
+-- the first text stands before the second in byte order
+abbrev pub is_before : List ℕ → List ℕ → Bool
+is_before a b = is_lt (slice_cmp nat_cmp a b)
+
+-- texts in byte order with one more, at its place
+abbrev pub placed : List ℕ → List (List ℕ) → List (List ℕ)
+placed text [] = text ∷ []
+placed text (first ∷ texts) = if is_before first text then first ∷ placed text texts else text ∷ first ∷ texts
+
+-- these texts in byte order
+abbrev pub in_byte_order : List (List ℕ) → List (List ℕ)
+in_byte_order [] = []
+in_byte_order (text ∷ texts) = placed text (in_byte_order texts)
+
+-- the links of the scripts that stop at the level
+abbrev pub stop_links : Level → List PlannedText → List (List ℕ)
+stop_links level plan = map (λ s. link_of (byte "K") s.stop s.name) (filter (λ s. has_level level s.stops) plan)
+
+-- the links of the scripts that start at the level
+abbrev pub start_links : Level → List PlannedText → List (List ℕ)
+start_links level plan = map (λ s. link_of (byte "S") s.start s.name) (filter (λ s. has_level level s.starts) plan)
+
+-- a link's line: where it stands, and the script that it names
+abbrev pub link_line : Level → List ℕ → List ℕ
+link_line level link = codes "rc" ++ level_code level ∷ codes ".d/" ++ link ++ codes " ../init.d/" ++ linked_name link ++ codes "\n"
+
+-- the lines of a level: the links that stop, then those that start, each set in byte order
+abbrev pub level_text : List PlannedText → Level → List ℕ
+level_text plan level =
+    flat_map (link_line level) (in_byte_order (stop_links level plan)) ++ flat_map (link_line level) (in_byte_order (start_links level plan))
+
+-- the lines of all levels, 0 to 9 and then S
+abbrev pub plan_text : List PlannedText → List ℕ
+plan_text plan = flat_map (level_text plan) (L0 ∷ L1 ∷ L2 ∷ L3 ∷ L4 ∷ L5 ∷ L6 ∷ L7 ∷ L8 ∷ L9 ∷ S ∷ [])
