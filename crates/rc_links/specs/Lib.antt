@@ -4,5 +4,6 @@ pub mod Links
 pub mod Passes
 pub mod PlannedText
 pub mod Plans
+pub mod Runs
 pub mod ScriptText
 pub mod Scripts

@@ -11,6 +11,8 @@ mod planning;
 mod plans;
 mod printing;
 mod runs;
+#[cfg(test)]
+mod runs_tests;
 mod scripts;
 mod tables;
 #[cfg(test)]
