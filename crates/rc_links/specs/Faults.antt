@@ -1,5 +1,5 @@
 -- What one step of planning is refused for.
-use Rattle.std.specs.Prelude.{◌≡◌, ◌⊎◌, ℕ, ◌<◌, List, Option, Some, map}
+use Rattle.std.specs.Prelude.{string_bytes, ◌≡◌, ◌⊎◌, ℕ, ◌<◌, List, Option, Some, map}
 use Rattle.rc_links.specs.declared.edges.Phase.{Phase}
 use Rattle.rc_links.specs.declared.faults.PlanFault.{PlanFault}
 use Rattle.rc_links.specs.declared.faults.PlanFault.TheVariants as fault
@@ -8,7 +8,7 @@ use Rattle.rc_links.specs.Plans.{IsCycleOf, IsDeep}
 
 -- the name that is provided twice is told, or memory is wanting
 abbrev pub IsDouble : {A : Type 0} → Option (List ℕ) → PlanFault A → Type 0
-IsDouble due (fault.DoubleProvide name) = due ≡ Some name.items
+IsDouble due (fault.DoubleProvide name) = due ≡ Some (string_bytes name)
 IsDouble due (fault.Missing name) = ⊥
 IsDouble due (fault.Cycle names) = ⊥
 IsDouble due fault.TooDeep = ⊥
@@ -17,7 +17,7 @@ IsDouble due fault.Memory = Unit {0}
 -- the name that is missing is told, or memory is wanting
 abbrev pub IsMissing : {A : Type 0} → Option (List ℕ) → PlanFault A → Type 0
 IsMissing due (fault.DoubleProvide name) = ⊥
-IsMissing due (fault.Missing name) = due ≡ Some name.items
+IsMissing due (fault.Missing name) = due ≡ Some (string_bytes name)
 IsMissing due (fault.Cycle names) = ⊥
 IsMissing due fault.TooDeep = ⊥
 IsMissing due fault.Memory = Unit {0}
@@ -26,7 +26,7 @@ IsMissing due fault.Memory = Unit {0}
 abbrev pub IsRound : {A : Type 0} → Phase → List ScriptText → PlanFault A → Type 0
 IsRound turn scripts (fault.DoubleProvide name) = ⊥
 IsRound turn scripts (fault.Missing name) = ⊥
-IsRound turn scripts (fault.Cycle names) = IsCycleOf turn scripts (map (λ name. name.items) names.items)
+IsRound turn scripts (fault.Cycle names) = IsCycleOf turn scripts (map string_bytes names.items)
 IsRound turn scripts fault.TooDeep = ⊥
 IsRound turn scripts fault.Memory = Unit {0}
 
@@ -34,7 +34,7 @@ IsRound turn scripts fault.Memory = Unit {0}
 abbrev pub IsNamed : {A : Type 0} → List (List ℕ) → PlanFault A → Type 0
 IsNamed given (fault.DoubleProvide name) = ⊥
 IsNamed given (fault.Missing name) = ⊥
-IsNamed given (fault.Cycle names) = map (λ name. name.items) names.items ≡ given
+IsNamed given (fault.Cycle names) = map string_bytes names.items ≡ given
 IsNamed given fault.TooDeep = ⊥
 IsNamed given fault.Memory = Unit {0}
 

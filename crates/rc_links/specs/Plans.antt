@@ -1,5 +1,5 @@
 -- What a plan of scripts says, and why scripts have none (LSB Core 5.0).
-use Rattle.std.specs.Prelude.{◌≡◌, ◌⊎◌, ℕ, ◌<◌, ◌≤◌, List, [], ◌∷◌, map, get_or, length, Some, None}
+use Rattle.std.specs.Prelude.{string_bytes, ◌≡◌, ◌⊎◌, ℕ, ◌<◌, ◌≤◌, List, [], ◌∷◌, map, get_or, length, Some, None}
 use Rattle.std.specs.List.{AllByRecursion}
 use Rattle.rc_links.specs.declared.edges.Phase.{Phase}
 use Rattle.rc_links.specs.declared.edges.Phase.TheVariants as phase
@@ -62,11 +62,11 @@ pub record IsCycleOf (turn : Phase) (scripts : List ScriptText) (names : List (L
 
 -- why scripts have no plan: the first check that fails
 abbrev pub IsRefused : {A : Type 0} → List ScriptText → PlanFault A → Type 0
-IsRefused scripts (fault.DoubleProvide name) = double_from [] scripts ≡ Some name.items
-IsRefused scripts (fault.Missing name) = (double_from [] scripts ≡ None) × (missing_from scripts scripts ≡ Some name.items)
+IsRefused scripts (fault.DoubleProvide name) = double_from [] scripts ≡ Some (string_bytes name)
+IsRefused scripts (fault.Missing name) = (double_from [] scripts ≡ None) × (missing_from scripts scripts ≡ Some (string_bytes name))
 IsRefused scripts (fault.Cycle names) = IsProvided scripts ×
-    (IsCycleOf phase.Start scripts (map (λ name. name.items) names.items)
-    ⊎ (starts : List ℕ) × AreLeast phase.Start scripts starts × IsCycleOf phase.Stop scripts (map (λ name. name.items) names.items))
+    (IsCycleOf phase.Start scripts (map string_bytes names.items)
+    ⊎ (starts : List ℕ) × AreLeast phase.Start scripts starts × IsCycleOf phase.Stop scripts (map string_bytes names.items))
 IsRefused scripts fault.TooDeep = IsProvided scripts × (starts : List ℕ) × (stops : List ℕ)
     × AreLeast phase.Start scripts starts × AreLeast phase.Stop scripts stops × (IsDeep starts ⊎ IsDeep stops)
 IsRefused scripts fault.Memory = Unit {0}

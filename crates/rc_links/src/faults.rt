@@ -1,20 +1,43 @@
 use init_words::Memory;
 use std::alloc::{AllocFailed, Allocator, Global};
+use std::error::Error;
+use std::fmt;
 
 /// Why scripts have no plan: the first check that fails, in this order.
 #[derive(Drop)]
+#[derive_where(Debug, PartialEq, Eq)]
 pub enum PlanFault<A: Allocator = Global> {
     /// A script provides this name as an earlier one does, or has an earlier one's name.
-    DoubleProvide(Vec<u8, A>),
+    DoubleProvide(String<A>),
     /// No script provides this name, and one requires it.
-    Missing(Vec<u8, A>),
+    Missing(String<A>),
     /// The script of each name needs the next and the last the first, which is the earliest.
-    Cycle(Vec<Vec<u8, A>, A>),
+    Cycle(Vec<String<A>, A>),
     /// A number would be above 99.
     TooDeep,
     /// Want of memory.
     Memory,
 }
+
+impl<A: Allocator> fmt::Display for PlanFault<A> {
+    fn fmt<W: fmt::Write>(&self, f: &mut fmt::Formatter<W>) -> fmt::Result {
+        match self {
+            PlanFault::DoubleProvide(name) => write!(f, "provided twice: {name}"),
+            PlanFault::Missing(name) => write!(f, "missing: {name}"),
+            PlanFault::Cycle(names) => {
+                f.write_str("cycle:")?;
+                for name in names {
+                    write!(f, " {name}")?;
+                }
+                Ok(())
+            }
+            PlanFault::TooDeep => f.write_str("too deep"),
+            PlanFault::Memory => f.write_str("out of memory"),
+        }
+    }
+}
+
+impl<A: Allocator> Error for PlanFault<A> {}
 
 impl<A: Allocator> From<Memory> for PlanFault<A> {
     ghost use Rattle.std.specs.Prelude.{◌≡◌};

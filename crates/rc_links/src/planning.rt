@@ -1,4 +1,4 @@
-ghost use Rattle.std.specs.Prelude.{◌≡◌, ◌≤◌, ◌<◌, ℕ, List, IfOk, IfErr, IfSome, IfNone, length, map};
+ghost use Rattle.std.specs.Prelude.{◌≡◌, ◌≤◌, ◌<◌, ℕ, List, IfOk, IfErr, IfSome, IfNone, length, map, string_bytes};
 ghost use Rattle.std.specs.List.{AllByRecursion};
 ghost use Rattle.std.specs.Str.{bytes_eq};
 ghost use Rattle.indexmap.specs.IndexMap.{get_by};
@@ -24,13 +24,13 @@ fn names_at<A: Allocator + Copy>(
     alloc: A,
     scripts: &[Script<A>],
     places: &[usize],
-) -> Result<Vec<Vec<u8, A>, A>, Memory>
+) -> Result<Vec<String<A>, A>, Memory>
     requires { AllBelow (length scripts.now) places.now }
-    ensures { IfOk result (λ names. map (λ w. w.items) names.items ≡ names_at scripts.now places.now) }
+    ensures { IfOk result (λ names. map string_bytes names.items ≡ names_at scripts.now places.now) }
 {
     let mut names = Vec::new(alloc);
     for place in places {
-        names.push(Vec::from_slice(alloc, scripts[*place].name())?)?;
+        names.push(String::from_str(alloc, scripts[*place].name())?)?;
     }
     Ok(names)
 }
@@ -89,7 +89,7 @@ fn planned<A: Allocator + Copy>(
     ensures { IfOk result (λ s. s ≡ planned script.now start stop) }
 {
     let header = script.header();
-    let name = Vec::from_slice(alloc, script.name())?;
+    let name = String::from_str(alloc, script.name())?;
     let starts = Vec::from_slice(alloc, header.default_start())?;
     let stops = Vec::from_slice(alloc, header.default_stop())?;
     Ok(Planned::new(name, start, stop, starts, stops))

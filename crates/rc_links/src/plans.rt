@@ -1,4 +1,4 @@
-ghost use Rattle.std.specs.Prelude.{◌≡◌, find, IfSome, IfNone};
+ghost use Rattle.std.specs.Prelude.{◌≡◌, string_bytes, find, IfSome, IfNone};
 ghost use Rattle.std.specs.Option.{option_map};
 ghost use Rattle.std.specs.Str.{bytes_eq};
 
@@ -9,7 +9,7 @@ use std::marker::Model;
 /// A script with its numbers.
 #[derive(Drop)]
 pub(crate) struct Planned<A: Allocator> {
-    name: Vec<u8, A>,
+    name: String<A>,
     start: u8,
     stop: u8,
     starts: Vec<Level, A>,
@@ -17,23 +17,24 @@ pub(crate) struct Planned<A: Allocator> {
 }
 
 impl<A: Allocator> Model for Planned<A> {
+    ghost use Rattle.std.specs.Prelude.{string_bytes};
     ghost use Rattle.rc_links.specs.PlannedText.{PlannedText};
 
     ghost Value = { PlannedText };
 
-    ghost view = { λ s. record { name = s.name.items; start = s.start; stop = s.stop; starts = s.starts.items; stops = s.stops.items } };
+    ghost view = { λ s. record { name = string_bytes s.name; start = s.start; stop = s.stop; starts = s.starts.items; stops = s.stops.items } };
 }
 
 impl<A: Allocator> Planned<A> {
     /// A script with these numbers, which starts and stops at these runlevels.
     pub(crate) fn new(
-        name: Vec<u8, A>,
+        name: String<A>,
         start: u8,
         stop: u8,
         starts: Vec<Level, A>,
         stops: Vec<Level, A>,
     ) -> Planned<A>
-        ensures { result ≡ record { name = name.items; start = start; stop = stop; starts = starts.items; stops = stops.items } }
+        ensures { result ≡ record { name = string_bytes name; start = start; stop = stop; starts = starts.items; stops = stops.items } }
     {
         Planned {
             name,
@@ -45,10 +46,10 @@ impl<A: Allocator> Planned<A> {
     }
 
     /// The name of its file.
-    pub(crate) fn name(&self) -> &[u8]
+    pub(crate) fn name(&self) -> &str
         ensures { result.now ≡ self.now.name }
     {
-        self.name.as_slice()
+        self.name.as_str()
     }
 
     /// The number by which it starts.
@@ -117,7 +118,7 @@ impl<A: Allocator> Plan<A> {
         self.scripts.iter().find(
             |script: &&Planned<A>| -> bool
                 ensures { result ≡ bytes_eq script.now.now.name name.entry.now }
-            { script.name() == name.as_bytes() },
+            { script.name() == name },
         )
     }
 

@@ -54,7 +54,7 @@ fn add_stop_link<A: Allocator + Copy>(
     ensures { OnOk result (map (λ link. link.items) links.new.items ≡ map (λ link. link.items) links.old.items ++ stop_links level (script.now ∷ [])) }
 {
     if has_level(script.stops(), level) {
-        links.push(link_of(alloc, b'K', script.stop(), script.name())?)?;
+        links.push(link_of(alloc, b'K', script.stop(), script.name().as_bytes())?)?;
     }
     Ok(())
 }
@@ -69,7 +69,7 @@ fn add_start_link<A: Allocator + Copy>(
     ensures { OnOk result (map (λ link. link.items) links.new.items ≡ map (λ link. link.items) links.old.items ++ start_links level (script.now ∷ [])) }
 {
     if has_level(script.starts(), level) {
-        links.push(link_of(alloc, b'S', script.start(), script.name())?)?;
+        links.push(link_of(alloc, b'S', script.start(), script.name().as_bytes())?)?;
     }
     Ok(())
 }

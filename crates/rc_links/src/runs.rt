@@ -1,4 +1,4 @@
-ghost use Rattle.std.specs.Prelude.{◌≡◌, ◌⊎◌, [], map, string_bytes, IfOk, IfErr, OnOk};
+ghost use Rattle.std.specs.Prelude.{◌≡◌, ◌⊎◌, true, [], map, string_bytes, IfOk, IfErr, OnOk};
 ghost use Rattle.std.specs.List.{list_all};
 ghost use Rattle.rc_links.specs.Runs.{AddsScript, AreScripts, EndsByFault, IsNoScript, IsScriptAt, IsScriptOf, PrintsLinks, PrintsPlan, file_status, is_name, is_name_byte, last_part, plan_status};
 
@@ -8,9 +8,9 @@ use crate::scripts::Script;
 use init_words::Memory;
 use lsb_header::{HeaderFault, read};
 use std::alloc::Global;
+use std::fs;
 use std::io::Write;
 use std::rt::Files;
-use std::{fs, io};
 
 /// The links were printed.
 const DONE: u8 = 0;
@@ -99,6 +99,17 @@ fn is_name(name: &[u8]) -> bool
     !name.is_empty() && has_name_bytes(name)
 }
 
+/// A string of a name that a link may have.
+fn name_of(alloc: Global, name: &[u8]) -> Result<String, Memory>
+    requires { is_name name.now ≡ true }
+    ensures { IfOk result (λ text. string_bytes text ≡ name.now) }
+{
+    match String::from_utf8(Vec::from_slice(alloc, name)?) {
+        Ok(text) => Ok(text),
+        Err(_) => unreachable!(),
+    }
+}
+
 /// The script of a file with this name and text.
 fn script_in(alloc: Global, name: &[u8], text: &[u8]) -> Result<Script, FileFault>
     ensures script { IfOk result (IsScriptOf name.now text.now) }
@@ -112,8 +123,7 @@ fn script_in(alloc: Global, name: &[u8], text: &[u8]) -> Result<Script, FileFaul
         Err(HeaderFault::Memory) => return Err(FileFault::Memory),
         Err(_) => return Err(FileFault::Header),
     };
-    let name = Vec::from_slice(alloc, name).map_err(Memory::from)?;
-    Ok(Script::new(name, header))
+    Ok(Script::new(name_of(alloc, name)?, header))
 }
 
 /// Reads the script of a path.
@@ -166,35 +176,11 @@ fn tell_file<E: Write>(refusal: &Refusal, err: &mut E) -> u8
     refusal.fault.status()
 }
 
-/// Writes what is told of a fault of the plan.
-fn write_fault<E: Write>(fault: &PlanFault, err: &mut E) -> io::Result<()> {
-    match fault {
-        PlanFault::DoubleProvide(name) => {
-            err.write_all(b"rclinks: provided twice: ")?;
-            err.write_all(name.as_slice())?;
-        }
-        PlanFault::Missing(name) => {
-            err.write_all(b"rclinks: missing: ")?;
-            err.write_all(name.as_slice())?;
-        }
-        PlanFault::Cycle(names) => {
-            err.write_all(b"rclinks: cycle:")?;
-            for name in names {
-                err.write_all(b" ")?;
-                err.write_all(name.as_slice())?;
-            }
-        }
-        PlanFault::TooDeep => err.write_all(b"rclinks: too deep")?,
-        PlanFault::Memory => err.write_all(b"rclinks: out of memory")?,
-    }
-    err.write_all(b"\n")
-}
-
 /// Tells a fault of the plan, and gives the exit status.
 fn tell_fault<E: Write>(fault: &PlanFault, err: &mut E) -> u8
     ensures { result ≡ plan_status fault.now }
 {
-    let _ = write_fault(fault, err);
+    let _ = writeln!(err, "rclinks: {fault}");
     match fault {
         PlanFault::Memory => DEVICE_FAULT,
         _ => REFUSED,

@@ -1,4 +1,4 @@
-ghost use Rattle.std.specs.Prelude.{◌≡◌};
+ghost use Rattle.std.specs.Prelude.{◌≡◌, string_bytes};
 
 use lsb_header::Header;
 use std::alloc::{Allocator, Global};
@@ -7,31 +7,32 @@ use std::marker::Model;
 /// An init script: its file's name and its header.
 #[derive(Drop)]
 pub struct Script<A: Allocator = Global> {
-    name: Vec<u8, A>,
+    name: String<A>,
     header: Header<A>,
 }
 
 impl<A: Allocator> Model for Script<A> {
+    ghost use Rattle.std.specs.Prelude.{string_bytes};
     ghost use Rattle.rc_links.specs.ScriptText.{ScriptText};
 
     ghost Value = { ScriptText };
 
-    ghost view = { λ s. record { name = s.name.items; header = s.header } };
+    ghost view = { λ s. record { name = string_bytes s.name; header = s.header } };
 }
 
 impl<A: Allocator> Script<A> {
     /// A script of this name and header.
-    pub fn new(name: Vec<u8, A>, header: Header<A>) -> Script<A>
-        ensures { result ≡ record { name = name.items; header = header } }
+    pub fn new(name: String<A>, header: Header<A>) -> Script<A>
+        ensures { result ≡ record { name = string_bytes name; header = header } }
     {
         Script { name, header }
     }
 
     /// The name of its file.
-    pub fn name(&self) -> &[u8]
+    pub fn name(&self) -> &str
         ensures { result.now ≡ self.now.name }
     {
-        self.name.as_slice()
+        self.name.as_str()
     }
 
     /// Its header.

@@ -52,12 +52,12 @@ fn add_provided<'a, A: Allocator + Clone>(
 fn first_known<'s, A: Allocator, B: Allocator>(
     table: &Table<'_, A>,
     names: &'s [String<B>],
-) -> Option<&'s [u8]>
+) -> Option<&'s str>
     ensures { option_map (λ name. name.now) result ≡ find (λ name. is_some (get_by (λ key. bytes_eq name key.now) table.now)) (map string_bytes names.now) }
 {
     for name in names {
         if place_at(table, name.as_bytes()).is_some() {
-            return Some(name.as_bytes());
+            return Some(name.as_str());
         }
     }
     None
@@ -68,13 +68,13 @@ fn doubled<'s, A: Allocator>(
     script: &'s Script<A>,
     provided: &Table<'_, A>,
     names: &Table<'_, A>,
-) -> Option<&'s [u8]>
+) -> Option<&'s str>
     ensures { option_map (λ name. name.now) result ≡ option_or (find (λ name. is_some (get_by (λ key. bytes_eq name key.now) provided.now)) script.now.header.provides) (if is_some (get_by (λ key. bytes_eq script.now.name key.now) names.now) then Some script.now.name else None) }
 {
     if let Some(name) = first_known(provided, script.header().provides()) {
         return Some(name);
     }
-    if place_at(names, script.name()).is_some() {
+    if place_at(names, script.name().as_bytes()).is_some() {
         return Some(script.name());
     }
     None
@@ -97,26 +97,26 @@ pub(crate) fn table_of<A: Allocator + Copy>(
             return Err(double_told(alloc, name));
         }
         add_provided(&mut provided, script, place)?;
-        set_place(&mut names, script.name(), place)?;
+        set_place(&mut names, script.name().as_bytes(), place)?;
     }
     Ok(provided)
 }
 
 /// The fault of a name that is provided twice.
-fn double_told<A: Allocator>(alloc: A, name: &[u8]) -> PlanFault<A>
+fn double_told<A: Allocator>(alloc: A, name: &str) -> PlanFault<A>
     ensures { IsDouble (Some name.now) result }
 {
-    match Vec::from_slice(alloc, name) {
+    match String::from_str(alloc, name) {
         Ok(name) => PlanFault::DoubleProvide(name),
         Err(_) => PlanFault::Memory,
     }
 }
 
 /// The fault of a name that is missing.
-fn missing_told<A: Allocator>(alloc: A, name: &[u8]) -> PlanFault<A>
+fn missing_told<A: Allocator>(alloc: A, name: &str) -> PlanFault<A>
     ensures { IsMissing (Some name.now) result }
 {
-    match Vec::from_slice(alloc, name) {
+    match String::from_str(alloc, name) {
         Ok(name) => PlanFault::Missing(name),
         Err(_) => PlanFault::Memory,
     }
@@ -136,19 +136,19 @@ fn is_system(name: &[u8]) -> bool
 fn missing_in<'s, A: Allocator, B: Allocator>(
     table: &Table<'_, A>,
     names: &'s [String<B>],
-) -> Option<&'s [u8]>
+) -> Option<&'s str>
     ensures { option_map (λ name. name.now) result ≡ find (λ name. not (is_system name) && not (is_some (get_by (λ key. bytes_eq name key.now) table.now))) (map string_bytes names.now) }
 {
     for name in names {
         if !is_system(name.as_bytes()) && place_at(table, name.as_bytes()).is_none() {
-            return Some(name.as_bytes());
+            return Some(name.as_str());
         }
     }
     None
 }
 
 /// The first name that a script requires and no script provides.
-fn missing_of<'s, A: Allocator>(table: &Table<'_, A>, script: &'s Script<A>) -> Option<&'s [u8]>
+fn missing_of<'s, A: Allocator>(table: &Table<'_, A>, script: &'s Script<A>) -> Option<&'s str>
     ensures { option_map (λ name. name.now) result ≡ option_or (find (λ name. not (is_system name) && not (is_some (get_by (λ key. bytes_eq name key.now) table.now))) script.now.header.required_start) (find (λ name. not (is_system name) && not (is_some (get_by (λ key. bytes_eq name key.now) table.now))) script.now.header.required_stop) }
 {
     let header = script.header();

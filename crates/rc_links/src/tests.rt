@@ -16,33 +16,15 @@ fn script(alloc: Global, name: &str, provides: &str, needs: &str) -> Result<Scri
 "
     )?;
     let header = read(alloc, text.as_bytes()).map_err(|_| Fail::from("header"))?;
-    Ok(Script::new(Vec::from_slice(alloc, name.as_bytes())?, header))
+    Ok(Script::new(String::from_str(alloc, name)?, header))
 }
 
-/// What a plan comes to: its text, or its fault.
+/// What a plan comes to: its text, or the text of its fault.
 fn told(alloc: Global, scripts: &[Script]) -> Result<Vec<u8>, Fail> {
-    let mut text = Vec::new(alloc);
     match plan(alloc, scripts) {
-        Ok(plan) => return Ok(plan.print(alloc).map_err(|_| Fail::from("memory"))?),
-        Err(PlanFault::Missing(name)) => {
-            text.extend_from_slice(b"missing ")?;
-            text.extend_from_slice(name.as_slice())?;
-        }
-        Err(PlanFault::DoubleProvide(name)) => {
-            text.extend_from_slice(b"double ")?;
-            text.extend_from_slice(name.as_slice())?;
-        }
-        Err(PlanFault::Cycle(names)) => {
-            text.extend_from_slice(b"cycle")?;
-            for name in &names {
-                text.push(b' ')?;
-                text.extend_from_slice(name.as_slice())?;
-            }
-        }
-        Err(PlanFault::TooDeep) => text.extend_from_slice(b"too deep")?,
-        Err(PlanFault::Memory) => text.extend_from_slice(b"memory")?,
+        Ok(plan) => Ok(plan.print(alloc).map_err(|_| Fail::from("memory"))?),
+        Err(fault) => Ok(format!(in alloc; "{fault}")?.into_bytes()),
     }
-    Ok(text)
 }
 
 #[test]
@@ -53,7 +35,7 @@ fn three_scripts(rt: HostRuntime) -> Result<(), Fail> {
     scripts.push(script(alloc, "web", "www", "db")?)?;
     assert_eq!(rt;
         told(alloc, scripts.as_slice())?.as_slice(),
-        b"missing db".as_slice()
+        b"missing: db".as_slice()
     );
     scripts.push(script(alloc, "db", "", "net")?)?;
     let want =
@@ -65,7 +47,7 @@ fn three_scripts(rt: HostRuntime) -> Result<(), Fail> {
     scripts.push(script(alloc, "x", "www", "")?)?;
     assert_eq!(rt;
         told(alloc, scripts.as_slice())?.as_slice(),
-        b"double www".as_slice()
+        b"provided twice: www".as_slice()
     );
     Ok(())
 }
@@ -99,13 +81,13 @@ fn cycles(rt: HostRuntime) -> Result<(), Fail> {
     scripts.push(script(alloc, "b", "", "a")?)?;
     assert_eq!(rt;
         told(alloc, scripts.as_slice())?.as_slice(),
-        b"cycle a b".as_slice()
+        b"cycle: a b".as_slice()
     );
     let mut scripts = Vec::new(alloc);
     scripts.push(script(alloc, "a", "", "a")?)?;
     assert_eq!(rt;
         told(alloc, scripts.as_slice())?.as_slice(),
-        b"cycle a".as_slice()
+        b"cycle: a".as_slice()
     );
     Ok(())
 }
@@ -149,7 +131,7 @@ fn several_cycles(rt: HostRuntime) -> Result<(), Fail> {
     scripts.push(script(alloc, "d", "", "a")?)?;
     assert_eq!(rt;
         told(alloc, scripts.as_slice())?.as_slice(),
-        b"cycle a b".as_slice()
+        b"cycle: a b".as_slice()
     );
     let mut scripts = Vec::new(alloc);
     scripts.push(script(alloc, "top", "", "b y")?)?;
@@ -160,7 +142,7 @@ fn several_cycles(rt: HostRuntime) -> Result<(), Fail> {
     scripts.push(script(alloc, "y", "", "x")?)?;
     assert_eq!(rt;
         told(alloc, scripts.as_slice())?.as_slice(),
-        b"cycle a b c".as_slice()
+        b"cycle: a b c".as_slice()
     );
     Ok(())
 }
@@ -190,7 +172,6 @@ fn crowd(alloc: Global, count: u32, gap: u32) -> Result<Vec<Script>, Fail> {
 "
         )?;
         let header = read(alloc, text.as_bytes()).map_err(|_| Fail::from("header"))?;
-        let name = Vec::from_slice(alloc, name.as_bytes())?;
         scripts.push(Script::new(name, header))?;
     }
     Ok(scripts)
@@ -212,7 +193,7 @@ fn crowds(rt: HostRuntime) -> Result<(), Fail> {
 /// A script of this name and header.
 fn headed(alloc: Global, name: &str, header: &str) -> Result<Script, Fail> {
     let header = read(alloc, header.as_bytes()).map_err(|_| Fail::from("header"))?;
-    Ok(Script::new(Vec::from_slice(alloc, name.as_bytes())?, header))
+    Ok(Script::new(String::from_str(alloc, name)?, header))
 }
 
 /// Starts and stops at several runlevels, some of them named twice.

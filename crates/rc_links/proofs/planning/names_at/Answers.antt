@@ -1,4 +1,4 @@
-use Rattle.std.proofs.Common.{◌≡◌, ◌∙◌, ◌+◌, ◌++◌, sym, ap, get_or, drop, map}
+use Rattle.std.proofs.Common.{string_bytes, ◌≡◌, ◌∙◌, ◌+◌, ◌++◌, sym, ap, get_or, drop, map}
 use Rattle.rc_links.specs.Plans.{names_at}
 use Rattle.rc_links.proofs.PlanLemmas.{cut_number, map-last, names-step}
 use Rattle.rc_links.proofs.planning.names_at.Goals as goal
@@ -9,7 +9,7 @@ loop-place-preserved g c =
     let places = c.args.places.now in
     let n = c.loop-place.place-index in
     let cut = cut_number places n c.loop-place-test.true in
-    let kept = ap (λ xs. map (λ w. w.items) c.loop-place.names.items ++ names_at scripts xs) (sym cut) ∙ c.loop-place.invariant in
-    let name : c.in_ok-from_slice.field-0.items ≡ c.index-scripts-place.result.name = c.in_ok-from_slice.ensures.items ∙ c.name.ensures in
-    let step = names-step scripts (get_or places n 0) (drop (n + 1) places) (map (λ w. w.items) c.loop-place.names.items) _ c.index-scripts-place.result (c.requires n c.loop-place-test.true) c.index-scripts-place.is kept in
-    rw (c.in_ok-push.ensures.items, map-last (λ w. w.items) c.loop-place.names.items c.in_ok-from_slice.field-0, name) step
+    let kept = ap (λ xs. map string_bytes c.loop-place.names.items ++ names_at scripts xs) (sym cut) ∙ c.loop-place.invariant in
+    let name : string_bytes c.in_ok-from_str.field-0 ≡ c.index-scripts-place.result.name = c.in_ok-from_str.ensures.ok ∙ c.name.ensures in
+    let step = names-step scripts (get_or places n 0) (drop (n + 1) places) (map string_bytes c.loop-place.names.items) _ c.index-scripts-place.result (c.requires n c.loop-place-test.true) c.index-scripts-place.is kept in
+    rw (c.in_ok-push.ensures.items, map-last string_bytes c.loop-place.names.items c.in_ok-from_str.field-0, name) step

@@ -38,9 +38,10 @@ loop-place-preserved g c =
     let is = doubled-is (λ bs. get_by (λ key. bytes_eq bs key.now) c.loop-place.provided) (λ bs. get_by (λ key. bytes_eq bs key.now) c.loop-place.names) (take n all) s c.loop-place.invariant.places c.loop-place.invariant.named in
     let none : doubled (take n all) s ≡ None = sym is ∙ sym c.in_default.ensures in
     let same = ap (λ xs. double_from (take n all) xs) (sym cut.0) ∙ c.loop-place.invariant.single in
+    let named : c.as_bytes.result.now ≡ s.name = c.as_bytes.ensures.value ∙ c.name.ensures in
     rw cut.1 (record {
       places = λ bs. c.in_ok-add_provided.ensures bs ∙ rw (c.loop-place.invariant.places bs, place-next (take n all) s bs (unknown (take n all) s none), cut.2) refl;
-      named = λ bs. rw (c.in_ok-set_place.ensures bs, c.name.ensures) (named-next (take n all) s bs (get_by (λ key. bytes_eq bs key.now) c.loop-place.names) n (c.loop-place.invariant.named bs));
+      named = λ bs. rw (c.in_ok-set_place.ensures bs, named) (named-next (take n all) s bs (get_by (λ key. bytes_eq bs key.now) c.loop-place.names) n (c.loop-place.invariant.named bs));
       single = double-next all (take n all) (drop (n + 1) all) s same none;
     })
 
