@@ -6,3 +6,4 @@ pub mod PassLemmas
 pub mod PathLemmas
 pub mod PlanLemmas
 pub mod StepLemmas
+pub mod TurnLemmas

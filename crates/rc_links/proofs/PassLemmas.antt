@@ -205,6 +205,13 @@ IsPartial-start count edges = record {
 abbrev pub AreHeights : List (ℕ × ℕ) → List ℕ → List ℕ → Type 0
 AreHeights edges numbers heights = (a : ℕ) → a < length numbers → get_or heights a 0 ≡ height_from numbers a 1 edges
 
+-- what the heights are where only some places may have one
+abbrev pub AreSound : List (ℕ × ℕ) → List ℕ → List ℕ → Type 0
+AreSound edges numbers heights = (a : ℕ) → 0 < get_or heights a 0 → get_or heights a 0 ≡ height_from numbers a 1 edges
+
+pub AreHeights-sound : (edges : List (ℕ × ℕ)) (numbers heights : List ℕ) → length heights ≡ length numbers → AreHeights edges numbers heights → AreSound edges numbers heights
+AreHeights-sound edges numbers heights same are a some = are a (rw (← same) (get_or-some heights a some))
+
 -- the number of a place after a pass: its own, or its height where it had none
 abbrev After : List ℕ → List ℕ → ℕ → Type 0
 After numbers heights a =
@@ -225,17 +232,12 @@ kept_number numbers heights a same some = elim (after numbers heights a same) [
   | inr new ↦ absurd (omega (arith, new.0))
 ]
 
-module _ (count : ℕ) (edges : List (ℕ × ℕ)) (numbers heights : List ℕ) (range : InRange count edges) (p : IsPartial count edges numbers) (same : length heights ≡ length numbers) (are : AreHeights edges numbers heights) where
-  -- a place that has a height is one of the places
-  placed : (a : ℕ) → 0 < get_or heights a 0 → a < length numbers
-  placed a some = rw (← same) (get_or-some heights a some)
-
+module _ (count : ℕ) (edges : List (ℕ × ℕ)) (numbers heights : List ℕ) (p : IsPartial count edges numbers) (same : length heights ≡ length numbers) (are : AreSound edges numbers heights) where
   height_small : (a : ℕ) → 0 < get_or heights a 0 → get_or heights a 0 + zeros numbers ≤ count + 1
   height_small a some =
-      let within = placed a some in
       let high : height_from numbers a 1 edges ≤ count - zeros numbers + 1 =
       height-least numbers a 1 edges (count - zeros numbers + 1) (omega arith) (λ b need. omega (arith, p.small b)) in
-      omega (arith, are a within, zeros-le numbers, p.size)
+      omega (arith, are a some, zeros-le numbers, p.size)
 
   small_by : (a h : ℕ) → get_or heights a 0 ≡ h → zeros (settled numbers heights) < zeros numbers → get_or (settled numbers heights) a 0 ≡ get_or heights a 0 → get_or (settled numbers heights) a 0 + zeros (settled numbers heights) ≤ count
   small_by a zero at less is = omega (arith, zeros-le numbers, p.size)
@@ -244,10 +246,9 @@ module _ (count : ℕ) (edges : List (ℕ × ℕ)) (numbers heights : List ℕ) 
   least_new : (number : ℕ → ℕ) → IsNumbering edges number → (a h : ℕ) → get_or heights a 0 ≡ h → get_or (settled numbers heights) a 0 ≡ get_or heights a 0 → get_or (settled numbers heights) a 0 ≤ number a
   least_new number is a zero at new = omega arith
   least_new number is a (suc h) at new =
-      let within = placed a (omega arith) in
       let low : height_from numbers a 1 edges ≤ number a =
       height-least numbers a 1 edges (number a) (is.some a) (λ b need. omega (arith, p.least number is b, is.rises a b need)) in
-      omega (arith, are a within)
+      omega (arith, are a (omega arith))
 
   small_new : (a : ℕ) (x : Fewer numbers (settled numbers heights)) → get_or numbers a 0 ≡ 0 → get_or (settled numbers heights) a 0 ≡ get_or heights a 0 → get_or (settled numbers heights) a 0 + zeros (settled numbers heights) ≤ count
   small_new a (inl e) none is = rw e (p.small a)
@@ -265,7 +266,7 @@ module _ (count : ℕ) (edges : List (ℕ × ℕ)) (numbers heights : List ℕ) 
           let kept = kept_number numbers heights b same low.0 in
           (omega (arith, kept, low.0), omega (arith, kept, old.1, low.1)))
       | inr new ↦ (let high : 0 < get_or heights a 0 = omega (arith, new.1) in
-          let at = are a (placed a high) in
+          let at = are a high in
           let low = (height-above numbers a 1 edges (omega (arith, at))).above b need in
           let kept = kept_number numbers heights b same low.0 in
           (omega (arith, kept, low.0), omega (arith, kept, new.1, at, low.1)))

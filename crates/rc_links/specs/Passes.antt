@@ -1,5 +1,5 @@
--- How numbers are given, pass by pass: 0 is no number.
-use Rattle.std.specs.Prelude.{◌≡◌, ℕ, ◌+◌, ◌<◌, ◌≤◌, ◌==◌, ◌||◌, ◌&&◌, max, if◌then◌else◌, List, [], ◌∷◌, get_or, length}
+-- How numbers are given, in turn and pass by pass: 0 is no number.
+use Rattle.std.specs.Prelude.{◌≡◌, ℕ, ◌+◌, ◌<◌, ◌≤◌, ◌==◌, ◌||◌, ◌&&◌, max, if◌then◌else◌, List, [], ◌∷◌, ◌++◌, get_or, length}
 use Rattle.rc_links.specs.Graph.{Needs, IsNumbering}
 
 -- a height after one more need of this number: none where the need has none
@@ -11,6 +11,16 @@ abbrev pub height_from : List ℕ → ℕ → ℕ → List (ℕ × ℕ) → ℕ
 height_from numbers a height [] = height
 height_from numbers a height (edge ∷ edges) =
     height_from numbers a (if edge.0 == a then raised height (get_or numbers edge.1 0) else height) edges
+
+-- the places that a place needs, in the order of the needs
+abbrev pub needs_at : ℕ → List (ℕ × ℕ) → List ℕ
+needs_at a [] = []
+needs_at a (edge ∷ edges) = (if edge.0 == a then edge.1 ∷ [] else []) ++ needs_at a edges
+
+-- a height after these needs
+abbrev pub raised_all : List ℕ → ℕ → List ℕ → ℕ
+raised_all numbers height [] = height
+raised_all numbers height (need ∷ needs) = raised_all numbers (raised height (get_or numbers need 0)) needs
 
 -- a need of the place without a number, the last of these
 abbrev pub need_from : List ℕ → ℕ → ℕ → List (ℕ × ℕ) → ℕ

@@ -2,11 +2,12 @@ ghost use Rattle.std.specs.Prelude.{◌≡◌, ◌+◌, ◌<◌, ◌≤◌, ℕ,
 ghost use Rattle.rc_links.specs.Graph.{IsCycle, IsNumbering, Needs, Walk};
 ghost use Rattle.rc_links.specs.Passes.{InRange, IsPartial, IsStuck, height_from, need_from, raised, settled};
 
+use crate::turns::in_turn;
 use init_words::Memory;
 use std::alloc::Allocator;
 
 /// A height after one more need of this number: none where the need has none.
-fn raised(height: usize, number: usize) -> usize
+pub(crate) fn raised(height: usize, number: usize) -> usize
     requires { number + 1 < 18446744073709551616 }
     ensures { result ≡ raised height number }
 {
@@ -58,7 +59,8 @@ fn settled<A: Allocator>(
     Ok(next)
 }
 
-/// The least numbers of the places, and 0 for those that can have none.
+/// The least numbers of the places, and 0 for those that can have none. They are given in turn; a pass then shows that
+/// no place is left that could have one.
 pub(crate) fn numbers<A: Allocator + Copy>(
     alloc: A,
     count: usize,
@@ -68,7 +70,7 @@ pub(crate) fn numbers<A: Allocator + Copy>(
     ensures partial { IfOk result (λ numbers. IsPartial count edges.now numbers.items) }
     ensures stuck { IfOk result (λ numbers. IsStuck count edges.now numbers.items) }
 {
-    let mut numbers = vec![in alloc; 0; count]?;
+    let mut numbers = in_turn(alloc, count, edges)?;
     'passes: while numbers.contains(&0) {
         let heights = heights(alloc, edges, numbers.as_slice())?;
         let next = settled(alloc, numbers.as_slice(), heights.as_slice())?;

@@ -17,6 +17,7 @@ mod scripts;
 mod tables;
 #[cfg(test)]
 mod tests;
+mod turns;
 
 pub use faults::PlanFault;
 pub use planning::plan;

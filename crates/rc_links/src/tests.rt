@@ -1,3 +1,4 @@
+use crate::turns::in_turn;
 use crate::{Plan, PlanFault, Script, plan};
 use lsb_header::read;
 use std::alloc::Global;
@@ -187,6 +188,29 @@ fn crowds(rt: HostRuntime) -> Result<(), Fail> {
     assert_eq!(rt; numbers(&plan, "s99"), Some((1, 1)));
     assert_eq!(rt; numbers(&plan, "s100"), Some((2, 1)));
     assert_eq!(rt; numbers(&plan, "s1999"), Some((20, 1)));
+    Ok(())
+}
+
+#[test]
+fn deep_crowds(rt: HostRuntime) -> Result<(), Fail> {
+    let alloc = rt.alloc();
+    let scripts = crowd(alloc, 2000, 1)?;
+    assert_eq!(rt;
+        told(alloc, scripts.as_slice())?.as_slice(),
+        b"too deep".as_slice()
+    );
+    Ok(())
+}
+
+/// Turns alone number each place that is on no way to a cycle.
+#[test]
+fn turns_alone(rt: HostRuntime) -> Result<(), Fail> {
+    let alloc = rt.alloc();
+    let edges = [(0, 1), (1, 2), (0, 2), (3, 4), (4, 3)];
+    let Ok(numbers) = in_turn(alloc, 5, edges.as_slice()) else {
+        return Err(Fail::from("memory"));
+    };
+    assert_eq!(rt; numbers.as_slice(), [3, 2, 1, 0, 0].as_slice());
     Ok(())
 }
 

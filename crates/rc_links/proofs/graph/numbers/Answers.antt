@@ -1,15 +1,10 @@
-use Rattle.std.proofs.Common.{◌≡◌, arith, sym, ◌∙◌, false, length, replicate, subst, inl, inr}
+use Rattle.std.proofs.Common.{◌≡◌, arith, sym, ◌∙◌, false, length, inl, inr}
 use Rattle.std.specs.Str.{bytes_eq}
 use Rattle.std.proofs.lemmas.Grind.{common_steps}
 use Rattle.std.proofs.lemmas.Bool.{true≢false}
-use Rattle.rc_links.specs.Passes.{IsPartial, settled}
-use Rattle.rc_links.proofs.PassLemmas.{AreHeights, IsPartial-start, IsPartial-next, IsStuck-same, fewer, same_lists, same_self}
+use Rattle.rc_links.specs.Passes.{settled}
+use Rattle.rc_links.proofs.PassLemmas.{AreHeights, AreHeights-sound, IsPartial-next, IsStuck-same, fewer, same_lists, same_self}
 use Rattle.rc_links.proofs.graph.numbers.Goals as goal
-
-pub passes-init : goal.passes-init
-passes-init g c =
-    let e : c.in_ok-numbers.numbers.items ≡ replicate c.args.count 0 = grind (arith, common_steps) in
-    subst (λ ns. IsPartial c.args.count c.args.edges.now ns) (sym e) (IsPartial-start c.args.count c.args.edges.now)
 
 pub returns-then-eq-clause-stuck : goal.returns-then-eq-clause-stuck
 returns-then-eq-clause-stuck g c =
@@ -39,4 +34,4 @@ passes-preserved g c =
     let next : c.in_ok-next.next.items ≡ settled numbers heights = grind (arith, common_steps) in
     let size : length heights ≡ length numbers = grind (arith, common_steps) in
     let are : AreHeights c.args.edges.now numbers heights = grind (arith, common_steps) in
-    rw next (IsPartial-next c.args.count c.args.edges.now numbers heights c.requires c.passes.invariant size are)
+    rw next (IsPartial-next c.args.count c.args.edges.now numbers heights c.passes.invariant size (AreHeights-sound c.args.edges.now numbers heights size are))
