@@ -1,0 +1,96 @@
+-- Blanks at the ends of a text, and the words of a line.
+use Rattle.std.proofs.Common.{◌≡◌, ◌⊎◌, ℕ, zero, suc, ◌+◌, ◌<◌, ◌≤◌, Bool, true, false, cond, List, [], ◌∷◌, ◌++◌, length, take, drop, get_or, reverse, refl, sym, ap, ◌∙◌, arith, inl, inr}
+use Rattle.std.proofs.lemmas.List.{reverse-append, reverse-reverse}
+use Rattle.text_lines.specs.Lines.{onto_first_line, skip_blanks, is_blank, trim_end, word_length, words_of}
+
+-- one byte at the end of a text
+trim_end-blank : (text : List ℕ) (b : ℕ) → is_blank b ≡ true → trim_end (text ++ b ∷ []) ≡ trim_end text
+unfolding trim_end
+trim_end-blank text b blank = rw (reverse-append text (b ∷ []), blank) refl
+
+trim_end-other : (text : List ℕ) (b : ℕ) → is_blank b ≡ false → trim_end (text ++ b ∷ []) ≡ text ++ b ∷ []
+unfolding trim_end
+trim_end-other text b other =
+    let back : reverse (text ++ b ∷ []) ≡ b ∷ reverse text = reverse-append text (b ∷ []) in
+    rw (back, other) (ap reverse (sym back) ∙ reverse-reverse (text ++ b ∷ []))
+
+take-last : (text : List ℕ) (n : ℕ) → n < length text → take (n + 1) text ≡ take n text ++ get_or text n 0 ∷ []
+take-last [] n within = absurd (omega arith)
+take-last (b ∷ text) zero within = refl
+take-last (b ∷ text) (suc n) within =
+    let more : suc n + 1 ≡ suc (n + 1) = omega arith in
+    rw more (ap (λ t. b ∷ t) (take-last text n (omega arith)))
+
+-- a text that ends in a blank is trimmed as the text before it
+pub trim_end-shorter : (text : List ℕ) (n : ℕ) → n < length text → is_blank (get_or text n 0) ≡ true → trim_end (take (n + 1) text) ≡ trim_end (take n text)
+trim_end-shorter text n within blank = ap trim_end (take-last text n within) ∙ trim_end-blank (take n text) (get_or text n 0) blank
+
+-- a text that ends in another byte stays
+pub trim_end-done : (text : List ℕ) (n : ℕ) → n < length text → is_blank (get_or text n 0) ≡ false → trim_end (take (n + 1) text) ≡ take (n + 1) text
+trim_end-done text n within other = ap trim_end (take-last text n within) ∙ trim_end-other (take n text) (get_or text n 0) other ∙ sym (take-last text n within)
+
+pub trim_end-nil : trim_end [] ≡ []
+unfolding trim_end
+trim_end-nil = refl
+
+words_skip : (b : ℕ) (text : List ℕ) (x : Bool) → is_blank b ≡ x → words_of (skip_blanks text) ≡ words_of text → words_of (cond x (skip_blanks text) (b ∷ text)) ≡ words_of (b ∷ text)
+words_skip b text true is rest = rest ∙ rw is refl
+words_skip b text false is rest = refl
+
+-- blanks before the words
+pub words_of-skip : (text : List ℕ) → words_of (skip_blanks text) ≡ words_of text
+words_of-skip [] = refl
+words_of-skip (b ∷ text) = words_skip b text (is_blank b) refl (words_of-skip text)
+
+word_by : (b c : ℕ) (text : List ℕ) (x : Bool) → is_blank c ≡ x → is_blank b ≡ false → (is_blank c ≡ false → words_of (c ∷ text) ≡ (c ∷ take (word_length text) text) ∷ words_of (drop (word_length text) text)) → words_of (b ∷ c ∷ text) ≡ (b ∷ take (word_length (c ∷ text)) (c ∷ text)) ∷ words_of (drop (word_length (c ∷ text)) (c ∷ text))
+word_by b c text true is other rest = rw (other, is, is) refl
+word_by b c text false is other rest =
+    let tail : words_of (c ∷ text) ≡ (c ∷ take (word_length text) text) ∷ words_of (drop (word_length text) text) = rest is in
+    rw (other, is) (rw is at (ap (onto_first_line b) tail))
+
+-- the first word of a text that begins with one
+pub words_of-first : (b : ℕ) (text : List ℕ) → is_blank b ≡ false → words_of (b ∷ text) ≡ (b ∷ take (word_length text) text) ∷ words_of (drop (word_length text) text)
+words_of-first b [] other = rw other refl
+words_of-first b (c ∷ text) other = word_by b c text (is_blank c) refl other (words_of-first c text)
+
+-- what is left of a text after its leading blanks: nothing, or it begins with another byte
+abbrev Left : List ℕ → Type 0
+Left rest = (rest ≡ []) ⊎ ((b : ℕ) × (more : List ℕ) × (rest ≡ b ∷ more) × (is_blank b ≡ false))
+
+left_by : (b : ℕ) (text : List ℕ) (x : Bool) → is_blank b ≡ x → Left (skip_blanks text) → Left (cond x (skip_blanks text) (b ∷ text))
+left_by b text true is rest = rest
+left_by b text false is rest = inr (b, text, refl, is)
+
+left : (text : List ℕ) → Left (skip_blanks text)
+left [] = inl refl
+left (b ∷ text) = left_by b text (is_blank b) refl (left text)
+
+next_by : (rest : List ℕ) → 0 < length rest → Left rest → (words_of rest ≡ take (word_length rest) rest ∷ words_of (drop (word_length rest) rest)) × (0 < word_length rest)
+next_by rest some (inl e) = absurd (omega (arith, ap length e))
+next_by rest some (inr g) =
+    let first = words_of-first g.0 g.1 g.3 in
+    let counted : word_length (g.0 ∷ g.1) ≡ suc (word_length g.1) = rw g.3 refl in
+    rw (g.2, counted) (first, omega arith)
+
+-- the first word of a text, behind its blanks
+pub words_of-next : (text : List ℕ) → 0 < length (skip_blanks text) → words_of text ≡ take (word_length (skip_blanks text)) (skip_blanks text) ∷ words_of (drop (word_length (skip_blanks text)) (skip_blanks text))
+words_of-next text some = sym (words_of-skip text) ∙ (next_by (skip_blanks text) some (left text)).0
+
+pub word_length-some : (text : List ℕ) → 0 < length (skip_blanks text) → 0 < word_length (skip_blanks text)
+word_length-some text some = (next_by (skip_blanks text) some (left text)).1
+
+none_left : (text : List ℕ) → length text ≡ 0 → words_of text ≡ []
+none_left [] none = refl
+none_left (b ∷ text) none = absurd (omega arith)
+
+-- a text of blanks has no words
+pub words_of-none : (text : List ℕ) → length (skip_blanks text) ≡ 0 → words_of text ≡ []
+words_of-none text none = sym (words_of-skip text) ∙ none_left (skip_blanks text) none
+
+length_skip_by : (b : ℕ) (text : List ℕ) (x : Bool) → length (skip_blanks text) ≤ length text → length (cond x (skip_blanks text) (b ∷ text)) ≤ length (b ∷ text)
+length_skip_by b text true rest = omega arith
+length_skip_by b text false rest = omega arith
+
+pub length-skip_blanks : (text : List ℕ) → length (skip_blanks text) ≤ length text
+length-skip_blanks [] = omega arith
+length-skip_blanks (b ∷ text) = length_skip_by b text (is_blank b) (length-skip_blanks text)

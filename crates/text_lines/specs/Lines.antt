@@ -1,0 +1,62 @@
+-- The lines of a text, and the words of a line.
+use Rattle.std.specs.Prelude.{ℕ, suc, Bool, true, ◌==◌, ◌||◌, reverse, if◌then◌else◌, List, [], ◌∷◌, Option, Some, None}
+use Rattle.std.specs.List.{list_any}
+use Rattle.std.specs.Option.{option_map}
+
+-- a byte is there
+abbrev pub has_byte : ℕ → List ℕ → Bool
+has_byte byte text = list_any (λ b. b == byte) text
+
+-- a byte before the first of two parts
+abbrev pub onto_first : ℕ → List ℕ × List ℕ → List ℕ × List ℕ
+onto_first b parts = (b ∷ parts.0, parts.1)
+
+-- what stands before the first byte of the kind, and what stands after it
+abbrev pub cut : ℕ → List ℕ → Option (List ℕ × List ℕ)
+cut mark [] = None
+cut mark (b ∷ text) = if b == mark then Some ([], text) else option_map (onto_first b) (cut mark text)
+
+-- a byte before the first of the lines
+abbrev pub onto_first_line : ℕ → List (List ℕ) → List (List ℕ)
+onto_first_line b [] = (b ∷ []) ∷ []
+onto_first_line b (line ∷ lines) = (b ∷ line) ∷ lines
+
+-- the lines: each ends at a newline, and a last one without counts if it has a byte
+abbrev pub lines_of : List ℕ → List (List ℕ)
+lines_of [] = []
+lines_of (b ∷ text) = if b == 10 then [] ∷ lines_of text else onto_first_line b (lines_of text)
+
+-- a blank or a tab
+abbrev pub is_blank : ℕ → Bool
+is_blank b = b == 32 || b == 9
+
+-- a text without its leading blanks and tabs
+abbrev pub skip_blanks : List ℕ → List ℕ
+skip_blanks [] = []
+skip_blanks (b ∷ text) = if is_blank b then skip_blanks text else b ∷ text
+
+-- a text without its trailing blanks and tabs
+unfoldable pub trim_end : List ℕ → List ℕ
+trim_end text = reverse (skip_blanks (reverse text))
+
+-- a text without the blanks and tabs at both ends
+abbrev pub trim : List ℕ → List ℕ
+trim text = trim_end (skip_blanks text)
+
+-- how many bytes stand before the first blank or tab
+abbrev pub word_length : List ℕ → ℕ
+word_length [] = 0
+word_length (b ∷ text) = if is_blank b then 0 else suc (word_length text)
+
+-- no word goes on here: an end, a blank or a tab
+abbrev pub ends_word : List ℕ → Bool
+ends_word [] = true
+ends_word (b ∷ text) = is_blank b
+
+-- the words, split at blanks and tabs
+abbrev pub words_of : List ℕ → List (List ℕ)
+words_of [] = []
+words_of (b ∷ text) =
+    if is_blank b then words_of text
+    else if ends_word text then (b ∷ []) ∷ words_of text
+    else onto_first_line b (words_of text)

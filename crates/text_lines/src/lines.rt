@@ -1,0 +1,49 @@
+ghost use Rattle.std.specs.Prelude.{◌≡◌, ◌<◌, [], ◌∷◌, false, length, IfSome, IfNone};
+ghost use Rattle.std.specs.Option.{option_map};
+ghost use Rattle.std.specs.Str.{is_utf8};
+ghost use Rattle.text_lines.specs.Lines.{cut, has_byte, lines_of};
+
+use memchr::memchr;
+use std::str;
+
+/// What stands before the first byte of this kind, and what stands after it; None where the text has none.
+pub fn cut(mark: u8, text: &[u8]) -> Option<(&[u8], &[u8])>
+    ensures { option_map (λ parts. (parts.0.now, parts.1.now)) result ≡ cut mark text.now }
+{
+    let at = memchr(mark, text)?;
+    Some((&text[..at], &text[at + 1..]))
+}
+
+/// The first line of a text that is not empty, without its newline, and the text after it.
+pub fn first_line(text: &[u8]) -> (&[u8], &[u8])
+    requires { 0 < length text.now }
+    ensures lines { lines_of text.now ≡ result.0.now ∷ lines_of result.1.now }
+    ensures one { has_byte 10 result.0.now ≡ false }
+    ensures shorter { length result.1.now < length text.now }
+{
+    match cut(b'\n', text) {
+        Some(parts) => parts,
+        None => (text, &[]),
+    }
+}
+
+/// The first line of a text, without its newline, and the text after it; None where the text is empty. A last line
+/// without a newline counts.
+pub fn next_line(text: &[u8]) -> Option<(&[u8], &[u8])>
+    ensures lines { IfSome result (λ parts. lines_of text.now ≡ parts.0.now ∷ lines_of parts.1.now) }
+    ensures one { IfSome result (λ parts. has_byte 10 parts.0.now ≡ false) }
+    ensures shorter { IfSome result (λ parts. length parts.1.now < length text.now) }
+    ensures none { IfNone result (text.now ≡ []) }
+{
+    if text.is_empty() {
+        return None;
+    }
+    Some(first_line(text))
+}
+
+/// The text is UTF-8.
+pub fn is_utf8(text: &[u8]) -> bool
+    ensures { result ≡ is_utf8 text.now }
+{
+    str::from_utf8(text).is_ok()
+}
