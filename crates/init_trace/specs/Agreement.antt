@@ -1,4 +1,5 @@
--- Agreement: the unreaped children are the known ones, less those whose end is not told, with those whose birth is not told.
+-- Agreement: the unreaped children are the known ones, less those whose end is not told, with those whose birth is not
+-- told.
 use Rattle.std.specs.Prelude.{ℕ, Bool, false, not, ◌&&◌, ◌||◌, ◌==◌, ◌≡◌, List, [], ◌∷◌}
 use Rattle.std.specs.List.{list_any}
 use Rattle.init_words.specs.Ids.{same_id}

@@ -1,6 +1,7 @@
 -- Three bounds on whole runs.
-use Rattle.std.specs.Prelude.{ℕ, Bool, true, not, ◌&&◌, ◌||◌, ◌+◌, ◌==◌, if◌then◌else◌, nat_le, List, [], ◌∷◌, filter, length, drop}
+use Rattle.std.specs.Prelude.{ℕ, Bool, true, not, ◌&&◌, ◌||◌, ◌+◌, ◌-◌, ◌==◌, if◌then◌else◌, nat_le, List, [], ◌∷◌, filter, length, drop}
 use Rattle.std.specs.List.{list_any, list_all}
+use Rattle.respawn_limit.specs.declared.TheConstants.{HOLD, STARTS, WINDOW}
 use Rattle.init_words.specs.declared.orders.Ask.TheVariants.{Start, Kill}
 use Rattle.init_words.specs.Ids.{same_id}
 use Rattle.init_trace.specs.declared.happenings.Happening.TheVariants.{Asked, Hit}
@@ -11,15 +12,16 @@ use Rattle.init_trace.specs.Spells.{Signal, spell_hits}
 use Rattle.init_trace.specs.Timing.{start_times, hold_times}
 use Rattle.init_trace.specs.Lawful.{is_limited_id}
 
--- the tenth time of a list of times, where there is one, is at least two minutes before now
+-- the tenth time of a list of times, and each behind it, is at least two minutes before now
 abbrev pub is_spaced : ℕ → List ℕ → Bool
-is_spaced now times = list_all (λ started. nat_le (started + 120) now) (drop 9 times)
+is_spaced now times = list_all (λ started. nat_le (started + WINDOW) now) (drop (STARTS - 1) times)
 
--- 1: at a Start of a limited entry, the eleventh with no Enter and no table between, the first of the eleven is at least
--- 120 seconds old, and each Hold of it since then at least 300
+-- 1: at a Start of a limited entry, the eleventh since the last Enter and the last table, the first of the eleven is at
+-- least two minutes old, and each Hold of it since the last Enter and the last table at least five
 abbrev pub keeps_pace : Event → List Event → Bool
 keeps_pace (Asked id Start) past = not (is_limited_id id past)
-    || is_spaced (time_of past) (start_times id past) && list_all (λ began. nat_le (began + 300) (time_of past)) (hold_times id past)
+    || is_spaced (time_of past) (start_times id past)
+    && list_all (λ began. nat_le (began + HOLD) (time_of past)) (hold_times id past)
 keeps_pace _ past = true
 
 -- the children of the id that were known when its last order was given
@@ -30,10 +32,15 @@ targets id (_ ∷ past) = targets id past
 
 -- 2: at a Hit the child that was known at its order is still unreaped and excluded
 abbrev pub hits_its_own : Event → List Event → Bool
-hits_its_own (Hit id) past = not (length (targets id past) == 0)
-    && list_all (λ child. is_excluded past child && list_any (is_child id child.number) (unreaped past)) (targets id past)
+hits_its_own (Hit id) past =
+    not (length (targets id past) == 0)
+    && list_all (λ child. is_excluded past child && list_any (is_child id child.number) (unreaped past))
+    (targets id past)
 hits_its_own _ past = true
 
 -- 3: of an unreaped child at most one Hit of a KILL is told in a spell
+abbrev pub spell_kills : Child → List Event → List Signal
+spell_kills child past = filter (λ (signal : Signal). is_order Kill signal.order) (spell_hits child past)
+
 abbrev pub kills_once : List Event → Bool
-kills_once past = list_all (λ child. nat_le (length (filter (λ (signal : Signal). is_order Kill signal.order) (spell_hits child past))) 1) (unreaped past)
+kills_once past = list_all (λ child. nat_le (length (spell_kills child past)) 1) (unreaped past)

@@ -2,8 +2,6 @@
 use Rattle.std.specs.Prelude.{ℕ, Bool, true, false, not, ◌&&◌, ◌||◌, ◌==◌, if◌then◌else◌, List, [], ◌∷◌, ◌++◌, filter, Option, Some, None, is_none}
 use Rattle.std.specs.List.{list_any, list_all}
 use Rattle.init_words.specs.declared.entries.Entry.{Entry}
-use Rattle.init_words.specs.declared.actions.Act.{Act}
-use Rattle.init_words.specs.declared.actions.Act.TheVariants as act
 use Rattle.init_words.specs.declared.levels.Level.{Level}
 use Rattle.init_words.specs.declared.levels.Level.TheVariants.{S}
 use Rattle.init_words.specs.declared.levels.Letter.{Letter}
@@ -16,6 +14,7 @@ use Rattle.init_words.specs.declared.orders.PowerKind.{PowerKind}
 use Rattle.init_words.specs.Ids.{same_id}
 use Rattle.init_words.specs.Levels.{same_level, same_letter, names}
 use Rattle.init_words.specs.Orders.{same_ask, same_power, same_stage}
+use Rattle.init_words.specs.Actions.{is_limited, served_by}
 use Rattle.init_words.specs.Entries.{waited_of}
 use Rattle.inittab_text.specs.Tables.{ids_of, has_id}
 use Rattle.init_trace.specs.declared.happenings.Happening.TheVariants as past
@@ -57,7 +56,9 @@ due_reread so_far = step_if (is_quiet so_far && wants_reread so_far) Reread
 -- 4: at a quiet point, the wish for another level: through Boot on the first way to a level other than S
 abbrev pub enter_level : Option Goal → List Event → List Step
 enter_level None so_far = []
-enter_level (Some wish) so_far = Enter (if not (same_level wish.level S) && not (was_booted so_far) then Boot else Run wish.level) wish.grace ∷ []
+enter_level (Some wish) so_far =
+    let first_way = not (same_level wish.level S) && not (was_booted so_far) in
+    Enter (if first_way then Boot else Run wish.level) wish.grace ∷ []
 
 abbrev pub due_level : List Event → List Step
 due_level so_far = steps_if (is_quiet so_far) (enter_level (level_wish so_far) so_far)
@@ -72,12 +73,14 @@ letter_steps [] so_far = []
 letter_steps (letter ∷ rest) so_far = step_if (keeps_letter letter so_far) (Call letter) ++ letter_steps rest so_far
 
 abbrev pub due_news : List Event → List Step
-due_news so_far = steps_if (is_quiet so_far && in_run (stage_of so_far)) (power_steps powers so_far ++ letter_steps letters so_far)
+due_news so_far =
+    steps_if (is_quiet so_far && in_run (stage_of so_far)) (power_steps powers so_far ++ letter_steps letters so_far)
 
 -- the ids that left the table, in their earlier order
 abbrev pub left_ids : List Event → List (List ℕ)
 left_ids [] = []
-left_ids (past.NewTable table ∷ so_far) = filter (λ id. not (list_any (has_id id) table)) (ids_of (table_of so_far) ++ left_ids so_far)
+left_ids (past.NewTable table ∷ so_far) =
+    filter (λ id. not (list_any (has_id id) table)) (ids_of (table_of so_far) ++ left_ids so_far)
 left_ids (_ ∷ so_far) = left_ids so_far
 
 -- record order: the table's ids, then those that left it and still have a child
@@ -91,19 +94,16 @@ stop_step id (Some ask) = Order id ask ∷ []
 
 abbrev pub stops_of : List ℕ → List Child → List Event → List Step
 stops_of id [] so_far = []
-stops_of id (child ∷ children) so_far = steps_if (is_of id child) (stop_step id (stop_due child so_far)) ++ stops_of id children so_far
+stops_of id (child ∷ children) so_far =
+    steps_if (is_of id child) (stop_step id (stop_due child so_far)) ++ stops_of id children so_far
 
 abbrev pub stops_among : List (List ℕ) → List Event → List Step
 stops_among [] so_far = []
-stops_among (id ∷ ids) so_far = steps_if (is_none (open_of id so_far)) (stops_of id (known so_far) so_far) ++ stops_among ids so_far
+stops_among (id ∷ ids) so_far =
+    steps_if (is_none (open_of id so_far)) (stops_of id (known so_far) so_far) ++ stops_among ids so_far
 
 abbrev pub due_stops : List Event → List Step
 due_stops so_far = steps_if (not (wish_stands so_far)) (stops_among (record_ids so_far) so_far)
-
--- the respawn limit holds for these actions
-abbrev pub is_limited : Act → Bool
-is_limited act.Respawn = true
-is_limited _ = false
 
 -- 7: in table order, up to the first entry that is owed, each wanted entry with no kept child and no open order.
 -- A respawning one is passed by while it is held, and held where its window is full.
@@ -111,14 +111,19 @@ abbrev pub can_start : Entry → List Event → Bool
 can_start e so_far = is_wanted e so_far && not (has_child e.id (kept so_far)) && is_none (open_of e.id so_far)
 
 abbrev pub start_steps : Entry → List Event → List Step
-start_steps e so_far = if is_limited e.act then steps_if (not (is_held e.id so_far)) ((if is_full e.id so_far then Hold e.id else Order e.id Start) ∷ []) else Order e.id Start ∷ []
+start_steps e so_far =
+    if is_limited e.act then
+    steps_if (not (is_held e.id so_far)) ((if is_full e.id so_far then Hold e.id else Order e.id Start) ∷ [])
+    else Order e.id Start ∷ []
 
 abbrev pub starts_among : List Entry → List Event → List Step
 starts_among [] so_far = []
-starts_among (e ∷ es) so_far = steps_if (can_start e so_far) (start_steps e so_far) ++ (if is_owed e so_far then [] else starts_among es so_far)
+starts_among (e ∷ es) so_far =
+    steps_if (can_start e so_far) (start_steps e so_far) ++ (if is_owed e so_far then [] else starts_among es so_far)
 
 abbrev pub due_starts : List Event → List Step
-due_starts so_far = steps_if (not (wish_stands so_far) && none_excluded so_far) (starts_among (table_of so_far) so_far)
+due_starts so_far =
+    steps_if (not (wish_stands so_far) && none_excluded so_far) (starts_among (table_of so_far) so_far)
 
 -- 8: Sysinit and Boot are over when no entry is wanted and no waited one has a child: then Boot, or the goal's level
 abbrev pub is_over : List Event → Bool
@@ -141,21 +146,18 @@ is_announced (past.Enter stage grace ∷ so_far) = false
 is_announced (past.NewTable table ∷ so_far) = false
 is_announced (_ ∷ so_far) = is_announced so_far
 
--- what an entry of the level must have for it to be settled: a wait or once entry was asked, a respawn entry is kept up
-abbrev pub served_by : Act → Bool → Bool → Bool
-served_by act.Wait asked kept_up = asked
-served_by act.Once asked kept_up = asked
-served_by act.Respawn asked kept_up = kept_up
-served_by _ asked kept_up = true
-
--- the entry is not owed, and where it names the level it is served: kept up means a child that counts or a hold in force
+-- the entry is not owed, and where it names the level it is served: kept up means a child that counts, or a hold in
+-- force
 abbrev pub is_served : Level → List Child → List Event → Entry → Bool
 is_served level there so_far e = not (is_owed e so_far)
-    && (not (names (At level) e.levels.items) || served_by e.act (is_asked e.id so_far) (has_child e.id there || is_held e.id so_far))
+    && (not (names (At level) e.levels.items)
+    || served_by e.act (is_asked e.id so_far) (has_child e.id there || is_held e.id so_far))
 
 -- the level is settled, by the children that count
 abbrev pub is_settled : Level → List Child → List Event → Bool
-is_settled level there so_far = is_level level (stage_of so_far) && not (list_any (is_excluded so_far) there) && list_all (is_served level there so_far) (table_of so_far)
+is_settled level there so_far =
+    is_level level (stage_of so_far) && not (list_any (is_excluded so_far) there)
+    && list_all (is_served level there so_far) (table_of so_far)
 
 -- 9: with no order open, a level that is settled and was not announced
 abbrev pub settle_step : Option Stage → List Event → List Step
@@ -163,14 +165,16 @@ settle_step (Some (Run level)) so_far = step_if (is_settled level (known so_far)
 settle_step _ so_far = []
 
 abbrev pub due_settle : List Event → List Step
-due_settle so_far = steps_if (not (wish_stands so_far) && is_idle so_far && not (is_announced so_far)) (settle_step (stage_of so_far) so_far)
+due_settle so_far =
+    steps_if (not (wish_stands so_far) && is_idle so_far && not (is_announced so_far))
+    (settle_step (stage_of so_far) so_far)
 
 -- 10: a round began when the child was known, and no Look was ordered since
 abbrev pub wants_look : List ℕ → List Event → Bool
 wants_look id [] = false
 wants_look id (past.Birth i n ∷ so_far) = not (same_id id i) && wants_look id so_far
 wants_look id (past.Asked i Look ∷ so_far) = not (same_id id i) && wants_look id so_far
-wants_look id (past.Nudge ∷ so_far) = has_child id (known so_far) || wants_look id so_far
+wants_look id (past.Nudge ∷ so_far) = has_child id (known so_far)
 wants_look id (_ ∷ so_far) = wants_look id so_far
 
 abbrev pub can_look : List ℕ → List Event → Bool
@@ -185,8 +189,10 @@ due_looks so_far = looks_among (record_ids so_far) so_far
 
 -- the due steps, by rank
 abbrev pub due : Goal → List Event → List Step
-due goal so_far = due_first goal (stage_of so_far) so_far ++ due_reexec so_far ++ due_reread so_far ++ due_level so_far ++ due_news so_far
-    ++ due_stops so_far ++ due_starts so_far ++ due_stage goal so_far ++ due_settle so_far ++ due_looks so_far
+due goal so_far =
+    due_first goal (stage_of so_far) so_far ++ due_reexec so_far ++ due_reread so_far ++ due_level so_far
+    ++ due_news so_far ++ due_stops so_far ++ due_starts so_far ++ due_stage goal so_far ++ due_settle so_far
+    ++ due_looks so_far
 
 -- the first of them; Idle where there is none
 abbrev pub first : List Step → Step

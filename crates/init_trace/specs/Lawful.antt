@@ -11,7 +11,8 @@ use Rattle.init_trace.specs.Past.{table_of, grace_of, time_of, is_of, has_child,
 use Rattle.init_trace.specs.Wanted.{starts_now, is_owed_before, is_excluded}
 use Rattle.init_trace.specs.Spells.{is_ripe, spell_hits}
 use Rattle.init_trace.specs.Timing.{is_held, is_full}
-use Rattle.init_trace.specs.Due.{is_limited, is_settled}
+use Rattle.init_words.specs.Actions.{is_limited}
+use Rattle.init_trace.specs.Due.{is_settled}
 
 -- 1: no unreaped child has the id
 abbrev pub is_alone : List ℕ → List Event → Bool
@@ -31,7 +32,8 @@ are_spared past = not (list_any (is_excluded past) (unreaped past))
 
 -- 5: at a Settle the level is settled, by the unreaped children (is_settled)
 
--- 6: the respawn limit. A limited entry starts where it is not held and its window is not full; it is held where its window is
+-- 6: the respawn limit. A limited entry starts where it is not held and its window is not full; it is held where its
+-- window is
 abbrev pub is_limited_id : List ℕ → List Event → Bool
 is_limited_id id past = option_map_or is_limited (act_of id (table_of past)) false
 
@@ -46,11 +48,17 @@ abbrev pub may_term : List ℕ → List Event → Bool
 may_term id past = list_any (λ child. is_of id child && is_excluded past child) (unreaped past)
 
 abbrev pub may_kill : List ℕ → List Event → Bool
-may_kill id past = list_any (λ child. is_of id child && is_excluded past child && list_any (is_ripe (grace_of past) (time_of past)) (spell_hits child past)) (unreaped past)
+may_kill id past =
+    list_any
+    (λ child. is_of id child && is_excluded past child
+      && list_any (is_ripe (grace_of past) (time_of past)) (spell_hits child past))
+    (unreaped past)
 
 -- the least law that the happening breaks
 abbrev pub broken : Event → List Event → Option ℕ
-broken (Birth id number) past = if not (is_alone id past) then Some 1 else if not (is_placed id past) then Some 2 else if not (is_in_turn id past) then Some 3 else if not (are_spared past) then Some 4 else None
+broken (Birth id number) past =
+    if not (is_alone id past) then Some 1 else if not (is_placed id past) then Some 2
+    else if not (is_in_turn id past) then Some 3 else if not (are_spared past) then Some 4 else None
 broken (Settle level) past = if not (is_settled level (unreaped past) past) then Some 5 else None
 broken (Asked id Start) past = if not (is_free id past) then Some 6 else None
 broken (Hold id) past = if not (is_due_hold id past) then Some 6 else None

@@ -2,6 +2,7 @@
 -- A trace is a list of happenings, THE NEWEST FIRST, so the last of a kind is the first that is found.
 use Rattle.std.specs.Prelude.{ℕ, Bool, true, false, not, ◌&&◌, ◌||◌, ◌==◌, if◌then◌else◌, max, min, List, [], ◌∷◌, ◌++◌, filter, Option, Some, None}
 use Rattle.std.specs.List.{list_any}
+use Rattle.respawn_limit.specs.declared.TheConstants.{CLOCK_LIMIT}
 use Rattle.init_words.specs.declared.entries.Entry.{Entry}
 use Rattle.init_words.specs.declared.actions.Act.{Act}
 use Rattle.init_words.specs.declared.stages.Stage.{Stage}
@@ -31,14 +32,10 @@ grace_of [] = 0
 grace_of (Enter stage grace ∷ past) = grace
 grace_of (_ ∷ past) = grace_of past
 
--- the greatest reading that counts, in seconds
-abbrev pub clock_limit : ℕ
-clock_limit = 1000000000000
-
 -- the time: the greatest reading of the clock, each cut to the limit; a clock set back changes nothing
 abbrev pub time_of : List Event → ℕ
 time_of [] = 0
-time_of (Clock reading ∷ past) = max (min reading clock_limit) (time_of past)
+time_of (Clock reading ∷ past) = max (min reading CLOCK_LIMIT) (time_of past)
 time_of (_ ∷ past) = time_of past
 
 -- a child: the id that it was born for, its number, and the action that the id had then
@@ -70,14 +67,14 @@ unreaped (Birth id number ∷ past) = born id number past ∷ unreaped past
 unreaped (Reaped id number status ∷ past) = filter (λ child. not (is_child id number child)) (unreaped past)
 unreaped (_ ∷ past) = unreaped past
 
--- the kept children: those whose reaping was not told
+-- the kept children: those whose reaping was not told. A birth puts its child in front, and so does a telling its id's.
 abbrev pub kept : List Event → List Child
 kept [] = []
 kept (Birth id number ∷ past) = born id number past ∷ kept past
 kept (Told id ∷ past) = filter (is_of id) (unreaped past) ++ filter (λ child. not (is_of id child)) (kept past)
 kept (_ ∷ past) = kept past
 
--- the known children: those kept ones whose birth was told
+-- the known children: those kept ones whose birth was told. A telling puts its id's child in front.
 abbrev pub known : List Event → List Child
 known [] = []
 known (Told id ∷ past) = filter (is_of id) (unreaped past) ++ filter (λ child. not (is_of id child)) (known past)
@@ -92,7 +89,8 @@ is_dead id number (_ ∷ past) = is_dead id number past
 
 -- a living child has the number
 abbrev pub is_living : ℕ → List Event → Bool
-is_living number past = list_any (λ child. has_number number child && not (is_dead child.id number past)) (unreaped past)
+is_living number past =
+    list_any (λ child. has_number number child && not (is_dead child.id number past)) (unreaped past)
 
 -- the open order of an id: its last one, if nothing was told about the id since
 abbrev pub open_of : List ℕ → List Event → Option Ask
@@ -136,7 +134,8 @@ pub record Open : Type 0 where
 -- all the open orders, the newest first
 abbrev pub open_orders : List Event → List Open
 open_orders [] = []
-open_orders (Asked id ask ∷ past) = record { id = id; ask = ask } ∷ filter (λ order. not (same_id id order.id)) (open_orders past)
+open_orders (Asked id ask ∷ past) =
+    record { id = id; ask = ask } ∷ filter (λ order. not (same_id id order.id)) (open_orders past)
 open_orders (Told id ∷ past) = filter (λ order. not (same_id id order.id)) (open_orders past)
 open_orders (_ ∷ past) = open_orders past
 

@@ -36,4 +36,5 @@ is_next due_now _ = is_rest due_now
 abbrev pub is_run : Goal → List Event → Bool
 is_run goal [] = false
 is_run goal (NewTable table ∷ []) = is_distinct table
-is_run goal (happening ∷ past) = is_next (first (due goal past)) happening && may_come goal happening past && is_run goal past
+is_run goal (happening ∷ past) =
+    is_next (first (due goal past)) happening && may_come goal happening past && is_run goal past

@@ -35,7 +35,8 @@ told_at time order = record { order = order; time = time }
 
 -- the Hits of the child that a happening tells
 abbrev pub tells_hits : Child → Event → List Event → List Signal
-tells_hits child (Told i) past = if same_id child.id i then map (told_at (time_of past)) (untold_hits child.id past) else []
+tells_hits child (Told i) past =
+    if same_id child.id i then map (told_at (time_of past)) (untold_hits child.id past) else []
 tells_hits child _ past = []
 
 abbrev pub is_birth_of : List ℕ → Event → Bool
@@ -50,7 +51,8 @@ in_spell child happening past = is_excluded (happening ∷ past) child && not (i
 -- the Hits of the child told in its spell, the newest first
 abbrev pub spell_hits : Child → List Event → List Signal
 spell_hits child [] = []
-spell_hits child (happening ∷ past) = if in_spell child happening past then tells_hits child happening past ++ spell_hits child past else []
+spell_hits child (happening ∷ past) =
+    if in_spell child happening past then tells_hits child happening past ++ spell_hits child past else []
 
 -- a happening tells a Miss of the child
 abbrev pub tells_miss : Child → Event → List Event → Bool
@@ -61,7 +63,8 @@ tells_miss child _ past = false
 abbrev pub is_missed : Child → List Event → Bool
 is_missed child [] = false
 is_missed child (Nudge ∷ past) = false
-is_missed child (happening ∷ past) = in_spell child happening past && (tells_miss child happening past || is_missed child past)
+is_missed child (happening ∷ past) =
+    in_spell child happening past && (tells_miss child happening past || is_missed child past)
 
 -- the signal was a TERM, and the grace since its telling is over
 abbrev pub is_ripe : ℕ → ℕ → Signal → Bool
@@ -75,4 +78,7 @@ stop_by grace now _ = None
 
 -- the signal that is due to the child
 abbrev pub stop_due : Child → List Event → Option Ask
-stop_due child past = if is_excluded past child && not (is_missed child past) then stop_by (grace_of past) (time_of past) (spell_hits child past) else None
+stop_due child past =
+    if is_excluded past child && not (is_missed child past) then
+    stop_by (grace_of past) (time_of past) (spell_hits child past)
+    else None

@@ -1,6 +1,7 @@
 -- The respawn limit, read off the past: an entry started ten times in two minutes is held for five (init(8)).
 use Rattle.std.specs.Prelude.{ℕ, Bool, ◌-◌, ◌+◌, if◌then◌else◌, nat_lt, nat_le, List, [], ◌∷◌, filter, length}
 use Rattle.std.specs.List.{list_any}
+use Rattle.respawn_limit.specs.declared.TheConstants.{HOLD, STARTS, WINDOW}
 use Rattle.init_words.specs.declared.orders.Ask.TheVariants.{Start}
 use Rattle.init_words.specs.Ids.{same_id}
 use Rattle.init_trace.specs.declared.happenings.Happening.TheVariants.{NewTable, Enter, Asked, Hold}
@@ -12,7 +13,8 @@ abbrev pub start_times : List ℕ → List Event → List ℕ
 start_times id [] = []
 start_times id (NewTable table ∷ past) = []
 start_times id (Enter stage grace ∷ past) = []
-start_times id (Asked i Start ∷ past) = if same_id id i then time_of past ∷ start_times id past else start_times id past
+start_times id (Asked i Start ∷ past) =
+    if same_id id i then time_of past ∷ start_times id past else start_times id past
 start_times id (_ ∷ past) = start_times id past
 
 -- the times of its Holds after the last Enter and the last table, the newest first
@@ -25,8 +27,9 @@ hold_times id (_ ∷ past) = hold_times id past
 
 -- a hold of the id is in force: it began less than five minutes ago
 abbrev pub is_held : List ℕ → List Event → Bool
-is_held id past = list_any (λ began. nat_lt (time_of past) (began + 300)) (hold_times id past)
+is_held id past = list_any (λ began. nat_lt (time_of past) (began + HOLD)) (hold_times id past)
 
 -- the window of the id is full: ten of its Starts are younger than two minutes
 abbrev pub is_full : List ℕ → List Event → Bool
-is_full id past = nat_le 10 (length (filter (λ started. nat_lt (time_of past - started) 120) (start_times id past)))
+is_full id past =
+    nat_le STARTS (length (filter (λ started. nat_lt (time_of past - started) WINDOW) (start_times id past)))

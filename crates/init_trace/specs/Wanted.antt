@@ -3,15 +3,12 @@ use Rattle.std.specs.Prelude.{ℕ, Bool, true, false, not, ◌&&◌, ◌||◌, i
 use Rattle.std.specs.List.{list_any}
 use Rattle.init_words.specs.declared.entries.Entry.{Entry}
 use Rattle.init_words.specs.declared.actions.Act.{Act}
-use Rattle.init_words.specs.declared.actions.Act.TheVariants as act
 use Rattle.init_words.specs.declared.levels.Mark.TheVariants.{OnCall}
 use Rattle.init_words.specs.declared.stages.Stage.{Stage}
 use Rattle.init_words.specs.declared.orders.Ask.{Ask}
 use Rattle.init_words.specs.declared.orders.Ask.TheVariants.{Start}
-use Rattle.init_words.specs.declared.orders.PowerKind.{PowerKind}
-use Rattle.init_words.specs.declared.orders.PowerKind.TheVariants as power
 use Rattle.init_words.specs.Ids.{same_id}
-use Rattle.init_words.specs.Actions.{same_act}
+use Rattle.init_words.specs.Actions.{same_act, is_called_by, is_ondemand, wanted_by}
 use Rattle.init_words.specs.Levels.{names}
 use Rattle.init_words.specs.Orders.{same_ask}
 use Rattle.init_words.specs.Entries.{starts_of, lives_of, waited_of}
@@ -51,18 +48,6 @@ is_asked id (NewTable table ∷ past) = not (brings id table (table_of past)) &&
 is_asked id (Asked i Start ∷ past) = same_id id i || is_asked id past
 is_asked id (_ ∷ past) = is_asked id past
 
--- which actions news of the power calls
-abbrev pub is_called_by : PowerKind → Act → Bool
-is_called_by power.Fail act.Powerwait = true
-is_called_by power.Fail act.Powerfail = true
-is_called_by power.FailNow act.Powerfailnow = true
-is_called_by power.Ok act.Powerokwait = true
-is_called_by _ _ = false
-
-abbrev pub is_ondemand : Act → Bool
-is_ondemand act.Ondemand = true
-is_ondemand _ = false
-
 -- called: after the last Enter and the last table, news of the power or a letter named the entry where it starts,
 -- and no Start of it was ordered since
 abbrev pub is_called : Entry → List Event → Bool
@@ -70,34 +55,24 @@ is_called e [] = false
 is_called e (Enter stage grace ∷ past) = false
 is_called e (NewTable table ∷ past) = false
 is_called e (Power kind ∷ past) = is_called_by kind e.act && starts_now e past || is_called e past
-is_called e (Call letter ∷ past) = is_ondemand e.act && names (OnCall letter) e.levels.items && starts_now e past || is_called e past
+is_called e (Call letter ∷ past) =
+    is_ondemand e.act && names (OnCall letter) e.levels.items && starts_now e past || is_called e past
 is_called e (Asked i Start ∷ past) = not (same_id e.id i) && is_called e past
 is_called e (_ ∷ past) = is_called e past
 
--- what its action asks of an entry that starts in the stage: a respawn entry is wanted when nothing of it runs (idle),
--- boot's and a level's entries when they were not asked (fresh), power and ondemand entries when they are called
-abbrev pub wanted_by : Act → Bool → Bool → Bool → Bool
-wanted_by act.Respawn idle fresh called = idle
-wanted_by act.Sysinit idle fresh called = fresh
-wanted_by act.Boot idle fresh called = fresh
-wanted_by act.Bootwait idle fresh called = fresh
-wanted_by act.Wait idle fresh called = fresh
-wanted_by act.Once idle fresh called = fresh
-wanted_by act.Powerwait idle fresh called = called
-wanted_by act.Powerfail idle fresh called = called
-wanted_by act.Powerfailnow idle fresh called = called
-wanted_by act.Powerokwait idle fresh called = called
-wanted_by act.Ondemand idle fresh called = called
-wanted_by _ idle fresh called = false
+-- nothing of the id runs: it has no kept child and no open Start
+abbrev pub nothing_runs : List ℕ → List Event → Bool
+nothing_runs id past = not (has_child id (kept past)) && not (is_order Start (open_of id past))
 
 -- wanted: it starts in the stage, and its action asks for it
 abbrev pub is_wanted : Entry → List Event → Bool
-is_wanted e past = starts_now e past
-    && wanted_by e.act (not (has_child e.id (kept past)) && not (is_order Start (open_of e.id past))) (not (is_asked e.id past)) (is_called e past)
+is_wanted e past =
+    starts_now e past && wanted_by e.act (nothing_runs e.id past) (not (is_asked e.id past)) (is_called e past)
 
 -- owed: init waits for it, and it has a kept child or an open Start or is wanted
 abbrev pub is_owed : Entry → List Event → Bool
-is_owed e past = waited_of e && (has_child e.id (kept past) || is_order Start (open_of e.id past) || is_wanted e past)
+is_owed e past =
+    waited_of e && (has_child e.id (kept past) || is_order Start (open_of e.id past) || is_wanted e past)
 
 -- the entries before the id's
 abbrev pub entries_before : List ℕ → List Entry → List Entry

@@ -84,10 +84,15 @@ powers = power.Fail ∷ power.FailNow ∷ power.Ok ∷ []
 abbrev pub letters : List Letter
 letters = letter.A ∷ letter.B ∷ letter.C ∷ []
 
+-- news of the power or a letter is kept
+abbrev pub keeps_news : List Event → Bool
+keeps_news past =
+    list_any (λ kind. keeps_power kind past) powers || list_any (λ letter. keeps_letter letter past) letters
+
 -- a wish stands; those for power and letters stand in run levels alone
 abbrev pub wish_stands : List Event → Bool
-wish_stands past = wants_reexec past || wants_reread past || is_some (level_wish past)
-    || in_run (stage_of past) && (list_any (λ kind. keeps_power kind past) powers || list_any (λ letter. keeps_letter letter past) letters)
+wish_stands past =
+    wants_reexec past || wants_reread past || is_some (level_wish past) || in_run (stage_of past) && keeps_news past
 
 -- Boot was entered
 abbrev pub was_booted : List Event → Bool

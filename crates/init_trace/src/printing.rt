@@ -44,7 +44,8 @@ fn cause_number(why: Cause) -> u8
 
 /// Appends the words, each behind a blank. Where memory is wanted, a part of it may be appended.
 fn put_words<A: Allocator>(text: &mut Vec<u8, A>, words: &[&[u8]]) -> Result<(), AllocError>
-    ensures { OnOk result (text.new.items ≡ text.old.items ++ words_behind (map (λ word. word.now) words.now)) }
+    ensures { OnOk result (text.new.items ≡ text.old.items
+        ++ words_behind (map (λ word. word.now) words.now)) }
 {
     for word in words {
         text.push(b' ')?;
@@ -59,7 +60,8 @@ fn put_line<A: Allocator>(
     first: &[u8],
     rest: &[&[u8]],
 ) -> Result<(), AllocError>
-    ensures { OnOk result (text.new.items ≡ text.old.items ++ line_of_words (first.now ∷ map (λ word. word.now) rest.now)) }
+    ensures { OnOk result (text.new.items ≡ text.old.items
+        ++ line_of_words (first.now ∷ map (λ word. word.now) rest.now)) }
 {
     text.extend_from_slice(first)?;
     put_words(text, rest)?;
@@ -74,7 +76,8 @@ fn put_pair<A: Allocator>(
     second: &[u8],
     third: &[u8],
 ) -> Result<(), AllocError>
-    ensures { OnOk result (text.new.items ≡ text.old.items ++ line_of_words (first.now ∷ second.now ∷ third.now ∷ [])) }
+    ensures { OnOk result (text.new.items ≡ text.old.items
+        ++ line_of_words (first.now ∷ second.now ∷ third.now ∷ [])) }
 {
     put_line(text, first, &[second, third])
 }
@@ -85,7 +88,8 @@ fn put_status<A: Allocator>(
     number: &[u8],
     status: Status,
 ) -> Result<(), AllocError>
-    ensures { OnOk result (text.new.items ≡ text.old.items ++ line_of_words (codes "reaped" ∷ id.now ∷ number.now ∷ status_words status)) }
+    ensures { OnOk result (text.new.items ≡ text.old.items
+        ++ line_of_words (codes "reaped" ∷ id.now ∷ number.now ∷ status_words status)) }
 {
     match status {
         Status::Exit(code) => {
@@ -102,7 +106,8 @@ fn put_enter<A: Allocator>(
     stage: Stage,
     grace: u16,
 ) -> Result<(), AllocError>
-    ensures { OnOk result (text.new.items ≡ text.old.items ++ line_of_words (codes "enter" ∷ stage_word stage ∷ decimal grace ∷ [])) }
+    ensures { OnOk result (text.new.items ≡ text.old.items
+        ++ line_of_words (codes "enter" ∷ stage_word stage ∷ decimal grace ∷ [])) }
 {
     let mut digits = Buffer::new();
     let grace = digits.format(grace).as_bytes();
@@ -114,7 +119,8 @@ fn put_enter<A: Allocator>(
 }
 
 fn put_got<A: Allocator>(text: &mut Vec<u8, A>, request: &Got) -> Result<(), AllocError>
-    ensures { OnOk result (text.new.items ≡ text.old.items ++ line_of_words (codes "got" ∷ got_words request.now)) }
+    ensures { OnOk result (text.new.items ≡ text.old.items
+        ++ line_of_words (codes "got" ∷ got_words request.now)) }
 {
     let mut digits = Buffer::new();
     match request {
@@ -134,7 +140,8 @@ fn put_got<A: Allocator>(text: &mut Vec<u8, A>, request: &Got) -> Result<(), All
 }
 
 fn put_handed<A: Allocator>(text: &mut Vec<u8, A>, how: Handed) -> Result<(), AllocError>
-    ensures { OnOk result (text.new.items ≡ text.old.items ++ line_of_words (codes "handed" ∷ handed_words how)) }
+    ensures { OnOk result (text.new.items ≡ text.old.items
+        ++ line_of_words (codes "handed" ∷ handed_words how)) }
 {
     let mut digits = Buffer::new();
     match how {
@@ -155,7 +162,8 @@ fn put_table<A: Allocator + Copy, B: Allocator>(
     text: &mut Vec<u8, A>,
     table: &Table<B>,
 ) -> Result<(), Memory>
-    ensures { OnOk result (text.new.items ≡ text.old.items ++ (line_of_words (codes "use" ∷ decimal (length table.now) ∷ []) ++ text_of table.now)) }
+    ensures { OnOk result (text.new.items ≡ text.old.items
+        ++ event_text (NewTable table.now)) }
 {
     let mut digits = Buffer::new();
     put_line(text, b"use", &[digits.format(table.len()).as_bytes()])?;

@@ -1,15 +1,18 @@
 -- Ids of inittab entries (inittab(5)).
 use Rattle.std.specs.Prelude.{ℕ, Bool, not, ◌&&◌, ◌==◌, if◌then◌else◌, nat_le, List, length, slice_index, Option, Some, None}
 use Rattle.std.specs.List.{list_all}
+use Rattle.init_words.specs.declared.ids.TheConstants.{ID_LIMIT}
 use Rattle.std.specs.Cmp.Lexicographic.{pointwise}
 
 -- a byte of 33 to 126 that is no colon
 abbrev pub is_id_byte : ℕ → Bool
 is_id_byte byte = nat_le 33 byte && nat_le byte 126 && not (byte == 58)
 
--- 1 to 4 such bytes, the first no '#'
+-- at least one such byte and not too many, the first no '#'
 abbrev pub is_id : List ℕ → Bool
-is_id text = nat_le 1 (length text) && nat_le (length text) 4 && not (slice_index text 0 == 35) && list_all is_id_byte text
+is_id text =
+    nat_le 1 (length text) && nat_le (length text) ID_LIMIT && not (slice_index text 0 == 35)
+    && list_all is_id_byte text
 
 abbrev pub id_read : List ℕ → Option (List ℕ)
 id_read text = if is_id text then Some text else None

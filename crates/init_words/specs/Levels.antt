@@ -30,9 +30,10 @@ same_level k l = level_code k == level_code l
 -- the level of a character, S in either case
 abbrev pub level_read : ℕ → Option Level
 level_read code =
-    if code == 48 then Some L0 else if code == 49 then Some L1 else if code == 50 then Some L2 else if code == 51 then Some L3
-    else if code == 52 then Some L4 else if code == 53 then Some L5 else if code == 54 then Some L6 else if code == 55 then Some L7
-    else if code == 56 then Some L8 else if code == 57 then Some L9 else if code == 83 then Some S else if code == 115 then Some S else None
+    if code == 48 then Some L0 else if code == 49 then Some L1 else if code == 50 then Some L2
+    else if code == 51 then Some L3 else if code == 52 then Some L4 else if code == 53 then Some L5
+    else if code == 54 then Some L6 else if code == 55 then Some L7 else if code == 56 then Some L8
+    else if code == 57 then Some L9 else if code == 83 then Some S else if code == 115 then Some S else None
 
 -- the character of a letter, a capital
 abbrev pub letter_code : Letter → ℕ
@@ -46,8 +47,8 @@ same_letter k l = letter_code k == letter_code l
 -- the letter of a character, in either case
 abbrev pub letter_read : ℕ → Option Letter
 letter_read code =
-    if code == 65 then Some A else if code == 97 then Some A else if code == 66 then Some B else if code == 98 then Some B
-    else if code == 67 then Some C else if code == 99 then Some C else None
+    if code == 65 then Some A else if code == 97 then Some A else if code == 66 then Some B
+    else if code == 98 then Some B else if code == 67 then Some C else if code == 99 then Some C else None
 
 abbrev pub mark_code : Mark → ℕ
 mark_code (At level) = level_code level

@@ -1,7 +1,8 @@
 -- A short list in a field of fixed room: its items, and blanks behind them.
 use Rattle.std.proofs.Common.{◌≡◌, ◌≤◌, ◌-◌, ◌++◌, ℕ, List, length, take, drop, replicate, arith, length-take-le, take-append-drop}
 
-pub take-padded : {X : Type 0} (room : ℕ) (blank : X) (n : ℕ) (xs : List X) → n ≤ room → length xs ≡ room → drop n xs ≡ replicate (room - n) blank → take n xs ++ replicate (room - length (take n xs)) blank ≡ xs
+pub take-padded : {X : Type 0} (room : ℕ) (blank : X) (n : ℕ) (xs : List X) → n ≤ room → length xs ≡ room
+    → drop n xs ≡ replicate (room - n) blank → take n xs ++ replicate (room - length (take n xs)) blank ≡ xs
 take-padded room blank n xs small long rest =
     let short : n ≤ length xs = omega arith in
     rw (length-take-le n xs short, ← rest) (take-append-drop n xs)

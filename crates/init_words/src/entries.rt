@@ -1,9 +1,10 @@
 ghost use Rattle.std.specs.Prelude.{◌≡◌, ◌≤◌, length};
 ghost use Rattle.init_words.specs.Levels.{names};
+ghost use Rattle.init_words.specs.Entries.{without_plus, starts_of, lives_of, waited_of};
 
 use crate::actions::Act;
 use crate::ids::Id;
-use crate::levels::{Level, Mark};
+use crate::levels::{Level, Mark, names};
 use crate::stages::Stage;
 use arrayvec::ArrayVec;
 use std::alloc::AllocError;
@@ -32,10 +33,7 @@ impl Entry {
     pub fn command(&self) -> &[u8]
         ensures { result.now ≡ command_of self.now }
     {
-        match self.process.as_slice() {
-            [b'+', command @ ..] => command,
-            command => command,
-        }
+        without_plus(self.process.as_slice())
     }
 
     /// The entry names the level.
@@ -75,9 +73,33 @@ fn kept<T: Copy + Default, const N: usize>(items: &[T]) -> ArrayVec<T, N>
     field
 }
 
-/// One of the marks is this one.
-fn names(marks: &[Mark], mark: Mark) -> bool
-    ensures { result ≡ names mark marks.now }
+/// A process field without a leading `+` (inittab(5)).
+pub fn without_plus(process: &[u8]) -> &[u8]
+    ensures { result.now ≡ without_plus process.now }
 {
-    marks.iter().any(|other| mark.is(*other))
+    match process {
+        [b'+', command @ ..] => command,
+        _ => process,
+    }
+}
+
+/// An entry of this kind is started in the stage (inittab(5)).
+pub fn starts(entry: &Entry, stage: Stage) -> bool
+    ensures { result ≡ starts_of entry.now stage }
+{
+    entry.act.starts(entry.levels.as_slice(), stage)
+}
+
+/// A child of the entry may live in the stage: else it is stopped (init(8)).
+pub fn lives(entry: &Entry, stage: Stage) -> bool
+    ensures { result ≡ lives_of entry.now stage }
+{
+    entry.act.lives(entry.levels.as_slice(), stage)
+}
+
+/// Init waits for the entry's child to end before it starts later entries (inittab(5)).
+pub fn waited(entry: &Entry) -> bool
+    ensures { result ≡ waited_of entry.now }
+{
+    entry.act.is_waited()
 }

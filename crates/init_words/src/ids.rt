@@ -17,6 +17,7 @@ pub struct Id {
 
 impl Model for Id {
     ghost use Rattle.std.specs.Prelude.{◌≡◌, ◌≤◌, ◌-◌, ◌++◌, ℕ, List, length, take, drop, replicate, true};
+    ghost use Rattle.init_words.specs.declared.ids.TheConstants.{ID_LIMIT};
     ghost use Rattle.init_words.specs.Padded.{take-padded, length-front};
     ghost use Rattle.init_words.specs.Ids.{is_id};
 
@@ -24,11 +25,18 @@ impl Model for Id {
 
     ghost view = { λ a. take a.len a.bytes };
 
-    ghost invariant = { λ a. (a.len ≤ 4) × (length a.bytes ≡ 4) × (drop a.len a.bytes ≡ replicate (4 - a.len) 0) × (is_id (take a.len a.bytes) ≡ true) };
+    ghost invariant = { λ a. (a.len ≤ ID_LIMIT) × (length a.bytes ≡ ID_LIMIT)
+        × (drop a.len a.bytes ≡ replicate (ID_LIMIT - a.len) 0) × (is_id (take a.len a.bytes) ≡ true) };
 
-    ghost inverse = { λ xs. record { bytes = xs ++ replicate (4 - length xs) 0; len = length xs } };
+    ghost inverse = { λ xs. record {
+      bytes = xs ++ replicate (ID_LIMIT - length xs) 0;
+      len = length xs;
+    } };
 
-    ghost inverse_ok = { λ a h i. record { bytes = take-padded 4 0 a.len a.bytes h.0 h.1 h.2 i; len = length-front 4 a.len a.bytes h.0 h.1 i } };
+    ghost inverse_ok = { λ a h i. record {
+      bytes = take-padded ID_LIMIT 0 a.len a.bytes h.0 h.1 h.2 i;
+      len = length-front ID_LIMIT a.len a.bytes h.0 h.1 i;
+    } };
 }
 
 impl Id {

@@ -1,5 +1,5 @@
 ghost use Rattle.std.specs.Prelude.{◌≡◌, not};
-ghost use Rattle.init_words.specs.Levels.{level_code, level_read, letter_code, letter_read, same_level};
+ghost use Rattle.init_words.specs.Levels.{level_code, level_read, letter_code, letter_read, same_level, names};
 
 /// A runlevel: `0` to `9`, or `S` for single user (init(8)).
 #[derive(Clone, Copy, Debug, PartialEq, Eq)]
@@ -140,4 +140,11 @@ impl Mark {
             Mark::OnCall(letter) => letter.code(),
         }
     }
+}
+
+/// One of the marks is this one.
+pub fn names(marks: &[Mark], mark: Mark) -> bool
+    ensures { result ≡ names mark marks.now }
+{
+    marks.iter().any(|other| mark.is(*other))
 }

@@ -1,6 +1,5 @@
-//! The words that every part of init shares: ids, runlevels, stages, the fifteen actions, inittab entries,
-//! orders to children and their answers, and the table that says where an action starts, lives and is waited for.
-//! Nothing here allocates.
+//! The words that every part of init shares: ids, runlevels, stages, the table of the fifteen actions, inittab entries,
+//! orders to children and their answers. Nothing here allocates.
 #![tactic(auto)]
 
 mod actions;
@@ -8,17 +7,17 @@ mod children;
 mod entries;
 mod ids;
 mod levels;
+mod limits;
 mod orders;
 mod refusals;
 mod stages;
-mod stands;
 
 pub use actions::Act;
 pub use children::{ChildNo, Status};
-pub use entries::{Entry, MARK_LIMIT, PROCESS_LIMIT};
+pub use entries::{Entry, MARK_LIMIT, PROCESS_LIMIT, lives, starts, waited, without_plus};
 pub use ids::{ID_LIMIT, Id};
-pub use levels::{Letter, Level, Mark};
+pub use levels::{Letter, Level, Mark, names};
+pub use limits::{GRACE, GRACE_LIMIT};
 pub use orders::{Answer, Ask, PowerKind, Sig};
 pub use refusals::{Memory, Refusal};
 pub use stages::Stage;
-pub use stands::{lives, starts, waited};

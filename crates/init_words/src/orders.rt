@@ -1,3 +1,6 @@
+ghost use Rattle.std.specs.Prelude.{◌≡◌};
+ghost use Rattle.init_words.specs.Orders.{answers};
+
 use crate::children::{ChildNo, Status};
 
 /// What init asks of the system about one entry.
@@ -28,7 +31,21 @@ pub enum Answer {
     Miss,
 }
 
-/// The two signals that stop a child (init(8)).
+impl Answer {
+    /// It is an answer to an order of this kind.
+    pub fn answers(self, ask: Ask) -> bool
+        ensures { result ≡ answers self ask }
+    {
+        match (self, ask) {
+            (Answer::Born(_) | Answer::NotBorn, Ask::Start) => true,
+            (Answer::Ended(_) | Answer::Alive | Answer::NoLook, Ask::Look) => true,
+            (Answer::Hit | Answer::Miss, Ask::Term | Ask::Kill) => true,
+            _ => false,
+        }
+    }
+}
+
+/// The two signals that stop a child (init(8)). Nothing takes or gives one yet: a host that sends them will.
 #[derive(Clone, Copy, Debug, PartialEq, Eq)]
 pub enum Sig {
     Term,

@@ -4,6 +4,7 @@ use Rattle.std.specs.Prelude.{ℕ, ℤ, pos, negsuc, Bool, min, if◌then◌else
 use Rattle.std.specs.List.{list_any}
 use Rattle.std.specs.Int.{w32, cast_signed, from_le_bytes, to_le_bytes}
 use Rattle.std.specs.Ordering.{int_eq}
+use Rattle.init_words.specs.declared.limits.TheConstants.{GRACE_LIMIT}
 use Rattle.init_words.specs.declared.orders.PowerKind.{PowerKind}
 use Rattle.init_words.specs.declared.orders.PowerKind.TheVariants as power
 use Rattle.initctl_frame.specs.declared.requests.Got.{Got}
@@ -19,7 +20,7 @@ int_at place bytes = cast_signed w32 (from_le_bytes w32 (drop place bytes))
 
 -- the seconds of a sleeptime: below 0 it counts as 0, above 3,600 as 3,600
 abbrev pub seconds_of : ℤ → ℕ
-seconds_of (pos seconds) = min seconds 3600
+seconds_of (pos seconds) = min seconds GRACE_LIMIT
 seconds_of (negsuc below) = 0
 
 -- a runlevel int asks for what the character of this code does
@@ -68,5 +69,5 @@ block_of (request.Power kind) = block_of_ints (power_command kind) 0 0
 
 -- what a request means to init
 abbrev pub meaning_of : Request → Got
-meaning_of (request.Runlvl sign seconds) = got_of_sign sign (min seconds 3600)
+meaning_of (request.Runlvl sign seconds) = got_of_sign sign (min seconds GRACE_LIMIT)
 meaning_of (request.Power kind) = got.Power kind

@@ -4,7 +4,7 @@ ghost use Rattle.initctl_frame.specs.Frames.{block_of, block_of_ints, got_of, go
 
 use crate::requests::{Cause, Got, Request};
 use crate::signs::Sign;
-use init_words::{Letter, Level, PowerKind};
+use init_words::{GRACE_LIMIT, Letter, Level, PowerKind};
 
 /// How many bytes a request block has (initreq.h).
 pub const BLOCK: usize = 384;
@@ -15,10 +15,8 @@ pub(crate) const FRONT: usize = 16;
 /// The first int of a block (initreq.h).
 const MAGIC: i32 = 0x03091969;
 
-/// The longest time between the two signals, in seconds.
-const SECONDS_LIMIT: u16 = 3600;
-
-/// What a block asks for (initreq.h). A block is judged by itself: nothing in it is looked for elsewhere than in its place.
+/// What a block asks for (initreq.h). A block is judged by itself: nothing in it is looked for elsewhere than in its
+/// place.
 pub fn decode(block: &[u8; BLOCK]) -> Got
     ensures { result ≡ got_of block.now }
 {
@@ -41,7 +39,7 @@ pub fn meaning(request: &Request) -> Got
     ensures { result ≡ meaning_of request.now }
 {
     match *request {
-        Request::Runlvl(sign, seconds) => got_of_sign(sign.code(), seconds.min(SECONDS_LIMIT)),
+        Request::Runlvl(sign, seconds) => got_of_sign(sign.code(), seconds.min(GRACE_LIMIT)),
         Request::Power(kind) => Got::Power(kind),
     }
 }
@@ -97,7 +95,7 @@ fn got_of_command(command: i32, runlevel: i32, sleeptime: i32) -> Got
 fn seconds_of(sleeptime: i32) -> u16
     ensures { result ≡ seconds_of sleeptime }
 {
-    sleeptime.clamp(0, SECONDS_LIMIT as i32) as u16
+    sleeptime.clamp(0, GRACE_LIMIT as i32) as u16
 }
 
 fn got_of_runlevel(runlevel: i32, seconds: u16) -> Got

@@ -1,7 +1,8 @@
 ghost use Rattle.std.specs.Prelude.{◌≡◌, ◌++◌, ◌<◌, ℕ, List, All, length, flat_map};
 ghost use Rattle.initctl_frame.specs.Blocks.{blocks_of, over_of};
 
-/// The blocks of a byte list are its parts: each has 384 bytes, fewer than 384 bytes are over, and joined they are the list.
+/// The blocks of a byte list are its parts: each has 384 bytes, fewer than 384 bytes are over, and joined they are the
+/// list.
 pub fn blocks_are_parts()
     ensures whole { (bytes : List ℕ) → All (λ block. length block ≡ 384) (blocks_of bytes) }
     ensures partial { (bytes : List ℕ) → length (over_of bytes) < 384 }

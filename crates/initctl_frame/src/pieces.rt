@@ -7,7 +7,8 @@ ghost use Rattle.initctl_frame.specs.declared.requests.Got.{Got};
 use crate::requests::Got;
 use crate::stream::Blocks;
 
-/// Writes the requests of a stream that comes in these pieces into `room`, as many as it has places, and gives how many.
+/// Writes the requests of a stream that comes in these pieces into `room`, as many as it has places, and gives how
+/// many.
 /// They are those of the joined bytes, however they are cut.
 pub fn read_pieces(pieces: &[&[u8]], room: &mut [Got]) -> usize
     ensures { Fills room.old (gots_of (flat_map (λ piece. piece.now) pieces.now)) result room.new }
@@ -24,7 +25,8 @@ pub fn read_pieces(pieces: &[&[u8]], room: &mut [Got]) -> usize
 fn read_piece(blocks: &mut Blocks, piece: &[u8], room: &mut [Got], count: usize) -> usize
     requires { count ≤ length room.old }
     ensures within { result ≤ length room.new }
-    ensures stands { (bytes : List ℕ) → Stands blocks.old bytes → Stands blocks.new (bytes ++ piece.now) }
+    ensures stands { (bytes : List ℕ) → Stands blocks.old bytes
+        → Stands blocks.new (bytes ++ piece.now) }
     ensures fills { (bytes : List ℕ) (places : List Got) → Stands blocks.old bytes
         → Fills places (gots_of bytes) count room.old
         → Fills places (gots_of (bytes ++ piece.now)) result room.new }

@@ -23,7 +23,8 @@ impl Model for Blocks {
 
     ghost view = { λ blocks. record { count = blocks.count; front = blocks.front.items } };
 
-    ghost invariant = { λ blocks. (blocks.count < 384) × (length blocks.front.items ≡ min blocks.count 16) };
+    ghost invariant = { λ blocks. (blocks.count < 384)
+        × (length blocks.front.items ≡ min blocks.count 16) };
 }
 
 impl Blocks {

@@ -3,7 +3,7 @@ use Rattle.std.proofs.Common.{◌≡◌, true, List, [], ◌∷◌, Option, Some
 use Rattle.init_words.specs.declared.entries.Entry.{Entry}
 use Rattle.inittab_text.specs.declared.faults.LineKind.{LineKind}
 use Rattle.inittab_text.specs.Tables.{entry_of, is_distinct}
-use Rattle.inittab_text.specs.Lines.{lines_of}
+use Rattle.text_lines.specs.Lines.{lines_of}
 use Rattle.inittab_text.specs.Checks.{verdict_of}
 use Rattle.inittab_text.specs.Reading.{entries_after, entries_from, table_of_text}
 use Rattle.inittab_text.proofs.Entries.{is_distinct-push}

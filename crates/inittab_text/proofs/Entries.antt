@@ -7,6 +7,7 @@ use Rattle.std.specs.Cmp.Lexicographic.{nat_list_eq_equiv}
 use Rattle.std.proofs.lemmas.Bool.{and_parts, and_from, or_parts, or_from, not-true, not_from_false, leb-true, le-leb}
 use Rattle.std.proofs.lemmas.List.{length_push}
 use Rattle.std.proofs.lemmas.List.Folds.{list_any-append, list_all-append}
+use Rattle.inittab_text.specs.declared.tables.TheConstants.{ENTRY_LIMIT}
 use Rattle.init_words.specs.declared.entries.Entry.{Entry}
 use Rattle.init_words.specs.Ids.{same_id}
 use Rattle.inittab_text.specs.Tables.{entry_of, has_id, is_distinct, default_level_of, default_of}
@@ -62,18 +63,18 @@ is_distinct-push (x ∷ es) e distinct new =
     and_from (not (list_any (has_id x.id) (es ++ e ∷ []))) (is_distinct (es ++ e ∷ [])) (not_from_false (list_any (has_id x.id) (es ++ e ∷ [])) none) (is_distinct-push es e parts.1 other.1)
 
 -- what a table is, in parts
-pub table_parts : (es : List Entry) → is_table es ≡ true → (length es ≤ 512) × (is_distinct es ≡ true) × (list_all is_written es ≡ true)
+pub table_parts : (es : List Entry) → is_table es ≡ true → (length es ≤ ENTRY_LIMIT) × (is_distinct es ≡ true) × (list_all is_written es ≡ true)
 table_parts es is =
-    let outer = and_parts (nat_le (length es) 512 && is_distinct es) (list_all is_written es) is in
-    let inner = and_parts (nat_le (length es) 512) (is_distinct es) outer.0 in
-    (leb-true (length es) 512 inner.0, inner.1, outer.1)
+    let outer = and_parts (nat_le (length es) ENTRY_LIMIT && is_distinct es) (list_all is_written es) is in
+    let inner = and_parts (nat_le (length es) ENTRY_LIMIT) (is_distinct es) outer.0 in
+    (leb-true (length es) ENTRY_LIMIT inner.0, inner.1, outer.1)
 
-pub table_from : (es : List Entry) → length es ≤ 512 → is_distinct es ≡ true → list_all is_written es ≡ true → is_table es ≡ true
+pub table_from : (es : List Entry) → length es ≤ ENTRY_LIMIT → is_distinct es ≡ true → list_all is_written es ≡ true → is_table es ≡ true
 table_from es few distinct written =
-    and_from (nat_le (length es) 512 && is_distinct es) (list_all is_written es)
-    (and_from (nat_le (length es) 512) (is_distinct es) (le-leb (length es) 512 few) distinct) written
+    and_from (nat_le (length es) ENTRY_LIMIT && is_distinct es) (list_all is_written es)
+    (and_from (nat_le (length es) ENTRY_LIMIT) (is_distinct es) (le-leb (length es) ENTRY_LIMIT few) distinct) written
 
-pub is_table-push : (es : List Entry) (e : Entry) → is_table es ≡ true → entry_of e.id es ≡ None → is_written e ≡ true → length es < 512 → is_table (es ++ e ∷ []) ≡ true
+pub is_table-push : (es : List Entry) (e : Entry) → is_table es ≡ true → entry_of e.id es ≡ None → is_written e ≡ true → length es < ENTRY_LIMIT → is_table (es ++ e ∷ []) ≡ true
 is_table-push es e is new written room =
     let parts = table_parts es is in
     table_from (es ++ e ∷ []) (omega (arith, length_push es e)) (is_distinct-push es e parts.1 new)
@@ -90,7 +91,7 @@ distinct-new (x ∷ before) e table distinct =
     rw back (distinct-new before e table parts.1)
 
 -- what a table knows of the entry at a place
-pub known : (before : List Entry) (e : Entry) (table : List Entry) → is_table (before ++ e ∷ table) ≡ true → (is_written e ≡ true) × (entry_of e.id before ≡ None) × (length before < 512)
+pub known : (before : List Entry) (e : Entry) (table : List Entry) → is_table (before ++ e ∷ table) ≡ true → (is_written e ≡ true) × (entry_of e.id before ≡ None) × (length before < ENTRY_LIMIT)
 known before e table is =
     let all = table_parts (before ++ e ∷ table) is in
     let tail = and_parts (list_all is_written before) (list_all is_written (e ∷ table)) (sym (list_all-append is_written before (e ∷ table)) ∙ all.2) in (
@@ -104,5 +105,5 @@ pub copied : (es copy : List Entry) (i : ℕ) (e : Entry) → copy ++ drop i es 
 copied es copy i e so_far is = ap (λ t. copy ++ t) (sym (drop-slice_get es i e is)) ∙ so_far
 
 -- what a table knows of it
-pub copied_known : (es copy : List Entry) (i : ℕ) (e : Entry) → is_table es ≡ true → copy ++ drop i es ≡ es → slice_get es i ≡ Some e → (is_written e ≡ true) × (entry_of e.id copy ≡ None) × (length copy < 512)
+pub copied_known : (es copy : List Entry) (i : ℕ) (e : Entry) → is_table es ≡ true → copy ++ drop i es ≡ es → slice_get es i ≡ Some e → (is_written e ≡ true) × (entry_of e.id copy ≡ None) × (length copy < ENTRY_LIMIT)
 copied_known es copy i e table so_far is = known copy e (drop (i + 1) es) (subst (λ xs. is_table xs ≡ true) (sym (copied es copy i e so_far is)) table)

@@ -1,4 +1,3 @@
-pub mod CutLemmas
 pub mod Distinct
 pub mod Entries
 pub mod MarkLemmas

@@ -10,46 +10,9 @@ use Rattle.init_words.specs.declared.levels.Letter.TheVariants.{A, B, C}
 use Rattle.init_words.specs.declared.levels.Mark.{Mark}
 use Rattle.init_words.specs.declared.levels.Mark.TheVariants.{At, OnCall}
 use Rattle.init_words.specs.Levels.{mark_code, mark_read, same_mark, names, level_code, letter_code}
+use Rattle.init_words.proofs.Same.{mark_read-code, same_mark-is, same_mark-self, same_mark-flip, same_mark-apart}
 use Rattle.inittab_text.specs.Kept.{without_repeats, marks_of, with_mark}
 use Rattle.inittab_text.specs.Written.{has_no_repeat}
-
--- a mark's character is read as the mark
-pub mark_read-code : (m : Mark) → mark_read (mark_code m) ≡ Some m
-mark_read-code (At L0) = refl
-mark_read-code (At L1) = refl
-mark_read-code (At L2) = refl
-mark_read-code (At L3) = refl
-mark_read-code (At L4) = refl
-mark_read-code (At L5) = refl
-mark_read-code (At L6) = refl
-mark_read-code (At L7) = refl
-mark_read-code (At L8) = refl
-mark_read-code (At L9) = refl
-mark_read-code (At S) = refl
-mark_read-code (OnCall A) = refl
-mark_read-code (OnCall B) = refl
-mark_read-code (OnCall C) = refl
-
-same_code : (a b : Mark) → same_mark a b ≡ true → mark_code a ≡ mark_code b
-same_code (At k) (At l) is = eqb-true (level_code k) (level_code l) is
-same_code (OnCall k) (OnCall l) is = eqb-true (letter_code k) (letter_code l) is
-same_code (At k) (OnCall l) is = absurd (false≢true is)
-same_code (OnCall k) (At l) is = absurd (false≢true is)
-
-pub same_mark-is : (a b : Mark) → same_mark a b ≡ true → a ≡ b
-same_mark-is a b is =
-    let some : Some a ≡ Some b = sym (mark_read-code a) ∙ ap mark_read (same_code a b is) ∙ mark_read-code b in
-    cc
-
-pub same_mark-self : (a : Mark) → same_mark a a ≡ true
-same_mark-self (At k) = eq-eqb (level_code k) (level_code k) refl
-same_mark-self (OnCall k) = eq-eqb (letter_code k) (letter_code k) refl
-
-flip : (a b : Mark) → same_mark a b ≡ true → same_mark b a ≡ true
-flip a b is = subst (λ x. same_mark x a ≡ true) (same_mark-is a b is) (same_mark-self a)
-
-apart : (a b : Mark) → same_mark a b ≡ false → same_mark b a ≡ false
-apart a b other = false_from_ne_true (same_mark b a) (λ is. false≢true (sym other ∙ flip b a is))
 
 -- the marks other than this one
 others : Mark → List Mark → List Mark
@@ -87,10 +50,10 @@ push_other x m ms false other = ap (λ ys. x ∷ ys) (others-push x m ms other)
 
 with_mark-front : (x m : Mark) (ms : List Mark) (s : Bool) → same_mark x m ≡ s → x ∷ others x (with_mark ms (Some m)) ≡ with_mark (x ∷ others x ms) (Some m)
 with_mark-front x m ms true is =
-    let back : same_mark m x ≡ true = flip x m is in
+    let back : same_mark m x ≡ true = same_mark-flip x m is in
     rw back (ap (λ ys. x ∷ ys) (push_same x m ms (names m ms) is))
 with_mark-front x m ms false other =
-    let back : same_mark m x ≡ false = apart x m other in
+    let back : same_mark m x ≡ false = same_mark-apart x m other in
     rw (back, names-others m x ms other) (push_other x m ms (names m ms) other)
 
 pub without_repeats-push : (xs : List Mark) (m : Mark) → without_repeats (xs ++ m ∷ []) ≡ with_mark (without_repeats xs) (Some m)

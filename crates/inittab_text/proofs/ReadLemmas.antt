@@ -7,6 +7,8 @@ use Rattle.std.proofs.lemmas.Bool.{true≢false, or_parts, and_parts, and_from, 
 use Rattle.std.proofs.lemmas.List.{drop_at, get_or_at, length_push, append_assoc}
 use Rattle.std.proofs.lemmas.Option.{option_and_then_some}
 use Rattle.std.proofs.lemmas.Str.{is_utf8-from_IsUtf8, IsUtf8-from_is_utf8, IsUtf8-nil, IsUtf8-drop, IsCharBoundary-after_ascii}
+use Rattle.inittab_text.specs.declared.tables.TheConstants.{ENTRY_LIMIT}
+use Rattle.init_words.specs.declared.entries.TheConstants.{MARK_LIMIT}
 use Rattle.init_words.specs.declared.entries.Entry.{Entry}
 use Rattle.init_words.specs.declared.actions.Act.{Act}
 use Rattle.init_words.specs.declared.actions.Act.TheVariants as act
@@ -15,12 +17,14 @@ use Rattle.init_words.specs.Ids.{is_id}
 use Rattle.init_words.specs.Levels.{mark_read}
 use Rattle.inittab_text.specs.declared.faults.LineKind.{LineKind}
 use Rattle.inittab_text.specs.declared.faults.LineKind.TheVariants as fault
-use Rattle.inittab_text.specs.Lines.{FieldBytes, cut, fields_of, has_byte, is_ignored, skip_blanks}
-use Rattle.inittab_text.specs.Kept.{act_read, ignores_levels, has_process, needs_process, levels_meant, levels_kept, marks_of, kept_of}
+use Rattle.text_lines.specs.Lines.{cut, has_byte, skip_blanks}
+use Rattle.init_words.specs.Actions.{act_read, ignores_levels, has_process, needs_process}
+use Rattle.inittab_text.specs.Lines.{FieldBytes, fields_of, is_ignored}
+use Rattle.inittab_text.specs.Kept.{levels_meant, levels_kept, marks_of, kept_of}
 use Rattle.inittab_text.specs.Checks.{is_too_long, is_missing, is_text, checked_as, checked_with, checked, verdict_of}
+use Rattle.text_lines.proofs.CutLemmas.{cut-parts, has_byte-parts, has_byte-skip_blanks}
 use Rattle.inittab_text.specs.Tables.{entry_of}
 use Rattle.inittab_text.specs.Written.{has_no_repeat, is_levels, is_process, is_written}
-use Rattle.inittab_text.proofs.CutLemmas.{cut-parts, has_byte-parts, has_byte-skip_blanks}
 use Rattle.inittab_text.proofs.MarkLemmas.{length-marks_of, has_no_repeat-without_repeats}
 
 -- a line of these fields
@@ -42,13 +46,13 @@ fields_of-spelled line f is =
 -- the checks that a kept line passed
 pub record Passed (before : List Entry) (line : List ℕ) (f : FieldBytes) (a : Act) (e : Entry) : Type 0 where
   pub id : is_id f.id ≡ true
-  pub levels : length f.levels ≤ 11
+  pub levels : length f.levels ≤ MARK_LIMIT
   pub action : act_read f.action ≡ Some a
   pub long : is_too_long a f.process ≡ false
   pub missing : is_missing a f.process ≡ false
   pub text : is_text line ≡ true
   pub new : entry_of f.id before ≡ None
-  pub room : length before < 512
+  pub room : length before < ENTRY_LIMIT
   pub is : e ≡ kept_of a f
 
 guard : {X E : Type 0} (b : Bool) (fault : E) (r : Result X E) (x : X) → cond b (Err fault) r ≡ Ok x → (b ≡ false) × (r ≡ Ok x)
@@ -63,14 +67,14 @@ none_there : {X : Type 0} (o : Option X) → is_some o ≡ false → o ≡ None
 none_there None is = refl
 none_there (Some x) is = absurd (true≢false is)
 
-passed_as : (before : List Entry) (line : List ℕ) (f : FieldBytes) (a : Act) (e : Entry) → is_id f.id ≡ true → length f.levels ≤ 11 → act_read f.action ≡ Some a → checked_as a before line f ≡ Ok (Some e) → Passed before line f a e
+passed_as : (before : List Entry) (line : List ℕ) (f : FieldBytes) (a : Act) (e : Entry) → is_id f.id ≡ true → length f.levels ≤ MARK_LIMIT → act_read f.action ≡ Some a → checked_as a before line f ≡ Ok (Some e) → Passed before line f a e
 unfolding checked_as
 passed_as before line f a e id levels action is =
     let long = guard (is_too_long a f.process) fault.Length _ (Some e) is in
     let missing = guard (is_missing a f.process) fault.Empty _ (Some e) long.1 in
     let text = guard (not (is_text line)) fault.Text _ (Some e) missing.1 in
     let new = guard (is_some (entry_of f.id before)) fault.Twice _ (Some e) text.1 in
-    let room = guard (nat_le 512 (length before)) fault.Many (Ok (Some (kept_of a f))) (Some e) new.1 in
+    let room = guard (nat_le ENTRY_LIMIT (length before)) fault.Many (Ok (Some (kept_of a f))) (Some e) new.1 in
     record {
       id = id;
       levels = levels;
@@ -79,11 +83,11 @@ passed_as before line f a e id levels action is =
       missing = missing.0;
       text = not-false (is_text line) text.0;
       new = none_there (entry_of f.id before) new.0;
-      room = leb-false 512 (length before) room.0;
+      room = leb-false ENTRY_LIMIT (length before) room.0;
       is = cc (room.1);
     }
 
-passed_with : (before : List Entry) (line : List ℕ) (f : FieldBytes) (o : Option Act) (e : Entry) → is_id f.id ≡ true → length f.levels ≤ 11 → act_read f.action ≡ o → checked_with o before line f ≡ Ok (Some e) → (a : Act) × Passed before line f a e
+passed_with : (before : List Entry) (line : List ℕ) (f : FieldBytes) (o : Option Act) (e : Entry) → is_id f.id ≡ true → length f.levels ≤ MARK_LIMIT → act_read f.action ≡ o → checked_with o before line f ≡ Ok (Some e) → (a : Act) × Passed before line f a e
 passed_with before line f None e id levels action is = absurd (cc)
 passed_with before line f (Some a) e id levels action is = (a, passed_as before line f a e id levels action is)
 
@@ -91,8 +95,8 @@ passed_fields : (before : List Entry) (line : List ℕ) (o : Option FieldBytes) 
 passed_fields before line None e at is = absurd (cc)
 passed_fields before line (Some f) e at is =
     let id = guard (not (is_id f.id)) fault.Id _ (Some e) is in
-    let levels = guard (nat_lt 11 (length f.levels)) fault.Levels _ (Some e) id.1 in
-    let rest = passed_with before line f (act_read f.action) e (not-false (is_id f.id) id.0) (ltb-false 11 (length f.levels) levels.0) refl levels.1 in
+    let levels = guard (nat_lt MARK_LIMIT (length f.levels)) fault.Levels _ (Some e) id.1 in
+    let rest = passed_with before line f (act_read f.action) e (not-false (is_id f.id) id.0) (ltb-false MARK_LIMIT (length f.levels) levels.0) refl levels.1 in
     (f, rest.0, at, rest.1)
 
 pub passed : (before : List Entry) (line : List ℕ) (e : Entry) → verdict_of before line ≡ Ok (Some e) → (f : FieldBytes) × (a : Act) × (fields_of (skip_blanks line) ≡ Some f) × Passed before (skip_blanks line) f a e
@@ -126,7 +130,7 @@ lacks-process : (f : FieldBytes) → has_byte 10 (spelled f) ≡ false → has_b
 lacks-process f is = lacks-rest f.action f.process (lacks-rest f.levels (f.action ++ 58 ∷ f.process) (lacks-rest f.id (f.levels ++ 58 ∷ (f.action ++ 58 ∷ f.process)) is))
 
 -- a field that may be left out means at most eleven characters
-length-levels_meant : (a : Act) (field : List ℕ) → length field ≤ 11 → length (levels_meant a field) ≤ 11
+length-levels_meant : (a : Act) (field : List ℕ) → length field ≤ MARK_LIMIT → length (levels_meant a field) ≤ MARK_LIMIT
 length-levels_meant act.Sysinit [] few = lit≤ tt
 length-levels_meant act.Boot [] few = lit≤ tt
 length-levels_meant act.Bootwait [] few = lit≤ tt
@@ -144,11 +148,11 @@ length-levels_meant act.Ctrlaltdel [] few = lit≤ tt
 length-levels_meant act.Kbrequest [] few = lit≤ tt
 length-levels_meant a (b ∷ field) few = few
 
-is_levels_by : (a : Act) (marks : List Mark) (b : Bool) → ignores_levels a ≡ b → length marks ≤ 11 → has_no_repeat marks ≡ true → is_levels a (cond b [] marks) ≡ true
+is_levels_by : (a : Act) (marks : List Mark) (b : Bool) → ignores_levels a ≡ b → length marks ≤ MARK_LIMIT → has_no_repeat marks ≡ true → is_levels a (cond b [] marks) ≡ true
 is_levels_by a marks true ignored few once = rw ignored refl
-is_levels_by a marks false ignored few once = rw (le-leb (length marks) 11 few, once, ignored) refl
+is_levels_by a marks false ignored few once = rw (le-leb (length marks) MARK_LIMIT few, once, ignored) refl
 
-pub is_levels-kept : (a : Act) (field : List ℕ) → length field ≤ 11 → is_levels a (levels_kept a field) ≡ true
+pub is_levels-kept : (a : Act) (field : List ℕ) → length field ≤ MARK_LIMIT → is_levels a (levels_kept a field) ≡ true
 is_levels-kept a field few =
     let meant = levels_meant a field in
     is_levels_by a (marks_of meant) (ignores_levels a) refl (omega (arith, length-marks_of meant, length-levels_meant a field few)) (has_no_repeat-without_repeats (filter_map mark_read meant))
@@ -173,7 +177,7 @@ is_written-kept before line f a e h at lacks =
     rw h.is (and_from _ _ (and_from _ _ h.id (is_levels-kept a f.levels h.levels)) process)
 
 -- what a table must know before it takes the entry
-pub kept_entry : (before : List Entry) (line : List ℕ) (e : Entry) → verdict_of before line ≡ Ok (Some e) → has_byte 10 line ≡ false → (entry_of e.id before ≡ None) × (is_written e ≡ true) × (length before < 512)
+pub kept_entry : (before : List Entry) (line : List ℕ) (e : Entry) → verdict_of before line ≡ Ok (Some e) → has_byte 10 line ≡ false → (entry_of e.id before ≡ None) × (is_written e ≡ true) × (length before < ENTRY_LIMIT)
 kept_entry before line e is lacks =
     let all = passed before line e is in
     let h = all.3 in

@@ -8,6 +8,9 @@ use Rattle.std.proofs.lemmas.Slice.Eq.{bytes_eq-Decides}
 use Rattle.std.proofs.lemmas.Bool.{false≢true, or_from, and_parts, and_from, not-true, not_from_false, ltb-true, lt-ltb, leb-true, le-ltb, lt-leb, ne_eqb, eqb-false}
 use Rattle.std.proofs.lemmas.List.{append_assoc, length-map}
 use Rattle.std.proofs.lemmas.Str.{is_utf8-from_IsUtf8, IsUtf8-from_is_utf8, IsUtf8-append, IsUtf8-from_ascii}
+use Rattle.inittab_text.specs.declared.tables.TheConstants.{ENTRY_LIMIT}
+use Rattle.init_words.specs.declared.ids.TheConstants.{ID_LIMIT}
+use Rattle.init_words.specs.declared.entries.TheConstants.{MARK_LIMIT}
 use Rattle.init_words.specs.declared.entries.Entry.{Entry}
 use Rattle.init_words.specs.declared.actions.Act.{Act}
 use Rattle.init_words.specs.declared.actions.Act.TheVariants as act
@@ -15,16 +18,17 @@ use Rattle.init_words.specs.declared.levels.Level.TheVariants.{L0, L1, L2, L3, L
 use Rattle.init_words.specs.declared.levels.Letter.TheVariants.{A, B, C}
 use Rattle.init_words.specs.declared.levels.Mark.{Mark}
 use Rattle.init_words.specs.declared.levels.Mark.TheVariants.{At, OnCall}
-use Rattle.init_words.specs.Actions.{word_of}
+use Rattle.init_words.specs.Actions.{word_of, act_read, ignores_levels, has_process}
 use Rattle.init_words.specs.Ids.{is_id, is_id_byte}
 use Rattle.init_words.specs.Levels.{mark_code}
-use Rattle.inittab_text.specs.Lines.{FieldBytes, fields_of, has_byte, is_blank, is_ignored, skip_blanks, lines_of}
-use Rattle.inittab_text.specs.Kept.{act_read, ignores_levels, has_process, levels_kept, kept_of}
+use Rattle.text_lines.specs.Lines.{has_byte, is_blank, skip_blanks, lines_of}
+use Rattle.inittab_text.specs.Lines.{FieldBytes, fields_of, is_ignored}
+use Rattle.inittab_text.specs.Kept.{levels_kept, kept_of}
 use Rattle.inittab_text.specs.Checks.{is_too_long, is_missing, is_text, checked_as, checked, verdict_of}
 use Rattle.inittab_text.specs.Tables.{entry_of}
 use Rattle.inittab_text.specs.Reading.{entries_after, faults_at, entries_from, faults_from, table_of_text}
+use Rattle.text_lines.proofs.CutLemmas.{cut-append, lines_of-append, has_byte-append}
 use Rattle.inittab_text.specs.Written.{levels_written, fields_written, text_of, is_empty, has_no_repeat, is_levels, is_process, is_written, is_table, table_written}
-use Rattle.inittab_text.proofs.CutLemmas.{cut-append, lines_of-append, has_byte-append}
 use Rattle.inittab_text.proofs.MarkLemmas.{marks_of-codes}
 use Rattle.inittab_text.proofs.Entries.{known}
 
@@ -157,8 +161,8 @@ is_text-front front rest clean is =
 -- a written line begins with its id: no blank is skipped, and it is no comment
 shown_by : (b : ℕ) (bs rest : List ℕ) → is_id (b ∷ bs) ≡ true → (skip_blanks ((b ∷ bs) ++ rest) ≡ (b ∷ bs) ++ rest) × (is_ignored ((b ∷ bs) ++ rest) ≡ false)
 shown_by b bs rest is =
-    let outer = and_parts (nat_le 1 (length (b ∷ bs)) && nat_le (length (b ∷ bs)) 4 && not (b == 35)) (list_all is_id_byte (b ∷ bs)) is in
-    let first = and_parts (nat_le 1 (length (b ∷ bs)) && nat_le (length (b ∷ bs)) 4) (not (b == 35)) outer.0 in
+    let outer = and_parts (nat_le 1 (length (b ∷ bs)) && nat_le (length (b ∷ bs)) ID_LIMIT && not (b == 35)) (list_all is_id_byte (b ∷ bs)) is in
+    let first = and_parts (nat_le 1 (length (b ∷ bs)) && nat_le (length (b ∷ bs)) ID_LIMIT) (not (b == 35)) outer.0 in
     let bytes = and_parts (is_id_byte b) (list_all is_id_byte bs) outer.1 in
     let range = and_parts (nat_le 33 b && nat_le b 126) (not (b == 58)) bytes.0 in
     let low : 33 ≤ b = leb-true 33 b (and_parts (nat_le 33 b) (nat_le b 126) range.0).0 in
@@ -170,12 +174,12 @@ shown [] rest is = absurd (false≢true is)
 shown (b ∷ bs) rest is = shown_by b bs rest is
 
 id_bytes : (id : List ℕ) → is_id id ≡ true → list_all is_id_byte id ≡ true
-id_bytes id is = (and_parts (nat_le 1 (length id) && nat_le (length id) 4 && not (slice_index id 0 == 35)) (list_all is_id_byte id) is).1
+id_bytes id is = (and_parts (nat_le 1 (length id) && nat_le (length id) ID_LIMIT && not (slice_index id 0 == 35)) (list_all is_id_byte id) is).1
 
 -- the facts of a written entry
 pub record Parts (e : Entry) : Type 0 where
   pub id : is_id e.id ≡ true
-  pub few : length e.levels.items ≤ 11
+  pub few : length e.levels.items ≤ MARK_LIMIT
   pub once : has_no_repeat e.levels.items ≡ true
   pub ignored : cond (ignores_levels e.act) (is_empty e.levels.items) true ≡ true
   pub long : is_too_long e.act e.process.items ≡ false
@@ -192,15 +196,15 @@ parts e is =
     let a = e.act in
     let outer = and_parts (is_id e.id && is_levels a ms) (is_process a p) is in
     let front = and_parts (is_id e.id) (is_levels a ms) outer.0 in
-    let levels = and_parts (nat_le (length ms) 11 && has_no_repeat ms) (cond (ignores_levels a) (is_empty ms) true) front.1 in
-    let marks = and_parts (nat_le (length ms) 11) (has_no_repeat ms) levels.0 in
+    let levels = and_parts (nat_le (length ms) MARK_LIMIT && has_no_repeat ms) (cond (ignores_levels a) (is_empty ms) true) front.1 in
+    let marks = and_parts (nat_le (length ms) MARK_LIMIT) (has_no_repeat ms) levels.0 in
     let whole = and_parts (not (is_too_long a p) && not (is_missing a p) && is_text p && not (has_byte 10 p)) (cond (has_process a) true (is_empty p)) outer.1 in
     let lines = and_parts (not (is_too_long a p) && not (is_missing a p) && is_text p) (not (has_byte 10 p)) whole.0 in
     let text = and_parts (not (is_too_long a p) && not (is_missing a p)) (is_text p) lines.0 in
     let tests = and_parts (not (is_too_long a p)) (not (is_missing a p)) text.0 in
     record {
       id = front.0;
-      few = leb-true (length ms) 11 marks.0;
+      few = leb-true (length ms) MARK_LIMIT marks.0;
       once = marks.1;
       ignored = levels.1;
       long = not-true (is_too_long a p) tests.0;
@@ -263,10 +267,10 @@ kept_process : (p : List ℕ) (b : Bool) → cond b true (is_empty p) ≡ true �
 kept_process p true is = refl
 kept_process p false is = empty_is p is
 
-length-levels_written : (a : Act) (ms : List Mark) → length ms ≤ 11 → length (levels_written a ms) ≤ 11
+length-levels_written : (a : Act) (ms : List Mark) → length ms ≤ MARK_LIMIT → length (levels_written a ms) ≤ MARK_LIMIT
 length-levels_written a [] few = by_test (ignores_levels a)
   where
-    by_test : (b : Bool) → length (cond b [] (codes "-")) ≤ 11
+    by_test : (b : Bool) → length (cond b [] (codes "-")) ≤ MARK_LIMIT
     by_test true = lit≤ tt
     by_test false = lit≤ tt
 length-levels_written a (m ∷ ms) few = omega (arith, length-map ms mark_code)
@@ -294,18 +298,18 @@ kept_is : (e : Entry) → Parts e → kept_of e.act (written e) ≡ e
 unfolding written
 kept_is e h = rw (levels_kept-written e.act e.levels.items h.once h.ignored, kept_process e.process.items (has_process e.act) h.has) refl
 
-checked_as-written : (before : List Entry) (e : Entry) → Parts e → entry_of e.id before ≡ None → length before < 512 → checked_as e.act before (fields_written e) (written e) ≡ Ok (Some e)
+checked_as-written : (before : List Entry) (e : Entry) → Parts e → entry_of e.id before ≡ None → length before < ENTRY_LIMIT → checked_as e.act before (fields_written e) (written e) ≡ Ok (Some e)
 unfolding checked_as written
 checked_as-written before e h new room =
-    rw (h.long, h.missing, is_text-written e h, new, lt-leb 512 (length before) room) (ap (λ x. Ok (Some x)) (kept_is e h))
+    rw (h.long, h.missing, is_text-written e h, new, lt-leb ENTRY_LIMIT (length before) room) (ap (λ x. Ok (Some x)) (kept_is e h))
 
-checked-written : (before : List Entry) (e : Entry) → Parts e → entry_of e.id before ≡ None → length before < 512 → checked before (fields_written e) (Some (written e)) ≡ Ok (Some e)
+checked-written : (before : List Entry) (e : Entry) → Parts e → entry_of e.id before ≡ None → length before < ENTRY_LIMIT → checked before (fields_written e) (Some (written e)) ≡ Ok (Some e)
 unfolding written
 checked-written before e h new room =
-    rw (h.id, le-ltb 11 (length (levels_written e.act e.levels.items)) (length-levels_written e.act e.levels.items h.few), read_is e.act) (checked_as-written before e h new room)
+    rw (h.id, le-ltb MARK_LIMIT (length (levels_written e.act e.levels.items)) (length-levels_written e.act e.levels.items h.few), read_is e.act) (checked_as-written before e h new room)
 
 -- a written line is read as its entry
-pub verdict_of-written : (before : List Entry) (e : Entry) → is_written e ≡ true → entry_of e.id before ≡ None → length before < 512 → verdict_of before (fields_written e) ≡ Ok (Some e)
+pub verdict_of-written : (before : List Entry) (e : Entry) → is_written e ≡ true → entry_of e.id before ≡ None → length before < ENTRY_LIMIT → verdict_of before (fields_written e) ≡ Ok (Some e)
 unfolding verdict_of
 verdict_of-written before e is new room =
     let h = parts e is in

@@ -2,23 +2,23 @@
 use Rattle.std.specs.Prelude.{ℕ, Bool, not, ◌==◌, ◌&&◌, nat_lt, nat_le, if◌then◌else◌, List, [], ◌∷◌, length, Option, Some, None, is_some, Result, Ok, Err}
 use Rattle.std.specs.List.{list_all}
 use Rattle.std.specs.Str.{is_utf8}
+use Rattle.inittab_text.specs.declared.tables.TheConstants.{ENTRY_LIMIT}
+use Rattle.init_words.specs.declared.entries.TheConstants.{MARK_LIMIT, PROCESS_LIMIT}
 use Rattle.init_words.specs.declared.entries.Entry.{Entry}
 use Rattle.init_words.specs.declared.actions.Act.{Act}
 use Rattle.init_words.specs.Ids.{is_id}
 use Rattle.inittab_text.specs.declared.faults.LineKind.{LineKind}
 use Rattle.inittab_text.specs.declared.faults.LineKind.TheVariants as fault
-use Rattle.inittab_text.specs.Lines.{FieldBytes, fields_of, has_byte, is_blank, is_ignored, skip_blanks}
-use Rattle.inittab_text.specs.Kept.{act_read, has_process, needs_process, kept_of}
+use Rattle.text_lines.specs.Lines.{has_byte, is_blank, skip_blanks}
+use Rattle.init_words.specs.Actions.{act_read, has_process, needs_process}
+use Rattle.init_words.specs.Entries.{without_plus}
+use Rattle.inittab_text.specs.Lines.{FieldBytes, fields_of, is_ignored}
+use Rattle.inittab_text.specs.Kept.{kept_of}
 use Rattle.inittab_text.specs.Tables.{entry_of}
 
--- a process without its leading '+'
-abbrev pub without_plus : List ℕ → List ℕ
-without_plus [] = []
-without_plus (b ∷ process) = if b == 43 then process else b ∷ process
-
--- the process has more than 127 bytes, a '+' counted
+-- the process has more bytes than a line may have, a '+' counted
 abbrev pub is_too_long : Act → List ℕ → Bool
-is_too_long act process = has_process act && nat_lt 127 (length process)
+is_too_long act process = has_process act && nat_lt PROCESS_LIMIT (length process)
 
 -- the process is to have more than blanks and tabs, and has not
 abbrev pub is_missing : Act → List ℕ → Bool
@@ -35,7 +35,7 @@ checked_as act before line f =
     else if is_missing act f.process then Err fault.Empty
     else if not (is_text line) then Err fault.Text
     else if is_some (entry_of f.id before) then Err fault.Twice
-    else if nat_le 512 (length before) then Err fault.Many
+    else if nat_le ENTRY_LIMIT (length before) then Err fault.Many
     else Ok (Some (kept_of act f))
 
 -- the checks from the action on
@@ -48,7 +48,7 @@ abbrev pub checked : List Entry → List ℕ → Option FieldBytes → Result (O
 checked before line None = Err fault.Fields
 checked before line (Some f) =
     if not (is_id f.id) then Err fault.Id
-    else if nat_lt 11 (length f.levels) then Err fault.Levels
+    else if nat_lt MARK_LIMIT (length f.levels) then Err fault.Levels
     else checked_with (act_read f.action) before line f
 
 -- what a line comes to after these entries: nothing, an entry or a fault

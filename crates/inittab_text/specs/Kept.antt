@@ -1,54 +1,12 @@
 -- What is kept of a line's fields (inittab(5)).
-use Rattle.std.specs.Prelude.{ℕ, Bool, true, false, not, if◌then◌else◌, List, [], ◌∷◌, ◌++◌, filter, find, Option, Some, None, codes}
+use Rattle.std.specs.Prelude.{ℕ, not, if◌then◌else◌, List, [], ◌∷◌, ◌++◌, filter, Option, Some, None}
 use Rattle.std.specs.List.{filter_map}
-use Rattle.std.specs.Str.{bytes_eq}
 use Rattle.init_words.specs.declared.entries.Entry.{Entry}
 use Rattle.init_words.specs.declared.actions.Act.{Act}
-use Rattle.init_words.specs.declared.actions.Act.TheVariants as act
 use Rattle.init_words.specs.declared.levels.Mark.{Mark}
-use Rattle.init_words.specs.Actions.{word_of}
+use Rattle.init_words.specs.Actions.{ignores_levels, has_process, default_levels}
 use Rattle.init_words.specs.Levels.{mark_read, same_mark, names}
 use Rattle.inittab_text.specs.Lines.{FieldBytes}
-
--- the fifteen actions
-abbrev pub acts : List Act
-acts =
-    act.Sysinit ∷ act.Boot ∷ act.Bootwait ∷ act.Wait ∷ act.Once ∷ act.Respawn ∷ act.Ondemand
-    ∷ act.Powerwait ∷ act.Powerfail ∷ act.Powerokwait ∷ act.Powerfailnow
-    ∷ act.Off ∷ act.Initdefault ∷ act.Ctrlaltdel ∷ act.Kbrequest ∷ []
-
--- the action of a word, in lower case
-unfoldable pub act_read : List ℕ → Option Act
-act_read word = find (λ a. bytes_eq (word_of a) word) acts
-
--- the runlevels of these entries count for nothing
-abbrev pub ignores_levels : Act → Bool
-ignores_levels act.Sysinit = true
-ignores_levels act.Boot = true
-ignores_levels act.Bootwait = true
-ignores_levels _ = false
-
--- initdefault has no process
-abbrev pub has_process : Act → Bool
-has_process act.Initdefault = false
-has_process _ = true
-
--- the process of these may be left out
-abbrev pub needs_process : Act → Bool
-needs_process act.Initdefault = false
-needs_process act.Off = false
-needs_process act.Ctrlaltdel = false
-needs_process act.Kbrequest = false
-needs_process _ = true
-
--- what an empty runlevels field means
-abbrev pub default_levels : Act → List ℕ
-default_levels act.Powerwait = codes "S0123456789"
-default_levels act.Powerfail = codes "S0123456789"
-default_levels act.Powerokwait = codes "S0123456789"
-default_levels act.Powerfailnow = codes "S0123456789"
-default_levels act.Initdefault = []
-default_levels _ = codes "0123456789"
 
 -- what a runlevels field means: itself, or what an empty one does
 abbrev pub levels_meant : Act → List ℕ → List ℕ

@@ -3,7 +3,7 @@ use Rattle.std.specs.Prelude.{ℕ, ◌+◌, List, [], ◌∷◌, ◌++◌, Optio
 use Rattle.init_words.specs.declared.entries.Entry.{Entry}
 use Rattle.inittab_text.specs.declared.faults.LineKind.{LineKind}
 use Rattle.inittab_text.specs.declared.faults.LineFault.{LineFault}
-use Rattle.inittab_text.specs.Lines.{lines_of}
+use Rattle.text_lines.specs.Lines.{lines_of}
 use Rattle.inittab_text.specs.Checks.{verdict_of}
 
 -- the entries after a line: one more where the line is kept
@@ -26,7 +26,8 @@ entries_from before (line ∷ lines) = entries_from (entries_after before (verdi
 abbrev pub faults_from : List Entry → ℕ → List (List ℕ) → List LineFault
 faults_from before number [] = []
 faults_from before number (line ∷ lines) =
-    faults_at number (verdict_of before line) ++ faults_from (entries_after before (verdict_of before line)) (number + 1) lines
+    let verdict = verdict_of before line in
+    faults_at number verdict ++ faults_from (entries_after before verdict) (number + 1) lines
 
 -- the table of a text
 abbrev pub table_of_text : List ℕ → List Entry

@@ -2,14 +2,15 @@
 use Rattle.std.specs.Prelude.{ℕ, Bool, true, false, not, ◌&&◌, nat_le, if◌then◌else◌, List, [], ◌∷◌, ◌++◌, map, length, Option, Some, None, codes}
 use Rattle.std.specs.List.{flat_map, list_all}
 use Rattle.std.specs.Str.{bytes_eq}
+use Rattle.inittab_text.specs.declared.tables.TheConstants.{ENTRY_LIMIT}
+use Rattle.init_words.specs.declared.entries.TheConstants.{MARK_LIMIT}
 use Rattle.init_words.specs.declared.entries.Entry.{Entry}
 use Rattle.init_words.specs.declared.actions.Act.{Act}
 use Rattle.init_words.specs.declared.levels.Mark.{Mark}
-use Rattle.init_words.specs.Actions.{word_of}
+use Rattle.init_words.specs.Actions.{word_of, ignores_levels, has_process}
 use Rattle.init_words.specs.Ids.{is_id}
 use Rattle.init_words.specs.Levels.{mark_code, names}
-use Rattle.inittab_text.specs.Lines.{has_byte}
-use Rattle.inittab_text.specs.Kept.{ignores_levels, has_process}
+use Rattle.text_lines.specs.Lines.{has_byte}
 use Rattle.inittab_text.specs.Checks.{is_too_long, is_missing, is_text}
 use Rattle.inittab_text.specs.Tables.{is_distinct}
 use Rattle.inittab_text.specs.Reading.{table_of_text}
@@ -45,9 +46,10 @@ abbrev pub has_no_repeat : List Mark → Bool
 has_no_repeat [] = true
 has_no_repeat (mark ∷ marks) = not (names mark marks) && has_no_repeat marks
 
--- at most eleven marks, each once, and none for an action whose runlevels count for nothing
+-- not too many marks, each once, and none for an action whose runlevels count for nothing
 abbrev pub is_levels : Act → List Mark → Bool
-is_levels act marks = nat_le (length marks) 11 && has_no_repeat marks && (if ignores_levels act then is_empty marks else true)
+is_levels act marks =
+    nat_le (length marks) MARK_LIMIT && has_no_repeat marks && (if ignores_levels act then is_empty marks else true)
 
 -- text of one line that passes the checks on a process; nothing where the action has none
 abbrev pub is_process : Act → List ℕ → Bool
@@ -59,6 +61,6 @@ is_process act process =
 unfoldable pub is_written : Entry → Bool
 is_written e = is_id e.id && is_levels e.act e.levels.items && is_process e.act e.process.items
 
--- a table: at most 512 such entries, no id twice
+-- a table: not too many such entries, no id twice
 abbrev pub is_table : List Entry → Bool
-is_table table = nat_le (length table) 512 && is_distinct table && list_all is_written table
+is_table table = nat_le (length table) ENTRY_LIMIT && is_distinct table && list_all is_written table

@@ -1,18 +1,15 @@
 ghost use Rattle.std.specs.Prelude.{◌≡◌, ◌≤◌, Some, length};
-ghost use Rattle.std.specs.List.{list_all};
-ghost use Rattle.std.specs.Str.{is_utf8};
-ghost use Rattle.inittab_text.specs.Kept.{needs_process};
-ghost use Rattle.inittab_text.specs.Lines.{fields_at, has_byte, is_blank, is_ignored};
-ghost use Rattle.inittab_text.specs.Checks.{without_plus, is_too_long, is_missing, is_text, checked_as, checked, verdict_of};
+ghost use Rattle.text_lines.specs.Lines.{has_byte};
+ghost use Rattle.inittab_text.specs.Lines.{fields_at, is_ignored};
+ghost use Rattle.inittab_text.specs.Checks.{is_too_long, is_missing, is_text, checked_as, checked, verdict_of};
 
-use crate::cuts::without_blanks;
 use crate::faults::LineKind;
 use crate::fields::Fields;
-use crate::kept::{act_of, entry_of, has_process};
+use crate::kept::entry_of;
 use crate::tables::{ENTRY_LIMIT, Table};
-use init_words::{Act, Entry, Id, MARK_LIMIT, PROCESS_LIMIT};
+use init_words::{Act, Entry, Id, MARK_LIMIT, PROCESS_LIMIT, without_plus};
 use std::alloc::Allocator;
-use std::str;
+use text_lines::{is_all_blank, is_utf8, without_blanks};
 
 /// Nothing, or a comment.
 fn is_ignored(line: &[u8]) -> bool
@@ -22,12 +19,6 @@ fn is_ignored(line: &[u8]) -> bool
         [] => true,
         [first, ..] => *first == b'#',
     }
-}
-
-fn is_utf8(line: &[u8]) -> bool
-    ensures { result ≡ is_utf8 line.now }
-{
-    str::from_utf8(line).is_ok()
 }
 
 fn has_nul(line: &[u8]) -> bool
@@ -43,50 +34,18 @@ fn is_text(line: &[u8]) -> bool
     is_utf8(line) && !has_nul(line)
 }
 
-fn is_blank(byte: u8) -> bool
-    ensures { result ≡ is_blank byte }
-{
-    byte == b' ' || byte == b'\t'
-}
-
-fn is_all_blank(text: &[u8]) -> bool
-    ensures { result ≡ list_all is_blank text.now }
-{
-    text.iter().all(|byte| is_blank(*byte))
-}
-
-/// A process without its leading `+`.
-fn without_plus(process: &[u8]) -> &[u8]
-    ensures { result.now ≡ without_plus process.now }
-{
-    match process {
-        [b'+', rest @ ..] => rest,
-        _ => process,
-    }
-}
-
-/// The process is to have more than blanks and tabs.
-fn needs_process(act: Act) -> bool
-    ensures { result ≡ needs_process act }
-{
-    !matches!(
-        act,
-        Act::Initdefault | Act::Off | Act::Ctrlaltdel | Act::Kbrequest
-    )
-}
-
 /// The process has more bytes than a line may have.
 fn is_too_long(act: Act, process: &[u8]) -> bool
     ensures { result ≡ is_too_long act process.now }
 {
-    has_process(act) && process.len() > PROCESS_LIMIT
+    act.has_process() && process.len() > PROCESS_LIMIT
 }
 
 /// The process is to be there, and is not.
 fn is_missing(act: Act, process: &[u8]) -> bool
     ensures { result ≡ is_missing act process.now }
 {
-    needs_process(act) && is_all_blank(without_plus(process))
+    act.needs_process() && is_all_blank(without_plus(process))
 }
 
 /// The entry of a line with these fields, whose id and action were read, or the first further check that it fails.
@@ -99,7 +58,7 @@ fn checked_as<A: Allocator>(
     fields: &Fields,
 ) -> Result<Option<Entry>, LineKind>
     requires id { fields.now.id.now ≡ id }
-    requires levels { length fields.now.levels.now ≤ 11 }
+    requires levels { length fields.now.levels.now ≤ MARK_LIMIT }
     ensures { result ≡ checked_as act table.now line.now (fields_at fields.now) }
 {
     if is_too_long(act, fields.process) {
@@ -134,7 +93,7 @@ fn checked<A: Allocator>(
     if fields.levels.len() > MARK_LIMIT {
         return Err(LineKind::Levels);
     }
-    let Some(act) = act_of(fields.action) else {
+    let Some(act) = Act::read(fields.action) else {
         return Err(LineKind::Action);
     };
     checked_as(act, id, table, line, fields)

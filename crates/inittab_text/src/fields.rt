@@ -1,7 +1,7 @@
 ghost use Rattle.std.specs.Prelude.{◌≡◌};
 ghost use Rattle.std.specs.Option.{option_map};
 
-use crate::cuts::cut;
+use text_lines::cut;
 
 /// The four fields of a line, `id:runlevels:action:process` (inittab(5)).
 #[derive(Clone, Copy)]

@@ -4,7 +4,6 @@
 #![tactic(auto)]
 
 mod checks;
-mod cuts;
 mod faults;
 mod fields;
 mod kept;
@@ -15,7 +14,6 @@ mod tests;
 mod writing;
 mod written;
 
-pub use cuts::next_line;
 pub use faults::{LineFault, LineKind, TableFault};
 pub use reading::{TEXT_LIMIT, read};
 pub use tables::{ENTRY_LIMIT, Table};

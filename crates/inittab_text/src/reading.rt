@@ -1,13 +1,13 @@
 ghost use Rattle.std.specs.Prelude.{◌≡◌, ◌≢◌, ◌<◌, ◌++◌, ◌↔◌, false, Err, length, IfOk, OnOk, IsErrOf};
-ghost use Rattle.inittab_text.specs.Lines.{has_byte};
+ghost use Rattle.text_lines.specs.Lines.{has_byte};
 ghost use Rattle.inittab_text.specs.Checks.{verdict_of};
 ghost use Rattle.inittab_text.specs.Reading.{entries_after, faults_at, table_of_text, faults_of_text};
 
 use crate::checks::verdict_of;
-use crate::cuts::first_line;
 use crate::faults::{LineFault, TableFault};
 use crate::tables::Table;
 use std::alloc::Allocator;
+use text_lines::first_line;
 
 /// How many bytes a text may have.
 pub const TEXT_LIMIT: usize = 65_536;
@@ -20,8 +20,10 @@ fn take_line<A: Allocator>(
     line: &[u8],
 ) -> Result<(), TableFault>
     requires { has_byte 10 line.now ≡ false }
-    ensures table { OnOk result (table.new ≡ entries_after table.old (verdict_of table.old line.now)) }
-    ensures faults { OnOk result (faults.new.items ≡ faults.old.items ++ faults_at number (verdict_of table.old line.now)) }
+    ensures table { let verdict = verdict_of table.old line.now in
+        OnOk result (table.new ≡ entries_after table.old verdict) }
+    ensures faults { let verdict = verdict_of table.old line.now in
+        OnOk result (faults.new.items ≡ faults.old.items ++ faults_at number verdict) }
     ensures memory { result ≢ Err TableFault.TooLong }
 {
     match verdict_of(table, line) {
@@ -40,7 +42,7 @@ pub fn read<A: Allocator + Copy>(
 ) -> Result<(Table<A>, Vec<LineFault, A>), TableFault>
     ensures table { IfOk result (λ got. got.0 ≡ table_of_text text.now) }
     ensures faults { IfOk result (λ got. got.1.items ≡ faults_of_text text.now) }
-    ensures too_long { IsErrOf result TableFault.TooLong ↔ (65536 < length text.now) }
+    ensures too_long { IsErrOf result TableFault.TooLong ↔ (TEXT_LIMIT < length text.now) }
 {
     if text.len() > TEXT_LIMIT {
         return Err(TableFault::TooLong);

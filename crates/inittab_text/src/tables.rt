@@ -28,7 +28,8 @@ impl<A: Allocator> Model for Table<A> {
 
     ghost view = { λ t. values t.entries };
 
-    ghost invariant = { λ t. (keys t.entries ≡ ids_of (values t.entries)) × (is_table (values t.entries) ≡ true) };
+    ghost invariant = { λ t. (keys t.entries ≡ ids_of (values t.entries))
+        × (is_table (values t.entries) ≡ true) };
 }
 
 impl<A: Allocator + Copy> Table<A> {
@@ -110,7 +111,7 @@ impl<A: Allocator> Table<A> {
     pub(crate) fn push(&mut self, entry: Entry) -> Result<(), Memory>
         requires new { entry_of entry.id self.old ≡ None }
         requires written { is_written entry ≡ true }
-        requires room { length self.old < 512 }
+        requires room { length self.old < ENTRY_LIMIT }
         ensures ok { OnOk result (self.new ≡ self.old ++ entry ∷ []) }
         ensures err { OnErr result (self.new ≡ self.old) }
     {

@@ -3,7 +3,6 @@ ghost use Rattle.init_words.specs.Levels.{mark_code};
 ghost use Rattle.inittab_text.specs.Written.{levels_written, line_of, text_of};
 ghost use Rattle.inittab_text.specs.Reading.{table_of_text, faults_of_text};
 
-use crate::kept::ignores_levels;
 use crate::tables::Table;
 use arrayvec::ArrayVec;
 use init_words::{Act, Entry, MARK_LIMIT, Mark, Memory};
@@ -11,7 +10,7 @@ use std::alloc::Allocator;
 
 /// The characters of the marks.
 fn codes_of(marks: &[Mark]) -> ArrayVec<u8, MARK_LIMIT>
-    requires { length marks.now ≤ 11 }
+    requires { length marks.now ≤ MARK_LIMIT }
     ensures { result.items ≡ map mark_code marks.now }
 {
     let mut codes = ArrayVec::new();
@@ -23,11 +22,11 @@ fn codes_of(marks: &[Mark]) -> ArrayVec<u8, MARK_LIMIT>
 
 /// The runlevels field as it is written.
 fn levels_written(act: Act, marks: &[Mark]) -> ArrayVec<u8, MARK_LIMIT>
-    requires { length marks.now ≤ 11 }
+    requires { length marks.now ≤ MARK_LIMIT }
     ensures { result.items ≡ levels_written act marks.now }
 {
     let mut field = codes_of(marks);
-    if marks.is_empty() && !ignores_levels(act) {
+    if marks.is_empty() && !act.ignores_levels() {
         field.push(b'-');
     }
     field
@@ -55,7 +54,8 @@ fn write_fields<A: Allocator>(text: &mut Vec<u8, A>, entry: &Entry) -> Result<()
     write_field(text, entry.process.as_slice(), b'\n')
 }
 
-/// Appends an entry's line of inittab(5), `id:runlevels:action:process` and a newline. A refusal leaves the text as it was.
+/// Appends an entry's line of inittab(5), `id:runlevels:action:process` and a newline. A refusal leaves the text as it
+/// was.
 pub fn write_line<A: Allocator>(text: &mut Vec<u8, A>, entry: &Entry) -> Result<(), Memory>
     ensures ok { OnOk result (text.new.items ≡ text.old.items ++ line_of entry.now) }
     ensures err { OnErr result (text.new.items ≡ text.old.items) }

@@ -1,16 +1,16 @@
 ghost use Rattle.std.specs.Prelude.{◌≡◌, ◌≢◌, List, Some, false, true, IfOk, IfSome, IfNone, OnOk};
 ghost use Rattle.init_words.specs.declared.entries.Entry.{Entry};
-ghost use Rattle.inittab_text.specs.Lines.{has_byte};
+ghost use Rattle.text_lines.specs.Lines.{has_byte};
 ghost use Rattle.inittab_text.specs.Checks.{verdict_of};
 ghost use Rattle.inittab_text.specs.Reading.{entries_after, table_of_text};
 ghost use Rattle.inittab_text.specs.Written.{is_table, text_of, table_written};
 
 use crate::checks::verdict_of;
-use crate::cuts::first_line;
 use crate::tables::Table;
 use crate::writing::write;
 use init_words::Memory;
 use std::alloc::Allocator;
+use text_lines::first_line;
 
 /// Adds a line's entry to the table, if it is kept.
 fn keep_line<A: Allocator>(table: &mut Table<A>, line: &[u8]) -> Result<(), Memory>
@@ -54,8 +54,10 @@ pub fn read_written<A: Allocator + Copy>(alloc: A, text: &[u8]) -> Result<Option
     ensures value { IfOk result (λ got. got ≡ table_written text.now) }
     ensures found { IfOk result (λ got. IfSome got (λ table. text_of table ≡ text.now)) }
     // No other table has the text.
-    ensures only { IfOk result (λ got. (table : List Entry) → is_table table ≡ true → text_of table ≡ text.now → got ≡ Some table) }
-    ensures none { IfOk result (λ got. IfNone got ((table : List Entry) → is_table table ≡ true → text_of table ≢ text.now)) }
+    ensures only { IfOk result (λ got. (table : List Entry) → is_table table ≡ true
+        → text_of table ≡ text.now → got ≡ Some table) }
+    ensures none { IfOk result (λ got. IfNone got ((table : List Entry) → is_table table ≡ true
+        → text_of table ≢ text.now)) }
 {
     table_written(alloc, text)
 }

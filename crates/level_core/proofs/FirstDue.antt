@@ -1,7 +1,7 @@
 -- The step that the core takes is the first that is due.
 use Rattle.std.proofs.Common.{Bool, true, false, not, ◌≡◌, ◌&&◌, ◌||◌, ℕ, List, [], ◌∷◌, ◌++◌, map, zip, append-nil, Option, Some, None, is_some, is_none, refl, sym, ap, ◌∙◌, cond}
 use Rattle.std.specs.List.{list_any, list_all}
-use Rattle.std.proofs.lemmas.Bool.{false≢true}
+use Rattle.std.proofs.lemmas.Bool.{false≢true, or_parts}
 use Rattle.init_words.specs.declared.entries.Entry.{Entry}
 use Rattle.init_words.specs.declared.actions.Act.{Act}
 use Rattle.init_words.specs.declared.actions.Act.TheVariants as act
@@ -25,7 +25,8 @@ use Rattle.init_trace.specs.Past.{table_of, stage_of, time_of, Child, is_of, has
 use Rattle.init_trace.specs.Wanted.{is_wanted, is_asked, is_order, is_excluded}
 use Rattle.init_trace.specs.Timing.{is_held, start_times, hold_times}
 use Rattle.init_trace.specs.Wishes.{is_level, in_run, goal_of, wish_stands}
-use Rattle.init_trace.specs.Due.{due, first, step_if, steps_if, due_first, due_reexec, due_reread, due_level, due_news, due_stops, due_starts, due_stage, due_settle, due_looks, is_over, is_limited, is_announced, is_settled, is_served, served_by, settle_step, next_stage, stops_of, stops_among, record_ids, looks_among, can_look, wants_look, starts_among}
+use Rattle.init_words.specs.Actions.{is_limited, served_by}
+use Rattle.init_trace.specs.Due.{due, first, step_if, steps_if, due_first, due_reexec, due_reread, due_level, due_news, due_stops, due_starts, due_stage, due_settle, due_looks, is_over, is_announced, is_settled, is_served, settle_step, next_stage, stops_of, stops_among, record_ids, looks_among, can_look, wants_look, starts_among}
 use Rattle.level_core.specs.declared.slots.Slot.{Slot}
 use Rattle.level_core.specs.Decide as core
 use Rattle.level_core.specs.Decide.{CoreState, decide, or_else, or_idle, is_busy, is_done_slot, all_done, is_quiet_among, is_idle_among, is_served_slot, all_served, can_look_slot, look_among}
@@ -54,10 +55,6 @@ all_same_but bar p q [] same none = refl
 all_same_but bar p q (x ∷ xs) same none =
     let parts = or_parts (bar x) (list_any bar xs) none in
     rw (same x parts.0, all_same_but bar p q xs same parts.1) refl
-  where
-    or_parts : (a b : Bool) → (a || b) ≡ false → (a ≡ false) × (b ≡ false)
-    or_parts true b h = absurd (false≢true (sym h))
-    or_parts false b h = (refl, h)
 
 -- a signal is due to nobody
 stops_none : (past : List Event) (id : List ℕ) (children : List Child) → list_any (is_excluded past) children ≡ false → stops_of id children past ≡ []
@@ -87,19 +84,6 @@ steps_if_nil false = refl
 step_if_false : (b c : Bool) (step : Step) → c ≡ false → step_if (b && c) step ≡ []
 step_if_false true c step is = rw is refl
 step_if_false false c step is = refl
-
-pub same_level-refl : (l : Level) → same_level l l ≡ true
-same_level-refl L0 = refl
-same_level-refl L1 = refl
-same_level-refl L2 = refl
-same_level-refl L3 = refl
-same_level-refl L4 = refl
-same_level-refl L5 = refl
-same_level-refl L6 = refl
-same_level-refl L7 = refl
-same_level-refl L8 = refl
-same_level-refl L9 = refl
-same_level-refl S = refl
 
 -- what keeps an entry up counts for the limited ones alone
 unlimited_served : (action : Act) (asked x y : Bool) → is_limited action ≡ false → served_by action asked x ≡ served_by action asked y

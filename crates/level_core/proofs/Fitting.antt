@@ -1,7 +1,7 @@
 -- Each happening leaves the records what the past says, and so the core fitting.
 use Rattle.std.proofs.Common.{Bool, true, false, not, ◌≡◌, ◌&&◌, ◌||◌, ℕ, List, [], ◌∷◌, map, reverse, Some, refl, sym, ap, ◌∙◌, cond}
 use Rattle.std.specs.List.{list_any}
-use Rattle.std.proofs.lemmas.Bool.{false≢true, and_parts}
+use Rattle.std.proofs.lemmas.Bool.{false≢true, and_parts, or_parts, not-true}
 use Rattle.std.proofs.lemmas.Grind.{reverse_onto}
 use Rattle.init_words.specs.declared.entries.Entry.{Entry}
 use Rattle.init_words.specs.declared.stages.Stage.{Stage}
@@ -15,13 +15,15 @@ use Rattle.init_trace.specs.declared.happenings.Happening.TheVariants as event
 use Rattle.init_trace.specs.Event.{Event}
 use Rattle.init_trace.specs.Past.{table_of, time_of, has_child, known}
 use Rattle.init_trace.specs.Timing.{is_held, is_full, start_times, hold_times}
-use Rattle.init_trace.specs.Due.{is_limited, wants_look}
+use Rattle.init_words.specs.Actions.{is_limited}
+use Rattle.init_trace.specs.Due.{wants_look}
+use Rattle.init_words.proofs.Same.{same_id-is, same_id-self, same_id-sym}
 use Rattle.init_trace.specs.Lawful.{is_limited_id, is_free}
-use Rattle.trace_laws.proofs.Tests.{same_id-is, same_id-self, same_id-sym}
 use Rattle.level_core.specs.declared.slots.Slot.{Slot}
+use Rattle.init_words.proofs.Tests.{and_false}
 use Rattle.level_core.specs.Slots.{after_order, after_hold, after_enter, after_nudge, changed, is_slot_of, with_changed, with_allowed_start, allows}
 use Rattle.level_core.specs.Fit.{record_of, limiter_by, last_hold_end}
-use Rattle.level_core.proofs.Same.{child_some, and_false}
+use Rattle.level_core.proofs.Same.{child_some}
 use Rattle.level_core.proofs.Windows.{held_fits, full_fits, allows_by}
 
 -- a fact of each entry
@@ -42,10 +44,6 @@ none_has id e [] h = tt
 none_has id e (x ∷ es) h =
     let parts = or_parts (same_id e.id x.id) (list_any (has_id e.id) es) h in
     (same_id-sym x.id e.id ∙ parts.0, none_has id e es parts.1)
-  where
-    or_parts : (a b : Bool) → (a || b) ≡ false → (a ≡ false) × (b ≡ false)
-    or_parts true b h = absurd (false≢true (sym h))
-    or_parts false b h = (refl, h)
 
 own_behind : (e : Entry) (es xs : List Entry) → Each (λ x. same_id x.id e.id ≡ false) xs → Each (IsOwn es) xs → Each (IsOwn (e ∷ es)) xs
 own_behind e es [] apart own = tt
@@ -55,11 +53,7 @@ pub each_own : (es : List Entry) → is_distinct es ≡ true → Each (IsOwn es)
 each_own [] h = tt
 each_own (e ∷ es) h =
     let parts = and_parts (not (list_any (has_id e.id) es)) (is_distinct es) h in
-    (rw (same_id-self e.id) refl, own_behind e es es (none_has e.id e es (not_false (list_any (has_id e.id) es) parts.0)) (each_own es parts.1))
-  where
-    not_false : (b : Bool) → not b ≡ true → b ≡ false
-    not_false true h = absurd (false≢true h)
-    not_false false h = refl
+    (rw (same_id-self e.id) refl, own_behind e es es (none_has e.id e es (not-true (list_any (has_id e.id) es) parts.0)) (each_own es parts.1))
 
 -- two lists made along the same entries, alike at each
 pub records_same : (f g : Entry → Slot) (change : Slot → Slot) (P : Entry → Type 0) → ((e : Entry) → P e → change (f e) ≡ g e) → (es : List Entry) → Each P es → map change (map f es) ≡ map g es

@@ -1,6 +1,7 @@
 -- On a trace of one table no wish ever stands, nothing is called, and no id leaves the table.
 use Rattle.std.proofs.Common.{Bool, true, false, not, ◌≡◌, ◌&&◌, List, [], ◌∷◌, Option, Some, None, refl}
 use Rattle.std.proofs.lemmas.Bool.{and_parts, false≢true}
+use Rattle.init_words.proofs.Tests.{and_false}
 use Rattle.init_words.specs.declared.entries.Entry.{Entry}
 use Rattle.init_words.specs.declared.levels.Letter.{Letter}
 use Rattle.init_words.specs.declared.orders.Ask.TheVariants.{Start}
@@ -75,11 +76,7 @@ none_called e = plain_induction (λ past. is_called e past ≡ false) (λ table.
     more (NewTable table) past plain h = refl
     more (Power k) past plain h = absurd (false≢true plain)
     more (Call l) past plain h = absurd (false≢true plain)
-    more (Asked i Start) past plain h = rw h (other (not (same_id e.id i)))
-      where
-        other : (b : Bool) → (b && false) ≡ false
-        other true = refl
-        other false = refl
+    more (Asked i Start) past plain h = rw h (and_false (not (same_id e.id i)))
     more _ past plain h = h
 
 pub none_left : (past : List Event) → is_of_one_table past ≡ true → left_ids past ≡ []
@@ -102,10 +99,6 @@ no_other _ = refl
 
 pub no_level_wish : (past : List Event) → is_of_one_table past ≡ true → level_wish past ≡ None
 no_level_wish past plain = rw (no_level_heard past plain) (no_other (stage_of past))
-
-and_false : (b : Bool) → (b && false) ≡ false
-and_false true = refl
-and_false false = refl
 
 pub no_wish : (past : List Event) → is_of_one_table past ≡ true → wish_stands past ≡ false
 no_wish past plain = rw (no_reexec past plain, no_reread past plain, no_level_wish past plain, no_power power.Fail past plain, no_power power.FailNow past plain, no_power power.Ok past plain, no_letter letter.A past plain, no_letter letter.B past plain, no_letter letter.C past plain) (and_false (in_run (stage_of past)))

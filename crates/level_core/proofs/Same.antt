@@ -13,7 +13,8 @@ use Rattle.init_trace.specs.Event.{Event}
 use Rattle.init_trace.specs.Past.{table_of, stage_of, time_of, is_of, has_child, kept, known, open_of, open_orders}
 use Rattle.init_trace.specs.Wanted.{is_wanted, is_owed, is_order, is_excluded}
 use Rattle.init_trace.specs.Timing.{is_held, is_full, start_times, hold_times}
-use Rattle.init_trace.specs.Due.{is_limited, can_start, start_steps, starts_among, steps_if}
+use Rattle.init_words.specs.Actions.{is_limited}
+use Rattle.init_trace.specs.Due.{can_start, start_steps, starts_among, steps_if}
 use Rattle.level_core.specs.Slots.{allows}
 use Rattle.level_core.specs.Decide.{is_wanted_slot, is_owed_slot, can_start_slot, limited_step, start_step, start_along, is_busy, or_else}
 use Rattle.level_core.specs.Fit.{living, known_child, record_of, limiter_by}
@@ -48,14 +49,6 @@ child_some id past = found_some living (is_of id) (known past)
 
 pub child_none : (id : List ℕ) (past : List Event) → is_none (known_child id past) ≡ not (has_child id (known past))
 child_none id past = none_by_some (known_child id past) ∙ ap not (child_some id past)
-
-pub and_false : (b : Bool) → (b && false) ≡ false
-and_false true = refl
-and_false false = refl
-
-pub or_true : (b : Bool) → (b || true) ≡ true
-or_true true = refl
-or_true false = refl
 
 pub both_false : (a b c : Bool) → c ≡ false → (a && c) ≡ (b && c)
 both_false a b c is = rw is (and_false a ∙ sym (and_false b))

@@ -14,19 +14,20 @@ use Rattle.init_trace.specs.Event.{Event}
 use Rattle.init_trace.specs.Past.{table_of, stage_of, time_of}
 use Rattle.init_trace.specs.Wishes.{in_run, was_booted}
 use Rattle.init_trace.specs.Lawful.{is_limited_id, is_free}
-use Rattle.init_trace.specs.Due.{due, first, is_due, same_step, is_limited}
-use Rattle.init_trace.specs.Past.{clock_limit}
+use Rattle.init_words.specs.Actions.{is_limited}
+use Rattle.init_trace.specs.Due.{due, first, is_due, same_step}
+use Rattle.respawn_limit.specs.declared.TheConstants.{CLOCK_LIMIT}
 use Rattle.init_trace.specs.Wanted.{brings}
 use Rattle.init_trace.specs.Timing.{is_held, is_full}
 use Rattle.init_trace.specs.Sound.{is_sound}
 use Rattle.inittab_text.specs.Tables.{act_of}
+use Rattle.init_words.proofs.Same.{same_id-self, same_level-self}
 use Rattle.init_words.specs.Orders.{same_stage}
-use Rattle.trace_laws.proofs.Tests.{same_id-self}
 use Rattle.trace_laws.proofs.Dues.{due_facts}
 use Rattle.trace_laws.proofs.Keeps.{sound_holds}
 use Rattle.std.proofs.lemmas.Bool.Decides.{nat_tests}
 use Rattle.level_core.specs.Path.{is_of_one_table}
-use Rattle.level_core.proofs.FirstDue.{decide_due, same_level-refl}
+use Rattle.level_core.proofs.FirstDue.{decide_due}
 use Rattle.level_core.proofs.Taming.{tame}
 use Rattle.level_core.specs.declared.slots.Slot.{Slot}
 use Rattle.level_core.specs.Slots.{after_order, after_hold, after_enter, after_nudge, with_changed, new_slot}
@@ -104,11 +105,6 @@ first_start id (step ∷ steps) is = rw (is, same_id-self id) refl
 first_hold : (id : List ℕ) (steps : List Step) → first steps ≡ Hold id → list_any (same_step (Hold id)) steps ≡ true
 first_hold id [] is = cc
 first_hold id (step ∷ steps) is = rw (is, same_id-self id) refl
-
-same_stage-self : (s : Stage) → same_stage s s ≡ true
-same_stage-self stage.Sysinit = refl
-same_stage-self stage.Boot = refl
-same_stage-self (stage.Run level) = same_level-refl level
 
 first_enter : (next : Stage) (grace : ℕ) (steps : List Step) → first steps ≡ Enter next grace → list_any (same_step (Enter next grace)) steps ≡ true
 first_enter next grace [] is = cc
@@ -234,7 +230,7 @@ pub fits_round : (goal : Goal) (past : List Event) (c : CoreState) → Fits c go
 fits_round goal past c fits = record { table = fits.table; slots = ap (map after_nudge) fits.slots ∙ nudged past (table_of past); stage = fits.stage; grace = fits.grace; goal = fits.goal; booted = fits.booted; announced = fits.announced; time = fits.time }
 
 pub fits_clock : (goal : Goal) (past : List Event) (c : CoreState) (reading : ℕ) → Fits c goal past → Fits (after_clock reading c) goal (event.Clock reading ∷ past)
-fits_clock goal past c reading fits = record { table = fits.table; slots = fits.slots; stage = fits.stage; grace = fits.grace; goal = fits.goal; booted = fits.booted; announced = fits.announced; time = ap (max (min reading clock_limit)) fits.time }
+fits_clock goal past c reading fits = record { table = fits.table; slots = fits.slots; stage = fits.stage; grace = fits.grace; goal = fits.goal; booted = fits.booted; announced = fits.announced; time = ap (max (min reading CLOCK_LIMIT)) fits.time }
 
 -- the opening fits the table alone
 pub fits_opening : (table : List Entry) (goal : Goal) → Fits (core.opening_state table goal) goal (event.NewTable table ∷ [])

@@ -2,7 +2,7 @@
 use Rattle.std.proofs.Common.{Bool, true, false, not, ◌≡◌, ◌&&◌, ◌||◌, ℕ, ◌==◌, List, [], ◌∷◌, ◌++◌, find, Option, Some, None, is_some, refl, sym, ap, ◌∙◌, cond}
 use Rattle.std.specs.List.{list_any, list_all}
 use Rattle.std.specs.Option.{option_map_or}
-use Rattle.std.proofs.lemmas.Bool.{false≢true, and_parts}
+use Rattle.std.proofs.lemmas.Bool.{false≢true, and_parts, not-false}
 use Rattle.std.proofs.lemmas.List.Folds.{list_any-append}
 use Rattle.init_words.specs.declared.entries.Entry.{Entry}
 use Rattle.init_words.specs.declared.actions.Act.{Act}
@@ -14,9 +14,9 @@ use Rattle.init_words.specs.declared.stages.Stage.TheVariants as stage
 use Rattle.init_words.specs.declared.orders.Ask.{Ask}
 use Rattle.init_words.specs.declared.orders.Ask.TheVariants.{Start, Look}
 use Rattle.init_words.specs.Ids.{same_id}
-use Rattle.init_words.specs.Actions.{same_act}
+use Rattle.init_words.specs.Actions.{same_act, lives_by, waited_by, is_limited}
 use Rattle.init_words.specs.Orders.{same_ask, same_stage}
-use Rattle.init_words.specs.Entries.{lives_by, lives_of, waited_by, waited_of}
+use Rattle.init_words.specs.Entries.{lives_of, waited_of}
 use Rattle.inittab_text.specs.Tables.{entry_of, has_id}
 use Rattle.init_trace.specs.declared.happenings.Happening.TheVariants as event
 use Rattle.init_trace.specs.declared.steps.Step.{Step}
@@ -26,10 +26,12 @@ use Rattle.init_trace.specs.Event.{Event}
 use Rattle.init_trace.specs.Past.{table_of, stage_of, is_quiet, Child, Open, is_of, has_child, kept, known, open_of, open_orders}
 use Rattle.init_trace.specs.Wanted.{is_excluded, may_live, is_wanted, is_owed}
 use Rattle.init_trace.specs.Wishes.{goal_of, wish_stands}
-use Rattle.init_trace.specs.Due.{is_due, none_excluded, same_step, steps_if, step_if, due_starts, due_stage, due_settle, due_looks, is_over, next_stage, settle_step, starts_among, start_steps, can_start, looks_among, can_look, record_ids, is_limited, is_settled}
+use Rattle.init_trace.specs.Due.{is_due, none_excluded, same_step, steps_if, step_if, due_starts, due_stage, due_settle, due_looks, is_over, next_stage, settle_step, starts_among, start_steps, can_start, looks_among, can_look, record_ids, is_settled}
 use Rattle.init_trace.specs.Timing.{is_held, is_full}
 use Rattle.init_trace.specs.Sound.{is_sound}
-use Rattle.trace_laws.proofs.Tests.{falsely, same_tests, any_less, same_id-is, same_id-self, same_id-flip, same_ask-self, is_order-is, passing}
+use Rattle.init_words.proofs.Same.{same_id-is, same_id-self, same_id-flip, same_ask-self}
+use Rattle.init_words.proofs.Tests.{falsely, same_tests, any_less, passing, any_same}
+use Rattle.trace_laws.proofs.Tests.{is_order-is}
 use Rattle.trace_laws.proofs.Orders.{open_listed, known_kept, kept_before_told, same_has}
 use Rattle.trace_laws.proofs.Keeps.{Holds, sound_holds}
 use Rattle.trace_laws.proofs.Births.{sound_step}
@@ -68,10 +70,6 @@ module _ (goal : Goal) (past : List Event) (sound : is_sound goal past ≡ true)
 
   pub orders_same : list_any (λ (order : Open). p order.ask) (open_orders past) ≡ list_any (λ (e : Entry). option_map_or p (open_of e.id past) false) (table_of past)
   orders_same = same_tests _ _ to_table from_table
-
-any_same : {X : Type 0} (p q : X → Bool) → ((x : X) → p x ≡ q x) → (xs : List X) → list_any p xs ≡ list_any q xs
-any_same p q same [] = refl
-any_same p q same (x ∷ xs) = rw (same x, any_same p q same xs) refl
 
 busy_by : (o : Option Ask) → option_map_or (λ ask. not (same_ask Look ask)) o false ≡ is_busy o
 busy_by None = refl
@@ -208,12 +206,8 @@ pub record LivesBy (child : Child) (now : Stage) (past : List Event) : Type 0 wh
   pub lives : lives_of entry now ≡ true
 
 living : (child : Child) (now : Stage) (past : List Event) → stage_of past ≡ Some now → is_excluded past child ≡ false → LivesBy child now past
-living child now past is spared = at (entry_of child.id (table_of past)) child.act refl (not_false _ (sym (ap (λ o. not (may_live (entry_of child.id (table_of past)) child.act o)) is) ∙ spared))
+living child now past is spared = at (entry_of child.id (table_of past)) child.act refl (not-false _ (sym (ap (λ o. not (may_live (entry_of child.id (table_of past)) child.act o)) is) ∙ spared))
   where
-    not_false : (b : Bool) → not b ≡ false → b ≡ true
-    not_false true h = refl
-    not_false false h = absurd (false≢true (sym h))
-
     at : (o : Option Entry) (a : Option Act) → entry_of child.id (table_of past) ≡ o → may_live o a (Some now) ≡ true → LivesBy child now past
     at None a found h = absurd (false≢true h)
     at (Some e) None found h = absurd (false≢true h)

@@ -18,8 +18,10 @@ use Rattle.init_trace.specs.Answered.{answered_of}
 use Rattle.init_trace.specs.Wanted.{is_order}
 use Rattle.init_trace.specs.Due.{wants_look}
 use Rattle.init_trace.specs.Sound.{is_sound, may_come}
-use Rattle.trace_laws.specs.Answers.{answers}
-use Rattle.trace_laws.proofs.Tests.{falsely, same_id-is, same_id-self, same_id-sym, is_order-is}
+use Rattle.init_words.specs.Orders.{answers}
+use Rattle.init_words.proofs.Same.{same_id-is, same_id-self, same_id-sym}
+use Rattle.init_words.proofs.Tests.{falsely, and_false}
+use Rattle.trace_laws.proofs.Tests.{is_order-is}
 use Rattle.trace_laws.proofs.Orders.{known_kept, told_other, same_has}
 use Rattle.trace_laws.proofs.Keeps.{sound_holds, sound_ind}
 use Rattle.trace_laws.proofs.Births.{birth_ready}
@@ -28,7 +30,7 @@ use Rattle.level_core.specs.Slots.{after_answer, changed, with_changed, order_in
 use Rattle.level_core.specs.Decide.{CoreState, after_told, refusal_of}
 use Rattle.level_core.specs.Fit.{Fits, record_of, records_of, living, is_to_look}
 use Rattle.level_core.specs.Path.{is_of_one_table, is_act}
-use Rattle.level_core.proofs.Same.{child_some, and_false}
+use Rattle.level_core.proofs.Same.{child_some}
 use Rattle.level_core.proofs.Fitting.{IsOwn, each_own, records_same, one_changed}
 use Rattle.level_core.proofs.Taming.{table_kept}
 

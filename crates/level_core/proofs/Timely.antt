@@ -3,6 +3,7 @@ use Rattle.std.proofs.Math.Seq.{take-append_seam}
 use Rattle.std.proofs.Common.{sym, ◌∙◌, ap, take, Bool, true, false, ◌≡◌, ◌≤◌, ◌-◌, ℕ, zero, suc, List, [], ◌∷◌, ◌++◌, map, drop, length, nat_le, refl, arith, cond}
 use Rattle.std.specs.List.{list_all}
 use Rattle.std.proofs.lemmas.Bool.{and_parts, and_from, leb-true, le-leb}
+use Rattle.respawn_limit.specs.declared.TheConstants.{STARTS}
 use Rattle.init_words.specs.declared.entries.Entry.{Entry}
 use Rattle.init_words.specs.declared.orders.Ask.{Ask}
 use Rattle.init_words.specs.declared.orders.Ask.TheVariants.{Start, Look, Term, Kill}
@@ -52,7 +53,7 @@ all_dropped now (suc n) [] all = refl
 all_dropped now (suc n) (start ∷ starts) all = all_dropped now n starts (and_parts (nat_le start now) (list_all (λ s. nat_le s now) starts) all).1
 
 started : (now : ℕ) (limiter : LimiterState) → list_all (λ start. nat_le start now) limiter.starts ≡ true → list_all (λ start. nat_le start now) (with_start limiter now).starts ≡ true
-started now limiter all = all_dropped now (length (limiter.starts ++ now ∷ []) - 10) (limiter.starts ++ now ∷ []) (all_pushed now limiter.starts all)
+started now limiter all = all_dropped now (length (limiter.starts ++ now ∷ []) - STARTS) (limiter.starts ++ now ∷ []) (all_pushed now limiter.starts all)
 
 either : (now : ℕ) (b : Bool) (x y : LimiterState) → list_all (λ start. nat_le start now) x.starts ≡ true → list_all (λ start. nat_le start now) y.starts ≡ true → list_all (λ start. nat_le start now) (cond b x y).starts ≡ true
 either now true x y h k = h

@@ -3,6 +3,7 @@ use Rattle.std.proofs.Common.{mul-le-mul_right, Bool, true, false, not, ◌≡�
 use Rattle.std.specs.List.{list_any, list_all}
 use Rattle.std.proofs.lemmas.Bool.{false≢true, and_parts, and_from}
 use Rattle.std.proofs.lemmas.Bool.Decides.{nat_tests}
+use Rattle.respawn_limit.specs.declared.TheConstants.{HOLD}
 use Rattle.init_words.specs.declared.entries.Entry.{Entry}
 use Rattle.init_words.specs.declared.stages.Stage.{Stage}
 use Rattle.init_words.specs.declared.stages.Stage.TheVariants as stage
@@ -14,7 +15,8 @@ use Rattle.respawn_limit.specs.Window as window
 use Rattle.init_trace.specs.declared.steps.Step.{Step}
 use Rattle.init_trace.specs.declared.steps.Step.TheVariants.{Enter, Call, Power, Reread, Order, Hold, Settle, Reexec, Idle}
 use Rattle.init_trace.specs.Run.{is_rest}
-use Rattle.trace_laws.proofs.Tests.{passing, Passing, same_id-is, same_id-self, same_id-flip}
+use Rattle.init_words.proofs.Same.{same_id-is, same_id-self, same_id-flip, same_level-self}
+use Rattle.init_words.proofs.Tests.{passing, Passing}
 use Rattle.level_core.specs.declared.slots.Slot.{Slot}
 use Rattle.level_core.specs.Slots.{is_slot_of, changed, with_changed, after_order, after_hold, after_enter}
 use Rattle.level_core.specs.Decide as core
@@ -28,8 +30,9 @@ use Rattle.init_words.specs.declared.levels.Level.TheVariants.{S}
 use Rattle.init_words.specs.Levels.{same_level}
 use Rattle.init_words.specs.Orders.{same_stage}
 use Rattle.init_trace.specs.declared.steps.Goal.{Goal}
+use Rattle.init_words.specs.Actions.{is_limited}
 use Rattle.init_trace.specs.Past.{is_of, has_child, known}
-use Rattle.init_trace.specs.Due.{due, first, is_due, same_step, next_stage, is_limited}
+use Rattle.init_trace.specs.Due.{due, first, is_due, same_step, next_stage}
 use Rattle.init_trace.specs.Wishes.{goal_of}
 use Rattle.init_trace.specs.Timing.{is_held, start_times, hold_times}
 use Rattle.init_trace.specs.Sound.{is_sound}
@@ -38,7 +41,7 @@ use Rattle.trace_laws.proofs.Orders.{known_kept}
 use Rattle.trace_laws.proofs.Told.{child_in_table}
 use Rattle.level_core.specs.Path.{is_of_one_table}
 use Rattle.level_core.specs.Fit.{limiter_by}
-use Rattle.level_core.proofs.FirstDue.{decide_due, same_level-refl}
+use Rattle.level_core.proofs.FirstDue.{decide_due}
 use Rattle.level_core.proofs.Taming.{tame, table_kept, stage_due}
 use Rattle.level_core.proofs.Windows.{held_fits}
 use Rattle.level_core.specs.Work.{stages_left, unasked, unheld, work_here, work_left}
@@ -134,7 +137,7 @@ order_falls id ask c there =
 -- a hold of a record that was not held leaves less to do
 hold_falls : (id : List ℕ) (c : CoreState) → list_any (λ slot. is_slot_of id slot && unheld c.time slot) c.slots ≡ true → work_left (after_step (Hold id) c) < work_left c
 hold_falls id c there =
-    let later : nat_lt c.time (c.time + 300) ≡ true = grind (arith, nat_tests) in
+    let later : nat_lt c.time (c.time + HOLD) ≡ true = grind (arith, nat_tests) in
     let less : length (filter (unheld c.time) (with_changed id (after_hold c.time) c.slots)) < length (filter (unheld c.time) c.slots) = one_fewer (unheld c.time) id (after_hold c.time) (λ slot. ap not later) c.slots there in
     let same : length (filter unasked (with_changed id (after_hold c.time) c.slots)) ≡ length (filter unasked c.slots) = as_many unasked (changed id (after_hold c.time)) (one_unheld id (after_hold c.time) unasked (λ slot. refl)) c.slots in
     let long : length (with_changed id (after_hold c.time) c.slots) ≡ length c.slots = length-map (changed id (after_hold c.time)) c.slots in
@@ -327,7 +330,7 @@ decided_made c (Some now) = made_step _ (or_made _ _ (start_made now c.time (zip
 same_enter : (n : Stage) (grace : ℕ) → same_step (Enter n grace) (Enter n grace) ≡ true
 same_enter stage.Sysinit grace = grind (arith, nat_tests)
 same_enter stage.Boot grace = grind (arith, nat_tests)
-same_enter (stage.Run level) grace = rw (same_level-refl level) (grind (arith, nat_tests))
+same_enter (stage.Run level) grace = rw (same_level-self level) (grind (arith, nat_tests))
 
 first_due : (s : Step) (steps : List Step) → first steps ≡ s → same_step s s ≡ true → is_rest s ≡ false → list_any (same_step s) steps ≡ true
 first_due s [] is self busy = absurd (false≢true (sym busy ∙ sym (ap is_rest is)))

@@ -15,15 +15,15 @@ use Rattle.init_words.specs.declared.orders.Ask.{Ask}
 use Rattle.init_words.specs.declared.orders.Ask.TheVariants.{Start, Look}
 use Rattle.init_words.specs.Levels.{same_level, names}
 use Rattle.init_words.specs.Entries.{starts_of, waited_of}
-use Rattle.init_words.specs.Orders.{same_ask}
+use Rattle.init_words.specs.Orders.{same_ask, answers}
+use Rattle.init_words.specs.declared.limits.TheConstants.{GRACE}
 use Rattle.respawn_limit.specs.Window.{may_of, is_held}
 use Rattle.init_trace.specs.declared.steps.Step.{Step}
 use Rattle.init_trace.specs.declared.steps.Step.TheVariants.{Enter, Order, Hold, Settle, Idle}
 use Rattle.init_trace.specs.declared.steps.Goal.{Goal}
-use Rattle.init_trace.specs.Past.{clock_limit}
-use Rattle.init_trace.specs.Wanted.{wanted_by, is_order}
-use Rattle.init_trace.specs.Due.{is_limited, served_by}
-use Rattle.trace_laws.specs.Answers.{answers}
+use Rattle.respawn_limit.specs.declared.TheConstants.{CLOCK_LIMIT}
+use Rattle.init_words.specs.Actions.{wanted_by, is_limited, served_by}
+use Rattle.init_trace.specs.Wanted.{is_order}
 use Rattle.level_core.specs.declared.slots.Slot.{Slot}
 use Rattle.level_core.specs.Slots.{new_slot, allows, after_order, after_hold, after_enter, after_nudge, after_answer, with_changed}
 
@@ -149,7 +149,7 @@ after_step _ c = c
 
 -- the state after a reading of the clock, cut to the limit; one set back changes nothing
 abbrev pub after_clock : ℕ → CoreState → CoreState
-after_clock reading c = record c { time = max (min reading clock_limit) c.time }
+after_clock reading c = record c { time = max (min reading CLOCK_LIMIT) c.time }
 
 -- the state after a round began, and after an answer was told
 abbrev pub after_round : CoreState → CoreState
@@ -165,7 +165,7 @@ opening_level None (Some default) = default
 opening_level None None = S
 
 abbrev pub opening_goal : Option Level → List Entry → Goal
-opening_goal given table = record { level = opening_level given (default_level_of table); grace = 5 }
+opening_goal given table = record { level = opening_level given (default_level_of table); grace = GRACE }
 
 -- what is answered to an answer: that nothing was asked, that it is of another kind than the order, or nothing
 abbrev pub refusal_of : Option Ask → Answer → Result (Unit {0}) Refusal

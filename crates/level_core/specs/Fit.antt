@@ -1,6 +1,7 @@
 -- When a core fits a trace: what it keeps is what the definitions read off the past.
 use Rattle.std.specs.Prelude.{◌≡◌, ℕ, Bool, true, false, ◌&&◌, ◌+◌, List, [], ◌∷◌, map, find, reverse, Option, Some, None}
 use Rattle.std.specs.Option.{option_map}
+use Rattle.respawn_limit.specs.declared.TheConstants.{HOLD}
 use Rattle.init_words.specs.declared.entries.Entry.{Entry}
 use Rattle.respawn_limit.specs.State.{LimiterState, unused}
 use Rattle.respawn_limit.specs.Window.{last_ten}
@@ -13,7 +14,8 @@ use Rattle.init_trace.specs.Past.{Child, is_of, has_child, known, open_of, table
 use Rattle.init_trace.specs.Wanted.{is_asked}
 use Rattle.init_trace.specs.Timing.{start_times, hold_times}
 use Rattle.init_trace.specs.Wishes.{in_run, goal_of, was_booted}
-use Rattle.init_trace.specs.Due.{is_limited, wants_look, is_announced}
+use Rattle.init_words.specs.Actions.{is_limited}
+use Rattle.init_trace.specs.Due.{wants_look, is_announced}
 use Rattle.level_core.specs.declared.slots.Slot.{Slot}
 use Rattle.level_core.specs.declared.slots.Living.{Living}
 use Rattle.level_core.specs.Decide.{CoreState}
@@ -29,7 +31,7 @@ known_child id past = option_map living (find (is_of id) (known past))
 -- the end of the last of these holds
 abbrev pub last_hold_end : List ℕ → Option ℕ
 last_hold_end [] = None
-last_hold_end (began ∷ earlier) = Some (began + 300)
+last_hold_end (began ∷ earlier) = Some (began + HOLD)
 
 -- the limiter of an entry that the limit holds for, by the times of its starts and holds, the newest first; of any other none
 abbrev pub limiter_by : Bool → List ℕ → List ℕ → LimiterState

@@ -12,7 +12,7 @@ use Rattle.respawn_limit.specs.State.{LimiterState, unused}
 use Rattle.respawn_limit.specs.Window.{may_of, with_start, with_hold}
 use Rattle.respawn_limit.specs.declared.May.{May}
 use Rattle.respawn_limit.specs.declared.May.TheVariants.{Yes, HoldUntil}
-use Rattle.init_trace.specs.Due.{is_limited}
+use Rattle.init_words.specs.Actions.{is_limited}
 use Rattle.level_core.specs.declared.slots.Slot.{Slot}
 
 -- the record of an entry that nothing was asked of yet

@@ -6,16 +6,11 @@ use crate::slots::{
     stage_entered,
 };
 use init_trace::{Goal, Step};
-use init_words::{Answer, Id, Level, Memory, Refusal, Stage};
+use init_words::{Answer, GRACE, Id, Level, Memory, Refusal, Stage};
 use inittab_text::Table;
+use respawn_limit::CLOCK_LIMIT;
 use std::alloc::{Allocator, Global};
 use std::marker::Model;
-
-/// The greatest reading of the clock that counts, in seconds.
-const CLOCK_LIMIT: u64 = 1_000_000_000_000;
-
-/// The seconds between the two signals that stop a child, where nothing else is asked for.
-const GRACE: u16 = 5;
 
 /// Init's decisions: its table, one record an id, the stage, the goal and the time.
 #[derive(Drop)]
@@ -32,7 +27,7 @@ pub struct Core<A: Allocator = Global> {
 
 impl<A: Allocator> Model for Core<A> {
     ghost use Rattle.std.specs.Prelude.{◌≡◌, ◌≤◌, true};
-    ghost use Rattle.init_trace.specs.Past.{clock_limit};
+    ghost use Rattle.respawn_limit.specs.declared.TheConstants.{CLOCK_LIMIT};
     ghost use Rattle.level_core.specs.Slots.{are_timely};
     ghost use Rattle.level_core.specs.Decide.{CoreState};
 
@@ -40,7 +35,7 @@ impl<A: Allocator> Model for Core<A> {
 
     ghost view = { λ c. record { table = c.table; slots = c.slots.items; stage = c.stage; grace = c.grace; goal = c.goal; booted = c.booted; announced = c.announced; time = c.time } };
 
-    ghost invariant = { λ c. (c.time ≤ clock_limit) × (are_timely c.time c.slots.items ≡ true) };
+    ghost invariant = { λ c. (c.time ≤ CLOCK_LIMIT) × (are_timely c.time c.slots.items ≡ true) };
 }
 
 impl<A: Allocator + Copy> Core<A> {

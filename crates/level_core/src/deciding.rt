@@ -1,9 +1,9 @@
 ghost use Rattle.std.specs.Prelude.{◌≡◌, ◌≤◌, is_some};
 ghost use Rattle.init_words.specs.Orders.{same_ask};
 ghost use Rattle.level_core.specs.Decide.{is_wanted_slot, is_owed_slot, limited_step, can_start_slot, start_step, start_among, is_busy, is_done_slot, all_done, is_quiet_among, is_idle_among, is_served_slot, all_served, can_look_slot, look_among, stage_step, settle_step};
-ghost use Rattle.init_trace.specs.Wanted.{wanted_by, is_order};
-ghost use Rattle.init_trace.specs.Due.{is_limited, served_by};
-ghost use Rattle.init_trace.specs.Past.{clock_limit};
+ghost use Rattle.init_words.specs.Actions.{wanted_by, is_limited, served_by};
+ghost use Rattle.init_trace.specs.Wanted.{is_order};
+ghost use Rattle.respawn_limit.specs.declared.TheConstants.{CLOCK_LIMIT};
 ghost use Rattle.std.specs.List.{list_any};
 ghost use Rattle.level_core.specs.declared.slots.Slot.{Slot};
 
@@ -54,7 +54,7 @@ fn is_limited(act: Act) -> bool
 }
 
 fn limited_step(now: u64, entry: &Entry, slot: &Slot) -> Option<Step>
-    requires { now ≤ clock_limit }
+    requires { now ≤ CLOCK_LIMIT }
     ensures { result ≡ limited_step now entry.now slot.now }
 {
     if !is_limited(entry.act) {
@@ -76,7 +76,7 @@ fn can_start(stage: Stage, entry: &Entry, slot: &Slot) -> bool
 }
 
 fn start_step(stage: Stage, now: u64, entry: &Entry, slot: &Slot) -> Option<Step>
-    requires { now ≤ clock_limit }
+    requires { now ≤ CLOCK_LIMIT }
     ensures { result ≡ start_step stage now entry.now slot.now }
 {
     if can_start(stage, entry, slot) {
@@ -93,7 +93,7 @@ pub(crate) fn start_among<A: Allocator>(
     table: &Table<A>,
     slots: &[Slot],
 ) -> Option<Step>
-    requires { now ≤ clock_limit }
+    requires { now ≤ CLOCK_LIMIT }
     ensures { result ≡ start_among stage now table.now slots.now }
 {
     for (place, slot) in slots.iter().enumerate() {

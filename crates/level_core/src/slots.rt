@@ -1,6 +1,6 @@
 ghost use Rattle.std.specs.Prelude.{◌≡◌, ◌<◌, ◌≤◌, map, length, slice_get, option_map, true, IfOk};
-ghost use Rattle.init_trace.specs.Past.{clock_limit};
-ghost use Rattle.trace_laws.specs.Answers.{answers};
+ghost use Rattle.respawn_limit.specs.declared.TheConstants.{CLOCK_LIMIT};
+ghost use Rattle.init_words.specs.Orders.{answers};
 ghost use Rattle.level_core.specs.Slots.{new_slot, after_order, after_hold, after_enter, after_nudge, after_answer, is_timely, are_timely, changed, with_changed, order_in};
 
 use init_words::{Act, Answer, Ask, ChildNo, Entry, Id};
@@ -96,7 +96,7 @@ pub(crate) fn answers(answer: Answer, ask: Ask) -> bool
 }
 
 fn note_order(slot: &mut Slot, ask: Ask, now: u64)
-    requires limit { now ≤ clock_limit }
+    requires limit { now ≤ CLOCK_LIMIT }
     requires timely { is_timely now slot.old ≡ true }
     ensures { slot.new ≡ after_order ask now slot.old }
 {
@@ -114,7 +114,7 @@ fn note_order(slot: &mut Slot, ask: Ask, now: u64)
 }
 
 fn note_hold(slot: &mut Slot, now: u64)
-    requires { now ≤ clock_limit }
+    requires { now ≤ CLOCK_LIMIT }
     ensures { slot.new ≡ after_hold now slot.old }
 {
     slot.limiter.hold(now);
@@ -166,7 +166,7 @@ pub(crate) fn order_of(slots: &[Slot], id: Id) -> Option<Ask>
 }
 
 fn change_order(slot: &mut Slot, id: Id, ask: Ask, now: u64)
-    requires limit { now ≤ clock_limit }
+    requires limit { now ≤ CLOCK_LIMIT }
     requires timely { is_timely now slot.old ≡ true }
     ensures { slot.new ≡ changed id (after_order ask now) slot.old }
 {
@@ -177,7 +177,7 @@ fn change_order(slot: &mut Slot, id: Id, ask: Ask, now: u64)
 
 /// An order was given about an id.
 pub(crate) fn order_given(slots: &mut [Slot], id: Id, ask: Ask, now: u64)
-    requires limit { now ≤ clock_limit }
+    requires limit { now ≤ CLOCK_LIMIT }
     requires timely { are_timely now slots.old ≡ true }
     ensures { slots.new ≡ with_changed id (after_order ask now) slots.old }
 {
@@ -187,7 +187,7 @@ pub(crate) fn order_given(slots: &mut [Slot], id: Id, ask: Ask, now: u64)
 }
 
 fn change_hold(slot: &mut Slot, id: Id, now: u64)
-    requires { now ≤ clock_limit }
+    requires { now ≤ CLOCK_LIMIT }
     ensures { slot.new ≡ changed id (after_hold now) slot.old }
 {
     if slot.id == id {
@@ -197,7 +197,7 @@ fn change_hold(slot: &mut Slot, id: Id, now: u64)
 
 /// A respawning entry was held.
 pub(crate) fn hold_given(slots: &mut [Slot], id: Id, now: u64)
-    requires { now ≤ clock_limit }
+    requires { now ≤ CLOCK_LIMIT }
     ensures { slots.new ≡ with_changed id (after_hold now) slots.old }
 {
     for slot in slots.iter_mut() {

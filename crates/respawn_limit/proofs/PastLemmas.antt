@@ -7,6 +7,7 @@ use Rattle.std.proofs.lemmas.Bool.Decides.{nat_tests}
 use Rattle.std.proofs.lemmas.List.{append-nil}
 use Rattle.std.proofs.lemmas.List.Elements.{All-nil, All-push, All-weaker}
 use Rattle.std.proofs.lemmas.List.Sums.{sum_by-append, sum_by_push}
+use Rattle.respawn_limit.specs.declared.TheConstants.{HOLD, STARTS, WINDOW}
 use Rattle.respawn_limit.specs.declared.May.TheVariants.{Yes, HoldUntil}
 use Rattle.respawn_limit.specs.State.{LimiterState}
 use Rattle.respawn_limit.specs.Window.{is_recent, is_full, answer, may_of, last_ten, with_start, Remembers}
@@ -105,14 +106,14 @@ yes_past false full end next says = (refl, yes_at full next says)
 
 -- at a yes the window isn't full
 room_at_yes : (noted : List ℕ) (end : Option ℕ) (now : ℕ) → is_yes (answer noted end now) ≡ true → is_full noted now ≡ false
-room_at_yes noted None now says = yes_at (is_full noted now) (now + 300) says
-room_at_yes noted (Some end) now says = (yes_past (nat_lt now end) (is_full noted now) end (now + 300) says).1
+room_at_yes noted None now says = yes_at (is_full noted now) (now + HOLD) says
+room_at_yes noted (Some end) now says = (yes_past (nat_lt now end) (is_full noted now) end (now + HOLD) says).1
 
 -- at a yes the hold is over
 over_at_yes : (noted : List ℕ) (held : Option ℕ) (end now : ℕ) → held ≡ Some end → is_yes (answer noted held now) ≡ true → end ≤ now
 over_at_yes noted held end now is says =
     let at_end : is_yes (answer noted (Some end) now) ≡ true = rw is at says in
-    ltb-false now end (yes_past (nat_lt now end) (is_full noted now) end (now + 300) at_end).0
+    ltb-false now end (yes_past (nat_lt now end) (is_full noted now) end (now + HOLD) at_end).0
 
 -- a start in a run was noted at a yes
 yes_at_start : (past : List Event) (now : ℕ) → is_run (Noted now ∷ past) ≡ true → is_yes (answer (times_noted past) (hold_end past) now) ≡ true
@@ -124,11 +125,11 @@ yes_at_start past now run =
 record HoldStands (hold : ℕ) (past : List Event) : Type 0 where
   end : ℕ
   is : hold_end past ≡ Some end
-  late : hold + 300 ≤ end
+  late : hold + HOLD ≤ end
 
 hold_stands : (between earlier : List Event) (hold : ℕ) → is_run (between ++ (HeldAt hold ∷ earlier)) ≡ true
     → list_all is_no_clear between ≡ true → HoldStands hold (between ++ (HeldAt hold ∷ earlier))
-hold_stands [] earlier hold run kept = record { end = hold + 300; is = refl; late = omega arith }
+hold_stands [] earlier hold run kept = record { end = hold + HOLD; is = refl; late = omega arith }
 hold_stands (Noted time ∷ between) earlier hold run kept =
     let rest : List Event = between ++ (HeldAt hold ∷ earlier) in
     let before : HoldStands hold rest =
@@ -140,7 +141,7 @@ hold_stands (HeldAt time ∷ between) earlier hold run kept =
     let since : last_reading rest ≤ time = leb-true _ _ parts.0 in
     let readings : NoneEarlier between (HeldAt hold ∷ earlier) = none_earlier between (HeldAt hold ∷ earlier) parts.1 kept in
     let reading : hold ≤ last_reading rest = readings.reading in
-    record { end = time + 300; is = refl; late = omega arith }
+    record { end = time + HOLD; is = refl; late = omega arith }
 hold_stands (Cleared ∷ between) earlier hold run kept = cc
 
 -- none is noted in the five minutes after a hold
@@ -152,11 +153,11 @@ no_start_while_held later between earlier hold start run kept =
     let stands : HoldStands hold rest = hold_stands between earlier hold before kept in
     let over : stands.end ≤ start =
     over_at_yes (times_noted rest) (hold_end rest) stands.end start stands.is (yes_at_start rest start here) in
-    let late : hold + 300 ≤ stands.end = stands.late in
+    let late : hold + HOLD ≤ stands.end = stands.late in
     omega arith
 
 -- ten starts of which none is earlier than the first all count within two minutes of it
-full_within : (before after : List ℕ) (first now : ℕ) → 9 ≤ length after → All (λ time. first ≤ time) after → now < first + 120
+full_within : (before after : List ℕ) (first now : ℕ) → STARTS ≤ length after + 1 → All (λ time. first ≤ time) after → now < first + WINDOW
     → is_full ((before ++ first ∷ []) ++ after) now ≡ true
 full_within before after first now nine since soon =
     let p : ℕ → Bool = is_recent now in
@@ -173,7 +174,7 @@ full_within before after first now nine since soon =
     within : (time : ℕ) → first ≤ time → is_recent now time ≡ true
     within time le = grind (arith, nat_tests)
 
-    enough : (n : ℕ) → 10 ≤ n → nat_le 10 n ≡ true
+    enough : (n : ℕ) → STARTS ≤ n → nat_le STARTS n ≡ true
     enough n le = grind (arith, nat_tests)
 
 -- no test is both
@@ -191,7 +192,7 @@ eleven_starts later between earlier first last run kept nine =
     room_at_yes (times_noted rest) (hold_end rest) last (yes_at_start rest last here) in
     let joined : times_noted rest ≡ (times_noted earlier ++ first ∷ []) ++ times_noted between = times_noted-append between past kept in
     let readings : NoneEarlier between past = none_earlier between past before kept in
-    elim (cases_lt last (first + 120)) [
+    elim (cases_lt last (first + WINDOW)) [
       | inr late ↦ late
       | inl soon ↦
           let full : is_full ((times_noted earlier ++ first ∷ []) ++ times_noted between) last ≡ true =

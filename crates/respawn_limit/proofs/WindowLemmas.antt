@@ -9,6 +9,7 @@ use Rattle.std.proofs.lemmas.List.{get_or-drop, get_or-take, length-take-le, dro
 use Rattle.std.proofs.lemmas.List.Elements.{All-head, All-tail, All-from_get_or, All-drop, All-push}
 use Rattle.std.proofs.lemmas.List.Sums.{sum_by-cons, sum_by-take-drop, count_by-le-length}
 use Rattle.std.proofs.lemmas.List.Sorted.{IsNonDecreasingBy-push, IsNonDecreasingBy-drop}
+use Rattle.respawn_limit.specs.declared.TheConstants.{STARTS}
 use Rattle.respawn_limit.specs.Window.{is_recent, is_full, last_ten, answer, window_answer, Remembers}
 
 -- all pass a test
@@ -105,7 +106,7 @@ full_by_last k now noted ordered some = elim (cases_lt k (length noted)) [
 
 -- the window is full by the last ten where it is full by all
 pub is_full-last_ten : (noted : List ℕ) (now : ℕ) → IsNonDecreasing noted → is_full (last_ten noted) now ≡ is_full noted now
-is_full-last_ten noted now ordered = full_by_last 10 now noted ordered (omega arith)
+is_full-last_ten noted now ordered = full_by_last STARTS now noted ordered (omega arith)
 
 -- so is the answer
 pub window_answer-last_ten : (noted : List ℕ) (now : ℕ) → IsNonDecreasing noted
@@ -123,12 +124,12 @@ drop_last_push k noted y =
     ∙ ap (λ m. drop m (noted ++ y ∷ [])) (omega (arith, length-drop n (noted ++ y ∷ []), length-append noted (y ∷ []))))
 
 -- ten or fewer are the last ten
-pub last_ten-few : (times : List ℕ) → length times ≤ 10 → last_ten times ≡ times
-last_ten-few times few = let none : length times - 10 ≡ 0 = omega arith in rw none refl
+pub last_ten-few : (times : List ℕ) → length times ≤ STARTS → last_ten times ≡ times
+last_ten-few times few = let none : length times - STARTS ≡ 0 = omega arith in rw none refl
 
 -- there are ten at most
-pub length-last_ten : (times : List ℕ) → length (last_ten times) ≤ 10
-length-last_ten times = omega (arith, length-drop (length times - 10) times)
+pub length-last_ten : (times : List ℕ) → length (last_ten times) ≤ STARTS
+length-last_ten times = omega (arith, length-drop (length times - STARTS) times)
 
 -- the last of all is the last of those that are kept
 last_kept : (k : ℕ) (noted : List ℕ) (now d : ℕ) → 0 < k → All (λ start. start ≤ now) (drop (length noted - k) noted) → 0 < length noted
@@ -141,7 +142,7 @@ last_kept k noted now d ten late some =
 
 -- the last ten of times in order are in order
 pub IsNonDecreasing-last_ten : (times : List ℕ) → IsNonDecreasing times → IsNonDecreasing (last_ten times)
-IsNonDecreasing-last_ten times ordered = IsNonDecreasingBy-drop (λ x. x) (length times - 10) times ordered
+IsNonDecreasing-last_ten times ordered = IsNonDecreasingBy-drop (λ x. x) (length times - STARTS) times ordered
 
 -- a time that none of those before exceeds keeps the order
 pub IsNonDecreasing-push : (starts : List ℕ) (now : ℕ) → IsNonDecreasing starts → All (λ start. start ≤ now) starts
@@ -150,21 +151,21 @@ IsNonDecreasing-push starts now ordered late =
     IsNonDecreasingBy-push (λ x. x) starts now ordered (λ d some. late (length starts - 1) d (omega arith))
 
 -- ten times in order are remembered whole
-pub Remembers-few : (starts : List ℕ) → length starts ≤ 10 → IsNonDecreasing starts → Remembers starts starts
+pub Remembers-few : (starts : List ℕ) → length starts ≤ STARTS → IsNonDecreasing starts → Remembers starts starts
 Remembers-few starts few ordered = record { last = sym (last_ten-few starts few); ordered = ordered }
 
 -- what holds of the starts that are kept and of one more holds of those that are kept then
 pub All-last_ten_push : (P : ℕ → Type 0) (starts : List ℕ) (now : ℕ) → All P starts → P now → All P (last_ten (starts ++ now ∷ []))
 All-last_ten_push P starts now each here =
-    All-drop P (length (starts ++ now ∷ []) - 10) (starts ++ now ∷ []) (All-push P starts now each here)
+    All-drop P (length (starts ++ now ∷ []) - STARTS) (starts ++ now ∷ []) (All-push P starts now each here)
 
 -- one more start, no earlier than those that are kept
 pub Remembers-push : (starts noted : List ℕ) (now : ℕ) → Remembers starts noted → All (λ start. start ≤ now) starts
     → Remembers (last_ten (starts ++ now ∷ [])) (noted ++ now ∷ [])
 Remembers-push starts noted now known late = record {
-  last = rw known.last (drop_last_push 10 noted now);
+  last = rw known.last (drop_last_push STARTS noted now);
   ordered = IsNonDecreasingBy-push (λ x. x) noted now known.ordered
-      (λ d some. last_kept 10 noted now d (omega arith) (rw known.last at late) some);
+      (λ d some. last_kept STARTS noted now d (omega arith) (rw known.last at late) some);
 }
 
 -- the answer by the last ten of the times noted is that by all of them

@@ -2,6 +2,7 @@
 use Rattle.std.specs.Prelude.{◌≡◌, ℕ, ◌+◌, ◌≤◌, Bool, true, false, ◌&&◌, IsTrue, List, [], ◌∷◌, ◌++◌, length, nat_le, Option, Some, None}
 use Rattle.std.specs.List.{list_all}
 use Rattle.std.specs.List.Sorted.{IsNonDecreasing}
+use Rattle.respawn_limit.specs.declared.TheConstants.{HOLD, STARTS, WINDOW}
 use Rattle.respawn_limit.specs.declared.May.{May}
 use Rattle.respawn_limit.specs.declared.May.TheVariants.{Yes, HoldUntil}
 use Rattle.respawn_limit.specs.State.{LimiterState}
@@ -24,7 +25,7 @@ times_noted (Cleared ∷ past) = []
 abbrev pub hold_end : List Event → Option ℕ
 hold_end [] = None
 hold_end (Noted time ∷ past) = hold_end past
-hold_end (HeldAt time ∷ past) = Some (time + 300)
+hold_end (HeldAt time ∷ past) = Some (time + HOLD)
 hold_end (Cleared ∷ past) = None
 
 -- the last reading since the last clear, 0 before the first
@@ -70,12 +71,12 @@ abbrev pub ElevenStartsTakeTwoMinutes : Type 0
 ElevenStartsTakeTwoMinutes = (later between earlier : List Event) (first last : ℕ)
     → IsTrue (is_run (later ++ (Noted last ∷ (between ++ (Noted first ∷ earlier)))))
     → IsTrue (list_all is_no_clear between)
-    → 9 ≤ length (times_noted between)
-    → first + 120 ≤ last
+    → STARTS ≤ length (times_noted between) + 1
+    → first + WINDOW ≤ last
 
 -- in a run no start is noted in the five minutes after a hold, unless a clear comes between
 abbrev pub NoStartWhileHeld : Type 0
 NoStartWhileHeld = (later between earlier : List Event) (hold start : ℕ)
     → IsTrue (is_run (later ++ (Noted start ∷ (between ++ (HeldAt hold ∷ earlier)))))
     → IsTrue (list_all is_no_clear between)
-    → hold + 300 ≤ start
+    → hold + HOLD ≤ start

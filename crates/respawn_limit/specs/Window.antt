@@ -1,17 +1,18 @@
 -- The sliding window: ten starts in two minutes, and then a hold of five minutes (init(8)).
 use Rattle.std.specs.Prelude.{◌≡◌, ℕ, ◌+◌, ◌-◌, Bool, false, List, [], ◌∷◌, ◌++◌, length, drop, count_by, nat_lt, nat_le, if◌then◌else◌, Option, Some, None}
 use Rattle.std.specs.List.Sorted.{IsNonDecreasing}
+use Rattle.respawn_limit.specs.declared.TheConstants.{HOLD, STARTS, WINDOW}
 use Rattle.respawn_limit.specs.declared.May.{May}
 use Rattle.respawn_limit.specs.declared.May.TheVariants.{Yes, HoldUntil}
 use Rattle.respawn_limit.specs.State.{LimiterState}
 
 -- whether a start counts now: its age is under two minutes
 abbrev pub is_recent : ℕ → ℕ → Bool
-is_recent now start = nat_lt (now - start) 120
+is_recent now start = nat_lt (now - start) WINDOW
 
 -- whether ten starts or more count now
 abbrev pub is_full : List ℕ → ℕ → Bool
-is_full noted now = nat_le 10 (count_by (is_recent now) noted)
+is_full noted now = nat_le STARTS (count_by (is_recent now) noted)
 
 -- whether a hold with this end stands now
 abbrev pub is_held : Option ℕ → ℕ → Bool
@@ -20,7 +21,7 @@ is_held (Some end) now = nat_lt now end
 
 -- the answer where no hold stands: yes, or five minutes from now where the window is full
 abbrev pub window_answer : List ℕ → ℕ → May
-window_answer noted now = if is_full noted now then HoldUntil (now + 300) else Yes
+window_answer noted now = if is_full noted now then HoldUntil (now + HOLD) else Yes
 
 -- the answer after these starts and this last hold: its end while it stands, and then what the window says
 abbrev pub answer : List ℕ → Option ℕ → ℕ → May
@@ -33,7 +34,7 @@ may_of limiter now = answer limiter.starts limiter.held now
 
 -- the last ten of these times, or all where there are no more
 abbrev pub last_ten : List ℕ → List ℕ
-last_ten times = drop (length times - 10) times
+last_ten times = drop (length times - STARTS) times
 
 -- the limiter with one more start noted
 abbrev pub with_start : LimiterState → ℕ → LimiterState
@@ -41,7 +42,7 @@ with_start limiter now = record limiter { starts = last_ten (limiter.starts ++ n
 
 -- the limiter with a hold of five minutes from now
 abbrev pub with_hold : LimiterState → ℕ → LimiterState
-with_hold limiter now = record limiter { held = Some (now + 300) }
+with_hold limiter now = record limiter { held = Some (now + HOLD) }
 
 -- of all these times noted in order, however many and however old, the starts are the last ten
 pub record Remembers (starts noted : List ℕ) : Type 0 where

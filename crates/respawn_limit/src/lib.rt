@@ -23,8 +23,8 @@ pub const STARTS: usize = 10;
 /// How long a hold stands, in seconds: five minutes.
 pub const HOLD: u64 = 300;
 
-/// The greatest reading of the clock, in seconds.
-pub const GREATEST_READING: u64 = 1_000_000_000_000;
+/// The greatest reading of the clock that counts, in seconds.
+pub const CLOCK_LIMIT: u64 = 1_000_000_000_000;
 
 /// What a limiter answers.
 #[derive(Clone, Copy, Debug, PartialEq, Eq)]
@@ -48,6 +48,7 @@ pub struct Limiter {
 
 impl Model for Limiter {
     ghost use Rattle.std.specs.Prelude.{◌≤◌, length};
+    ghost use Rattle.respawn_limit.specs.declared.TheConstants.{STARTS};
     ghost use Rattle.std.specs.List.Sorted.{IsNonDecreasing};
     ghost use Rattle.respawn_limit.specs.State.{LimiterState};
 
@@ -55,7 +56,7 @@ impl Model for Limiter {
 
     ghost view = { λ l. record { starts = l.starts.items; held = l.held } };
 
-    ghost invariant = { λ l. (length l.starts.items ≤ 10) × IsNonDecreasing l.starts.items };
+    ghost invariant = { λ l. (length l.starts.items ≤ STARTS) × IsNonDecreasing l.starts.items };
 
     ghost inverse = { λ s. record { starts = record { items = s.starts }; held = s.held } };
 }
@@ -76,7 +77,7 @@ impl Limiter {
     ///
     /// What `starts` and `held_until` gave makes a limiter that answers alike for ever.
     pub fn of(starts: &[u64], held_until: Option<u64>) -> Self
-        requires few { length starts.now ≤ 10 }
+        requires few { length starts.now ≤ STARTS }
         requires ordered { IsNonDecreasing starts.now }
         ensures state { result ≡ record { starts = starts.now; held = held_until } }
         ensures past { (past : List Event) → IsNonDecreasing (times_noted past)
@@ -94,14 +95,16 @@ impl Limiter {
 
     /// Whether a start may be made now, and else until when it is to wait.
     ///
-    /// The end of a hold while it stands; 300 seconds from now where ten starts have an age under 120 seconds; else yes.
+    /// The end of a hold while it stands; 300 seconds from now where ten starts have an age under 120 seconds; else
+    /// yes.
     /// A start later than now has age 0.
     pub fn may(&self, now: u64) -> May
-        requires { now ≤ GREATEST_READING }
+        requires { now ≤ CLOCK_LIMIT }
 
         // By the starts that are kept, and the same by all that were noted since the last clear, however many and old.
         ensures state { result ≡ may_of self.now now }
-        ensures noted { (noted : List ℕ) → Remembers self.now.starts noted → result ≡ answer noted self.now.held now }
+        ensures noted { (noted : List ℕ) → Remembers self.now.starts noted
+            → result ≡ answer noted self.now.held now }
         ensures past { (past : List Event) → StandsAfter self.now past
             → result ≡ answer (times_noted past) (hold_end past) now }
     {
@@ -122,7 +125,8 @@ impl Limiter {
     /// Whether a hold stands now: the time is less than its end.
     pub fn held(&self, now: u64) -> bool
         ensures state { result ≡ is_held self.now.held now }
-        ensures past { (past : List Event) → StandsAfter self.now past → result ≡ is_held (hold_end past) now }
+        ensures past { (past : List Event) → StandsAfter self.now past
+            → result ≡ is_held (hold_end past) now }
     {
         matches!(self.held, Some(end) if now < end)
     }
@@ -135,7 +139,8 @@ impl Limiter {
         ensures state { self.new ≡ with_start self.old now }
         ensures noted { (noted : List ℕ) → Remembers self.old.starts noted
             → Remembers self.new.starts (noted ++ now ∷ []) }
-        ensures past { (past : List Event) → StandsAfter self.old past → StandsAfter self.new (Noted now ∷ past) }
+        ensures past { (past : List Event) → StandsAfter self.old past
+            → StandsAfter self.new (Noted now ∷ past) }
         ensures run { (past : List Event) → StandsAfter self.old past → IsTrue (is_run past)
             → last_reading past ≤ now → IsTrue (is_run (Noted now ∷ past)) }
     {
@@ -147,9 +152,10 @@ impl Limiter {
 
     /// Makes a hold that stands for 300 seconds from now, in the place of the last one.
     pub fn hold(&mut self, now: u64)
-        requires { now ≤ GREATEST_READING }
+        requires { now ≤ CLOCK_LIMIT }
         ensures state { self.new ≡ with_hold self.old now }
-        ensures past { (past : List Event) → StandsAfter self.old past → StandsAfter self.new (HeldAt now ∷ past) }
+        ensures past { (past : List Event) → StandsAfter self.old past
+            → StandsAfter self.new (HeldAt now ∷ past) }
     {
         self.held = Some(now + HOLD);
     }
@@ -165,9 +171,10 @@ impl Limiter {
     /// The times of the last starts since the last clear, in seconds, oldest first: ten at most, however old.
     pub fn starts(&self) -> &[u64]
         ensures state { result.now ≡ self.now.starts }
-        ensures few { length result.now ≤ 10 }
+        ensures few { length result.now ≤ STARTS }
         ensures ordered { IsNonDecreasing result.now }
-        ensures past { (past : List Event) → StandsAfter self.now past → result.now ≡ last_ten (times_noted past) }
+        ensures past { (past : List Event) → StandsAfter self.now past
+            → result.now ≡ last_ten (times_noted past) }
     {
         self.starts.as_slice()
     }
@@ -218,7 +225,7 @@ mod tests {
     fn limiter_after(rt: &impl Abort, times: &[u64]) -> Limiter {
         let mut limiter = Limiter::new();
         for &time in times {
-            assert!(rt; time <= GREATEST_READING);
+            assert!(rt; time <= CLOCK_LIMIT);
             assert!(rt; limiter.starts().iter().all(|start| *start <= time));
             assert!(rt; limiter.may(time) == May::Yes, "at {time}");
             limiter.note(time);
@@ -228,7 +235,7 @@ mod tests {
 
     // What the limiter answers at this time, and the same from one made of its parts.
     fn answer_twice(rt: &impl Abort, limiter: &Limiter, now: u64) -> (May, bool)
-        requires { now ≤ GREATEST_READING }
+        requires { now ≤ CLOCK_LIMIT }
     {
         let again = Limiter::of(limiter.starts(), limiter.held_until());
         assert!(rt; again == *limiter);

@@ -6,7 +6,7 @@ use Rattle.std.proofs.lemmas.Bool.{false≢true, ltb-true}
 use Rattle.std.proofs.lemmas.Fmt.{parse-decimal, IsAscii-decimal}
 use Rattle.std.proofs.lemmas.Str.{IsUtf8-from_ascii}
 use Rattle.init_words.specs.Ids.{same_id}
-use Rattle.trace_laws.proofs.Tests.{same_id-is}
+use Rattle.init_words.proofs.Same.{same_id-is}
 use Rattle.supervisor.specs.Script.{number_read}
 
 -- no number, where a number whose decimal form it is makes it none

@@ -11,7 +11,8 @@ use Rattle.init_trace.specs.Event.{Event}
 use Rattle.init_trace.specs.Past.{Child, has_number, is_child, is_dead, is_living, unreaped, undone_of}
 use Rattle.init_trace.specs.Wanted.{is_order}
 use Rattle.init_trace.specs.Sound.{may_come, is_sound}
-use Rattle.trace_laws.proofs.Tests.{any_same, same_id-is}
+use Rattle.init_words.proofs.Same.{same_id-is}
+use Rattle.init_words.proofs.Tests.{any_same}
 use Rattle.trace_laws.proofs.Told.{answered_untold}
 use Rattle.system_side.specs.State.{State, is_living_in, is_dead_in}
 use Rattle.system_side.specs.Steps.{is_script, allowed}

@@ -2,7 +2,7 @@
 use Rattle.std.proofs.Common.{◌≡◌, refl, sym, ◌∙◌, ap, ℕ, ◌==◌, Bool, true, false, not, ◌&&◌, ◌||◌, cond, List, [], ◌∷◌, filter, Some, None, find, is_none}
 use Rattle.std.specs.List.{list_any}
 use Rattle.std.specs.Option.{option_map, option_map_or}
-use Rattle.std.proofs.lemmas.Bool.{false≢true, and_parts, eqb-true}
+use Rattle.std.proofs.lemmas.Bool.{false≢true, and_parts, eqb-true, not-true}
 use Rattle.init_trace.specs.declared.happenings.Happening.TheVariants.{Birth, Reaped}
 use Rattle.init_trace.specs.declared.steps.Goal.{Goal}
 use Rattle.init_trace.specs.Event.{Event}
@@ -10,7 +10,7 @@ use Rattle.init_words.specs.declared.orders.Ask.TheVariants.{Start}
 use Rattle.init_trace.specs.Past.{Child, is_child, has_number, unreaped, undone_of}
 use Rattle.init_trace.specs.Wanted.{is_order}
 use Rattle.init_trace.specs.Sound.{may_come, is_sound}
-use Rattle.trace_laws.proofs.Tests.{falsely, both_ways, not_is, not_from, any_less, any_filtered}
+use Rattle.init_words.proofs.Tests.{falsely, both_ways, not_from, any_less, any_filtered}
 use Rattle.trace_laws.proofs.Keeps.{sound_ind}
 
 -- at most one child of the list passes
@@ -29,7 +29,7 @@ single_filter : (p q : Child → Bool) (xs : List Child) → is_single p xs ≡ 
 single_filter p q [] h = refl
 single_filter p q (x ∷ xs) h = split (p x) (q x) refl (single_filter p q xs) h where
   gone : not (list_any p xs) ≡ true → list_any p (filter q xs) ≡ false
-  gone none = falsely (list_any p (filter q xs)) (list_any p xs) (any_filtered p q xs) (not_is (list_any p xs) none)
+  gone none = falsely (list_any p (filter q xs)) (list_any p xs) (any_filtered p q xs) (not-true (list_any p xs) none)
 
   split : (b c : Bool) → p x ≡ b → (is_single p xs ≡ true → is_single p (filter q xs) ≡ true) → cond b (not (list_any p xs)) (is_single p xs) ≡ true → is_single p (cond c (x ∷ filter q xs) (filter q xs)) ≡ true
   split true true is rest h = rw is (not_from (list_any p (filter q xs)) (gone h))
@@ -57,7 +57,7 @@ single_any p q (x ∷ xs) h = split (p x) (single_any p q xs) h where
   or_none false b none = none
 
   split : (b : Bool) → (is_single p xs ≡ true → list_any (λ y. p y && q y) xs ≡ option_map_or q (find p xs) false) → cond b (not (list_any p xs)) (is_single p xs) ≡ true → (b && q x || list_any (λ y. p y && q y) xs) ≡ option_map_or q (cond b (Some x) (find p xs)) false
-  split true rest h = or_none (q x) (list_any (λ y. p y && q y) xs) (falsely (list_any (λ y. p y && q y) xs) (list_any p xs) (any_less (λ y. p y && q y) p (λ y both. (and_parts (p y) (q y) both).0) xs) (not_is (list_any p xs) h))
+  split true rest h = or_none (q x) (list_any (λ y. p y && q y) xs) (falsely (list_any (λ y. p y && q y) xs) (list_any p xs) (any_less (λ y. p y && q y) p (λ y both. (and_parts (p y) (q y) both).0) xs) (not-true (list_any p xs) h))
   split false rest h = rest h
 
 -- where at most one child passes p, none is left without those that pass r, if one passes r
@@ -65,11 +65,11 @@ pub single_gone : (p r : Child → Bool) → ((x : Child) → r x ≡ true → p
 single_gone p r within [] h there = refl
 single_gone p r within (x ∷ xs) h there = split (p x) (r x) refl refl (single_gone p r within xs) h there where
   gone : not (list_any p xs) ≡ true → list_any p (filter (λ y. not (r y)) xs) ≡ false
-  gone none = falsely (list_any p (filter (λ y. not (r y)) xs)) (list_any p xs) (any_filtered p (λ y. not (r y)) xs) (not_is (list_any p xs) none)
+  gone none = falsely (list_any p (filter (λ y. not (r y)) xs)) (list_any p xs) (any_filtered p (λ y. not (r y)) xs) (not-true (list_any p xs) none)
 
   split : (b c : Bool) → p x ≡ b → r x ≡ c → (is_single p xs ≡ true → list_any r xs ≡ true → list_any p (filter (λ y. not (r y)) xs) ≡ false) → cond b (not (list_any p xs)) (is_single p xs) ≡ true → (c || list_any r xs) ≡ true → list_any p (cond (not c) (x ∷ filter (λ y. not (r y)) xs) (filter (λ y. not (r y)) xs)) ≡ false
   split true true is own rest h there = gone h
-  split true false is own rest h there = both_ways (list_any p xs) (any_less r p within xs there) (not_is (list_any p xs) h)
+  split true false is own rest h there = both_ways (list_any p xs) (any_less r p within xs there) (not-true (list_any p xs) h)
   split false true is own rest h there = both_ways (p x) (within x own) is
   split false false is own rest h there = rw is (rest h there)
 
@@ -80,10 +80,3 @@ none_found {X} f p (x ∷ xs) = split (p x) (none_found f p xs) where
   split : (b : Bool) → is_none (option_map f (find p xs)) ≡ not (list_any p xs) → is_none (option_map f (cond b (Some x) (find p xs))) ≡ not (b || list_any p xs)
   split true rest = refl
   split false rest = rest
-
-pub found_none : (p : Child → Bool) (xs : List Child) → list_any p xs ≡ false → find p xs ≡ None
-found_none p [] h = refl
-found_none p (x ∷ xs) h = split (p x) (found_none p xs) h where
-  split : (b : Bool) → (list_any p xs ≡ false → find p xs ≡ None) → (b || list_any p xs) ≡ false → cond b (Some x) (find p xs) ≡ None
-  split true rest h = absurd (false≢true (sym h))
-  split false rest h = rest h

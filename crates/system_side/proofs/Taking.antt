@@ -12,13 +12,14 @@ use Rattle.init_trace.specs.Past.{Child, has_number, is_child, is_dead, unreaped
 use Rattle.init_trace.specs.Answered.{answered_of}
 use Rattle.init_trace.specs.Wanted.{is_order}
 use Rattle.init_trace.specs.Sound.{is_sound}
-use Rattle.trace_laws.proofs.Tests.{same_id-self, falsely, not_from, filter_within}
+use Rattle.init_words.proofs.Tests.{falsely, not_from, filter_within, find_none}
+use Rattle.init_words.proofs.Same.{same_id-self}
 use Rattle.trace_laws.proofs.Births.{sound_step}
 use Rattle.trace_laws.proofs.Told.{same_find}
 use Rattle.system_side.specs.State.{State, order_in, answer_in, child_in, died}
 use Rattle.system_side.specs.Steps.{order_after, answer_after, child_after}
 use Rattle.system_side.specs.Follows.{Follows, process_of, child_with}
-use Rattle.system_side.proofs.Numbers.{one_number, single_gone, found_none}
+use Rattle.system_side.proofs.Numbers.{one_number, single_gone}
 
 order_step : (happening : Event) (id : List ℕ) (past : List Event) → order_after happening id (undone_of id past) ≡ undone_of id (happening ∷ past)
 order_step (Asked i ask) id past = refl
@@ -77,7 +78,7 @@ reap_step i n number past none = at_number (number == n) refl where
   at_number false differ = ap (option_map (process_of number past)) (sym (same_find (has_number number) (filter (λ child. not (is_child i n child)) (unreaped past)) (unreaped past) (filter_within (has_number number) (λ child. not (is_child i n child)) (reaped_other i n number differ) (unreaped past))))
 
 none_left : (goal : Goal) (i : List ℕ) (n : ℕ) (past : List Event) → is_sound goal past ≡ true → list_any (is_child i n) (unreaped past) ≡ true → find (has_number n) (filter (λ child. not (is_child i n child)) (unreaped past)) ≡ None
-none_left goal i n past sound there = found_none (has_number n) (filter (λ child. not (is_child i n child)) (unreaped past)) (single_gone (has_number n) (is_child i n) (λ child h. (and_parts (same_id i child.id) (n == child.number) h).1) (unreaped past) (one_number goal past sound n) there)
+none_left goal i n past sound there = find_none (has_number n) (filter (λ child. not (is_child i n child)) (unreaped past)) (single_gone (has_number n) (is_child i n) (λ child h. (and_parts (same_id i child.id) (n == child.number) h).1) (unreaped past) (one_number goal past sound n) there)
 
 child_step : (goal : Goal) (happening : Event) (past : List Event) → is_sound goal (happening ∷ past) ≡ true → (number : ℕ) → child_after happening number (child_with number past) ≡ child_with number (happening ∷ past)
 child_step goal (Birth i n) past sound number = birth_step i n number past

@@ -30,7 +30,8 @@ pub fn first_line(text: &[u8]) -> (&[u8], &[u8])
 /// The first line of a text, without its newline, and the text after it; None where the text is empty. A last line
 /// without a newline counts.
 pub fn next_line(text: &[u8]) -> Option<(&[u8], &[u8])>
-    ensures lines { IfSome result (λ parts. lines_of text.now ≡ parts.0.now ∷ lines_of parts.1.now) }
+    ensures lines { IfSome result (λ parts.
+        lines_of text.now ≡ parts.0.now ∷ lines_of parts.1.now) }
     ensures one { IfSome result (λ parts. has_byte 10 parts.0.now ≡ false) }
     ensures shorter { IfSome result (λ parts. length parts.1.now < length text.now) }
     ensures none { IfNone result (text.now ≡ []) }

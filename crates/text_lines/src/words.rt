@@ -21,7 +21,8 @@ pub fn next_word(text: &[u8]) -> Option<(&[u8], &[u8])>
     ensures none { IfNone result (words_of text.now ≡ []) }
     ensures some { IfSome result (λ parts. words_of text.now ≡ parts.0.now ∷ words_of parts.1.now) }
     ensures shorter { IfSome result (λ parts. length parts.1.now < length text.now) }
-    ensures utf8 { IfSome result (λ parts. IsUtf8 text.now → IsUtf8 parts.0.now × IsUtf8 parts.1.now) }
+    ensures utf8 { IfSome result (λ parts.
+        IsUtf8 text.now → IsUtf8 parts.0.now × IsUtf8 parts.1.now) }
 {
     let rest = without_blanks(text);
     if rest.is_empty() {

@@ -11,7 +11,9 @@ use Rattle.init_trace.specs.Past.{Child, is_of, is_child, unreaped, known, undon
 use Rattle.init_trace.specs.Wanted.{is_order}
 use Rattle.init_trace.specs.Sound.{may_come, is_sound}
 use Rattle.init_trace.specs.Agreement.{has_untold_birth, has_untold_end, is_unreaped, is_known, Agrees}
-use Rattle.trace_laws.proofs.Tests.{or_true, falsely, same_id-is, same_id-from, is_order-is, any_within, any_without, not_from}
+use Rattle.init_words.proofs.Same.{same_id-is, same_id-from}
+use Rattle.init_words.proofs.Tests.{or_true, falsely, any_within, any_without, not_from}
+use Rattle.trace_laws.proofs.Tests.{is_order-is}
 use Rattle.trace_laws.proofs.Orders.{told_same, told_other}
 use Rattle.trace_laws.proofs.Keeps.{look_undone, sound_holds, sound_ind}
 use Rattle.trace_laws.proofs.Births.{at_moment}

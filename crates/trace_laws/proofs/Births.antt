@@ -10,7 +10,8 @@ use Rattle.init_trace.specs.Past.{Child, is_of, is_child, has_child, born, unrea
 use Rattle.init_trace.specs.Wanted.{is_owed_before, is_excluded}
 use Rattle.init_trace.specs.Sound.{may_come, is_sound}
 use Rattle.init_trace.specs.Lawful.{is_alone, is_placed, is_in_turn, are_spared}
-use Rattle.trace_laws.proofs.Tests.{falsely, not_from, same_id-is, filter_none}
+use Rattle.init_words.proofs.Same.{same_id-is}
+use Rattle.init_words.proofs.Tests.{falsely, not_from, filter_none}
 use Rattle.trace_laws.proofs.Orders.{unreaped_kept}
 use Rattle.trace_laws.proofs.Keeps.{born_ready, Ready, sound_holds, sound_ind}
 

@@ -1,7 +1,7 @@
 -- What each due step says of the past: facts by its kind, rank by rank.
 use Rattle.std.proofs.Common.{◌≡◌, refl, sym, ◌∙◌, ap, subst, ◌⊎◌, inl, inr, ℕ, Bool, true, false, not, ◌&&◌, cond, List, [], ◌∷◌, ◌++◌, Option, Some, None, is_none}
 use Rattle.std.specs.List.{list_any, list_all}
-use Rattle.std.proofs.lemmas.Bool.{false≢true, and_parts, or_left, or_right, or_from}
+use Rattle.std.proofs.lemmas.Bool.{false≢true, and_parts, or_left, or_right, or_from, not-true}
 use Rattle.std.proofs.lemmas.Option.{none-some, same_Some}
 use Rattle.init_words.specs.declared.entries.Entry.{Entry}
 use Rattle.init_words.specs.declared.levels.Level.{Level}
@@ -24,8 +24,10 @@ use Rattle.init_trace.specs.Wanted.{is_wanted, is_owed, is_excluded, entries_bef
 use Rattle.init_trace.specs.Spells.{Signal, is_ripe, stop_by, stop_due, is_missed, spell_hits}
 use Rattle.init_trace.specs.Timing.{is_held, is_full}
 use Rattle.init_trace.specs.Wishes.{level_wish, goal_of, wants_reexec, wants_reread, keeps_power, keeps_letter, powers, letters, wish_stands, in_run}
-use Rattle.init_trace.specs.Due.{step_if, steps_if, none_excluded, due_first, due_reexec, due_reread, enter_level, due_level, power_steps, letter_steps, due_news, record_ids, stop_step, stops_of, stops_among, due_stops, is_limited, can_start, start_steps, starts_among, due_starts, is_over, next_stage, due_stage, is_announced, is_settled, settle_step, due_settle, can_look, wants_look, looks_among, due_looks, due, same_step, is_due}
-use Rattle.trace_laws.proofs.Tests.{both_ways, or_either, not_is, same_id-is, same_id-self, same_ask-is, same_level-is, is_none-is}
+use Rattle.init_words.specs.Actions.{is_limited}
+use Rattle.init_words.proofs.Same.{same_id-is, same_id-self, same_ask-is, same_level-is}
+use Rattle.init_words.proofs.Tests.{both_ways, or_either, is_none-is}
+use Rattle.init_trace.specs.Due.{step_if, steps_if, none_excluded, due_first, due_reexec, due_reread, enter_level, due_level, power_steps, letter_steps, due_news, record_ids, stop_step, stops_of, stops_among, due_stops, can_start, start_steps, starts_among, due_starts, is_over, next_stage, due_stage, is_announced, is_settled, settle_step, due_settle, can_look, wants_look, looks_among, due_looks, due, same_step, is_due}
 
 -- the order is a signal
 abbrev pub is_signal : Ask → Bool
@@ -159,7 +161,7 @@ run_later : (id : List ℕ) (e : Entry) (es : List Entry) (past : List Event) �
 run_later id e es past free may = record {
   entry = may.entry;
   own = may.own;
-  found = λ distinct. let parts = and_parts (not (list_any (has_id e.id) es)) (is_distinct es) distinct in first (same_id id e.id) refl (not_is (list_any (has_id e.id) es) parts.0) (may.found parts.1);
+  found = λ distinct. let parts = and_parts (not (list_any (has_id e.id) es)) (is_distinct es) distinct in first (same_id id e.id) refl (not-true (list_any (has_id e.id) es) parts.0) (may.found parts.1);
   listed = or_right (same_id id e.id) (list_any (has_id id) es) may.listed;
   wanted = may.wanted;
   childless = may.childless;
@@ -205,7 +207,7 @@ starts past spared (e ∷ es) = each_append (FactsAlong (e ∷ es) past) (steps_
         found = λ _. rw (same_id-self e.id) refl;
         listed = or_left (same_id e.id e.id) (list_any (has_id e.id) es) (same_id-self e.id);
         wanted = two.0;
-        childless = not_is (has_child e.id (kept past)) two.1;
+        childless = not-true (has_child e.id (kept past)) two.1;
         unasked = is_none-is (open_of e.id past) all.1;
         ahead = rw (same_id-self e.id) refl;
       }
@@ -218,7 +220,7 @@ starts past spared (e ∷ es) = each_append (FactsAlong (e ∷ es) past) (steps_
   window may is limited free false full = (start may (λ _. (free, full)), tt)
 
   by_act : (may : MayRun e.id (e ∷ es) past) → may.entry ≡ e → (limited : Bool) → is_limited e.act ≡ limited → Each (FactsAlong (e ∷ es) past) (cond limited (steps_if (not (is_held e.id past)) (cond (is_full e.id past) (Hold e.id) (Order e.id Start) ∷ [])) (Order e.id Start ∷ []))
-  by_act may is true limited = each_steps_if (FactsAlong (e ∷ es) past) (not (is_held e.id past)) (cond (is_full e.id past) (Hold e.id) (Order e.id Start) ∷ []) (λ free. window may is limited (not_is (is_held e.id past) free) (is_full e.id past) refl)
+  by_act may is true limited = each_steps_if (FactsAlong (e ∷ es) past) (not (is_held e.id past)) (cond (is_full e.id past) (Hold e.id) (Order e.id Start) ∷ []) (λ free. window may is limited (not-true (is_held e.id past) free) (is_full e.id past) refl)
   by_act may is false limited = (start may (λ h. both_ways (is_limited e.act) (ap (λ (x : Entry). is_limited x.act) (sym is) ∙ h) limited), tt)
 
   later : (b : Bool) → is_owed e past ≡ b → Each (FactsAlong es past) (starts_among es past) → Each (FactsAlong (e ∷ es) past) (cond b [] (starts_among es past))
@@ -309,7 +311,7 @@ dues goal past = join (rank1 ++ rank2 ++ rank3 ++ rank4 ++ rank5 ++ rank6 ++ ran
   facts6 = each_steps_if (Facts past) (not (wish_stands past)) (stops_among (record_ids past) past) (λ _. stops_all (record_ids past) past)
 
   facts7 : Each (Facts past) (due_starts past)
-  facts7 = each_steps_if (Facts past) (not (wish_stands past) && none_excluded past) (starts_among (table_of past) past) (λ h. starts past (not_is (list_any (is_excluded past) (kept past)) (and_parts (not (wish_stands past)) (none_excluded past) h).1) (table_of past))
+  facts7 = each_steps_if (Facts past) (not (wish_stands past) && none_excluded past) (starts_among (table_of past) past) (λ h. starts past (not-true (list_any (is_excluded past) (kept past)) (and_parts (not (wish_stands past)) (none_excluded past) h).1) (table_of past))
 
   facts8 : Each (Facts past) (due_stage goal past)
   facts8 = each_steps_if (Facts past) (is_over past) (next_stage (goal_of goal past) (stage_of past)) (λ h. stages past (over_quiet past h) (goal_of goal past) (stage_of past))

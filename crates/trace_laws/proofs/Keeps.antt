@@ -2,7 +2,7 @@
 use Rattle.std.proofs.Common.{◌≡◌, refl, sym, ◌∙◌, ap, subst, inl, inr, ℕ, ◌==◌, Bool, true, false, not, ◌&&◌, ◌||◌, cond, List, [], ◌∷◌, Option, Some, None, is_some}
 use Rattle.std.specs.List.{list_any}
 use Rattle.std.specs.Option.{option_map, option_map_or}
-use Rattle.std.proofs.lemmas.Bool.{false≢true, and_parts, and_from, and_left, and_right, or_left, or_right, or_from, not_from_true}
+use Rattle.std.proofs.lemmas.Bool.{false≢true, and_parts, and_from, and_left, and_right, or_left, or_right, or_from, not_from_true, not-true}
 use Rattle.std.proofs.lemmas.Option.{none-some, same_Some}
 use Rattle.init_words.specs.declared.entries.Entry.{Entry}
 use Rattle.init_words.specs.declared.actions.Act.{Act}
@@ -15,19 +15,22 @@ use Rattle.init_words.specs.declared.orders.Ask.{Ask}
 use Rattle.init_words.specs.declared.orders.Ask.TheVariants.{Start, Look, Term, Kill}
 use Rattle.init_words.specs.Ids.{same_id}
 use Rattle.init_words.specs.Orders.{same_ask}
-use Rattle.init_words.specs.Entries.{starts_by, lives_by, waited_by, waited_of}
+use Rattle.init_words.specs.Actions.{starts_by, lives_by, waited_by, wanted_by}
+use Rattle.init_words.specs.Entries.{waited_of}
 use Rattle.inittab_text.specs.Tables.{has_id, entry_of, act_of, is_distinct}
 use Rattle.init_trace.specs.declared.happenings.Happening.TheVariants.{NewTable, Enter, Call, Power, Asked, Birth, NoBirth, Reaped, Still, NoLook, Hit, Miss, Told}
 use Rattle.init_trace.specs.declared.steps.Step.TheVariants as step
 use Rattle.init_trace.specs.declared.steps.Goal.{Goal}
 use Rattle.init_trace.specs.Event.{Event}
 use Rattle.init_trace.specs.Past.{table_of, stage_of, grace_of, time_of, Child, is_of, is_child, has_number, has_child, born, unreaped, kept, known, open_of, undone_of, is_untold, is_quiet, is_dead}
-use Rattle.init_trace.specs.Wanted.{starts_in, is_order, is_asked, is_called, wanted_by, is_wanted, is_owed, entries_before, is_owed_before, may_live, is_excluded}
+use Rattle.init_trace.specs.Wanted.{starts_in, is_order, is_asked, is_called, is_wanted, is_owed, entries_before, is_owed_before, may_live, is_excluded}
 use Rattle.init_trace.specs.Spells.{stop_due, stop_by, is_missed, spell_hits}
 use Rattle.init_trace.specs.Lawful.{is_placed, may_term}
 use Rattle.init_trace.specs.Due.{is_due}
+use Rattle.init_words.proofs.Same.{same_id-is, same_id-self, same_id-apart, same_act-self}
+use Rattle.init_words.proofs.Tests.{both_ways, falsely, or_either, not_from, any_less, any_within}
 use Rattle.init_trace.specs.Sound.{may_come, is_sound}
-use Rattle.trace_laws.proofs.Tests.{both_ways, falsely, or_either, not_is, not_from, same_id-is, same_id-self, same_id-apart, is_order-is, same_act-self, any_less, any_within}
+use Rattle.trace_laws.proofs.Tests.{is_order-is}
 use Rattle.trace_laws.proofs.Orders.{cleared, undone_is_open, quiet_looks, told_known, unreaped_kept, kept_before_told, same_of}
 use Rattle.trace_laws.proofs.Dues.{is_signal, MayRun, MayStart, MayStop, due_facts}
 
@@ -225,7 +228,7 @@ before_less p q id (x ∷ es) distinct less h = at_id (same_id id x.id) h (befor
   parts = and_parts (not (list_any (has_id x.id) es)) (is_distinct es) distinct
 
   later : (e : Entry) → entry_of e.id es ≡ Some e → (b : Bool) → same_id e.id x.id ≡ b → cond b (Some x) (entry_of e.id es) ≡ Some e
-  later e found true same = both_ways (list_any (has_id x.id) es) (subst (λ i. list_any (has_id i) es ≡ true) (same_id-is e.id x.id same) (entry_listed e.id es e found)) (not_is (list_any (has_id x.id) es) parts.0)
+  later e found true same = both_ways (list_any (has_id x.id) es) (subst (λ i. list_any (has_id i) es ≡ true) (same_id-is e.id x.id same) (entry_listed e.id es e found)) (not-true (list_any (has_id x.id) es) parts.0)
   later e found false differ = found
 
   first : entry_of x.id (x ∷ es) ≡ Some x

@@ -17,7 +17,9 @@ use Rattle.init_trace.specs.Spells.{Signal, untold_hits, told_at, in_spell, spel
 use Rattle.init_trace.specs.Due.{is_due}
 use Rattle.init_trace.specs.Sound.{may_come, is_sound}
 use Rattle.init_trace.specs.Bounds.{kills_once}
-use Rattle.trace_laws.proofs.Tests.{both_ways, or_either, same_id-is, same_id-self, same_id-sym, is_order-is, any_less, all_less, all_fail, any_none}
+use Rattle.init_words.proofs.Same.{same_id-is, same_id-self, same_id-sym}
+use Rattle.init_words.proofs.Tests.{both_ways, or_either, any_less, all_less, all_fail, any_none}
+use Rattle.trace_laws.proofs.Tests.{is_order-is}
 use Rattle.trace_laws.proofs.Orders.{undone_is_open}
 use Rattle.trace_laws.proofs.Dues.{MayStop, due_facts}
 use Rattle.trace_laws.proofs.Keeps.{sound_holds, sound_ind, asked_free, free_told, stop_unreaped}

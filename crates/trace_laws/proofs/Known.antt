@@ -13,10 +13,11 @@ use Rattle.init_trace.specs.declared.steps.Goal.{Goal}
 use Rattle.init_trace.specs.declared.steps.Step.TheVariants as step
 use Rattle.init_trace.specs.Event.{Event}
 use Rattle.init_trace.specs.Past.{Child, is_of, has_child, born, unreaped, kept, known, open_of, is_quiet}
-use Rattle.init_trace.specs.Wanted.{starts_now, is_order, is_asked, is_called, wanted_by, is_wanted, is_owed, is_excluded}
+use Rattle.init_words.specs.Actions.{wanted_by}
+use Rattle.init_trace.specs.Wanted.{starts_now, is_order, is_asked, is_called, is_wanted, is_owed, is_excluded}
 use Rattle.init_trace.specs.Due.{can_start}
+use Rattle.init_words.proofs.Tests.{or_true, both_ways, same_tests, or_either, any_less}
 use Rattle.init_trace.specs.Sound.{may_come, is_sound}
-use Rattle.trace_laws.proofs.Tests.{or_true, both_ways, same_tests, or_either, any_less}
 use Rattle.trace_laws.proofs.Orders.{quiet_looks, known_kept, told_any, told_finds, told_same, told_other, same_has}
 use Rattle.trace_laws.proofs.Dues.{due_facts}
 use Rattle.trace_laws.proofs.Keeps.{born_ready, sound_holds, sound_ind, placed_spared}

@@ -9,7 +9,7 @@ use Rattle.init_trace.specs.Past.{unreaped}
 use Rattle.init_trace.specs.Due.{is_settled}
 use Rattle.init_trace.specs.Sound.{may_come, is_sound}
 use Rattle.init_trace.specs.Lawful.{is_alone, is_placed, is_in_turn, are_spared, is_free, is_due_hold, may_term, may_kill, broken, is_lawful, first_breach}
-use Rattle.trace_laws.proofs.Tests.{is_none-is}
+use Rattle.init_words.proofs.Tests.{is_none-is}
 use Rattle.trace_laws.proofs.Keeps.{sound_ind}
 use Rattle.trace_laws.proofs.Births.{birth_alone, birth_placed, birth_in_turn, birth_spared}
 use Rattle.trace_laws.proofs.Settling.{settle_settled}

@@ -10,11 +10,11 @@ use Rattle.init_trace.specs.declared.steps.Step.TheVariants as step
 use Rattle.init_trace.specs.Event.{Event}
 use Rattle.init_trace.specs.Past.{table_of}
 use Rattle.init_trace.specs.Timing.{is_held, is_full}
-use Rattle.init_trace.specs.Due.{is_limited}
+use Rattle.init_words.specs.Actions.{is_limited}
 use Rattle.init_trace.specs.Sound.{may_come, is_sound}
 use Rattle.init_trace.specs.Lawful.{is_limited_id, is_free, is_due_hold}
 use Rattle.inittab_text.specs.Tables.{is_distinct}
-use Rattle.trace_laws.proofs.Tests.{not_from}
+use Rattle.init_words.proofs.Tests.{not_from}
 use Rattle.trace_laws.proofs.Dues.{MayRun, MayStart, MayHold, due_facts}
 use Rattle.trace_laws.proofs.Keeps.{sound_holds}
 use Rattle.trace_laws.proofs.Births.{step_at}

@@ -2,7 +2,7 @@
 use Rattle.std.proofs.Common.{◌≡◌, refl, sym, ◌∙◌, ap, ◌⊎◌, inl, inr, ℕ, ◌==◌, Bool, true, false, not, ◌&&◌, ◌||◌, cond, List, [], ◌∷◌, ◌++◌, filter, Option, Some, None}
 use Rattle.std.specs.List.{list_any}
 use Rattle.std.specs.Option.{option_map_or}
-use Rattle.std.proofs.lemmas.Bool.{and_parts, and_from, or_left, or_right, or_parts, and_left, not_from_true}
+use Rattle.std.proofs.lemmas.Bool.{and_parts, and_from, or_left, or_right, or_parts, and_left, not_from_true, not-true}
 use Rattle.std.proofs.lemmas.List.Elements.{filter-append}
 use Rattle.std.proofs.lemmas.List.{append-nil}
 use Rattle.std.proofs.lemmas.List.Folds.{list_any-append}
@@ -15,7 +15,8 @@ use Rattle.init_trace.specs.declared.happenings.Happening.TheVariants.{Asked, Bi
 use Rattle.init_trace.specs.Event.{Event}
 use Rattle.init_trace.specs.Past.{Child, is_of, is_child, born, unreaped, has_child, kept, known, open_of, undone_of, is_untold, Open, open_orders, is_quiet, is_idle}
 use Rattle.init_trace.specs.Bounds.{targets}
-use Rattle.trace_laws.proofs.Tests.{Passing, passing, or_false, both_ways, or_either, not_is, not_from, same_id-is, same_id-from, same_id-apart, any_less, any_filter, any_within, any_without, any_filtered, filter_within, filter_without}
+use Rattle.init_words.proofs.Same.{same_id-is, same_id-from, same_id-apart}
+use Rattle.init_words.proofs.Tests.{Passing, passing, or_false, both_ways, or_either, not_from, any_less, any_filter, any_within, any_without, any_filtered, filter_within, filter_without}
 
 -- an order that is cleared for some ids is there for the others
 pub cleared : {A : Type 0} {P : Type 0} (b : Bool) (o : Option A) (a : A) → (b ≡ false → o ≡ Some a → P) → cond b None o ≡ Some a → P
@@ -85,7 +86,7 @@ quiet_looks id ask past quiet is = split (same_ask Look ask) refl where
 
   split : (b : Bool) → same_ask Look ask ≡ b → b ≡ true
   split true h = refl
-  split false h = both_ways (list_any (λ order. busy order.ask) (open_orders past)) (open_among busy id ask past is (not_from (same_ask Look ask) h)) (not_is (list_any (λ order. busy order.ask) (open_orders past)) quiet)
+  split false h = both_ways (list_any (λ order. busy order.ask) (open_orders past)) (open_among busy id ask past is (not_from (same_ask Look ask) h)) (not-true (list_any (λ order. busy order.ask) (open_orders past)) quiet)
 
 -- where no order is open, none of any id is
 pub idle_none : (id : List ℕ) (past : List Event) → is_idle past ≡ true → open_of id past ≡ None
@@ -95,7 +96,7 @@ idle_none id past idle = split (open_of id past) refl where
 
   split : (o : Option Ask) → open_of id past ≡ o → o ≡ None
   split None h = refl
-  split (Some ask) h = both_ways (list_any (λ order. any order.ask) (open_orders past)) (open_among any id ask past h refl) (not_is (list_any (λ order. any order.ask) (open_orders past)) idle)
+  split (Some ask) h = both_ways (list_any (λ order. any order.ask) (open_orders past)) (open_among any id ask past h refl) (not-true (list_any (λ order. any order.ask) (open_orders past)) idle)
 
 -- the children of an id after a Told of it are its unreaped ones; of another id, those before
 pub told_same : (id i : List ℕ) (there before : List Child) → same_id id i ≡ true → filter (is_of id) (filter (is_of i) there ++ filter (λ child. not (is_of i child)) before) ≡ filter (is_of id) there

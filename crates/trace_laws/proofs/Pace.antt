@@ -1,18 +1,19 @@
 -- The bound on starts: of eleven of a limited entry the last is at least two minutes after the first.
 use Rattle.std.proofs.Common.{◌≡◌, ◌≤◌, ◌+◌, ◌-◌, refl, ℕ, Bool, true, false, not, ◌&&◌, ◌||◌, cond, max, min, nat_lt, nat_le, List, [], ◌∷◌, ◌++◌, filter, length, drop, suc, zero, arith, le_trans, le_refl}
 use Rattle.std.specs.List.{list_all}
-use Rattle.std.proofs.lemmas.Bool.{and_parts, and_from, ltb-false, le-leb, leb-false, le-ltb}
+use Rattle.std.proofs.lemmas.Bool.{and_parts, and_from, ltb-false, le-leb, leb-false, le-ltb, not-true}
+use Rattle.respawn_limit.specs.declared.TheConstants.{HOLD, STARTS, WINDOW, CLOCK_LIMIT}
 use Rattle.init_words.specs.declared.orders.Ask.TheVariants.{Start}
 use Rattle.init_words.specs.Ids.{same_id}
 use Rattle.init_trace.specs.declared.happenings.Happening.TheVariants.{NewTable, Enter, Asked, Clock}
 use Rattle.init_trace.specs.declared.steps.Goal.{Goal}
 use Rattle.init_trace.specs.Event.{Event}
-use Rattle.init_trace.specs.Past.{time_of, clock_limit}
+use Rattle.init_trace.specs.Past.{time_of}
 use Rattle.init_trace.specs.Timing.{start_times, hold_times, is_held, is_full}
 use Rattle.init_trace.specs.Sound.{is_sound}
 use Rattle.init_trace.specs.Lawful.{is_limited_id}
 use Rattle.init_trace.specs.Bounds.{is_spaced, keeps_pace}
-use Rattle.trace_laws.proofs.Tests.{not_is, not_from, all_less, all_fail}
+use Rattle.init_words.proofs.Tests.{not_from, all_less, all_fail}
 use Rattle.trace_laws.proofs.Limits.{start_free}
 
 -- times that fall, the first no later than a bound
@@ -33,15 +34,15 @@ starts_fall id (Asked i Start ∷ past) = at_id (same_id id i) (starts_fall id p
   at_id : (b : Bool) → Falling (time_of past) (start_times id past) → Falling (time_of past) (cond b (time_of past ∷ start_times id past) (start_times id past))
   at_id true falls = (le_refl (time_of past), falls)
   at_id false falls = falls
-starts_fall id (Clock reading ∷ past) = falls_below (time_of past) (max (min reading clock_limit) (time_of past)) (start_times id past) (omega arith) (starts_fall id past)
+starts_fall id (Clock reading ∷ past) = falls_below (time_of past) (max (min reading CLOCK_LIMIT) (time_of past)) (start_times id past) (omega arith) (starts_fall id past)
 starts_fall id (_ ∷ past) = starts_fall id past
 
 -- a time is young where its age is below two minutes
 abbrev is_young : ℕ → ℕ → Bool
-is_young now started = nat_lt (now - started) 120
+is_young now started = nat_lt (now - started) WINDOW
 
 old_later : (now a b : ℕ) → b ≤ a → is_young now a ≡ false → is_young now b ≡ false
-old_later now a b le old = le-ltb (now - b) 120 (omega (arith, ltb-false (now - a) 120 old))
+old_later now a b le old = le-ltb (now - b) WINDOW (omega (arith, ltb-false (now - a) WINDOW old))
 
 all_old : (now a : ℕ) (ts : List ℕ) → is_young now a ≡ false → Falling a ts → list_all (λ t. not (is_young now t)) ts ≡ true
 all_old now a [] old falls = refl
@@ -64,20 +65,20 @@ few_young now bound k (t ∷ ts) falls few = split (is_young now t) refl k few (
   split true young zero few rest = absurd (omega arith)
   split true young (suc k) few rest = rest k (omega arith)
 
-not_full : (n : ℕ) → nat_le 10 n ≡ false → n ≤ 9
-not_full n h = omega (arith, leb-false 10 n h)
+not_full : (n : ℕ) → nat_le STARTS n ≡ false → n ≤ 9
+not_full n h = omega (arith, leb-false STARTS n h)
 
-spaced : (now started : ℕ) → not (is_young now started) ≡ true → nat_le (started + 120) now ≡ true
-spaced now started h = le-leb (started + 120) now (omega (arith, ltb-false (now - started) 120 (not_is (is_young now started) h)))
+spaced : (now started : ℕ) → not (is_young now started) ≡ true → nat_le (started + WINDOW) now ≡ true
+spaced now started h = le-leb (started + WINDOW) now (omega (arith, ltb-false (now - started) WINDOW (not-true (is_young now started) h)))
 
-over : (now began : ℕ) → not (nat_lt now (began + 300)) ≡ true → nat_le (began + 300) now ≡ true
-over now began h = le-leb (began + 300) now (ltb-false now (began + 300) (not_is (nat_lt now (began + 300)) h))
+over : (now began : ℕ) → not (nat_lt now (began + HOLD)) ≡ true → nat_le (began + HOLD) now ≡ true
+over now began h = le-leb (began + HOLD) now (ltb-false now (began + HOLD) (not-true (nat_lt now (began + HOLD)) h))
 
 pub start_paced : (goal : Goal) (later : List Event) (id : List ℕ) (past : List Event) → is_sound goal (later ++ Asked id Start ∷ past) ≡ true → keeps_pace (Asked id Start) past ≡ true
 start_paced goal later id past h = split (is_limited_id id past) (start_free goal later id past h) where
-  split : (b : Bool) → (not b || not (is_held id past) && not (is_full id past)) ≡ true → (not b || is_spaced (time_of past) (start_times id past) && list_all (λ began. nat_le (began + 300) (time_of past)) (hold_times id past)) ≡ true
+  split : (b : Bool) → (not b || not (is_held id past) && not (is_full id past)) ≡ true → (not b || is_spaced (time_of past) (start_times id past) && list_all (λ began. nat_le (began + HOLD) (time_of past)) (hold_times id past)) ≡ true
   split false free = refl
   split true free =
       let parts = and_parts (not (is_held id past)) (not (is_full id past)) free in
-      let young : length (filter (is_young (time_of past)) (start_times id past)) ≤ 9 = not_full (length (filter (is_young (time_of past)) (start_times id past))) (not_is (is_full id past) parts.1) in
-      and_from (is_spaced (time_of past) (start_times id past)) (list_all (λ began. nat_le (began + 300) (time_of past)) (hold_times id past)) (all_less (λ started. not (is_young (time_of past) started)) (λ started. nat_le (started + 120) (time_of past)) (spaced (time_of past)) (drop 9 (start_times id past)) (few_young (time_of past) (time_of past) 9 (start_times id past) (starts_fall id past) young)) (all_less (λ began. not (nat_lt (time_of past) (began + 300))) (λ began. nat_le (began + 300) (time_of past)) (over (time_of past)) (hold_times id past) (all_fail (λ began. nat_lt (time_of past) (began + 300)) (hold_times id past) (not_is (is_held id past) parts.0)))
+      let young : length (filter (is_young (time_of past)) (start_times id past)) ≤ 9 = not_full (length (filter (is_young (time_of past)) (start_times id past))) (not-true (is_full id past) parts.1) in
+      and_from (is_spaced (time_of past) (start_times id past)) (list_all (λ began. nat_le (began + HOLD) (time_of past)) (hold_times id past)) (all_less (λ started. not (is_young (time_of past) started)) (λ started. nat_le (started + WINDOW) (time_of past)) (spaced (time_of past)) (drop 9 (start_times id past)) (few_young (time_of past) (time_of past) 9 (start_times id past) (starts_fall id past) young)) (all_less (λ began. not (nat_lt (time_of past) (began + HOLD))) (λ began. nat_le (began + HOLD) (time_of past)) (over (time_of past)) (hold_times id past) (all_fail (λ began. nat_lt (time_of past) (began + HOLD)) (hold_times id past) (not-true (is_held id past) parts.0)))

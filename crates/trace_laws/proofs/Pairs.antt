@@ -1,8 +1,9 @@
 -- The laws of two happenings of a sound trace, by what comes between them.
-use Rattle.std.proofs.Common.{◌≡◌, ◌≤◌, ◌+◌, refl, sym, ◌∙◌, ap, ℕ, Bool, true, false, not, ◌&&◌, ◌||◌, ◌==◌, cond, nat_le, List, [], ◌∷◌, ◌++◌, filter, length, drop, zero, suc, arith, append_assoc, eq-eqb}
+use Rattle.std.proofs.Common.{◌≡◌, ◌≤◌, ◌+◌, ◌-◌, refl, sym, ◌∙◌, ap, ℕ, Bool, true, false, not, ◌&&◌, ◌||◌, ◌==◌, cond, nat_le, List, [], ◌∷◌, ◌++◌, filter, length, drop, zero, suc, arith, append_assoc, eq-eqb}
 use Rattle.std.specs.List.{list_any, list_all}
 use Rattle.std.specs.Option.{option_map_or}
-use Rattle.std.proofs.lemmas.Bool.{false≢true, and_parts, and_from, or_left, or_right, or_parts, leb-true, cond-true}
+use Rattle.std.proofs.lemmas.Bool.{false≢true, and_parts, and_from, or_left, or_right, or_parts, leb-true, cond-true, not-true}
+use Rattle.respawn_limit.specs.declared.TheConstants.{HOLD, STARTS, WINDOW}
 use Rattle.init_words.specs.declared.entries.Entry.{Entry}
 use Rattle.init_words.specs.declared.orders.Ask.{Ask}
 use Rattle.init_words.specs.declared.orders.Ask.TheVariants.{Start}
@@ -14,12 +15,13 @@ use Rattle.init_trace.specs.Event.{Event}
 use Rattle.init_trace.specs.Past.{table_of, time_of, Child, is_of, is_child, has_child, born, unreaped, known}
 use Rattle.init_trace.specs.Wanted.{is_excluded}
 use Rattle.init_trace.specs.Timing.{start_times, hold_times, is_held, is_full}
-use Rattle.init_trace.specs.Due.{is_limited}
+use Rattle.init_words.specs.Actions.{is_limited}
 use Rattle.init_trace.specs.Sound.{is_sound}
 use Rattle.init_trace.specs.Lawful.{is_limited_id}
 use Rattle.init_trace.specs.Bounds.{targets, is_spaced}
 use Rattle.trace_laws.specs.Stretches.{is_steady, count_starts, is_order_of, is_reaping_of}
-use Rattle.trace_laws.proofs.Tests.{both_ways, not_is, same_id-self, any_less, filter_none}
+use Rattle.init_words.proofs.Same.{same_id-self}
+use Rattle.init_words.proofs.Tests.{both_ways, any_less, filter_none}
 use Rattle.trace_laws.proofs.Births.{birth_alone}
 use Rattle.trace_laws.proofs.Limits.{hold_due}
 use Rattle.trace_laws.proofs.Pace.{start_paced}
@@ -47,7 +49,7 @@ reaped_between goal later between past id n m h = found (list_any (is_reaping_of
 
   found : (b : Bool) → list_any (is_reaping_of id m) between ≡ b → b ≡ true
   found true is = refl
-  found false none = both_ways (has_child id (unreaped (between ++ Birth id m ∷ past))) (any_less (is_child id m) (is_of id) (λ child own. (and_parts (same_id id child.id) (m == child.number) own).0) (unreaped (between ++ Birth id m ∷ past)) (stays id m between (Birth id m ∷ past) none first)) (not_is (has_child id (unreaped (between ++ Birth id m ∷ past))) (birth_alone goal later id n (between ++ Birth id m ∷ past) h))
+  found false none = both_ways (has_child id (unreaped (between ++ Birth id m ∷ past))) (any_less (is_child id m) (is_of id) (λ child own. (and_parts (same_id id child.id) (m == child.number) own).0) (unreaped (between ++ Birth id m ∷ past)) (stays id m between (Birth id m ∷ past) none first)) (not-true (has_child id (unreaped (between ++ Birth id m ∷ past))) (birth_alone goal later id n (between ++ Birth id m ∷ past) h))
 
 -- in a steady stretch the table stays
 steady_table : (between past : List Event) → is_steady between ≡ true → table_of (between ++ past) ≡ table_of past
@@ -75,13 +77,13 @@ abbrev limited_in : List ℕ → List Entry → Bool
 limited_in id table = option_map_or is_limited (act_of id table) false
 
 -- what the pace says of a limited id
-limited_pace : (id : List ℕ) (past : List Event) (b : Bool) → b ≡ true → (not b || is_spaced (time_of past) (start_times id past) && list_all (λ began. nat_le (began + 300) (time_of past)) (hold_times id past)) ≡ true → (is_spaced (time_of past) (start_times id past) ≡ true) × (list_all (λ began. nat_le (began + 300) (time_of past)) (hold_times id past) ≡ true)
-limited_pace id past true limited h = and_parts (is_spaced (time_of past) (start_times id past)) (list_all (λ began. nat_le (began + 300) (time_of past)) (hold_times id past)) h
+limited_pace : (id : List ℕ) (past : List Event) (b : Bool) → b ≡ true → (not b || is_spaced (time_of past) (start_times id past) && list_all (λ began. nat_le (began + HOLD) (time_of past)) (hold_times id past)) ≡ true → (is_spaced (time_of past) (start_times id past) ≡ true) × (list_all (λ began. nat_le (began + HOLD) (time_of past)) (hold_times id past) ≡ true)
+limited_pace id past true limited h = and_parts (is_spaced (time_of past) (start_times id past)) (list_all (λ began. nat_le (began + HOLD) (time_of past)) (hold_times id past)) h
 limited_pace id past false limited h = absurd (false≢true limited)
 
 -- with no new stage and no table between, a start is at least five minutes after a hold
-pub rested : (goal : Goal) (later between past : List Event) (id : List ℕ) → is_sound goal (later ++ Asked id Start ∷ (between ++ Hold id ∷ past)) ≡ true → is_steady between ≡ true → time_of past + 300 ≤ time_of (between ++ Hold id ∷ past)
-rested goal later between past id h steady = leb-true (time_of past + 300) (time_of all) (hold_among (λ began. nat_le (began + 300) (time_of all)) id between past steady (limited_pace id all (is_limited_id id all) limited (start_paced goal later id all h)).1) where
+pub rested : (goal : Goal) (later between past : List Event) (id : List ℕ) → is_sound goal (later ++ Asked id Start ∷ (between ++ Hold id ∷ past)) ≡ true → is_steady between ≡ true → time_of past + HOLD ≤ time_of (between ++ Hold id ∷ past)
+rested goal later between past id h steady = leb-true (time_of past + HOLD) (time_of all) (hold_among (λ began. nat_le (began + HOLD) (time_of all)) id between past steady (limited_pace id all (is_limited_id id all) limited (start_paced goal later id all h)).1) where
   all : List Event
   all = between ++ Hold id ∷ past
 
@@ -114,8 +116,8 @@ start_among p id (Asked i Start ∷ between) past k steady less all = at_id (sam
 start_among p id (_ ∷ between) past k steady less all = start_among p id between past k steady less all
 
 -- of eleven starts of a limited entry, with no new stage and no table between, the last is at least two minutes after the first
-pub eleven : (goal : Goal) (later between past : List Event) (id : List ℕ) → is_sound goal (later ++ Asked id Start ∷ (between ++ Asked id Start ∷ past)) ≡ true → is_steady between ≡ true → 9 ≤ count_starts id between → is_limited_id id past ≡ true → time_of past + 120 ≤ time_of (between ++ Asked id Start ∷ past)
-eleven goal later between past id h steady nine was = leb-true (time_of past + 120) (time_of all) (start_among (λ started. nat_le (started + 120) (time_of all)) id between past 9 steady nine (limited_pace id all (is_limited_id id all) limited (start_paced goal later id all h)).0) where
+pub eleven : (goal : Goal) (later between past : List Event) (id : List ℕ) → is_sound goal (later ++ Asked id Start ∷ (between ++ Asked id Start ∷ past)) ≡ true → is_steady between ≡ true → STARTS ≤ count_starts id between + 1 → is_limited_id id past ≡ true → time_of past + WINDOW ≤ time_of (between ++ Asked id Start ∷ past)
+eleven goal later between past id h steady nine was = leb-true (time_of past + WINDOW) (time_of all) (start_among (λ started. nat_le (started + WINDOW) (time_of all)) id between past (STARTS - 1) steady (omega (arith, nine)) (limited_pace id all (is_limited_id id all) limited (start_paced goal later id all h)).0) where
   all : List Event
   all = between ++ Asked id Start ∷ past
 

@@ -17,7 +17,8 @@ use Rattle.init_trace.specs.Event.{Event}
 use Rattle.init_trace.specs.Past.{table_of, is_of, has_child, unreaped, kept, known, open_of, is_quiet}
 use Rattle.init_trace.specs.Due.{is_due, left_ids, record_ids}
 use Rattle.init_trace.specs.Sound.{may_come, is_sound}
-use Rattle.trace_laws.proofs.Tests.{or_either, not_from, same_id-is, any_within}
+use Rattle.init_words.proofs.Same.{same_id-is}
+use Rattle.init_words.proofs.Tests.{or_either, not_from, any_within}
 use Rattle.trace_laws.proofs.Orders.{cleared, quiet_looks, known_kept, kept_before_told, told_other, same_has}
 use Rattle.trace_laws.proofs.Dues.{due_facts}
 use Rattle.trace_laws.proofs.Keeps.{start_stays, born_ready, sound_holds, sound_ind}

@@ -19,7 +19,8 @@ use Rattle.init_trace.specs.Due.{due, first, same_step, is_due}
 use Rattle.init_trace.specs.Sound.{may_come, is_sound}
 use Rattle.init_trace.specs.Lawful.{is_lawful}
 use Rattle.init_trace.specs.Run.{is_next, is_run}
-use Rattle.trace_laws.proofs.Tests.{both_ways, same_id-self, same_ask-self}
+use Rattle.init_words.proofs.Tests.{both_ways}
+use Rattle.init_words.proofs.Same.{same_id-self, same_ask-self, same_level-self, same_power-self, same_stage-self}
 use Rattle.trace_laws.proofs.Laws.{sound_lawful}
 
 pub run_sound : (goal : Goal) (past : List Event) → is_run goal past ≡ true → is_sound goal past ≡ true
@@ -34,19 +35,6 @@ pub run_lawful : (goal : Goal) (past : List Event) → is_run goal past ≡ true
 run_lawful goal past h = sound_lawful goal past (run_sound goal past h)
 
 -- each step is the same as itself
-same_level-self : (level : Level) → same_level level level ≡ true
-same_level-self level = eq-eqb (level_code level) (level_code level) refl
-
-same_stage-self : (now : Stage) → same_stage now now ≡ true
-same_stage-self stage.Sysinit = refl
-same_stage-self stage.Boot = refl
-same_stage-self (stage.Run level) = same_level-self level
-
-same_power-self : (kind : PowerKind) → same_power kind kind ≡ true
-same_power-self power.Fail = refl
-same_power-self power.FailNow = refl
-same_power-self power.Ok = refl
-
 pub same_step-self : (step : Step) → same_step step step ≡ true
 same_step-self (Enter now grace) = and_from (same_stage now now) (grace == grace) (same_stage-self now) (eq-eqb grace grace refl)
 same_step-self (Call letter) = eq-eqb (letter_code letter) (letter_code letter) refl

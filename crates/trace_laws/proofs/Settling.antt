@@ -1,7 +1,7 @@
 -- Where a level is announced settled, it is settled by the unreaped children.
 use Rattle.std.proofs.Common.{◌≡◌, refl, sym, ◌∙◌, ap, ℕ, Bool, true, false, not, ◌&&◌, ◌||◌, List, ◌∷◌, ◌++◌, filter, Option, Some, None}
 use Rattle.std.specs.List.{list_any, list_all}
-use Rattle.std.proofs.lemmas.Bool.{false≢true, and_parts, and_from}
+use Rattle.std.proofs.lemmas.Bool.{false≢true, and_parts, and_from, not-true}
 use Rattle.init_words.specs.declared.entries.Entry.{Entry}
 use Rattle.init_words.specs.declared.levels.Level.{Level}
 use Rattle.init_words.specs.declared.levels.Mark.TheVariants.{At}
@@ -17,10 +17,12 @@ use Rattle.init_trace.specs.Past.{table_of, stage_of, Child, is_of, unreaped, kn
 use Rattle.init_trace.specs.Wanted.{is_asked, is_owed, may_live, is_excluded}
 use Rattle.init_trace.specs.Timing.{is_held}
 use Rattle.init_trace.specs.Wishes.{is_level}
-use Rattle.init_trace.specs.Due.{served_by, is_served, is_settled}
+use Rattle.init_words.specs.Actions.{served_by}
+use Rattle.init_trace.specs.Due.{is_served, is_settled}
 use Rattle.init_trace.specs.Sound.{may_come, is_sound}
+use Rattle.init_words.proofs.Same.{same_id-self, same_level-is}
+use Rattle.init_words.proofs.Tests.{Passing, passing, falsely, not_from, any_less, all_less, all_fail}
 use Rattle.trace_laws.specs.Belonging.{belongs}
-use Rattle.trace_laws.proofs.Tests.{Passing, passing, falsely, not_is, not_from, same_id-self, same_level-is, any_less, all_less, all_fail}
 use Rattle.trace_laws.proofs.Orders.{idle_none, told_known, same_of, same_has}
 use Rattle.trace_laws.proofs.Dues.{MaySettle, due_facts}
 use Rattle.trace_laws.proofs.Keeps.{sound_holds, free_told}
@@ -46,7 +48,7 @@ same_settled : (level : Level) (xs ys : List Child) (past : List Event) → ((id
 same_settled level xs ys past same back h =
     let all = and_parts (is_level level (stage_of past) && not (list_any (is_excluded past) xs)) (list_all (is_served level xs past) (table_of past)) h in
     let two = and_parts (is_level level (stage_of past)) (not (list_any (is_excluded past) xs)) all.0 in
-    and_from (is_level level (stage_of past) && not (list_any (is_excluded past) ys)) (list_all (is_served level ys past) (table_of past)) (and_from (is_level level (stage_of past)) (not (list_any (is_excluded past) ys)) two.0 (not_from (list_any (is_excluded past) ys) (falsely (list_any (is_excluded past) ys) (list_any (is_excluded past) xs) (same_any (is_excluded past) ys xs back) (not_is (list_any (is_excluded past) xs) two.1)))) (all_less (is_served level xs past) (is_served level ys past) (same_served level xs ys past same) (table_of past) all.1)
+    and_from (is_level level (stage_of past) && not (list_any (is_excluded past) ys)) (list_all (is_served level ys past) (table_of past)) (and_from (is_level level (stage_of past)) (not (list_any (is_excluded past) ys)) two.0 (not_from (list_any (is_excluded past) ys) (falsely (list_any (is_excluded past) ys) (list_any (is_excluded past) xs) (same_any (is_excluded past) ys xs back) (not-true (list_any (is_excluded past) xs) two.1)))) (all_less (is_served level xs past) (is_served level ys past) (same_served level xs ys past same) (table_of past) all.1)
 
 pub settle_settled : (goal : Goal) (later : List Event) (level : Level) (past : List Event) → is_sound goal (later ++ Settle level ∷ past) ≡ true → is_settled level (unreaped past) past ≡ true
 settle_settled goal later level past h = same_settled level (known past) (unreaped past) past same (λ id. sym (same id)) may.settled where
@@ -67,7 +69,7 @@ level_stage level (Some stage.Boot) h = absurd (false≢true h)
 level_stage level (Some (stage.Run l)) h = ap (λ k. Some (stage.Run k)) (sym (same_level-is level l h))
 
 pub settle_belongs : (goal : Goal) (later : List Event) (level : Level) (past : List Event) → is_sound goal (later ++ Settle level ∷ past) ≡ true → list_all (belongs level past) (unreaped past) ≡ true
-settle_belongs goal later level past h = all_less (λ child. not (is_excluded past child)) (belongs level past) live (unreaped past) (all_fail (is_excluded past) (unreaped past) (not_is (list_any (is_excluded past) (unreaped past)) two.1)) where
+settle_belongs goal later level past h = all_less (λ child. not (is_excluded past child)) (belongs level past) live (unreaped past) (all_fail (is_excluded past) (unreaped past) (not-true (list_any (is_excluded past) (unreaped past)) two.1)) where
   all : ((is_level level (stage_of past) && not (list_any (is_excluded past) (unreaped past))) ≡ true) × (list_all (is_served level (unreaped past) past) (table_of past) ≡ true)
   all = and_parts (is_level level (stage_of past) && not (list_any (is_excluded past) (unreaped past))) (list_all (is_served level (unreaped past) past) (table_of past)) (settle_settled goal later level past h)
 

@@ -15,7 +15,7 @@ use Rattle.init_trace.specs.Spells.{Signal, is_ripe, stop_by, stop_due, is_misse
 use Rattle.init_trace.specs.Due.{is_due}
 use Rattle.init_trace.specs.Sound.{is_sound}
 use Rattle.init_trace.specs.Lawful.{may_term, may_kill}
-use Rattle.trace_laws.proofs.Tests.{any_less}
+use Rattle.init_words.proofs.Tests.{any_less}
 use Rattle.trace_laws.proofs.Dues.{MayStop, due_facts}
 use Rattle.trace_laws.proofs.Keeps.{sound_holds, asked_may_term, stop_unreaped, stop_excluded}
 use Rattle.trace_laws.proofs.Births.{step_at}

@@ -17,8 +17,10 @@ use Rattle.init_trace.specs.Wanted.{is_order, is_excluded}
 use Rattle.init_trace.specs.Answered.{answered_of}
 use Rattle.init_trace.specs.Spells.{untold_hits, has_untold_miss, told_at, spell_hits, is_missed}
 use Rattle.init_trace.specs.Sound.{may_come, is_sound}
-use Rattle.trace_laws.specs.Answers.{is_hit, is_miss}
-use Rattle.trace_laws.proofs.Tests.{and_true, both_ways, or_either, same_id-is, is_order-is}
+use Rattle.init_words.specs.Orders.{is_hit, is_miss}
+use Rattle.init_words.proofs.Same.{same_id-is}
+use Rattle.init_words.proofs.Tests.{and_true, both_ways, or_either}
+use Rattle.trace_laws.proofs.Tests.{is_order-is}
 use Rattle.trace_laws.proofs.Keeps.{look_undone, sound_holds, sound_ind, asked_free, free_told}
 use Rattle.trace_laws.proofs.Told.{answered_untold}
 use Rattle.trace_laws.proofs.Kills.{hits_told}

@@ -12,7 +12,8 @@ use Rattle.init_trace.specs.Past.{Child, is_of, is_child, unreaped, undone_of}
 use Rattle.init_trace.specs.Wanted.{is_order, is_excluded}
 use Rattle.init_trace.specs.Sound.{is_sound}
 use Rattle.init_trace.specs.Bounds.{targets, hits_its_own}
-use Rattle.trace_laws.proofs.Tests.{or_either, is_order-is, any_filtered, any_within, or_false}
+use Rattle.init_words.proofs.Tests.{or_either, any_filtered, any_within, or_false}
+use Rattle.trace_laws.proofs.Tests.{is_order-is}
 use Rattle.trace_laws.proofs.Orders.{undone_is_open, told_known, targets_known}
 use Rattle.trace_laws.proofs.Dues.{is_signal}
 use Rattle.trace_laws.proofs.Keeps.{Holds, sound_holds}

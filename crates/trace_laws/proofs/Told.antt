@@ -11,7 +11,7 @@ use Rattle.init_words.specs.declared.orders.Ask.TheVariants.{Start, Look, Term, 
 use Rattle.init_words.specs.declared.orders.Answer.{Answer}
 use Rattle.init_words.specs.declared.orders.Answer.TheVariants as answer
 use Rattle.init_words.specs.Ids.{same_id}
-use Rattle.init_words.specs.Orders.{same_ask}
+use Rattle.init_words.specs.Orders.{same_ask, answers}
 use Rattle.inittab_text.specs.Tables.{has_id, entry_of, act_of, is_distinct}
 use Rattle.init_trace.specs.declared.happenings.Happening.TheVariants.{NewTable, Asked, Birth, NoBirth, Reaped, Still, NoLook, Hit, Miss, Told}
 use Rattle.init_trace.specs.declared.steps.Goal.{Goal}
@@ -23,9 +23,10 @@ use Rattle.init_trace.specs.Answered.{answered_of, child_after}
 use Rattle.init_trace.specs.Due.{is_due}
 use Rattle.init_trace.specs.Lawful.{is_placed}
 use Rattle.init_trace.specs.Sound.{may_come, is_sound}
-use Rattle.trace_laws.specs.Answers.{answers}
 use Rattle.trace_laws.specs.Tables.{keeps_table}
-use Rattle.trace_laws.proofs.Tests.{both_ways, falsely, or_either, same_id-is, same_id-self, is_order-is, any_filtered, any_less, any_none, filter_none}
+use Rattle.init_words.proofs.Same.{same_id-is, same_id-self}
+use Rattle.init_words.proofs.Tests.{both_ways, falsely, or_either, any_filtered, any_less, any_none, filter_none, find_none}
+use Rattle.trace_laws.proofs.Tests.{is_order-is}
 use Rattle.trace_laws.proofs.Orders.{cleared, undone_is_open, quiet_looks, open_listed, told_same, told_other, reaped_other, told_known, known_kept, kept_before_told}
 use Rattle.trace_laws.proofs.Dues.{MayStop, due_facts}
 use Rattle.trace_laws.proofs.Keeps.{start_undone, look_undone, born_ready, sound_holds, sound_ind, asked_free, free_told, placed_spared, entry_listed}
@@ -169,9 +170,6 @@ undone_child goal i ask past sound h id own = let P : List ℕ → Type 0 = λ x
 
 signal_child : (goal : Goal) (i : List ℕ) (past : List Event) → is_sound goal past ≡ true → (is_order Term (undone_of i past) || is_order Kill (undone_of i past)) ≡ true → (id : List ℕ) → same_id id i ≡ true → find (is_of id) (unreaped past) ≡ find (is_of id) (known past)
 signal_child goal i past sound h id own = or_either (is_order Term (undone_of i past)) (is_order Kill (undone_of i past)) h (λ g. undone_child goal i Term past sound g id own) (λ g. undone_child goal i Kill past sound g id own)
-
-find_none : (p : Child → Bool) (xs : List Child) → list_any p xs ≡ false → find p xs ≡ None
-find_none p xs h = find_first p xs ∙ ap first_of (filter_none p xs h)
 
 -- while an answer is under way, the unreaped child of the id is the one that the answer says
 pub answered_child : (goal : Goal) (past : List Event) → is_sound goal past ≡ true → (id : List ℕ) (given : Answer) → answered_of id past ≡ Some given → find (is_of id) (unreaped past) ≡ child_after id past given (find (is_of id) (known past))

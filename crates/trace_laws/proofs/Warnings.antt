@@ -15,7 +15,8 @@ use Rattle.init_trace.specs.Spells.{Signal, untold_hits, told_at, tells_hits, in
 use Rattle.init_trace.specs.Agreement.{is_unreaped}
 use Rattle.init_trace.specs.Sound.{is_sound}
 use Rattle.trace_laws.specs.Warnings.{stays_excluded, Warned}
-use Rattle.trace_laws.proofs.Tests.{Passing, passing, or_either, same_id-is, same_id-self}
+use Rattle.init_words.proofs.Same.{same_id-is, same_id-self}
+use Rattle.init_words.proofs.Tests.{Passing, passing, or_either}
 use Rattle.trace_laws.proofs.Signals.{kill_may}
 
 -- the place at which a signal of a spell was told

@@ -7,6 +7,7 @@ use Rattle.init_trace.specs.Event.{Event}
 use Rattle.init_trace.specs.Past.{table_of, Child}
 use Rattle.init_trace.specs.Wanted.{may_live}
 
--- the child belongs to an entry of the level: its id stands in the table with the action of its birth, which lives there
+-- the child belongs to an entry of the level: its id stands in the table with the action of its birth, which lives
+-- there
 abbrev pub belongs : Level → List Event → Child → Bool
 belongs level past child = may_live (entry_of child.id (table_of past)) child.act (Some (Run level))

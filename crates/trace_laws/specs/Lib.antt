@@ -1,5 +1,5 @@
-pub mod Answers
 pub mod Belonging
+pub mod Moments
 pub mod Stretches
 pub mod Tables
 pub mod Warnings

@@ -4,6 +4,9 @@ use Rattle.init_words.specs.declared.orders.Ask.TheVariants.{Start}
 use Rattle.init_words.specs.Ids.{same_id}
 use Rattle.init_trace.specs.declared.happenings.Happening.TheVariants.{NewTable, Enter, Asked, Reaped}
 use Rattle.init_trace.specs.Event.{Event}
+use Rattle.init_trace.specs.Past.{Child}
+use Rattle.init_trace.specs.Wanted.{is_excluded}
+use Rattle.init_trace.specs.Agreement.{is_unreaped}
 
 -- no stage begins and no table comes in the stretch
 abbrev pub is_steady : List Event → Bool
@@ -15,7 +18,8 @@ is_steady (_ ∷ stretch) = is_steady stretch
 -- how many Starts of the id are ordered in the stretch
 abbrev pub count_starts : List ℕ → List Event → ℕ
 count_starts id [] = 0
-count_starts id (Asked i Start ∷ stretch) = if same_id id i then count_starts id stretch + 1 else count_starts id stretch
+count_starts id (Asked i Start ∷ stretch) =
+    if same_id id i then count_starts id stretch + 1 else count_starts id stretch
 count_starts id (_ ∷ stretch) = count_starts id stretch
 
 -- the happening is an order about the id
@@ -27,3 +31,7 @@ is_order_of id _ = false
 abbrev pub is_reaping_of : List ℕ → ℕ → Event → Bool
 is_reaping_of id n (Reaped i m status) = same_id id i && n == m
 is_reaping_of id n _ = false
+
+-- the child of the id is excluded and unreaped
+abbrev pub is_stoppable : List ℕ → List Event → Child → Bool
+is_stoppable id past child = is_excluded past child && is_unreaped id child.number past

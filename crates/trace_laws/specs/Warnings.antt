@@ -12,7 +12,8 @@ use Rattle.init_trace.specs.Agreement.{is_unreaped}
 -- each happening of a stretch belongs to the spell of the child
 abbrev pub stays_excluded : Child → List Event → List Event → Bool
 stays_excluded child [] before = true
-stays_excluded child (happening ∷ stretch) before = in_spell child happening (stretch ++ before) && stays_excluded child stretch before
+stays_excluded child (happening ∷ stretch) before =
+    in_spell child happening (stretch ++ before) && stays_excluded child stretch before
 
 -- an unreaped child of the id, to which a TERM was sent: that was told in its spell, at least the grace ago
 pub record Warned (id : List ℕ) (past : List Event) : Type 0 where

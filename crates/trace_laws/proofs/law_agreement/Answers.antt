@@ -1,4 +1,5 @@
 -- Each clause is a lemma on sound traces.
+use Rattle.std.proofs.Common.{arith}
 use Rattle.trace_laws.proofs.Births.{birth_alone, birth_placed, birth_in_turn, birth_spared, one_child_at}
 use Rattle.trace_laws.proofs.Settling.{settle_settled, settle_belongs}
 use Rattle.trace_laws.proofs.Limits.{start_free, hold_due}
@@ -13,7 +14,7 @@ use Rattle.trace_laws.proofs.Warnings.{kill_warned}
 use Rattle.trace_laws.proofs.law_agreement.Goals as goal
 
 pub returns-clause-one_child : goal.returns-clause-one_child
-returns-clause-one_child c = one_child_at
+returns-clause-one_child c goal later past h id = one_child_at goal later past id h
 
 pub returns-clause-alone : goal.returns-clause-alone
 returns-clause-alone c goal later past id n h = birth_alone goal later id n past h
@@ -49,7 +50,7 @@ pub returns-clause-lawful : goal.returns-clause-lawful
 returns-clause-lawful c = sound_lawful
 
 pub returns-clause-agreement : goal.returns-clause-agreement
-returns-clause-agreement c = agrees_at
+returns-clause-agreement c goal later past h id n = agrees_at goal later past id n h
 
 pub returns-clause-paced : goal.returns-clause-paced
 returns-clause-paced c goal later past id h = start_paced goal later id past h
@@ -64,7 +65,7 @@ pub returns-clause-reaped_between : goal.returns-clause-reaped_between
 returns-clause-reaped_between c = reaped_between
 
 pub returns-clause-eleven : goal.returns-clause-eleven
-returns-clause-eleven c = eleven
+returns-clause-eleven c goal later between past id h steady enough = eleven goal later between past id h steady (omega (arith, enough))
 
 pub returns-clause-rested : goal.returns-clause-rested
 returns-clause-rested c = rested
@@ -73,4 +74,4 @@ pub returns-clause-on_order : goal.returns-clause-on_order
 returns-clause-on_order c = on_order
 
 pub returns-clause-warned : goal.returns-clause-warned
-returns-clause-warned c = kill_warned
+returns-clause-warned c goal later past id h = kill_warned goal later past id h

@@ -1,5 +1,5 @@
 use Rattle.std.proofs.Common.{◌≡◌, length}
-use Rattle.inittab_text.specs.Lines.{lines_of}
+use Rattle.text_lines.specs.Lines.{lines_of}
 use Rattle.inittab_text.specs.Reading.{entries_from, table_of_text}
 use Rattle.inittab_text.proofs.written.read_entries.Given as goal
 

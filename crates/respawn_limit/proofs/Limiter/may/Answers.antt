@@ -1,4 +1,5 @@
 use Rattle.std.proofs.Common.{◌≡◌, ◌+◌, ◌∙◌, rules}
+use Rattle.respawn_limit.specs.declared.TheConstants.{HOLD}
 use Rattle.respawn_limit.specs.declared.May.TheVariants.{Yes, HoldUntil}
 use Rattle.respawn_limit.specs.Window.{may_of}
 use Rattle.respawn_limit.proofs.WindowLemmas.{answer-Remembers}
@@ -7,12 +8,12 @@ use Rattle.respawn_limit.proofs.Limiter.may.Goals as goal
 
 pub returns-in_default-clause-noted : goal.returns-in_default-clause-noted
 returns-in_default-clause-noted c = λ noted known.
-    let state : HoldUntil (c.args.now + 300) ≡ may_of c.args.self.now c.args.now = search rules in
+    let state : HoldUntil (c.args.now + HOLD) ≡ may_of c.args.self.now c.args.now = search rules in
     state ∙ answer-Remembers c.args.self.now.starts noted c.args.self.now.held c.args.now known
 
 pub returns-in_default-clause-past : goal.returns-in_default-clause-past
 returns-in_default-clause-past c = λ past stands.
-    let state : HoldUntil (c.args.now + 300) ≡ may_of c.args.self.now c.args.now = search rules in
+    let state : HoldUntil (c.args.now + HOLD) ≡ may_of c.args.self.now c.args.now = search rules in
     state ∙ may_of-StandsAfter c.args.self.now past c.args.now stands
 
 pub returns-in_default-2-clause-noted : goal.returns-in_default-2-clause-noted
