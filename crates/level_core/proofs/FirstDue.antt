@@ -2,6 +2,7 @@
 use Rattle.std.proofs.Common.{Bool, true, false, not, ◌≡◌, ◌&&◌, ◌||◌, ℕ, List, [], ◌∷◌, ◌++◌, map, zip, append-nil, Option, Some, None, is_some, is_none, refl, sym, ap, ◌∙◌, cond}
 use Rattle.std.specs.List.{list_any, list_all}
 use Rattle.std.proofs.lemmas.Bool.{false≢true, or_parts}
+use Rattle.init_words.proofs.Same.{same_level-self}
 use Rattle.init_words.specs.declared.entries.Entry.{Entry}
 use Rattle.init_words.specs.declared.actions.Act.{Act}
 use Rattle.init_words.specs.declared.actions.Act.TheVariants as act
@@ -159,7 +160,7 @@ module _ (past : List Event) (tame : Tame past) where
     served_same e = rw (owed_same past tame (stage.Run level) in_level e, kept_up e (is_limited e.act) refl) refl
 
     settled_same : is_settled level (known past) past ≡ all_served level (time_of past) (table_of past) (records_of past)
-    settled_same = by (is_level level (stage_of past)) (list_any (is_excluded past) (known past)) (ap (is_level level) in_level ∙ same_level-refl level) tame.known_spared
+    settled_same = by (is_level level (stage_of past)) (list_any (is_excluded past) (known past)) (ap (is_level level) in_level ∙ same_level-self level) tame.known_spared
         (all_same (is_served level (known past) past) (λ e. is_served_slot level (time_of past) e (record_of past e)) (table_of past) served_same
         ∙ sym (all_pairs (record_of past) (λ (p : Entry × Slot). is_served_slot level (time_of past) p.0 p.1) (table_of past)))
       where

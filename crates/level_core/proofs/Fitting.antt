@@ -155,6 +155,6 @@ pub nudged : (past : List Event) (es : List Entry) → map after_nudge (map (rec
 nudged past [] = refl
 nudged past (e ∷ es) = rw (nudged past es, child_some e.id past) (ap (λ b. record (record_of past e) { look = b } ∷ map (record_of (event.Nudge ∷ past)) es) (by (has_child e.id (known past)) (wants_look e.id past)))
   where
-    by : (c w : Bool) → (c || c && w) ≡ (c && (c || w))
+    by : (c w : Bool) → (c || c && w) ≡ (c && c)
     by true w = refl
     by false w = refl

@@ -1,6 +1,7 @@
 -- What the records say of an entry is what the past says of it.
 use Rattle.std.proofs.Common.{Bool, true, false, not, ◌≡◌, ◌&&◌, ◌||◌, ℕ, List, [], ◌∷◌, map, zip, find, Option, Some, None, is_some, is_none, refl, sym, ap, ◌∙◌, cond, option_map}
 use Rattle.std.specs.List.{list_any}
+use Rattle.init_words.proofs.Tests.{and_false, or_true}
 use Rattle.init_words.specs.declared.entries.Entry.{Entry}
 use Rattle.init_words.specs.declared.stages.Stage.{Stage}
 use Rattle.init_words.specs.declared.orders.Ask.{Ask}

@@ -76,7 +76,7 @@ unborn goal past sound = sound_ind goal (λ past. (id : List ℕ) (n : ℕ) → 
     step (event.Hit i) past may sound ih id n h = other_act (same_id id i) answer.Hit (answered_of id past) n (λ is. cc) (λ k. let before = ih id n k in record { unlooked = before.unlooked; childless = before.childless }) h
     step (event.Miss i) past may sound ih id n h = other_act (same_id id i) answer.Miss (answered_of id past) n (λ is. cc) (λ k. let before = ih id n k in record { unlooked = before.unlooked; childless = before.childless }) h
     step (event.Asked i Look) past may sound ih id n h = let before = ih id n h in record { unlooked = plain (not (same_id id i)) (wants_look id past) before.unlooked; childless = before.childless }
-    step event.Nudge past may sound ih id n h = let before = ih id n h in record { unlooked = rw (before.childless, before.unlooked) refl; childless = before.childless }
+    step event.Nudge past may sound ih id n h = let before = ih id n h in record { unlooked = before.childless; childless = before.childless }
     step _ past may sound ih id n h = let before = ih id n h in record { unlooked = before.unlooked; childless = before.childless }
 
 -- a record of the id whose order was answered

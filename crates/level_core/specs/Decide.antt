@@ -41,19 +41,35 @@ pub record CoreState : Type 0 where
 
 -- the opening: no stage yet, and a record for each entry
 abbrev pub opening_state : List Entry → Goal → CoreState
-opening_state table goal = record { table = table; slots = map new_slot table; stage = None; grace = 0; goal = goal; booted = false; announced = false; time = 0 }
+opening_state table goal = record {
+  table = table;
+  slots = map new_slot table;
+  stage = None;
+  grace = 0;
+  goal = goal;
+  booted = false;
+  announced = false;
+  time = 0;
+}
 
 -- the entry with this record is wanted in the stage
 abbrev pub is_wanted_slot : Stage → Entry → Slot → Bool
-is_wanted_slot stage e slot = starts_of e stage && wanted_by e.act (is_none slot.child && not (is_order Start slot.order)) (not slot.asked) false
+is_wanted_slot stage e slot =
+    starts_of e stage
+    && wanted_by e.act (is_none slot.child && not (is_order Start slot.order)) (not slot.asked) false
 
 -- it is owed: init waits for it
 abbrev pub is_owed_slot : Stage → Entry → Slot → Bool
-is_owed_slot stage e slot = waited_of e && (is_some slot.child || is_order Start slot.order || is_wanted_slot stage e slot)
+is_owed_slot stage e slot =
+    waited_of e && (is_some slot.child || is_order Start slot.order || is_wanted_slot stage e slot)
 
 -- the start or the hold of an entry that could be started, if its limiter has not held it already
 abbrev pub limited_step : ℕ → Entry → Slot → Option Step
-limited_step now e slot = if is_limited e.act then (if is_held slot.limiter.held now then None else Some (if allows (may_of slot.limiter now) then Order e.id Start else Hold e.id)) else Some (Order e.id Start)
+limited_step now e slot =
+    if is_limited e.act then
+    (if is_held slot.limiter.held now then None
+    else Some (if allows (may_of slot.limiter now) then Order e.id Start else Hold e.id))
+    else Some (Order e.id Start)
 
 abbrev pub can_start_slot : Stage → Entry → Slot → Bool
 can_start_slot stage e slot = is_wanted_slot stage e slot && is_none slot.child && is_none slot.order
@@ -68,7 +84,8 @@ or_else (Some step) later = Some step
 -- the first start or hold in table order, up to the first owed entry
 abbrev pub start_along : Stage → ℕ → List (Entry × Slot) → Option Step
 start_along stage now [] = None
-start_along stage now (p ∷ ps) = or_else (start_step stage now p.0 p.1) (if is_owed_slot stage p.0 p.1 then None else start_along stage now ps)
+start_along stage now (p ∷ ps) =
+    or_else (start_step stage now p.0 p.1) (if is_owed_slot stage p.0 p.1 then None else start_along stage now ps)
 
 abbrev pub start_among : Stage → ℕ → List Entry → List Slot → Option Step
 start_among stage now table slots = start_along stage now (zip table slots)
@@ -98,21 +115,27 @@ is_over_among stage table slots = is_quiet_among slots && all_done stage table s
 
 -- after Sysinit and Boot, the stage that comes next
 abbrev pub stage_step : Stage → Goal → List Entry → List Slot → Option Step
-stage_step stage.Sysinit goal table slots = if is_over_among stage.Sysinit table slots then Some (Enter (if same_level goal.level S then stage.Run S else stage.Boot) goal.grace) else None
-stage_step stage.Boot goal table slots = if is_over_among stage.Boot table slots then Some (Enter (stage.Run goal.level) goal.grace) else None
+stage_step stage.Sysinit goal table slots =
+    if is_over_among stage.Sysinit table slots then
+    Some (Enter (if same_level goal.level S then stage.Run S else stage.Boot) goal.grace)
+    else None
+stage_step stage.Boot goal table slots =
+    if is_over_among stage.Boot table slots then Some (Enter (stage.Run goal.level) goal.grace) else None
 stage_step (stage.Run level) goal table slots = None
 
 -- the entry with this record keeps no level from being settled
 abbrev pub is_served_slot : Level → ℕ → Entry → Slot → Bool
 is_served_slot level now e slot = not (is_owed_slot (stage.Run level) e slot)
-    && (not (names (At level) e.levels.items) || served_by e.act slot.asked (is_some slot.child || is_held slot.limiter.held now))
+    && (not (names (At level) e.levels.items)
+    || served_by e.act slot.asked (is_some slot.child || is_held slot.limiter.held now))
 
 abbrev pub all_served : Level → ℕ → List Entry → List Slot → Bool
 all_served level now table slots = list_all (λ (p : Entry × Slot). is_served_slot level now p.0 p.1) (zip table slots)
 
 -- in a run level, that it is settled, once
 abbrev pub settle_step : Stage → Bool → ℕ → List Entry → List Slot → Option Step
-settle_step (stage.Run level) announced now table slots = if not announced && is_idle_among slots && all_served level now table slots then Some (Settle level) else None
+settle_step (stage.Run level) announced now table slots =
+    if not announced && is_idle_among slots && all_served level now table slots then Some (Settle level) else None
 settle_step _ announced now table slots = None
 
 -- the first record whose child is to be looked at
@@ -130,7 +153,12 @@ or_idle (Some step) = step
 -- the step: a start or a hold, the next stage, the level settled, a look, or nothing
 abbrev pub decide_in : Option Stage → CoreState → Step
 decide_in None c = Enter stage.Sysinit c.goal.grace
-decide_in (Some stage) c = or_idle (or_else (start_among stage c.time c.table c.slots) (or_else (stage_step stage c.goal c.table c.slots) (or_else (settle_step stage c.announced c.time c.table c.slots) (look_among c.slots))))
+decide_in (Some stage) c =
+    or_idle
+    (or_else (start_among stage c.time c.table c.slots)
+    (or_else (stage_step stage c.goal c.table c.slots)
+    (or_else (settle_step stage c.announced c.time c.table c.slots)
+    (look_among c.slots))))
 
 abbrev pub decide : CoreState → Step
 decide c = decide_in c.stage c
@@ -141,7 +169,13 @@ is_boot _ = false
 
 -- the state after a step was taken
 abbrev pub after_step : Step → CoreState → CoreState
-after_step (Enter stage grace) c = record c { slots = map after_enter c.slots; stage = Some stage; grace = grace; booted = is_boot stage || c.booted; announced = false }
+after_step (Enter stage grace) c = record c {
+  slots = map after_enter c.slots;
+  stage = Some stage;
+  grace = grace;
+  booted = is_boot stage || c.booted;
+  announced = false;
+}
 after_step (Order id ask) c = record c { slots = with_changed id (after_order ask c.time) c.slots }
 after_step (Hold id) c = record c { slots = with_changed id (after_hold c.time) c.slots }
 after_step (Settle level) c = record c { announced = true }

@@ -33,7 +33,8 @@ abbrev pub last_hold_end : List ℕ → Option ℕ
 last_hold_end [] = None
 last_hold_end (began ∷ earlier) = Some (began + HOLD)
 
--- the limiter of an entry that the limit holds for, by the times of its starts and holds, the newest first; of any other none
+-- the limiter of an entry that the limit holds for, by the times of its starts and holds, the newest first; of any
+-- other none
 abbrev pub limiter_by : Bool → List ℕ → List ℕ → LimiterState
 limiter_by true starts holds = record { starts = last_ten (reverse starts); held = last_hold_end holds }
 limiter_by false starts holds = unused

@@ -1,8 +1,12 @@
 -- The runs of one table: no other table comes, no request, no signal and no hand-over.
-use Rattle.std.specs.Prelude.{Bool, true, false, ◌&&◌, List, [], ◌∷◌}
+use Rattle.std.specs.Prelude.{Bool, true, false, ◌&&◌, IsTrue, List, [], ◌∷◌}
 use Rattle.init_words.specs.declared.orders.Ask.TheVariants.{Term, Kill}
 use Rattle.init_trace.specs.declared.happenings.Happening.TheVariants.{NewTable, NotRead, Call, Power, Asked, Birth, NoBirth, Death, Reaped, Still, NoLook, Hit, Miss, Got, Handed}
+use Rattle.init_trace.specs.declared.steps.Goal.{Goal}
 use Rattle.init_trace.specs.Event.{Event}
+use Rattle.init_trace.specs.Sound.{is_sound}
+use Rattle.level_core.specs.Decide.{CoreState}
+use Rattle.level_core.specs.Fit.{Fits}
 
 -- the happening brings no table, request, signal or hand-over
 abbrev pub is_plain : Event → Bool
@@ -33,3 +37,9 @@ is_act (Reaped id n status) = true
 is_act (Still id) = true
 is_act (NoLook id) = true
 is_act _ = false
+
+-- on each sound trace of one table that the core fits, and with which goal
+abbrev pub OnEachRun : CoreState → (Goal → List Event → Type 0) → Type 0
+OnEachRun core Holds =
+    (goal : Goal) (past : List Event) → IsTrue (is_sound goal past) → IsTrue (is_of_one_table past)
+    → Fits core goal past → Holds goal past

@@ -17,7 +17,15 @@ use Rattle.level_core.specs.declared.slots.Slot.{Slot}
 
 -- the record of an entry that nothing was asked of yet
 abbrev pub new_slot : Entry → Slot
-new_slot e = record { id = e.id; act = Some e.act; child = None; order = None; asked = false; look = false; limiter = unused }
+new_slot e = record {
+  id = e.id;
+  act = Some e.act;
+  child = None;
+  order = None;
+  asked = false;
+  look = false;
+  limiter = unused;
+}
 
 abbrev pub is_limited_act : Option Act → Bool
 is_limited_act None = false
@@ -38,7 +46,11 @@ with_allowed_start limiter now = if allows (may_of limiter now) then with_start 
 
 -- a record after an order of its id: a start counts as asked and goes into the window, a look as carried out
 abbrev pub after_order : Ask → ℕ → Slot → Slot
-after_order Start now slot = record slot { order = Some Start; asked = true; limiter = if is_limited_slot slot then with_allowed_start slot.limiter now else slot.limiter }
+after_order Start now slot = record slot {
+  order = Some Start;
+  asked = true;
+  limiter = if is_limited_slot slot then with_allowed_start slot.limiter now else slot.limiter;
+}
 after_order Look now slot = record slot { order = Some Look; look = false }
 after_order ask now slot = record slot { order = Some ask }
 
@@ -56,7 +68,11 @@ after_nudge slot = record slot { look = is_some slot.child || slot.look }
 
 -- a record after the answer to its order
 abbrev pub after_answer : Answer → Slot → Slot
-after_answer (Born number) slot = record slot { order = None; child = Some (record { number = number; act = slot.act }); look = false }
+after_answer (Born number) slot = record slot {
+  order = None;
+  child = Some (record { number = number; act = slot.act });
+  look = false;
+}
 after_answer (Ended status) slot = record slot { order = None; child = None; look = false }
 after_answer _ slot = record slot { order = None }
 

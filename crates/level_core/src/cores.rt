@@ -2,7 +2,7 @@ ghost use Rattle.std.specs.Prelude.{◌≡◌, IfOk, OnOk, OnErr};
 
 use crate::deciding::{look_among, settle_step, stage_step, start_among};
 use crate::slots::{
-    Slot, answer_told, answers, hold_given, opening_slots, order_given, order_of, round_begun,
+    Slot, answer_told, hold_given, opening_slots, order_given, order_of, round_begun,
     stage_entered,
 };
 use init_trace::{Goal, Step};
@@ -33,7 +33,16 @@ impl<A: Allocator> Model for Core<A> {
 
     ghost Value = { CoreState };
 
-    ghost view = { λ c. record { table = c.table; slots = c.slots.items; stage = c.stage; grace = c.grace; goal = c.goal; booted = c.booted; announced = c.announced; time = c.time } };
+    ghost view = { λ c. record {
+      table = c.table;
+      slots = c.slots.items;
+      stage = c.stage;
+      grace = c.grace;
+      goal = c.goal;
+      booted = c.booted;
+      announced = c.announced;
+      time = c.time;
+    } };
 
     ghost invariant = { λ c. (c.time ≤ CLOCK_LIMIT) × (are_timely c.time c.slots.items ≡ true) };
 }
@@ -47,13 +56,15 @@ impl<A: Allocator + Copy> Core<A> {
     /// The core before its first stage, with the goal of the level that is given, else of the table's default level,
     /// else of S.
     pub fn new(alloc: A, table: Table<A>, level: Option<Level>) -> Result<Core<A>, Memory>
-        ensures state { IfOk result (λ core. core ≡ opening_state table (opening_goal level table)) }
-        ensures fits { IfOk result (λ core. Fits core (opening_goal level table) (NewTable table ∷ [])) }
+        ensures state { IfOk result (λ core.
+            core ≡ opening_state table (opening_goal level table)) }
+        ensures fits { IfOk result (λ core.
+            Fits core (opening_goal level table) (NewTable table ∷ [])) }
     {
-        Core::opened(alloc, table, level)
+        Core::new_by_state(alloc, table, level)
     }
 
-    fn opened(alloc: A, table: Table<A>, level: Option<Level>) -> Result<Core<A>, Memory>
+    fn new_by_state(alloc: A, table: Table<A>, level: Option<Level>) -> Result<Core<A>, Memory>
         ensures { IfOk result (λ core. core ≡ opening_state table (opening_goal level table)) }
     {
         let level = level.or(table.default_level()).unwrap_or(Level::S);
@@ -83,9 +94,8 @@ impl<A: Allocator> Core<A> {
     ghost use Rattle.init_trace.specs.Event.{Event};
     ghost use Rattle.init_trace.specs.Answered.{answered_of};
     ghost use Rattle.init_trace.specs.Due.{due, first};
-    ghost use Rattle.init_trace.specs.Sound.{is_sound};
     ghost use Rattle.level_core.specs.Fit.{Fits, with_step};
-    ghost use Rattle.level_core.specs.Path.{is_of_one_table};
+    ghost use Rattle.level_core.specs.Path.{OnEachRun};
     ghost use Rattle.level_core.specs.Work.{work_left};
     ghost use Rattle.init_trace.specs.Run.{is_rest};
 
@@ -117,7 +127,7 @@ impl<A: Allocator> Core<A> {
         self.goal
     }
 
-    fn decided(&self) -> Step
+    fn due_step(&self) -> Step
         ensures { result ≡ decide self.now }
     {
         let Some(stage) = self.stage else {
@@ -141,7 +151,7 @@ impl<A: Allocator> Core<A> {
         look_among(&self.slots).unwrap_or(Step::Idle)
     }
 
-    fn take(&mut self, step: &Step)
+    fn apply(&mut self, step: &Step)
         ensures { self.new ≡ after_step step.now self.old }
     {
         match *step {
@@ -159,12 +169,12 @@ impl<A: Allocator> Core<A> {
         }
     }
 
-    fn advance(&mut self) -> Step
+    fn next_by_state(&mut self) -> Step
         ensures step { result ≡ decide self.old }
         ensures state { self.new ≡ after_step result self.old }
     {
-        let step = self.decided();
-        self.take(&step);
+        let step = self.due_step();
+        self.apply(&step);
         step
     }
 
@@ -175,15 +185,14 @@ impl<A: Allocator> Core<A> {
     pub fn next(&mut self) -> Step
         ensures step { result ≡ decide self.old }
         ensures state { self.new ≡ after_step result self.old }
-        ensures due { (goal : Goal) (past : List Event) → IsTrue (is_sound goal past) → IsTrue (is_of_one_table past)
-            → Fits self.old goal past → result ≡ first (due goal past) }
-        ensures fits { (goal : Goal) (past : List Event) → IsTrue (is_sound goal past) → IsTrue (is_of_one_table past)
-            → Fits self.old goal past → Fits self.new goal (with_step result past) }
+        ensures due { OnEachRun self.old (λ goal past. result ≡ first (due goal past)) }
+        ensures fits { OnEachRun self.old (λ goal past.
+            Fits self.new goal (with_step result past)) }
         // its own steps end: each leaves less to do
-        ensures falls { (goal : Goal) (past : List Event) → IsTrue (is_sound goal past) → IsTrue (is_of_one_table past)
-            → Fits self.old goal past → is_rest result ≡ false → work_left self.new < work_left self.old }
+        ensures falls { OnEachRun self.old (λ goal past.
+            is_rest result ≡ false → work_left self.new < work_left self.old) }
     {
-        self.advance()
+        self.next_by_state()
     }
 
     /// Tells what came of the order that is open for the id: refused where none is open (`NotAsked`), or where it is of
@@ -192,15 +201,15 @@ impl<A: Allocator> Core<A> {
         ensures told { OnOk result (self.new ≡ after_told id answer self.old) }
         ensures refused { result ≡ refusal_of (order_in id self.old.slots) answer }
         ensures unchanged { OnErr result (self.new ≡ self.old) }
-        ensures taken { (goal : Goal) (past : List Event) → IsTrue (is_sound goal past) → IsTrue (is_of_one_table past)
-            → Fits self.old goal past → answered_of id past ≡ Some answer → IsOk result }
-        ensures fits { (goal : Goal) (past : List Event) → IsTrue (is_sound goal past) → IsTrue (is_of_one_table past)
-            → Fits self.old goal past → answered_of id past ≡ Some answer → Fits self.new goal (Told id ∷ past) }
+        ensures taken { OnEachRun self.old (λ goal past.
+            answered_of id past ≡ Some answer → IsOk result) }
+        ensures fits { OnEachRun self.old (λ goal past.
+            answered_of id past ≡ Some answer → Fits self.new goal (Told id ∷ past)) }
     {
-        self.tell(id, answer)
+        self.answer_by_state(id, answer)
     }
 
-    fn tell(&mut self, id: Id, answer: Answer) -> Result<(), Refusal>
+    fn answer_by_state(&mut self, id: Id, answer: Answer) -> Result<(), Refusal>
         ensures told { OnOk result (self.new ≡ after_told id answer self.old) }
         ensures refused { result ≡ refusal_of (order_in id self.old.slots) answer }
         ensures unchanged { OnErr result (self.new ≡ self.old) }
@@ -208,7 +217,7 @@ impl<A: Allocator> Core<A> {
         let Some(ask) = order_of(&self.slots, id) else {
             return Err(Refusal::NotAsked);
         };
-        if !answers(answer, ask) {
+        if !answer.answers(ask) {
             return Err(Refusal::WrongAnswer);
         }
         answer_told(&mut self.slots, id, &answer);
@@ -218,21 +227,24 @@ impl<A: Allocator> Core<A> {
     /// A round begins: each child is to be looked at.
     pub fn nudge(&mut self)
         ensures state { self.new ≡ after_round self.old }
-        ensures fits { (goal : Goal) (past : List Event) → Fits self.old goal past → Fits self.new goal (Nudge ∷ past) }
+        ensures fits { (goal : Goal) (past : List Event)
+            → Fits self.old goal past → Fits self.new goal (Nudge ∷ past) }
     {
-        self.begin_round();
+        self.nudge_by_state();
     }
 
-    fn begin_round(&mut self)
+    fn nudge_by_state(&mut self)
         ensures { self.new ≡ after_round self.old }
     {
         round_begun(&mut self.slots);
     }
 
-    /// The clock shows this reading, in seconds. The time is the greatest reading; one above 1,000,000,000,000 counts as that.
+    /// The clock shows this reading, in seconds. The time is the greatest reading; one above 1,000,000,000,000 counts
+    /// as that.
     pub fn clock(&mut self, reading: u64)
         ensures state { self.new ≡ after_clock reading self.old }
-        ensures fits { (goal : Goal) (past : List Event) → Fits self.old goal past → Fits self.new goal (Clock reading ∷ past) }
+        ensures fits { (goal : Goal) (past : List Event)
+            → Fits self.old goal past → Fits self.new goal (Clock reading ∷ past) }
     {
         self.time = reading.min(CLOCK_LIMIT).max(self.time);
     }

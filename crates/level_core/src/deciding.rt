@@ -1,7 +1,6 @@
 ghost use Rattle.std.specs.Prelude.{◌≡◌, ◌≤◌, is_some};
 ghost use Rattle.init_words.specs.Orders.{same_ask};
 ghost use Rattle.level_core.specs.Decide.{is_wanted_slot, is_owed_slot, limited_step, can_start_slot, start_step, start_among, is_busy, is_done_slot, all_done, is_quiet_among, is_idle_among, is_served_slot, all_served, can_look_slot, look_among, stage_step, settle_step};
-ghost use Rattle.init_words.specs.Actions.{wanted_by, is_limited, served_by};
 ghost use Rattle.init_trace.specs.Wanted.{is_order};
 ghost use Rattle.respawn_limit.specs.declared.TheConstants.{CLOCK_LIMIT};
 ghost use Rattle.std.specs.List.{list_any};
@@ -9,24 +8,10 @@ ghost use Rattle.level_core.specs.declared.slots.Slot.{Slot};
 
 use crate::slots::Slot;
 use init_trace::{Goal, Step};
-use init_words::{Act, Ask, Entry, Level, Stage, starts, waited};
+use init_words::{Ask, Entry, Level, Stage, starts, waited};
 use inittab_text::Table;
 use respawn_limit::May;
 use std::alloc::Allocator;
-
-/// What an entry's action asks for, in a stage in which it starts: a respawning entry that nothing of it runs (idle),
-/// one of boot or of a level that it was not started yet (fresh), one for power or a letter that it was called.
-fn wanted_by(act: Act, idle: bool, fresh: bool, called: bool) -> bool
-    ensures { result ≡ wanted_by act idle fresh called }
-{
-    match act {
-        Act::Respawn => idle,
-        Act::Sysinit | Act::Boot | Act::Bootwait | Act::Wait | Act::Once => fresh,
-        Act::Powerwait | Act::Powerfail | Act::Powerfailnow | Act::Powerokwait | Act::Ondemand =>
-            called,
-        Act::Off | Act::Initdefault | Act::Ctrlaltdel | Act::Kbrequest => false,
-    }
-}
 
 fn is_starting(slot: &Slot) -> bool
     ensures { result ≡ is_order Ask.Start slot.now.order }
@@ -38,7 +23,7 @@ fn is_wanted(stage: Stage, entry: &Entry, slot: &Slot) -> bool
     ensures { result ≡ is_wanted_slot stage entry.now slot.now }
 {
     let idle = slot.child.is_none() && !is_starting(slot);
-    starts(entry, stage) && wanted_by(entry.act, idle, !slot.asked, false)
+    starts(entry, stage) && entry.act.is_wanted(idle, !slot.asked, false)
 }
 
 fn is_owed(stage: Stage, entry: &Entry, slot: &Slot) -> bool
@@ -47,17 +32,11 @@ fn is_owed(stage: Stage, entry: &Entry, slot: &Slot) -> bool
     waited(entry) && (slot.child.is_some() || is_starting(slot) || is_wanted(stage, entry, slot))
 }
 
-fn is_limited(act: Act) -> bool
-    ensures { result ≡ is_limited act }
-{
-    act == Act::Respawn
-}
-
 fn limited_step(now: u64, entry: &Entry, slot: &Slot) -> Option<Step>
     requires { now ≤ CLOCK_LIMIT }
     ensures { result ≡ limited_step now entry.now slot.now }
 {
-    if !is_limited(entry.act) {
+    if !entry.act.is_limited() {
         return Some(Step::Order(entry.id, Ask::Start));
     }
     if slot.limiter.held(now) {
@@ -188,17 +167,6 @@ pub(crate) fn stage_step<A: Allocator>(
     }
 }
 
-/// What an entry of the level must have for it to be settled.
-fn served_by(act: Act, asked: bool, kept_up: bool) -> bool
-    ensures { result ≡ served_by act asked kept_up }
-{
-    match act {
-        Act::Wait | Act::Once => asked,
-        Act::Respawn => kept_up,
-        _ => true,
-    }
-}
-
 fn is_served(level: Level, now: u64, entry: &Entry, slot: &Slot) -> bool
     ensures { result ≡ is_served_slot level now entry.now slot.now }
 {
@@ -206,7 +174,7 @@ fn is_served(level: Level, now: u64, entry: &Entry, slot: &Slot) -> bool
         return false;
     }
     let kept_up = slot.child.is_some() || slot.limiter.held(now);
-    !entry.names_level(level) || served_by(entry.act, slot.asked, kept_up)
+    !entry.names_level(level) || entry.act.is_served(slot.asked, kept_up)
 }
 
 /// No entry keeps the level from being settled.

@@ -9,6 +9,7 @@ ghost use Rattle.level_core.specs.Path.{is_act};
 /// While the system acts the core does not move: what fitted the trace fits it with each act of the system on a start
 /// or a look, and with each death. It does nothing: its contract is the law.
 pub fn law_of_acts()
-    ensures { (goal : Goal) (happening : Event) (past : List Event) (core : CoreState) → IsTrue (is_act happening)
-        → IsTrue (is_sound goal (happening ∷ past)) → Fits core goal past → Fits core goal (happening ∷ past) }
+    ensures { (goal : Goal) (happening : Event) (past : List Event) (core : CoreState)
+        → IsTrue (is_act happening) → IsTrue (is_sound goal (happening ∷ past))
+        → Fits core goal past → Fits core goal (happening ∷ past) }
 {}

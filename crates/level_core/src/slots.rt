@@ -1,6 +1,5 @@
 ghost use Rattle.std.specs.Prelude.{◌≡◌, ◌<◌, ◌≤◌, map, length, slice_get, option_map, true, IfOk};
 ghost use Rattle.respawn_limit.specs.declared.TheConstants.{CLOCK_LIMIT};
-ghost use Rattle.init_words.specs.Orders.{answers};
 ghost use Rattle.level_core.specs.Slots.{new_slot, after_order, after_hold, after_enter, after_nudge, after_answer, is_timely, are_timely, changed, with_changed, order_in};
 
 use init_words::{Act, Answer, Ask, ChildNo, Entry, Id};
@@ -81,18 +80,6 @@ fn opening_slot<A: Allocator>(table: &Table<A>, place: usize) -> Slot
         unreachable!()
     };
     Slot::new(entry)
-}
-
-/// The answer is one to this kind of order.
-pub(crate) fn answers(answer: Answer, ask: Ask) -> bool
-    ensures { result ≡ answers answer ask }
-{
-    match (answer, ask) {
-        (Answer::Born(_) | Answer::NotBorn, Ask::Start) => true,
-        (Answer::Ended(_) | Answer::Alive | Answer::NoLook, Ask::Look) => true,
-        (Answer::Hit | Answer::Miss, Ask::Term | Ask::Kill) => true,
-        _ => false,
-    }
 }
 
 fn note_order(slot: &mut Slot, ask: Ask, now: u64)

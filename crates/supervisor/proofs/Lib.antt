@@ -1,5 +1,4 @@
 pub mod Hearing
 pub mod Many
 pub mod Moves
-pub mod Numbers
-pub mod Whole
+pub pub mod Whole

@@ -1,19 +1,13 @@
 -- The lines of a script: what the system did, one happening a line, in the words of a trace.
-use Rattle.std.specs.Prelude.{ℕ, ◌==◌, ◌&&◌, ◌^◌, if◌then◌else◌, nat_lt, List, [], ◌∷◌, codes, decimal, Option, Some, None}
+use Rattle.std.specs.Prelude.{ℕ, ◌==◌, ◌&&◌, ◌^◌, if◌then◌else◌, List, [], ◌∷◌, codes, Option, Some, None}
 use Rattle.std.specs.Option.{option_map}
 use Rattle.std.specs.List.{slice_split}
-use Rattle.std.specs.Str.Parse.{digits_value, without_leading_plus}
+use Rattle.text_lines.specs.Numbers.{number_read}
 use Rattle.init_words.specs.declared.children.Status.{Status}
 use Rattle.init_words.specs.declared.children.Status.TheVariants.{Exit, Killed}
 use Rattle.init_words.specs.Ids.{id_read, same_id}
 use Rattle.init_trace.specs.declared.happenings.Happening.TheVariants.{Birth, NoBirth, Death, Reaped, Still, NoLook, Told, Clock, Nudge}
 use Rattle.init_trace.specs.Event.{Event}
-
--- the number below the limit of which the text is the decimal form: no sign and no leading zero
-abbrev pub number_read : ℕ → List ℕ → Option ℕ
-number_read limit text =
-    let number = digits_value 10 (without_leading_plus text) in
-    if nat_lt number limit && same_id (decimal number) text then Some number else None
 
 abbrev pub birth_read : Option (List ℕ) → Option ℕ → Option Event
 birth_read (Some id) (Some number) = Some (Birth id number)
@@ -38,9 +32,16 @@ pair_read word given =
 abbrev pub words_read : List (List ℕ) → Option Event
 words_read (word ∷ []) = if same_id word (codes "nudge") then Some Nudge else None
 words_read (word ∷ given ∷ []) = pair_read word given
-words_read (word ∷ id ∷ number ∷ []) = if same_id word (codes "birth") then birth_read (id_read id) (number_read (2 ^ 32) number) else None
-words_read (word ∷ id ∷ number ∷ how ∷ []) = if same_id word (codes "reaped") && same_id how (codes "killed") then reaped_read (id_read id) (number_read (2 ^ 32) number) (Some Killed) else None
-words_read (word ∷ id ∷ number ∷ how ∷ code ∷ []) = if same_id word (codes "reaped") && same_id how (codes "exit") then reaped_read (id_read id) (number_read (2 ^ 32) number) (option_map Exit (number_read 256 code)) else None
+words_read (word ∷ id ∷ number ∷ []) =
+    if same_id word (codes "birth") then birth_read (id_read id) (number_read (2 ^ 32) number) else None
+words_read (word ∷ id ∷ number ∷ how ∷ []) =
+    if same_id word (codes "reaped") && same_id how (codes "killed") then
+    reaped_read (id_read id) (number_read (2 ^ 32) number) (Some Killed)
+    else None
+words_read (word ∷ id ∷ number ∷ how ∷ code ∷ []) =
+    if same_id word (codes "reaped") && same_id how (codes "exit") then
+    reaped_read (id_read id) (number_read (2 ^ 32) number) (option_map Exit (number_read 256 code))
+    else None
 words_read _ = None
 
 -- the words of a line, set apart by single blanks

@@ -9,7 +9,7 @@ ghost use Rattle.std.specs.Prelude.{ℕ};
 ghost use Rattle.level_core.specs.Fit.{Fits};
 ghost use Rattle.supervisor.specs.Moments.{Moment, SomeMoment, Settles, Breaks, is_device, SomeRest, AtRest, MayBeHeard, LineDone, LineEnds, TableEnds, OpeningEnds};
 ghost use Rattle.init_words.specs.declared.levels.Level.{Level};
-ghost use Rattle.text_lines.specs.Lines.{lines_of};
+ghost use Rattle.inittab_text.specs.Lines.{lines_of};
 ghost use Rattle.inittab_text.specs.Reading.{table_of_text};
 ghost use Rattle.init_trace.specs.declared.happenings.Happening.TheVariants.{NewTable};
 ghost use Rattle.level_core.specs.Decide.{opening_goal};

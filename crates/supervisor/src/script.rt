@@ -1,39 +1,19 @@
 ghost use Rattle.std.specs.Prelude.{◌≡◌, ◌^◌, [], ◌∷◌, map, option_map, IfOk};
 ghost use Rattle.init_words.specs.Ids.{id_read, same_id};
 ghost use Rattle.init_words.specs.declared.children.Status.TheVariants.{Exit};
-ghost use Rattle.supervisor.specs.Script.{number_read, reaped_read, pair_read, words_read, words_in, line_read};
+ghost use Rattle.text_lines.specs.Numbers.{number_read};
+ghost use Rattle.supervisor.specs.Script.{reaped_read, pair_read, words_read, words_in, line_read};
 
 use init_trace::{Happening, HappeningIn};
 use init_words::{ChildNo, Id, Memory, Status};
-use itoa::Buffer;
 use std::alloc::{AllocError, Allocator};
+use text_lines::{read_below, read_number};
 
 /// The word is this one.
 fn is(word: &[u8], name: &[u8]) -> bool
     ensures { result ≡ same_id word.now name.now }
 {
     word == name
-}
-
-/// The number of which the text is the decimal form: no sign and no leading zero.
-fn read_number(text: &[u8]) -> Option<u64>
-    ensures { result ≡ number_read (2 ^ 64) text.now }
-{
-    let number = str::from_utf8(text).ok()?.parse::<u64>().ok()?;
-    let mut digits = Buffer::new();
-    if is(digits.format(number).as_bytes(), text) {
-        Some(number)
-    } else {
-        None
-    }
-}
-
-/// Such a number below the limit.
-fn read_below(text: &[u8], limit: u64) -> Option<u64>
-    ensures { result ≡ number_read limit text.now }
-{
-    let number = read_number(text)?;
-    if number < limit { Some(number) } else { None }
 }
 
 fn read_child(text: &[u8]) -> Option<ChildNo>

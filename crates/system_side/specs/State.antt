@@ -1,5 +1,5 @@
 -- What the system holds between two happenings.
-use Rattle.std.specs.Prelude.{ℕ, Bool, true, false, not, ◌&&◌, ◌==◌, if◌then◌else◌, nat_eq, List, [], Option, Some, None}
+use Rattle.std.specs.Prelude.{◌≡◌, ℕ, Bool, true, false, not, ◌&&◌, ◌==◌, if◌then◌else◌, nat_eq, List, [], Option, Some, None}
 use Rattle.std.specs.Map.{lookup}
 use Rattle.std.specs.Option.{option_map, option_map_or}
 use Rattle.init_words.specs.declared.orders.Ask.{Ask}
@@ -60,3 +60,15 @@ with_death number n before = if number == n then option_map died before else bef
 -- no child at the number n, and at another what was there
 abbrev pub without_child : ℕ → ℕ → Option Process → Option Process
 without_child number n before = if number == n then None else before
+
+-- the orders after a change, at each id by those before it
+abbrev pub OrdersBy : State → State → (List ℕ → Option Ask → Option Ask) → Type 0
+OrdersBy old new after = (id : List ℕ) → order_in id new ≡ after id (order_in id old)
+
+-- the answers under way after a change, at each id
+abbrev pub AnswersBy : State → State → (List ℕ → Option Answer → Option Answer) → Type 0
+AnswersBy old new after = (id : List ℕ) → answer_in id new ≡ after id (answer_in id old)
+
+-- the children after a change, at each number
+abbrev pub ChildrenBy : State → State → (ℕ → Option Process → Option Process) → Type 0
+ChildrenBy old new after = (number : ℕ) → child_in number new ≡ after number (child_in number old)

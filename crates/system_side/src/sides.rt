@@ -28,7 +28,11 @@ impl<A: Allocator> Model for SystemSide<A> {
 
     ghost Value = { State };
 
-    ghost view = { λ side. record { orders = side.orders.entries; answers = side.answers.entries; children = side.children.entries } };
+    ghost view = { λ side. record {
+      orders = side.orders.entries;
+      answers = side.answers.entries;
+      children = side.children.entries;
+    } };
 }
 
 impl<A: Allocator + Copy> SystemSide<A> {
@@ -42,10 +46,10 @@ impl<A: Allocator + Copy> SystemSide<A> {
     pub fn new(alloc: A) -> SystemSide<A>
         ensures { (table : List Entry) → Follows result (NewTable table ∷ []) }
     {
-        SystemSide::empty(alloc)
+        SystemSide::new_by_state(alloc)
     }
 
-    fn empty(alloc: A) -> SystemSide<A>
+    fn new_by_state(alloc: A) -> SystemSide<A>
         ensures { result ≡ empty }
     {
         SystemSide {
@@ -64,21 +68,22 @@ impl<A: Allocator> SystemSide<A> {
     ghost use Rattle.init_trace.specs.Sound.{may_come, is_sound};
     ghost use Rattle.init_trace.specs.Wanted.{is_order};
     ghost use Rattle.init_words.specs.declared.orders.Answer.TheVariants.{Born};
-    ghost use Rattle.system_side.specs.State.{order_in, answer_in, child_in, is_living_in, is_dead_in, without, with, with_child, with_death};
+    ghost use Rattle.system_side.specs.State.{order_in, answer_in, OrdersBy, AnswersBy, ChildrenBy, is_living_in, is_dead_in, without, with, with_child, with_death};
     ghost use Rattle.system_side.specs.Steps.{is_script, needs_memory, allowed, order_after, answer_after, child_after};
     ghost use Rattle.system_side.specs.Follows.{Follows};
 
     /// The happening may come next, and is one of the system or of the edge: an act on an order, a death, a telling, a
     /// nudge or a reading of the clock. A step of init is never allowed.
     pub fn allows<B: Allocator>(&self, happening: &HappeningIn<B>) -> bool
-        ensures may_come { (goal : Goal) (past : List Event) → IsTrue (is_sound goal past) → Follows self.now past
+        ensures may_come { (goal : Goal) (past : List Event)
+            → IsTrue (is_sound goal past) → Follows self.now past
             → result ≡ (is_script happening.now && may_come goal happening.now past) }
         ensures other { is_script happening.now ≡ false → result ≡ false }
     {
-        self.allows_by(happening)
+        self.allows_by_state(happening)
     }
 
-    fn allows_by<B: Allocator>(&self, happening: &HappeningIn<B>) -> bool
+    fn allows_by_state<B: Allocator>(&self, happening: &HappeningIn<B>) -> bool
         ensures { result ≡ allowed self.now happening.now }
     {
         match happening {
@@ -132,10 +137,10 @@ impl<A: Allocator> SystemSide<A> {
     pub fn answer(&self, id: &Id) -> Option<Answer>
         ensures { (past : List Event) → Follows self.now past → result ≡ answered_of id.now past }
     {
-        self.answer_held(id)
+        self.answer_by_state(id)
     }
 
-    fn answer_held(&self, id: &Id) -> Option<Answer>
+    fn answer_by_state(&self, id: &Id) -> Option<Answer>
         ensures { result ≡ answer_in id.now self.now }
     {
         self.answers.get(id).copied()
@@ -144,18 +149,19 @@ impl<A: Allocator> SystemSide<A> {
     /// Takes a happening in, whichever it is: the state fits the longer trace. Without the memory for it the state is
     /// as it was; only an order and an act may want memory.
     pub fn take<B: Allocator>(&mut self, happening: &HappeningIn<B>) -> Result<(), Memory>
-        ensures ok { OnOk result ((goal : Goal) (past : List Event) → IsTrue (is_sound goal (happening.now ∷ past))
-            → Follows self.old past → Follows self.new (happening.now ∷ past)) }
+        ensures ok { OnOk result ((goal : Goal) (past : List Event)
+            → IsTrue (is_sound goal (happening.now ∷ past)) → Follows self.old past
+            → Follows self.new (happening.now ∷ past)) }
         ensures err { OnErr result (self.new ≡ self.old) }
         ensures succeeds { needs_memory happening.now ≡ false → IsOk result }
     {
-        self.enter(happening)
+        self.take_by_state(happening)
     }
 
-    fn enter<B: Allocator>(&mut self, happening: &HappeningIn<B>) -> Result<(), Memory>
-        ensures orders { OnOk result ((id : List ℕ) → order_in id self.new ≡ order_after happening.now id (order_in id self.old)) }
-        ensures answers { OnOk result ((id : List ℕ) → answer_in id self.new ≡ answer_after happening.now id (answer_in id self.old)) }
-        ensures children { OnOk result ((number : ℕ) → child_in number self.new ≡ child_after happening.now number (child_in number self.old)) }
+    fn take_by_state<B: Allocator>(&mut self, happening: &HappeningIn<B>) -> Result<(), Memory>
+        ensures orders { OnOk result (OrdersBy self.old self.new (order_after happening.now)) }
+        ensures answers { OnOk result (AnswersBy self.old self.new (answer_after happening.now)) }
+        ensures children { OnOk result (ChildrenBy self.old self.new (child_after happening.now)) }
         ensures err { OnErr result (self.new ≡ self.old) }
         ensures succeeds { needs_memory happening.now ≡ false → IsOk result }
     {
@@ -165,20 +171,20 @@ impl<A: Allocator> SystemSide<A> {
                 Ok(())
             }
             Happening::Birth(id, number) => self.birth(*id, *number),
-            Happening::NoBirth(id) => self.act(*id, Answer::NotBorn),
+            Happening::NoBirth(id) => self.do_order(*id, Answer::NotBorn),
             Happening::Death(number) => {
                 self.death(*number);
                 Ok(())
             }
             Happening::Reaped(id, number, status) => {
-                self.act(*id, Answer::Ended(*status))?;
+                self.do_order(*id, Answer::Ended(*status))?;
                 self.children.swap_remove(&number.0);
                 Ok(())
             }
-            Happening::Still(id) => self.act(*id, Answer::Alive),
-            Happening::NoLook(id) => self.act(*id, Answer::NoLook),
-            Happening::Hit(id) => self.act(*id, Answer::Hit),
-            Happening::Miss(id) => self.act(*id, Answer::Miss),
+            Happening::Still(id) => self.do_order(*id, Answer::Alive),
+            Happening::NoLook(id) => self.do_order(*id, Answer::NoLook),
+            Happening::Hit(id) => self.do_order(*id, Answer::Hit),
+            Happening::Miss(id) => self.do_order(*id, Answer::Miss),
             Happening::Told(id) => {
                 self.tell(id);
                 Ok(())
@@ -188,9 +194,10 @@ impl<A: Allocator> SystemSide<A> {
     }
 
     /// The system acts on the id's order: the order is done, and its answer under way.
-    fn act(&mut self, id: Id, answer: Answer) -> Result<(), Memory>
-        ensures orders { OnOk result ((other : List ℕ) → order_in other self.new ≡ without other id (order_in other self.old)) }
-        ensures answers { OnOk result ((other : List ℕ) → answer_in other self.new ≡ with other id answer (answer_in other self.old)) }
+    fn do_order(&mut self, id: Id, answer: Answer) -> Result<(), Memory>
+        ensures orders { OnOk result (OrdersBy self.old self.new (λ other. without other id)) }
+        ensures answers { OnOk result (AnswersBy self.old self.new
+            (λ other. with other id answer)) }
         ensures children { self.new.children ≡ self.old.children }
         ensures err { OnErr result (self.new ≡ self.old) }
     {
@@ -201,9 +208,11 @@ impl<A: Allocator> SystemSide<A> {
 
     /// A child is born: there is room for its answer before it is put down.
     fn birth(&mut self, id: Id, number: ChildNo) -> Result<(), Memory>
-        ensures orders { OnOk result ((other : List ℕ) → order_in other self.new ≡ without other id (order_in other self.old)) }
-        ensures answers { OnOk result ((other : List ℕ) → answer_in other self.new ≡ with other id (Born number) (answer_in other self.old)) }
-        ensures children { OnOk result ((other : ℕ) → child_in other self.new ≡ with_child other number id (child_in other self.old)) }
+        ensures orders { OnOk result (OrdersBy self.old self.new (λ other. without other id)) }
+        ensures answers { OnOk result (AnswersBy self.old self.new
+            (λ other. with other id (Born number))) }
+        ensures children { OnOk result (ChildrenBy self.old self.new
+            (λ other. with_child other number id)) }
         ensures err { OnErr result (self.new ≡ self.old) }
     {
         self.answers.reserve(1)?;
@@ -220,7 +229,7 @@ impl<A: Allocator> SystemSide<A> {
     fn death(&mut self, number: ChildNo)
         ensures orders { self.new.orders ≡ self.old.orders }
         ensures answers { self.new.answers ≡ self.old.answers }
-        ensures children { (other : ℕ) → child_in other self.new ≡ with_death other number (child_in other self.old) }
+        ensures children { ChildrenBy self.old self.new (λ other. with_death other number) }
     {
         if let Some(child) = self.children.get_mut(&number.0) {
             child.is_dead = true;
@@ -229,8 +238,8 @@ impl<A: Allocator> SystemSide<A> {
 
     /// The id's order is done and told.
     fn tell(&mut self, id: &Id)
-        ensures orders { (other : List ℕ) → order_in other self.new ≡ without other id.now (order_in other self.old) }
-        ensures answers { (other : List ℕ) → answer_in other self.new ≡ without other id.now (answer_in other self.old) }
+        ensures orders { OrdersBy self.old self.new (λ other. without other id.now) }
+        ensures answers { AnswersBy self.old self.new (λ other. without other id.now) }
         ensures children { self.new.children ≡ self.old.children }
     {
         self.orders.swap_remove(id);

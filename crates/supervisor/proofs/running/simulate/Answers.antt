@@ -1,6 +1,6 @@
 use Rattle.std.proofs.Common.{rules, true, ◌≡◌, ◌∷◌, [], Err, ◌∙◌, ap, subst, IfErr, arith}
 use Rattle.init_trace.specs.declared.happenings.Happening.TheVariants.{NewTable}
-use Rattle.text_lines.specs.Lines.{lines_of}
+use Rattle.inittab_text.specs.Lines.{lines_of}
 use Rattle.inittab_text.specs.Reading.{table_of_text}
 use Rattle.level_core.specs.Decide.{opening_goal}
 use Rattle.supervisor.specs.declared.running.SimFault.TheVariants as fault

@@ -1,5 +1,5 @@
 use Rattle.std.proofs.Common.{◌+◌, ◌≤◌, length}
-use Rattle.text_lines.specs.Lines.{lines_of}
+use Rattle.inittab_text.specs.Lines.{lines_of}
 use Rattle.inittab_text.specs.Reading.{table_of_text}
 use Rattle.level_core.specs.Decide.{opening_goal}
 use Rattle.supervisor.specs.Moments.{SoFar}

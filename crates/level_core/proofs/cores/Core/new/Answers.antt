@@ -7,5 +7,5 @@ use Rattle.level_core.proofs.Stepping.{fits_opening}
 use Rattle.level_core.proofs.cores.Core.new.Goals as goal
 
 pub returns-clause-fits : goal.returns-clause-fits
-returns-clause-fits g c = IfOk-weaker c.opened.result (λ core. core ≡ opening_state c.args.table (opening_goal c.args.level c.args.table)) (λ core. Fits core (opening_goal c.args.level c.args.table) (NewTable c.args.table ∷ []))
-    (λ core is. rw is (fits_opening c.args.table (opening_goal c.args.level c.args.table))) c.opened.ensures
+returns-clause-fits g c = IfOk-weaker c.new_by_state.result (λ core. core ≡ opening_state c.args.table (opening_goal c.args.level c.args.table)) (λ core. Fits core (opening_goal c.args.level c.args.table) (NewTable c.args.table ∷ []))
+    (λ core is. rw is (fits_opening c.args.table (opening_goal c.args.level c.args.table))) c.new_by_state.ensures

@@ -1,6 +1,6 @@
 use Rattle.level_core.specs.Slots.{after_order, after_hold}
 use Rattle.level_core.proofs.Timely.{timely_left, timely_entered, timely_changed, timely_order}
-use Rattle.level_core.proofs.cores.Core.take.Goals as goal
+use Rattle.level_core.proofs.cores.Core.apply.Goals as goal
 
 pub invariant_of-self : goal.invariant_of-self
 invariant_of-self g c = (c.self.invariant.0, timely_left c.self.inside.time c.self.inside.slots.len c.deref_mut.result.now c.stage_entered.new.slots c.self.inside.slots.items c.self.inside.slots.ok.0 c.deref_mut.ensures.value c.stage_entered.auto.slots (rw (c.stage_entered.ensures, c.deref_mut.ensures.value) (timely_entered c.self.inside.time c.self.inside.slots.items c.self.invariant.1)))
