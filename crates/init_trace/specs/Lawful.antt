@@ -51,7 +51,7 @@ abbrev pub may_kill : List ℕ → List Event → Bool
 may_kill id past =
     list_any
     (λ child. is_of id child && is_excluded past child
-      && list_any (is_ripe (grace_of past) (time_of past)) (spell_hits child past))
+    && list_any (is_ripe (grace_of past) (time_of past)) (spell_hits child past))
     (unreaped past)
 
 -- the least law that the happening breaks

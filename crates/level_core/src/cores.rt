@@ -2,8 +2,7 @@ ghost use Rattle.std.specs.Prelude.{◌≡◌, IfOk, OnOk, OnErr};
 
 use crate::deciding::{look_among, settle_step, stage_step, start_among};
 use crate::slots::{
-    Slot, answer_told, hold_given, opening_slots, order_given, order_of, round_begun,
-    stage_entered,
+    Slot, answer_told, hold_given, opening_slots, order_given, order_of, round_begun, stage_entered,
 };
 use init_trace::{Goal, Step};
 use init_words::{Answer, GRACE, Id, Level, Memory, Refusal, Stage};
