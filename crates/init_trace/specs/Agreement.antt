@@ -5,7 +5,7 @@ use Rattle.std.specs.List.{list_any}
 use Rattle.init_words.specs.Ids.{same_id}
 use Rattle.init_trace.specs.declared.happenings.Happening.TheVariants.{Birth, Reaped, Told}
 use Rattle.init_trace.specs.Event.{Event}
-use Rattle.init_trace.specs.Past.{is_child, unreaped, known}
+use Rattle.init_trace.specs.Past.{is_child, unreaped_children, known_children}
 
 -- a birth of this id and number is not told
 abbrev pub has_untold_birth : List ℕ → ℕ → List Event → Bool
@@ -22,10 +22,10 @@ has_untold_end id n (Told i ∷ past) = not (same_id id i) && has_untold_end id 
 has_untold_end id n (_ ∷ past) = has_untold_end id n past
 
 abbrev pub is_unreaped : List ℕ → ℕ → List Event → Bool
-is_unreaped id n past = list_any (is_child id n) (unreaped past)
+is_unreaped id n past = list_any (is_child id n) (unreaped_children past)
 
 abbrev pub is_known : List ℕ → ℕ → List Event → Bool
-is_known id n past = list_any (is_child id n) (known past)
+is_known id n past = list_any (is_child id n) (known_children past)
 
 -- the records of the known children, corrected by the answers under way, have this pair of id and number
 abbrev pub is_accounted : List ℕ → ℕ → List Event → Bool

@@ -5,7 +5,7 @@ use Rattle.init_words.specs.declared.orders.Answer.TheVariants as answer
 use Rattle.init_words.specs.Ids.{same_id}
 use Rattle.init_trace.specs.declared.happenings.Happening.TheVariants.{Birth, NoBirth, Reaped, Still, NoLook, Hit, Miss, Told}
 use Rattle.init_trace.specs.Event.{Event}
-use Rattle.init_trace.specs.Past.{Child, born}
+use Rattle.init_trace.specs.Past.{Child, newborn}
 
 -- the answer under way to the id's order: its last act, if it was not told
 abbrev pub answered_of : List ℕ → List Event → Option Answer
@@ -22,6 +22,6 @@ answered_of id (_ ∷ past) = answered_of id past
 
 -- the child that init knows of after an answer, by the one before: a birth brings one, an end takes it away
 abbrev pub child_after : List ℕ → List Event → Answer → Option Child → Option Child
-child_after id past (answer.Born n) before = Some (born id n past)
+child_after id past (answer.Born n) before = Some (newborn id n past)
 child_after id past (answer.Ended status) before = None
 child_after id past _ before = before

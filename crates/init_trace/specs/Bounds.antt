@@ -6,7 +6,7 @@ use Rattle.init_words.specs.declared.orders.Ask.TheVariants.{Start, Kill}
 use Rattle.init_words.specs.Ids.{same_id}
 use Rattle.init_trace.specs.declared.happenings.Happening.TheVariants.{Asked, Hit}
 use Rattle.init_trace.specs.Event.{Event}
-use Rattle.init_trace.specs.Past.{time_of, Child, is_of, is_child, unreaped, known}
+use Rattle.init_trace.specs.Past.{time_of, Child, is_of, is_child, unreaped_children, known_children}
 use Rattle.init_trace.specs.Wanted.{is_order, is_excluded}
 use Rattle.init_trace.specs.Spells.{Signal, spell_hits}
 use Rattle.init_trace.specs.Timing.{start_times, hold_times}
@@ -27,14 +27,14 @@ keeps_pace _ past = true
 -- the children of the id that were known when its last order was given
 abbrev pub targets : List ℕ → List Event → List Child
 targets id [] = []
-targets id (Asked i ask ∷ past) = if same_id id i then filter (is_of id) (known past) else targets id past
+targets id (Asked i ask ∷ past) = if same_id id i then filter (is_of id) (known_children past) else targets id past
 targets id (_ ∷ past) = targets id past
 
 -- 2: at a Hit the child that was known at its order is still unreaped and excluded
 abbrev pub hits_its_own : Event → List Event → Bool
 hits_its_own (Hit id) past =
     not (length (targets id past) == 0)
-    && list_all (λ child. is_excluded past child && list_any (is_child id child.number) (unreaped past))
+    && list_all (λ child. is_excluded past child && list_any (is_child id child.number) (unreaped_children past))
     (targets id past)
 hits_its_own _ past = true
 
@@ -43,4 +43,4 @@ abbrev pub spell_kills : Child → List Event → List Signal
 spell_kills child past = filter (λ (signal : Signal). is_order Kill signal.order) (spell_hits child past)
 
 abbrev pub kills_once : List Event → Bool
-kills_once past = list_all (λ child. nat_le (length (spell_kills child past)) 1) (unreaped past)
+kills_once past = list_all (λ child. nat_le (length (spell_kills child past)) 1) (unreaped_children past)

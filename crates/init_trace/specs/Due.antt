@@ -22,7 +22,7 @@ use Rattle.init_trace.specs.declared.steps.Step.{Step}
 use Rattle.init_trace.specs.declared.steps.Step.TheVariants.{Enter, Call, Power, Reread, Order, Hold, Settle, Reexec, Idle}
 use Rattle.init_trace.specs.declared.steps.Goal.{Goal}
 use Rattle.init_trace.specs.Event.{Event}
-use Rattle.init_trace.specs.Past.{table_of, stage_of, Child, is_of, has_child, kept, known, open_of, is_quiet, is_idle}
+use Rattle.init_trace.specs.Past.{table_of, stage_of, Child, is_of, has_child, open_of, is_quiet, is_idle, kept_children, known_children}
 use Rattle.init_trace.specs.Wanted.{is_wanted, is_owed, is_asked, is_excluded}
 use Rattle.init_trace.specs.Spells.{stop_due}
 use Rattle.init_trace.specs.Timing.{is_held, is_full}
@@ -38,7 +38,7 @@ steps_if false steps = []
 
 -- no kept child is excluded
 abbrev pub none_excluded : List Event → Bool
-none_excluded so_far = not (list_any (is_excluded so_far) (kept so_far))
+none_excluded so_far = not (list_any (is_excluded so_far) (kept_children so_far))
 
 -- 1: before the first stage, Sysinit
 abbrev pub due_first : Goal → Option Stage → List Event → List Step
@@ -85,7 +85,7 @@ left_ids (_ ∷ so_far) = left_ids so_far
 
 -- record order: the table's ids, then those that left it and still have a child
 abbrev pub record_ids : List Event → List (List ℕ)
-record_ids so_far = ids_of (table_of so_far) ++ filter (λ id. has_child id (known so_far)) (left_ids so_far)
+record_ids so_far = ids_of (table_of so_far) ++ filter (λ id. has_child id (known_children so_far)) (left_ids so_far)
 
 -- 6: in record order, the signal that is due to a known child with no open order of its id
 abbrev pub stop_step : List ℕ → Option Ask → List Step
@@ -100,7 +100,7 @@ stops_of id (child ∷ children) so_far =
 abbrev pub stops_among : List (List ℕ) → List Event → List Step
 stops_among [] so_far = []
 stops_among (id ∷ ids) so_far =
-    steps_if (is_none (open_of id so_far)) (stops_of id (known so_far) so_far) ++ stops_among ids so_far
+    steps_if (is_none (open_of id so_far)) (stops_of id (known_children so_far) so_far) ++ stops_among ids so_far
 
 abbrev pub due_stops : List Event → List Step
 due_stops so_far = steps_if (not (wish_stands so_far)) (stops_among (record_ids so_far) so_far)
@@ -108,7 +108,7 @@ due_stops so_far = steps_if (not (wish_stands so_far)) (stops_among (record_ids 
 -- 7: in table order, up to the first entry that is owed, each wanted entry with no kept child and no open order.
 -- A respawning one is passed by while it is held, and held where its window is full.
 abbrev pub can_start : Entry → List Event → Bool
-can_start e so_far = is_wanted e so_far && not (has_child e.id (kept so_far)) && is_none (open_of e.id so_far)
+can_start e so_far = is_wanted e so_far && not (has_child e.id (kept_children so_far)) && is_none (open_of e.id so_far)
 
 abbrev pub start_steps : Entry → List Event → List Step
 start_steps e so_far =
@@ -128,7 +128,8 @@ due_starts so_far =
 -- 8: Sysinit and Boot are over when no entry is wanted and no waited one has a child: then Boot, or the goal's level
 abbrev pub is_over : List Event → Bool
 is_over so_far = not (wish_stands so_far) && is_quiet so_far && none_excluded so_far
-    && list_all (λ e. not (is_wanted e so_far) && not (waited_of e && has_child e.id (kept so_far))) (table_of so_far)
+    && list_all (λ e. not (is_wanted e so_far) && not (waited_of e && has_child e.id (kept_children so_far)))
+    (table_of so_far)
 
 abbrev pub next_stage : Goal → Option Stage → List Step
 next_stage goal (Some Sysinit) = Enter (if same_level goal.level S then Run S else Boot) goal.grace ∷ []
@@ -161,7 +162,7 @@ is_settled level there so_far =
 
 -- 9: with no order open, a level that is settled and was not announced
 abbrev pub settle_step : Option Stage → List Event → List Step
-settle_step (Some (Run level)) so_far = step_if (is_settled level (known so_far) so_far) (Settle level)
+settle_step (Some (Run level)) so_far = step_if (is_settled level (known_children so_far) so_far) (Settle level)
 settle_step _ so_far = []
 
 abbrev pub due_settle : List Event → List Step
@@ -174,11 +175,11 @@ abbrev pub wants_look : List ℕ → List Event → Bool
 wants_look id [] = false
 wants_look id (past.Birth i n ∷ so_far) = not (same_id id i) && wants_look id so_far
 wants_look id (past.Asked i Look ∷ so_far) = not (same_id id i) && wants_look id so_far
-wants_look id (past.Nudge ∷ so_far) = has_child id (known so_far)
+wants_look id (past.Nudge ∷ so_far) = has_child id (known_children so_far)
 wants_look id (_ ∷ so_far) = wants_look id so_far
 
 abbrev pub can_look : List ℕ → List Event → Bool
-can_look id so_far = has_child id (known so_far) && is_none (open_of id so_far) && wants_look id so_far
+can_look id so_far = has_child id (known_children so_far) && is_none (open_of id so_far) && wants_look id so_far
 
 abbrev pub looks_among : List (List ℕ) → List Event → List Step
 looks_among [] so_far = []

@@ -7,7 +7,7 @@ use Rattle.init_words.specs.declared.orders.Ask.TheVariants.{Start, Term, Kill}
 use Rattle.inittab_text.specs.Tables.{entry_of, act_of}
 use Rattle.init_trace.specs.declared.happenings.Happening.TheVariants.{Asked, Hold, Settle, Birth}
 use Rattle.init_trace.specs.Event.{Event}
-use Rattle.init_trace.specs.Past.{table_of, grace_of, time_of, is_of, has_child, unreaped}
+use Rattle.init_trace.specs.Past.{table_of, grace_of, time_of, is_of, has_child, unreaped_children}
 use Rattle.init_trace.specs.Wanted.{starts_now, is_owed_before, is_excluded}
 use Rattle.init_trace.specs.Spells.{is_ripe, spell_hits}
 use Rattle.init_trace.specs.Timing.{is_held, is_full}
@@ -16,7 +16,7 @@ use Rattle.init_trace.specs.Due.{is_settled}
 
 -- 1: no unreaped child has the id
 abbrev pub is_alone : List ℕ → List Event → Bool
-is_alone id past = not (has_child id (unreaped past))
+is_alone id past = not (has_child id (unreaped_children past))
 
 -- 2: the id has an entry, which starts in the stage
 abbrev pub is_placed : List ℕ → List Event → Bool
@@ -28,7 +28,7 @@ is_in_turn id past = not (is_owed_before id past)
 
 -- 4: no unreaped child is excluded
 abbrev pub are_spared : List Event → Bool
-are_spared past = not (list_any (is_excluded past) (unreaped past))
+are_spared past = not (list_any (is_excluded past) (unreaped_children past))
 
 -- 5: at a Settle the level is settled, by the unreaped children (is_settled)
 
@@ -45,21 +45,21 @@ is_due_hold id past = is_limited_id id past && not (is_held id past) && is_full 
 
 -- 7: a TERM goes to an excluded child, a KILL to one to which a TERM was sent in its spell at least the grace ago
 abbrev pub may_term : List ℕ → List Event → Bool
-may_term id past = list_any (λ child. is_of id child && is_excluded past child) (unreaped past)
+may_term id past = list_any (λ child. is_of id child && is_excluded past child) (unreaped_children past)
 
 abbrev pub may_kill : List ℕ → List Event → Bool
 may_kill id past =
     list_any
     (λ child. is_of id child && is_excluded past child
     && list_any (is_ripe (grace_of past) (time_of past)) (spell_hits child past))
-    (unreaped past)
+    (unreaped_children past)
 
 -- the least law that the happening breaks
 abbrev pub broken : Event → List Event → Option ℕ
 broken (Birth id number) past =
     if not (is_alone id past) then Some 1 else if not (is_placed id past) then Some 2
     else if not (is_in_turn id past) then Some 3 else if not (are_spared past) then Some 4 else None
-broken (Settle level) past = if not (is_settled level (unreaped past) past) then Some 5 else None
+broken (Settle level) past = if not (is_settled level (unreaped_children past) past) then Some 5 else None
 broken (Asked id Start) past = if not (is_free id past) then Some 6 else None
 broken (Hold id) past = if not (is_due_hold id past) then Some 6 else None
 broken (Asked id Term) past = if not (may_term id past) then Some 7 else None

@@ -57,28 +57,31 @@ abbrev pub has_child : List ℕ → List Child → Bool
 has_child id children = list_any (is_of id) children
 
 -- the child that a birth makes
-abbrev pub born : List ℕ → ℕ → List Event → Child
-born id number past = record { id = id; number = number; act = act_of id (table_of past) }
+abbrev pub newborn : List ℕ → ℕ → List Event → Child
+newborn id number past = record { id = id; number = number; act = act_of id (table_of past) }
 
 -- the unreaped children, the youngest first
-abbrev pub unreaped : List Event → List Child
-unreaped [] = []
-unreaped (Birth id number ∷ past) = born id number past ∷ unreaped past
-unreaped (Reaped id number status ∷ past) = filter (λ child. not (is_child id number child)) (unreaped past)
-unreaped (_ ∷ past) = unreaped past
+abbrev pub unreaped_children : List Event → List Child
+unreaped_children [] = []
+unreaped_children (Birth id number ∷ past) = newborn id number past ∷ unreaped_children past
+unreaped_children (Reaped id number status ∷ past) =
+    filter (λ child. not (is_child id number child)) (unreaped_children past)
+unreaped_children (_ ∷ past) = unreaped_children past
 
 -- the kept children: those whose reaping was not told. A birth puts its child in front, and so does a telling its id's.
-abbrev pub kept : List Event → List Child
-kept [] = []
-kept (Birth id number ∷ past) = born id number past ∷ kept past
-kept (Told id ∷ past) = filter (is_of id) (unreaped past) ++ filter (λ child. not (is_of id child)) (kept past)
-kept (_ ∷ past) = kept past
+abbrev pub kept_children : List Event → List Child
+kept_children [] = []
+kept_children (Birth id number ∷ past) = newborn id number past ∷ kept_children past
+kept_children (Told id ∷ past) =
+    filter (is_of id) (unreaped_children past) ++ filter (λ child. not (is_of id child)) (kept_children past)
+kept_children (_ ∷ past) = kept_children past
 
 -- the known children: those kept ones whose birth was told. A telling puts its id's child in front.
-abbrev pub known : List Event → List Child
-known [] = []
-known (Told id ∷ past) = filter (is_of id) (unreaped past) ++ filter (λ child. not (is_of id child)) (known past)
-known (_ ∷ past) = known past
+abbrev pub known_children : List Event → List Child
+known_children [] = []
+known_children (Told id ∷ past) =
+    filter (is_of id) (unreaped_children past) ++ filter (λ child. not (is_of id child)) (known_children past)
+known_children (_ ∷ past) = known_children past
 
 -- the child of this id and number died since it was born
 abbrev pub is_dead : List ℕ → ℕ → List Event → Bool
@@ -90,7 +93,7 @@ is_dead id number (_ ∷ past) = is_dead id number past
 -- a living child has the number
 abbrev pub is_living : ℕ → List Event → Bool
 is_living number past =
-    list_any (λ child. has_number number child && not (is_dead child.id number past)) (unreaped past)
+    list_any (λ child. has_number number child && not (is_dead child.id number past)) (unreaped_children past)
 
 -- the open order of an id: its last one, if nothing was told about the id since
 abbrev pub open_of : List ℕ → List Event → Option Ask

@@ -7,7 +7,7 @@ use Rattle.init_trace.specs.declared.happenings.Happening.TheVariants.{NewTable,
 use Rattle.init_trace.specs.declared.steps.Step.TheVariants as step
 use Rattle.init_trace.specs.declared.steps.Goal.{Goal}
 use Rattle.init_trace.specs.Event.{Event}
-use Rattle.init_trace.specs.Past.{unreaped, is_child, has_number, is_dead, is_living, undone_of, is_untold, is_quiet}
+use Rattle.init_trace.specs.Past.{is_child, has_number, is_dead, is_living, undone_of, is_untold, is_quiet, unreaped_children}
 use Rattle.init_trace.specs.Wanted.{is_order}
 use Rattle.init_trace.specs.Due.{is_due}
 
@@ -23,11 +23,12 @@ may_come goal (Asked id ask) past = is_due goal (step.Order id ask) past
 may_come goal (Hold id) past = is_due goal (step.Hold id) past
 may_come goal (Settle level) past = is_due goal (step.Settle level) past
 may_come goal (Birth id number) past =
-    is_order Start (undone_of id past) && not (list_any (has_number number) (unreaped past))
+    is_order Start (undone_of id past) && not (list_any (has_number number) (unreaped_children past))
 may_come goal (NoBirth id) past = is_order Start (undone_of id past)
 may_come goal (Death number) past = is_living number past
 may_come goal (Reaped id number status) past =
-    is_order Look (undone_of id past) && list_any (is_child id number) (unreaped past) && is_dead id number past
+    is_order Look (undone_of id past) && list_any (is_child id number) (unreaped_children past)
+    && is_dead id number past
 may_come goal (Still id) past = is_order Look (undone_of id past)
 may_come goal (NoLook id) past = is_order Look (undone_of id past)
 may_come goal (Hit id) past = is_order Term (undone_of id past) || is_order Kill (undone_of id past)

@@ -15,7 +15,7 @@ use Rattle.init_words.specs.Entries.{starts_of, lives_of, waited_of}
 use Rattle.inittab_text.specs.Tables.{has_id, entry_of, act_of}
 use Rattle.init_trace.specs.declared.happenings.Happening.TheVariants.{NewTable, Enter, Call, Power, Asked}
 use Rattle.init_trace.specs.Event.{Event}
-use Rattle.init_trace.specs.Past.{table_of, stage_of, Child, has_child, kept, open_of}
+use Rattle.init_trace.specs.Past.{table_of, stage_of, Child, has_child, open_of, kept_children}
 
 -- an entry starts in a stage, where there is one
 abbrev pub starts_in : Entry → Option Stage → Bool
@@ -62,7 +62,7 @@ is_called e (_ ∷ past) = is_called e past
 
 -- nothing of the id runs: it has no kept child and no open Start
 abbrev pub nothing_runs : List ℕ → List Event → Bool
-nothing_runs id past = not (has_child id (kept past)) && not (is_order Start (open_of id past))
+nothing_runs id past = not (has_child id (kept_children past)) && not (is_order Start (open_of id past))
 
 -- wanted: it starts in the stage, and its action asks for it
 abbrev pub is_wanted : Entry → List Event → Bool
@@ -72,7 +72,7 @@ is_wanted e past =
 -- owed: init waits for it, and it has a kept child or an open Start or is wanted
 abbrev pub is_owed : Entry → List Event → Bool
 is_owed e past =
-    waited_of e && (has_child e.id (kept past) || is_order Start (open_of e.id past) || is_wanted e past)
+    waited_of e && (has_child e.id (kept_children past) || is_order Start (open_of e.id past) || is_wanted e past)
 
 -- the entries before the id's
 abbrev pub entries_before : List ℕ → List Entry → List Entry

@@ -22,7 +22,7 @@ use Rattle.init_trace.specs.declared.steps.Step.{Step}
 use Rattle.init_trace.specs.declared.steps.Step.TheVariants.{Enter, Order, Settle}
 use Rattle.init_trace.specs.declared.steps.Goal.{Goal}
 use Rattle.init_trace.specs.Event.{Event}
-use Rattle.init_trace.specs.Past.{table_of, stage_of, time_of, Child, is_of, has_child, kept, known, open_of, is_quiet, is_idle}
+use Rattle.init_trace.specs.Past.{table_of, stage_of, time_of, Child, is_of, has_child, open_of, is_quiet, is_idle, kept_children, known_children}
 use Rattle.init_trace.specs.Wanted.{is_wanted, is_asked, is_order, is_excluded}
 use Rattle.init_trace.specs.Timing.{is_held, start_times, hold_times}
 use Rattle.init_trace.specs.Wishes.{is_level, in_run, goal_of, wish_stands}
@@ -70,9 +70,9 @@ stops_none past id (child ∷ children) none = at (is_excluded past child) refl 
     at true is h rest = absurd (false≢true (sym h))
     at false is h rest = rw is (empty (is_of id child) (stops_of id children past) (rest h))
 
-no_stops : (past : List Event) (ids : List (List ℕ)) → list_any (is_excluded past) (known past) ≡ false → stops_among ids past ≡ []
+no_stops : (past : List Event) (ids : List (List ℕ)) → list_any (is_excluded past) (known_children past) ≡ false → stops_among ids past ≡ []
 no_stops past [] none = refl
-no_stops past (id ∷ ids) none = rw (stops_none past id (known past) none, no_stops past ids none) (empty (is_none (open_of id past)))
+no_stops past (id ∷ ids) none = rw (stops_none past id (known_children past) none, no_stops past ids none) (empty (is_none (open_of id past)))
   where
     empty : (b : Bool) → (steps_if b [] ++ []) ≡ []
     empty true = refl
@@ -118,7 +118,7 @@ module _ (past : List Event) (tame : Tame past) where
 
   looks_same : (es : List Entry) → head (looks_among (ids_of es) past) ≡ look_among (map (record_of past) es)
   looks_same [] = refl
-  looks_same (e ∷ es) = rw (head_append (step_if (can_look e.id past) (Order e.id Look)) (looks_among (ids_of es) past), head_step_if (can_look e.id past) (Order e.id Look), child_some e.id past) (at (has_child e.id (known past)) (is_none (open_of e.id past)) (wants_look e.id past) (looks_same es))
+  looks_same (e ∷ es) = rw (head_append (step_if (can_look e.id past) (Order e.id Look)) (looks_among (ids_of es) past), head_step_if (can_look e.id past) (Order e.id Look), child_some e.id past) (at (has_child e.id (known_children past)) (is_none (open_of e.id past)) (wants_look e.id past) (looks_same es))
     where
       at : (c n w : Bool) → head (looks_among (ids_of es) past) ≡ look_among (map (record_of past) es)
           → or_else (cond (c && n && w) (Some (Order e.id Look)) None) (head (looks_among (ids_of es) past)) ≡ cond (c && n && (c && w)) (Some (Order e.id Look)) (look_among (map (record_of past) es))
@@ -128,12 +128,12 @@ module _ (past : List Event) (tame : Tame past) where
       at false n w h = h
 
   module _ (stage : Stage) (in_stage : stage_of past ≡ Some stage) where
-    done_same : (e : Entry) → is_busy (open_of e.id past) ≡ false → (not (is_wanted e past) && not (waited_of e && has_child e.id (kept past))) ≡ is_done_slot stage e (record_of past e)
+    done_same : (e : Entry) → is_busy (open_of e.id past) ≡ false → (not (is_wanted e past) && not (waited_of e && has_child e.id (kept_children past))) ≡ is_done_slot stage e (record_of past e)
     done_same e calm = rw (wanted_same past tame stage in_stage e, tame.kept_known e.id (not_busy (open_of e.id past) calm), child_some e.id past) refl
 
     calm_done : list_any (λ (e : Entry). is_busy (open_of e.id past)) (table_of past) ≡ false
-        → list_all (λ e. not (is_wanted e past) && not (waited_of e && has_child e.id (kept past))) (table_of past) ≡ all_done stage (table_of past) (records_of past)
-    calm_done calm = all_same_but (λ (e : Entry). is_busy (open_of e.id past)) (λ e. not (is_wanted e past) && not (waited_of e && has_child e.id (kept past))) (λ e. is_done_slot stage e (record_of past e)) (table_of past) done_same calm
+        → list_all (λ e. not (is_wanted e past) && not (waited_of e && has_child e.id (kept_children past))) (table_of past) ≡ all_done stage (table_of past) (records_of past)
+    calm_done calm = all_same_but (λ (e : Entry). is_busy (open_of e.id past)) (λ e. not (is_wanted e past) && not (waited_of e && has_child e.id (kept_children past))) (λ e. is_done_slot stage e (record_of past e)) (table_of past) done_same calm
         ∙ sym (all_pairs (record_of past) (λ (p : Entry × Slot). is_done_slot stage p.0 p.1) (table_of past))
 
     over_by : (w b x l l' : Bool) → w ≡ false → x ≡ false → (b ≡ false → l ≡ l') → (not w && not b && not x && l) ≡ (not b && l')
@@ -142,26 +142,26 @@ module _ (past : List Event) (tame : Tame past) where
 
     over_same : is_over past ≡ core.is_over_among stage (table_of past) (records_of past)
     over_same = rw (tame.busy, list_any-map (record_of past) (λ (slot : Slot). is_busy slot.order) (table_of past))
-        (over_by (wish_stands past) (list_any (λ (e : Entry). is_busy (open_of e.id past)) (table_of past)) (list_any (is_excluded past) (kept past)) (list_all (λ e. not (is_wanted e past) && not (waited_of e && has_child e.id (kept past))) (table_of past)) (all_done stage (table_of past) (records_of past)) (no_wish past tame.one_table) tame.kept_spared calm_done)
+        (over_by (wish_stands past) (list_any (λ (e : Entry). is_busy (open_of e.id past)) (table_of past)) (list_any (is_excluded past) (kept_children past)) (list_all (λ e. not (is_wanted e past) && not (waited_of e && has_child e.id (kept_children past))) (table_of past)) (all_done stage (table_of past) (records_of past)) (no_wish past tame.one_table) tame.kept_spared calm_done)
 
     starts_same : head (due_starts past) ≡ core.start_among stage (time_of past) (table_of past) (records_of past)
-    starts_same = by (wish_stands past) (list_any (is_excluded past) (kept past)) (no_wish past tame.one_table) tame.kept_spared ∙ along_same past tame stage in_stage (table_of past)
+    starts_same = by (wish_stands past) (list_any (is_excluded past) (kept_children past)) (no_wish past tame.one_table) tame.kept_spared ∙ along_same past tame stage in_stage (table_of past)
       where
         by : (w x : Bool) → w ≡ false → x ≡ false → head (steps_if (not w && not x) (starts_among (table_of past) past)) ≡ head (starts_among (table_of past) past)
         by w x hw hx = rw (hw, hx) refl
 
   -- of a level's entry
   module _ (level : Level) (in_level : stage_of past ≡ Some (stage.Run level)) where
-    kept_up : (e : Entry) → (b : Bool) → is_limited e.act ≡ b → served_by e.act (is_asked e.id past) (has_child e.id (known past) || is_held e.id past) ≡ served_by e.act (is_asked e.id past) (is_some (known_child e.id past) || window.is_held (limiter_by b (start_times e.id past) (hold_times e.id past)).held (time_of past))
+    kept_up : (e : Entry) → (b : Bool) → is_limited e.act ≡ b → served_by e.act (is_asked e.id past) (has_child e.id (known_children past) || is_held e.id past) ≡ served_by e.act (is_asked e.id past) (is_some (known_child e.id past) || window.is_held (limiter_by b (start_times e.id past) (hold_times e.id past)).held (time_of past))
     kept_up e true is = rw (child_some e.id past, held_fits e.id past) refl
-    kept_up e false is = unlimited_served e.act (is_asked e.id past) (has_child e.id (known past) || is_held e.id past) (is_some (known_child e.id past) || window.is_held (limiter_by false (start_times e.id past) (hold_times e.id past)).held (time_of past)) is
+    kept_up e false is = unlimited_served e.act (is_asked e.id past) (has_child e.id (known_children past) || is_held e.id past) (is_some (known_child e.id past) || window.is_held (limiter_by false (start_times e.id past) (hold_times e.id past)).held (time_of past)) is
 
-    served_same : (e : Entry) → is_served level (known past) past e ≡ is_served_slot level (time_of past) e (record_of past e)
+    served_same : (e : Entry) → is_served level (known_children past) past e ≡ is_served_slot level (time_of past) e (record_of past e)
     served_same e = rw (owed_same past tame (stage.Run level) in_level e, kept_up e (is_limited e.act) refl) refl
 
-    settled_same : is_settled level (known past) past ≡ all_served level (time_of past) (table_of past) (records_of past)
-    settled_same = by (is_level level (stage_of past)) (list_any (is_excluded past) (known past)) (ap (is_level level) in_level ∙ same_level-self level) tame.known_spared
-        (all_same (is_served level (known past) past) (λ e. is_served_slot level (time_of past) e (record_of past e)) (table_of past) served_same
+    settled_same : is_settled level (known_children past) past ≡ all_served level (time_of past) (table_of past) (records_of past)
+    settled_same = by (is_level level (stage_of past)) (list_any (is_excluded past) (known_children past)) (ap (is_level level) in_level ∙ same_level-self level) tame.known_spared
+        (all_same (is_served level (known_children past) past) (λ e. is_served_slot level (time_of past) e (record_of past e)) (table_of past) served_same
         ∙ sym (all_pairs (record_of past) (λ (p : Entry × Slot). is_served_slot level (time_of past) p.0 p.1) (table_of past)))
       where
         by : (a x : Bool) → a ≡ true → x ≡ false → {l l' : Bool} → l ≡ l' → (a && not x && l) ≡ l'

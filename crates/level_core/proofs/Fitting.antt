@@ -13,7 +13,7 @@ use Rattle.respawn_limit.specs.Window as window
 use Rattle.respawn_limit.proofs.WindowLemmas.{drop_last_push}
 use Rattle.init_trace.specs.declared.happenings.Happening.TheVariants as event
 use Rattle.init_trace.specs.Event.{Event}
-use Rattle.init_trace.specs.Past.{table_of, time_of, has_child, known}
+use Rattle.init_trace.specs.Past.{table_of, time_of, has_child, known_children}
 use Rattle.init_trace.specs.Timing.{is_held, is_full, start_times, hold_times}
 use Rattle.init_words.specs.Actions.{is_limited}
 use Rattle.init_trace.specs.Due.{wants_look}
@@ -83,7 +83,7 @@ look_ordered id now past es = records_same (record_of past) (record_of (event.As
   where
     same : (e : Entry) → Unit {0} → changed id (after_order Look now) (record_of past e) ≡ record_of (event.Asked id Look ∷ past) e
     same e u = one_changed id (after_order Look now) (record_of past) (record_of (event.Asked id Look ∷ past)) e refl
-        (λ is. rw (is, and_false (has_child e.id (known past))) refl)
+        (λ is. rw (is, and_false (has_child e.id (known_children past))) refl)
         (λ is. rw is refl)
 
 -- a TERM was ordered
@@ -153,7 +153,7 @@ hold_made id past limited es own = records_same (record_of past) (record_of (eve
 -- a round began
 pub nudged : (past : List Event) (es : List Entry) → map after_nudge (map (record_of past) es) ≡ map (record_of (event.Nudge ∷ past)) es
 nudged past [] = refl
-nudged past (e ∷ es) = rw (nudged past es, child_some e.id past) (ap (λ b. record (record_of past e) { look = b } ∷ map (record_of (event.Nudge ∷ past)) es) (by (has_child e.id (known past)) (wants_look e.id past)))
+nudged past (e ∷ es) = rw (nudged past es, child_some e.id past) (ap (λ b. record (record_of past e) { look = b } ∷ map (record_of (event.Nudge ∷ past)) es) (by (has_child e.id (known_children past)) (wants_look e.id past)))
   where
     by : (c w : Bool) → (c || c && w) ≡ (c && c)
     by true w = refl

@@ -11,7 +11,7 @@ use Rattle.respawn_limit.specs.State.{LimiterState}
 use Rattle.respawn_limit.specs.Window as window
 use Rattle.init_trace.specs.declared.steps.Step.TheVariants.{Order, Hold}
 use Rattle.init_trace.specs.Event.{Event}
-use Rattle.init_trace.specs.Past.{table_of, stage_of, time_of, is_of, has_child, kept, known, open_of, open_orders}
+use Rattle.init_trace.specs.Past.{table_of, stage_of, time_of, is_of, has_child, open_of, open_orders, kept_children, known_children}
 use Rattle.init_trace.specs.Wanted.{is_wanted, is_owed, is_order, is_excluded}
 use Rattle.init_trace.specs.Timing.{is_held, is_full, start_times, hold_times}
 use Rattle.init_words.specs.Actions.{is_limited}
@@ -27,9 +27,9 @@ use Rattle.level_core.proofs.Windows.{full_fits, held_fits, allows_by}
 -- what the core's proof takes of a sound trace of one table
 pub record Tame (past : List Event) : Type 0 where
   pub one_table : is_of_one_table past ≡ true
-  pub kept_known : (id : List ℕ) → is_order Start (open_of id past) ≡ false → has_child id (kept past) ≡ has_child id (known past)
-  pub kept_spared : list_any (is_excluded past) (kept past) ≡ false
-  pub known_spared : list_any (is_excluded past) (known past) ≡ false
+  pub kept_known : (id : List ℕ) → is_order Start (open_of id past) ≡ false → has_child id (kept_children past) ≡ has_child id (known_children past)
+  pub kept_spared : list_any (is_excluded past) (kept_children past) ≡ false
+  pub known_spared : list_any (is_excluded past) (known_children past) ≡ false
   pub busy : list_any (λ order. not (same_ask Look order.ask)) (open_orders past) ≡ list_any (λ (e : Entry). is_busy (open_of e.id past)) (table_of past)
   pub asked : list_any (λ order. true) (open_orders past) ≡ list_any (λ (e : Entry). is_some (open_of e.id past)) (table_of past)
 
@@ -45,28 +45,28 @@ none_by_some : {X : Type 0} (o : Option X) → is_none o ≡ not (is_some o)
 none_by_some None = refl
 none_by_some (Some x) = refl
 
-pub child_some : (id : List ℕ) (past : List Event) → is_some (known_child id past) ≡ has_child id (known past)
-child_some id past = found_some living (is_of id) (known past)
+pub child_some : (id : List ℕ) (past : List Event) → is_some (known_child id past) ≡ has_child id (known_children past)
+child_some id past = found_some living (is_of id) (known_children past)
 
-pub child_none : (id : List ℕ) (past : List Event) → is_none (known_child id past) ≡ not (has_child id (known past))
+pub child_none : (id : List ℕ) (past : List Event) → is_none (known_child id past) ≡ not (has_child id (known_children past))
 child_none id past = none_by_some (known_child id past) ∙ ap not (child_some id past)
 
 pub both_false : (a b c : Bool) → c ≡ false → (a && c) ≡ (b && c)
 both_false a b c is = rw is (and_false a ∙ sym (and_false b))
 
 module _ (past : List Event) (tame : Tame past) where
-  idle_same : (id : List ℕ) → (not (has_child id (kept past)) && not (is_order Start (open_of id past))) ≡ (is_none (known_child id past) && not (is_order Start (open_of id past)))
+  idle_same : (id : List ℕ) → (not (has_child id (kept_children past)) && not (is_order Start (open_of id past))) ≡ (is_none (known_child id past) && not (is_order Start (open_of id past)))
   idle_same id = at (is_order Start (open_of id past)) refl
     where
-      at : (b : Bool) → is_order Start (open_of id past) ≡ b → (not (has_child id (kept past)) && not (is_order Start (open_of id past))) ≡ (is_none (known_child id past) && not (is_order Start (open_of id past)))
-      at true is = rw is (and_false (not (has_child id (kept past))) ∙ sym (and_false (is_none (known_child id past))))
+      at : (b : Bool) → is_order Start (open_of id past) ≡ b → (not (has_child id (kept_children past)) && not (is_order Start (open_of id past))) ≡ (is_none (known_child id past) && not (is_order Start (open_of id past)))
+      at true is = rw is (and_false (not (has_child id (kept_children past))) ∙ sym (and_false (is_none (known_child id past))))
       at false is = rw (child_none id past, tame.kept_known id is) refl
 
-  there_same : (id : List ℕ) → (has_child id (kept past) || is_order Start (open_of id past)) ≡ (is_some (known_child id past) || is_order Start (open_of id past))
+  there_same : (id : List ℕ) → (has_child id (kept_children past) || is_order Start (open_of id past)) ≡ (is_some (known_child id past) || is_order Start (open_of id past))
   there_same id = at (is_order Start (open_of id past)) refl
     where
-      at : (b : Bool) → is_order Start (open_of id past) ≡ b → (has_child id (kept past) || is_order Start (open_of id past)) ≡ (is_some (known_child id past) || is_order Start (open_of id past))
-      at true is = rw is (or_true (has_child id (kept past)) ∙ sym (or_true (is_some (known_child id past))))
+      at : (b : Bool) → is_order Start (open_of id past) ≡ b → (has_child id (kept_children past) || is_order Start (open_of id past)) ≡ (is_some (known_child id past) || is_order Start (open_of id past))
+      at true is = rw is (or_true (has_child id (kept_children past)) ∙ sym (or_true (is_some (known_child id past))))
       at false is = rw (child_some id past, tame.kept_known id is) refl
 
   module _ (stage : Stage) (in_stage : stage_of past ≡ Some stage) where
@@ -79,9 +79,9 @@ module _ (past : List Event) (tame : Tame past) where
     pub can_start_same : (e : Entry) → can_start e past ≡ can_start_slot stage e (record_of past e)
     can_start_same e = at (open_of e.id past) refl
       where
-        at : (o : Option Ask) → open_of e.id past ≡ o → (is_wanted e past && not (has_child e.id (kept past)) && is_none (open_of e.id past)) ≡ (is_wanted_slot stage e (record_of past e) && is_none (known_child e.id past) && is_none (open_of e.id past))
+        at : (o : Option Ask) → open_of e.id past ≡ o → (is_wanted e past && not (has_child e.id (kept_children past)) && is_none (open_of e.id past)) ≡ (is_wanted_slot stage e (record_of past e) && is_none (known_child e.id past) && is_none (open_of e.id past))
         at None is = rw (wanted_same e, tame.kept_known e.id (ap (is_order Start) is), child_none e.id past) refl
-        at (Some ask) is = both_false (is_wanted e past && not (has_child e.id (kept past))) (is_wanted_slot stage e (record_of past e) && is_none (known_child e.id past)) (is_none (open_of e.id past)) (ap is_none is)
+        at (Some ask) is = both_false (is_wanted e past && not (has_child e.id (kept_children past))) (is_wanted_slot stage e (record_of past e) && is_none (known_child e.id past)) (is_none (open_of e.id past)) (ap is_none is)
 
     -- the start or the hold of one entry
     limited_same : (e : Entry) → head (start_steps e past) ≡ limited_step (time_of past) e (record_of past e)

@@ -23,7 +23,7 @@ use Rattle.init_trace.specs.declared.steps.Step.{Step}
 use Rattle.init_trace.specs.declared.steps.Step.TheVariants.{Enter, Order, Hold, Settle}
 use Rattle.init_trace.specs.declared.steps.Goal.{Goal}
 use Rattle.init_trace.specs.Event.{Event}
-use Rattle.init_trace.specs.Past.{table_of, stage_of, is_quiet, Child, Open, is_of, has_child, kept, known, open_of, open_orders}
+use Rattle.init_trace.specs.Past.{table_of, stage_of, is_quiet, Child, Open, is_of, has_child, open_of, open_orders, kept_children, known_children}
 use Rattle.init_trace.specs.Wanted.{is_excluded, may_live, is_wanted, is_owed}
 use Rattle.init_trace.specs.Wishes.{goal_of, wish_stands}
 use Rattle.init_trace.specs.Due.{is_due, none_excluded, same_step, steps_if, step_if, due_starts, due_stage, due_settle, due_looks, is_over, next_stage, settle_step, starts_among, start_steps, can_start, looks_among, can_look, record_ids, is_settled}
@@ -80,12 +80,12 @@ some_by None = refl
 some_by (Some ask) = refl
 
 -- tame, as soon as no kept child is excluded
-pub tame_from : (goal : Goal) (past : List Event) → is_sound goal past ≡ true → is_of_one_table past ≡ true → list_any (is_excluded past) (kept past) ≡ false → Tame past
+pub tame_from : (goal : Goal) (past : List Event) → is_sound goal past ≡ true → is_of_one_table past ≡ true → list_any (is_excluded past) (kept_children past) ≡ false → Tame past
 tame_from goal past sound one spared = record {
   one_table = one;
-  kept_known = λ id idle. same_has id (kept past) (known past) (told.kept_known goal past sound id idle);
+  kept_known = λ id idle. same_has id (kept_children past) (known_children past) (told.kept_known goal past sound id idle);
   kept_spared = spared;
-  known_spared = falsely (list_any (is_excluded past) (known past)) (list_any (is_excluded past) (kept past)) (known_kept (is_excluded past) past) spared;
+  known_spared = falsely (list_any (is_excluded past) (known_children past)) (list_any (is_excluded past) (kept_children past)) (known_kept (is_excluded past) past) spared;
   busy = orders_same goal past sound one (λ ask. not (same_ask Look ask)) ∙ any_same _ _ (λ (e : Entry). busy_by (open_of e.id past)) (table_of past);
   asked = orders_same goal past sound one (λ ask. true) ∙ any_same _ _ (λ (e : Entry). some_by (open_of e.id past)) (table_of past);
 }
@@ -120,7 +120,7 @@ starts_enter next grace past (e ∷ es) = enters_both next grace (steps_if (can_
     rest false h = h
 
 settles_enter : (next : Stage) (grace : ℕ) (past : List Event) (o : Option Stage) → enters next grace (settle_step o past) ≡ false
-settles_enter next grace past (Some (stage.Run level)) = at (is_settled level (known past) past)
+settles_enter next grace past (Some (stage.Run level)) = at (is_settled level (known_children past) past)
   where
     at : (b : Bool) → enters next grace (step_if b (Settle level)) ≡ false
     at true = refl
@@ -214,11 +214,11 @@ living child now past is spared = at (entry_of child.id (table_of past)) child.a
     at (Some e) (Some a) found h = record { entry = e; found = found; lives = (and_parts (same_act e.act a) (lives_of e now) h).1 }
 
 -- at the end of Sysinit no child is kept
-none_kept : (goal : Goal) (next : Stage) (grace : ℕ) (past : List Event) → stage_of past ≡ Some stage.Sysinit → Comes goal next grace stage.Sysinit past → list_any (is_excluded past) (kept past) ≡ false → list_any (λ (child : Child). true) (kept past) ≡ false
-none_kept goal next grace past is comes spared = at (list_any (λ (child : Child). true) (kept past)) refl
+none_kept : (goal : Goal) (next : Stage) (grace : ℕ) (past : List Event) → stage_of past ≡ Some stage.Sysinit → Comes goal next grace stage.Sysinit past → list_any (is_excluded past) (kept_children past) ≡ false → list_any (λ (child : Child). true) (kept_children past) ≡ false
+none_kept goal next grace past is comes spared = at (list_any (λ (child : Child). true) (kept_children past)) refl
   where
-    done : list_all (λ (e : Entry). not (is_wanted e past) && not (waited_of e && has_child e.id (kept past))) (table_of past) ≡ true
-    done = last (not (wish_stands past)) (is_quiet past) (none_excluded past) (list_all (λ (e : Entry). not (is_wanted e past) && not (waited_of e && has_child e.id (kept past))) (table_of past)) comes.over
+    done : list_all (λ (e : Entry). not (is_wanted e past) && not (waited_of e && has_child e.id (kept_children past))) (table_of past) ≡ true
+    done = last (not (wish_stands past)) (is_quiet past) (none_excluded past) (list_all (λ (e : Entry). not (is_wanted e past) && not (waited_of e && has_child e.id (kept_children past))) (table_of past)) comes.over
       where
         last : (a b c d : Bool) → (a && b && c && d) ≡ true → d ≡ true
         last a b c d h = (and_parts (a && b && c) d h).1
@@ -228,23 +228,23 @@ none_kept goal next grace past is comes spared = at (list_any (λ (child : Child
     clash false true h k = h
     clash w false h k = k
 
-    at : (b : Bool) → list_any (λ (child : Child). true) (kept past) ≡ b → b ≡ false
+    at : (b : Bool) → list_any (λ (child : Child). true) (kept_children past) ≡ b → b ≡ false
     at false some = refl
     at true some =
-        let child = passing (λ (c : Child). true) (kept past) some in
-        let lives = living child.item stage.Sysinit past is (falsely (is_excluded past child.item) (list_any (is_excluded past) (kept past)) (child.within (is_excluded past)) spared) in
+        let child = passing (λ (c : Child). true) (kept_children past) some in
+        let lives = living child.item stage.Sysinit past is (falsely (is_excluded past child.item) (list_any (is_excluded past) (kept_children past)) (child.within (is_excluded past)) spared) in
         let e : Entry = lives.entry in
-        let here = found_all (λ (e : Entry). not (is_wanted e past) && not (waited_of e && has_child e.id (kept past))) (has_id child.item.id) (table_of past) e done lives.found in
+        let here = found_all (λ (e : Entry). not (is_wanted e past) && not (waited_of e && has_child e.id (kept_children past))) (has_id child.item.id) (table_of past) e done lives.found in
         let waited : waited_of e ≡ true = sysinit_waited e.act e.levels.items lives.lives in
-        let there : has_child e.id (kept past) ≡ true = child.within (is_of e.id) (same_id-flip child.item.id e.id here.1) in
-        absurd (false≢true (clash (not (is_wanted e past)) (has_child e.id (kept past)) (sym (ap (λ w. not (is_wanted e past) && not (w && has_child e.id (kept past))) waited) ∙ here.0) there))
+        let there : has_child e.id (kept_children past) ≡ true = child.within (is_of e.id) (same_id-flip child.item.id e.id here.1) in
+        absurd (false≢true (clash (not (is_wanted e past)) (has_child e.id (kept_children past)) (sym (ap (λ w. not (is_wanted e past) && not (w && has_child e.id (kept_children past))) waited) ∙ here.0) there))
 
 -- no child is excluded by a stage that is due
-entered_spared : (goal : Goal) (next : Stage) (grace : ℕ) (past : List Event) → Holds past → Tame past → is_due goal (Enter next grace) past ≡ true → list_any (is_excluded (event.Enter next grace ∷ past)) (kept past) ≡ false
+entered_spared : (goal : Goal) (next : Stage) (grace : ℕ) (past : List Event) → Holds past → Tame past → is_due goal (Enter next grace) past ≡ true → list_any (is_excluded (event.Enter next grace ∷ past)) (kept_children past) ≡ false
 entered_spared goal next grace past holds tame due_now = at (stage_of past) refl
   where
-    empty : list_any (λ (child : Child). true) (kept past) ≡ false → list_any (is_excluded (event.Enter next grace ∷ past)) (kept past) ≡ false
-    empty none = falsely (list_any (is_excluded (event.Enter next grace ∷ past)) (kept past)) (list_any (λ (child : Child). true) (kept past)) (any_less (is_excluded (event.Enter next grace ∷ past)) (λ (child : Child). true) (λ c h. refl) (kept past)) none
+    empty : list_any (λ (child : Child). true) (kept_children past) ≡ false → list_any (is_excluded (event.Enter next grace ∷ past)) (kept_children past) ≡ false
+    empty none = falsely (list_any (is_excluded (event.Enter next grace ∷ past)) (kept_children past)) (list_any (λ (child : Child). true) (kept_children past)) (any_less (is_excluded (event.Enter next grace ∷ past)) (λ (child : Child). true) (λ c h. refl) (kept_children past)) none
 
     still : (o : Option Entry) (a : Option Act) (level : Level) → not (may_live o a (Some (stage.Run level))) ≡ true → not (may_live o a (Some stage.Boot)) ≡ true
     still None a level h = refl
@@ -256,17 +256,17 @@ entered_spared goal next grace past holds tame due_now = at (stage_of past) refl
         by true false is k = refl
         by true true is k = absurd (false≢true (sym (ap not (boot_lives e.act e.levels.items level is)) ∙ k))
 
-    on : (n : Stage) (l : Level) → same_stage n (stage.Run l) ≡ true → stage_of past ≡ Some stage.Boot → list_any (is_excluded (event.Enter n grace ∷ past)) (kept past) ≡ false
+    on : (n : Stage) (l : Level) → same_stage n (stage.Run l) ≡ true → stage_of past ≡ Some stage.Boot → list_any (is_excluded (event.Enter n grace ∷ past)) (kept_children past) ≡ false
     on stage.Sysinit l h is = absurd (false≢true h)
     on stage.Boot l h is = absurd (false≢true h)
-    on (stage.Run k) l h is = falsely (list_any (is_excluded (event.Enter (stage.Run k) grace ∷ past)) (kept past)) (list_any (is_excluded past) (kept past))
-        (any_less (is_excluded (event.Enter (stage.Run k) grace ∷ past)) (is_excluded past) (λ c h. ap (λ o. not (may_live (entry_of c.id (table_of past)) c.act o)) is ∙ still (entry_of c.id (table_of past)) c.act k h) (kept past)) tame.kept_spared
+    on (stage.Run k) l h is = falsely (list_any (is_excluded (event.Enter (stage.Run k) grace ∷ past)) (kept_children past)) (list_any (is_excluded past) (kept_children past))
+        (any_less (is_excluded (event.Enter (stage.Run k) grace ∷ past)) (is_excluded past) (λ c h. ap (λ o. not (may_live (entry_of c.id (table_of past)) c.act o)) is ∙ still (entry_of c.id (table_of past)) c.act k h) (kept_children past)) tame.kept_spared
 
     first_of : (s m : Bool) → (s && m || false) ≡ true → s ≡ true
     first_of true m h = refl
     first_of false m h = h
 
-    at : (o : Option Stage) → stage_of past ≡ o → list_any (is_excluded (event.Enter next grace ∷ past)) (kept past) ≡ false
+    at : (o : Option Stage) → stage_of past ≡ o → list_any (is_excluded (event.Enter next grace ∷ past)) (kept_children past) ≡ false
     at None is = empty (holds.dawn is)
     at (Some stage.Sysinit) is = empty (none_kept goal next grace past is (stage_due goal next grace stage.Sysinit past tame is due_now) tame.kept_spared)
     at (Some stage.Boot) is =
@@ -275,12 +275,12 @@ entered_spared goal next grace past holds tame due_now = at (stage_of past) refl
     at (Some (stage.Run level)) is = absurd (false≢true (stage_due goal next grace (stage.Run level) past tame is due_now).is_next)
 
 -- in a sound trace of one table no kept child is excluded
-pub kept_spared : (goal : Goal) (past : List Event) → is_sound goal past ≡ true → is_of_one_table past ≡ true → list_any (is_excluded past) (kept past) ≡ false
+pub kept_spared : (goal : Goal) (past : List Event) → is_sound goal past ≡ true → is_of_one_table past ≡ true → list_any (is_excluded past) (kept_children past) ≡ false
 kept_spared goal [] sound one = refl
 kept_spared goal (event.NewTable table ∷ []) sound one = refl
 kept_spared goal (event.NewTable table ∷ x ∷ past) sound one = absurd (false≢true one)
 kept_spared goal (event.Birth id n ∷ past) sound one = rw (told.newborn_lives goal id n past sound) (kept_spared goal past (sound_step goal (event.Birth id n) past refl sound).1 one)
-kept_spared goal (event.Told id ∷ past) sound one = falsely (list_any (is_excluded past) (kept (event.Told id ∷ past))) (list_any (is_excluded past) (kept past)) (kept_before_told (is_excluded past) id past) (kept_spared goal past (sound_step goal (event.Told id) past refl sound).1 one)
+kept_spared goal (event.Told id ∷ past) sound one = falsely (list_any (is_excluded past) (kept_children (event.Told id ∷ past))) (list_any (is_excluded past) (kept_children past)) (kept_before_told (is_excluded past) id past) (kept_spared goal past (sound_step goal (event.Told id) past refl sound).1 one)
 kept_spared goal (event.Enter next grace ∷ past) sound one =
     let parts = sound_step goal (event.Enter next grace) past refl sound in
     entered_spared goal next grace past (sound_holds goal past parts.1) (tame_from goal past parts.1 one (kept_spared goal past parts.1 one)) parts.0

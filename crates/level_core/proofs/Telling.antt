@@ -13,7 +13,7 @@ use Rattle.inittab_text.specs.Tables.{has_id}
 use Rattle.init_trace.specs.declared.happenings.Happening.TheVariants as event
 use Rattle.init_trace.specs.declared.steps.Goal.{Goal}
 use Rattle.init_trace.specs.Event.{Event}
-use Rattle.init_trace.specs.Past.{table_of, Child, is_of, has_child, unreaped, kept, known, open_of, undone_of, has_number}
+use Rattle.init_trace.specs.Past.{table_of, Child, is_of, has_child, open_of, undone_of, has_number, unreaped_children, kept_children, known_children}
 use Rattle.init_trace.specs.Answered.{answered_of}
 use Rattle.init_trace.specs.Wanted.{is_order}
 use Rattle.init_trace.specs.Due.{wants_look}
@@ -37,7 +37,7 @@ use Rattle.level_core.proofs.Taming.{table_kept}
 -- while a birth is not told, the id has no known child, and none is to be looked at
 pub record Unborn (id : List ℕ) (past : List Event) : Type 0 where
   pub unlooked : wants_look id past ≡ false
-  pub childless : has_child id (known past) ≡ false
+  pub childless : has_child id (known_children past) ≡ false
 
 other_act : {P : Type 0} (b : Bool) (given : Answer) (rest : Option Answer) (n : ℕ) → (given ≡ answer.Born n → P) → (rest ≡ Some (answer.Born n) → P) → cond b (Some given) rest ≡ Some (answer.Born n) → P
 other_act true given rest n here more h = here (let same : given ≡ answer.Born n = cc in same)
@@ -50,9 +50,9 @@ unborn goal past sound = sound_ind goal (λ past. (id : List ℕ) (n : ℕ) → 
     told i id past n true is ih h = cc
     told i id past n false is ih h =
         let before = ih h in
-        record { unlooked = before.unlooked; childless = same_has id (known (event.Told i ∷ past)) (known past) (told_other id i (unreaped past) (known past) is) ∙ before.childless }
+        record { unlooked = before.unlooked; childless = same_has id (known_children (event.Told i ∷ past)) (known_children past) (told_other id i (unreaped_children past) (known_children past) is) ∙ before.childless }
 
-    birth : (i id : List ℕ) (m n : ℕ) (past : List Event) (b : Bool) → same_id id i ≡ b → (b ≡ true → has_child id (known past) ≡ false) → (answered_of id past ≡ Some (answer.Born n) → Unborn id past) → cond b (Some (answer.Born m)) (answered_of id past) ≡ Some (answer.Born n) → Unborn id (event.Birth i m ∷ past)
+    birth : (i id : List ℕ) (m n : ℕ) (past : List Event) (b : Bool) → same_id id i ≡ b → (b ≡ true → has_child id (known_children past) ≡ false) → (answered_of id past ≡ Some (answer.Born n) → Unborn id past) → cond b (Some (answer.Born m)) (answered_of id past) ≡ Some (answer.Born n) → Unborn id (event.Birth i m ∷ past)
     birth i id m n past true is childless ih h = record { unlooked = rw is refl; childless = childless refl }
     birth i id m n past false is childless ih h = let before = ih h in record { unlooked = rw is before.unlooked; childless = before.childless }
 
@@ -63,12 +63,12 @@ unborn goal past sound = sound_ind goal (λ past. (id : List ℕ) (n : ℕ) → 
     step (event.Told i) past may sound ih id n h = told i id past n (same_id id i) refl (ih id n) h
     step (event.Birth i m) past may sound ih id n h = birth i id m n past (same_id id i) refl childless (ih id n) h
       where
-        ready : has_child i (known past) ≡ false
-        ready = falsely (has_child i (known past)) (has_child i (kept past)) (known_kept (is_of i) past)
-            ((sound_holds goal past sound).ready i (is_order-is Start (undone_of i past) (and_parts (is_order Start (undone_of i past)) (not (list_any (has_number m) (unreaped past))) may).0)).childless
+        ready : has_child i (known_children past) ≡ false
+        ready = falsely (has_child i (known_children past)) (has_child i (kept_children past)) (known_kept (is_of i) past)
+            ((sound_holds goal past sound).ready i (is_order-is Start (undone_of i past) (and_parts (is_order Start (undone_of i past)) (not (list_any (has_number m) (unreaped_children past))) may).0)).childless
 
-        childless : same_id id i ≡ true → has_child id (known past) ≡ false
-        childless is = ap (λ x. has_child x (known past)) (same_id-is id i is) ∙ ready
+        childless : same_id id i ≡ true → has_child id (known_children past) ≡ false
+        childless is = ap (λ x. has_child x (known_children past)) (same_id-is id i is) ∙ ready
     step (event.NoBirth i) past may sound ih id n h = other_act (same_id id i) answer.NotBorn (answered_of id past) n (λ is. cc) (λ k. let before = ih id n k in record { unlooked = before.unlooked; childless = before.childless }) h
     step (event.Reaped i m status) past may sound ih id n h = other_act (same_id id i) (answer.Ended status) (answered_of id past) n (λ is. cc) (λ k. let before = ih id n k in record { unlooked = before.unlooked; childless = before.childless }) h
     step (event.Still i) past may sound ih id n h = other_act (same_id id i) answer.Alive (answered_of id past) n (λ is. cc) (λ k. let before = ih id n k in record { unlooked = before.unlooked; childless = before.childless }) h
@@ -81,21 +81,21 @@ unborn goal past sound = sound_ind goal (λ past. (id : List ℕ) (n : ℕ) → 
 
 -- a record of the id whose order was answered
 module _ (goal : Goal) (past : List Event) (sound : is_sound goal past ≡ true) where
-  look_told : (e : Entry) (given : Answer) → answered_of e.id past ≡ Some given → (o : Option Child) → find (is_of e.id) (known (event.Told e.id ∷ past)) ≡ o → has_child e.id (known (event.Told e.id ∷ past)) ≡ is_some (option_map living o)
+  look_told : (e : Entry) (given : Answer) → answered_of e.id past ≡ Some given → (o : Option Child) → find (is_of e.id) (known_children (event.Told e.id ∷ past)) ≡ o → has_child e.id (known_children (event.Told e.id ∷ past)) ≡ is_some (option_map living o)
   look_told e given h o is = sym (child_some e.id (event.Told e.id ∷ past)) ∙ ap (λ c. is_some (option_map living c)) is
 
-  kept_look : (e : Entry) (given : Answer) → answered_of e.id past ≡ Some given → find (is_of e.id) (known (event.Told e.id ∷ past)) ≡ find (is_of e.id) (known past) → is_to_look e.id (event.Told e.id ∷ past) ≡ is_to_look e.id past
-  kept_look e given h same = ap (λ b. b && wants_look e.id past) (look_told e given h (find (is_of e.id) (known past)) same ∙ child_some e.id past)
+  kept_look : (e : Entry) (given : Answer) → answered_of e.id past ≡ Some given → find (is_of e.id) (known_children (event.Told e.id ∷ past)) ≡ find (is_of e.id) (known_children past) → is_to_look e.id (event.Told e.id ∷ past) ≡ is_to_look e.id past
+  kept_look e given h same = ap (λ b. b && wants_look e.id past) (look_told e given h (find (is_of e.id) (known_children past)) same ∙ child_some e.id past)
 
   -- one whose child stays
-  stays : (e : Entry) (given : Answer) → answered_of e.id past ≡ Some given → find (is_of e.id) (known (event.Told e.id ∷ past)) ≡ find (is_of e.id) (known past) → record (record_of past e) { order = None } ≡ record_of (event.Told e.id ∷ past) e
+  stays : (e : Entry) (given : Answer) → answered_of e.id past ≡ Some given → find (is_of e.id) (known_children (event.Told e.id ∷ past)) ≡ find (is_of e.id) (known_children past) → record (record_of past e) { order = None } ≡ record_of (event.Told e.id ∷ past) e
   stays e given h same = rw (same_id-self e.id, same, kept_look e given h same) refl
 
   told_own : (e : Entry) → IsOwn (table_of past) e → (given : Answer) → answered_of e.id past ≡ Some given → after_answer given (record_of past e) ≡ record_of (event.Told e.id ∷ past) e
   told_own e own (answer.Born n) h =
       let told = told_child goal past sound e.id (answer.Born n) h in
       let calm = unborn goal past sound e.id n h in
-      rw (same_id-self e.id, told, own, calm.unlooked, and_false (has_child e.id (known (event.Told e.id ∷ past)))) refl
+      rw (same_id-self e.id, told, own, calm.unlooked, and_false (has_child e.id (known_children (event.Told e.id ∷ past)))) refl
   told_own e own (answer.Ended status) h =
       let told = told_child goal past sound e.id (answer.Ended status) h in
       rw (same_id-self e.id, told, look_told e (answer.Ended status) h None told) refl
@@ -107,9 +107,9 @@ module _ (goal : Goal) (past : List Event) (sound : is_sound goal past ≡ true)
 
   told_apart : (id : List ℕ) (e : Entry) → same_id e.id id ≡ false → record_of past e ≡ record_of (event.Told id ∷ past) e
   told_apart id e apart =
-      let alike : filter (is_of e.id) (known (event.Told id ∷ past)) ≡ filter (is_of e.id) (known past) = told_other e.id id (unreaped past) (known past) apart in
-      let child : find (is_of e.id) (known (event.Told id ∷ past)) ≡ find (is_of e.id) (known past) = same_find (is_of e.id) (known (event.Told id ∷ past)) (known past) alike in
-      let there : has_child e.id (known (event.Told id ∷ past)) ≡ has_child e.id (known past) = same_has e.id (known (event.Told id ∷ past)) (known past) alike in
+      let alike : filter (is_of e.id) (known_children (event.Told id ∷ past)) ≡ filter (is_of e.id) (known_children past) = told_other e.id id (unreaped_children past) (known_children past) apart in
+      let child : find (is_of e.id) (known_children (event.Told id ∷ past)) ≡ find (is_of e.id) (known_children past) = same_find (is_of e.id) (known_children (event.Told id ∷ past)) (known_children past) alike in
+      let there : has_child e.id (known_children (event.Told id ∷ past)) ≡ has_child e.id (known_children past) = same_has e.id (known_children (event.Told id ∷ past)) (known_children past) alike in
       rw (apart, child, there) refl
 
   told_records : (id : List ℕ) (given : Answer) → answered_of id past ≡ Some given → with_changed id (after_answer given) (records_of past) ≡ records_of (event.Told id ∷ past)
@@ -149,21 +149,21 @@ answer_taken goal past sound one c fits id given h =
         rw (order, k) refl
 
 -- what the system does: the core does not move, and fits the trace with it
-born_records : (past : List Event) (id : List ℕ) (n : ℕ) → has_child id (known past) ≡ false → (es : List Entry) → map (record_of past) es ≡ map (record_of (event.Birth id n ∷ past)) es
+born_records : (past : List Event) (id : List ℕ) (n : ℕ) → has_child id (known_children past) ≡ false → (es : List Entry) → map (record_of past) es ≡ map (record_of (event.Birth id n ∷ past)) es
 born_records past id n childless [] = refl
 born_records past id n childless (e ∷ es) = rw (born_records past id n childless es) (ap (λ b. record (record_of past e) { look = b } ∷ map (record_of (event.Birth id n ∷ past)) es) (at (same_id e.id id) refl))
   where
-    at : (b : Bool) → same_id e.id id ≡ b → (has_child e.id (known past) && wants_look e.id past) ≡ (has_child e.id (known past) && (not (same_id e.id id) && wants_look e.id past))
+    at : (b : Bool) → same_id e.id id ≡ b → (has_child e.id (known_children past) && wants_look e.id past) ≡ (has_child e.id (known_children past) && (not (same_id e.id id) && wants_look e.id past))
     at true is =
-        let none : has_child e.id (known past) ≡ false = ap (λ i. has_child i (known past)) (same_id-is e.id id is) ∙ childless in
+        let none : has_child e.id (known_children past) ≡ false = ap (λ i. has_child i (known_children past)) (same_id-is e.id id is) ∙ childless in
         rw none refl
     at false is = rw is refl
 
 pub fits_act : (goal : Goal) (happening : Event) (past : List Event) → is_act happening ≡ true → is_sound goal (happening ∷ past) ≡ true → (c : CoreState) → Fits c goal past → Fits c goal (happening ∷ past)
 fits_act goal (event.Birth id n) past act sound c fits = record { table = fits.table; slots = fits.slots ∙ born_records past id n childless (table_of past); stage = fits.stage; grace = fits.grace; goal = fits.goal; booted = fits.booted; announced = fits.announced; time = fits.time }
   where
-    childless : has_child id (known past) ≡ false
-    childless = falsely (has_child id (known past)) (has_child id (kept past)) (known_kept (is_of id) past) (birth_ready goal [] id n past sound).childless
+    childless : has_child id (known_children past) ≡ false
+    childless = falsely (has_child id (known_children past)) (has_child id (kept_children past)) (known_kept (is_of id) past) (birth_ready goal [] id n past sound).childless
 fits_act goal (event.NoBirth id) past act sound c fits = record { table = fits.table; slots = fits.slots; stage = fits.stage; grace = fits.grace; goal = fits.goal; booted = fits.booted; announced = fits.announced; time = fits.time }
 fits_act goal (event.Death n) past act sound c fits = record { table = fits.table; slots = fits.slots; stage = fits.stage; grace = fits.grace; goal = fits.goal; booted = fits.booted; announced = fits.announced; time = fits.time }
 fits_act goal (event.Reaped id n status) past act sound c fits = record { table = fits.table; slots = fits.slots; stage = fits.stage; grace = fits.grace; goal = fits.goal; booted = fits.booted; announced = fits.announced; time = fits.time }

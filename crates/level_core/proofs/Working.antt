@@ -23,7 +23,7 @@ use Rattle.level_core.specs.Decide as core
 use Rattle.level_core.specs.Decide.{CoreState, decide, after_step, or_else, or_idle, look_among, can_look_slot}
 use Rattle.init_words.specs.declared.levels.Level.{Level}
 use Rattle.init_trace.specs.Event.{Event}
-use Rattle.init_trace.specs.Past.{table_of, time_of, open_of, stage_of}
+use Rattle.init_trace.specs.Past.{table_of, time_of, open_of, stage_of, known_children}
 use Rattle.level_core.specs.Slots.{is_limited_slot, allows}
 use Rattle.level_core.specs.Fit.{Fits, with_step, record_of, records_of}
 use Rattle.init_words.specs.declared.levels.Level.TheVariants.{S}
@@ -31,7 +31,7 @@ use Rattle.init_words.specs.Levels.{same_level}
 use Rattle.init_words.specs.Orders.{same_stage}
 use Rattle.init_trace.specs.declared.steps.Goal.{Goal}
 use Rattle.init_words.specs.Actions.{is_limited}
-use Rattle.init_trace.specs.Past.{is_of, has_child, known}
+use Rattle.init_trace.specs.Past.{is_of, has_child}
 use Rattle.init_trace.specs.Due.{due, first, is_due, same_step, next_stage}
 use Rattle.init_trace.specs.Wishes.{goal_of}
 use Rattle.init_trace.specs.Timing.{is_held, start_times, hold_times}
@@ -367,7 +367,7 @@ work_falls goal past c sound one fits busy = at (decide c) refl busy
     asked_of : (id : List ℕ) → list_any (has_id id) (table_of past) ≡ true → open_of id past ≡ None → list_any (λ slot. is_slot_of id slot && unasked slot) c.slots ≡ true
     asked_of id listed free = ap (list_any (λ slot. is_slot_of id slot && unasked slot)) fits.slots ∙ record_with past id unasked listed (λ e same. ap is_none (ap (λ i. open_of i past) same ∙ free))
 
-    known_listed : (id : List ℕ) → has_child id (known past) ≡ true → list_any (has_id id) (table_of past) ≡ true
+    known_listed : (id : List ℕ) → has_child id (known_children past) ≡ true → list_any (has_id id) (table_of past) ≡ true
     known_listed id there = child_in_table goal past sound (table_kept past one) id (known_kept (is_of id) past there)
 
     at : (s : Step) → decide c ≡ s → is_rest s ≡ false → work_left (after_step s c) < work_left c

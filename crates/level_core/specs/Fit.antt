@@ -10,7 +10,7 @@ use Rattle.init_trace.specs.declared.steps.Step.{Step}
 use Rattle.init_trace.specs.declared.steps.Step.TheVariants as step
 use Rattle.init_trace.specs.declared.steps.Goal.{Goal}
 use Rattle.init_trace.specs.Event.{Event}
-use Rattle.init_trace.specs.Past.{Child, is_of, has_child, known, open_of, table_of, stage_of, grace_of, time_of}
+use Rattle.init_trace.specs.Past.{Child, is_of, has_child, open_of, table_of, stage_of, grace_of, time_of, known_children}
 use Rattle.init_trace.specs.Wanted.{is_asked}
 use Rattle.init_trace.specs.Timing.{start_times, hold_times}
 use Rattle.init_trace.specs.Wishes.{in_run, goal_of, was_booted}
@@ -26,7 +26,7 @@ living child = record { number = child.number; act = child.act }
 
 -- the known child of an id
 abbrev pub known_child : List ℕ → List Event → Option Living
-known_child id past = option_map living (find (is_of id) (known past))
+known_child id past = option_map living (find (is_of id) (known_children past))
 
 -- the end of the last of these holds
 abbrev pub last_hold_end : List ℕ → Option ℕ
@@ -44,7 +44,7 @@ limiter_of e past = limiter_by (is_limited e.act) (start_times e.id past) (hold_
 
 -- a round began since the known child was looked at
 abbrev pub is_to_look : List ℕ → List Event → Bool
-is_to_look id past = has_child id (known past) && wants_look id past
+is_to_look id past = has_child id (known_children past) && wants_look id past
 
 -- the record of an entry, as the past has it
 abbrev pub record_of : List Event → Entry → Slot

@@ -8,7 +8,7 @@ use Rattle.init_words.specs.Ids.{same_id}
 use Rattle.init_trace.specs.declared.happenings.Happening.TheVariants.{NewTable, Birth, NoBirth, Death, Reaped, Still, NoLook, Hit, Miss, Told}
 use Rattle.init_trace.specs.declared.steps.Goal.{Goal}
 use Rattle.init_trace.specs.Event.{Event}
-use Rattle.init_trace.specs.Past.{Child, has_number, is_child, is_dead, is_living, unreaped, undone_of}
+use Rattle.init_trace.specs.Past.{Child, has_number, is_child, is_dead, is_living, undone_of, unreaped_children}
 use Rattle.init_trace.specs.Wanted.{is_order}
 use Rattle.init_trace.specs.Sound.{may_come, is_sound}
 use Rattle.init_words.proofs.Same.{same_id-is}
@@ -34,7 +34,7 @@ living number past None = refl
 living number past (Some child) = refl
 
 same_living : (goal : Goal) (past : List Event) (side : State) → is_sound goal past ≡ true → Follows side past → (number : ℕ) → is_living_in number side ≡ is_living number past
-same_living goal past side sound fits number = ap (λ o. option_map_or (λ child. not child.is_dead) o false) (fits.children number) ∙ sym (single_any (has_number number) (λ child. not (is_dead child.id number past)) (unreaped past) (one_number goal past sound number) ∙ living number past (find (has_number number) (unreaped past)))
+same_living goal past side sound fits number = ap (λ o. option_map_or (λ child. not child.is_dead) o false) (fits.children number) ∙ sym (single_any (has_number number) (λ child. not (is_dead child.id number past)) (unreaped_children past) (one_number goal past sound number) ∙ living number past (find (has_number number) (unreaped_children past)))
 
 dead : (id : List ℕ) (number : ℕ) (past : List Event) (o : Option Child) → (option_map_or (λ child. same_id id child.id) o false && is_dead id number past) ≡ option_map_or (λ child. same_id id child.id && child.is_dead) (option_map (process_of number past) o) false
 dead id number past None = refl
@@ -43,18 +43,18 @@ dead id number past (Some child) = at_id (same_id id child.id) refl where
   at_id true same = ap (λ x. is_dead x number past) (same_id-is id child.id same)
   at_id false differ = refl
 
-its_child : (goal : Goal) (past : List Event) → is_sound goal past ≡ true → (id : List ℕ) (number : ℕ) → list_any (is_child id number) (unreaped past) ≡ option_map_or (λ child. same_id id child.id) (find (has_number number) (unreaped past)) false
-its_child goal past sound id number = any_same (is_child id number) (λ child. has_number number child && same_id id child.id) (λ child. and_swap (same_id id child.id) (number == child.number)) (unreaped past) ∙ single_any (has_number number) (λ child. same_id id child.id) (unreaped past) (one_number goal past sound number)
+its_child : (goal : Goal) (past : List Event) → is_sound goal past ≡ true → (id : List ℕ) (number : ℕ) → list_any (is_child id number) (unreaped_children past) ≡ option_map_or (λ child. same_id id child.id) (find (has_number number) (unreaped_children past)) false
+its_child goal past sound id number = any_same (is_child id number) (λ child. has_number number child && same_id id child.id) (λ child. and_swap (same_id id child.id) (number == child.number)) (unreaped_children past) ∙ single_any (has_number number) (λ child. same_id id child.id) (unreaped_children past) (one_number goal past sound number)
 
-same_dead : (goal : Goal) (past : List Event) (side : State) → is_sound goal past ≡ true → Follows side past → (id : List ℕ) (number : ℕ) → is_dead_in id number side ≡ (list_any (is_child id number) (unreaped past) && is_dead id number past)
-same_dead goal past side sound fits id number = ap (λ o. option_map_or (λ child. same_id id child.id && child.is_dead) o false) (fits.children number) ∙ sym (ap (λ b. b && is_dead id number past) (its_child goal past sound id number) ∙ dead id number past (find (has_number number) (unreaped past)))
+same_dead : (goal : Goal) (past : List Event) (side : State) → is_sound goal past ≡ true → Follows side past → (id : List ℕ) (number : ℕ) → is_dead_in id number side ≡ (list_any (is_child id number) (unreaped_children past) && is_dead id number past)
+same_dead goal past side sound fits id number = ap (λ o. option_map_or (λ child. same_id id child.id && child.is_dead) o false) (fits.children number) ∙ sym (ap (λ b. b && is_dead id number past) (its_child goal past sound id number) ∙ dead id number past (find (has_number number) (unreaped_children past)))
 
 -- the state allows exactly what may come
 pub allowed_may : (goal : Goal) (past : List Event) (side : State) → is_sound goal past ≡ true → Follows side past → (happening : Event) → allowed side happening ≡ (is_script happening && may_come goal happening past)
-allowed_may goal past side sound fits (Birth id number) = rw (fits.orders id, fits.children number) (ap (λ b. is_order Start (undone_of id past) && b) (none_found (process_of number past) (has_number number) (unreaped past)))
+allowed_may goal past side sound fits (Birth id number) = rw (fits.orders id, fits.children number) (ap (λ b. is_order Start (undone_of id past) && b) (none_found (process_of number past) (has_number number) (unreaped_children past)))
 allowed_may goal past side sound fits (NoBirth id) = rw (fits.orders id) refl
 allowed_may goal past side sound fits (Death number) = same_living goal past side sound fits number
-allowed_may goal past side sound fits (Reaped id number status) = rw (fits.orders id) (ap (λ b. is_order Look (undone_of id past) && b) (same_dead goal past side sound fits id number) ∙ and_three (is_order Look (undone_of id past)) (list_any (is_child id number) (unreaped past)) (is_dead id number past))
+allowed_may goal past side sound fits (Reaped id number status) = rw (fits.orders id) (ap (λ b. is_order Look (undone_of id past) && b) (same_dead goal past side sound fits id number) ∙ and_three (is_order Look (undone_of id past)) (list_any (is_child id number) (unreaped_children past)) (is_dead id number past))
 allowed_may goal past side sound fits (Still id) = rw (fits.orders id) refl
 allowed_may goal past side sound fits (NoLook id) = rw (fits.orders id) refl
 allowed_may goal past side sound fits (Hit id) = rw (fits.orders id) refl

@@ -7,7 +7,7 @@ use Rattle.init_trace.specs.declared.happenings.Happening.TheVariants.{Birth, Re
 use Rattle.init_trace.specs.declared.steps.Goal.{Goal}
 use Rattle.init_trace.specs.Event.{Event}
 use Rattle.init_words.specs.declared.orders.Ask.TheVariants.{Start}
-use Rattle.init_trace.specs.Past.{Child, is_child, has_number, unreaped, undone_of}
+use Rattle.init_trace.specs.Past.{Child, is_child, has_number, undone_of, unreaped_children}
 use Rattle.init_trace.specs.Wanted.{is_order}
 use Rattle.init_trace.specs.Sound.{may_come, is_sound}
 use Rattle.init_words.proofs.Tests.{falsely, both_ways, not_from, any_less, any_filtered}
@@ -38,14 +38,14 @@ single_filter p q (x ∷ xs) h = split (p x) (q x) refl (single_filter p q xs) h
   split false false is rest h = rest h
 
 -- no number has two unreaped children
-pub one_number : (goal : Goal) (past : List Event) → is_sound goal past ≡ true → (number : ℕ) → is_single (has_number number) (unreaped past) ≡ true
-one_number goal past h = sound_ind goal (λ before. (number : ℕ) → is_single (has_number number) (unreaped before) ≡ true) (λ table distinct number. refl) next past h where
-  next : (happening : Event) (before : List Event) → may_come goal happening before ≡ true → is_sound goal before ≡ true → ((number : ℕ) → is_single (has_number number) (unreaped before) ≡ true) → (number : ℕ) → is_single (has_number number) (unreaped (happening ∷ before)) ≡ true
+pub one_number : (goal : Goal) (past : List Event) → is_sound goal past ≡ true → (number : ℕ) → is_single (has_number number) (unreaped_children past) ≡ true
+one_number goal past h = sound_ind goal (λ before. (number : ℕ) → is_single (has_number number) (unreaped_children before) ≡ true) (λ table distinct number. refl) next past h where
+  next : (happening : Event) (before : List Event) → may_come goal happening before ≡ true → is_sound goal before ≡ true → ((number : ℕ) → is_single (has_number number) (unreaped_children before) ≡ true) → (number : ℕ) → is_single (has_number number) (unreaped_children (happening ∷ before)) ≡ true
   next (Birth i n) before may sound one number = at_number (number == n) refl where
-    at_number : (b : Bool) → (number == n) ≡ b → cond b (not (list_any (has_number number) (unreaped before))) (is_single (has_number number) (unreaped before)) ≡ true
-    at_number true same = ap (λ m. not (list_any (has_number m) (unreaped before))) (eqb-true number n same) ∙ (and_parts (is_order Start (undone_of i before)) (not (list_any (has_number n) (unreaped before))) may).1
+    at_number : (b : Bool) → (number == n) ≡ b → cond b (not (list_any (has_number number) (unreaped_children before))) (is_single (has_number number) (unreaped_children before)) ≡ true
+    at_number true same = ap (λ m. not (list_any (has_number m) (unreaped_children before))) (eqb-true number n same) ∙ (and_parts (is_order Start (undone_of i before)) (not (list_any (has_number n) (unreaped_children before))) may).1
     at_number false differ = one number
-  next (Reaped i n status) before may sound one number = single_filter (has_number number) (λ child. not (is_child i n child)) (unreaped before) (one number)
+  next (Reaped i n status) before may sound one number = single_filter (has_number number) (λ child. not (is_child i n child)) (unreaped_children before) (one number)
   next _ before may sound one number = one number
 
 -- where at most one child passes p, whether one of them passes q too is told by the first

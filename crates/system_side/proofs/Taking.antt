@@ -8,7 +8,7 @@ use Rattle.init_words.specs.Ids.{same_id}
 use Rattle.init_trace.specs.declared.happenings.Happening.TheVariants.{Asked, Birth, NoBirth, Death, Reaped, Still, NoLook, Hit, Miss, Told}
 use Rattle.init_trace.specs.declared.steps.Goal.{Goal}
 use Rattle.init_trace.specs.Event.{Event}
-use Rattle.init_trace.specs.Past.{Child, has_number, is_child, is_dead, unreaped, undone_of}
+use Rattle.init_trace.specs.Past.{Child, has_number, is_child, is_dead, undone_of, unreaped_children}
 use Rattle.init_trace.specs.Answered.{answered_of}
 use Rattle.init_trace.specs.Wanted.{is_order}
 use Rattle.init_trace.specs.Sound.{is_sound}
@@ -56,11 +56,11 @@ birth_step : (i : List ℕ) (n number : ℕ) (past : List Event) → child_after
 birth_step i n number past = at_number (number == n) refl where
   at_number : (b : Bool) → (number == n) ≡ b → child_after (Birth i n) number (child_with number past) ≡ child_with number (Birth i n ∷ past)
   at_number true same = rw (same, same_id-self i, same) refl
-  at_number false differ = rw differ (birth_other i n number past differ (find (has_number number) (unreaped past)))
+  at_number false differ = rw differ (birth_other i n number past differ (find (has_number number) (unreaped_children past)))
 
 -- a death makes the child of its number a dead one
 death_step : (n number : ℕ) (past : List Event) → child_after (Death n) number (child_with number past) ≡ child_with number (Death n ∷ past)
-death_step n number past = at_number (number == n) (find (has_number number) (unreaped past)) where
+death_step n number past = at_number (number == n) (find (has_number number) (unreaped_children past)) where
   at_number : (b : Bool) (o : Option Child) → cond b (option_map died (option_map (process_of number past) o)) (option_map (process_of number past) o) ≡ option_map (λ child. record { id = child.id; is_dead = b || is_dead child.id number past }) o
   at_number true None = refl
   at_number true (Some child) = refl
@@ -71,22 +71,22 @@ death_step n number past = at_number (number == n) (find (has_number number) (un
 reaped_other : (i : List ℕ) (n number : ℕ) → (number == n) ≡ false → (child : Child) → has_number number child ≡ true → not (is_child i n child) ≡ true
 reaped_other i n number differ child its = not_from (is_child i n child) (falsely (is_child i n child) (number == n) (λ h. ap (λ m. number == m) (eqb-true n child.number (and_parts (same_id i child.id) (n == child.number) h).1) ∙ its) differ)
 
-reap_step : (i : List ℕ) (n number : ℕ) (past : List Event) → find (has_number n) (filter (λ child. not (is_child i n child)) (unreaped past)) ≡ None → cond (number == n) None (child_with number past) ≡ option_map (process_of number past) (find (has_number number) (filter (λ child. not (is_child i n child)) (unreaped past)))
+reap_step : (i : List ℕ) (n number : ℕ) (past : List Event) → find (has_number n) (filter (λ child. not (is_child i n child)) (unreaped_children past)) ≡ None → cond (number == n) None (child_with number past) ≡ option_map (process_of number past) (find (has_number number) (filter (λ child. not (is_child i n child)) (unreaped_children past)))
 reap_step i n number past none = at_number (number == n) refl where
-  at_number : (b : Bool) → (number == n) ≡ b → cond b None (child_with number past) ≡ option_map (process_of number past) (find (has_number number) (filter (λ child. not (is_child i n child)) (unreaped past)))
-  at_number true same = sym (ap (λ m. option_map (process_of number past) (find (has_number m) (filter (λ child. not (is_child i n child)) (unreaped past)))) (eqb-true number n same) ∙ ap (option_map (process_of number past)) none)
-  at_number false differ = ap (option_map (process_of number past)) (sym (same_find (has_number number) (filter (λ child. not (is_child i n child)) (unreaped past)) (unreaped past) (filter_within (has_number number) (λ child. not (is_child i n child)) (reaped_other i n number differ) (unreaped past))))
+  at_number : (b : Bool) → (number == n) ≡ b → cond b None (child_with number past) ≡ option_map (process_of number past) (find (has_number number) (filter (λ child. not (is_child i n child)) (unreaped_children past)))
+  at_number true same = sym (ap (λ m. option_map (process_of number past) (find (has_number m) (filter (λ child. not (is_child i n child)) (unreaped_children past)))) (eqb-true number n same) ∙ ap (option_map (process_of number past)) none)
+  at_number false differ = ap (option_map (process_of number past)) (sym (same_find (has_number number) (filter (λ child. not (is_child i n child)) (unreaped_children past)) (unreaped_children past) (filter_within (has_number number) (λ child. not (is_child i n child)) (reaped_other i n number differ) (unreaped_children past))))
 
-none_left : (goal : Goal) (i : List ℕ) (n : ℕ) (past : List Event) → is_sound goal past ≡ true → list_any (is_child i n) (unreaped past) ≡ true → find (has_number n) (filter (λ child. not (is_child i n child)) (unreaped past)) ≡ None
-none_left goal i n past sound there = find_none (has_number n) (filter (λ child. not (is_child i n child)) (unreaped past)) (single_gone (has_number n) (is_child i n) (λ child h. (and_parts (same_id i child.id) (n == child.number) h).1) (unreaped past) (one_number goal past sound n) there)
+none_left : (goal : Goal) (i : List ℕ) (n : ℕ) (past : List Event) → is_sound goal past ≡ true → list_any (is_child i n) (unreaped_children past) ≡ true → find (has_number n) (filter (λ child. not (is_child i n child)) (unreaped_children past)) ≡ None
+none_left goal i n past sound there = find_none (has_number n) (filter (λ child. not (is_child i n child)) (unreaped_children past)) (single_gone (has_number n) (is_child i n) (λ child h. (and_parts (same_id i child.id) (n == child.number) h).1) (unreaped_children past) (one_number goal past sound n) there)
 
 child_step : (goal : Goal) (happening : Event) (past : List Event) → is_sound goal (happening ∷ past) ≡ true → (number : ℕ) → child_after happening number (child_with number past) ≡ child_with number (happening ∷ past)
 child_step goal (Birth i n) past sound number = birth_step i n number past
 child_step goal (Death n) past sound number = death_step n number past
 child_step goal (Reaped i n status) past sound number =
     let parts = sound_step goal (Reaped i n status) past refl sound in
-    let tests = and_parts (is_order Look (undone_of i past) && list_any (is_child i n) (unreaped past)) (is_dead i n past) parts.0 in
-    reap_step i n number past (none_left goal i n past parts.1 (and_parts (is_order Look (undone_of i past)) (list_any (is_child i n) (unreaped past)) tests.0).1)
+    let tests = and_parts (is_order Look (undone_of i past) && list_any (is_child i n) (unreaped_children past)) (is_dead i n past) parts.0 in
+    reap_step i n number past (none_left goal i n past parts.1 (and_parts (is_order Look (undone_of i past)) (list_any (is_child i n) (unreaped_children past)) tests.0).1)
 child_step goal _ past sound number = refl
 
 -- a state that fits a trace fits it with the happening, once it took it in

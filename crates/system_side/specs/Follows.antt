@@ -2,7 +2,7 @@
 use Rattle.std.specs.Prelude.{◌≡◌, ℕ, List, Option, find}
 use Rattle.std.specs.Option.{option_map}
 use Rattle.init_trace.specs.Event.{Event}
-use Rattle.init_trace.specs.Past.{Child, has_number, unreaped, is_dead, undone_of}
+use Rattle.init_trace.specs.Past.{Child, has_number, is_dead, undone_of, unreaped_children}
 use Rattle.init_trace.specs.Answered.{answered_of}
 use Rattle.system_side.specs.declared.sides.Process.{Process}
 use Rattle.system_side.specs.State.{State, order_in, answer_in, child_in}
@@ -13,7 +13,7 @@ process_of number past child = record { id = child.id; is_dead = is_dead child.i
 
 -- the unreaped child of a number, with whether it is dead
 abbrev pub child_with : ℕ → List Event → Option Process
-child_with number past = option_map (process_of number past) (find (has_number number) (unreaped past))
+child_with number past = option_map (process_of number past) (find (has_number number) (unreaped_children past))
 
 -- each part of the state is as the trace says
 pub record Follows (side : State) (past : List Event) : Type 0 where

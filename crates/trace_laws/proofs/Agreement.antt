@@ -7,7 +7,7 @@ use Rattle.init_words.specs.Ids.{same_id}
 use Rattle.init_trace.specs.declared.happenings.Happening.TheVariants.{Birth, NoBirth, Reaped, Still, NoLook, Hit, Miss, Told}
 use Rattle.init_trace.specs.declared.steps.Goal.{Goal}
 use Rattle.init_trace.specs.Event.{Event}
-use Rattle.init_trace.specs.Past.{Child, is_of, is_child, unreaped, known, undone_of, is_untold}
+use Rattle.init_trace.specs.Past.{Child, is_of, is_child, undone_of, is_untold, unreaped_children, known_children}
 use Rattle.init_trace.specs.Wanted.{is_order}
 use Rattle.init_trace.specs.Sound.{may_come, is_sound}
 use Rattle.init_trace.specs.Agreement.{has_untold_birth, has_untold_end, is_unreaped, is_known, Agrees}
@@ -77,7 +77,7 @@ sound_agrees : (goal : Goal) (past : List Event) → is_sound goal past ≡ true
 sound_agrees goal past h = sound_ind goal (λ before. (id : List ℕ) (n : ℕ) → Agrees id n before) (λ table distinct id n. refl) next past h where
   next : (happening : Event) (before : List Event) → may_come goal happening before ≡ true → is_sound goal before ≡ true → ((id : List ℕ) (n : ℕ) → Agrees id n before) → (id : List ℕ) (n : ℕ) → Agrees id n (happening ∷ before)
   next (Birth i m) before may sound rest id n = born_agrees (same_id id i && n == m) (is_unreaped id n before) (is_known id n before) (has_untold_end id n before) (has_untold_birth id n before) (rest id n)
-  next (Reaped i m status) before may sound rest id n = reaped_pair id i n m (unreaped before) (same_id id i && n == m) refl ∙ reaped_agrees (same_id id i && n == m) (is_unreaped id n before) (is_known id n before) (has_untold_end id n before) (has_untold_birth id n before) (rest id n) told where
+  next (Reaped i m status) before may sound rest id n = reaped_pair id i n m (unreaped_children before) (same_id id i && n == m) refl ∙ reaped_agrees (same_id id i && n == m) (is_unreaped id n before) (is_known id n before) (has_untold_end id n before) (has_untold_birth id n before) (rest id n) told where
     looked : is_order Look (undone_of i before) ≡ true
     looked = (look_undone goal i m status before may).0
 
@@ -85,8 +85,8 @@ sound_agrees goal past h = sound_ind goal (λ before. (id : List ℕ) (n : ℕ) 
     told same = born_told id n before (ap (λ x. is_untold x before) (same_id-is id i (and_parts (same_id id i) (n == m) same).0) ∙ (sound_holds goal before sound).done i Look (is_order-is Look (undone_of i before) looked))
   next (Told i) before may sound rest id n = at_id (same_id id i) refl where
     at_id : (b : Bool) → same_id id i ≡ b → is_unreaped id n before ≡ (is_known id n (Told i ∷ before) && not (not b && has_untold_end id n before) || not b && has_untold_birth id n before)
-    at_id true same = told_agrees (is_unreaped id n before) ∙ ap (λ k. k && true || false) (sym (same_pair id n (known (Told i ∷ before)) (unreaped before) (told_same id i (unreaped before) (known before) same)))
-    at_id false differ = rest id n ∙ ap (λ k. k && not (has_untold_end id n before) || has_untold_birth id n before) (sym (same_pair id n (known (Told i ∷ before)) (known before) (told_other id i (unreaped before) (known before) differ)))
+    at_id true same = told_agrees (is_unreaped id n before) ∙ ap (λ k. k && true || false) (sym (same_pair id n (known_children (Told i ∷ before)) (unreaped_children before) (told_same id i (unreaped_children before) (known_children before) same)))
+    at_id false differ = rest id n ∙ ap (λ k. k && not (has_untold_end id n before) || has_untold_birth id n before) (sym (same_pair id n (known_children (Told i ∷ before)) (known_children before) (told_other id i (unreaped_children before) (known_children before) differ)))
   next (_) before may sound rest id n = rest id n
 
 pub agrees_at : (goal : Goal) (later past : List Event) (id : List ℕ) (n : ℕ) → is_sound goal (later ++ past) ≡ true → Agrees id n past

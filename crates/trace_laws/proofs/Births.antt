@@ -6,7 +6,7 @@ use Rattle.init_words.specs.Ids.{same_id}
 use Rattle.init_trace.specs.declared.happenings.Happening.TheVariants.{NewTable, Birth, Reaped}
 use Rattle.init_trace.specs.declared.steps.Goal.{Goal}
 use Rattle.init_trace.specs.Event.{Event}
-use Rattle.init_trace.specs.Past.{Child, is_of, is_child, has_child, born, unreaped, kept}
+use Rattle.init_trace.specs.Past.{Child, is_of, is_child, has_child, newborn, unreaped_children, kept_children}
 use Rattle.init_trace.specs.Wanted.{is_owed_before, is_excluded}
 use Rattle.init_trace.specs.Sound.{may_come, is_sound}
 use Rattle.init_trace.specs.Lawful.{is_alone, is_placed, is_in_turn, are_spared}
@@ -46,11 +46,11 @@ step_at goal later happening past other h = sound_step goal happening past other
 pub birth_ready : (goal : Goal) (later : List Event) (id : List ℕ) (n : ℕ) (past : List Event) → is_sound goal (later ++ Birth id n ∷ past) ≡ true → Ready id past
 birth_ready goal later id n past h = let parts = step_at goal later (Birth id n) past refl h in born_ready goal id n past parts.0 (sound_holds goal past parts.1)
 
-ready_alone : (id : List ℕ) (past : List Event) → Ready id past → has_child id (unreaped past) ≡ false
-ready_alone id past ready = falsely (has_child id (unreaped past)) (has_child id (kept past)) (unreaped_kept (is_of id) past) ready.childless
+ready_alone : (id : List ℕ) (past : List Event) → Ready id past → has_child id (unreaped_children past) ≡ false
+ready_alone id past ready = falsely (has_child id (unreaped_children past)) (has_child id (kept_children past)) (unreaped_kept (is_of id) past) ready.childless
 
 pub birth_alone : (goal : Goal) (later : List Event) (id : List ℕ) (n : ℕ) (past : List Event) → is_sound goal (later ++ Birth id n ∷ past) ≡ true → is_alone id past ≡ true
-birth_alone goal later id n past h = not_from (has_child id (unreaped past)) (ready_alone id past (birth_ready goal later id n past h))
+birth_alone goal later id n past h = not_from (has_child id (unreaped_children past)) (ready_alone id past (birth_ready goal later id n past h))
 
 pub birth_placed : (goal : Goal) (later : List Event) (id : List ℕ) (n : ℕ) (past : List Event) → is_sound goal (later ++ Birth id n ∷ past) ≡ true → is_placed id past ≡ true
 birth_placed goal later id n past h = (birth_ready goal later id n past h).placed
@@ -71,24 +71,24 @@ few_filtered p q (x ∷ xs) = split (q x) (few_filtered p q xs) where
   split true less = both (p x) (filter p (filter q xs)) (filter p xs) less
   split false less = one (p x) (filter p (filter q xs)) (filter p xs) less
 
-one_birth : (goal : Goal) (i : List ℕ) (n : ℕ) (past : List Event) (id : List ℕ) → Ready i past → length (filter (is_of id) (unreaped past)) ≤ 1 → length (filter (is_of id) (unreaped (Birth i n ∷ past))) ≤ 1
+one_birth : (goal : Goal) (i : List ℕ) (n : ℕ) (past : List Event) (id : List ℕ) → Ready i past → length (filter (is_of id) (unreaped_children past)) ≤ 1 → length (filter (is_of id) (unreaped_children (Birth i n ∷ past))) ≤ 1
 one_birth goal i n past id ready before = at_id (same_id id i) refl where
-  at_id : (b : Bool) → same_id id i ≡ b → length (cond b (born i n past ∷ filter (is_of id) (unreaped past)) (filter (is_of id) (unreaped past))) ≤ 1
-  at_id true same = rw (filter_none (is_of id) (unreaped past) (ap (λ x. has_child x (unreaped past)) (same_id-is id i same) ∙ ready_alone i past ready)) (lit≤ tt)
+  at_id : (b : Bool) → same_id id i ≡ b → length (cond b (newborn i n past ∷ filter (is_of id) (unreaped_children past)) (filter (is_of id) (unreaped_children past))) ≤ 1
+  at_id true same = rw (filter_none (is_of id) (unreaped_children past) (ap (λ x. has_child x (unreaped_children past)) (same_id-is id i same) ∙ ready_alone i past ready)) (lit≤ tt)
   at_id false differ = before
 
-pub one_child : (goal : Goal) (past : List Event) → is_sound goal past ≡ true → (id : List ℕ) → length (filter (is_of id) (unreaped past)) ≤ 1
-one_child goal past h = sound_ind goal (λ before. (id : List ℕ) → length (filter (is_of id) (unreaped before)) ≤ 1) (λ table distinct id. lit≤ tt) next past h where
-  next : (happening : Event) (before : List Event) → may_come goal happening before ≡ true → is_sound goal before ≡ true → ((id : List ℕ) → length (filter (is_of id) (unreaped before)) ≤ 1) → (id : List ℕ) → length (filter (is_of id) (unreaped (happening ∷ before))) ≤ 1
+pub one_child : (goal : Goal) (past : List Event) → is_sound goal past ≡ true → (id : List ℕ) → length (filter (is_of id) (unreaped_children past)) ≤ 1
+one_child goal past h = sound_ind goal (λ before. (id : List ℕ) → length (filter (is_of id) (unreaped_children before)) ≤ 1) (λ table distinct id. lit≤ tt) next past h where
+  next : (happening : Event) (before : List Event) → may_come goal happening before ≡ true → is_sound goal before ≡ true → ((id : List ℕ) → length (filter (is_of id) (unreaped_children before)) ≤ 1) → (id : List ℕ) → length (filter (is_of id) (unreaped_children (happening ∷ before))) ≤ 1
   next (Birth i n) before may sound one id = one_birth goal i n before id (born_ready goal i n before may (sound_holds goal before sound)) (one id)
-  next (Reaped i n status) before may sound one id = le_trans (few_filtered (is_of id) (λ child. not (is_child i n child)) (unreaped before)) (one id)
+  next (Reaped i n status) before may sound one id = le_trans (few_filtered (is_of id) (λ child. not (is_child i n child)) (unreaped_children before)) (one id)
   next (_) before may sound one id = one id
 
-pub one_child_at : (goal : Goal) (later past : List Event) (id : List ℕ) → is_sound goal (later ++ past) ≡ true → length (filter (is_of id) (unreaped past)) ≤ 1
-one_child_at goal later past id h = at_moment goal (λ before. length (filter (is_of id) (unreaped before)) ≤ 1) (lit≤ tt) (λ before sound. one_child goal before sound id) later past h
+pub one_child_at : (goal : Goal) (later past : List Event) (id : List ℕ) → is_sound goal (later ++ past) ≡ true → length (filter (is_of id) (unreaped_children past)) ≤ 1
+one_child_at goal later past id h = at_moment goal (λ before. length (filter (is_of id) (unreaped_children before)) ≤ 1) (lit≤ tt) (λ before sound. one_child goal before sound id) later past h
 
 pub birth_in_turn : (goal : Goal) (later : List Event) (id : List ℕ) (n : ℕ) (past : List Event) → is_sound goal (later ++ Birth id n ∷ past) ≡ true → is_in_turn id past ≡ true
 birth_in_turn goal later id n past h = not_from (is_owed_before id past) (birth_ready goal later id n past h).ahead
 
 pub birth_spared : (goal : Goal) (later : List Event) (id : List ℕ) (n : ℕ) (past : List Event) → is_sound goal (later ++ Birth id n ∷ past) ≡ true → are_spared past ≡ true
-birth_spared goal later id n past h = not_from (list_any (is_excluded past) (unreaped past)) (falsely (list_any (is_excluded past) (unreaped past)) (list_any (is_excluded past) (kept past)) (unreaped_kept (is_excluded past) past) (birth_ready goal later id n past h).spared)
+birth_spared goal later id n past h = not_from (list_any (is_excluded past) (unreaped_children past)) (falsely (list_any (is_excluded past) (unreaped_children past)) (list_any (is_excluded past) (kept_children past)) (unreaped_kept (is_excluded past) past) (birth_ready goal later id n past h).spared)

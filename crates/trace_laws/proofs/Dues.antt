@@ -19,7 +19,7 @@ use Rattle.init_trace.specs.declared.steps.Step.{Step}
 use Rattle.init_trace.specs.declared.steps.Step.TheVariants.{Enter, Call, Power, Reread, Order, Hold, Settle, Reexec, Idle}
 use Rattle.init_trace.specs.declared.steps.Goal.{Goal}
 use Rattle.init_trace.specs.Event.{Event}
-use Rattle.init_trace.specs.Past.{table_of, stage_of, grace_of, time_of, Child, is_of, has_child, kept, known, open_of, is_quiet, is_idle}
+use Rattle.init_trace.specs.Past.{table_of, stage_of, grace_of, time_of, Child, is_of, has_child, open_of, is_quiet, is_idle, kept_children, known_children}
 use Rattle.init_trace.specs.Wanted.{is_wanted, is_owed, is_excluded, entries_before}
 use Rattle.init_trace.specs.Spells.{Signal, is_ripe, stop_by, stop_due, is_missed, spell_hits}
 use Rattle.init_trace.specs.Timing.{is_held, is_full}
@@ -42,13 +42,13 @@ pub record MayRun (id : List ℕ) (es : List Entry) (past : List Event) : Type 0
   pub found : is_distinct es ≡ true → entry_of id es ≡ Some entry
   pub listed : list_any (has_id id) es ≡ true
   pub wanted : is_wanted entry past ≡ true
-  pub childless : has_child id (kept past) ≡ false
+  pub childless : has_child id (kept_children past) ≡ false
   pub unasked : open_of id past ≡ None
   pub ahead : list_any (λ e. is_owed e past) (entries_before id es) ≡ false
 
 pub record MayStart (id : List ℕ) (es : List Entry) (past : List Event) : Type 0 where
   pub run : MayRun id es past
-  pub spared : list_any (is_excluded past) (kept past) ≡ false
+  pub spared : list_any (is_excluded past) (kept_children past) ≡ false
   pub free : is_limited run.entry.act ≡ true → (is_held id past ≡ false) × (is_full id past ≡ false)
 
 pub record MayHold (id : List ℕ) (es : List Entry) (past : List Event) : Type 0 where
@@ -58,7 +58,7 @@ pub record MayHold (id : List ℕ) (es : List Entry) (past : List Event) : Type 
   pub full : is_full id past ≡ true
 
 pub record MayLook (id : List ℕ) (past : List Event) : Type 0 where
-  pub there : has_child id (known past) ≡ true
+  pub there : has_child id (known_children past) ≡ true
   pub unasked : open_of id past ≡ None
 
 pub record MayStop (id : List ℕ) (ask : Ask) (past : List Event) : Type 0 where
@@ -66,11 +66,11 @@ pub record MayStop (id : List ℕ) (ask : Ask) (past : List Event) : Type 0 wher
   pub own : is_of id child ≡ true
   pub due : stop_due child past ≡ Some ask
   pub unasked : open_of id past ≡ None
-  pub within : (q : Child → Bool) → q child ≡ true → list_any q (known past) ≡ true
+  pub within : (q : Child → Bool) → q child ≡ true → list_any q (known_children past) ≡ true
 
 pub record MaySettle (level : Level) (past : List Event) : Type 0 where
   pub idle : is_idle past ≡ true
-  pub settled : is_settled level (known past) past ≡ true
+  pub settled : is_settled level (known_children past) past ≡ true
 
 abbrev pub OrderFacts : List Entry → List Event → List ℕ → Ask → Type 0
 OrderFacts es past id Start = MayStart id es past
@@ -145,7 +145,7 @@ stop_facts id past Look h may = absurd (false≢true h)
 stop_facts id past Term h may = may
 stop_facts id past Kill h may = may
 
-stops : (id : List ℕ) (past : List Event) → open_of id past ≡ None → (children : List Child) → ((q : Child → Bool) → list_any q children ≡ true → list_any q (known past) ≡ true) → Each (Facts past) (stops_of id children past)
+stops : (id : List ℕ) (past : List Event) → open_of id past ≡ None → (children : List Child) → ((q : Child → Bool) → list_any q children ≡ true → list_any q (known_children past) ≡ true) → Each (Facts past) (stops_of id children past)
 stops id past unasked [] within = tt
 stops id past unasked (child ∷ children) within = each_append (Facts past) (steps_if (is_of id child) (stop_step id (stop_due child past))) (stops_of id children past) (each_steps_if (Facts past) (is_of id child) (stop_step id (stop_due child past)) (λ own. step own (stop_due child past) refl)) (stops id past unasked children (λ q h. within q (or_right (q child) (list_any q children) h))) where
   step : is_of id child ≡ true → (o : Option Ask) → stop_due child past ≡ o → Each (Facts past) (stop_step id o)
@@ -154,7 +154,7 @@ stops id past unasked (child ∷ children) within = each_append (Facts past) (st
 
 stops_all : (ids : List (List ℕ)) (past : List Event) → Each (Facts past) (stops_among ids past)
 stops_all [] past = tt
-stops_all (id ∷ ids) past = each_append (Facts past) (steps_if (is_none (open_of id past)) (stops_of id (known past) past)) (stops_among ids past) (each_steps_if (Facts past) (is_none (open_of id past)) (stops_of id (known past) past) (λ free. stops id past (is_none-is (open_of id past) free) (known past) (λ q h. h))) (stops_all ids past)
+stops_all (id ∷ ids) past = each_append (Facts past) (steps_if (is_none (open_of id past)) (stops_of id (known_children past) past)) (stops_among ids past) (each_steps_if (Facts past) (is_none (open_of id past)) (stops_of id (known_children past) past) (λ free. stops id past (is_none-is (open_of id past) free) (known_children past) (λ q h. h))) (stops_all ids past)
 
 -- 7
 run_later : (id : List ℕ) (e : Entry) (es : List Entry) (past : List Event) → is_owed e past ≡ false → MayRun id es past → MayRun id (e ∷ es) past
@@ -193,21 +193,21 @@ facts_later e es past free (Call letter) may = may
 facts_later e es past free (Power kind) may = may
 facts_later e es past free _ may = tt
 
-starts : (past : List Event) → list_any (is_excluded past) (kept past) ≡ false → (es : List Entry) → Each (FactsAlong es past) (starts_among es past)
+starts : (past : List Event) → list_any (is_excluded past) (kept_children past) ≡ false → (es : List Entry) → Each (FactsAlong es past) (starts_among es past)
 unfolding run_later
 starts past spared [] = tt
 starts past spared (e ∷ es) = each_append (FactsAlong (e ∷ es) past) (steps_if (can_start e past) (start_steps e past)) (cond (is_owed e past) [] (starts_among es past)) (each_steps_if (FactsAlong (e ∷ es) past) (can_start e past) (start_steps e past) (λ can. by_act (run can) refl (is_limited e.act) refl)) (later (is_owed e past) refl (starts past spared es)) where
   run : can_start e past ≡ true → MayRun e.id (e ∷ es) past
   run can =
-      let all = and_parts (is_wanted e past && not (has_child e.id (kept past))) (is_none (open_of e.id past)) can in
-      let two = and_parts (is_wanted e past) (not (has_child e.id (kept past))) all.0 in
+      let all = and_parts (is_wanted e past && not (has_child e.id (kept_children past))) (is_none (open_of e.id past)) can in
+      let two = and_parts (is_wanted e past) (not (has_child e.id (kept_children past))) all.0 in
       record {
         entry = e;
         own = refl;
         found = λ _. rw (same_id-self e.id) refl;
         listed = or_left (same_id e.id e.id) (list_any (has_id e.id) es) (same_id-self e.id);
         wanted = two.0;
-        childless = not-true (has_child e.id (kept past)) two.1;
+        childless = not-true (has_child e.id (kept_children past)) two.1;
         unasked = is_none-is (open_of e.id past) all.1;
         ahead = rw (same_id-self e.id) refl;
       }
@@ -236,7 +236,7 @@ stages past quiet goal (Some (stage.Run level)) = tt
 
 over_quiet : (past : List Event) → is_over past ≡ true → is_quiet past ≡ true
 over_quiet past h =
-    let all : List Event → Bool = λ so_far. list_all (λ e. not (is_wanted e so_far) && not (waited_of e && has_child e.id (kept so_far))) (table_of so_far) in
+    let all : List Event → Bool = λ so_far. list_all (λ e. not (is_wanted e so_far) && not (waited_of e && has_child e.id (kept_children so_far))) (table_of so_far) in
     (and_parts (not (wish_stands past)) (is_quiet past) (and_parts (not (wish_stands past) && is_quiet past) (none_excluded past) (and_parts (not (wish_stands past) && is_quiet past && none_excluded past) (all past) h).0).0).1
 
 -- 9
@@ -244,7 +244,7 @@ settles : (past : List Event) → is_idle past ≡ true → (o : Option Stage) �
 settles past idle None = tt
 settles past idle (Some stage.Sysinit) = tt
 settles past idle (Some stage.Boot) = tt
-settles past idle (Some (stage.Run level)) = each_step_if (Facts past) (is_settled level (known past) past) (Settle level) (λ settled. record { idle = idle; settled = settled })
+settles past idle (Some (stage.Run level)) = each_step_if (Facts past) (is_settled level (known_children past) past) (Settle level) (λ settled. record { idle = idle; settled = settled })
 
 -- 10
 looks : (past : List Event) (ids : List (List ℕ)) → Each (Facts past) (looks_among ids past)
@@ -252,8 +252,8 @@ looks past [] = tt
 looks past (id ∷ ids) = each_append (Facts past) (step_if (can_look id past) (Order id Look)) (looks_among ids past) (each_step_if (Facts past) (can_look id past) (Order id Look) may) (looks past ids) where
   may : can_look id past ≡ true → MayLook id past
   may can =
-      let parts = and_parts (has_child id (known past) && is_none (open_of id past)) (wants_look id past) can in
-      let two = and_parts (has_child id (known past)) (is_none (open_of id past)) parts.0 in
+      let parts = and_parts (has_child id (known_children past) && is_none (open_of id past)) (wants_look id past) can in
+      let two = and_parts (has_child id (known_children past)) (is_none (open_of id past)) parts.0 in
       record { there = two.0; unasked = is_none-is (open_of id past) two.1 }
 
 -- all the ranks
@@ -311,7 +311,7 @@ dues goal past = join (rank1 ++ rank2 ++ rank3 ++ rank4 ++ rank5 ++ rank6 ++ ran
   facts6 = each_steps_if (Facts past) (not (wish_stands past)) (stops_among (record_ids past) past) (λ _. stops_all (record_ids past) past)
 
   facts7 : Each (Facts past) (due_starts past)
-  facts7 = each_steps_if (Facts past) (not (wish_stands past) && none_excluded past) (starts_among (table_of past) past) (λ h. starts past (not-true (list_any (is_excluded past) (kept past)) (and_parts (not (wish_stands past)) (none_excluded past) h).1) (table_of past))
+  facts7 = each_steps_if (Facts past) (not (wish_stands past) && none_excluded past) (starts_among (table_of past) past) (λ h. starts past (not-true (list_any (is_excluded past) (kept_children past)) (and_parts (not (wish_stands past)) (none_excluded past) h).1) (table_of past))
 
   facts8 : Each (Facts past) (due_stage goal past)
   facts8 = each_steps_if (Facts past) (is_over past) (next_stage (goal_of goal past) (stage_of past)) (λ h. stages past (over_quiet past h) (goal_of goal past) (stage_of past))

@@ -22,7 +22,7 @@ use Rattle.init_trace.specs.declared.happenings.Happening.TheVariants.{NewTable,
 use Rattle.init_trace.specs.declared.steps.Step.TheVariants as step
 use Rattle.init_trace.specs.declared.steps.Goal.{Goal}
 use Rattle.init_trace.specs.Event.{Event}
-use Rattle.init_trace.specs.Past.{table_of, stage_of, grace_of, time_of, Child, is_of, is_child, has_number, has_child, born, unreaped, kept, known, open_of, undone_of, is_untold, is_quiet, is_dead}
+use Rattle.init_trace.specs.Past.{table_of, stage_of, grace_of, time_of, Child, is_of, is_child, has_number, has_child, open_of, undone_of, is_untold, is_quiet, is_dead, newborn, unreaped_children, kept_children, known_children}
 use Rattle.init_trace.specs.Wanted.{starts_in, is_order, is_asked, is_called, is_wanted, is_owed, entries_before, is_owed_before, may_live, is_excluded}
 use Rattle.init_trace.specs.Spells.{stop_due, stop_by, is_missed, spell_hits}
 use Rattle.init_trace.specs.Lawful.{is_placed, may_term}
@@ -36,14 +36,14 @@ use Rattle.trace_laws.proofs.Dues.{is_signal, MayRun, MayStart, MayStop, due_fac
 
 -- while a Start of the id is undone: no kept child of it, its entry starts in the stage, no earlier one is owed, no kept child is excluded
 pub record Ready (id : List ℕ) (past : List Event) : Type 0 where
-  pub childless : has_child id (kept past) ≡ false
+  pub childless : has_child id (kept_children past) ≡ false
   pub placed : is_placed id past ≡ true
   pub ahead : is_owed_before id past ≡ false
-  pub spared : list_any (is_excluded past) (kept past) ≡ false
+  pub spared : list_any (is_excluded past) (kept_children past) ≡ false
 
 pub record Holds (past : List Event) : Type 0 where
   pub distinct : is_distinct (table_of past) ≡ true
-  pub dawn : stage_of past ≡ None → list_any (λ (child : Child). true) (kept past) ≡ false
+  pub dawn : stage_of past ≡ None → list_any (λ (child : Child). true) (kept_children past) ≡ false
   pub told : (id : List ℕ) → is_untold id past ≡ true → is_some (open_of id past) ≡ true
   pub done : (id : List ℕ) (ask : Ask) → undone_of id past ≡ Some ask → is_untold id past ≡ false
   pub ready : (id : List ℕ) → undone_of id past ≡ Some Start → Ready id past
@@ -79,10 +79,10 @@ undone_some ask id past h = ap is_some (undone_is_open id ask past (is_order-is 
 
 -- a birth came on an undone Start, a reaping on an undone Look
 pub start_undone : (goal : Goal) (id : List ℕ) (n : ℕ) (past : List Event) → may_come goal (Birth id n) past ≡ true → is_order Start (undone_of id past) ≡ true
-start_undone goal id n past may = (and_parts (is_order Start (undone_of id past)) (not (list_any (has_number n) (unreaped past))) may).0
+start_undone goal id n past may = (and_parts (is_order Start (undone_of id past)) (not (list_any (has_number n) (unreaped_children past))) may).0
 
-pub look_undone : (goal : Goal) (id : List ℕ) (n : ℕ) (status : Status) (past : List Event) → may_come goal (Reaped id n status) past ≡ true → (is_order Look (undone_of id past) ≡ true) × (list_any (is_child id n) (unreaped past) ≡ true)
-look_undone goal id n status past may = and_parts (is_order Look (undone_of id past)) (list_any (is_child id n) (unreaped past)) (and_parts (is_order Look (undone_of id past) && list_any (is_child id n) (unreaped past)) (is_dead id n past) may).0
+pub look_undone : (goal : Goal) (id : List ℕ) (n : ℕ) (status : Status) (past : List Event) → may_come goal (Reaped id n status) past ≡ true → (is_order Look (undone_of id past) ≡ true) × (list_any (is_child id n) (unreaped_children past) ≡ true)
+look_undone goal id n status past may = and_parts (is_order Look (undone_of id past)) (list_any (is_child id n) (unreaped_children past)) (and_parts (is_order Look (undone_of id past) && list_any (is_child id n) (unreaped_children past)) (is_dead id n past) may).0
 
 -- so its id was ready for it
 pub born_ready : (goal : Goal) (id : List ℕ) (n : ℕ) (past : List Event) → may_come goal (Birth id n) past ≡ true → Holds past → Ready id past
@@ -144,7 +144,7 @@ placed_lives (Some e) None h = absurd (false≢true h)
 placed_lives (Some e) (Some now) h = and_from _ _ (same_act-self e.act) (starts_lives e.act e.levels.items now h)
 
 -- a child that is born of an entry that starts in the stage is not excluded
-pub placed_spared : (id : List ℕ) (n : ℕ) (past : List Event) → is_placed id past ≡ true → is_excluded past (born id n past) ≡ false
+pub placed_spared : (id : List ℕ) (n : ℕ) (past : List Event) → is_placed id past ≡ true → is_excluded past (newborn id n past) ≡ false
 placed_spared id n past h = not_from_true (may_live (entry_of id (table_of past)) (act_of id (table_of past)) (stage_of past)) (placed_lives (entry_of id (table_of past)) (stage_of past) h)
 
 -- before the first stage no entry starts
@@ -183,7 +183,7 @@ owed_waited : (action : Act) (child start starts fresh called : Bool) → owed_b
 owed_waited action child start starts fresh called h = (and_parts (waited_by action) (child || start || starts && wanted_by action (not child && not start) fresh called) h).0
 
 owed_wanted : (e : Entry) (past : List Event) → waited_of e ≡ true → is_wanted e past ≡ true → is_owed e past ≡ true
-owed_wanted e past waited wanted = and_from (waited_of e) _ waited (or_right (has_child e.id (kept past) || is_order Start (open_of e.id past)) (is_wanted e past) wanted)
+owed_wanted e past waited wanted = and_from (waited_of e) _ waited (or_right (has_child e.id (kept_children past) || is_order Start (open_of e.id past)) (is_wanted e past) wanted)
 
 -- what is owed after a birth, a Told or an order was owed before it
 born_owed : (action : Act) (own child start starts fresh called : Bool) → (own ≡ true → start ≡ true) → owed_by action (own || child) start starts fresh called ≡ true → owed_by action child start starts fresh called ≡ true
@@ -191,25 +191,25 @@ born_owed action true child start starts fresh called f h = owed_start action ch
 born_owed action false child start starts fresh called f h = h
 
 owed_birth : (e : Entry) (i : List ℕ) (n : ℕ) (past : List Event) → open_of i past ≡ Some Start → is_owed e (Birth i n ∷ past) ≡ true → is_owed e past ≡ true
-owed_birth e i n past started h = born_owed e.act (same_id e.id i) (has_child e.id (kept past)) (is_order Start (open_of e.id past)) (starts_in e (stage_of past)) (not (is_asked e.id past)) (is_called e past) (λ same. ap (is_order Start) (ap (λ x. open_of x past) (same_id-is e.id i same) ∙ started)) h
+owed_birth e i n past started h = born_owed e.act (same_id e.id i) (has_child e.id (kept_children past)) (is_order Start (open_of e.id past)) (starts_in e (stage_of past)) (not (is_asked e.id past)) (is_called e past) (λ same. ap (is_order Start) (ap (λ x. open_of x past) (same_id-is e.id i same) ∙ started)) h
 
 order_cleared : (b : Bool) (ask : Ask) (o : Option Ask) → is_order ask (cond b None o) ≡ true → is_order ask o ≡ true
 order_cleared true ask o h = absurd (false≢true h)
 order_cleared false ask o h = h
 
 owed_told : (e : Entry) (i : List ℕ) (past : List Event) → is_owed e (Told i ∷ past) ≡ true → is_owed e past ≡ true
-owed_told e i past h = owed_less e.act (has_child e.id (kept (Told i ∷ past))) (is_order Start (cond (same_id e.id i) None (open_of e.id past))) (has_child e.id (kept past)) (is_order Start (open_of e.id past)) (starts_in e (stage_of past)) (not (is_asked e.id past)) (is_called e past) (kept_before_told (is_of e.id) i past) (order_cleared (same_id e.id i) Start (open_of e.id past)) h
+owed_told e i past h = owed_less e.act (has_child e.id (kept_children (Told i ∷ past))) (is_order Start (cond (same_id e.id i) None (open_of e.id past))) (has_child e.id (kept_children past)) (is_order Start (open_of e.id past)) (starts_in e (stage_of past)) (not (is_asked e.id past)) (is_called e past) (kept_before_told (is_of e.id) i past) (order_cleared (same_id e.id i) Start (open_of e.id past)) h
 
-owed_order : (e : Entry) (b : Bool) (ask : Ask) (past : List Event) → same_ask Start ask ≡ false → owed_by e.act (has_child e.id (kept past)) (is_order Start (cond b (Some ask) (open_of e.id past))) (starts_in e (stage_of past)) (not (is_asked e.id past)) (is_called e past) ≡ true → is_owed e past ≡ true
-owed_order e b ask past other h = owed_less e.act (has_child e.id (kept past)) (is_order Start (cond b (Some ask) (open_of e.id past))) (has_child e.id (kept past)) (is_order Start (open_of e.id past)) (starts_in e (stage_of past)) (not (is_asked e.id past)) (is_called e past) (λ c. c) (at_id b) h where
+owed_order : (e : Entry) (b : Bool) (ask : Ask) (past : List Event) → same_ask Start ask ≡ false → owed_by e.act (has_child e.id (kept_children past)) (is_order Start (cond b (Some ask) (open_of e.id past))) (starts_in e (stage_of past)) (not (is_asked e.id past)) (is_called e past) ≡ true → is_owed e past ≡ true
+owed_order e b ask past other h = owed_less e.act (has_child e.id (kept_children past)) (is_order Start (cond b (Some ask) (open_of e.id past))) (has_child e.id (kept_children past)) (is_order Start (open_of e.id past)) (starts_in e (stage_of past)) (not (is_asked e.id past)) (is_called e past) (λ c. c) (at_id b) h where
   at_id : (b : Bool) → is_order Start (cond b (Some ask) (open_of e.id past)) ≡ true → is_order Start (open_of e.id past) ≡ true
   at_id true h = both_ways (same_ask Start ask) h other
   at_id false h = h
 
 owed_asked : (e : Entry) (i : List ℕ) (past : List Event) → (same_id e.id i ≡ true → is_wanted e past ≡ true) → is_owed e (Asked i Start ∷ past) ≡ true → is_owed e past ≡ true
 owed_asked e i past wanted h = at_id (same_id e.id i) wanted h where
-  at_id : (b : Bool) → (b ≡ true → is_wanted e past ≡ true) → owed_by e.act (has_child e.id (kept past)) (is_order Start (cond b (Some Start) (open_of e.id past))) (starts_in e (stage_of past)) (not (b || is_asked e.id past)) (not b && is_called e past) ≡ true → is_owed e past ≡ true
-  at_id true wanted h = owed_wanted e past (owed_waited e.act (has_child e.id (kept past)) true (starts_in e (stage_of past)) false false h) (wanted refl)
+  at_id : (b : Bool) → (b ≡ true → is_wanted e past ≡ true) → owed_by e.act (has_child e.id (kept_children past)) (is_order Start (cond b (Some Start) (open_of e.id past))) (starts_in e (stage_of past)) (not (b || is_asked e.id past)) (not b && is_called e past) ≡ true → is_owed e past ≡ true
+  at_id true wanted h = owed_wanted e past (owed_waited e.act (has_child e.id (kept_children past)) true (starts_in e (stage_of past)) false false h) (wanted refl)
   at_id false wanted h = h
 
 -- an entry that is found stands in the table
@@ -286,10 +286,10 @@ ready_birth goal i n past may holds id h = cleared (same_id id i) (undone_of id 
   other differ is =
       let was = holds.ready id is in
       record {
-        childless = or_from (same_id id i) (has_child id (kept past)) differ was.childless;
+        childless = or_from (same_id id i) (has_child id (kept_children past)) differ was.childless;
         placed = was.placed;
         ahead = ahead_less id (Birth i n) past holds.distinct (λ e found. owed_birth e i n past (undone_is_open i Start past started)) was.ahead;
-        spared = or_from (is_excluded past (born i n past)) (list_any (is_excluded past) (kept past)) (placed_spared i n past (holds.ready i started).placed) was.spared;
+        spared = or_from (is_excluded past (newborn i n past)) (list_any (is_excluded past) (kept_children past)) (placed_spared i n past (holds.ready i started).placed) was.spared;
       }
 
 ready_told : (i : List ℕ) (past : List Event) → Holds past → (id : List ℕ) → undone_of id (Told i ∷ past) ≡ Some Start → Ready id (Told i ∷ past)
@@ -298,17 +298,17 @@ ready_told i past holds id h = cleared (same_id id i) (undone_of id past) Start 
   other differ is =
       let was = holds.ready id is in
       record {
-        childless = falsely (has_child id (kept (Told i ∷ past))) (has_child id (kept past)) (kept_before_told (is_of id) i past) was.childless;
+        childless = falsely (has_child id (kept_children (Told i ∷ past))) (has_child id (kept_children past)) (kept_before_told (is_of id) i past) was.childless;
         placed = was.placed;
         ahead = ahead_less id (Told i) past holds.distinct (λ e found. owed_told e i past) was.ahead;
-        spared = falsely (list_any (is_excluded past) (kept (Told i ∷ past))) (list_any (is_excluded past) (kept past)) (kept_before_told (is_excluded past) i past) was.spared;
+        spared = falsely (list_any (is_excluded past) (kept_children (Told i ∷ past))) (list_any (is_excluded past) (kept_children past)) (kept_before_told (is_excluded past) i past) was.spared;
       }
 
 -- an act on another order leaves what it found
 act_ready : (id : List ℕ) (past : List Event) (b : Bool) → cond b None (undone_of id past) ≡ Some Start → (undone_of id past ≡ Some Start → Ready id past) → Ready id past
 act_ready id past b h before = cleared b (undone_of id past) Start (λ differ is. before is) h
 
-same_ready : (id : List ℕ) (happening : Event) (past : List Event) → has_child id (kept (happening ∷ past)) ≡ has_child id (kept past) → is_placed id (happening ∷ past) ≡ is_placed id past → is_owed_before id (happening ∷ past) ≡ is_owed_before id past → list_any (is_excluded (happening ∷ past)) (kept (happening ∷ past)) ≡ list_any (is_excluded past) (kept past) → Ready id past → Ready id (happening ∷ past)
+same_ready : (id : List ℕ) (happening : Event) (past : List Event) → has_child id (kept_children (happening ∷ past)) ≡ has_child id (kept_children past) → is_placed id (happening ∷ past) ≡ is_placed id past → is_owed_before id (happening ∷ past) ≡ is_owed_before id past → list_any (is_excluded (happening ∷ past)) (kept_children (happening ∷ past)) ≡ list_any (is_excluded past) (kept_children past) → Ready id past → Ready id (happening ∷ past)
 same_ready id happening past e1 e2 e3 e4 was = record { childless = e1 ∙ was.childless; placed = e2 ∙ was.placed; ahead = e3 ∙ was.ahead; spared = e4 ∙ was.spared }
 
 ready_keeps : (goal : Goal) (happening : Event) (past : List Event) → may_come goal happening past ≡ true → Holds past → (id : List ℕ) → undone_of id (happening ∷ past) ≡ Some Start → Ready id (happening ∷ past)
@@ -335,8 +335,8 @@ stop_excluded child ask past h = at_child (is_excluded past child) (is_missed ch
   at_child false c o h = absurd (none-some ask h)
 
 -- a child that a signal is due to is known, so unreaped where no order of its id is open
-pub stop_unreaped : (id : List ℕ) (ask : Ask) (past : List Event) → ((x : List ℕ) → is_untold x past ≡ true → is_some (open_of x past) ≡ true) → (may : MayStop id ask past) → (p : Child → Bool) → p may.child ≡ true → list_any (λ child. is_of id child && p child) (unreaped past) ≡ true
-stop_unreaped id ask past told may p holds = sym (same_of id p (known past) (unreaped past) (told_known id past (free_told id past told may.unasked))) ∙ may.within (λ child. is_of id child && p child) (and_from (is_of id may.child) (p may.child) may.own holds)
+pub stop_unreaped : (id : List ℕ) (ask : Ask) (past : List Event) → ((x : List ℕ) → is_untold x past ≡ true → is_some (open_of x past) ≡ true) → (may : MayStop id ask past) → (p : Child → Bool) → p may.child ≡ true → list_any (λ child. is_of id child && p child) (unreaped_children past) ≡ true
+stop_unreaped id ask past told may p holds = sym (same_of id p (known_children past) (unreaped_children past) (told_known id past (free_told id past told may.unasked))) ∙ may.within (λ child. is_of id child && p child) (and_from (is_of id may.child) (p may.child) may.own holds)
 
 stop_may : (id : List ℕ) (ask : Ask) (past : List Event) → ((x : List ℕ) → is_untold x past ≡ true → is_some (open_of x past) ≡ true) → MayStop id ask past → may_term id past ≡ true
 stop_may id ask past told may = stop_unreaped id ask past told may (is_excluded past) (stop_excluded may.child ask past may.due)
@@ -350,14 +350,14 @@ asked_may_term goal i Look past may told signal = absurd (false≢true signal)
 stop_keeps : (goal : Goal) (happening : Event) (past : List Event) → may_come goal happening past ≡ true → Holds past → (id : List ℕ) (ask : Ask) → undone_of id (happening ∷ past) ≡ Some ask → is_signal ask ≡ true → may_term id (happening ∷ past) ≡ true
 stop_keeps goal (NewTable table) past may holds id ask h signal = no_signal id ask past (and_parts (is_quiet past) (is_distinct table) may).0 h signal
 stop_keeps goal (Enter s grace) past may holds id ask h signal = elim (due_facts goal past (step.Enter s grace) may) [ inl quiet ↦ no_signal id ask past quiet h signal | inr dawn ↦ absurd (none_there (holds.dawn dawn)) ] where
-  none_there : list_any (λ (child : Child). true) (kept past) ≡ false → ⊥
-  none_there none = both_ways (list_any (λ (child : Child). true) (kept past)) (unreaped_kept (λ child. true) past (any_less (λ child. is_of id child && is_excluded past child) (λ child. true) (λ child _. refl) (unreaped past) (holds.stopping id ask h signal))) none
+  none_there : list_any (λ (child : Child). true) (kept_children past) ≡ false → ⊥
+  none_there none = both_ways (list_any (λ (child : Child). true) (kept_children past)) (unreaped_kept (λ child. true) past (any_less (λ child. is_of id child && is_excluded past child) (λ child. true) (λ child _. refl) (unreaped_children past) (holds.stopping id ask h signal))) none
 stop_keeps goal (Asked i given) past may holds id ask h signal = at_id (same_id id i) refl h where
   at_id : (b : Bool) → same_id id i ≡ b → cond b (Some given) (undone_of id past) ≡ Some ask → may_term id past ≡ true
   at_id true same h = ap (λ x. may_term x past) (same_id-is id i same) ∙ asked_may_term goal i given past may holds.told (ap is_signal (same_Some given ask h) ∙ signal)
   at_id false differ h = holds.stopping id ask h signal
-stop_keeps goal (Birth i n) past may holds id ask h signal = cleared (same_id id i) (undone_of id past) ask (λ differ is. or_right (same_id id i && is_excluded past (born i n past)) (may_term id past) (holds.stopping id ask is signal)) h
-stop_keeps goal (Reaped i n status) past may holds id ask h signal = cleared (same_id id i) (undone_of id past) ask (λ differ is. any_within (λ child. is_of id child && is_excluded past child) (λ child. not (is_child i n child)) (other differ) (unreaped past) ∙ holds.stopping id ask is signal) h where
+stop_keeps goal (Birth i n) past may holds id ask h signal = cleared (same_id id i) (undone_of id past) ask (λ differ is. or_right (same_id id i && is_excluded past (newborn i n past)) (may_term id past) (holds.stopping id ask is signal)) h
+stop_keeps goal (Reaped i n status) past may holds id ask h signal = cleared (same_id id i) (undone_of id past) ask (λ differ is. any_within (λ child. is_of id child && is_excluded past child) (λ child. not (is_child i n child)) (other differ) (unreaped_children past) ∙ holds.stopping id ask is signal) h where
   other : same_id id i ≡ false → (child : Child) → (is_of id child && is_excluded past child) ≡ true → not (is_child i n child) ≡ true
   other differ child own = not_from (is_child i n child) (and_left (same_id i child.id) (n == child.number) (same_id-apart id i child.id differ (and_parts (is_of id child) (is_excluded past child) own).0))
 stop_keeps goal (Told i) past may holds id ask h signal = cleared (same_id id i) (undone_of id past) ask (λ differ is. holds.stopping id ask is signal) h
@@ -373,10 +373,10 @@ distinct_keeps : (goal : Goal) (happening : Event) (past : List Event) → may_c
 distinct_keeps goal (NewTable table) past may distinct = (and_parts (is_quiet past) (is_distinct table) may).1
 distinct_keeps goal (_) past may distinct = distinct
 
-dawn_keeps : (goal : Goal) (happening : Event) (past : List Event) → may_come goal happening past ≡ true → Holds past → stage_of (happening ∷ past) ≡ None → list_any (λ (child : Child). true) (kept (happening ∷ past)) ≡ false
+dawn_keeps : (goal : Goal) (happening : Event) (past : List Event) → may_come goal happening past ≡ true → Holds past → stage_of (happening ∷ past) ≡ None → list_any (λ (child : Child). true) (kept_children (happening ∷ past)) ≡ false
 dawn_keeps goal (Enter s grace) past may holds h = absurd (none-some s (sym h))
 dawn_keeps goal (Birth i n) past may holds h = not_placed i past h (born_ready goal i n past may holds).placed
-dawn_keeps goal (Told i) past may holds h = falsely (list_any (λ (child : Child). true) (kept (Told i ∷ past))) (list_any (λ (child : Child). true) (kept past)) (kept_before_told (λ child. true) i past) (holds.dawn h)
+dawn_keeps goal (Told i) past may holds h = falsely (list_any (λ (child : Child). true) (kept_children (Told i ∷ past))) (list_any (λ (child : Child). true) (kept_children past)) (kept_before_told (λ child. true) i past) (holds.dawn h)
 dawn_keeps goal (_) past may holds h = holds.dawn h
 
 pub keeps : (goal : Goal) (happening : Event) (past : List Event) → may_come goal happening past ≡ true → Holds past → Holds (happening ∷ past)

@@ -11,7 +11,7 @@ use Rattle.init_trace.specs.declared.happenings.Happening.TheVariants.{Asked, Bi
 use Rattle.init_trace.specs.declared.steps.Goal.{Goal}
 use Rattle.init_trace.specs.declared.steps.Step.TheVariants as step
 use Rattle.init_trace.specs.Event.{Event}
-use Rattle.init_trace.specs.Past.{Child, grace_of, time_of, is_of, is_child, born, unreaped, open_of, undone_of, is_untold}
+use Rattle.init_trace.specs.Past.{Child, grace_of, time_of, is_of, is_child, open_of, undone_of, is_untold, newborn, unreaped_children}
 use Rattle.init_trace.specs.Wanted.{is_order, is_excluded}
 use Rattle.init_trace.specs.Spells.{Signal, untold_hits, told_at, in_spell, spell_hits}
 use Rattle.init_trace.specs.Due.{is_due}
@@ -170,8 +170,8 @@ few_kills past child = nat_le (kills child past) 1
 abbrev no_kill : List Event → Child → Bool
 no_kill past child = nat_le (told_kills child past) 0
 
-kill_first : (goal : Goal) (i : List ℕ) (past : List Event) → is_due goal (step.Order i Kill) past ≡ true → is_sound goal past ≡ true → list_all (λ child. not (is_of i child) || no_kill past child) (unreaped past) ≡ true
-kill_first goal i past due sound = one_all (is_of i) (no_kill past) (unreaped past) (one_child goal past sound i) (stop_unreaped i Kill past (sound_holds goal past sound).told may (no_kill past) none) where
+kill_first : (goal : Goal) (i : List ℕ) (past : List Event) → is_due goal (step.Order i Kill) past ≡ true → is_sound goal past ≡ true → list_all (λ child. not (is_of i child) || no_kill past child) (unreaped_children past) ≡ true
+kill_first goal i past due sound = one_all (is_of i) (no_kill past) (unreaped_children past) (one_child goal past sound i) (stop_unreaped i Kill past (sound_holds goal past sound).told may (no_kill past) none) where
   may : MayStop i Kill past
   may = due_facts goal past (step.Order i Kill) due
 
@@ -197,28 +197,28 @@ begun_none true true orders left old h = lit≤ tt
 begun_none true false orders left old h = lit≤ tt
 begun_none false c orders left old h = absurd (false≢true h)
 
-begun_few : (i : List ℕ) (n : ℕ) (past : List Event) → few_kills (Birth i n ∷ past) (born i n past) ≡ true
-begun_few i n past = le-leb (kills (born i n past) (Birth i n ∷ past)) 1 (begun_none (same_id i i) (is_excluded past (born i n past)) (untold_hits i past) (undone_of i past) (spell_hits (born i n past) past) (same_id-self i))
+begun_few : (i : List ℕ) (n : ℕ) (past : List Event) → few_kills (Birth i n ∷ past) (newborn i n past) ≡ true
+begun_few i n past = le-leb (kills (newborn i n past) (Birth i n ∷ past)) 1 (begun_none (same_id i i) (is_excluded past (newborn i n past)) (untold_hits i past) (undone_of i past) (spell_hits (newborn i n past) past) (same_id-self i))
 
-sound_kills : (goal : Goal) (past : List Event) → is_sound goal past ≡ true → list_all (few_kills past) (unreaped past) ≡ true
-sound_kills goal past h = sound_ind goal (λ before. list_all (few_kills before) (unreaped before) ≡ true) (λ table distinct. refl) next past h where
+sound_kills : (goal : Goal) (past : List Event) → is_sound goal past ≡ true → list_all (few_kills past) (unreaped_children past) ≡ true
+sound_kills goal past h = sound_ind goal (λ before. list_all (few_kills before) (unreaped_children before) ≡ true) (λ table distinct. refl) next past h where
   fewer : (happening : Event) (before : List Event) → may_come goal happening before ≡ true → is_kill happening ≡ false → (child : Child) → few_kills before child ≡ true → few_kills (happening ∷ before) child ≡ true
   fewer happening before may other child few = le-leb (kills child (happening ∷ before)) 1 (le_trans (kills_less goal happening before may other child) (leb-true (kills child before) 1 few))
 
-  next : (happening : Event) (before : List Event) → may_come goal happening before ≡ true → is_sound goal before ≡ true → list_all (few_kills before) (unreaped before) ≡ true → list_all (few_kills (happening ∷ before)) (unreaped (happening ∷ before)) ≡ true
-  next (Birth i n) before may sound few = and_from (few_kills (Birth i n ∷ before) (born i n before)) (list_all (few_kills (Birth i n ∷ before)) (unreaped before)) (begun_few i n before) (all_less (few_kills before) (few_kills (Birth i n ∷ before)) (fewer (Birth i n) before may refl) (unreaped before) few)
-  next (Reaped i n status) before may sound few = all_less (few_kills before) (few_kills (Reaped i n status ∷ before)) (fewer (Reaped i n status) before may refl) (unreaped (Reaped i n status ∷ before)) (all_filtered (few_kills before) (λ child. not (is_child i n child)) (unreaped before) few)
-  next (Asked i Kill) before may sound few = all_less (λ child. few_kills before child && (not (is_of i child) || no_kill before child)) (few_kills (Asked i Kill ∷ before)) one (unreaped before) (all_and (few_kills before) (λ child. not (is_of i child) || no_kill before child) (unreaped before) few (kill_first goal i before may sound)) where
+  next : (happening : Event) (before : List Event) → may_come goal happening before ≡ true → is_sound goal before ≡ true → list_all (few_kills before) (unreaped_children before) ≡ true → list_all (few_kills (happening ∷ before)) (unreaped_children (happening ∷ before)) ≡ true
+  next (Birth i n) before may sound few = and_from (few_kills (Birth i n ∷ before) (newborn i n before)) (list_all (few_kills (Birth i n ∷ before)) (unreaped_children before)) (begun_few i n before) (all_less (few_kills before) (few_kills (Birth i n ∷ before)) (fewer (Birth i n) before may refl) (unreaped_children before) few)
+  next (Reaped i n status) before may sound few = all_less (few_kills before) (few_kills (Reaped i n status ∷ before)) (fewer (Reaped i n status) before may refl) (unreaped_children (Reaped i n status ∷ before)) (all_filtered (few_kills before) (λ child. not (is_child i n child)) (unreaped_children before) few)
+  next (Asked i Kill) before may sound few = all_less (λ child. few_kills before child && (not (is_of i child) || no_kill before child)) (few_kills (Asked i Kill ∷ before)) one (unreaped_children before) (all_and (few_kills before) (λ child. not (is_of i child) || no_kill before child) (unreaped_children before) few (kill_first goal i before may sound)) where
     one : (child : Child) → (few_kills before child && (not (is_of i child) || no_kill before child)) ≡ true → few_kills (Asked i Kill ∷ before) child ≡ true
     one child both =
         let parts = and_parts (few_kills before child) (not (is_of i child) || no_kill before child) both in
         le-leb (kills child (Asked i Kill ∷ before)) 1 (killed_less (same_id child.id i) (in_spell child (Asked i Kill) before) (untold_hits child.id before) (undone_of child.id before) (spell_hits child before) (λ same. hits_told child.id before (free_told child.id before (sound_holds goal before sound).told (ap (λ x. open_of x before) (same_id-is child.id i same) ∙ asked_free goal i Kill before may))) (leb-true (kills child before) 1 parts.0) (ap (λ b. not b || no_kill before child) (same_id-sym child.id i) ∙ parts.1))
-  next (Asked i Start) before may sound few = all_less (few_kills before) (few_kills (Asked i Start ∷ before)) (fewer (Asked i Start) before may refl) (unreaped before) few
-  next (Asked i Look) before may sound few = all_less (few_kills before) (few_kills (Asked i Look ∷ before)) (fewer (Asked i Look) before may refl) (unreaped before) few
-  next (Asked i Term) before may sound few = all_less (few_kills before) (few_kills (Asked i Term ∷ before)) (fewer (Asked i Term) before may refl) (unreaped before) few
-  next happening before may sound few = all_less (few_kills before) (few_kills (happening ∷ before)) (fewer happening before may refl) (unreaped before) few
+  next (Asked i Start) before may sound few = all_less (few_kills before) (few_kills (Asked i Start ∷ before)) (fewer (Asked i Start) before may refl) (unreaped_children before) few
+  next (Asked i Look) before may sound few = all_less (few_kills before) (few_kills (Asked i Look ∷ before)) (fewer (Asked i Look) before may refl) (unreaped_children before) few
+  next (Asked i Term) before may sound few = all_less (few_kills before) (few_kills (Asked i Term ∷ before)) (fewer (Asked i Term) before may refl) (unreaped_children before) few
+  next happening before may sound few = all_less (few_kills before) (few_kills (happening ∷ before)) (fewer happening before may refl) (unreaped_children before) few
 
 pub killed_once : (goal : Goal) (later past : List Event) → is_sound goal (later ++ past) ≡ true → kills_once past ≡ true
-killed_once goal later past h = at_moment goal (λ before. kills_once before ≡ true) refl (λ before sound. all_less (few_kills before) (λ child. nat_le (told_kills child before) 1) (λ child few. le-leb (told_kills child before) 1 (told child before few)) (unreaped before) (sound_kills goal before sound)) later past h where
+killed_once goal later past h = at_moment goal (λ before. kills_once before ≡ true) refl (λ before sound. all_less (few_kills before) (λ child. nat_le (told_kills child before) 1) (λ child few. le-leb (told_kills child before) 1 (told child before few)) (unreaped_children before) (sound_kills goal before sound)) later past h where
   told : (child : Child) (before : List Event) → few_kills before child ≡ true → told_kills child before ≤ 1
   told child before few = omega (arith, leb-true (kills child before) 1 few)

@@ -12,7 +12,7 @@ use Rattle.init_trace.specs.declared.happenings.Happening.TheVariants.{NewTable,
 use Rattle.init_trace.specs.declared.steps.Goal.{Goal}
 use Rattle.init_trace.specs.declared.steps.Step.TheVariants as step
 use Rattle.init_trace.specs.Event.{Event}
-use Rattle.init_trace.specs.Past.{Child, is_of, has_child, born, unreaped, kept, known, open_of, is_quiet}
+use Rattle.init_trace.specs.Past.{Child, is_of, has_child, open_of, is_quiet, newborn, unreaped_children, kept_children, known_children}
 use Rattle.init_words.specs.Actions.{wanted_by}
 use Rattle.init_trace.specs.Wanted.{starts_now, is_order, is_asked, is_called, is_wanted, is_owed, is_excluded}
 use Rattle.init_trace.specs.Due.{can_start}
@@ -36,50 +36,50 @@ quiet_start id past quiet = read (open_of id past) refl where
   read (Some Kill) is = refl
 
 -- at a quiet point the kept children of each id are the known ones
-pub quiet_known : (goal : Goal) (past : List Event) → is_sound goal past ≡ true → is_quiet past ≡ true → (id : List ℕ) → filter (is_of id) (kept past) ≡ filter (is_of id) (known past)
+pub quiet_known : (goal : Goal) (past : List Event) → is_sound goal past ≡ true → is_quiet past ≡ true → (id : List ℕ) → filter (is_of id) (kept_children past) ≡ filter (is_of id) (known_children past)
 quiet_known goal past sound quiet id = kept_known goal past sound id (quiet_start id past quiet)
 
 -- an id with no open Start has a kept child exactly if it has a known one
-pub has_known : (goal : Goal) (past : List Event) → is_sound goal past ≡ true → (id : List ℕ) → is_order Start (open_of id past) ≡ false → has_child id (kept past) ≡ has_child id (known past)
-has_known goal past sound id free = same_has id (kept past) (known past) (kept_known goal past sound id free)
+pub has_known : (goal : Goal) (past : List Event) → is_sound goal past ≡ true → (id : List ℕ) → is_order Start (open_of id past) ≡ false → has_child id (kept_children past) ≡ has_child id (known_children past)
+has_known goal past sound id free = same_has id (kept_children past) (known_children past) (kept_known goal past sound id free)
 
 -- an id has a kept child or an open Start exactly if it has a known child or an open Start
-pub busy_known : (goal : Goal) (past : List Event) → is_sound goal past ≡ true → (id : List ℕ) → (has_child id (kept past) || is_order Start (open_of id past)) ≡ (has_child id (known past) || is_order Start (open_of id past))
+pub busy_known : (goal : Goal) (past : List Event) → is_sound goal past ≡ true → (id : List ℕ) → (has_child id (kept_children past) || is_order Start (open_of id past)) ≡ (has_child id (known_children past) || is_order Start (open_of id past))
 busy_known goal past sound id = split (is_order Start (open_of id past)) (has_known goal past sound id) where
-  split : (b : Bool) → (b ≡ false → has_child id (kept past) ≡ has_child id (known past)) → (has_child id (kept past) || b) ≡ (has_child id (known past) || b)
-  split true same = or_true (has_child id (kept past)) ∙ sym (or_true (has_child id (known past)))
+  split : (b : Bool) → (b ≡ false → has_child id (kept_children past) ≡ has_child id (known_children past)) → (has_child id (kept_children past) || b) ≡ (has_child id (known_children past) || b)
+  split true same = or_true (has_child id (kept_children past)) ∙ sym (or_true (has_child id (known_children past)))
   split false same = ap (λ b. b || false) (same refl)
 
 -- so what init reads of an entry off its kept children it may read off the known ones: whether it is idle, wanted, owed, can start
-pub idle_known_child : (goal : Goal) (past : List Event) → is_sound goal past ≡ true → (id : List ℕ) → (not (has_child id (kept past)) && not (is_order Start (open_of id past))) ≡ (not (has_child id (known past)) && not (is_order Start (open_of id past)))
+pub idle_known_child : (goal : Goal) (past : List Event) → is_sound goal past ≡ true → (id : List ℕ) → (not (has_child id (kept_children past)) && not (is_order Start (open_of id past))) ≡ (not (has_child id (known_children past)) && not (is_order Start (open_of id past)))
 idle_known_child goal past sound id = split (is_order Start (open_of id past)) (has_known goal past sound id) where
-  split : (b : Bool) → (b ≡ false → has_child id (kept past) ≡ has_child id (known past)) → (not (has_child id (kept past)) && not b) ≡ (not (has_child id (known past)) && not b)
-  split true same = and_right (not (has_child id (kept past))) false refl ∙ sym (and_right (not (has_child id (known past))) false refl)
+  split : (b : Bool) → (b ≡ false → has_child id (kept_children past) ≡ has_child id (known_children past)) → (not (has_child id (kept_children past)) && not b) ≡ (not (has_child id (known_children past)) && not b)
+  split true same = and_right (not (has_child id (kept_children past))) false refl ∙ sym (and_right (not (has_child id (known_children past))) false refl)
   split false same = ap (λ b. not b && true) (same refl)
 
-pub wanted_known : (goal : Goal) (past : List Event) → is_sound goal past ≡ true → (e : Entry) → is_wanted e past ≡ (starts_now e past && wanted_by e.act (not (has_child e.id (known past)) && not (is_order Start (open_of e.id past))) (not (is_asked e.id past)) (is_called e past))
+pub wanted_known : (goal : Goal) (past : List Event) → is_sound goal past ≡ true → (e : Entry) → is_wanted e past ≡ (starts_now e past && wanted_by e.act (not (has_child e.id (known_children past)) && not (is_order Start (open_of e.id past))) (not (is_asked e.id past)) (is_called e past))
 wanted_known goal past sound e = ap (λ idle. starts_now e past && wanted_by e.act idle (not (is_asked e.id past)) (is_called e past)) (idle_known_child goal past sound e.id)
 
-pub owed_known : (goal : Goal) (past : List Event) → is_sound goal past ≡ true → (e : Entry) → is_owed e past ≡ (waited_of e && (has_child e.id (known past) || is_order Start (open_of e.id past) || is_wanted e past))
+pub owed_known : (goal : Goal) (past : List Event) → is_sound goal past ≡ true → (e : Entry) → is_owed e past ≡ (waited_of e && (has_child e.id (known_children past) || is_order Start (open_of e.id past) || is_wanted e past))
 owed_known goal past sound e = ap (λ busy. waited_of e && (busy || is_wanted e past)) (busy_known goal past sound e.id)
 
-pub can_start_known : (goal : Goal) (past : List Event) → is_sound goal past ≡ true → (e : Entry) → can_start e past ≡ (is_wanted e past && not (has_child e.id (known past)) && is_none (open_of e.id past))
+pub can_start_known : (goal : Goal) (past : List Event) → is_sound goal past ≡ true → (e : Entry) → can_start e past ≡ (is_wanted e past && not (has_child e.id (known_children past)) && is_none (open_of e.id past))
 can_start_known goal past sound e = read (open_of e.id past) refl where
-  read : (o : Option Ask) → open_of e.id past ≡ o → (is_wanted e past && not (has_child e.id (kept past)) && is_none o) ≡ (is_wanted e past && not (has_child e.id (known past)) && is_none o)
+  read : (o : Option Ask) → open_of e.id past ≡ o → (is_wanted e past && not (has_child e.id (kept_children past)) && is_none o) ≡ (is_wanted e past && not (has_child e.id (known_children past)) && is_none o)
   read None is = ap (λ b. is_wanted e past && not b && true) (has_known goal past sound e.id (ap (is_order Start) is))
-  read (Some ask) is = and_right (is_wanted e past && not (has_child e.id (kept past))) false refl ∙ sym (and_right (is_wanted e past && not (has_child e.id (known past))) false refl)
+  read (Some ask) is = and_right (is_wanted e past && not (has_child e.id (kept_children past))) false refl ∙ sym (and_right (is_wanted e past && not (has_child e.id (known_children past))) false refl)
 
 -- an excluded child that is kept is known: one whose birth is not told is not excluded
-pub excluded_told : (goal : Goal) (past : List Event) → is_sound goal past ≡ true → (q : Child → Bool) → list_any (λ child. is_excluded past child && q child) (kept past) ≡ true → list_any (λ child. is_excluded past child && q child) (known past) ≡ true
-excluded_told goal past h = sound_ind goal (λ before. (q : Child → Bool) → list_any (λ child. is_excluded before child && q child) (kept before) ≡ true → list_any (λ child. is_excluded before child && q child) (known before) ≡ true) (λ table distinct q there. there) next past h where
-  at_quiet : (before : List Event) → is_sound goal before ≡ true → is_quiet before ≡ true → (p : Child → Bool) → list_any p (kept before) ≡ true → list_any p (known before) ≡ true
-  at_quiet before sound quiet p there = same_any p (kept before) (known before) (quiet_known goal before sound quiet) there
+pub excluded_told : (goal : Goal) (past : List Event) → is_sound goal past ≡ true → (q : Child → Bool) → list_any (λ child. is_excluded past child && q child) (kept_children past) ≡ true → list_any (λ child. is_excluded past child && q child) (known_children past) ≡ true
+excluded_told goal past h = sound_ind goal (λ before. (q : Child → Bool) → list_any (λ child. is_excluded before child && q child) (kept_children before) ≡ true → list_any (λ child. is_excluded before child && q child) (known_children before) ≡ true) (λ table distinct q there. there) next past h where
+  at_quiet : (before : List Event) → is_sound goal before ≡ true → is_quiet before ≡ true → (p : Child → Bool) → list_any p (kept_children before) ≡ true → list_any p (known_children before) ≡ true
+  at_quiet before sound quiet p there = same_any p (kept_children before) (known_children before) (quiet_known goal before sound quiet) there
 
-  next : (happening : Event) (before : List Event) → may_come goal happening before ≡ true → is_sound goal before ≡ true → ((q : Child → Bool) → list_any (λ child. is_excluded before child && q child) (kept before) ≡ true → list_any (λ child. is_excluded before child && q child) (known before) ≡ true) → (q : Child → Bool) → list_any (λ child. is_excluded (happening ∷ before) child && q child) (kept (happening ∷ before)) ≡ true → list_any (λ child. is_excluded (happening ∷ before) child && q child) (known (happening ∷ before)) ≡ true
+  next : (happening : Event) (before : List Event) → may_come goal happening before ≡ true → is_sound goal before ≡ true → ((q : Child → Bool) → list_any (λ child. is_excluded before child && q child) (kept_children before) ≡ true → list_any (λ child. is_excluded before child && q child) (known_children before) ≡ true) → (q : Child → Bool) → list_any (λ child. is_excluded (happening ∷ before) child && q child) (kept_children (happening ∷ before)) ≡ true → list_any (λ child. is_excluded (happening ∷ before) child && q child) (known_children (happening ∷ before)) ≡ true
   next (NewTable table) before may sound rest q there = at_quiet before sound (and_parts (is_quiet before) (is_distinct table) may).0 (λ child. is_excluded (NewTable table ∷ before) child && q child) there
-  next (Enter s grace) before may sound rest q there = elim (due_facts goal before (step.Enter s grace) may) [ inl quiet ↦ at_quiet before sound quiet (λ child. is_excluded (Enter s grace ∷ before) child && q child) there | inr dawn ↦ both_ways (list_any (λ (child : Child). true) (kept before)) (any_less (λ child. is_excluded (Enter s grace ∷ before) child && q child) (λ child. true) (λ child _. refl) (kept before) there) ((sound_holds goal before sound).dawn dawn) ]
-  next (Birth i n) before may sound rest q there = or_either (is_excluded before (born i n before) && q (born i n before)) (list_any (λ child. is_excluded before child && q child) (kept before)) there (λ here. both_ways (is_excluded before (born i n before)) (and_parts (is_excluded before (born i n before)) (q (born i n before)) here).0 (placed_spared i n before (born_ready goal i n before may (sound_holds goal before sound)).placed)) (rest q)
-  next (Told i) before may sound rest q there = told_finds excluded i (unreaped before) (known before) (read (told_any excluded i (unreaped before) (kept before) there)) where
+  next (Enter s grace) before may sound rest q there = elim (due_facts goal before (step.Enter s grace) may) [ inl quiet ↦ at_quiet before sound quiet (λ child. is_excluded (Enter s grace ∷ before) child && q child) there | inr dawn ↦ both_ways (list_any (λ (child : Child). true) (kept_children before)) (any_less (λ child. is_excluded (Enter s grace ∷ before) child && q child) (λ child. true) (λ child _. refl) (kept_children before) there) ((sound_holds goal before sound).dawn dawn) ]
+  next (Birth i n) before may sound rest q there = or_either (is_excluded before (newborn i n before) && q (newborn i n before)) (list_any (λ child. is_excluded before child && q child) (kept_children before)) there (λ here. both_ways (is_excluded before (newborn i n before)) (and_parts (is_excluded before (newborn i n before)) (q (newborn i n before)) here).0 (placed_spared i n before (born_ready goal i n before may (sound_holds goal before sound)).placed)) (rest q)
+  next (Told i) before may sound rest q there = told_finds excluded i (unreaped_children before) (known_children before) (read (told_any excluded i (unreaped_children before) (kept_children before) there)) where
     excluded : Child → Bool
     excluded child = is_excluded before child && q child
 
@@ -98,23 +98,23 @@ excluded_told goal past h = sound_ind goal (λ before. (q : Child → Bool) → 
         let inner = and_parts (not (is_of i child)) (q child) outer.1 in
         and_from (not (is_of i child)) (excluded child) inner.0 (and_from (is_excluded before child) (q child) outer.0 inner.1)
 
-    read : (list_any (λ child. is_of i child && excluded child) (unreaped before) ≡ true) ⊎ (list_any (λ child. not (is_of i child) && excluded child) (kept before) ≡ true) → (list_any (λ child. is_of i child && excluded child) (unreaped before) ≡ true) ⊎ (list_any (λ child. not (is_of i child) && excluded child) (known before) ≡ true)
+    read : (list_any (λ child. is_of i child && excluded child) (unreaped_children before) ≡ true) ⊎ (list_any (λ child. not (is_of i child) && excluded child) (kept_children before) ≡ true) → (list_any (λ child. is_of i child && excluded child) (unreaped_children before) ≡ true) ⊎ (list_any (λ child. not (is_of i child) && excluded child) (known_children before) ≡ true)
     read (inl own) = inl own
-    read (inr other) = inr (any_less (λ child. is_excluded before child && others child) (λ child. not (is_of i child) && excluded child) back (known before) (rest others (any_less (λ child. not (is_of i child) && excluded child) (λ child. is_excluded before child && others child) swap (kept before) other)))
+    read (inr other) = inr (any_less (λ child. is_excluded before child && others child) (λ child. not (is_of i child) && excluded child) back (known_children before) (rest others (any_less (λ child. not (is_of i child) && excluded child) (λ child. is_excluded before child && others child) swap (kept_children before) other)))
   next happening before may sound rest q there = rest q there
 
 -- a kept child is excluded exactly if a known one is
-pub excluded_known : (goal : Goal) (past : List Event) → is_sound goal past ≡ true → list_any (is_excluded past) (kept past) ≡ list_any (is_excluded past) (known past)
-excluded_known goal past sound = same_tests (list_any (is_excluded past) (kept past)) (list_any (is_excluded past) (known past)) (λ there. any_less all (is_excluded past) (λ child both. (and_parts (is_excluded past child) true both).0) (known past) (excluded_told goal past sound (λ child. true) (any_less (is_excluded past) all (λ child own. and_from (is_excluded past child) true own refl) (kept past) there))) (known_kept (is_excluded past) past) where
+pub excluded_known : (goal : Goal) (past : List Event) → is_sound goal past ≡ true → list_any (is_excluded past) (kept_children past) ≡ list_any (is_excluded past) (known_children past)
+excluded_known goal past sound = same_tests (list_any (is_excluded past) (kept_children past)) (list_any (is_excluded past) (known_children past)) (λ there. any_less all (is_excluded past) (λ child both. (and_parts (is_excluded past child) true both).0) (known_children past) (excluded_told goal past sound (λ child. true) (any_less (is_excluded past) all (λ child own. and_from (is_excluded past child) true own refl) (kept_children past) there))) (known_kept (is_excluded past) past) where
   all : Child → Bool
   all child = is_excluded past child && true
 
 -- no id has two known children
-pub known_single : (goal : Goal) (past : List Event) → is_sound goal past ≡ true → (id : List ℕ) → length (filter (is_of id) (known past)) ≤ 1
-known_single goal past h = sound_ind goal (λ before. (id : List ℕ) → length (filter (is_of id) (known before)) ≤ 1) (λ table distinct id. lit≤ tt) next past h where
-  next : (happening : Event) (before : List Event) → may_come goal happening before ≡ true → is_sound goal before ≡ true → ((id : List ℕ) → length (filter (is_of id) (known before)) ≤ 1) → (id : List ℕ) → length (filter (is_of id) (known (happening ∷ before))) ≤ 1
+pub known_single : (goal : Goal) (past : List Event) → is_sound goal past ≡ true → (id : List ℕ) → length (filter (is_of id) (known_children past)) ≤ 1
+known_single goal past h = sound_ind goal (λ before. (id : List ℕ) → length (filter (is_of id) (known_children before)) ≤ 1) (λ table distinct id. lit≤ tt) next past h where
+  next : (happening : Event) (before : List Event) → may_come goal happening before ≡ true → is_sound goal before ≡ true → ((id : List ℕ) → length (filter (is_of id) (known_children before)) ≤ 1) → (id : List ℕ) → length (filter (is_of id) (known_children (happening ∷ before))) ≤ 1
   next (Told i) before may sound rest id = at_id (same_id id i) refl where
-    at_id : (b : Bool) → same_id id i ≡ b → length (filter (is_of id) (known (Told i ∷ before))) ≤ 1
-    at_id true same = rw (told_same id i (unreaped before) (known before) same) (one_child goal before sound id)
-    at_id false differ = rw (told_other id i (unreaped before) (known before) differ) (rest id)
+    at_id : (b : Bool) → same_id id i ≡ b → length (filter (is_of id) (known_children (Told i ∷ before))) ≤ 1
+    at_id true same = rw (told_same id i (unreaped_children before) (known_children before) same) (one_child goal before sound id)
+    at_id false differ = rw (told_other id i (unreaped_children before) (known_children before) differ) (rest id)
   next _ before may sound rest id = rest id

@@ -5,7 +5,7 @@ use Rattle.init_words.specs.declared.orders.Ask.TheVariants.{Start, Look, Term, 
 use Rattle.init_trace.specs.declared.happenings.Happening.TheVariants.{Birth, Settle, Asked, Hold}
 use Rattle.init_trace.specs.declared.steps.Goal.{Goal}
 use Rattle.init_trace.specs.Event.{Event}
-use Rattle.init_trace.specs.Past.{unreaped}
+use Rattle.init_trace.specs.Past.{unreaped_children}
 use Rattle.init_trace.specs.Due.{is_settled}
 use Rattle.init_trace.specs.Sound.{may_come, is_sound}
 use Rattle.init_trace.specs.Lawful.{is_alone, is_placed, is_in_turn, are_spared, is_free, is_due_hold, may_term, may_kill, broken, is_lawful, first_breach}
@@ -27,7 +27,7 @@ unbroken : (goal : Goal) (happening : Event) (past : List Event) → may_come go
 unbroken goal (Birth id n) past may sound =
     let h = and_from (may_come goal (Birth id n) past) (is_sound goal past) may sound in
     none_of_four (is_alone id past) (is_placed id past) (is_in_turn id past) (are_spared past) (birth_alone goal [] id n past h) (birth_placed goal [] id n past h) (birth_in_turn goal [] id n past h) (birth_spared goal [] id n past h)
-unbroken goal (Settle level) past may sound = none_of_one (is_settled level (unreaped past) past) 5 (settle_settled goal [] level past (and_from (may_come goal (Settle level) past) (is_sound goal past) may sound))
+unbroken goal (Settle level) past may sound = none_of_one (is_settled level (unreaped_children past) past) 5 (settle_settled goal [] level past (and_from (may_come goal (Settle level) past) (is_sound goal past) may sound))
 unbroken goal (Asked id Start) past may sound = none_of_one (is_free id past) 6 (start_free goal [] id past (and_from (may_come goal (Asked id Start) past) (is_sound goal past) may sound))
 unbroken goal (Asked id Look) past may sound = refl
 unbroken goal (Asked id Term) past may sound = none_of_one (may_term id past) 7 (term_may goal [] id past (and_from (may_come goal (Asked id Term) past) (is_sound goal past) may sound))

@@ -13,7 +13,7 @@ use Rattle.init_words.specs.Ids.{same_id}
 use Rattle.init_words.specs.Orders.{same_ask}
 use Rattle.init_trace.specs.declared.happenings.Happening.TheVariants.{Asked, Birth, NoBirth, Reaped, Still, NoLook, Hit, Miss, Told}
 use Rattle.init_trace.specs.Event.{Event}
-use Rattle.init_trace.specs.Past.{Child, is_of, is_child, born, unreaped, has_child, kept, known, open_of, undone_of, is_untold, Open, open_orders, is_quiet, is_idle}
+use Rattle.init_trace.specs.Past.{Child, is_of, is_child, has_child, open_of, undone_of, is_untold, Open, open_orders, is_quiet, is_idle, newborn, unreaped_children, kept_children, known_children}
 use Rattle.init_trace.specs.Bounds.{targets}
 use Rattle.init_words.proofs.Same.{same_id-is, same_id-from, same_id-apart}
 use Rattle.init_words.proofs.Tests.{Passing, passing, or_false, both_ways, or_either, not_from, any_less, any_filter, any_within, any_without, any_filtered, filter_within, filter_without}
@@ -126,18 +126,18 @@ pub reaped_other : (id i : List ℕ) (n : ℕ) (there : List Child) → same_id 
 reaped_other id i n there differ = filter_within (is_of id) (λ child. not (is_child i n child)) (λ child h. not_from (is_child i n child) (and_left (same_id i child.id) (n == child.number) (same_id-apart id i child.id differ h))) there
 
 -- where nothing is untold of an id, its known children are its unreaped ones
-pub told_known : (id : List ℕ) (past : List Event) → is_untold id past ≡ false → filter (is_of id) (known past) ≡ filter (is_of id) (unreaped past)
+pub told_known : (id : List ℕ) (past : List Event) → is_untold id past ≡ false → filter (is_of id) (known_children past) ≡ filter (is_of id) (unreaped_children past)
 told_known id [] h = refl
 told_known id (Told i ∷ past) h = split (same_id id i) refl h (told_known id past) where
-  split : (b : Bool) → same_id id i ≡ b → (not b && is_untold id past) ≡ false → (is_untold id past ≡ false → filter (is_of id) (known past) ≡ filter (is_of id) (unreaped past)) → filter (is_of id) (filter (is_of i) (unreaped past) ++ filter (λ child. not (is_of i child)) (known past)) ≡ filter (is_of id) (unreaped past)
-  split true same h before = told_same id i (unreaped past) (known past) same
-  split false differ h before = told_other id i (unreaped past) (known past) differ ∙ before h
+  split : (b : Bool) → same_id id i ≡ b → (not b && is_untold id past) ≡ false → (is_untold id past ≡ false → filter (is_of id) (known_children past) ≡ filter (is_of id) (unreaped_children past)) → filter (is_of id) (filter (is_of i) (unreaped_children past) ++ filter (λ child. not (is_of i child)) (known_children past)) ≡ filter (is_of id) (unreaped_children past)
+  split true same h before = told_same id i (unreaped_children past) (known_children past) same
+  split false differ h before = told_other id i (unreaped_children past) (known_children past) differ ∙ before h
 told_known id (Birth i n ∷ past) h =
     let parts = or_parts (same_id id i) (is_untold id past) h in
     rw parts.0 (told_known id past parts.1)
 told_known id (Reaped i n status ∷ past) h =
     let parts = or_parts (same_id id i) (is_untold id past) h in
-    told_known id past parts.1 ∙ sym (reaped_other id i n (unreaped past) parts.0)
+    told_known id past parts.1 ∙ sym (reaped_other id i n (unreaped_children past) parts.0)
 told_known id (NoBirth i ∷ past) h = told_known id past (or_parts (same_id id i) (is_untold id past) h).1
 told_known id (Still i ∷ past) h = told_known id past (or_parts (same_id id i) (is_untold id past) h).1
 told_known id (NoLook i ∷ past) h = told_known id past (or_parts (same_id id i) (is_untold id past) h).1
@@ -154,35 +154,35 @@ told_finds p i there before (inl h) = list_any-append p (filter (is_of i) there)
 told_finds p i there before (inr h) = list_any-append p (filter (is_of i) there) (filter (λ child. not (is_of i child)) before) ∙ or_right (list_any p (filter (is_of i) there)) (list_any p (filter (λ child. not (is_of i child)) before)) (any_filter p (λ child. not (is_of i child)) before ∙ h)
 
 -- the unreaped children are kept
-pub unreaped_kept : (p : Child → Bool) (past : List Event) → list_any p (unreaped past) ≡ true → list_any p (kept past) ≡ true
+pub unreaped_kept : (p : Child → Bool) (past : List Event) → list_any p (unreaped_children past) ≡ true → list_any p (kept_children past) ≡ true
 unreaped_kept p [] h = h
-unreaped_kept p (Birth i n ∷ past) h = or_either (p (born i n past)) (list_any p (unreaped past)) h (λ here. or_left (p (born i n past)) (list_any p (kept past)) here) (λ more. or_right (p (born i n past)) (list_any p (kept past)) (unreaped_kept p past more))
-unreaped_kept p (Reaped i n status ∷ past) h = unreaped_kept p past (any_filtered p (λ child. not (is_child i n child)) (unreaped past) h)
-unreaped_kept p (Told i ∷ past) h = told_finds p i (unreaped past) (kept past) (split (is_of i found.item) refl (unreaped_kept others past)) where
+unreaped_kept p (Birth i n ∷ past) h = or_either (p (newborn i n past)) (list_any p (unreaped_children past)) h (λ here. or_left (p (newborn i n past)) (list_any p (kept_children past)) here) (λ more. or_right (p (newborn i n past)) (list_any p (kept_children past)) (unreaped_kept p past more))
+unreaped_kept p (Reaped i n status ∷ past) h = unreaped_kept p past (any_filtered p (λ child. not (is_child i n child)) (unreaped_children past) h)
+unreaped_kept p (Told i ∷ past) h = told_finds p i (unreaped_children past) (kept_children past) (split (is_of i found.item) refl (unreaped_kept others past)) where
   others : Child → Bool
   others child = not (is_of i child) && p child
 
-  found : Passing p (unreaped past)
-  found = passing p (unreaped past) h
+  found : Passing p (unreaped_children past)
+  found = passing p (unreaped_children past) h
 
-  split : (b : Bool) → is_of i found.item ≡ b → (list_any others (unreaped past) ≡ true → list_any others (kept past) ≡ true) → (list_any (λ child. is_of i child && p child) (unreaped past) ≡ true) ⊎ (list_any others (kept past) ≡ true)
+  split : (b : Bool) → is_of i found.item ≡ b → (list_any others (unreaped_children past) ≡ true → list_any others (kept_children past) ≡ true) → (list_any (λ child. is_of i child && p child) (unreaped_children past) ≡ true) ⊎ (list_any others (kept_children past) ≡ true)
   split true own before = inl (found.within (λ child. is_of i child && p child) (and_from (is_of i found.item) (p found.item) own found.passes))
   split false other before = inr (before (found.within others (and_from (not (is_of i found.item)) (p found.item) (not_from (is_of i found.item) other) found.passes)))
 unreaped_kept p (_ ∷ past) h = unreaped_kept p past h
 
 -- a Told makes no child kept
-pub kept_before_told : (p : Child → Bool) (i : List ℕ) (past : List Event) → list_any p (kept (Told i ∷ past)) ≡ true → list_any p (kept past) ≡ true
-kept_before_told p i past h = elim (told_any p i (unreaped past) (kept past) h) [ inl own ↦ unreaped_kept p past (any_less (λ child. is_of i child && p child) p (λ child both. (and_parts (is_of i child) (p child) both).1) (unreaped past) own) | inr other ↦ any_less (λ child. not (is_of i child) && p child) p (λ child both. (and_parts (not (is_of i child)) (p child) both).1) (kept past) other ]
+pub kept_before_told : (p : Child → Bool) (i : List ℕ) (past : List Event) → list_any p (kept_children (Told i ∷ past)) ≡ true → list_any p (kept_children past) ≡ true
+kept_before_told p i past h = elim (told_any p i (unreaped_children past) (kept_children past) h) [ inl own ↦ unreaped_kept p past (any_less (λ child. is_of i child && p child) p (λ child both. (and_parts (is_of i child) (p child) both).1) (unreaped_children past) own) | inr other ↦ any_less (λ child. not (is_of i child) && p child) p (λ child both. (and_parts (not (is_of i child)) (p child) both).1) (kept_children past) other ]
 
 -- the known children are kept
-pub known_kept : (p : Child → Bool) (past : List Event) → list_any p (known past) ≡ true → list_any p (kept past) ≡ true
+pub known_kept : (p : Child → Bool) (past : List Event) → list_any p (known_children past) ≡ true → list_any p (kept_children past) ≡ true
 known_kept p [] h = h
-known_kept p (Birth i n ∷ past) h = or_right (p (born i n past)) (list_any p (kept past)) (known_kept p past h)
-known_kept p (Told i ∷ past) h = told_finds p i (unreaped past) (kept past) (split (told_any p i (unreaped past) (known past) h) (known_kept others past)) where
+known_kept p (Birth i n ∷ past) h = or_right (p (newborn i n past)) (list_any p (kept_children past)) (known_kept p past h)
+known_kept p (Told i ∷ past) h = told_finds p i (unreaped_children past) (kept_children past) (split (told_any p i (unreaped_children past) (known_children past) h) (known_kept others past)) where
   others : Child → Bool
   others child = not (is_of i child) && p child
 
-  split : (list_any (λ child. is_of i child && p child) (unreaped past) ≡ true) ⊎ (list_any others (known past) ≡ true) → (list_any others (known past) ≡ true → list_any others (kept past) ≡ true) → (list_any (λ child. is_of i child && p child) (unreaped past) ≡ true) ⊎ (list_any others (kept past) ≡ true)
+  split : (list_any (λ child. is_of i child && p child) (unreaped_children past) ≡ true) ⊎ (list_any others (known_children past) ≡ true) → (list_any others (known_children past) ≡ true → list_any others (kept_children past) ≡ true) → (list_any (λ child. is_of i child && p child) (unreaped_children past) ≡ true) ⊎ (list_any others (kept_children past) ≡ true)
   split (inl own) before = inl own
   split (inr other) before = inr (before other)
 known_kept p (_ ∷ past) h = known_kept p past h
@@ -195,11 +195,11 @@ pub same_has : (id : List ℕ) (xs ys : List Child) → filter (is_of id) xs ≡
 same_has id xs ys same = sym (any_within (is_of id) (is_of id) (λ child own. own) xs) ∙ ap (has_child id) same ∙ any_within (is_of id) (is_of id) (λ child own. own) ys
 
 -- the children that were known at an open order are those that are known now
-pub targets_known : (id : List ℕ) (ask : Ask) (past : List Event) → open_of id past ≡ Some ask → targets id past ≡ filter (is_of id) (known past)
+pub targets_known : (id : List ℕ) (ask : Ask) (past : List Event) → open_of id past ≡ Some ask → targets id past ≡ filter (is_of id) (known_children past)
 targets_known id ask [] h = absurd (none-some ask h)
 targets_known id ask (Asked i given ∷ past) h = split (same_id id i) h (targets_known id ask past) where
-  split : (b : Bool) → cond b (Some given) (open_of id past) ≡ Some ask → (open_of id past ≡ Some ask → targets id past ≡ filter (is_of id) (known past)) → cond b (filter (is_of id) (known past)) (targets id past) ≡ filter (is_of id) (known past)
+  split : (b : Bool) → cond b (Some given) (open_of id past) ≡ Some ask → (open_of id past ≡ Some ask → targets id past ≡ filter (is_of id) (known_children past)) → cond b (filter (is_of id) (known_children past)) (targets id past) ≡ filter (is_of id) (known_children past)
   split true h before = refl
   split false h before = before h
-targets_known id ask (Told i ∷ past) h = cleared (same_id id i) (open_of id past) ask (λ differ is. targets_known id ask past is ∙ sym (told_other id i (unreaped past) (known past) differ)) h
+targets_known id ask (Told i ∷ past) h = cleared (same_id id i) (open_of id past) ask (λ differ is. targets_known id ask past is ∙ sym (told_other id i (unreaped_children past) (known_children past) differ)) h
 targets_known id ask (_ ∷ past) h = targets_known id ask past h

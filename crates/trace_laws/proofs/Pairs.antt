@@ -12,7 +12,7 @@ use Rattle.inittab_text.specs.Tables.{act_of}
 use Rattle.init_trace.specs.declared.happenings.Happening.TheVariants.{NewTable, Enter, Asked, Hold, Birth, Reaped, Hit}
 use Rattle.init_trace.specs.declared.steps.Goal.{Goal}
 use Rattle.init_trace.specs.Event.{Event}
-use Rattle.init_trace.specs.Past.{table_of, time_of, Child, is_of, is_child, has_child, born, unreaped, known}
+use Rattle.init_trace.specs.Past.{table_of, time_of, Child, is_of, is_child, has_child, newborn, unreaped_children, known_children}
 use Rattle.init_trace.specs.Wanted.{is_excluded}
 use Rattle.init_trace.specs.Timing.{start_times, hold_times, is_held, is_full}
 use Rattle.init_words.specs.Actions.{is_limited}
@@ -33,23 +33,23 @@ earlier : (goal : Goal) (later : List Event) (next : Event) (between : List Even
 earlier goal later next between first past h = ap (is_sound goal) (append_assoc later (next ∷ between) (first ∷ past)) ∙ h
 
 -- a child that is not reaped in a stretch is unreaped after it
-stays : (id : List ℕ) (n : ℕ) (between past : List Event) → list_any (is_reaping_of id n) between ≡ false → list_any (is_child id n) (unreaped past) ≡ true → list_any (is_child id n) (unreaped (between ++ past)) ≡ true
+stays : (id : List ℕ) (n : ℕ) (between past : List Event) → list_any (is_reaping_of id n) between ≡ false → list_any (is_child id n) (unreaped_children past) ≡ true → list_any (is_child id n) (unreaped_children (between ++ past)) ≡ true
 stays id n [] past none there = there
-stays id n (Birth i m ∷ between) past none there = or_right (is_child id n (born i m (between ++ past))) (list_any (is_child id n) (unreaped (between ++ past))) (stays id n between past none there)
+stays id n (Birth i m ∷ between) past none there = or_right (is_child id n (newborn i m (between ++ past))) (list_any (is_child id n) (unreaped_children (between ++ past))) (stays id n between past none there)
 stays id n (Reaped i m status ∷ between) past none there =
     let parts = or_parts (same_id id i && n == m) (list_any (is_reaping_of id n) between) none in
-    reaped_pair id i n m (unreaped (between ++ past)) false parts.0 ∙ stays id n between past parts.1 there
+    reaped_pair id i n m (unreaped_children (between ++ past)) false parts.0 ∙ stays id n between past parts.1 there
 stays id n (_ ∷ between) past none there = stays id n between past none there
 
 -- between two births of an id the first child is reaped
 pub reaped_between : (goal : Goal) (later between past : List Event) (id : List ℕ) (n m : ℕ) → is_sound goal (later ++ Birth id n ∷ (between ++ Birth id m ∷ past)) ≡ true → list_any (is_reaping_of id m) between ≡ true
 reaped_between goal later between past id n m h = found (list_any (is_reaping_of id m) between) refl where
-  first : list_any (is_child id m) (unreaped (Birth id m ∷ past)) ≡ true
-  first = or_left (is_child id m (born id m past)) (list_any (is_child id m) (unreaped past)) (and_from (same_id id id) (m == m) (same_id-self id) (eq-eqb m m refl))
+  first : list_any (is_child id m) (unreaped_children (Birth id m ∷ past)) ≡ true
+  first = or_left (is_child id m (newborn id m past)) (list_any (is_child id m) (unreaped_children past)) (and_from (same_id id id) (m == m) (same_id-self id) (eq-eqb m m refl))
 
   found : (b : Bool) → list_any (is_reaping_of id m) between ≡ b → b ≡ true
   found true is = refl
-  found false none = both_ways (has_child id (unreaped (between ++ Birth id m ∷ past))) (any_less (is_child id m) (is_of id) (λ child own. (and_parts (same_id id child.id) (m == child.number) own).0) (unreaped (between ++ Birth id m ∷ past)) (stays id m between (Birth id m ∷ past) none first)) (not-true (has_child id (unreaped (between ++ Birth id m ∷ past))) (birth_alone goal later id n (between ++ Birth id m ∷ past) h))
+  found false none = both_ways (has_child id (unreaped_children (between ++ Birth id m ∷ past))) (any_less (is_child id m) (is_of id) (λ child own. (and_parts (same_id id child.id) (m == child.number) own).0) (unreaped_children (between ++ Birth id m ∷ past)) (stays id m between (Birth id m ∷ past) none first)) (not-true (has_child id (unreaped_children (between ++ Birth id m ∷ past))) (birth_alone goal later id n (between ++ Birth id m ∷ past) h))
 
 -- in a steady stretch the table stays
 steady_table : (between past : List Event) → is_steady between ≡ true → table_of (between ++ past) ≡ table_of past
@@ -133,22 +133,22 @@ targets_stay id (Asked i ask ∷ between) past none =
 targets_stay id (_ ∷ between) past none = targets_stay id between past none
 
 -- at a Hit the child that was known at its order is still unreaped and excluded
-pub on_order : (goal : Goal) (later between past : List Event) (id : List ℕ) (ask : Ask) → is_sound goal (later ++ Hit id ∷ (between ++ Asked id ask ∷ past)) ≡ true → list_any (is_order_of id) between ≡ false → (has_child id (known past) ≡ true) × (list_all (λ child. is_excluded (between ++ Asked id ask ∷ past) child && list_any (is_child id child.number) (unreaped (between ++ Asked id ask ∷ past))) (filter (is_of id) (known past)) ≡ true)
+pub on_order : (goal : Goal) (later between past : List Event) (id : List ℕ) (ask : Ask) → is_sound goal (later ++ Hit id ∷ (between ++ Asked id ask ∷ past)) ≡ true → list_any (is_order_of id) between ≡ false → (has_child id (known_children past) ≡ true) × (list_all (λ child. is_excluded (between ++ Asked id ask ∷ past) child && list_any (is_child id child.number) (unreaped_children (between ++ Asked id ask ∷ past))) (filter (is_of id) (known_children past)) ≡ true)
 on_order goal later between past id ask h none = (some_child, all.1) where
   now : List Event
   now = between ++ Asked id ask ∷ past
 
   still : Child → Bool
-  still child = is_excluded now child && list_any (is_child id child.number) (unreaped now)
+  still child = is_excluded now child && list_any (is_child id child.number) (unreaped_children now)
 
-  given : targets id now ≡ filter (is_of id) (known past)
-  given = targets_stay id between (Asked id ask ∷ past) none ∙ cond-true (same_id id id) (filter (is_of id) (known past)) (targets id past) (same_id-self id)
+  given : targets id now ≡ filter (is_of id) (known_children past)
+  given = targets_stay id between (Asked id ask ∷ past) none ∙ cond-true (same_id id id) (filter (is_of id) (known_children past)) (targets id past) (same_id-self id)
 
-  all : (not (length (filter (is_of id) (known past)) == 0) ≡ true) × (list_all still (filter (is_of id) (known past)) ≡ true)
-  all = and_parts (not (length (filter (is_of id) (known past)) == 0)) (list_all still (filter (is_of id) (known past))) (ap (λ ts. not (length ts == 0) && list_all still ts) (sym given) ∙ hit_own goal later id now h)
+  all : (not (length (filter (is_of id) (known_children past)) == 0) ≡ true) × (list_all still (filter (is_of id) (known_children past)) ≡ true)
+  all = and_parts (not (length (filter (is_of id) (known_children past)) == 0)) (list_all still (filter (is_of id) (known_children past))) (ap (λ ts. not (length ts == 0) && list_all still ts) (sym given) ∙ hit_own goal later id now h)
 
-  some_child : has_child id (known past) ≡ true
-  some_child = found (has_child id (known past)) refl where
-    found : (b : Bool) → has_child id (known past) ≡ b → b ≡ true
+  some_child : has_child id (known_children past) ≡ true
+  some_child = found (has_child id (known_children past)) refl where
+    found : (b : Bool) → has_child id (known_children past) ≡ b → b ≡ true
     found true is = refl
-    found false is = both_ways (not (length (filter (is_of id) (known past)) == 0)) all.0 (ap (λ ts. not (length ts == 0)) (filter_none (is_of id) (known past) is))
+    found false is = both_ways (not (length (filter (is_of id) (known_children past)) == 0)) all.0 (ap (λ ts. not (length ts == 0)) (filter_none (is_of id) (known_children past) is))

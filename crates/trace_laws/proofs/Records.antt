@@ -14,7 +14,7 @@ use Rattle.init_trace.specs.declared.happenings.Happening.TheVariants.{NewTable,
 use Rattle.init_trace.specs.declared.steps.Goal.{Goal}
 use Rattle.init_trace.specs.declared.steps.Step.TheVariants as step
 use Rattle.init_trace.specs.Event.{Event}
-use Rattle.init_trace.specs.Past.{table_of, is_of, has_child, unreaped, kept, known, open_of, is_quiet}
+use Rattle.init_trace.specs.Past.{table_of, is_of, has_child, open_of, is_quiet, unreaped_children, kept_children, known_children}
 use Rattle.init_trace.specs.Due.{is_due, left_ids, record_ids}
 use Rattle.init_trace.specs.Sound.{may_come, is_sound}
 use Rattle.init_words.proofs.Same.{same_id-is}
@@ -25,20 +25,20 @@ use Rattle.trace_laws.proofs.Keeps.{start_stays, born_ready, sound_holds, sound_
 use Rattle.trace_laws.proofs.Told.{stop_known, placed_listed}
 
 -- an open Look or signal is of an id with a known child
-asked_known : (goal : Goal) (i : List ℕ) (ask : Ask) (past : List Event) → is_due goal (step.Order i ask) past ≡ true → same_ask Start ask ≡ false → has_child i (known past) ≡ true
+asked_known : (goal : Goal) (i : List ℕ) (ask : Ask) (past : List Event) → is_due goal (step.Order i ask) past ≡ true → same_ask Start ask ≡ false → has_child i (known_children past) ≡ true
 asked_known goal i Start past may other = absurd (false≢true (sym other))
 asked_known goal i Look past may other = (due_facts goal past (step.Order i Look) may).there
 asked_known goal i Term past may other = stop_known i Term past (due_facts goal past (step.Order i Term) may)
 asked_known goal i Kill past may other = stop_known i Kill past (due_facts goal past (step.Order i Kill) may)
 
-pub order_known : (goal : Goal) (past : List Event) → is_sound goal past ≡ true → (id : List ℕ) (ask : Ask) → open_of id past ≡ Some ask → same_ask Start ask ≡ false → has_child id (known past) ≡ true
-order_known goal past h = sound_ind goal (λ before. (id : List ℕ) (ask : Ask) → open_of id before ≡ Some ask → same_ask Start ask ≡ false → has_child id (known before) ≡ true) (λ table distinct id ask is other. absurd (none-some ask is)) next past h where
-  next : (happening : Event) (before : List Event) → may_come goal happening before ≡ true → is_sound goal before ≡ true → ((id : List ℕ) (ask : Ask) → open_of id before ≡ Some ask → same_ask Start ask ≡ false → has_child id (known before) ≡ true) → (id : List ℕ) (ask : Ask) → open_of id (happening ∷ before) ≡ Some ask → same_ask Start ask ≡ false → has_child id (known (happening ∷ before)) ≡ true
+pub order_known : (goal : Goal) (past : List Event) → is_sound goal past ≡ true → (id : List ℕ) (ask : Ask) → open_of id past ≡ Some ask → same_ask Start ask ≡ false → has_child id (known_children past) ≡ true
+order_known goal past h = sound_ind goal (λ before. (id : List ℕ) (ask : Ask) → open_of id before ≡ Some ask → same_ask Start ask ≡ false → has_child id (known_children before) ≡ true) (λ table distinct id ask is other. absurd (none-some ask is)) next past h where
+  next : (happening : Event) (before : List Event) → may_come goal happening before ≡ true → is_sound goal before ≡ true → ((id : List ℕ) (ask : Ask) → open_of id before ≡ Some ask → same_ask Start ask ≡ false → has_child id (known_children before) ≡ true) → (id : List ℕ) (ask : Ask) → open_of id (happening ∷ before) ≡ Some ask → same_ask Start ask ≡ false → has_child id (known_children (happening ∷ before)) ≡ true
   next (Asked i given) before may sound rest id ask is other = at_id (same_id id i) refl is where
-    at_id : (b : Bool) → same_id id i ≡ b → cond b (Some given) (open_of id before) ≡ Some ask → has_child id (known before) ≡ true
-    at_id true same is = ap (λ x. has_child x (known before)) (same_id-is id i same) ∙ asked_known goal i given before may (ap (same_ask Start) (same_Some given ask is) ∙ other)
+    at_id : (b : Bool) → same_id id i ≡ b → cond b (Some given) (open_of id before) ≡ Some ask → has_child id (known_children before) ≡ true
+    at_id true same is = ap (λ x. has_child x (known_children before)) (same_id-is id i same) ∙ asked_known goal i given before may (ap (same_ask Start) (same_Some given ask is) ∙ other)
     at_id false differ is = rest id ask is other
-  next (Told i) before may sound rest id ask is other = cleared (same_id id i) (open_of id before) ask (λ differ was. same_has id (known (Told i ∷ before)) (known before) (told_other id i (unreaped before) (known before) differ) ∙ rest id ask was other) is
+  next (Told i) before may sound rest id ask is other = cleared (same_id id i) (open_of id before) ask (λ differ was. same_has id (known_children (Told i ∷ before)) (known_children before) (told_other id i (unreaped_children before) (known_children before) differ) ∙ rest id ask was other) is
   next _ before may sound rest id ask is other = rest id ask is other
 
 -- an open Start is of an entry of the table in force
@@ -76,27 +76,27 @@ listed_after id table past was = split (list_any (has_id id) table) refl where
   split true there = inl there
   split false gone = inr (any_within (same_id id) (λ x. not (list_any (has_id x) table)) (λ x. stays x gone) (ids_of (table_of past) ++ left_ids past) ∙ before was)
 
-child_listed : (goal : Goal) (past : List Event) → is_sound goal past ≡ true → (id : List ℕ) → has_child id (kept past) ≡ true → Listed id past
-child_listed goal past h = sound_ind goal (λ before. (id : List ℕ) → has_child id (kept before) ≡ true → Listed id before) (λ table distinct id there. absurd (false≢true there)) next past h where
-  next : (happening : Event) (before : List Event) → may_come goal happening before ≡ true → is_sound goal before ≡ true → ((id : List ℕ) → has_child id (kept before) ≡ true → Listed id before) → (id : List ℕ) → has_child id (kept (happening ∷ before)) ≡ true → Listed id (happening ∷ before)
+child_listed : (goal : Goal) (past : List Event) → is_sound goal past ≡ true → (id : List ℕ) → has_child id (kept_children past) ≡ true → Listed id past
+child_listed goal past h = sound_ind goal (λ before. (id : List ℕ) → has_child id (kept_children before) ≡ true → Listed id before) (λ table distinct id there. absurd (false≢true there)) next past h where
+  next : (happening : Event) (before : List Event) → may_come goal happening before ≡ true → is_sound goal before ≡ true → ((id : List ℕ) → has_child id (kept_children before) ≡ true → Listed id before) → (id : List ℕ) → has_child id (kept_children (happening ∷ before)) ≡ true → Listed id (happening ∷ before)
   next (NewTable table) before may sound rest id there = listed_after id table before (rest id there)
-  next (Birth i n) before may sound rest id there = or_either (same_id id i) (has_child id (kept before)) there (λ same. inl (ap (λ x. list_any (has_id x) (table_of before)) (same_id-is id i same) ∙ placed_listed i before (born_ready goal i n before may (sound_holds goal before sound)).placed)) (rest id)
+  next (Birth i n) before may sound rest id there = or_either (same_id id i) (has_child id (kept_children before)) there (λ same. inl (ap (λ x. list_any (has_id x) (table_of before)) (same_id-is id i same) ∙ placed_listed i before (born_ready goal i n before may (sound_holds goal before sound)).placed)) (rest id)
   next (Told i) before may sound rest id there = rest id (kept_before_told (is_of id) i before there)
   next _ before may sound rest id there = rest id there
 
 -- each known child has a record
-pub child_in_records : (goal : Goal) (past : List Event) → is_sound goal past ≡ true → (id : List ℕ) → has_child id (known past) ≡ true → list_any (same_id id) (record_ids past) ≡ true
-child_in_records goal past sound id there = list_any-append (same_id id) (ids_of (table_of past)) (filter (λ x. has_child x (known past)) (left_ids past)) ∙ read (child_listed goal past sound id (known_kept (is_of id) past there)) where
-  own : (x : List ℕ) → same_id id x ≡ true → has_child x (known past) ≡ true
-  own x same = ap (λ y. has_child y (known past)) (sym (same_id-is id x same)) ∙ there
+pub child_in_records : (goal : Goal) (past : List Event) → is_sound goal past ≡ true → (id : List ℕ) → has_child id (known_children past) ≡ true → list_any (same_id id) (record_ids past) ≡ true
+child_in_records goal past sound id there = list_any-append (same_id id) (ids_of (table_of past)) (filter (λ x. has_child x (known_children past)) (left_ids past)) ∙ read (child_listed goal past sound id (known_kept (is_of id) past there)) where
+  own : (x : List ℕ) → same_id id x ≡ true → has_child x (known_children past) ≡ true
+  own x same = ap (λ y. has_child y (known_children past)) (sym (same_id-is id x same)) ∙ there
 
-  read : Listed id past → (list_any (same_id id) (ids_of (table_of past)) || list_any (same_id id) (filter (λ x. has_child x (known past)) (left_ids past))) ≡ true
-  read (inl in_table) = or_left (list_any (same_id id) (ids_of (table_of past))) (list_any (same_id id) (filter (λ x. has_child x (known past)) (left_ids past))) (ids_listed id (table_of past) ∙ in_table)
-  read (inr left) = or_right (list_any (same_id id) (ids_of (table_of past))) (list_any (same_id id) (filter (λ x. has_child x (known past)) (left_ids past))) (any_within (same_id id) (λ x. has_child x (known past)) own (left_ids past) ∙ left)
+  read : Listed id past → (list_any (same_id id) (ids_of (table_of past)) || list_any (same_id id) (filter (λ x. has_child x (known_children past)) (left_ids past))) ≡ true
+  read (inl in_table) = or_left (list_any (same_id id) (ids_of (table_of past))) (list_any (same_id id) (filter (λ x. has_child x (known_children past)) (left_ids past))) (ids_listed id (table_of past) ∙ in_table)
+  read (inr left) = or_right (list_any (same_id id) (ids_of (table_of past))) (list_any (same_id id) (filter (λ x. has_child x (known_children past)) (left_ids past))) (any_within (same_id id) (λ x. has_child x (known_children past)) own (left_ids past) ∙ left)
 
 -- each open order has a record
 pub open_in_records : (goal : Goal) (past : List Event) → is_sound goal past ≡ true → (id : List ℕ) (ask : Ask) → open_of id past ≡ Some ask → list_any (same_id id) (record_ids past) ≡ true
-open_in_records goal past sound id Start is = list_any-append (same_id id) (ids_of (table_of past)) (filter (λ x. has_child x (known past)) (left_ids past)) ∙ or_left (list_any (same_id id) (ids_of (table_of past))) (list_any (same_id id) (filter (λ x. has_child x (known past)) (left_ids past))) (ids_listed id (table_of past) ∙ start_in_table goal past sound id is)
+open_in_records goal past sound id Start is = list_any-append (same_id id) (ids_of (table_of past)) (filter (λ x. has_child x (known_children past)) (left_ids past)) ∙ or_left (list_any (same_id id) (ids_of (table_of past))) (list_any (same_id id) (filter (λ x. has_child x (known_children past)) (left_ids past))) (ids_listed id (table_of past) ∙ start_in_table goal past sound id is)
 open_in_records goal past sound id Look is = child_in_records goal past sound id (order_known goal past sound id Look is refl)
 open_in_records goal past sound id Term is = child_in_records goal past sound id (order_known goal past sound id Term is refl)
 open_in_records goal past sound id Kill is = child_in_records goal past sound id (order_known goal past sound id Kill is refl)

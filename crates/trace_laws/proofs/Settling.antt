@@ -13,7 +13,7 @@ use Rattle.init_trace.specs.declared.happenings.Happening.TheVariants.{Settle}
 use Rattle.init_trace.specs.declared.steps.Goal.{Goal}
 use Rattle.init_trace.specs.declared.steps.Step.TheVariants as step
 use Rattle.init_trace.specs.Event.{Event}
-use Rattle.init_trace.specs.Past.{table_of, stage_of, Child, is_of, unreaped, known, is_idle}
+use Rattle.init_trace.specs.Past.{table_of, stage_of, Child, is_of, is_idle, unreaped_children, known_children}
 use Rattle.init_trace.specs.Wanted.{is_asked, is_owed, may_live, is_excluded}
 use Rattle.init_trace.specs.Timing.{is_held}
 use Rattle.init_trace.specs.Wishes.{is_level}
@@ -29,7 +29,7 @@ use Rattle.trace_laws.proofs.Keeps.{sound_holds, free_told}
 use Rattle.trace_laws.proofs.Births.{step_at}
 
 -- where no order is open, the known children of each id are its unreaped ones
-pub idle_known : (goal : Goal) (past : List Event) → is_sound goal past ≡ true → is_idle past ≡ true → (id : List ℕ) → filter (is_of id) (known past) ≡ filter (is_of id) (unreaped past)
+pub idle_known : (goal : Goal) (past : List Event) → is_sound goal past ≡ true → is_idle past ≡ true → (id : List ℕ) → filter (is_of id) (known_children past) ≡ filter (is_of id) (unreaped_children past)
 idle_known goal past sound idle id = told_known id past (free_told id past (sound_holds goal past sound).told (idle_none id past idle))
 
 -- a test that finds a child in one list finds it in another that has the same children of each id
@@ -50,15 +50,15 @@ same_settled level xs ys past same back h =
     let two = and_parts (is_level level (stage_of past)) (not (list_any (is_excluded past) xs)) all.0 in
     and_from (is_level level (stage_of past) && not (list_any (is_excluded past) ys)) (list_all (is_served level ys past) (table_of past)) (and_from (is_level level (stage_of past)) (not (list_any (is_excluded past) ys)) two.0 (not_from (list_any (is_excluded past) ys) (falsely (list_any (is_excluded past) ys) (list_any (is_excluded past) xs) (same_any (is_excluded past) ys xs back) (not-true (list_any (is_excluded past) xs) two.1)))) (all_less (is_served level xs past) (is_served level ys past) (same_served level xs ys past same) (table_of past) all.1)
 
-pub settle_settled : (goal : Goal) (later : List Event) (level : Level) (past : List Event) → is_sound goal (later ++ Settle level ∷ past) ≡ true → is_settled level (unreaped past) past ≡ true
-settle_settled goal later level past h = same_settled level (known past) (unreaped past) past same (λ id. sym (same id)) may.settled where
+pub settle_settled : (goal : Goal) (later : List Event) (level : Level) (past : List Event) → is_sound goal (later ++ Settle level ∷ past) ≡ true → is_settled level (unreaped_children past) past ≡ true
+settle_settled goal later level past h = same_settled level (known_children past) (unreaped_children past) past same (λ id. sym (same id)) may.settled where
   parts : (may_come goal (Settle level) past ≡ true) × (is_sound goal past ≡ true)
   parts = step_at goal later (Settle level) past refl h
 
   may : MaySettle level past
   may = due_facts goal past (step.Settle level) parts.0
 
-  same : (id : List ℕ) → filter (is_of id) (known past) ≡ filter (is_of id) (unreaped past)
+  same : (id : List ℕ) → filter (is_of id) (known_children past) ≡ filter (is_of id) (unreaped_children past)
   same = idle_known goal past parts.1 may.idle
 
 -- in a settled level each unreaped child belongs to an entry of the level
@@ -68,13 +68,13 @@ level_stage level (Some stage.Sysinit) h = absurd (false≢true h)
 level_stage level (Some stage.Boot) h = absurd (false≢true h)
 level_stage level (Some (stage.Run l)) h = ap (λ k. Some (stage.Run k)) (sym (same_level-is level l h))
 
-pub settle_belongs : (goal : Goal) (later : List Event) (level : Level) (past : List Event) → is_sound goal (later ++ Settle level ∷ past) ≡ true → list_all (belongs level past) (unreaped past) ≡ true
-settle_belongs goal later level past h = all_less (λ child. not (is_excluded past child)) (belongs level past) live (unreaped past) (all_fail (is_excluded past) (unreaped past) (not-true (list_any (is_excluded past) (unreaped past)) two.1)) where
-  all : ((is_level level (stage_of past) && not (list_any (is_excluded past) (unreaped past))) ≡ true) × (list_all (is_served level (unreaped past) past) (table_of past) ≡ true)
-  all = and_parts (is_level level (stage_of past) && not (list_any (is_excluded past) (unreaped past))) (list_all (is_served level (unreaped past) past) (table_of past)) (settle_settled goal later level past h)
+pub settle_belongs : (goal : Goal) (later : List Event) (level : Level) (past : List Event) → is_sound goal (later ++ Settle level ∷ past) ≡ true → list_all (belongs level past) (unreaped_children past) ≡ true
+settle_belongs goal later level past h = all_less (λ child. not (is_excluded past child)) (belongs level past) live (unreaped_children past) (all_fail (is_excluded past) (unreaped_children past) (not-true (list_any (is_excluded past) (unreaped_children past)) two.1)) where
+  all : ((is_level level (stage_of past) && not (list_any (is_excluded past) (unreaped_children past))) ≡ true) × (list_all (is_served level (unreaped_children past) past) (table_of past) ≡ true)
+  all = and_parts (is_level level (stage_of past) && not (list_any (is_excluded past) (unreaped_children past))) (list_all (is_served level (unreaped_children past) past) (table_of past)) (settle_settled goal later level past h)
 
-  two : (is_level level (stage_of past) ≡ true) × (not (list_any (is_excluded past) (unreaped past)) ≡ true)
-  two = and_parts (is_level level (stage_of past)) (not (list_any (is_excluded past) (unreaped past))) all.0
+  two : (is_level level (stage_of past) ≡ true) × (not (list_any (is_excluded past) (unreaped_children past)) ≡ true)
+  two = and_parts (is_level level (stage_of past)) (not (list_any (is_excluded past) (unreaped_children past))) all.0
 
   live : (child : Child) → not (is_excluded past child) ≡ true → belongs level past child ≡ true
   live child free = ap (λ now. may_live (entry_of child.id (table_of past)) child.act now) (sym (level_stage level (stage_of past) two.0)) ∙ twice (may_live (entry_of child.id (table_of past)) child.act (stage_of past)) free where

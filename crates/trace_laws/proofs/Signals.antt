@@ -9,7 +9,7 @@ use Rattle.init_trace.specs.declared.happenings.Happening.TheVariants.{Asked}
 use Rattle.init_trace.specs.declared.steps.Goal.{Goal}
 use Rattle.init_trace.specs.declared.steps.Step.TheVariants as step
 use Rattle.init_trace.specs.Event.{Event}
-use Rattle.init_trace.specs.Past.{Child, grace_of, time_of, is_of, unreaped}
+use Rattle.init_trace.specs.Past.{Child, grace_of, time_of, is_of, unreaped_children}
 use Rattle.init_trace.specs.Wanted.{is_excluded}
 use Rattle.init_trace.specs.Spells.{Signal, is_ripe, stop_by, stop_due, is_missed, spell_hits}
 use Rattle.init_trace.specs.Due.{is_due}
@@ -38,7 +38,7 @@ kill_ripe child past h = due (is_excluded past child && not (is_missed child pas
   due true grace now (signal ∷ more ∷ rest) h = absurd (none-some Kill h)
 
 pub asked_may_kill : (goal : Goal) (id : List ℕ) (past : List Event) → is_due goal (step.Order id Kill) past ≡ true → is_sound goal past ≡ true → may_kill id past ≡ true
-asked_may_kill goal id past due sound = any_less (λ child. is_of id child && stopped child) (λ child. is_of id child && is_excluded past child && list_any ripe (spell_hits child past)) nest (unreaped past) (stop_unreaped id Kill past (sound_holds goal past sound).told may stopped (and_from (is_excluded past may.child) (list_any ripe (spell_hits may.child past)) (stop_excluded may.child Kill past may.due) told)) where
+asked_may_kill goal id past due sound = any_less (λ child. is_of id child && stopped child) (λ child. is_of id child && is_excluded past child && list_any ripe (spell_hits child past)) nest (unreaped_children past) (stop_unreaped id Kill past (sound_holds goal past sound).told may stopped (and_from (is_excluded past may.child) (list_any ripe (spell_hits may.child past)) (stop_excluded may.child Kill past may.due) told)) where
   ripe : Signal → Bool
   ripe = is_ripe (grace_of past) (time_of past)
 

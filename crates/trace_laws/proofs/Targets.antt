@@ -8,7 +8,7 @@ use Rattle.init_words.specs.Ids.{same_id}
 use Rattle.init_trace.specs.declared.happenings.Happening.TheVariants.{Hit}
 use Rattle.init_trace.specs.declared.steps.Goal.{Goal}
 use Rattle.init_trace.specs.Event.{Event}
-use Rattle.init_trace.specs.Past.{Child, is_of, is_child, unreaped, undone_of}
+use Rattle.init_trace.specs.Past.{Child, is_of, is_child, undone_of, unreaped_children}
 use Rattle.init_trace.specs.Wanted.{is_order, is_excluded}
 use Rattle.init_trace.specs.Sound.{is_sound}
 use Rattle.init_trace.specs.Bounds.{targets, hits_its_own}
@@ -20,20 +20,20 @@ use Rattle.trace_laws.proofs.Keeps.{Holds, sound_holds}
 use Rattle.trace_laws.proofs.Births.{step_at, one_child}
 
 -- while an order of the id is undone, the children known at it are the unreaped ones
-pub undone_targets : (id : List ℕ) (ask : Ask) (past : List Event) → Holds past → undone_of id past ≡ Some ask → targets id past ≡ filter (is_of id) (unreaped past)
+pub undone_targets : (id : List ℕ) (ask : Ask) (past : List Event) → Holds past → undone_of id past ≡ Some ask → targets id past ≡ filter (is_of id) (unreaped_children past)
 undone_targets id ask past holds is = targets_known id ask past (undone_is_open id ask past is) ∙ told_known id past (holds.done id ask is)
 
 -- of at most one child of the id, which is excluded and unreaped
-single_excluded : (id : List ℕ) (past : List Event) (ts : List Child) → length ts ≤ 1 → list_any (λ child. is_of id child && is_excluded past child) ts ≡ true → ((q : Child → Bool) → list_any q ts ≡ true → list_any q (unreaped past) ≡ true) → (not (length ts == 0) && list_all (λ child. is_excluded past child && list_any (is_child id child.number) (unreaped past)) ts) ≡ true
+single_excluded : (id : List ℕ) (past : List Event) (ts : List Child) → length ts ≤ 1 → list_any (λ child. is_of id child && is_excluded past child) ts ≡ true → ((q : Child → Bool) → list_any q ts ≡ true → list_any q (unreaped_children past) ≡ true) → (not (length ts == 0) && list_all (λ child. is_excluded past child && list_any (is_child id child.number) (unreaped_children past)) ts) ≡ true
 single_excluded id past [] one there within = absurd (false≢true there)
 single_excluded id past (child ∷ []) one there within =
     let parts = and_parts (is_of id child) (is_excluded past child) (sym (or_false (is_of id child && is_excluded past child)) ∙ there) in
     let own : is_child id child.number child ≡ true = and_from (same_id id child.id) (child.number == child.number) parts.0 (eq-eqb child.number child.number refl) in
-    and_from (is_excluded past child && list_any (is_child id child.number) (unreaped past)) true (and_from (is_excluded past child) (list_any (is_child id child.number) (unreaped past)) parts.1 (within (is_child id child.number) (or_false (is_child id child.number child) ∙ own))) refl
+    and_from (is_excluded past child && list_any (is_child id child.number) (unreaped_children past)) true (and_from (is_excluded past child) (list_any (is_child id child.number) (unreaped_children past)) parts.1 (within (is_child id child.number) (or_false (is_child id child.number child) ∙ own))) refl
 single_excluded id past (child ∷ more ∷ rest) one there within = absurd (omega arith)
 
 hit_order : (id : List ℕ) (ask : Ask) (goal : Goal) (past : List Event) → is_sound goal past ≡ true → is_order ask (undone_of id past) ≡ true → is_signal ask ≡ true → hits_its_own (Hit id) past ≡ true
-hit_order id ask goal past sound h signal = ap test (undone_targets id ask past holds is) ∙ single_excluded id past (filter (is_of id) (unreaped past)) (one_child goal past sound id) (any_within stopped (is_of id) (λ child both. (and_parts (is_of id child) (is_excluded past child) both).0) (unreaped past) ∙ holds.stopping id ask is signal) (λ q found. any_filtered q (is_of id) (unreaped past) found) where
+hit_order id ask goal past sound h signal = ap test (undone_targets id ask past holds is) ∙ single_excluded id past (filter (is_of id) (unreaped_children past)) (one_child goal past sound id) (any_within stopped (is_of id) (λ child both. (and_parts (is_of id child) (is_excluded past child) both).0) (unreaped_children past) ∙ holds.stopping id ask is signal) (λ q found. any_filtered q (is_of id) (unreaped_children past) found) where
   holds : Holds past
   holds = sound_holds goal past sound
 
@@ -44,7 +44,7 @@ hit_order id ask goal past sound h signal = ap test (undone_targets id ask past 
   stopped child = is_of id child && is_excluded past child
 
   test : List Child → Bool
-  test ts = not (length ts == 0) && list_all (λ child. is_excluded past child && list_any (is_child id child.number) (unreaped past)) ts
+  test ts = not (length ts == 0) && list_all (λ child. is_excluded past child && list_any (is_child id child.number) (unreaped_children past)) ts
 
 pub hit_own : (goal : Goal) (later : List Event) (id : List ℕ) (past : List Event) → is_sound goal (later ++ Hit id ∷ past) ≡ true → hits_its_own (Hit id) past ≡ true
 hit_own goal later id past h =

@@ -17,7 +17,7 @@ use Rattle.init_trace.specs.declared.happenings.Happening.TheVariants.{NewTable,
 use Rattle.init_trace.specs.declared.steps.Goal.{Goal}
 use Rattle.init_trace.specs.declared.steps.Step.TheVariants as step
 use Rattle.init_trace.specs.Event.{Event}
-use Rattle.init_trace.specs.Past.{table_of, Child, is_of, is_child, has_child, born, unreaped, kept, known, open_of, undone_of, is_untold, open_orders, is_quiet}
+use Rattle.init_trace.specs.Past.{table_of, Child, is_of, is_child, has_child, open_of, undone_of, is_untold, open_orders, is_quiet, newborn, unreaped_children, kept_children, known_children}
 use Rattle.init_trace.specs.Wanted.{starts_now, is_order, is_excluded}
 use Rattle.init_trace.specs.Answered.{answered_of, child_after}
 use Rattle.init_trace.specs.Due.{is_due}
@@ -33,22 +33,22 @@ use Rattle.trace_laws.proofs.Keeps.{start_undone, look_undone, born_ready, sound
 use Rattle.trace_laws.proofs.Births.{is_table, sound_step, one_child}
 
 -- an id with no open Start: its kept children are the known ones
-pub kept_known : (goal : Goal) (past : List Event) → is_sound goal past ≡ true → (id : List ℕ) → is_order Start (open_of id past) ≡ false → filter (is_of id) (kept past) ≡ filter (is_of id) (known past)
-kept_known goal past h = sound_ind goal (λ before. (id : List ℕ) → is_order Start (open_of id before) ≡ false → filter (is_of id) (kept before) ≡ filter (is_of id) (known before)) (λ table distinct id free. refl) next past h where
-  next : (happening : Event) (before : List Event) → may_come goal happening before ≡ true → is_sound goal before ≡ true → ((id : List ℕ) → is_order Start (open_of id before) ≡ false → filter (is_of id) (kept before) ≡ filter (is_of id) (known before)) → (id : List ℕ) → is_order Start (open_of id (happening ∷ before)) ≡ false → filter (is_of id) (kept (happening ∷ before)) ≡ filter (is_of id) (known (happening ∷ before))
+pub kept_known : (goal : Goal) (past : List Event) → is_sound goal past ≡ true → (id : List ℕ) → is_order Start (open_of id past) ≡ false → filter (is_of id) (kept_children past) ≡ filter (is_of id) (known_children past)
+kept_known goal past h = sound_ind goal (λ before. (id : List ℕ) → is_order Start (open_of id before) ≡ false → filter (is_of id) (kept_children before) ≡ filter (is_of id) (known_children before)) (λ table distinct id free. refl) next past h where
+  next : (happening : Event) (before : List Event) → may_come goal happening before ≡ true → is_sound goal before ≡ true → ((id : List ℕ) → is_order Start (open_of id before) ≡ false → filter (is_of id) (kept_children before) ≡ filter (is_of id) (known_children before)) → (id : List ℕ) → is_order Start (open_of id (happening ∷ before)) ≡ false → filter (is_of id) (kept_children (happening ∷ before)) ≡ filter (is_of id) (known_children (happening ∷ before))
   next (Birth i n) before may sound same id free = at_id (same_id id i) refl where
     started : open_of i before ≡ Some Start
     started = undone_is_open i Start before (is_order-is Start (undone_of i before) (start_undone goal i n before may))
 
-    at_id : (b : Bool) → same_id id i ≡ b → cond b (born i n before ∷ filter (is_of id) (kept before)) (filter (is_of id) (kept before)) ≡ filter (is_of id) (known before)
+    at_id : (b : Bool) → same_id id i ≡ b → cond b (newborn i n before ∷ filter (is_of id) (kept_children before)) (filter (is_of id) (kept_children before)) ≡ filter (is_of id) (known_children before)
     at_id true own = both_ways (is_order Start (open_of id before)) (ap (λ x. is_order Start (open_of x before)) (same_id-is id i own) ∙ ap (is_order Start) started) free
     at_id false differ = same id free
   next (Told i) before may sound same id free = at_id (same_id id i) refl free where
-    at_id : (b : Bool) → same_id id i ≡ b → is_order Start (cond b None (open_of id before)) ≡ false → filter (is_of id) (kept (Told i ∷ before)) ≡ filter (is_of id) (known (Told i ∷ before))
-    at_id true own free = told_same id i (unreaped before) (kept before) own ∙ sym (told_same id i (unreaped before) (known before) own)
-    at_id false differ free = told_other id i (unreaped before) (kept before) differ ∙ same id free ∙ sym (told_other id i (unreaped before) (known before) differ)
+    at_id : (b : Bool) → same_id id i ≡ b → is_order Start (cond b None (open_of id before)) ≡ false → filter (is_of id) (kept_children (Told i ∷ before)) ≡ filter (is_of id) (known_children (Told i ∷ before))
+    at_id true own free = told_same id i (unreaped_children before) (kept_children before) own ∙ sym (told_same id i (unreaped_children before) (known_children before) own)
+    at_id false differ free = told_other id i (unreaped_children before) (kept_children before) differ ∙ same id free ∙ sym (told_other id i (unreaped_children before) (known_children before) differ)
   next (Asked i ask) before may sound same id free = at_id (same_id id i) refl free where
-    at_id : (b : Bool) → same_id id i ≡ b → is_order Start (cond b (Some ask) (open_of id before)) ≡ false → filter (is_of id) (kept before) ≡ filter (is_of id) (known before)
+    at_id : (b : Bool) → same_id id i ≡ b → is_order Start (cond b (Some ask) (open_of id before)) ≡ false → filter (is_of id) (kept_children before) ≡ filter (is_of id) (known_children before)
     at_id true own free = same id (ap (λ x. is_order Start (open_of x before)) (same_id-is id i own) ∙ ap (is_order Start) (asked_free goal i ask before may))
     at_id false differ free = same id free
   next (_) before may sound same id free = same id free
@@ -165,37 +165,37 @@ act_child id i x given before past child had there known_there table own other r
   at_id false differ h = (other differ).0 ∙ rest h ∙ ap (child_after id before given) (sym (other differ).1) ∙ sym (same_after id past before given known_there table)
 
 -- where an order of the id is undone, its unreaped child is the known one
-undone_child : (goal : Goal) (i : List ℕ) (ask : Ask) (past : List Event) → is_sound goal past ≡ true → is_order ask (undone_of i past) ≡ true → (id : List ℕ) → same_id id i ≡ true → find (is_of id) (unreaped past) ≡ find (is_of id) (known past)
-undone_child goal i ask past sound h id own = let P : List ℕ → Type 0 = λ x. find (is_of x) (unreaped past) ≡ find (is_of x) (known past) in subst P (sym (same_id-is id i own)) (sym (same_find (is_of i) (known past) (unreaped past) (told_known i past ((sound_holds goal past sound).done i ask (is_order-is ask (undone_of i past) h)))))
+undone_child : (goal : Goal) (i : List ℕ) (ask : Ask) (past : List Event) → is_sound goal past ≡ true → is_order ask (undone_of i past) ≡ true → (id : List ℕ) → same_id id i ≡ true → find (is_of id) (unreaped_children past) ≡ find (is_of id) (known_children past)
+undone_child goal i ask past sound h id own = let P : List ℕ → Type 0 = λ x. find (is_of x) (unreaped_children past) ≡ find (is_of x) (known_children past) in subst P (sym (same_id-is id i own)) (sym (same_find (is_of i) (known_children past) (unreaped_children past) (told_known i past ((sound_holds goal past sound).done i ask (is_order-is ask (undone_of i past) h)))))
 
-signal_child : (goal : Goal) (i : List ℕ) (past : List Event) → is_sound goal past ≡ true → (is_order Term (undone_of i past) || is_order Kill (undone_of i past)) ≡ true → (id : List ℕ) → same_id id i ≡ true → find (is_of id) (unreaped past) ≡ find (is_of id) (known past)
+signal_child : (goal : Goal) (i : List ℕ) (past : List Event) → is_sound goal past ≡ true → (is_order Term (undone_of i past) || is_order Kill (undone_of i past)) ≡ true → (id : List ℕ) → same_id id i ≡ true → find (is_of id) (unreaped_children past) ≡ find (is_of id) (known_children past)
 signal_child goal i past sound h id own = or_either (is_order Term (undone_of i past)) (is_order Kill (undone_of i past)) h (λ g. undone_child goal i Term past sound g id own) (λ g. undone_child goal i Kill past sound g id own)
 
 -- while an answer is under way, the unreaped child of the id is the one that the answer says
-pub answered_child : (goal : Goal) (past : List Event) → is_sound goal past ≡ true → (id : List ℕ) (given : Answer) → answered_of id past ≡ Some given → find (is_of id) (unreaped past) ≡ child_after id past given (find (is_of id) (known past))
-answered_child goal past h = sound_ind goal (λ before. (id : List ℕ) (given : Answer) → answered_of id before ≡ Some given → find (is_of id) (unreaped before) ≡ child_after id before given (find (is_of id) (known before))) (λ table distinct id given is. absurd (none-some given is)) next past h where
-  next : (happening : Event) (before : List Event) → may_come goal happening before ≡ true → is_sound goal before ≡ true → ((id : List ℕ) (given : Answer) → answered_of id before ≡ Some given → find (is_of id) (unreaped before) ≡ child_after id before given (find (is_of id) (known before))) → (id : List ℕ) (given : Answer) → answered_of id (happening ∷ before) ≡ Some given → find (is_of id) (unreaped (happening ∷ before)) ≡ child_after id (happening ∷ before) given (find (is_of id) (known (happening ∷ before)))
-  next (NewTable table) before may sound rest id given is = rest id given is ∙ sym (quiet_after id (NewTable table ∷ before) before given (find (is_of id) (known before)) (and_parts (is_quiet before) (is_distinct table) may).0 (answers_open goal before sound id given is))
-  next (Birth i n) before may sound rest id given is = act_child id i (answer.Born n) given before (Birth i n ∷ before) (find (is_of id) (unreaped before)) (find (is_of id) (known before)) (find (is_of id) (unreaped (Birth i n ∷ before))) (find (is_of id) (known before)) refl own (λ differ. (rw differ refl, refl)) (rest id given) is where
-    own : same_id id i ≡ true → cond (same_id id i) (Some (born i n before)) (find (is_of id) (unreaped before)) ≡ Some (born id n before)
-    own same = rw same (ap (λ x. Some (born x n before)) (sym (same_id-is id i same)))
-  next (Reaped i n status) before may sound rest id given is = act_child id i (answer.Ended status) given before (Reaped i n status ∷ before) (find (is_of id) (unreaped before)) (find (is_of id) (known before)) (find (is_of id) (unreaped (Reaped i n status ∷ before))) (find (is_of id) (known before)) refl own (λ differ. (same_find (is_of id) (unreaped (Reaped i n status ∷ before)) (unreaped before) (reaped_other id i n (unreaped before) differ), refl)) (rest id given) is where
-    own : same_id id i ≡ true → find (is_of id) (unreaped (Reaped i n status ∷ before)) ≡ None
-    own same = ap (λ x. find (is_of x) (unreaped (Reaped i n status ∷ before))) (same_id-is id i same) ∙ find_none (is_of i) (unreaped (Reaped i n status ∷ before)) (reaped_none i n (unreaped before) (one_child goal before sound i) (look_undone goal i n status before may).1)
-  next (NoBirth i) before may sound rest id given is = act_child id i answer.NotBorn given before (NoBirth i ∷ before) (find (is_of id) (unreaped before)) (find (is_of id) (known before)) (find (is_of id) (unreaped before)) (find (is_of id) (known before)) refl (undone_child goal i Start before sound may id) (λ differ. (refl, refl)) (rest id given) is
-  next (Still i) before may sound rest id given is = act_child id i answer.Alive given before (Still i ∷ before) (find (is_of id) (unreaped before)) (find (is_of id) (known before)) (find (is_of id) (unreaped before)) (find (is_of id) (known before)) refl (undone_child goal i Look before sound may id) (λ differ. (refl, refl)) (rest id given) is
-  next (NoLook i) before may sound rest id given is = act_child id i answer.NoLook given before (NoLook i ∷ before) (find (is_of id) (unreaped before)) (find (is_of id) (known before)) (find (is_of id) (unreaped before)) (find (is_of id) (known before)) refl (undone_child goal i Look before sound may id) (λ differ. (refl, refl)) (rest id given) is
-  next (Hit i) before may sound rest id given is = act_child id i answer.Hit given before (Hit i ∷ before) (find (is_of id) (unreaped before)) (find (is_of id) (known before)) (find (is_of id) (unreaped before)) (find (is_of id) (known before)) refl (signal_child goal i before sound may id) (λ differ. (refl, refl)) (rest id given) is
-  next (Miss i) before may sound rest id given is = act_child id i answer.Miss given before (Miss i ∷ before) (find (is_of id) (unreaped before)) (find (is_of id) (known before)) (find (is_of id) (unreaped before)) (find (is_of id) (known before)) refl (signal_child goal i before sound may id) (λ differ. (refl, refl)) (rest id given) is
-  next (Told i) before may sound rest id given is = cleared (same_id id i) (answered_of id before) given (λ differ under. rest id given under ∙ ap (child_after id before given) (sym (same_find (is_of id) (known (Told i ∷ before)) (known before) (told_other id i (unreaped before) (known before) differ))) ∙ sym (same_after id (Told i ∷ before) before given (find (is_of id) (known (Told i ∷ before))) refl)) is
-  next happening before may sound rest id given is = rest id given is ∙ sym (same_after id (happening ∷ before) before given (find (is_of id) (known before)) refl)
+pub answered_child : (goal : Goal) (past : List Event) → is_sound goal past ≡ true → (id : List ℕ) (given : Answer) → answered_of id past ≡ Some given → find (is_of id) (unreaped_children past) ≡ child_after id past given (find (is_of id) (known_children past))
+answered_child goal past h = sound_ind goal (λ before. (id : List ℕ) (given : Answer) → answered_of id before ≡ Some given → find (is_of id) (unreaped_children before) ≡ child_after id before given (find (is_of id) (known_children before))) (λ table distinct id given is. absurd (none-some given is)) next past h where
+  next : (happening : Event) (before : List Event) → may_come goal happening before ≡ true → is_sound goal before ≡ true → ((id : List ℕ) (given : Answer) → answered_of id before ≡ Some given → find (is_of id) (unreaped_children before) ≡ child_after id before given (find (is_of id) (known_children before))) → (id : List ℕ) (given : Answer) → answered_of id (happening ∷ before) ≡ Some given → find (is_of id) (unreaped_children (happening ∷ before)) ≡ child_after id (happening ∷ before) given (find (is_of id) (known_children (happening ∷ before)))
+  next (NewTable table) before may sound rest id given is = rest id given is ∙ sym (quiet_after id (NewTable table ∷ before) before given (find (is_of id) (known_children before)) (and_parts (is_quiet before) (is_distinct table) may).0 (answers_open goal before sound id given is))
+  next (Birth i n) before may sound rest id given is = act_child id i (answer.Born n) given before (Birth i n ∷ before) (find (is_of id) (unreaped_children before)) (find (is_of id) (known_children before)) (find (is_of id) (unreaped_children (Birth i n ∷ before))) (find (is_of id) (known_children before)) refl own (λ differ. (rw differ refl, refl)) (rest id given) is where
+    own : same_id id i ≡ true → cond (same_id id i) (Some (newborn i n before)) (find (is_of id) (unreaped_children before)) ≡ Some (newborn id n before)
+    own same = rw same (ap (λ x. Some (newborn x n before)) (sym (same_id-is id i same)))
+  next (Reaped i n status) before may sound rest id given is = act_child id i (answer.Ended status) given before (Reaped i n status ∷ before) (find (is_of id) (unreaped_children before)) (find (is_of id) (known_children before)) (find (is_of id) (unreaped_children (Reaped i n status ∷ before))) (find (is_of id) (known_children before)) refl own (λ differ. (same_find (is_of id) (unreaped_children (Reaped i n status ∷ before)) (unreaped_children before) (reaped_other id i n (unreaped_children before) differ), refl)) (rest id given) is where
+    own : same_id id i ≡ true → find (is_of id) (unreaped_children (Reaped i n status ∷ before)) ≡ None
+    own same = ap (λ x. find (is_of x) (unreaped_children (Reaped i n status ∷ before))) (same_id-is id i same) ∙ find_none (is_of i) (unreaped_children (Reaped i n status ∷ before)) (reaped_none i n (unreaped_children before) (one_child goal before sound i) (look_undone goal i n status before may).1)
+  next (NoBirth i) before may sound rest id given is = act_child id i answer.NotBorn given before (NoBirth i ∷ before) (find (is_of id) (unreaped_children before)) (find (is_of id) (known_children before)) (find (is_of id) (unreaped_children before)) (find (is_of id) (known_children before)) refl (undone_child goal i Start before sound may id) (λ differ. (refl, refl)) (rest id given) is
+  next (Still i) before may sound rest id given is = act_child id i answer.Alive given before (Still i ∷ before) (find (is_of id) (unreaped_children before)) (find (is_of id) (known_children before)) (find (is_of id) (unreaped_children before)) (find (is_of id) (known_children before)) refl (undone_child goal i Look before sound may id) (λ differ. (refl, refl)) (rest id given) is
+  next (NoLook i) before may sound rest id given is = act_child id i answer.NoLook given before (NoLook i ∷ before) (find (is_of id) (unreaped_children before)) (find (is_of id) (known_children before)) (find (is_of id) (unreaped_children before)) (find (is_of id) (known_children before)) refl (undone_child goal i Look before sound may id) (λ differ. (refl, refl)) (rest id given) is
+  next (Hit i) before may sound rest id given is = act_child id i answer.Hit given before (Hit i ∷ before) (find (is_of id) (unreaped_children before)) (find (is_of id) (known_children before)) (find (is_of id) (unreaped_children before)) (find (is_of id) (known_children before)) refl (signal_child goal i before sound may id) (λ differ. (refl, refl)) (rest id given) is
+  next (Miss i) before may sound rest id given is = act_child id i answer.Miss given before (Miss i ∷ before) (find (is_of id) (unreaped_children before)) (find (is_of id) (known_children before)) (find (is_of id) (unreaped_children before)) (find (is_of id) (known_children before)) refl (signal_child goal i before sound may id) (λ differ. (refl, refl)) (rest id given) is
+  next (Told i) before may sound rest id given is = cleared (same_id id i) (answered_of id before) given (λ differ under. rest id given under ∙ ap (child_after id before given) (sym (same_find (is_of id) (known_children (Told i ∷ before)) (known_children before) (told_other id i (unreaped_children before) (known_children before) differ))) ∙ sym (same_after id (Told i ∷ before) before given (find (is_of id) (known_children (Told i ∷ before))) refl)) is
+  next happening before may sound rest id given is = rest id given is ∙ sym (same_after id (happening ∷ before) before given (find (is_of id) (known_children before)) refl)
 
 -- the child that init knows of after a Told
-pub told_child : (goal : Goal) (past : List Event) → is_sound goal past ≡ true → (id : List ℕ) (given : Answer) → answered_of id past ≡ Some given → find (is_of id) (known (Told id ∷ past)) ≡ child_after id past given (find (is_of id) (known past))
-told_child goal past h id given is = same_find (is_of id) (known (Told id ∷ past)) (unreaped past) (told_same id id (unreaped past) (known past) (same_id-self id)) ∙ answered_child goal past h id given is
+pub told_child : (goal : Goal) (past : List Event) → is_sound goal past ≡ true → (id : List ℕ) (given : Answer) → answered_of id past ≡ Some given → find (is_of id) (known_children (Told id ∷ past)) ≡ child_after id past given (find (is_of id) (known_children past))
+told_child goal past h id given is = same_find (is_of id) (known_children (Told id ∷ past)) (unreaped_children past) (told_same id id (unreaped_children past) (known_children past) (same_id-self id)) ∙ answered_child goal past h id given is
 
 -- a child that is born is not excluded
-pub newborn_lives : (goal : Goal) (id : List ℕ) (n : ℕ) (past : List Event) → is_sound goal (Birth id n ∷ past) ≡ true → is_excluded (Birth id n ∷ past) (born id n past) ≡ false
+pub newborn_lives : (goal : Goal) (id : List ℕ) (n : ℕ) (past : List Event) → is_sound goal (Birth id n ∷ past) ≡ true → is_excluded (Birth id n ∷ past) (newborn id n past) ≡ false
 newborn_lives goal id n past h =
     let parts = sound_step goal (Birth id n) past refl h in
     placed_spared id n past ((sound_holds goal past parts.1).ready id (is_order-is Start (undone_of id past) (start_undone goal id n past parts.0))).placed
@@ -210,9 +210,9 @@ order_open id ask past = open_listed (same_ask ask) id past ∙ given (open_of i
 -- where no table came after the first, each open order and each kept child is of an entry of it
 record InTable (past : List Event) : Type 0 where
   orders : (id : List ℕ) (ask : Ask) → open_of id past ≡ Some ask → list_any (has_id id) (table_of past) ≡ true
-  children : (id : List ℕ) → has_child id (kept past) ≡ true → list_any (has_id id) (table_of past) ≡ true
+  children : (id : List ℕ) → has_child id (kept_children past) ≡ true → list_any (has_id id) (table_of past) ≡ true
 
-pub stop_known : (id : List ℕ) (ask : Ask) (past : List Event) → MayStop id ask past → has_child id (known past) ≡ true
+pub stop_known : (id : List ℕ) (ask : Ask) (past : List Event) → MayStop id ask past → has_child id (known_children past) ≡ true
 stop_known id ask past may = may.within (is_of id) may.own
 
 asked_in_table : (goal : Goal) (i : List ℕ) (ask : Ask) (past : List Event) → is_due goal (step.Order i ask) past ≡ true → InTable past → list_any (has_id i) (table_of past) ≡ true
@@ -236,9 +236,9 @@ placed_listed id past h = found (entry_of id (table_of past)) refl h where
   found None is h = absurd (false≢true h)
   found (Some e) is h = entry_listed id (table_of past) e is
 
-children_keep : (goal : Goal) (happening : Event) (past : List Event) → may_come goal happening past ≡ true → is_table happening ≡ false → is_sound goal past ≡ true → InTable past → (id : List ℕ) → has_child id (kept (happening ∷ past)) ≡ true → list_any (has_id id) (table_of (happening ∷ past)) ≡ true
+children_keep : (goal : Goal) (happening : Event) (past : List Event) → may_come goal happening past ≡ true → is_table happening ≡ false → is_sound goal past ≡ true → InTable past → (id : List ℕ) → has_child id (kept_children (happening ∷ past)) ≡ true → list_any (has_id id) (table_of (happening ∷ past)) ≡ true
 children_keep goal (NewTable table) past may other sound rest id h = absurd (false≢true (sym other))
-children_keep goal (Birth i n) past may other sound rest id h = or_either (same_id id i) (has_child id (kept past)) h (λ same. ap (λ x. list_any (has_id x) (table_of past)) (same_id-is id i same) ∙ placed_listed i past (born_ready goal i n past may (sound_holds goal past sound)).placed) (rest.children id)
+children_keep goal (Birth i n) past may other sound rest id h = or_either (same_id id i) (has_child id (kept_children past)) h (λ same. ap (λ x. list_any (has_id x) (table_of past)) (same_id-is id i same) ∙ placed_listed i past (born_ready goal i n past may (sound_holds goal past sound)).placed) (rest.children id)
 children_keep goal (Told i) past may other sound rest id h = rest.children id (kept_before_told (is_of id) i past h)
 children_keep goal (_) past may other sound rest id h = rest.children id h
 
@@ -257,5 +257,5 @@ in_table goal past h = sound_ind goal (λ before. keeps_table before ≡ true �
 pub open_in_table : (goal : Goal) (past : List Event) → is_sound goal past ≡ true → keeps_table past ≡ true → (id : List ℕ) (ask : Ask) → open_of id past ≡ Some ask → list_any (has_id id) (table_of past) ≡ true
 open_in_table goal past h one id ask is = (in_table goal past h one).orders id ask is
 
-pub child_in_table : (goal : Goal) (past : List Event) → is_sound goal past ≡ true → keeps_table past ≡ true → (id : List ℕ) → has_child id (kept past) ≡ true → list_any (has_id id) (table_of past) ≡ true
+pub child_in_table : (goal : Goal) (past : List Event) → is_sound goal past ≡ true → keeps_table past ≡ true → (id : List ℕ) → has_child id (kept_children past) ≡ true → list_any (has_id id) (table_of past) ≡ true
 child_in_table goal past h one id there = (in_table goal past h one).children id there

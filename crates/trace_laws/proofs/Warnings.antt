@@ -9,7 +9,7 @@ use Rattle.init_words.specs.Ids.{same_id}
 use Rattle.init_trace.specs.declared.happenings.Happening.TheVariants.{Asked, Told}
 use Rattle.init_trace.specs.declared.steps.Goal.{Goal}
 use Rattle.init_trace.specs.Event.{Event}
-use Rattle.init_trace.specs.Past.{Child, grace_of, time_of, is_of, is_child, unreaped}
+use Rattle.init_trace.specs.Past.{Child, grace_of, time_of, is_of, is_child, unreaped_children}
 use Rattle.init_trace.specs.Wanted.{is_order, is_excluded}
 use Rattle.init_trace.specs.Spells.{Signal, untold_hits, told_at, tells_hits, in_spell, spell_hits, is_ripe}
 use Rattle.init_trace.specs.Agreement.{is_unreaped}
@@ -76,8 +76,8 @@ kill_warned goal later past id h = subst (λ x. Warned x past) (sym (same_id-is 
   stopped : Child → Bool
   stopped child = is_of id child && is_excluded past child && list_any ripe (spell_hits child past)
 
-  found : Passing stopped (unreaped past)
-  found = passing stopped (unreaped past) (kill_may goal later id past h)
+  found : Passing stopped (unreaped_children past)
+  found = passing stopped (unreaped_children past) (kill_may goal later id past h)
 
   all : ((is_of id found.item && is_excluded past found.item) ≡ true) × (list_any ripe (spell_hits found.item past) ≡ true)
   all = and_parts (is_of id found.item && is_excluded past found.item) (list_any ripe (spell_hits found.item past)) found.passes

@@ -18,7 +18,7 @@ ghost use Rattle.respawn_limit.specs.declared.TheConstants.{WINDOW, STARTS, HOLD
 ghost use Rattle.init_trace.specs.declared.happenings.Happening.TheVariants.{Asked, Hold, Hit};
 ghost use Rattle.init_trace.specs.declared.steps.Goal.{Goal};
 ghost use Rattle.init_trace.specs.Event.{Event};
-ghost use Rattle.init_trace.specs.Past.{time_of, is_of, has_child, unreaped, known};
+ghost use Rattle.init_trace.specs.Past.{time_of, is_of, has_child, unreaped_children, known_children};
 ghost use Rattle.init_trace.specs.Due.{is_settled};
 ghost use Rattle.init_trace.specs.Sound.{is_sound};
 ghost use Rattle.init_trace.specs.Lawful.{is_alone, is_placed, is_in_turn, are_spared, is_limited_id, is_free, is_due_hold, may_term, may_kill, is_lawful};
@@ -33,7 +33,7 @@ ghost use Rattle.trace_laws.specs.Warnings.{Warned};
 pub fn law_agreement()
     // no id has two unreaped children, at any moment, and none where one is born
     ensures one_child { AtEachMoment (λ past.
-        (id : List ℕ) → length (filter (is_of id) (unreaped past)) ≤ 1) }
+        (id : List ℕ) → length (filter (is_of id) (unreaped_children past)) ≤ 1) }
     ensures alone { AtEachBirth (λ id past. IsTrue (is_alone id past)) }
     // between two births of an id the first child is reaped
     ensures reaped_between { BetweenBirths (λ id m between.
@@ -45,9 +45,10 @@ pub fn law_agreement()
     // at a birth no unreaped child is excluded
     ensures spared { AtEachBirth (λ id past. IsTrue (are_spared past)) }
     // an announced level is settled, by the unreaped children, and each of them belongs to an entry of it
-    ensures settled { AtEachSettle (λ level past. IsTrue (is_settled level (unreaped past) past)) }
+    ensures settled { AtEachSettle (λ level past.
+        IsTrue (is_settled level (unreaped_children past) past)) }
     ensures of_level { AtEachSettle (λ level past.
-        IsTrue (list_all (belongs level past) (unreaped past))) }
+        IsTrue (list_all (belongs level past) (unreaped_children past))) }
     // an entry that the respawn limit holds for starts where it is not held and its window is not full; it is held, and
     // no other, where its window is full
     ensures free { AtEachOrder Start (λ id past. IsTrue (is_free id past)) }
@@ -76,8 +77,9 @@ pub fn law_agreement()
     ensures on_target { AtEachHit (λ id past. IsTrue (hits_its_own (Hit id) past)) }
     // the same, of two happenings: an order, and the Hit that comes after it with no other order about the id between
     ensures on_order { FromOrderToHit (λ id ask between past.
-        list_any (is_order_of id) between ≡ false → IsTrue (has_child id (known past))
-        × IsTrue (list_all (is_stoppable id (between ++ Asked id ask ∷ past)) (filter (is_of id) (known past)))) }
+        list_any (is_order_of id) between ≡ false → IsTrue (has_child id (known_children past))
+        × IsTrue (list_all (is_stoppable id (between ++ Asked id ask ∷ past))
+        (filter (is_of id) (known_children past)))) }
     // of each unreaped child at most one sent KILL is told in a spell
     ensures killed_once { AtEachMoment (λ past. IsTrue (kills_once past)) }
 {}
