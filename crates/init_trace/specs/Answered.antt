@@ -3,22 +3,19 @@ use Rattle.std.specs.Prelude.{ℕ, if◌then◌else◌, List, [], ◌∷◌, Opt
 use Rattle.init_words.specs.declared.orders.Answer.{Answer}
 use Rattle.init_words.specs.declared.orders.Answer.TheVariants as answer
 use Rattle.init_words.specs.Ids.{same_id}
-use Rattle.init_trace.specs.declared.happenings.Happening.TheVariants.{Birth, NoBirth, Reaped, Still, NoLook, Hit, Miss, Told}
-use Rattle.init_trace.specs.Event.{Event}
+use Rattle.init_trace.specs.declared.happenings.Happening.TheVariants.{Told}
+use Rattle.init_trace.specs.Event.{Event, SystemAct, act_in}
 use Rattle.init_trace.specs.Past.{Child, newborn}
 
 -- the answer under way to the id's order: its last act, if it was not told
+abbrev pub answered_by : List ℕ → Option SystemAct → Option Answer → Option Answer
+answered_by id None before = before
+answered_by id (Some act) before = if same_id id act.id then Some act.answer else before
+
 abbrev pub answered_of : List ℕ → List Event → Option Answer
 answered_of id [] = None
 answered_of id (Told i ∷ past) = if same_id id i then None else answered_of id past
-answered_of id (Birth i n ∷ past) = if same_id id i then Some (answer.Born n) else answered_of id past
-answered_of id (NoBirth i ∷ past) = if same_id id i then Some answer.NotBorn else answered_of id past
-answered_of id (Reaped i n status ∷ past) = if same_id id i then Some (answer.Ended status) else answered_of id past
-answered_of id (Still i ∷ past) = if same_id id i then Some answer.Alive else answered_of id past
-answered_of id (NoLook i ∷ past) = if same_id id i then Some answer.NoLook else answered_of id past
-answered_of id (Hit i ∷ past) = if same_id id i then Some answer.Hit else answered_of id past
-answered_of id (Miss i ∷ past) = if same_id id i then Some answer.Miss else answered_of id past
-answered_of id (_ ∷ past) = answered_of id past
+answered_of id (happening ∷ past) = answered_by id (act_in happening) (answered_of id past)
 
 -- the child that init knows of after an answer, by the one before: a birth brings one, an end takes it away
 abbrev pub child_after : List ℕ → List Event → Answer → Option Child → Option Child

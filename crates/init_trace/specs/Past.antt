@@ -11,8 +11,8 @@ use Rattle.init_words.specs.declared.orders.Ask.TheVariants.{Look}
 use Rattle.init_words.specs.Ids.{same_id}
 use Rattle.init_words.specs.Orders.{same_ask}
 use Rattle.inittab_text.specs.Tables.{act_of}
-use Rattle.init_trace.specs.declared.happenings.Happening.TheVariants.{NewTable, Enter, Asked, Birth, NoBirth, Death, Reaped, Still, NoLook, Hit, Miss, Told, Clock}
-use Rattle.init_trace.specs.Event.{Event}
+use Rattle.init_trace.specs.declared.happenings.Happening.TheVariants.{NewTable, Enter, Asked, Birth, Death, Reaped, Told, Clock}
+use Rattle.init_trace.specs.Event.{Event, SystemAct, act_in}
 
 -- the table in force: that of the last NewTable
 abbrev pub table_of : List Event → List Entry
@@ -103,31 +103,25 @@ open_of id (Told i ∷ past) = if same_id id i then None else open_of id past
 open_of id (_ ∷ past) = open_of id past
 
 -- its open order, if the system has done nothing on it yet
+abbrev pub undone_by : List ℕ → Option SystemAct → Option Ask → Option Ask
+undone_by id None before = before
+undone_by id (Some act) before = if same_id id act.id then None else before
+
 abbrev pub undone_of : List ℕ → List Event → Option Ask
 undone_of id [] = None
 undone_of id (Asked i ask ∷ past) = if same_id id i then Some ask else undone_of id past
 undone_of id (Told i ∷ past) = if same_id id i then None else undone_of id past
-undone_of id (Birth i n ∷ past) = if same_id id i then None else undone_of id past
-undone_of id (NoBirth i ∷ past) = if same_id id i then None else undone_of id past
-undone_of id (Reaped i n status ∷ past) = if same_id id i then None else undone_of id past
-undone_of id (Still i ∷ past) = if same_id id i then None else undone_of id past
-undone_of id (NoLook i ∷ past) = if same_id id i then None else undone_of id past
-undone_of id (Hit i ∷ past) = if same_id id i then None else undone_of id past
-undone_of id (Miss i ∷ past) = if same_id id i then None else undone_of id past
-undone_of id (_ ∷ past) = undone_of id past
+undone_of id (happening ∷ past) = undone_by id (act_in happening) (undone_of id past)
 
 -- the system did something for the id that is not told
+abbrev pub untold_by : List ℕ → Option SystemAct → Bool → Bool
+untold_by id None before = before
+untold_by id (Some act) before = same_id id act.id || before
+
 abbrev pub is_untold : List ℕ → List Event → Bool
 is_untold id [] = false
 is_untold id (Told i ∷ past) = not (same_id id i) && is_untold id past
-is_untold id (Birth i n ∷ past) = same_id id i || is_untold id past
-is_untold id (NoBirth i ∷ past) = same_id id i || is_untold id past
-is_untold id (Reaped i n status ∷ past) = same_id id i || is_untold id past
-is_untold id (Still i ∷ past) = same_id id i || is_untold id past
-is_untold id (NoLook i ∷ past) = same_id id i || is_untold id past
-is_untold id (Hit i ∷ past) = same_id id i || is_untold id past
-is_untold id (Miss i ∷ past) = same_id id i || is_untold id past
-is_untold id (_ ∷ past) = is_untold id past
+is_untold id (happening ∷ past) = untold_by id (act_in happening) (is_untold id past)
 
 -- an open order and its id
 pub record Open : Type 0 where

@@ -1,5 +1,5 @@
 -- The run in which init takes first due steps until nothing is due, and only then the system or the edge goes on.
-use Rattle.std.specs.Prelude.{Bool, true, false, ◌&&◌, List, [], ◌∷◌}
+use Rattle.std.specs.Prelude.{Bool, true, false, ◌&&◌, List, [], ◌∷◌, Option, Some, None}
 use Rattle.inittab_text.specs.Tables.{is_distinct}
 use Rattle.init_trace.specs.declared.happenings.Happening.TheVariants.{NewTable, NotRead, Enter, Call, Power, Asked, Hold, Settle}
 use Rattle.init_trace.specs.declared.steps.Step.{Step}
@@ -20,17 +20,25 @@ abbrev pub is_reread : Step → Bool
 is_reread step.Reread = true
 is_reread _ = false
 
+-- the step of init that a happening is; a table is none, since a script names it
+abbrev pub step_in : Event → Option Step
+step_in (Enter stage grace) = Some (step.Enter stage grace)
+step_in (Call letter) = Some (step.Call letter)
+step_in (Power kind) = Some (step.Power kind)
+step_in (Asked id ask) = Some (step.Order id ask)
+step_in (Hold id) = Some (step.Hold id)
+step_in (Settle level) = Some (step.Settle level)
+step_in _ = None
+
+abbrev pub is_next_by : Step → Option Step → Bool
+is_next_by due_now None = is_rest due_now
+is_next_by due_now (Some taken) = same_step due_now taken
+
 -- where this step is the first due, the happening is that step, or init waits for it
 abbrev pub is_next : Step → Event → Bool
-is_next due_now (Enter stage grace) = same_step due_now (step.Enter stage grace)
-is_next due_now (Call letter) = same_step due_now (step.Call letter)
-is_next due_now (Power kind) = same_step due_now (step.Power kind)
-is_next due_now (Asked id ask) = same_step due_now (step.Order id ask)
-is_next due_now (Hold id) = same_step due_now (step.Hold id)
-is_next due_now (Settle level) = same_step due_now (step.Settle level)
 is_next due_now (NewTable table) = is_reread due_now
 is_next due_now NotRead = is_reread due_now
-is_next due_now _ = is_rest due_now
+is_next due_now happening = is_next_by due_now (step_in happening)
 
 -- a run: it begins with a table, and each later happening is the next one and may come
 abbrev pub is_run : Goal → List Event → Bool

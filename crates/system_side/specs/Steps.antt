@@ -3,9 +3,10 @@ use Rattle.std.specs.Prelude.{ℕ, Bool, true, false, ◌&&◌, ◌||◌, List, 
 use Rattle.init_words.specs.declared.orders.Ask.{Ask}
 use Rattle.init_words.specs.declared.orders.Ask.TheVariants.{Start, Look, Term, Kill}
 use Rattle.init_words.specs.declared.orders.Answer.{Answer}
-use Rattle.init_words.specs.declared.orders.Answer.TheVariants as answer
 use Rattle.init_trace.specs.declared.happenings.Happening.TheVariants.{Asked, Birth, NoBirth, Death, Reaped, Still, NoLook, Hit, Miss, Told, Clock, Nudge}
-use Rattle.init_trace.specs.Event.{Event}
+use Rattle.init_trace.specs.Event.{Event, act_in}
+use Rattle.init_trace.specs.Past.{undone_by}
+use Rattle.init_trace.specs.Answered.{answered_by}
 use Rattle.init_trace.specs.Wanted.{is_order}
 use Rattle.system_side.specs.declared.sides.Process.{Process}
 use Rattle.system_side.specs.State.{State, order_in, answer_in, child_in, is_living_in, is_dead_in, without, with, with_child, with_death, without_child}
@@ -28,14 +29,7 @@ is_script _ = false
 -- what is taken in needs room: an order, or an act on one
 abbrev pub needs_memory : Event → Bool
 needs_memory (Asked id ask) = true
-needs_memory (Birth id number) = true
-needs_memory (NoBirth id) = true
-needs_memory (Reaped id number status) = true
-needs_memory (Still id) = true
-needs_memory (NoLook id) = true
-needs_memory (Hit id) = true
-needs_memory (Miss id) = true
-needs_memory _ = false
+needs_memory happening = is_some (act_in happening)
 
 -- the state allows the happening
 abbrev pub allowed : State → Event → Bool
@@ -55,27 +49,13 @@ allowed side _ = false
 -- the undone order of an id after the happening, by the one before
 abbrev pub order_after : Event → List ℕ → Option Ask → Option Ask
 order_after (Asked i ask) id before = with id i ask before
-order_after (Birth i n) id before = without id i before
-order_after (NoBirth i) id before = without id i before
-order_after (Reaped i n status) id before = without id i before
-order_after (Still i) id before = without id i before
-order_after (NoLook i) id before = without id i before
-order_after (Hit i) id before = without id i before
-order_after (Miss i) id before = without id i before
 order_after (Told i) id before = without id i before
-order_after _ id before = before
+order_after happening id before = undone_by id (act_in happening) before
 
 -- the answer under way to an id's order after the happening, by the one before
 abbrev pub answer_after : Event → List ℕ → Option Answer → Option Answer
-answer_after (Birth i n) id before = with id i (answer.Born n) before
-answer_after (NoBirth i) id before = with id i answer.NotBorn before
-answer_after (Reaped i n status) id before = with id i (answer.Ended status) before
-answer_after (Still i) id before = with id i answer.Alive before
-answer_after (NoLook i) id before = with id i answer.NoLook before
-answer_after (Hit i) id before = with id i answer.Hit before
-answer_after (Miss i) id before = with id i answer.Miss before
 answer_after (Told i) id before = without id i before
-answer_after _ id before = before
+answer_after happening id before = answered_by id (act_in happening) before
 
 -- the unreaped child of a number after the happening, by the one before
 abbrev pub child_after : Event → ℕ → Option Process → Option Process
