@@ -1,5 +1,5 @@
 -- Which entries were asked, called, are wanted, owed; which children are excluded (inittab(5), init(8)).
-use Rattle.std.specs.Prelude.{ℕ, Bool, true, false, not, ◌&&◌, ◌||◌, if◌then◌else◌, List, [], ◌∷◌, Option, Some, None}
+use Rattle.std.specs.Prelude.{ℕ, Bool, false, not, ◌&&◌, ◌||◌, if◌then◌else◌, List, [], ◌∷◌, Option, Some, None}
 use Rattle.std.specs.List.{list_any}
 use Rattle.init_words.specs.declared.entries.Entry.{Entry}
 use Rattle.init_words.specs.declared.actions.Act.{Act}

@@ -1,16 +1,13 @@
 -- The marks of a runlevels field, and their characters.
-use Rattle.std.proofs.Common.{◌≡◌, ℕ, suc, ◌+◌, ◌<◌, ◌≤◌, Bool, true, false, cond, not, List, [], ◌∷◌, ◌++◌, length, take, map, get_or, filter, Option, Some, None, refl, sym, ap, ◌∙◌, arith, subst}
+use Rattle.std.proofs.Common.{◌≡◌, ℕ, suc, ◌+◌, ◌<◌, ◌≤◌, Bool, true, false, cond, not, List, [], ◌∷◌, ◌++◌, length, take, map, get_or, filter, Option, Some, None, refl, ap, ◌∙◌, arith}
 use Rattle.std.specs.List.{filter_map, cons_option}
-use Rattle.std.proofs.lemmas.Bool.{false≢true, false_from_ne_true, or_parts, and_parts, not-true, not_from_false, not_from_true, eqb-true, eq-eqb}
+use Rattle.std.proofs.lemmas.Bool.{or_parts, and_parts, not-true, not_from_false, not_from_true}
 use Rattle.std.proofs.lemmas.List.{take_more}
 use Rattle.std.proofs.lemmas.List.Elements.{filter_map-append, filter-append}
 use Rattle.std.proofs.lemmas.Map.Views.{any-filter_same}
-use Rattle.init_words.specs.declared.levels.Level.TheVariants.{L0, L1, L2, L3, L4, L5, L6, L7, L8, L9, S}
-use Rattle.init_words.specs.declared.levels.Letter.TheVariants.{A, B, C}
 use Rattle.init_words.specs.declared.levels.Mark.{Mark}
-use Rattle.init_words.specs.declared.levels.Mark.TheVariants.{At, OnCall}
-use Rattle.init_words.specs.Levels.{mark_code, mark_read, same_mark, names, level_code, letter_code}
-use Rattle.init_words.proofs.Same.{mark_read-code, same_mark-is, same_mark-self, same_mark-flip, same_mark-apart}
+use Rattle.init_words.specs.Levels.{mark_code, mark_read, same_mark, names}
+use Rattle.init_words.proofs.Same.{mark_read-code, same_mark-is, same_mark-flip, same_mark-apart}
 use Rattle.inittab_text.specs.Kept.{without_repeats, marks_of, with_mark}
 use Rattle.inittab_text.specs.Written.{has_no_repeat}
 

@@ -1,5 +1,5 @@
 -- On a trace of one table no wish ever stands, nothing is called, and no id leaves the table.
-use Rattle.std.proofs.Common.{Bool, true, false, not, ◌≡◌, ◌&&◌, List, [], ◌∷◌, Option, Some, None, refl}
+use Rattle.std.proofs.Common.{true, false, not, ◌≡◌, List, [], ◌∷◌, Option, Some, None, refl}
 use Rattle.std.proofs.lemmas.Bool.{and_parts, false≢true}
 use Rattle.init_words.proofs.Tests.{and_false}
 use Rattle.init_words.specs.declared.entries.Entry.{Entry}

@@ -21,8 +21,7 @@ use Rattle.init_trace.specs.Wanted.{brings}
 use Rattle.init_trace.specs.Timing.{is_held, is_full}
 use Rattle.init_trace.specs.Sound.{is_sound}
 use Rattle.inittab_text.specs.Tables.{act_of}
-use Rattle.init_words.proofs.Same.{same_id-self, same_level-self, same_stage-self}
-use Rattle.init_words.specs.Orders.{same_stage}
+use Rattle.init_words.proofs.Same.{same_id-self, same_stage-self}
 use Rattle.trace_laws.proofs.Dues.{due_facts}
 use Rattle.trace_laws.proofs.Keeps.{sound_holds}
 use Rattle.std.proofs.lemmas.Bool.Decides.{nat_tests}

@@ -1,7 +1,7 @@
 -- Each step that the core takes leaves it less to do.
-use Rattle.std.proofs.Common.{mul-le-mul_right, Bool, true, false, not, ◌≡◌, ◌&&◌, ◌||◌, ◌+◌, ◌*◌, ◌<◌, ◌≤◌, ℕ, zero, suc, List, [], ◌∷◌, ◌++◌, map, zip, filter, length, Option, Some, None, is_some, is_none, refl, sym, ap, subst, ◌∙◌, cond, if◌then◌else◌, arith, nat_lt, ◌==◌}
-use Rattle.std.specs.List.{list_any, list_all}
-use Rattle.std.proofs.lemmas.Bool.{false≢true, and_parts, and_from}
+use Rattle.std.proofs.Common.{mul-le-mul_right, Bool, true, false, not, ◌≡◌, ◌&&◌, ◌||◌, ◌+◌, ◌*◌, ◌<◌, ◌≤◌, ℕ, suc, List, [], ◌∷◌, map, zip, filter, length, Option, Some, None, is_none, refl, sym, ap, subst, ◌∙◌, cond, arith, nat_lt, ◌==◌}
+use Rattle.std.specs.List.{list_any}
+use Rattle.std.proofs.lemmas.Bool.{false≢true, and_from}
 use Rattle.std.proofs.lemmas.Bool.Decides.{nat_tests}
 use Rattle.respawn_limit.specs.declared.TheConstants.{HOLD}
 use Rattle.init_words.specs.declared.entries.Entry.{Entry}
@@ -16,14 +16,14 @@ use Rattle.init_trace.specs.declared.steps.Step.{Step}
 use Rattle.init_trace.specs.declared.steps.Step.TheVariants.{Enter, Call, Power, Reread, Order, Hold, Settle, Reexec, Idle}
 use Rattle.init_trace.specs.Run.{is_rest}
 use Rattle.init_words.proofs.Same.{same_id-is, same_id-self, same_id-flip, same_level-self}
-use Rattle.init_words.proofs.Tests.{passing, Passing}
+use Rattle.init_words.proofs.Tests.{passing}
 use Rattle.level_core.specs.declared.slots.Slot.{Slot}
 use Rattle.level_core.specs.Slots.{is_slot_of, changed, with_changed, after_order, after_hold, after_enter}
 use Rattle.level_core.specs.Decide as core
 use Rattle.level_core.specs.Decide.{CoreState, decide, after_step, or_else, or_idle, look_among, can_look_slot}
 use Rattle.init_words.specs.declared.levels.Level.{Level}
 use Rattle.init_trace.specs.Event.{Event}
-use Rattle.init_trace.specs.Past.{table_of, time_of, open_of, stage_of, known_children}
+use Rattle.init_trace.specs.Past.{table_of, time_of, open_of, known_children}
 use Rattle.level_core.specs.Slots.{is_limited_slot, allows}
 use Rattle.level_core.specs.Fit.{Fits, with_step, record_of, records_of}
 use Rattle.init_words.specs.declared.levels.Level.TheVariants.{S}

@@ -1,5 +1,5 @@
 -- How much init may still do before the world moves: it falls with each step, so its own steps end.
-use Rattle.std.specs.Prelude.{ℕ, Bool, not, ◌+◌, ◌*◌, if◌then◌else◌, List, length, filter, Option, Some, None, is_none}
+use Rattle.std.specs.Prelude.{ℕ, Bool, not, ◌+◌, ◌*◌, if◌then◌else◌, length, filter, Option, Some, None, is_none}
 use Rattle.init_words.specs.declared.stages.Stage.{Stage}
 use Rattle.init_words.specs.declared.stages.Stage.TheVariants.{Sysinit, Boot, Run}
 use Rattle.respawn_limit.specs.Window.{is_held}

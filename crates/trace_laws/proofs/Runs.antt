@@ -2,14 +2,9 @@
 use Rattle.std.proofs.Common.{◌≡◌, refl, sym, ◌∙◌, ap, true, false, ◌&&◌, ◌==◌, List, [], ◌∷◌, eq-eqb}
 use Rattle.std.specs.List.{list_any}
 use Rattle.std.proofs.lemmas.Bool.{false≢true, and_parts, and_from, or_left}
-use Rattle.init_words.specs.declared.levels.Level.{Level}
-use Rattle.init_words.specs.declared.stages.Stage.{Stage}
-use Rattle.init_words.specs.declared.stages.Stage.TheVariants as stage
-use Rattle.init_words.specs.declared.orders.PowerKind.{PowerKind}
-use Rattle.init_words.specs.declared.orders.PowerKind.TheVariants as power
 use Rattle.init_words.specs.Ids.{same_id}
-use Rattle.init_words.specs.Levels.{level_code, same_level, letter_code}
-use Rattle.init_words.specs.Orders.{same_stage, same_power, same_ask}
+use Rattle.init_words.specs.Levels.{letter_code}
+use Rattle.init_words.specs.Orders.{same_stage, same_ask}
 use Rattle.init_trace.specs.declared.happenings.Happening.TheVariants.{NewTable}
 use Rattle.init_trace.specs.declared.steps.Step.{Step}
 use Rattle.init_trace.specs.declared.steps.Step.TheVariants.{Enter, Call, Power, Order, Hold, Settle, Reread, Reexec, Idle}

@@ -2,7 +2,6 @@
 use Rattle.std.proofs.Common.{◌≡◌, sym, ap, true, Option, Some, None}
 use Rattle.std.proofs.lemmas.Bool.{false≢true}
 use Rattle.init_words.specs.declared.orders.Ask.{Ask}
-use Rattle.init_words.specs.Orders.{same_ask}
 use Rattle.init_words.proofs.Same.{same_ask-is}
 use Rattle.init_trace.specs.Wanted.{is_order}
 

@@ -25,7 +25,7 @@ use Rattle.init_trace.specs.Lawful.{is_placed}
 use Rattle.init_trace.specs.Sound.{may_come, is_sound}
 use Rattle.trace_laws.specs.Tables.{keeps_table}
 use Rattle.init_words.proofs.Same.{same_id-is, same_id-self}
-use Rattle.init_words.proofs.Tests.{both_ways, falsely, or_either, any_filtered, any_less, any_none, filter_none, find_none}
+use Rattle.init_words.proofs.Tests.{both_ways, falsely, or_either, any_filtered, any_less, any_none, find_none}
 use Rattle.trace_laws.proofs.Tests.{is_order-is}
 use Rattle.trace_laws.proofs.Orders.{cleared, undone_is_open, quiet_looks, open_listed, told_same, told_other, reaped_other, told_known, known_kept, kept_before_told}
 use Rattle.trace_laws.proofs.Dues.{MayStop, due_facts}
