@@ -4,3 +4,4 @@ pub mod Ids
 pub mod Levels
 pub mod Orders
 pub mod Padded
+pub mod Refusals

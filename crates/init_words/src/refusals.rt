@@ -6,6 +6,10 @@ use std::fmt;
 pub struct Memory;
 
 impl fmt::Display for Memory {
+    ghost use Rattle.std.specs.Prelude.{Some, codes};
+
+    ghost output = { λ _. Some (codes "out of memory") };
+
     fn fmt<W: fmt::Write>(&self, f: &mut fmt::Formatter<W>) -> fmt::Result {
         f.write_str("out of memory")
     }
@@ -30,13 +34,18 @@ pub enum Refusal {
     NotAsked,
     /// The id's open order is of another kind than the answer.
     WrongAnswer,
-    /// A start or a signal is not answered yet.
+    /// A start or a signal is not answered yet. Nothing gives it yet: no table comes into force after the first.
     NotQuiet,
-    /// Want of memory.
+    /// Want of memory. Nothing gives it yet: no call of the core but its opening takes memory.
     Memory,
 }
 
 impl fmt::Display for Refusal {
+    ghost use Rattle.std.specs.Prelude.{Some};
+    ghost use Rattle.init_words.specs.Refusals.{refusal_text};
+
+    ghost output = { λ refusal. Some (refusal_text refusal) };
+
     fn fmt<W: fmt::Write>(&self, f: &mut fmt::Formatter<W>) -> fmt::Result {
         f.write_str(match self {
             Refusal::NotAsked => "no order is open for this id",

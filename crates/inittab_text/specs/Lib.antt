@@ -1,4 +1,5 @@
 pub mod Checks
+pub mod Faults
 pub mod Kept
 pub mod Lines
 pub mod Reading

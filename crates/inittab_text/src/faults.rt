@@ -1,42 +1,33 @@
 use init_words::Memory;
-use std::alloc::{AllocError, AllocFailed};
-use thiserror::Error;
+use std::alloc::AllocFailed;
+use std::error::Error;
+use std::fmt;
 
 /// Why a line of inittab(5) is left out: the first check that it fails, in this order.
-#[derive(Clone, Copy, Debug, PartialEq, Eq, Error)]
+#[derive(Clone, Copy, Debug, PartialEq, Eq)]
 pub enum LineKind {
     /// It has fewer than three colons.
-    #[error("too few fields")]
     Fields,
     /// The id is not 1 to 4 bytes of 33 to 126, or begins with `#`.
-    #[error("bad id")]
     Id,
     /// The runlevels field has over 11 bytes.
-    #[error("runlevels too long")]
     Levels,
     /// The action is none of the words of inittab(5), in lower case.
-    #[error("unknown action")]
     Action,
     /// The process has over 127 bytes, a leading `+` counted.
-    #[error("process too long")]
     Length,
     /// The process has only blanks and tabs, a leading `+` apart.
-    #[error("no process")]
     Empty,
     /// The line is not UTF-8, or has a NUL.
-    #[error("bad text")]
     Text,
     /// An earlier entry has the id.
-    #[error("duplicate id")]
     Twice,
     /// The table has 512 entries already.
-    #[error("too many entries")]
     Many,
 }
 
 /// A line that was left out.
-#[derive(Clone, Copy, Debug, PartialEq, Eq, Error)]
-#[error("inittab line {line}: {kind}")]
+#[derive(Clone, Copy, Debug, PartialEq, Eq)]
 pub struct LineFault {
     /// The line's number, from 1.
     pub line: u32,
@@ -45,15 +36,67 @@ pub struct LineFault {
 }
 
 /// Why a text was not read.
-#[derive(Clone, Copy, Debug, PartialEq, Eq, Error)]
+#[derive(Clone, Copy, Debug, PartialEq, Eq)]
 pub enum TableFault {
     /// The text has over 65,536 bytes.
-    #[error("inittab is longer than 65536 bytes")]
     TooLong,
     /// Want of memory.
-    #[error("out of memory")]
     Memory,
 }
+
+impl fmt::Display for LineKind {
+    ghost use Rattle.std.specs.Prelude.{Some};
+    ghost use Rattle.inittab_text.specs.Faults.{kind_text};
+
+    ghost output = { λ kind. Some (kind_text kind) };
+
+    fn fmt<W: fmt::Write>(&self, f: &mut fmt::Formatter<W>) -> fmt::Result {
+        f.write_str(match self {
+            LineKind::Fields => "too few fields",
+            LineKind::Id => "bad id",
+            LineKind::Levels => "runlevels too long",
+            LineKind::Action => "unknown action",
+            LineKind::Length => "process too long",
+            LineKind::Empty => "no process",
+            LineKind::Text => "bad text",
+            LineKind::Twice => "duplicate id",
+            LineKind::Many => "too many entries",
+        })
+    }
+}
+
+impl fmt::Display for LineFault {
+    ghost use Rattle.std.specs.Prelude.{Some};
+    ghost use Rattle.inittab_text.specs.Faults.{line_fault_text};
+
+    ghost output = { λ fault. Some (line_fault_text fault) };
+
+    fn fmt<W: fmt::Write>(&self, f: &mut fmt::Formatter<W>) -> fmt::Result {
+        let line = self.line;
+        let kind = self.kind;
+        write!(f, "inittab line {line}: {kind}")
+    }
+}
+
+impl fmt::Display for TableFault {
+    ghost use Rattle.std.specs.Prelude.{Some};
+    ghost use Rattle.inittab_text.specs.Faults.{table_fault_text};
+
+    ghost output = { λ fault. Some (table_fault_text fault) };
+
+    fn fmt<W: fmt::Write>(&self, f: &mut fmt::Formatter<W>) -> fmt::Result {
+        f.write_str(match self {
+            TableFault::TooLong => "inittab is longer than 65536 bytes",
+            TableFault::Memory => "out of memory",
+        })
+    }
+}
+
+impl Error for LineKind {}
+
+impl Error for LineFault {}
+
+impl Error for TableFault {}
 
 impl From<Memory> for TableFault {
     ghost use Rattle.std.specs.Prelude.{◌≡◌};
