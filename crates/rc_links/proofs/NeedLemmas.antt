@@ -3,9 +3,9 @@ use Rattle.std.proofs.Common.{◌≡◌, ℕ, zero, suc, ◌+◌, ◌<◌, ◌�
 use Rattle.std.specs.List.{filter_map, cons_option}
 use Rattle.std.specs.Option.{option_map, unwrap_or}
 use Rattle.std.proofs.lemmas.Bool.{true≢false}
-use Rattle.rc_links.specs.declared.edges.Phase.{Phase}
-use Rattle.rc_links.specs.declared.edges.Phase.TheVariants as phase
-use Rattle.rc_links.specs.Passes.{InRange}
+use Rattle.rc_links.specs.declared.needs.Phase.{Phase}
+use Rattle.rc_links.specs.declared.needs.Phase.TheVariants as phase
+use Rattle.link_numbers.specs.Numbering.{InRange}
 use Rattle.rc_links.specs.ScriptText.{ScriptText}
 use Rattle.rc_links.specs.Scripts.{has_name, named, need, needs_from, needs_of, place_from, place_of, places_of}
 

@@ -1,17 +1,17 @@
 -- Plans: their fields, their names, and the faults that a step gives on.
 use Rattle.std.proofs.Common.{◌≡◌, ℕ, zero, suc, ◌+◌, ◌<◌, List, [], ◌∷◌, ◌++◌, length, map, get_or, drop, None, refl, sym, ap, ◌∙◌, subst, arith, inl, inr}
 use Rattle.std.specs.List.{AllByRecursion}
-use Rattle.rc_links.specs.declared.edges.Phase.{Phase}
-use Rattle.rc_links.specs.declared.edges.Phase.TheVariants as phase
+use Rattle.rc_links.specs.declared.needs.Phase.{Phase}
+use Rattle.rc_links.specs.declared.needs.Phase.TheVariants as phase
 use Rattle.rc_links.specs.declared.faults.PlanFault.{PlanFault}
 use Rattle.rc_links.specs.declared.faults.PlanFault.TheVariants as fault
 use Rattle.rc_links.specs.Faults.{IsAnyDeep, IsDouble, IsMissing, IsNamed, IsRound, IsTooDeep}
-use Rattle.rc_links.specs.Graph.{IsCycle, IsNumbering}
+use Rattle.link_numbers.specs.Numbering.{IsCycle, IsNumbering}
 use Rattle.rc_links.specs.ScriptText.{ScriptText}
 use Rattle.rc_links.specs.PlannedText.{PlannedText}
 use Rattle.rc_links.specs.Plans.{AreLeast, IsPlan, IsProvided, IsRefused, IsShort, names_at, planned, planned_all}
 use Rattle.rc_links.specs.Scripts.{double_from, missing_from, needs_of}
-use Rattle.rc_links.proofs.EdgeLemmas.{append_assoc}
+use Rattle.rc_links.proofs.NeedLemmas.{append_assoc}
 
 -- the name at a place
 pub name_is : (scripts : List ScriptText) (place : ℕ) (s : ScriptText) → place < length scripts → s ≡ get_or scripts place s → get_or (map (λ t. t.name) scripts) place [] ≡ s.name

@@ -13,8 +13,8 @@ use Rattle.rc_links.specs.Plans.{IsPlan, IsRefused}
 use Rattle.rc_links.specs.ScriptText.{ScriptText}
 use Rattle.rc_links.specs.declared.faults.PlanFault.{PlanFault}
 use Rattle.rc_links.specs.declared.faults.PlanFault.TheVariants as plan_fault
-use Rattle.rc_links.specs.declared.runs.FileFault.{FileFault}
-use Rattle.rc_links.specs.declared.runs.FileFault.TheVariants as fault
+use Rattle.rc_links.specs.declared.command.FileFault.{FileFault}
+use Rattle.rc_links.specs.declared.command.FileFault.TheVariants as fault
 
 -- a '/'
 abbrev pub is_slash : ℕ → Bool

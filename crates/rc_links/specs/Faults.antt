@@ -1,6 +1,6 @@
 -- What one step of planning is refused for.
 use Rattle.std.specs.Prelude.{string_bytes, ◌≡◌, ◌⊎◌, ℕ, ◌<◌, List, Option, Some, map}
-use Rattle.rc_links.specs.declared.edges.Phase.{Phase}
+use Rattle.rc_links.specs.declared.needs.Phase.{Phase}
 use Rattle.rc_links.specs.declared.faults.PlanFault.{PlanFault}
 use Rattle.rc_links.specs.declared.faults.PlanFault.TheVariants as fault
 use Rattle.rc_links.specs.ScriptText.{ScriptText}

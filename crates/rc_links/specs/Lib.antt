@@ -1,9 +1,7 @@
+pub mod Command
 pub mod Faults
-pub mod Graph
 pub mod Links
-pub mod Passes
 pub mod PlannedText
 pub mod Plans
-pub mod Runs
 pub mod ScriptText
 pub mod Scripts

@@ -1,6 +1,6 @@
 ghost use Rattle.std.specs.Prelude.{◌≡◌, ◌⊎◌, true, [], map, string_bytes, IfOk, IfErr, OnOk};
 ghost use Rattle.std.specs.List.{list_all};
-ghost use Rattle.rc_links.specs.Runs.{AddsScript, AreScripts, EndsByFault, IsNoScript, IsScriptAt, IsScriptOf, PrintsLinks, PrintsPlan, file_status, is_name, is_name_byte, last_part, plan_status};
+ghost use Rattle.rc_links.specs.Command.{AddsScript, AreScripts, EndsByFault, IsNoScript, IsScriptAt, IsScriptOf, PrintsLinks, PrintsPlan, file_status, is_name, is_name_byte, last_part, plan_status};
 
 use crate::faults::PlanFault;
 use crate::planning::plan;
@@ -32,7 +32,7 @@ enum FileFault {
 
 impl From<Memory> for FileFault {
     ghost use Rattle.std.specs.Prelude.{◌≡◌};
-    ghost use Rattle.rc_links.specs.declared.runs.FileFault.TheVariants as fault;
+    ghost use Rattle.rc_links.specs.declared.command.FileFault.TheVariants as fault;
 
     ghost from_gives = { λ _ given. given ≡ fault.Memory };
 

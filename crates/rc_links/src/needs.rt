@@ -3,7 +3,7 @@ ghost use Rattle.std.specs.List.{filter_map, cons_option};
 ghost use Rattle.std.specs.Option.{option_map};
 ghost use Rattle.std.specs.Str.{bytes_eq};
 ghost use Rattle.indexmap.specs.IndexMap.{get_by};
-ghost use Rattle.rc_links.specs.Passes.{InRange};
+ghost use Rattle.link_numbers.specs.Numbering.{InRange};
 ghost use Rattle.rc_links.specs.Scripts.{need, named, needs_of, place_of};
 
 use crate::scripts::Script;

@@ -3,17 +3,17 @@ ghost use Rattle.std.specs.List.{AllByRecursion};
 ghost use Rattle.std.specs.Str.{bytes_eq};
 ghost use Rattle.indexmap.specs.IndexMap.{get_by};
 ghost use Rattle.rc_links.specs.Faults.{IsAnyDeep, IsNamed, IsRound, IsTooDeep};
-ghost use Rattle.rc_links.specs.Passes.{AllBelow};
+ghost use Rattle.link_numbers.specs.Numbering.{AllBelow};
 ghost use Rattle.rc_links.specs.Plans.{AreLeast, IsPlan, IsRefused, IsShort, names_at, planned, planned_all};
 ghost use Rattle.rc_links.specs.Scripts.{place_of};
 
-use crate::edges::{Phase, needs};
+use crate::needs::{Phase, needs};
 use crate::faults::PlanFault;
-use crate::orders::ordered;
 use crate::plans::{Plan, Planned};
 use crate::scripts::Script;
 use crate::tables::{Table, check_missing, table_of};
 use init_words::Memory;
+use link_numbers::ordered;
 use std::alloc::Allocator;
 
 /// The greatest number of a link.

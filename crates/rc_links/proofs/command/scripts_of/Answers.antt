@@ -1,9 +1,9 @@
 use Rattle.std.proofs.Common.{[], ◌∷◌, subst, map, string_bytes}
 use Rattle.std.proofs.lemmas.List.{append-nil, at_drop_all}
-use Rattle.rc_links.specs.Runs.{IsScriptAt}
-use Rattle.rc_links.proofs.EdgeLemmas.{append_assoc}
+use Rattle.rc_links.specs.Command.{IsScriptAt}
+use Rattle.rc_links.proofs.NeedLemmas.{append_assoc}
 use Rattle.rc_links.proofs.NameLemmas.{cut_at}
-use Rattle.rc_links.proofs.runs.scripts_of.Goals as goal
+use Rattle.rc_links.proofs.command.scripts_of.Goals as goal
 
 pub returns : goal.returns
 returns g c =

@@ -3,9 +3,9 @@ use Rattle.std.specs.List.{filter_map}
 use Rattle.std.specs.Str.{bytes_eq}
 use Rattle.indexmap.specs.IndexMap.{get_by}
 use Rattle.rc_links.specs.Scripts.{need}
-use Rattle.rc_links.proofs.EdgeLemmas.{names-step}
+use Rattle.rc_links.proofs.NeedLemmas.{names-step}
 use Rattle.rc_links.proofs.NameLemmas.{cut_at}
-use Rattle.rc_links.proofs.edges.add_names.Goals as goal
+use Rattle.rc_links.proofs.needs.add_names.Goals as goal
 
 pub loop-name-preserved : goal.loop-name-preserved
 loop-name-preserved g c =

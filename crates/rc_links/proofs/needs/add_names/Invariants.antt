@@ -3,7 +3,7 @@ use Rattle.std.specs.List.{filter_map}
 use Rattle.std.specs.Str.{bytes_eq}
 use Rattle.indexmap.specs.IndexMap.{get_by}
 use Rattle.rc_links.specs.Scripts.{need}
-use Rattle.rc_links.proofs.edges.add_names.Given as goal
+use Rattle.rc_links.proofs.needs.add_names.Given as goal
 
 abbrev pub invariant-loop-name : goal.invariant-loop-name
 invariant-loop-name g l =

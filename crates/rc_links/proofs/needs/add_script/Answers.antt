@@ -2,8 +2,8 @@ use Rattle.std.proofs.Common.{string_bytes, ◌≡◌, ◌∙◌, ◌++◌, ap, 
 use Rattle.std.specs.Str.{bytes_eq}
 use Rattle.indexmap.specs.IndexMap.{get_by}
 use Rattle.rc_links.specs.Scripts.{named, need}
-use Rattle.rc_links.proofs.EdgeLemmas.{names-twice, on_ok}
-use Rattle.rc_links.proofs.edges.add_script.Goals as goal
+use Rattle.rc_links.proofs.NeedLemmas.{names-twice, on_ok}
+use Rattle.rc_links.proofs.needs.add_script.Goals as goal
 
 pub returns-in_ok-add_names-in-Start : goal.returns-in_ok-add_names-in-Start
 returns-in_ok-add_names-in-Start g c =

@@ -2,11 +2,11 @@ use Rattle.std.proofs.Common.{◌∙◌, ◌+◌, ◌++◌, sym, ap, subst, drop
 use Rattle.std.specs.Str.{bytes_eq}
 use Rattle.std.proofs.lemmas.List.{drop_all}
 use Rattle.indexmap.specs.IndexMap.{get_by}
-use Rattle.rc_links.specs.Passes.{InRange}
+use Rattle.link_numbers.specs.Numbering.{InRange}
 use Rattle.rc_links.specs.Scripts.{needs_from}
-use Rattle.rc_links.proofs.EdgeLemmas.{append-none, needs-next, needs-range}
+use Rattle.rc_links.proofs.NeedLemmas.{append-none, needs-next, needs-range}
 use Rattle.rc_links.proofs.NameLemmas.{cut_at}
-use Rattle.rc_links.proofs.edges.needs.Goals as goal
+use Rattle.rc_links.proofs.needs.needs.Goals as goal
 
 pub loop-place-preserved : goal.loop-place-preserved
 loop-place-preserved g c =
