@@ -5,3 +5,4 @@ pub mod PlannedText
 pub mod Plans
 pub mod ScriptText
 pub mod Scripts
+pub mod Tables

@@ -1,10 +1,9 @@
-ghost use Rattle.std.specs.Prelude.{string_bytes, ◌≡◌, ◌++◌, [], ℕ, List, OnOk, IfOk, length, map};
-ghost use Rattle.std.specs.List.{filter_map, cons_option};
+ghost use Rattle.std.specs.Prelude.{string_bytes, ◌≡◌, ◌++◌, [], OnOk, IfOk, length, map};
+ghost use Rattle.std.specs.List.{cons_option};
 ghost use Rattle.std.specs.Option.{option_map};
-ghost use Rattle.std.specs.Str.{bytes_eq};
-ghost use Rattle.indexmap.specs.IndexMap.{get_by};
 ghost use Rattle.link_numbers.specs.Numbering.{InRange};
-ghost use Rattle.rc_links.specs.Scripts.{need, named, needs_of, place_of};
+ghost use Rattle.rc_links.specs.Scripts.{need, named, needs_of};
+ghost use Rattle.rc_links.specs.Tables.{HasPlaces, needs_by, place_in};
 
 use crate::scripts::Script;
 use crate::tables::{Table, place_at};
@@ -36,7 +35,8 @@ fn add_name<A: Allocator>(
     table: &Table<'_, A>,
     name: &[u8],
 ) -> Result<(), Memory>
-    ensures { OnOk result (edges.new.items ≡ edges.old.items ++ cons_option (option_map (need phase place) (get_by (λ key. bytes_eq name.now key.now) table.now)) []) }
+    ensures { OnOk result (edges.new.items ≡
+        edges.old.items ++ cons_option (option_map (need phase place) (place_in table.now name.now)) []) }
 {
     if let Some(other) = place_at(table, name) {
         edges.push(need(phase, place, other))?;
@@ -52,7 +52,8 @@ fn add_names<A: Allocator, B: Allocator>(
     table: &Table<'_, A>,
     names: &[String<B>],
 ) -> Result<(), Memory>
-    ensures { OnOk result (edges.new.items ≡ edges.old.items ++ map (need phase place) (filter_map (λ bs. get_by (λ key. bytes_eq bs key.now) table.now) (map string_bytes names.now))) }
+    ensures { OnOk result (edges.new.items ≡
+        edges.old.items ++ needs_by phase place table.now (map string_bytes names.now)) }
 {
     for name in names {
         add_name(edges, phase, place, table, name.as_bytes())?;
@@ -68,7 +69,8 @@ fn add_script<A: Allocator>(
     script: &Script<A>,
     table: &Table<'_, A>,
 ) -> Result<(), Memory>
-    ensures { OnOk result (edges.new.items ≡ edges.old.items ++ map (need phase place) (filter_map (λ bs. get_by (λ key. bytes_eq bs key.now) table.now) (named phase script.now.header))) }
+    ensures { OnOk result (edges.new.items ≡
+        edges.old.items ++ needs_by phase place table.now (named phase script.now.header)) }
 {
     let header = script.header();
     match phase {
@@ -90,7 +92,7 @@ pub(crate) fn needs<A: Allocator + Copy>(
     scripts: &[Script<A>],
     table: &Table<'_, A>,
 ) -> Result<Vec<(usize, usize), A>, Memory>
-    requires { (bs : List ℕ) → get_by (λ key. bytes_eq bs key.now) table.now ≡ place_of scripts.now bs }
+    requires { HasPlaces scripts.now table.now }
     ensures needs { IfOk result (λ edges. edges.items ≡ needs_of phase scripts.now) }
     ensures range { IfOk result (λ edges. InRange (length scripts.now) edges.items) }
 {

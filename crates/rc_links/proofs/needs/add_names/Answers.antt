@@ -1,8 +1,7 @@
 use Rattle.std.proofs.Common.{string_bytes, ◌∙◌, ◌+◌, ◌++◌, sym, ap, List, ℕ, drop, map}
 use Rattle.std.specs.List.{filter_map}
-use Rattle.std.specs.Str.{bytes_eq}
-use Rattle.indexmap.specs.IndexMap.{get_by}
 use Rattle.rc_links.specs.Scripts.{need}
+use Rattle.rc_links.specs.Tables.{place_in}
 use Rattle.rc_links.proofs.NeedLemmas.{names-step}
 use Rattle.rc_links.proofs.NameLemmas.{cut_at}
 use Rattle.rc_links.proofs.needs.add_names.Goals as goal
@@ -10,7 +9,7 @@ use Rattle.rc_links.proofs.needs.add_names.Goals as goal
 pub loop-name-preserved : goal.loop-name-preserved
 loop-name-preserved g c =
     let f = need c.args.phase c.args.place in
-    let h : List ℕ → _ = λ bs. get_by (λ key. bytes_eq bs key.now) c.args.table.now in
+    let h : List ℕ → _ = place_in c.args.table.now in
     let names = c.args.names.now in
     let n = c.loop-name.name-index in
     let cut = cut_at names n c.name-item.result c.loop-name-test.true c.name-item.is in
