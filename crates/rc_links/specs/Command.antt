@@ -1,57 +1,27 @@
 -- Runs of rclinks over the paths of init scripts.
-use Rattle.std.specs.Prelude.{◌≡◌, ◌⊎◌, ℕ, Bool, true, false, not, ◌==◌, ◌||◌, ◌&&◌, if◌then◌else◌, List, [], ◌∷◌, ◌++◌, Option, Err, Ok}
-use Rattle.std.specs.List.{list_all, list_any}
-use Rattle.std.specs.Char.{is_ascii_alphanumeric}
+use Rattle.std.specs.Prelude.{◌≡◌, ◌⊎◌, ℕ, Bool, true, ◌||◌, List, [], ◌∷◌, ◌++◌, Option, Contains, codes}
+use Rattle.std.specs.List.{list_any}
+use Rattle.std.specs.Str.{bytes_eq}
 use Rattle.std.specs.Io.KnownBytes.{Appends}
 use Rattle.std.specs.declared.alloc.Global.{Global}
-use Rattle.lsb_header.specs.declared.faults.HeaderFault.{HeaderFault}
+use Rattle.program_edge.specs.Writing.{AppendsPrefix}
 use Rattle.lsb_header.specs.Forms.{is_empty}
-use Rattle.lsb_header.specs.Headers.{header_read}
+use Rattle.rc_links.specs.Files.{IsNoScriptAt, IsScriptAt, file_status}
 use Rattle.rc_links.specs.Links.{plan_text}
 use Rattle.rc_links.specs.PlannedText.{PlannedText}
 use Rattle.rc_links.specs.Plans.{IsPlan, IsRefused}
 use Rattle.rc_links.specs.ScriptText.{ScriptText}
 use Rattle.rc_links.specs.declared.faults.PlanFault.{PlanFault}
 use Rattle.rc_links.specs.declared.faults.PlanFault.TheVariants as plan_fault
-use Rattle.rc_links.specs.declared.command.FileFault.{FileFault}
-use Rattle.rc_links.specs.declared.command.FileFault.TheVariants as fault
+use Rattle.rc_links.specs.declared.files.FileFault.{FileFault}
 
--- a '/'
-abbrev pub is_slash : ℕ → Bool
-is_slash b = b == 47
+-- a word that asks for the usage
+abbrev pub is_help : List ℕ → Bool
+is_help word = bytes_eq word (codes "--help") || bytes_eq word (codes "-h")
 
--- what stands behind the last '/' of a path, or the whole path where it has none
-abbrev pub last_part : List ℕ → List ℕ
-last_part [] = []
-last_part (b ∷ path) = if list_any is_slash (b ∷ path) then last_part path else b ∷ path
-
--- a letter, a digit, '.', '_' or '-'
-abbrev pub is_name_byte : ℕ → Bool
-is_name_byte b = is_ascii_alphanumeric b || b == 46 || b == 95 || b == 45
-
--- a name that a link may have
-abbrev pub is_name : List ℕ → Bool
-is_name name = not (is_empty name) && list_all is_name_byte name
-
--- the script of a file with this name and text
-pub record IsScriptOf (name text : List ℕ) (script : ScriptText) : Type 0 where
-  pub named : script.name ≡ name
-  pub fit : is_name name ≡ true
-  pub read : header_read text ≡ Ok script.header
-
--- the name is none that a link may have, or the text has no header
-abbrev pub IsBadFile : List ℕ → List ℕ → Type 0
-IsBadFile name text = (is_name name ≡ false) ⊎ ((found : HeaderFault) × (header_read text ≡ Err found))
-
--- why a file with this name and text, which was read, gives no script
-abbrev pub IsNoScript : List ℕ → List ℕ → FileFault → Type 0
-IsNoScript name text fault.Read = ⊥
-IsNoScript name text fault.Header = IsBadFile name text
-IsNoScript name text fault.Memory = Unit {0}
-
--- the script of a file at this path, named by the path's last part, whatever text is read from it
-abbrev pub IsScriptAt : List ℕ → ScriptText → Type 0
-IsScriptAt path script = (text : List ℕ) × IsScriptOf (last_part path) text script
+-- there are no words, or one of them asks for the usage
+abbrev pub wants_usage : List (List ℕ) → Bool
+wants_usage words = is_empty words || list_any is_help words
 
 -- the script of the path was added to the scripts
 abbrev pub AddsScript : List ℕ → List ScriptText → List ScriptText → Type 0
@@ -68,15 +38,18 @@ AreScripts (path ∷ paths) (s ∷ scripts) = IsScriptAt path s × AreScripts pa
 abbrev pub PrintsPlan : List ScriptText → Option (List ℕ) → Option (List ℕ) → Type 0
 PrintsPlan scripts old new = (plan : List PlannedText) × IsPlan scripts plan × Appends old new (plan_text plan)
 
+-- a writer gained a prefix of the text of a plan of the scripts, which may be the whole
+abbrev pub PrintsPlanPart : List ScriptText → Option (List ℕ) → Option (List ℕ) → Type 0
+PrintsPlanPart scripts old new =
+    (plan : List PlannedText) × IsPlan scripts plan × AppendsPrefix old new (plan_text plan)
+
 -- a writer gained the text of a plan of scripts of these paths
 abbrev pub PrintsLinks : List (List ℕ) → Option (List ℕ) → Option (List ℕ) → Type 0
 PrintsLinks paths old new = (scripts : List ScriptText) × AreScripts paths scripts × PrintsPlan scripts old new
 
--- 4 for a file that is not read and for want of memory, 1 for a name or a header that is refused
-abbrev pub file_status : FileFault → ℕ
-file_status fault.Read = 4
-file_status fault.Header = 1
-file_status fault.Memory = 4
+-- a writer gained a prefix of the text of a plan of scripts of these paths
+abbrev pub PrintsPart : List (List ℕ) → Option (List ℕ) → Option (List ℕ) → Type 0
+PrintsPart paths old new = (scripts : List ScriptText) × AreScripts paths scripts × PrintsPlanPart scripts old new
 
 -- 4 for want of memory, 1 for another fault of the plan
 abbrev pub plan_status : {A : Type 0} → PlanFault A → ℕ
@@ -86,6 +59,16 @@ plan_status (plan_fault.Cycle names) = 1
 plan_status plan_fault.TooDeep = 1
 plan_status plan_fault.Memory = 4
 
--- the scripts have no plan, and why, or memory ran out: the status is that of the fault
-abbrev pub EndsByFault : List ScriptText → ℕ → Type 0
-EndsByFault scripts status = (found : PlanFault Global) × IsRefused scripts found × (status ≡ plan_status found)
+-- the scripts have no plan, and why
+abbrev pub HasNoPlan : List ScriptText → Type 0
+HasNoPlan scripts = (found : PlanFault Global) × IsRefused scripts found × (plan_status found ≡ 1)
+
+-- one of the files is refused for its name or its header
+abbrev pub HasRefused : List (List ℕ) → Type 0
+HasRefused paths =
+    (path : List ℕ) × Contains paths path × (found : FileFault) × IsNoScriptAt path found × (file_status found ≡ 1)
+
+-- why a run on these words is refused: the usage is wanted, a file is refused, or the scripts have no plan
+abbrev pub IsRefusedRun : List (List ℕ) → Type 0
+IsRefusedRun words = (wants_usage words ≡ true) ⊎ HasRefused words
+    ⊎ ((scripts : List ScriptText) × AreScripts words scripts × HasNoPlan scripts)

@@ -1,5 +1,7 @@
 pub mod Command
+pub mod FaultTexts
 pub mod Faults
+pub mod Files
 pub mod Links
 pub mod PlannedText
 pub mod Plans

@@ -1,66 +1,24 @@
-ghost use Rattle.std.specs.Prelude.{◌≡◌, ◌⊎◌, true, [], map, string_bytes, IfOk, IfErr, OnOk};
-ghost use Rattle.std.specs.List.{list_all};
-ghost use Rattle.rc_links.specs.Command.{AddsScript, AreScripts, EndsByFault, IsNoScript, IsScriptAt, IsScriptOf, PrintsLinks, PrintsPlan, file_status, is_name, is_name_byte, last_part, plan_status};
+ghost use Rattle.std.specs.Prelude.{◌≡◌, ◌⊎◌, ◌++◌, true, map, string_bytes, Contains, IfOk, IfErr, OnOk};
+ghost use Rattle.std.specs.List.{list_any};
+ghost use Rattle.std.specs.Io.KnownBytes.{Appends};
+ghost use Rattle.program_edge.specs.Writing.{AppendsPrefix};
+ghost use Rattle.rc_links.specs.Command.{AddsScript, AreScripts, HasNoPlan, IsRefusedRun, PrintsLinks, PrintsPart, PrintsPlan, PrintsPlanPart, is_help, plan_status, wants_usage};
+ghost use Rattle.rc_links.specs.Files.{IsNoScriptAt, file_status};
+ghost use Rattle.rc_links.specs.Links.{plan_text};
 
 use crate::faults::PlanFault;
+use crate::files::{FileFault, script_of};
 use crate::planning::plan;
+use crate::plans::Plan;
 use crate::scripts::Script;
 use init_words::Memory;
-use lsb_header::{HeaderFault, read};
+use program_edge::{DEVICE_FAULT, DONE, REFUSED, tell_usage, write_text};
 use std::alloc::Global;
-use std::fs;
 use std::io::Write;
 use std::rt::Files;
 
-/// The links were printed.
-const DONE: u8 = 0;
-/// The words, a file's name or header, or the plan were refused.
-const REFUSED: u8 = 1;
-/// A file could not be read, the output failed, or memory ran out.
-const DEVICE_FAULT: u8 = 4;
-
-/// Why a file gives no script.
-#[derive(Clone, Copy, Debug, PartialEq, Eq)]
-enum FileFault {
-    /// It can't be read.
-    Read,
-    /// Its name or its header is refused.
-    Header,
-    /// Want of memory.
-    Memory,
-}
-
-impl From<Memory> for FileFault {
-    ghost use Rattle.std.specs.Prelude.{◌≡◌};
-    ghost use Rattle.rc_links.specs.declared.command.FileFault.TheVariants as fault;
-
-    ghost from_gives = { λ _ given. given ≡ fault.Memory };
-
-    fn from(_error: Memory) -> FileFault {
-        FileFault::Memory
-    }
-}
-
-impl FileFault {
-    /// What is told of the file.
-    fn told(self) -> &'static str {
-        match self {
-            FileFault::Read => "cannot read",
-            FileFault::Header => "bad header",
-            FileFault::Memory => "out of memory",
-        }
-    }
-
-    /// The exit status.
-    fn status(self) -> u8
-        ensures { result ≡ file_status self }
-    {
-        match self {
-            FileFault::Read | FileFault::Memory => DEVICE_FAULT,
-            FileFault::Header => REFUSED,
-        }
-    }
-}
+/// What is told of words that are no command line, and where help is asked for.
+pub const USAGE: &str = "rclinks: usage: rclinks FILE..\n";
 
 /// A file that gives no script, and why.
 #[derive(Drop)]
@@ -69,81 +27,15 @@ struct Refusal<'w> {
     path: &'w str,
 }
 
-/// What stands behind the last `/` of a path, or the whole path where it has none.
-fn last_part(path: &[u8]) -> &[u8]
-    ensures { result.now ≡ last_part path.now }
-{
-    let mut start = path.len();
-    while start > 0 && path[start - 1] != b'/' {
-        start -= 1;
-    }
-    &path[start..]
-}
-
-fn is_name_byte(byte: u8) -> bool
-    ensures { result ≡ is_name_byte byte }
-{
-    byte.is_ascii_alphanumeric() || byte == b'.' || byte == b'_' || byte == b'-'
-}
-
-fn has_name_bytes(name: &[u8]) -> bool
-    ensures { result ≡ list_all is_name_byte name.now }
-{
-    name.iter().all(|byte| is_name_byte(*byte))
-}
-
-/// A name that a link may have: one or more of `A-Z a-z 0-9 . _ -`.
-fn is_name(name: &[u8]) -> bool
-    ensures { result ≡ is_name name.now }
-{
-    !name.is_empty() && has_name_bytes(name)
-}
-
-/// A string of a name that a link may have.
-fn name_of(alloc: Global, name: &[u8]) -> Result<String, Memory>
-    requires { is_name name.now ≡ true }
-    ensures { IfOk result (λ text. string_bytes text ≡ name.now) }
-{
-    match String::from_utf8(Vec::from_slice(alloc, name)?) {
-        Ok(text) => Ok(text),
-        Err(_) => unreachable!(),
-    }
-}
-
-/// The script of a file with this name and text.
-fn script_in(alloc: Global, name: &[u8], text: &[u8]) -> Result<Script, FileFault>
-    ensures script { IfOk result (IsScriptOf name.now text.now) }
-    ensures fault { IfErr result (IsNoScript name.now text.now) }
-{
-    if !is_name(name) {
-        return Err(FileFault::Header);
-    }
-    let header = match read(alloc, text) {
-        Ok(header) => header,
-        Err(HeaderFault::Memory) => return Err(FileFault::Memory),
-        Err(_) => return Err(FileFault::Header),
-    };
-    Ok(Script::new(name_of(alloc, name)?, header))
-}
-
-/// Reads the script of a path.
-fn script_of<R: Files + AllocGlobal>(rt: &R, alloc: Global, path: &str) -> Result<Script, FileFault>
-    ensures { IfOk result (IsScriptAt path.now) }
-{
-    let Ok(text) = fs::read(rt, path) else {
-        return Err(FileFault::Read);
-    };
-    script_in(alloc, last_part(path.as_bytes()), text.as_slice())
-}
-
 /// Adds the script of a path.
-fn add_script<R: Files + AllocGlobal>(
+fn add_script<R: Files>(
     rt: &R,
     alloc: Global,
     scripts: &mut Vec<Script>,
     path: &str,
 ) -> Result<(), FileFault>
-    ensures { OnOk result (AddsScript path.now scripts.old.items scripts.new.items) }
+    ensures added { OnOk result (AddsScript path.now scripts.old.items scripts.new.items) }
+    ensures fault { IfErr result (IsNoScriptAt path.now) }
 {
     let script = script_of(rt, alloc, path)?;
     scripts.push(script).map_err(Memory::from)?;
@@ -151,12 +43,14 @@ fn add_script<R: Files + AllocGlobal>(
 }
 
 /// Reads the scripts of the paths, in order, up to the first that gives none.
-fn scripts_of<'w, R: Files + AllocGlobal>(
+fn scripts_of<'w, R: Files>(
     rt: &R,
     alloc: Global,
     words: &'w [String],
 ) -> Result<Vec<Script>, Refusal<'w>>
-    ensures { IfOk result (λ scripts. AreScripts (map string_bytes words.now) scripts.items) }
+    ensures scripts { IfOk result (λ scripts. AreScripts (map string_bytes words.now) scripts.items) }
+    ensures path { IfErr result (λ refusal. Contains (map string_bytes words.now) refusal.path.now) }
+    ensures fault { IfErr result (λ refusal. IsNoScriptAt refusal.path.now refusal.fault) }
 {
     let mut scripts = Vec::new(alloc);
     for word in words {
@@ -168,11 +62,33 @@ fn scripts_of<'w, R: Files + AllocGlobal>(
     Ok(scripts)
 }
 
+/// Writes why a file gives no script: a line that is always the same, and one that says the reason, the line of the
+/// file that it is about, and what to write in its place.
+fn tell_reason<E: Write>(path: &str, fault: &FileFault, err: &mut E) {
+    let _ = match fault {
+        FileFault::Unread(error) => {
+            writeln!(err, "rclinks: cannot read: {path}\nrclinks: {path}: {error}")
+        }
+        FileFault::Name => writeln!(
+            err,
+            "rclinks: bad header: {path}\nrclinks: {path}: the name of a script has bytes of A-Z a-z 0-9 . _ - alone"
+        ),
+        FileFault::Header(fault, None) => {
+            writeln!(err, "rclinks: bad header: {path}\nrclinks: {path}: {fault}")
+        }
+        FileFault::Header(fault, Some(number)) => writeln!(
+            err,
+            "rclinks: bad header: {path}\nrclinks: {path}: line {number}: {fault}"
+        ),
+        FileFault::Memory => writeln!(err, "rclinks: out of memory: {path}"),
+    };
+}
+
 /// Tells a file that gives no script, and gives the exit status.
 fn tell_file<E: Write>(refusal: &Refusal, err: &mut E) -> u8
     ensures { result ≡ file_status refusal.now.fault }
 {
-    let _ = writeln!(err, "rclinks: {}: {}", refusal.fault.told(), refusal.path);
+    tell_reason(refusal.path, &refusal.fault, err);
     refusal.fault.status()
 }
 
@@ -187,44 +103,103 @@ fn tell_fault<E: Write>(fault: &PlanFault, err: &mut E) -> u8
     }
 }
 
-/// Prints the plan of some scripts, and gives the exit status.
-fn print_plan<W: Write, E: Write>(alloc: Global, scripts: &[Script], out: &mut W, err: &mut E) -> u8
-    ensures statuses { (result ≡ 0) ⊎ (result ≡ 1) ⊎ (result ≡ 4) }
-    ensures done { result ≡ 0 → PrintsPlan scripts.now (W.contents out.old) (W.contents out.new) }
-    ensures refused { result ≡ 1 → EndsByFault scripts.now 1 × (out.new ≡ out.old) }
+/// Writes a text, and gives the exit status.
+fn write_links<W: Write, E: Write>(text: &[u8], out: &mut W, err: &mut E) -> u8
+    ensures statuses { (result ≡ DONE) ⊎ (result ≡ DEVICE_FAULT) }
+    ensures done { result ≡ DONE → Appends (W.contents out.old) (W.contents out.new) text.now }
+    ensures part { AppendsPrefix (W.contents out.old) (W.contents out.new) text.now }
+    ensures silent { result ≡ DONE → err.new ≡ err.old }
 {
-    let plan = match plan(alloc, scripts) {
-        Ok(plan) => plan,
-        Err(fault) => return tell_fault(&fault, err),
-    };
-    let Ok(text) = plan.print(alloc) else {
-        return tell_fault(&PlanFault::Memory, err);
-    };
-    if out.write_all(text.as_slice()).is_err() || out.flush().is_err() {
+    if write_text(out, text).is_err() || out.flush().is_err() {
         let _ = writeln!(err, "rclinks: cannot write");
         return DEVICE_FAULT;
     }
     DONE
 }
 
+/// Prints a plan's links, and gives the exit status.
+fn print_links<W: Write, E: Write>(alloc: Global, plan: &Plan, out: &mut W, err: &mut E) -> u8
+    ensures statuses { (result ≡ DONE) ⊎ (result ≡ DEVICE_FAULT) }
+    ensures done { result ≡ DONE → Appends (W.contents out.old) (W.contents out.new) (plan_text plan.now) }
+    ensures part { (out.new ≡ out.old) ⊎ AppendsPrefix (W.contents out.old) (W.contents out.new) (plan_text plan.now) }
+    ensures silent { result ≡ DONE → err.new ≡ err.old }
+{
+    match plan.print(alloc) {
+        Ok(text) => write_links(text.as_slice(), out, err),
+        Err(_) => tell_fault(&PlanFault::Memory, err),
+    }
+}
+
+/// Prints the plan of some scripts, and gives the exit status.
+fn print_plan<W: Write, E: Write>(alloc: Global, scripts: &[Script], out: &mut W, err: &mut E) -> u8
+    ensures statuses { (result ≡ DONE) ⊎ (result ≡ REFUSED) ⊎ (result ≡ DEVICE_FAULT) }
+    ensures done { result ≡ DONE → PrintsPlan scripts.now (W.contents out.old) (W.contents out.new) }
+    ensures refused { result ≡ REFUSED → HasNoPlan scripts.now }
+    ensures quiet { result ≡ REFUSED → out.new ≡ out.old }
+    ensures part { (out.new ≡ out.old) ⊎ PrintsPlanPart scripts.now (W.contents out.old) (W.contents out.new) }
+    ensures silent { result ≡ DONE → err.new ≡ err.old }
+{
+    match plan(alloc, scripts) {
+        Ok(plan) => print_links(alloc, &plan, out, err),
+        Err(fault) => tell_fault(&fault, err),
+    }
+}
+
+/// The word asks for the usage.
+fn is_help(word: &str) -> bool
+    ensures { result ≡ is_help word.now }
+{
+    word == "--help" || word == "-h"
+}
+
+/// One of the words asks for the usage.
+fn asks_help(words: &[String]) -> bool
+    ensures { result ≡ list_any is_help (map string_bytes words.now) }
+{
+    for word in words {
+        if is_help(word.as_str()) {
+            return true;
+        }
+    }
+    false
+}
+
+/// There are no words, or one of them asks for the usage.
+fn wants_usage(words: &[String]) -> bool
+    ensures { result ≡ wants_usage (map string_bytes words.now) }
+{
+    match words {
+        [] => true,
+        [_, ..] => asks_help(words),
+    }
+}
+
 /// Runs rclinks on its words, the paths of init scripts, and gives its exit status: 0 where their links were printed on
-/// `out`, 1 where the words, a script's name or header, or the plan is refused, 4 where a file can't be read, the output
-/// fails or memory runs out. The first fault ends the run and is told on `err`.
-pub fn run_words<R: Files + AllocGlobal, W: Write, E: Write>(
+/// `out`, 1 where there are no words or one is `--help` or `-h`, or where a script's name or header or the plan is
+/// refused, 4 where a file can't be read, the output fails or memory runs out. The first fault ends the run and is told
+/// on `err`.
+pub fn run_words<R: Files, W: Write, E: Write>(
     rt: &R,
     alloc: Global,
     words: &[String],
     out: &mut W,
     err: &mut E,
 ) -> u8
-    ensures statuses { (result ≡ 0) ⊎ (result ≡ 1) ⊎ (result ≡ 4) }
-    ensures usage { words.now ≡ [] → result ≡ 1 }
-    ensures done { result ≡ 0 → PrintsLinks (map string_bytes words.now) (W.contents out.old) (W.contents out.new) }
-    ensures refused { result ≡ 1 → out.new ≡ out.old }
+    ensures statuses { (result ≡ DONE) ⊎ (result ≡ REFUSED) ⊎ (result ≡ DEVICE_FAULT) }
+    ensures usage { wants_usage (map string_bytes words.now) ≡ true → result ≡ REFUSED }
+    // The links of all of the files were written.
+    ensures done { result ≡ DONE →
+        PrintsLinks (map string_bytes words.now) (W.contents out.old) (W.contents out.new) }
+    ensures silent { result ≡ DONE → err.new ≡ err.old }
+    // The usage was wanted, a file was refused, or the scripts have no plan.
+    ensures refused { result ≡ REFUSED → IsRefusedRun (map string_bytes words.now) }
+    ensures quiet { result ≡ REFUSED → out.new ≡ out.old }
+    // Nothing was written, or a prefix of the links, which may be the whole.
+    ensures part { (out.new ≡ out.old)
+        ⊎ PrintsPart (map string_bytes words.now) (W.contents out.old) (W.contents out.new) }
 {
-    if words.is_empty() {
-        let _ = writeln!(err, "rclinks: usage: rclinks FILE..");
-        return REFUSED;
+    if wants_usage(words) {
+        return tell_usage(USAGE, err);
     }
     match scripts_of(rt, alloc, words) {
         Ok(scripts) => print_plan(alloc, scripts.as_slice(), out, err),

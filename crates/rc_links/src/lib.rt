@@ -4,6 +4,7 @@
 
 mod command;
 mod faults;
+mod files;
 mod needs;
 mod planning;
 mod plans;
@@ -11,7 +12,7 @@ mod printing;
 mod scripts;
 mod tables;
 
-pub use command::run_words;
+pub use command::{USAGE, run_words};
 pub use faults::PlanFault;
 pub use planning::plan;
 pub use plans::Plan;
