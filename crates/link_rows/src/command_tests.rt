@@ -1,15 +1,26 @@
-use crate::run_words;
+//! Runs of rclinks. The cases are rows of the words, parted by single blanks, the status, what is written on standard
+//! output, and what is told on standard error.
+
 use init_words::Memory;
+use rc_links::run_words;
 use std::alloc::Global;
 use std::io::{ErrorKind, Write};
+use std::process::Abort;
+use std::rt::Files;
 use std::test::Fail;
 use std::{fs, io};
 
-/// Writes a script that provides a name, requires names to start, and starts at runlevel 3.
-fn write_script(rt: &HostRuntime, path: &str, name: &str, needs: &str) -> Result<(), Fail> {
-    let text = format!(in rt.alloc();
+/// Writes a script that provides names, requires names to start, and starts at runlevel 3.
+fn write_script(
+    rt: &impl Files,
+    alloc: Global,
+    path: &str,
+    provides: &str,
+    needs: &str,
+) -> Result<(), Fail> {
+    let text = format!(in alloc;
         "### BEGIN INIT INFO
-# Provides: {name}
+# Provides: {provides}
 # Required-Start: {needs}
 # Default-Start: 3
 ### END INIT INFO
@@ -19,134 +30,257 @@ fn write_script(rt: &HostRuntime, path: &str, name: &str, needs: &str) -> Result
     Ok(())
 }
 
+fn add_words(words: &mut Vec<String>, alloc: Global, line: &str) -> Result<(), Memory> {
+    for word in line.split(' ') {
+        words.push(String::from_str(alloc, word)?)?;
+    }
+    Ok(())
+}
+
 /// The words of a line, parted by single blanks.
 fn words_of(alloc: Global, line: &str) -> Result<Vec<String>, Memory> {
     let mut words = Vec::new(alloc);
-    if line.is_empty() {
-        return Ok(words);
-    }
-    for word in line.split(' ') {
-        words.push(String::from_str(alloc, word)?)?;
+    if !line.is_empty() {
+        add_words(&mut words, alloc, line)?;
     }
     Ok(words)
 }
 
-/// A run on the words of a line: its status, and what it wrote on standard output and standard error.
-fn run(rt: &HostRuntime, line: &str) -> Result<(u8, Vec<u8>, Vec<u8>), Fail> {
-    let alloc = rt.alloc();
-    let mut out: Vec<u8> = Vec::new(alloc);
+/// Adds a run's status, and what it wrote on standard output and on standard error, each ended by a bar.
+fn add_run(
+    rt: &impl Files,
+    alloc: Global,
+    words: &[String],
+    text: &mut Vec<u8>,
+) -> Result<(), Memory> {
     let mut err: Vec<u8> = Vec::new(alloc);
-    let words = words_of(alloc, line)?;
-    let status = run_words(rt, alloc, words.as_slice(), &mut out, &mut err);
-    Ok((status, out, err))
+    let status = run_words(rt, alloc, words, text, &mut err);
+    text.push(b'|')?;
+    text.extend_from_slice(err.as_slice())?;
+    text.push(b'|')?;
+    text.push(b'0' + status % 10)?;
+    Ok(())
 }
 
-const NET: &str = "rc3.d/S01run-net ../init.d/run-net\n";
+/// What a run on the words of a line wrote, what it told, and its status, parted by bars.
+fn run(rt: &impl Files, alloc: Global, line: &str) -> Result<Vec<u8>, Memory> {
+    let words = words_of(alloc, line)?;
+    let mut text = Vec::new(alloc);
+    add_run(rt, alloc, words.as_slice(), &mut text)?;
+    Ok(text)
+}
 
-const NET_AND_DB: &str = "rc3.d/S01run-net ../init.d/run-net\nrc3.d/S02run-db ../init.d/run-db\n";
+fn is_run<R: Files + Abort>(rt: &R, alloc: Global, line: &str, want: &[u8]) -> Result<(), Fail> {
+    let given = run(rt, alloc, line)?;
+    assert_eq!(rt; given.as_slice(), want);
+    Ok(())
+}
+
+/// Paths, and what the script at each provides and requires.
+const SCRIPTS: &[(&str, &str, &str)] = &[
+    ("run-net", "net", "$network"),
+    ("run-db", "db", "net"),
+    ("run-web", "web", "db"),
+    ("run-other", "other net", ""),
+    ("run-left", "left", "right"),
+    ("run-right", "right", "left"),
+    ("run+net", "net", ""),
+    ("run-none", "", ""),
+    ("--help", "help", ""),
+];
+
+/// Paths, and the texts of files whose header is bad.
+const BAD: &[(&str, &str)] = &[
+    ("run-bad", "# Provides: bad\n"),
+    ("run-open", "### BEGIN INIT INFO\n# Provides: open\n"),
+    (
+        "run-line",
+        "#!/bin/sh\n### BEGIN INIT INFO\n# Provides: line\nstart\n### END INIT INFO\n",
+    ),
+    (
+        "run-twice",
+        "#\n#\n### BEGIN INIT INFO\n# Provides: a\n# Required-Start: b\n#\n# Required-Start: c\n### END INIT INFO\n",
+    ),
+];
+
+const RUNS: &[(&str, &[u8])] = &[
+    ("", b"|rclinks: usage: rclinks FILE..\n|1"),
+    ("--help", b"|rclinks: usage: rclinks FILE..\n|1"),
+    ("-h", b"|rclinks: usage: rclinks FILE..\n|1"),
+    ("run-net --help", b"|rclinks: usage: rclinks FILE..\n|1"),
+    ("./--help", b"rc3.d/S01--help ../init.d/--help\n||0"),
+    ("run-net", b"rc3.d/S01run-net ../init.d/run-net\n||0"),
+    ("./run-net", b"rc3.d/S01run-net ../init.d/run-net\n||0"),
+    (
+        "run-folder/../run-net",
+        b"rc3.d/S01run-net ../init.d/run-net\n||0",
+    ),
+    (
+        "./run-db ././run-net",
+        b"rc3.d/S01run-net ../init.d/run-net\nrc3.d/S02run-db ../init.d/run-db\n||0",
+    ),
+    (
+        "run-absent",
+        b"|rclinks: cannot read: run-absent\nrclinks: run-absent: No such file or directory (os error 2)\n|4",
+    ),
+    // A file that is not read comes before a name that no link may have.
+    (
+        "run+absent",
+        b"|rclinks: cannot read: run+absent\nrclinks: run+absent: No such file or directory (os error 2)\n|4",
+    ),
+    (
+        ".",
+        b"|rclinks: cannot read: .\nrclinks: .: Is a directory (os error 21)\n|4",
+    ),
+    (
+        "run+net",
+        b"|rclinks: bad header: run+net\nrclinks: run+net: the name of a script has bytes of A-Z a-z 0-9 . _ - alone\n|1",
+    ),
+    (
+        "./run+net",
+        b"|rclinks: bad header: ./run+net\nrclinks: ./run+net: the name of a script has bytes of A-Z a-z 0-9 . _ - alone\n|1",
+    ),
+    (
+        "run-bad",
+        b"|rclinks: bad header: run-bad\nrclinks: run-bad: no line \"### BEGIN INIT INFO\"\n|1",
+    ),
+    (
+        "run-open",
+        b"|rclinks: bad header: run-open\nrclinks: run-open: no line \"### END INIT INFO\" after \"### BEGIN INIT INFO\"\n|1",
+    ),
+    (
+        "run-line",
+        b"|rclinks: bad header: run-line\nrclinks: run-line: line 4: neither \"# Keyword: words\" nor \"#  text\" in UTF-8\n|1",
+    ),
+    (
+        "run-twice",
+        b"|rclinks: bad header: run-twice\nrclinks: run-twice: line 7: Required-Start stands twice\n|1",
+    ),
+    (
+        "run-none",
+        b"|rclinks: bad header: run-none\nrclinks: run-none: no name after \"# Provides:\"\n|1",
+    ),
+    // The first fault ends the run.
+    (
+        "run-net run-bad run-absent",
+        b"|rclinks: bad header: run-bad\nrclinks: run-bad: no line \"### BEGIN INIT INFO\"\n|1",
+    ),
+    (
+        "run-db run-absent run-bad",
+        b"|rclinks: cannot read: run-absent\nrclinks: run-absent: No such file or directory (os error 2)\n|4",
+    ),
+    ("run-db", b"|rclinks: missing: net\n|1"),
+    ("run-web run-db", b"|rclinks: missing: net\n|1"),
+    ("run-net run-other", b"|rclinks: provided twice: net\n|1"),
+    ("run-net ./run-net", b"|rclinks: provided twice: net\n|1"),
+    (
+        "run-net run-left run-right",
+        b"|rclinks: cycle: run-left run-right\n|1",
+    ),
+];
+
+fn write_files(rt: &impl Files, alloc: Global) -> Result<(), Fail> {
+    for (path, provides, needs) in SCRIPTS {
+        write_script(rt, alloc, path, provides, needs)?;
+    }
+    for (path, text) in BAD {
+        fs::write(rt, *path, *text)?;
+    }
+    fs::create_dir(rt, "run-folder")?;
+    Ok(())
+}
+
+fn remove_files(rt: &impl Files) -> Result<(), Fail> {
+    for (path, _, _) in SCRIPTS {
+        fs::remove_file(rt, *path)?;
+    }
+    for (path, _) in BAD {
+        fs::remove_file(rt, *path)?;
+    }
+    fs::remove_dir(rt, "run-folder")?;
+    Ok(())
+}
 
 #[test]
 fn runs_are_told(rt: HostRuntime) -> Result<(), Fail> {
-    for (path, name, needs) in [
-        ("run-net", "net", "$network"),
-        ("run-db", "db", "net"),
-        ("run-web", "web", "db"),
-        ("run-other", "other net", ""),
-        ("run-left", "left", "right"),
-        ("run-right", "right", "left"),
-        ("run+net", "net", ""),
-    ] {
-        write_script(&rt, path, name, needs)?;
+    write_files(&rt, rt.alloc())?;
+    for (line, want) in RUNS {
+        is_run(&rt, rt.alloc(), line, want)?;
     }
-    fs::write(&rt, "run-bad", "# Provides: bad\n")?;
-    for (line, status, out, err) in [
-        ("", 1, "", "rclinks: usage: rclinks FILE..\n"),
-        ("run-net", 0, NET, ""),
-        ("./run-net", 0, NET, ""),
-        ("./run-db ././run-net", 0, NET_AND_DB, ""),
-        ("run-absent", 4, "", "rclinks: cannot read: run-absent\n"),
-        // A file that is not read comes before a name that no link may have.
-        ("run+absent", 4, "", "rclinks: cannot read: run+absent\n"),
-        (".", 4, "", "rclinks: cannot read: .\n"),
-        ("run+net", 1, "", "rclinks: bad header: run+net\n"),
-        ("./run+net", 1, "", "rclinks: bad header: ./run+net\n"),
-        ("run-bad", 1, "", "rclinks: bad header: run-bad\n"),
-        // The first fault ends the run.
-        (
-            "run-net run-bad run-absent",
-            1,
-            "",
-            "rclinks: bad header: run-bad\n",
-        ),
-        (
-            "run-db run-absent run-bad",
-            4,
-            "",
-            "rclinks: cannot read: run-absent\n",
-        ),
-        ("run-db", 1, "", "rclinks: missing: net\n"),
-        ("run-web run-db", 1, "", "rclinks: missing: net\n"),
-        ("run-net run-other", 1, "", "rclinks: provided twice: net\n"),
-        ("run-net ./run-net", 1, "", "rclinks: provided twice: net\n"),
-        (
-            "run-net run-left run-right",
-            1,
-            "",
-            "rclinks: cycle: run-left run-right\n",
-        ),
-    ] {
-        let (ended, wrote, told) = run(&rt, line)?;
-        assert_eq!(rt; ended, status, "at {line:?}");
-        assert_eq!(rt; wrote.as_slice(), out.as_bytes(), "at {line:?}");
-        assert_eq!(rt; told.as_slice(), err.as_bytes(), "at {line:?}");
+    remove_files(&rt)
+}
+
+fn deep_path(alloc: Global, place: u32) -> Result<String, Fail> {
+    Ok(format!(in alloc; "deep-{place}")?)
+}
+
+fn name_before(alloc: Global, place: u32) -> Result<String, Fail> {
+    match place.checked_sub(1) {
+        Some(before) => Ok(format!(in alloc; "d{before}")?),
+        None => Ok(String::new(alloc)),
     }
-    for path in [
-        "run-net",
-        "run-db",
-        "run-web",
-        "run-other",
-        "run-left",
-        "run-right",
-        "run+net",
-        "run-bad",
-    ] {
-        fs::remove_file(&rt, path)?;
+}
+
+/// Writes the script at a place, which requires the one before.
+fn write_deep(rt: &impl Files, alloc: Global, path: &str, place: u32) -> Result<(), Fail> {
+    let need = name_before(alloc, place)?;
+    let name = format!(in alloc; "d{place}")?;
+    write_script(rt, alloc, path, name.as_str(), need.as_str())
+}
+
+fn add_deep(
+    rt: &impl Files,
+    alloc: Global,
+    words: &mut Vec<String>,
+    place: u32,
+) -> Result<(), Fail> {
+    let path = deep_path(alloc, place)?;
+    write_deep(rt, alloc, path.as_str(), place)?;
+    words.push(path)?;
+    Ok(())
+}
+
+/// Writes scripts of which each requires the one before.
+fn add_all_deep(rt: &impl Files, alloc: Global, words: &mut Vec<String>) -> Result<(), Fail> {
+    for place in 0..100u32 {
+        add_deep(rt, alloc, words, place)?;
     }
+    Ok(())
+}
+
+fn run_deep(rt: &impl Files, alloc: Global, words: &mut Vec<String>) -> Result<Vec<u8>, Fail> {
+    add_all_deep(rt, alloc, words)?;
+    let mut text = Vec::new(alloc);
+    add_run(rt, alloc, words.as_slice(), &mut text)?;
+    Ok(text)
+}
+
+fn is_too_deep<R: Files + Abort>(
+    rt: &R,
+    alloc: Global,
+    words: &mut Vec<String>,
+) -> Result<(), Fail> {
+    let given = run_deep(rt, alloc, words)?;
+    assert_eq!(rt; given.as_slice(), b"|rclinks: too deep\n|1".as_slice());
     Ok(())
 }
 
 #[test]
 fn a_deep_plan_is_told(rt: HostRuntime) -> Result<(), Fail> {
-    let alloc = rt.alloc();
-    let mut words = Vec::new(alloc);
-    for place in 0..100u32 {
-        let path = format!(in alloc; "deep-{place}")?;
-        let need = if place == 0 {
-            String::new(alloc)
-        } else {
-            format!(in alloc; "d{}", place - 1)?
-        };
-        let name = format!(in alloc; "d{place}")?;
-        write_script(&rt, path.as_str(), name.as_str(), need.as_str())?;
-        words.push(path)?;
-    }
-    let mut out: Vec<u8> = Vec::new(alloc);
-    let mut err: Vec<u8> = Vec::new(alloc);
-    let status = run_words(&rt, alloc, words.as_slice(), &mut out, &mut err);
-    assert_eq!(rt; status, 1);
-    assert!(rt; out.is_empty());
-    assert_eq!(rt; err.as_slice(), b"rclinks: too deep\n".as_slice());
+    let mut words = Vec::new(rt.alloc());
+    is_too_deep(&rt, rt.alloc(), &mut words)?;
     for word in &words {
         fs::remove_file(&rt, word.as_str())?;
     }
     Ok(())
 }
 
-/// A writer that takes one byte a write, and fails once it has `room` of them.
+/// A writer that takes one byte a write, fails once it has `room` of them, and may fail where it is flushed.
 #[derive(Drop)]
 struct Slow {
     taken: Vec<u8>,
     room: usize,
+    is_flushed: bool,
 }
 
 impl Write for Slow {
@@ -162,31 +296,59 @@ impl Write for Slow {
     }
 
     fn flush(&mut self) -> io::Result<()> {
-        Ok(())
+        if self.is_flushed {
+            Ok(())
+        } else {
+            Err(io::Error::from(ErrorKind::BrokenPipe))
+        }
     }
 }
 
+/// What a writer of so much room took of the links of a script, what was told, and the status, parted by bars.
+fn slow_run(rt: &impl Files, alloc: Global, room: usize, is_flushed: bool) -> Result<Vec<u8>, Fail> {
+    let words = words_of(alloc, "slow-net")?;
+    let mut out = Slow {
+        taken: Vec::new(alloc),
+        room,
+        is_flushed,
+    };
+    let mut err: Vec<u8> = Vec::new(alloc);
+    let status = run_words(rt, alloc, words.as_slice(), &mut out, &mut err);
+    out.taken.push(b'|')?;
+    out.taken.extend_from_slice(err.as_slice())?;
+    out.taken.push(b'0' + status % 10)?;
+    Ok(out.taken)
+}
+
+fn is_slow_run<R: Files + Abort>(
+    rt: &R,
+    alloc: Global,
+    room: usize,
+    is_flushed: bool,
+    want: &[u8],
+) -> Result<(), Fail> {
+    let given = slow_run(rt, alloc, room, is_flushed)?;
+    assert_eq!(rt; given.as_slice(), want);
+    Ok(())
+}
+
+/// The room of a writer, whether it can be flushed, and what comes of it.
+const SLOW: &[(usize, bool, &[u8])] = &[
+    (0, true, b"|rclinks: cannot write\n4"),
+    (20, true, b"rc3.d/S01slow-net ..|rclinks: cannot write\n4"),
+    (100, true, b"rc3.d/S01slow-net ../init.d/slow-net\n|0"),
+    (
+        100,
+        false,
+        b"rc3.d/S01slow-net ../init.d/slow-net\n|rclinks: cannot write\n4",
+    ),
+];
+
 #[test]
 fn a_write_fault_is_told(rt: HostRuntime) -> Result<(), Fail> {
-    let alloc = rt.alloc();
-    write_script(&rt, "slow-net", "net", "")?;
-    let words = words_of(alloc, "slow-net")?;
-    let want = b"rc3.d/S01slow-net ../init.d/slow-net\n";
-    for (room, status, told) in [
-        (0, 4, "rclinks: cannot write\n"),
-        (20, 4, "rclinks: cannot write\n"),
-        (100, 0, ""),
-    ] {
-        let mut out = Slow {
-            taken: Vec::new(alloc),
-            room,
-        };
-        let mut err: Vec<u8> = Vec::new(alloc);
-        let ended = run_words(&rt, alloc, words.as_slice(), &mut out, &mut err);
-        let held = room.min(want.len());
-        assert_eq!(rt; ended, status, "at {room}");
-        assert_eq!(rt; out.taken.as_slice(), &want[..held], "at {room}");
-        assert_eq!(rt; err.as_slice(), told.as_bytes(), "at {room}");
+    write_script(&rt, rt.alloc(), "slow-net", "net", "")?;
+    for (room, is_flushed, want) in SLOW {
+        is_slow_run(&rt, rt.alloc(), *room, *is_flushed, want)?;
     }
     fs::remove_file(&rt, "slow-net")?;
     Ok(())

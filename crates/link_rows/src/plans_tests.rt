@@ -3,6 +3,7 @@
 use lsb_header::read;
 use rc_links::{Plan, PlanFault, Script, plan};
 use std::alloc::Global;
+use std::fmt::Write;
 use std::process::Abort;
 use std::test::Fail;
 
