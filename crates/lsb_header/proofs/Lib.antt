@@ -1,2 +1,1 @@
-pub mod CutLemmas
 pub mod TextLemmas

@@ -2,9 +2,9 @@
 use Rattle.std.proofs.Common.{◌≡◌, ℕ, zero, suc, ◌+◌, ◌<◌, ◌≤◌, Bool, true, false, cond, if◌then◌else◌, not, ◌&&◌, ◌||◌, ◌==◌, List, [], ◌∷◌, ◌++◌, length, take, drop, get_or, Option, Some, None, unwrap_or, refl, sym, ap, subst, arith}
 use Rattle.std.specs.List.{AllByRecursion}
 use Rattle.std.specs.Option.{option_map, option_or, option_and_then}
-use Rattle.std.specs.Str.{IsCharBoundary, IsUtf8, is_utf8}
-use Rattle.std.proofs.lemmas.Bool.{true≢false, eqb-true}
-use Rattle.std.proofs.lemmas.Str.{IsCharBoundary-after_ascii, IsUtf8-append, IsUtf8-drop, IsUtf8-from_ascii, IsUtf8-from_is_utf8, IsUtf8-nil, IsUtf8-take}
+use Rattle.std.specs.Str.{IsUtf8, is_utf8}
+use Rattle.std.proofs.lemmas.Bool.{and_parts, true≢false, eqb-true}
+use Rattle.std.proofs.lemmas.Str.{IsUtf8-append, IsUtf8-from_ascii, IsUtf8-from_is_utf8, IsUtf8-nil}
 use Rattle.lsb_header.specs.declared.keywords.Keyword.{Keyword}
 use Rattle.lsb_header.specs.declared.keywords.Keyword.TheVariants as keyword
 use Rattle.lsb_header.specs.declared.faults.HeaderFault.{HeaderFault}
@@ -12,73 +12,9 @@ use Rattle.lsb_header.specs.Blocks.{args_of, block_fault, continued, described, 
 use Rattle.lsb_header.specs.Forms.{args_in, body_of, field_of, is_empty_comment, is_indented, is_line, is_word, is_wide, known_of}
 use Rattle.lsb_header.specs.Headers.{text_at}
 use Rattle.lsb_header.specs.Keywords.{keyword_read, same_keyword}
-use Rattle.lsb_header.specs.Lines.{cut, is_blank, skip_blanks, trim, trim_end, word_length}
-use Rattle.lsb_header.proofs.CutLemmas.{cut-parts, trim_end-done, trim_end-nil, trim_end-shorter}
-
--- a blank is one byte of ASCII
-blank_by : (b : ℕ) (x : Bool) → (b == 32) ≡ x → x || (b == 9) ≡ true → b < 128
-blank_by b true here is = let e = eqb-true b 32 here in omega arith
-blank_by b false here is = let e = eqb-true b 9 is in omega arith
-
-blank_is_ascii : (b : ℕ) → is_blank b ≡ true → b < 128
-blank_is_ascii b is = blank_by b (b == 32) refl is
-
--- a text behind a byte of ASCII
-pub behind_ascii : (b : ℕ) (text : List ℕ) → b < 128 → IsUtf8 (b ∷ text) → IsUtf8 text
-behind_ascii b text low utf8 = IsUtf8-drop (b ∷ text) 1 utf8 (IsCharBoundary-after_ascii (b ∷ text) 0 utf8 (omega arith) low)
-
-skip_by : (b : ℕ) (text : List ℕ) (x : Bool) → is_blank b ≡ x → IsUtf8 (b ∷ text) → (IsUtf8 text → IsUtf8 (skip_blanks text)) → IsUtf8 (cond x (skip_blanks text) (b ∷ text))
-skip_by b text true is utf8 rest = rest (behind_ascii b text (blank_is_ascii b is) utf8)
-skip_by b text false is utf8 rest = utf8
-
-pub skip_blanks-utf8 : (text : List ℕ) → IsUtf8 text → IsUtf8 (skip_blanks text)
-skip_blanks-utf8 [] utf8 = utf8
-skip_blanks-utf8 (b ∷ text) utf8 = skip_by b text (is_blank b) refl utf8 (skip_blanks-utf8 text)
-
--- a word ends at a blank, or where the text does
-word_end_by : (b : ℕ) (text : List ℕ) (x : Bool) → is_blank b ≡ x → (word_length text < length text → is_blank (get_or text (word_length text) 0) ≡ true) → cond x 0 (suc (word_length text)) < length (b ∷ text) → is_blank (get_or (b ∷ text) (cond x 0 (suc (word_length text))) 0) ≡ true
-word_end_by b text true is rest within = is
-word_end_by b text false is rest within = rest (omega arith)
-
-word_end : (text : List ℕ) → word_length text < length text → is_blank (get_or text (word_length text) 0) ≡ true
-word_end [] within = absurd (omega arith)
-word_end (b ∷ text) within = word_end_by b text (is_blank b) refl (word_end text) within
-
-word_within_by : (x : Bool) (n m : ℕ) → n ≤ m → cond x 0 (suc n) ≤ suc m
-word_within_by true n m less = omega arith
-word_within_by false n m less = omega arith
-
-word_within : (text : List ℕ) → word_length text ≤ length text
-word_within [] = omega arith
-word_within (b ∷ text) = word_within_by (is_blank b) (word_length text) (length text) (word_within text)
-
--- at a byte of ASCII, or at the end, a character may begin
-boundary : (text : List ℕ) (n : ℕ) → n ≤ length text → (n < length text → get_or text n 0 < 128) → IsCharBoundary text n
-boundary text n within low = (within, λ inside high. absurd (let less = low inside in omega arith))
-
-pub word-utf8 : (text : List ℕ) → IsUtf8 text → IsUtf8 (take (word_length text) text) × IsUtf8 (drop (word_length text) text)
-word-utf8 text utf8 =
-    let at = boundary text (word_length text) (word_within text) (λ within. blank_is_ascii (get_or text (word_length text) 0) (word_end text within)) in
-    (IsUtf8-take text (word_length text) utf8 at, IsUtf8-drop text (word_length text) utf8 at)
-
--- a text behind a byte of ASCII that stands somewhere in it
-get_or-seam : (left : List ℕ) (mark : ℕ) (right : List ℕ) → get_or (left ++ mark ∷ right) (length left) 0 ≡ mark
-get_or-seam [] mark right = refl
-get_or-seam (b ∷ left) mark right = get_or-seam left mark right
-
-drop-seam : (left : List ℕ) (mark : ℕ) (right : List ℕ) → drop (length left + 1) (left ++ mark ∷ right) ≡ right
-drop-seam [] mark right = refl
-drop-seam (b ∷ left) mark right = let e : suc (length left) + 1 ≡ suc (length left + 1) = omega arith in rw e (drop-seam left mark right)
-
-length-seam : (left : List ℕ) (mark : ℕ) (right : List ℕ) → length left < length (left ++ mark ∷ right)
-length-seam [] mark right = omega arith
-length-seam (b ∷ left) mark right = let less = length-seam left mark right in omega arith
-
-behind-utf8 : (left : List ℕ) (mark : ℕ) (right : List ℕ) → mark < 128 → IsUtf8 (left ++ mark ∷ right) → IsUtf8 right
-behind-utf8 left mark right low utf8 =
-    let whole = left ++ mark ∷ right in
-    let at = IsCharBoundary-after_ascii whole (length left) utf8 (length-seam left mark right) (omega (arith, get_or-seam left mark right)) in
-    subst (λ t. IsUtf8 t) (drop-seam left mark right) (IsUtf8-drop whole (length left + 1) utf8 at)
+use Rattle.text_lines.specs.Lines.{cut, trim}
+use Rattle.text_lines.proofs.CutLemmas.{cut-parts}
+use Rattle.text_lines.proofs.Utf8Lemmas.{behind_ascii, behind-utf8, trim-utf8}
 
 -- what a chain of choices that gives something went through
 and_then : {X Y : Type 0} (f : X → Option Y) (o : Option X) (y : Y) → option_and_then f o ≡ Some y → (x : X) × (o ≡ Some x) × (f x ≡ Some y)
@@ -96,13 +32,9 @@ second_of : {K T : Type 0} (o : Option K) (t : T) (known : K × T) → option_ma
 second_of None t known is = absurd (cc)
 second_of {K} {T} (Some k) t known is = ap (λ (pair : K × T). pair.1) (some_is (k, t) known is)
 
-and_both : (x y : Bool) → x && y ≡ true → (x ≡ true) × (y ≡ true)
-and_both true y is = (refl, is)
-and_both false y is = absurd (true≢false (sym is))
-
 body_by : (a b : ℕ) (rest body : List ℕ) (x : Bool) → ((a == 35) && (b == 32)) ≡ x → IsUtf8 (a ∷ b ∷ rest) → cond x (Some rest) None ≡ Some body → IsUtf8 body
 body_by a b rest body true is utf8 same =
-    let both = and_both (a == 35) (b == 32) is in
+    let both = and_parts (a == 35) (b == 32) is in
     let first = eqb-true a 35 both.0 in
     let second = eqb-true b 32 both.1 in
     subst (λ t. IsUtf8 t) (if_some true rest body same) (behind_ascii b rest (omega arith) (behind_ascii a (b ∷ rest) (omega arith) utf8))
@@ -120,7 +52,7 @@ field_of-utf8 line parts utf8 is =
     let inner = and_then (λ (found : List ℕ × List ℕ). if is_word found.0 then Some found else None) (cut 58 outer.0) parts outer.2 in
     let same = if_some (is_word inner.0.0) inner.0 parts inner.2 in
     let body = body_of-utf8 line outer.0 utf8 outer.1 in
-    let seam = cut-parts 58 outer.0 inner.0.0 inner.0.1 inner.1 in
+    let seam = (cut-parts 58 outer.0 inner.0.0 inner.0.1 inner.1).0 in
     subst (λ (found : List ℕ × List ℕ). IsUtf8 found.1) same (behind-utf8 inner.0.0 58 inner.0.1 (omega arith) (subst (λ t. IsUtf8 t) seam body))
 
 known_of-utf8 : (line : List ℕ) (known : Keyword × List ℕ) → IsUtf8 line → known_of line ≡ Some known → IsUtf8 known.1
@@ -144,37 +76,11 @@ pub text_at-utf8 : (word : Keyword) (block : List (List ℕ)) → AllByRecursion
 text_at-utf8 word [] all = IsUtf8-nil
 text_at-utf8 word (line ∷ lines) all = text_by word lines (args_in word line) (λ args is. args_in-utf8 word line args all.0 is) (text_at-utf8 word lines all.1)
 
--- a text without the blanks at its end
-end_by : (text : List ℕ) (n : ℕ) (x : Bool) → is_blank (get_or text n 0) ≡ x → n < length text → IsUtf8 text → IsCharBoundary text (suc n) → (IsCharBoundary text n → IsUtf8 (trim_end (take n text))) → IsUtf8 (trim_end (take (n + 1) text))
-end_by text n true is within utf8 at rest =
-    let here = boundary text n (omega arith) (λ inside. blank_is_ascii (get_or text n 0) is) in
-    rw (trim_end-shorter text n within is) (rest here)
-end_by text n false is within utf8 at rest =
-    let e : n + 1 ≡ suc n = omega arith in
-    rw (trim_end-done text n within is) (rw e (IsUtf8-take text (suc n) utf8 at))
-
-end-utf8 : (text : List ℕ) (n : ℕ) → n ≤ length text → IsUtf8 text → IsCharBoundary text n → IsUtf8 (trim_end (take n text))
-end-utf8 text zero within utf8 at = rw trim_end-nil IsUtf8-nil
-end-utf8 text (suc n) within utf8 at =
-    let e : suc n ≡ n + 1 = omega arith in
-    rw e (end_by text n (is_blank (get_or text n 0)) refl (omega arith) utf8 at (end-utf8 text n (omega arith) utf8))
-
-take_whole : (text : List ℕ) → take (length text) text ≡ text
-take_whole [] = refl
-take_whole (b ∷ text) = ap (λ t. b ∷ t) (take_whole text)
-
-trim_end-utf8 : (text : List ℕ) → IsUtf8 text → IsUtf8 (trim_end text)
-trim_end-utf8 text utf8 =
-    subst (λ t. IsUtf8 (trim_end t)) (take_whole text) (end-utf8 text (length text) (omega arith) utf8 (boundary text (length text) (omega arith) (λ inside. absurd (omega arith))))
-
-pub trim-utf8 : (text : List ℕ) → IsUtf8 text → IsUtf8 (trim text)
-trim-utf8 text utf8 = trim_end-utf8 (skip_blanks text) (skip_blanks-utf8 text utf8)
-
 -- what continues a description
 indented-utf8 : (line : List ℕ) → IsUtf8 line → is_indented line ≡ true → IsUtf8 (drop 1 line)
 indented-utf8 [] utf8 is = absurd (true≢false (sym is))
 indented-utf8 (b ∷ rest) utf8 is =
-    let first = eqb-true b 35 (and_both (b == 35) (is_wide rest) is).0 in
+    let first = eqb-true b 35 (and_parts (b == 35) (is_wide rest) is).0 in
     behind_ascii b rest (omega arith) utf8
 
 one_blank : IsUtf8 (32 ∷ [])
@@ -203,7 +109,7 @@ description_of-utf8 (line ∷ lines) all =
 -- a line without a fault
 line_utf8 : (line : List ℕ) → is_line line ≡ true → IsUtf8 line
 unfolding is_line
-line_utf8 line is = IsUtf8-from_is_utf8 line (and_both (is_utf8 line) _ is).0
+line_utf8 line is = IsUtf8-from_is_utf8 line (and_parts (is_utf8 line) _ is).0
 
 line_by : (line : List ℕ) (x : Bool) (found : HeaderFault) (other : Option HeaderFault) (rest : Option HeaderFault) → is_line line ≡ x → option_or (cond (not x) (Some found) other) rest ≡ None → (IsUtf8 line) × (option_or other rest ≡ None)
 line_by line true found other rest is none = (line_utf8 line is, none)

@@ -11,7 +11,7 @@ use Rattle.lsb_header.specs.declared.keywords.Keyword.{Keyword}
 use Rattle.lsb_header.specs.declared.keywords.Keyword.TheVariants as keyword
 use Rattle.lsb_header.specs.Forms.{args_in, is_empty_comment, is_indented, is_line, known_of}
 use Rattle.lsb_header.specs.Keywords.{same_keyword}
-use Rattle.lsb_header.specs.Lines.{trim, trim_end}
+use Rattle.text_lines.specs.Lines.{trim, trim_end}
 
 -- the line that begins the header
 unfoldable pub is_begin : List ℕ → Bool

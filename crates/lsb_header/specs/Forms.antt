@@ -5,7 +5,7 @@ use Rattle.std.specs.Option.{option_map, option_and_then}
 use Rattle.std.specs.Str.{is_utf8}
 use Rattle.lsb_header.specs.declared.keywords.Keyword.{Keyword}
 use Rattle.lsb_header.specs.Keywords.{keyword_read, same_keyword}
-use Rattle.lsb_header.specs.Lines.{cut, is_blank}
+use Rattle.text_lines.specs.Lines.{cut, is_blank}
 
 -- nothing is there
 abbrev pub is_empty : {X : Type 0} → List X → Bool

@@ -7,7 +7,7 @@ use Rattle.lsb_header.specs.declared.keywords.Keyword.{Keyword}
 use Rattle.lsb_header.specs.declared.keywords.Keyword.TheVariants as keyword
 use Rattle.lsb_header.specs.HeaderText.{HeaderText}
 use Rattle.lsb_header.specs.Forms.{is_empty}
-use Rattle.lsb_header.specs.Lines.{lines_of, trim, words_of}
+use Rattle.text_lines.specs.Lines.{lines_of, trim, words_of}
 use Rattle.lsb_header.specs.Blocks.{args_of, begun, block_fault, block_of, description_of, is_end, levels_of}
 
 -- the text behind the colon of a keyword's line, and nothing where there is none

@@ -1,6 +1,7 @@
 pub mod Blocks
+pub mod Faults
 pub mod Forms
-pub mod Headers
 pub mod HeaderText
+pub mod Headers
 pub mod Keywords
-pub mod Lines
+pub mod Places

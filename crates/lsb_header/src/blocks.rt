@@ -1,10 +1,10 @@
 ghost use Rattle.std.specs.Prelude.{◌≡◌, ◌<◌, ◌+◌, ◌≤◌, ◌∷◌, [], length, IfNone, IfSome};
 ghost use Rattle.std.specs.List.{list_any};
 ghost use Rattle.std.specs.Option.{option_map};
-ghost use Rattle.lsb_header.specs.Lines.{lines_of};
+ghost use Rattle.text_lines.specs.Lines.{lines_of};
 ghost use Rattle.lsb_header.specs.Blocks.{begun, block_of, is_begin, is_end};
 
-use crate::cuts::{first_line, without_tail};
+use text_lines::{first_line, without_tail};
 
 /// The line that begins the header.
 #[tactic(auto, unfolding(crate::specs::Blocks::is_begin))]

@@ -1,30 +1,50 @@
 use crate::keywords::Keyword;
 use init_words::Memory;
 use std::alloc::AllocFailed;
-use thiserror::Error;
+use std::error::Error;
+use std::fmt;
 
 /// Why a header was not read: the first check that fails, in this order.
-#[derive(Clone, Copy, Debug, PartialEq, Eq, Error)]
+#[derive(Clone, Copy, Debug, PartialEq, Eq)]
 pub enum HeaderFault {
     /// No line is `### BEGIN INIT INFO`.
-    #[error("no line begins the header")]
     NoBegin,
     /// No line after it is `### END INIT INFO`.
-    #[error("no line ends the header")]
     NoEnd,
     /// The line of this number, from 1, has no form of the header's, or is not UTF-8.
-    #[error("bad header line {0}")]
     BadLine(usize),
     /// A keyword stands a second time.
-    #[error("{0} is there twice")]
     Twice(Keyword),
     /// Provides is absent, or names nothing.
-    #[error("the header provides nothing")]
     NoProvides,
     /// Want of memory.
-    #[error("out of memory")]
     Memory,
 }
+
+impl fmt::Display for HeaderFault {
+    ghost use Rattle.std.specs.Prelude.{Some};
+    ghost use Rattle.lsb_header.specs.Faults.{fault_text};
+
+    ghost output = { λ fault. Some (fault_text fault) };
+
+    fn fmt<W: fmt::Write>(&self, f: &mut fmt::Formatter<W>) -> fmt::Result {
+        match self {
+            HeaderFault::NoBegin => f.write_str("no line \"### BEGIN INIT INFO\""),
+            HeaderFault::NoEnd => {
+                f.write_str("no line \"### END INIT INFO\" after \"### BEGIN INIT INFO\"")
+            }
+            HeaderFault::BadLine(number) => write!(
+                f,
+                "line {number}: neither \"# Keyword: words\" nor \"#  text\" in UTF-8"
+            ),
+            HeaderFault::Twice(keyword) => write!(f, "{keyword} stands twice"),
+            HeaderFault::NoProvides => f.write_str("no name after \"# Provides:\""),
+            HeaderFault::Memory => f.write_str("out of memory"),
+        }
+    }
+}
+
+impl Error for HeaderFault {}
 
 impl From<Memory> for HeaderFault {
     ghost use Rattle.std.specs.Prelude.{◌≡◌};

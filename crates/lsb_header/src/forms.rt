@@ -1,17 +1,9 @@
 ghost use Rattle.std.specs.Prelude.{◌≡◌};
 ghost use Rattle.std.specs.Option.{option_map};
-ghost use Rattle.std.specs.Str.{is_utf8};
 ghost use Rattle.lsb_header.specs.Forms.{args_in, body_of, field_of, is_empty_comment, is_indented, is_line, is_wide, is_word, known_of};
 
-use crate::cuts::{cut, has_blank, is_all_blank};
 use crate::keywords::Keyword;
-use std::str;
-
-fn is_utf8(line: &[u8]) -> bool
-    ensures { result ≡ is_utf8 line.now }
-{
-    str::from_utf8(line).is_ok()
-}
+use text_lines::{cut, has_blank, is_all_blank, is_utf8};
 
 /// A `#`, with nothing behind it but blanks and tabs.
 pub(crate) fn is_empty_comment(line: &[u8]) -> bool

@@ -1,7 +1,7 @@
 ghost use Rattle.std.specs.Prelude.{◌≡◌, ◌≢◌, Ok, Err, map, string_bytes, IfOk, IfErr};
 ghost use Rattle.std.specs.List.{AllByRecursion};
 ghost use Rattle.std.specs.Str.{IsUtf8};
-ghost use Rattle.lsb_header.specs.Lines.{lines_of, words_of};
+ghost use Rattle.text_lines.specs.Lines.{lines_of, words_of};
 ghost use Rattle.lsb_header.specs.Blocks.{block_of};
 ghost use Rattle.lsb_header.specs.Headers.{header_of, header_read, text_at};
 

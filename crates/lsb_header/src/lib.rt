@@ -4,15 +4,14 @@
 
 mod blocks;
 mod checks;
-mod cuts;
 mod faults;
 mod forms;
 mod headers;
 mod keywords;
 mod pieces;
-#[cfg(test)]
-mod tests;
+mod places;
 
 pub use faults::HeaderFault;
 pub use headers::{Header, read};
 pub use keywords::Keyword;
+pub use places::second_line;

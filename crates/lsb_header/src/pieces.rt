@@ -2,16 +2,16 @@ ghost use Rattle.std.specs.Prelude.{◌≡◌, ◌++◌, ◌∷◌, [], map, str
 ghost use Rattle.std.specs.List.{AllByRecursion};
 ghost use Rattle.std.specs.Str.{IsUtf8};
 ghost use Rattle.std.specs.Option.{option_map};
-ghost use Rattle.lsb_header.specs.Lines.{lines_of, trim, words_of};
+ghost use Rattle.text_lines.specs.Lines.{lines_of, trim, words_of};
 ghost use Rattle.lsb_header.specs.Headers.{text_at};
 ghost use Rattle.lsb_header.specs.Blocks.{args_of, block_of, continued, description_of, level_in, levels_of};
 
 use crate::blocks::block_line;
-use crate::cuts::{next_word, trimmed};
 use crate::forms::{args_in, is_empty_comment, is_indented};
 use crate::keywords::Keyword;
 use init_words::{Level, Memory};
 use std::alloc::Allocator;
+use text_lines::{next_word, trimmed};
 
 /// What stands behind the colon of the header's line of this keyword.
 fn find_args(keyword: Keyword, body: &[u8]) -> Option<&[u8]>

@@ -1,9 +1,5 @@
-pub mod CycleLemmas
-pub mod EdgeLemmas
 pub mod LinkLemmas
 pub mod NameLemmas
-pub mod PassLemmas
+pub mod NeedLemmas
 pub mod PathLemmas
 pub mod PlanLemmas
-pub mod StepLemmas
-pub mod TurnLemmas

@@ -1,17 +1,17 @@
 -- Plans: their fields, their names, and the faults that a step gives on.
-use Rattle.std.proofs.Common.{◌≡◌, ℕ, zero, suc, ◌+◌, ◌<◌, List, [], ◌∷◌, ◌++◌, length, map, get_or, drop, None, refl, sym, ap, ◌∙◌, subst, arith, inl, inr}
+use Rattle.std.proofs.Common.{Some, string_bytes, ◌≡◌, ℕ, zero, suc, ◌+◌, ◌<◌, List, [], ◌∷◌, ◌++◌, length, map, get_or, drop, None, refl, sym, ap, ◌∙◌, subst, arith, inl, inr}
 use Rattle.std.specs.List.{AllByRecursion}
-use Rattle.rc_links.specs.declared.edges.Phase.{Phase}
-use Rattle.rc_links.specs.declared.edges.Phase.TheVariants as phase
+use Rattle.rc_links.specs.declared.needs.Phase.{Phase}
+use Rattle.rc_links.specs.declared.needs.Phase.TheVariants as phase
 use Rattle.rc_links.specs.declared.faults.PlanFault.{PlanFault}
 use Rattle.rc_links.specs.declared.faults.PlanFault.TheVariants as fault
-use Rattle.rc_links.specs.Faults.{IsAnyDeep, IsDouble, IsMissing, IsNamed, IsRound, IsTooDeep}
-use Rattle.rc_links.specs.Graph.{IsCycle, IsNumbering}
+use Rattle.rc_links.specs.Faults.{Wrong, Double, Missing, Round, Deep, IsAnyDeep, IsDouble, IsMissing, IsRound, IsTooDeep, Says}
+use Rattle.link_numbers.specs.Numbering.{HasNoNumbering, IsCycle}
 use Rattle.rc_links.specs.ScriptText.{ScriptText}
 use Rattle.rc_links.specs.PlannedText.{PlannedText}
-use Rattle.rc_links.specs.Plans.{AreLeast, IsPlan, IsProvided, IsRefused, IsShort, names_at, planned, planned_all}
+use Rattle.rc_links.specs.Plans.{AreLeast, IsCycleOf, IsPlan, IsProvided, IsRefused, IsShort, names_at, planned, planned_all}
 use Rattle.rc_links.specs.Scripts.{double_from, missing_from, needs_of}
-use Rattle.rc_links.proofs.EdgeLemmas.{append_assoc}
+use Rattle.rc_links.proofs.NeedLemmas.{append_assoc}
 
 -- the name at a place
 pub name_is : (scripts : List ScriptText) (place : ℕ) (s : ScriptText) → place < length scripts → s ≡ get_or scripts place s → get_or (map (λ t. t.name) scripts) place [] ≡ s.name
@@ -42,16 +42,20 @@ pub map-last : {X Y : Type 0} (f : X → Y) (xs : List X) (x : X) → map f (xs 
 map-last f [] x = refl
 map-last f (y ∷ xs) x = ap (λ ys. f y ∷ ys) (map-last f xs x)
 
+-- what is said of one thing is said of another
+pub Says-weaker : {A : Type 0} {P Q : Wrong → Type 0} (f : PlanFault A) → ((wrong : Wrong) → P wrong → Q wrong) → Says P f → Says Q f
+Says-weaker (fault.DoubleProvide name) more said = more _ said
+Says-weaker (fault.Missing name) more said = more _ said
+Says-weaker (fault.Cycle names) more said = more _ said
+Says-weaker fault.TooDeep more said = more _ said
+Says-weaker fault.Memory more said = tt
+
 -- a number that is too great, of all
-pub any_deep : {A : Type 0} (starts stops : List ℕ) (place : ℕ) (f : PlanFault A) → IsTooDeep (get_or starts place 0) (get_or stops place 0) f → IsAnyDeep starts stops f
-any_deep starts stops place (fault.DoubleProvide name) deep = deep
-any_deep starts stops place (fault.Missing name) deep = deep
-any_deep starts stops place (fault.Cycle names) deep = deep
-any_deep starts stops place fault.TooDeep deep = elim deep [
-  | inl high ↦ inl (place, high)
-  | inr high ↦ inr (place, high)
+pub any_deep : (starts stops : List ℕ) (place : ℕ) (wrong : Wrong) → IsTooDeep (get_or starts place 0) (get_or stops place 0) wrong → IsAnyDeep starts stops wrong
+any_deep starts stops place wrong deep = elim deep.1 [
+  | inl high ↦ (deep.0, inl (place, high))
+  | inr high ↦ (deep.0, inr (place, high))
 ]
-any_deep starts stops place fault.Memory deep = deep
 
 -- the fields of a plan
 pub names-planned : (scripts : List ScriptText) (starts stops : List ℕ) → length starts ≡ length scripts → length stops ≡ length scripts → map (λ s. s.name) (planned_all scripts starts stops) ≡ map (λ s. s.name) scripts
@@ -99,45 +103,55 @@ plan_made scripts starts stops plan provided first second is short = record {
 }
 
 -- a cycle, by its names
-pub round : {A : Type 0} (turn : Phase) (scripts : List ScriptText) (places : List ℕ) (f : PlanFault A) → IsCycle (needs_of turn scripts) places → ((number : ℕ → ℕ) → IsNumbering (needs_of turn scripts) number → ⊥) → IsNamed (names_at scripts places) f → IsRound turn scripts f
-round turn scripts places (fault.DoubleProvide name) cycle none named = named
-round turn scripts places (fault.Missing name) cycle none named = named
-round turn scripts places (fault.Cycle names) cycle none named = record { places = places; named = named; cycle = cycle; none = none }
-round turn scripts places fault.TooDeep cycle none named = named
-round turn scripts places fault.Memory cycle none named = named
+pub round : (turn : Phase) (scripts : List ScriptText) (places : List ℕ) (wrong : Wrong) → IsCycle (needs_of turn scripts) places → HasNoNumbering (needs_of turn scripts) → wrong ≡ Round (names_at scripts places) → IsRound turn scripts wrong
+round turn scripts places wrong cycle none is =
+    (names_at scripts places, is, record { places = places; named = refl; cycle = cycle; none = none })
+
+same_double : (x y : List ℕ) → Double x ≡ Double y → x ≡ y
+same_double x y e = cc
+
+same_missing : (x y : List ℕ) → Missing x ≡ Missing y → x ≡ y
+same_missing x y e = cc
+
+same_round : (x y : List (List ℕ)) → Round x ≡ Round y → x ≡ y
+same_round x y e = cc
 
 -- why there is no plan, step by step
-pub refused-double : {A : Type 0} (scripts : List ScriptText) (f : PlanFault A) → IsDouble (double_from [] scripts) f → IsRefused scripts f
-refused-double scripts (fault.DoubleProvide name) is = is
-refused-double scripts (fault.Missing name) is = absurd is
-refused-double scripts (fault.Cycle names) is = absurd is
-refused-double scripts fault.TooDeep is = absurd is
-refused-double scripts fault.Memory is = is
+pub refused-double : {A : Type 0} (scripts : List ScriptText) (f : PlanFault A) → Says (IsDouble (double_from [] scripts)) f → IsRefused scripts f
+refused-double scripts (fault.DoubleProvide name) is = is.1 ∙ ap (λ x. Some x) (sym (same_double (string_bytes name) is.0 is.2))
+refused-double scripts (fault.Missing name) is = absurd (let e = is.2 in cc)
+refused-double scripts (fault.Cycle names) is = absurd (let e = is.2 in cc)
+refused-double scripts fault.TooDeep is = absurd (let e = is.2 in cc)
+refused-double scripts fault.Memory is = tt
 
-pub refused-missing : {A : Type 0} (scripts : List ScriptText) (f : PlanFault A) → double_from [] scripts ≡ None → IsMissing (missing_from scripts scripts) f → IsRefused scripts f
-refused-missing scripts (fault.DoubleProvide name) single is = absurd is
-refused-missing scripts (fault.Missing name) single is = (single, is)
-refused-missing scripts (fault.Cycle names) single is = absurd is
-refused-missing scripts fault.TooDeep single is = absurd is
-refused-missing scripts fault.Memory single is = is
+pub refused-missing : {A : Type 0} (scripts : List ScriptText) (f : PlanFault A) → double_from [] scripts ≡ None → Says (IsMissing (missing_from scripts scripts)) f → IsRefused scripts f
+refused-missing scripts (fault.DoubleProvide name) single is = absurd (let e = is.2 in cc)
+refused-missing scripts (fault.Missing name) single is = (single, is.1 ∙ ap (λ x. Some x) (sym (same_missing (string_bytes name) is.0 is.2)))
+refused-missing scripts (fault.Cycle names) single is = absurd (let e = is.2 in cc)
+refused-missing scripts fault.TooDeep single is = absurd (let e = is.2 in cc)
+refused-missing scripts fault.Memory single is = tt
 
-pub refused-start : {A : Type 0} (scripts : List ScriptText) (f : PlanFault A) → IsProvided scripts → IsRound phase.Start scripts f → IsRefused scripts f
-refused-start scripts (fault.DoubleProvide name) provided is = absurd is
-refused-start scripts (fault.Missing name) provided is = absurd is
-refused-start scripts (fault.Cycle names) provided is = (provided, inl is)
-refused-start scripts fault.TooDeep provided is = absurd is
-refused-start scripts fault.Memory provided is = is
+pub refused-start : {A : Type 0} (scripts : List ScriptText) (f : PlanFault A) → IsProvided scripts → Says (IsRound phase.Start scripts) f → IsRefused scripts f
+refused-start scripts (fault.DoubleProvide name) provided is = absurd (let e = is.1 in cc)
+refused-start scripts (fault.Missing name) provided is = absurd (let e = is.1 in cc)
+refused-start scripts (fault.Cycle names) provided is =
+    let P : List (List ℕ) → Type 0 = λ said. IsCycleOf phase.Start scripts said in
+    (provided, inl (subst P (sym (same_round (map string_bytes names.items) is.0 is.1)) is.2))
+refused-start scripts fault.TooDeep provided is = absurd (let e = is.1 in cc)
+refused-start scripts fault.Memory provided is = tt
 
-pub refused-stop : {A : Type 0} (scripts : List ScriptText) (starts : List ℕ) (f : PlanFault A) → IsProvided scripts → AreLeast phase.Start scripts starts → IsRound phase.Stop scripts f → IsRefused scripts f
-refused-stop scripts starts (fault.DoubleProvide name) provided first is = absurd is
-refused-stop scripts starts (fault.Missing name) provided first is = absurd is
-refused-stop scripts starts (fault.Cycle names) provided first is = (provided, inr (starts, first, is))
-refused-stop scripts starts fault.TooDeep provided first is = absurd is
-refused-stop scripts starts fault.Memory provided first is = is
+pub refused-stop : {A : Type 0} (scripts : List ScriptText) (starts : List ℕ) (f : PlanFault A) → IsProvided scripts → AreLeast phase.Start scripts starts → Says (IsRound phase.Stop scripts) f → IsRefused scripts f
+refused-stop scripts starts (fault.DoubleProvide name) provided first is = absurd (let e = is.1 in cc)
+refused-stop scripts starts (fault.Missing name) provided first is = absurd (let e = is.1 in cc)
+refused-stop scripts starts (fault.Cycle names) provided first is =
+    let P : List (List ℕ) → Type 0 = λ said. IsCycleOf phase.Stop scripts said in
+    (provided, inr (starts, first, subst P (sym (same_round (map string_bytes names.items) is.0 is.1)) is.2))
+refused-stop scripts starts fault.TooDeep provided first is = absurd (let e = is.1 in cc)
+refused-stop scripts starts fault.Memory provided first is = tt
 
-pub refused-deep : {A : Type 0} (scripts : List ScriptText) (starts stops : List ℕ) (f : PlanFault A) → IsProvided scripts → AreLeast phase.Start scripts starts → AreLeast phase.Stop scripts stops → IsAnyDeep starts stops f → IsRefused scripts f
-refused-deep scripts starts stops (fault.DoubleProvide name) provided first second is = absurd is
-refused-deep scripts starts stops (fault.Missing name) provided first second is = absurd is
-refused-deep scripts starts stops (fault.Cycle names) provided first second is = absurd is
-refused-deep scripts starts stops fault.TooDeep provided first second is = (provided, starts, stops, first, second, is)
-refused-deep scripts starts stops fault.Memory provided first second is = is
+pub refused-deep : {A : Type 0} (scripts : List ScriptText) (starts stops : List ℕ) (f : PlanFault A) → IsProvided scripts → AreLeast phase.Start scripts starts → AreLeast phase.Stop scripts stops → Says (IsAnyDeep starts stops) f → IsRefused scripts f
+refused-deep scripts starts stops (fault.DoubleProvide name) provided first second is = absurd (let e = is.0 in cc)
+refused-deep scripts starts stops (fault.Missing name) provided first second is = absurd (let e = is.0 in cc)
+refused-deep scripts starts stops (fault.Cycle names) provided first second is = absurd (let e = is.0 in cc)
+refused-deep scripts starts stops fault.TooDeep provided first second is = (provided, starts, stops, first, second, is.1)
+refused-deep scripts starts stops fault.Memory provided first second is = tt

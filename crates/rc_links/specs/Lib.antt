@@ -1,9 +1,10 @@
+pub mod Command
+pub mod FaultTexts
 pub mod Faults
-pub mod Graph
+pub mod Files
 pub mod Links
-pub mod Passes
 pub mod PlannedText
 pub mod Plans
-pub mod Runs
 pub mod ScriptText
 pub mod Scripts
+pub mod Tables

@@ -1,5 +1,5 @@
 -- The links of a plan, and the text that lists them (LSB Core 5.0).
-use Rattle.std.specs.Prelude.{ℕ, ◌+◌, ◌/◌, ◌%◌, Bool, if◌then◌else◌, List, [], ◌∷◌, ◌++◌, map, drop, flat_map, codes}
+use Rattle.std.specs.Prelude.{◌≡◌, ℕ, Vec, ◌+◌, ◌/◌, ◌%◌, Bool, if◌then◌else◌, List, [], ◌∷◌, ◌++◌, map, drop, flat_map, codes}
 use Rattle.std.specs.List.{filter, list_any}
 use Rattle.std.specs.Str.{byte}
 use Rattle.std.specs.Ordering.{nat_cmp, is_lt}
@@ -55,3 +55,7 @@ level_text plan level =
 -- the lines of all levels, 0 to 9 and then S
 abbrev pub plan_text : List PlannedText → List ℕ
 plan_text plan = flat_map (level_text plan) (L0 ∷ L1 ∷ L2 ∷ L3 ∷ L4 ∷ L5 ∷ L6 ∷ L7 ∷ L8 ∷ L9 ∷ S ∷ [])
+
+-- texts were added to the texts that lists of bytes hold
+abbrev pub AddsLinks : {A : Type 0} → List (Vec ℕ A) → List (Vec ℕ A) → List (List ℕ) → Type 0
+AddsLinks old new links = map (λ link. link.items) new ≡ map (λ link. link.items) old ++ links

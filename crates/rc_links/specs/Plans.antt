@@ -1,11 +1,11 @@
 -- What a plan of scripts says, and why scripts have none (LSB Core 5.0).
 use Rattle.std.specs.Prelude.{string_bytes, ◌≡◌, ◌⊎◌, ℕ, ◌<◌, ◌≤◌, List, [], ◌∷◌, map, get_or, length, Some, None}
 use Rattle.std.specs.List.{AllByRecursion}
-use Rattle.rc_links.specs.declared.edges.Phase.{Phase}
-use Rattle.rc_links.specs.declared.edges.Phase.TheVariants as phase
+use Rattle.rc_links.specs.declared.needs.Phase.{Phase}
+use Rattle.rc_links.specs.declared.needs.Phase.TheVariants as phase
 use Rattle.rc_links.specs.declared.faults.PlanFault.{PlanFault}
 use Rattle.rc_links.specs.declared.faults.PlanFault.TheVariants as fault
-use Rattle.rc_links.specs.Graph.{IsCycle, IsLeast, IsNumbering}
+use Rattle.link_numbers.specs.Numbering.{HasNoNumbering, IsCycle, IsLeast}
 use Rattle.rc_links.specs.ScriptText.{ScriptText}
 use Rattle.rc_links.specs.PlannedText.{PlannedText}
 use Rattle.rc_links.specs.Scripts.{double_from, missing_from, needs_of}
@@ -58,7 +58,7 @@ pub record IsCycleOf (turn : Phase) (scripts : List ScriptText) (names : List (L
   pub places : List ℕ
   pub named : names ≡ names_at scripts places
   pub cycle : IsCycle (needs_of turn scripts) places
-  pub none : (number : ℕ → ℕ) → IsNumbering (needs_of turn scripts) number → ⊥
+  pub none : HasNoNumbering (needs_of turn scripts)
 
 -- why scripts have no plan: the first check that fails
 abbrev pub IsRefused : {A : Type 0} → List ScriptText → PlanFault A → Type 0

@@ -20,6 +20,11 @@ pub enum PlanFault<A: Allocator = Global> {
 }
 
 impl<A: Allocator> fmt::Display for PlanFault<A> {
+    ghost use Rattle.std.specs.Prelude.{Some};
+    ghost use Rattle.rc_links.specs.FaultTexts.{fault_text};
+
+    ghost output = { λ fault. Some (fault_text fault) };
+
     fn fmt<W: fmt::Write>(&self, f: &mut fmt::Formatter<W>) -> fmt::Result {
         match self {
             PlanFault::DoubleProvide(name) => write!(f, "provided twice: {name}"),

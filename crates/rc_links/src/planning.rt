@@ -1,23 +1,50 @@
-ghost use Rattle.std.specs.Prelude.{◌≡◌, ◌≤◌, ◌<◌, ℕ, List, IfOk, IfErr, IfSome, IfNone, length, map, string_bytes};
+ghost use Rattle.std.specs.Prelude.{◌≡◌, ◌≤◌, ◌<◌, ◌++◌, ◌∷◌, [], IfOk, IfErr, IfSome, IfNone, OnOk, length, map, string_bytes};
 ghost use Rattle.std.specs.List.{AllByRecursion};
-ghost use Rattle.std.specs.Str.{bytes_eq};
-ghost use Rattle.indexmap.specs.IndexMap.{get_by};
-ghost use Rattle.rc_links.specs.Faults.{IsAnyDeep, IsNamed, IsRound, IsTooDeep};
-ghost use Rattle.rc_links.specs.Passes.{AllBelow};
+ghost use Rattle.link_numbers.specs.Numbering.{AllBelow, HasNoNumbering, IsCycle};
+ghost use Rattle.rc_links.specs.Faults.{IsAnyDeep, IsRound, IsTooDeep, Round, Says};
 ghost use Rattle.rc_links.specs.Plans.{AreLeast, IsPlan, IsRefused, IsShort, names_at, planned, planned_all};
-ghost use Rattle.rc_links.specs.Scripts.{place_of};
+ghost use Rattle.rc_links.specs.Scripts.{needs_of};
+ghost use Rattle.rc_links.specs.Tables.{HasPlaces};
 
-use crate::edges::{Phase, needs};
+use crate::needs::{Phase, needs};
 use crate::faults::PlanFault;
-use crate::orders::ordered;
 use crate::plans::{Plan, Planned};
 use crate::scripts::Script;
 use crate::tables::{Table, check_missing, table_of};
 use init_words::Memory;
+use link_numbers::ordered;
 use std::alloc::Allocator;
 
 /// The greatest number of a link.
 const NUMBER_LIMIT: usize = 99;
+
+/// Adds the name of a script.
+fn add_name<A: Allocator + Copy>(
+    alloc: A,
+    names: &mut Vec<String<A>, A>,
+    script: &Script<A>,
+) -> Result<(), Memory>
+    ensures { OnOk result (map string_bytes names.new.items ≡ map string_bytes names.old.items ++ script.now.name ∷ []) }
+{
+    names.push(String::from_str(alloc, script.name())?)?;
+    Ok(())
+}
+
+/// Adds the names of the scripts at these places.
+fn add_names<A: Allocator + Copy>(
+    alloc: A,
+    names: &mut Vec<String<A>, A>,
+    scripts: &[Script<A>],
+    places: &[usize],
+) -> Result<(), Memory>
+    requires { AllBelow (length scripts.now) places.now }
+    ensures { OnOk result (map string_bytes names.new.items ≡ map string_bytes names.old.items ++ names_at scripts.now places.now) }
+{
+    for place in places {
+        add_name(alloc, names, &scripts[*place])?;
+    }
+    Ok(())
+}
 
 /// The names of the scripts at these places.
 fn names_at<A: Allocator + Copy>(
@@ -29,9 +56,7 @@ fn names_at<A: Allocator + Copy>(
     ensures { IfOk result (λ names. map string_bytes names.items ≡ names_at scripts.now places.now) }
 {
     let mut names = Vec::new(alloc);
-    for place in places {
-        names.push(String::from_str(alloc, scripts[*place].name())?)?;
-    }
+    add_names(alloc, &mut names, scripts, places)?;
     Ok(names)
 }
 
@@ -42,7 +67,7 @@ fn cycle_told<A: Allocator + Copy>(
     places: &[usize],
 ) -> PlanFault<A>
     requires { AllBelow (length scripts.now) places.now }
-    ensures { IsNamed (names_at scripts.now places.now) result }
+    ensures { Says (λ wrong. wrong ≡ Round (names_at scripts.now places.now)) result }
 {
     match names_at(alloc, scripts, places) {
         Ok(names) => PlanFault::Cycle(names),
@@ -50,19 +75,35 @@ fn cycle_told<A: Allocator + Copy>(
     }
 }
 
-/// The least numbers of the scripts, or a cycle.
+/// The least numbers of the scripts, or the places of a cycle.
+fn order_of<A: Allocator + Copy>(
+    alloc: A,
+    phase: Phase,
+    scripts: &[Script<A>],
+    table: &Table<'_, A>,
+) -> Result<Result<Vec<usize, A>, Vec<usize, A>>, Memory>
+    requires { HasPlaces scripts.now table.now }
+    ensures least { IfOk result (λ order. IfOk order (λ ns. AreLeast phase scripts.now ns.items)) }
+    ensures below { IfOk result (λ order. IfErr order (λ cycle. AllBelow (length scripts.now) cycle.items)) }
+    ensures cycle { IfOk result (λ order. IfErr order (λ cycle. IsCycle (needs_of phase scripts.now) cycle.items)) }
+    ensures none { IfOk result (λ order. IfErr order (λ _. HasNoNumbering (needs_of phase scripts.now))) }
+{
+    let edges = needs(alloc, phase, scripts, table)?;
+    ordered(alloc, scripts.len(), edges.as_slice())
+}
+
+/// The least numbers of the scripts, or the fault of a cycle.
 fn numbered<A: Allocator + Copy>(
     alloc: A,
     phase: Phase,
     scripts: &[Script<A>],
     table: &Table<'_, A>,
 ) -> Result<Vec<usize, A>, PlanFault<A>>
-    requires { (bs : List ℕ) → get_by (λ key. bytes_eq bs key.now) table.now ≡ place_of scripts.now bs }
+    requires { HasPlaces scripts.now table.now }
     ensures least { IfOk result (λ numbers. AreLeast phase scripts.now numbers.items) }
-    ensures round { IfErr result (λ fault. IsRound phase scripts.now fault) }
+    ensures round { IfErr result (Says (IsRound phase scripts.now)) }
 {
-    let edges = needs(alloc, phase, scripts, table)?;
-    match ordered(alloc, scripts.len(), edges.as_slice())? {
+    match order_of(alloc, phase, scripts, table)? {
         Ok(numbers) => Ok(numbers),
         Err(cycle) => Err(cycle_told(alloc, scripts, cycle.as_slice())),
     }
@@ -104,7 +145,7 @@ fn with_numbers<A: Allocator + Copy>(
 ) -> Result<Planned<A>, PlanFault<A>>
     ensures planned { IfOk result (λ s. s ≡ planned script.now start stop) }
     ensures short { IfOk result IsShort }
-    ensures deep { IfErr result (λ fault. IsTooDeep start stop fault) }
+    ensures deep { IfErr result (Says (IsTooDeep start stop)) }
 {
     let (Some(start), Some(stop)) = (link_number(start), link_number(stop)) else {
         return Err(PlanFault::TooDeep);
@@ -123,7 +164,7 @@ fn planned_all<A: Allocator + Copy>(
     requires stops { length stops.now ≡ length scripts.now }
     ensures planned { IfOk result (λ plan. plan.items ≡ planned_all scripts.now starts.now stops.now) }
     ensures short { IfOk result (λ plan. AllByRecursion IsShort plan.items) }
-    ensures deep { IfErr result (λ fault. IsAnyDeep starts.now stops.now fault) }
+    ensures deep { IfErr result (Says (IsAnyDeep starts.now stops.now)) }
 {
     let mut plan = Vec::new(alloc);
     for place in 0..scripts.len() {

@@ -1,5 +1,5 @@
 ghost use Rattle.std.specs.Prelude.{◌≡◌, ◌++◌, map, flat_map, [], ◌∷◌, IfOk, OnOk};
-ghost use Rattle.rc_links.specs.Links.{has_level, in_byte_order, level_text, link_line, link_of, linked_name, plan_text, start_links, stop_links};
+ghost use Rattle.rc_links.specs.Links.{AddsLinks, has_level, in_byte_order, level_text, link_line, link_of, linked_name, plan_text, start_links, stop_links};
 
 use crate::plans::{Plan, Planned};
 use init_words::{Level, Memory};
@@ -51,7 +51,7 @@ fn add_stop_link<A: Allocator + Copy>(
     script: &Planned<A>,
     level: Level,
 ) -> Result<(), Memory>
-    ensures { OnOk result (map (λ link. link.items) links.new.items ≡ map (λ link. link.items) links.old.items ++ stop_links level (script.now ∷ [])) }
+    ensures { OnOk result (AddsLinks links.old.items links.new.items (stop_links level (script.now ∷ []))) }
 {
     if has_level(script.stops(), level) {
         links.push(link_of(alloc, b'K', script.stop(), script.name().as_bytes())?)?;
@@ -66,10 +66,25 @@ fn add_start_link<A: Allocator + Copy>(
     script: &Planned<A>,
     level: Level,
 ) -> Result<(), Memory>
-    ensures { OnOk result (map (λ link. link.items) links.new.items ≡ map (λ link. link.items) links.old.items ++ start_links level (script.now ∷ [])) }
+    ensures { OnOk result (AddsLinks links.old.items links.new.items (start_links level (script.now ∷ []))) }
 {
     if has_level(script.starts(), level) {
         links.push(link_of(alloc, b'S', script.start(), script.name().as_bytes())?)?;
+    }
+    Ok(())
+}
+
+/// Adds the links of the scripts that stop at a runlevel.
+fn add_stop_links<A: Allocator + Copy>(
+    alloc: A,
+    links: &mut Vec<Vec<u8, A>, A>,
+    scripts: &[Planned<A>],
+    level: Level,
+) -> Result<(), Memory>
+    ensures { OnOk result (AddsLinks links.old.items links.new.items (stop_links level scripts.now)) }
+{
+    for script in scripts {
+        add_stop_link(alloc, links, script, level)?;
     }
     Ok(())
 }
@@ -83,10 +98,23 @@ fn stop_links<A: Allocator + Copy>(
     ensures { IfOk result (λ links. map (λ link. link.items) links.items ≡ stop_links level scripts.now) }
 {
     let mut links = Vec::new(alloc);
-    for script in scripts {
-        add_stop_link(alloc, &mut links, script, level)?;
-    }
+    add_stop_links(alloc, &mut links, scripts, level)?;
     Ok(links)
+}
+
+/// Adds the links of the scripts that start at a runlevel.
+fn add_start_links<A: Allocator + Copy>(
+    alloc: A,
+    links: &mut Vec<Vec<u8, A>, A>,
+    scripts: &[Planned<A>],
+    level: Level,
+) -> Result<(), Memory>
+    ensures { OnOk result (AddsLinks links.old.items links.new.items (start_links level scripts.now)) }
+{
+    for script in scripts {
+        add_start_link(alloc, links, script, level)?;
+    }
+    Ok(())
 }
 
 /// The links of the scripts that start at a runlevel.
@@ -98,9 +126,7 @@ fn start_links<A: Allocator + Copy>(
     ensures { IfOk result (λ links. map (λ link. link.items) links.items ≡ start_links level scripts.now) }
 {
     let mut links = Vec::new(alloc);
-    for script in scripts {
-        add_start_link(alloc, &mut links, script, level)?;
-    }
+    add_start_links(alloc, &mut links, scripts, level)?;
     Ok(links)
 }
 

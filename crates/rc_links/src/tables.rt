@@ -1,9 +1,8 @@
-ghost use Rattle.std.specs.Prelude.{◌≡◌, ◌&&◌, [], string_bytes, ℕ, Some, List, find, if◌then◌else◌, is_some, map, not, None, IfErr, IfOk, OnOk};
-ghost use Rattle.std.specs.Option.{option_map, option_or};
-ghost use Rattle.std.specs.Str.{bytes_eq};
-ghost use Rattle.indexmap.specs.IndexMap.{get_by};
-ghost use Rattle.rc_links.specs.Faults.{IsDouble, IsMissing};
-ghost use Rattle.rc_links.specs.Scripts.{double_from, has_name, is_system, missing_from, place_of};
+ghost use Rattle.std.specs.Prelude.{◌≡◌, [], string_bytes, Some, find, map, None, IfErr, IfOk, OnOk};
+ghost use Rattle.std.specs.Option.{option_map};
+ghost use Rattle.rc_links.specs.Faults.{IsDouble, IsMissing, Says};
+ghost use Rattle.rc_links.specs.Scripts.{double_from, is_system, missing_from};
+ghost use Rattle.rc_links.specs.Tables.{GivesPlace, GivesPlaces, HasNone, HasPlaces, is_known, is_unknown, known_again, place_in, unknown_of};
 
 use crate::faults::PlanFault;
 use crate::scripts::Script;
@@ -17,7 +16,7 @@ pub(crate) type Table<'a, A> = IndexMap<&'a [u8], usize, BuildHasherDefault<Fold
 
 /// The place of a name.
 pub(crate) fn place_at<A: Allocator>(table: &Table<'_, A>, name: &[u8]) -> Option<usize>
-    ensures { result ≡ get_by (λ key. bytes_eq name.now key.now) table.now }
+    ensures { result ≡ place_in table.now name.now }
 {
     table.get(name).copied()
 }
@@ -28,7 +27,7 @@ fn set_place<'a, A: Allocator + Clone>(
     name: &'a [u8],
     place: usize,
 ) -> Result<(), Memory>
-    ensures { OnOk result ((bs : List ℕ) → get_by (λ key. bytes_eq bs key.now) table.new ≡ (if bytes_eq name.now bs then Some place else get_by (λ key. bytes_eq bs key.now) table.old)) }
+    ensures { OnOk result (GivesPlace table.old table.new name.now place) }
 {
     table.insert(name, place)?;
     Ok(())
@@ -40,7 +39,7 @@ fn add_provided<'a, A: Allocator + Clone>(
     script: &'a Script<A>,
     place: usize,
 ) -> Result<(), Memory>
-    ensures { OnOk result ((bs : List ℕ) → get_by (λ key. bytes_eq bs key.now) table.new ≡ (if has_name bs script.now.header.provides then Some place else get_by (λ key. bytes_eq bs key.now) table.old)) }
+    ensures { OnOk result (GivesPlaces table.old table.new script.now.header.provides place) }
 {
     for name in script.header().provides() {
         set_place(table, name.as_bytes(), place)?;
@@ -53,7 +52,7 @@ fn first_known<'s, A: Allocator, B: Allocator>(
     table: &Table<'_, A>,
     names: &'s [String<B>],
 ) -> Option<&'s str>
-    ensures { option_map (λ name. name.now) result ≡ find (λ name. is_some (get_by (λ key. bytes_eq name key.now) table.now)) (map string_bytes names.now) }
+    ensures { option_map (λ name. name.now) result ≡ find (λ name. is_known table.now name) (map string_bytes names.now) }
 {
     for name in names {
         if place_at(table, name.as_bytes()).is_some() {
@@ -69,7 +68,7 @@ fn doubled<'s, A: Allocator>(
     provided: &Table<'_, A>,
     names: &Table<'_, A>,
 ) -> Option<&'s str>
-    ensures { option_map (λ name. name.now) result ≡ option_or (find (λ name. is_some (get_by (λ key. bytes_eq name key.now) provided.now)) script.now.header.provides) (if is_some (get_by (λ key. bytes_eq script.now.name key.now) names.now) then Some script.now.name else None) }
+    ensures { option_map (λ name. name.now) result ≡ known_again provided.now names.now script.now }
 {
     if let Some(name) = first_known(provided, script.header().provides()) {
         return Some(name);
@@ -80,31 +79,64 @@ fn doubled<'s, A: Allocator>(
     None
 }
 
+/// Gives a script's provided names and its own name this place, where none of them has one.
+fn add_script<'a, A: Allocator + Copy>(
+    alloc: A,
+    provided: &mut Table<'a, A>,
+    names: &mut Table<'a, A>,
+    script: &'a Script<A>,
+    place: usize,
+) -> Result<(), PlanFault<A>>
+    ensures single { OnOk result (known_again provided.old names.old script.now ≡ None) }
+    ensures provided { OnOk result (GivesPlaces provided.old provided.new script.now.header.provides place) }
+    ensures named { OnOk result (GivesPlace names.old names.new script.now.name place) }
+    ensures double { IfErr result (Says (IsDouble (known_again provided.old names.old script.now))) }
+{
+    if let Some(name) = doubled(script, provided, names) {
+        return Err(double_told(alloc, name));
+    }
+    add_provided(provided, script, place)?;
+    set_place(names, script.name().as_bytes(), place)?;
+    Ok(())
+}
+
+/// Gives the names of each script the script's place.
+fn add_scripts<'a, A: Allocator + Copy>(
+    alloc: A,
+    provided: &mut Table<'a, A>,
+    names: &mut Table<'a, A>,
+    scripts: &'a [Script<A>],
+) -> Result<(), PlanFault<A>>
+    requires provided { HasNone provided.old }
+    requires names { HasNone names.old }
+    ensures single { OnOk result (double_from [] scripts.now ≡ None) }
+    ensures places { OnOk result (HasPlaces scripts.now provided.new) }
+    ensures double { IfErr result (Says (IsDouble (double_from [] scripts.now))) }
+{
+    for place in 0..scripts.len() {
+        add_script(alloc, provided, names, &scripts[place], place)?;
+    }
+    Ok(())
+}
+
 /// The places of the names that scripts provide, none by two scripts; and no two scripts have one name.
 pub(crate) fn table_of<A: Allocator + Copy>(
     alloc: A,
     scripts: &[Script<A>],
 ) -> Result<Table<'_, A>, PlanFault<A>>
     ensures single { IfOk result (λ table. double_from [] scripts.now ≡ None) }
-    ensures places { IfOk result (λ table. (bs : List ℕ) → get_by (λ key. bytes_eq bs key.now) table ≡ place_of scripts.now bs) }
-    ensures double { IfErr result (λ fault. IsDouble (double_from [] scripts.now) fault) }
+    ensures places { IfOk result (λ table. HasPlaces scripts.now table) }
+    ensures double { IfErr result (Says (IsDouble (double_from [] scripts.now))) }
 {
     let mut provided = IndexMap::new(alloc);
     let mut names = IndexMap::new(alloc);
-    for place in 0..scripts.len() {
-        let script = &scripts[place];
-        if let Some(name) = doubled(script, &provided, &names) {
-            return Err(double_told(alloc, name));
-        }
-        add_provided(&mut provided, script, place)?;
-        set_place(&mut names, script.name().as_bytes(), place)?;
-    }
+    add_scripts(alloc, &mut provided, &mut names, scripts)?;
     Ok(provided)
 }
 
 /// The fault of a name that is provided twice.
 fn double_told<A: Allocator>(alloc: A, name: &str) -> PlanFault<A>
-    ensures { IsDouble (Some name.now) result }
+    ensures { Says (IsDouble (Some name.now)) result }
 {
     match String::from_str(alloc, name) {
         Ok(name) => PlanFault::DoubleProvide(name),
@@ -114,7 +146,7 @@ fn double_told<A: Allocator>(alloc: A, name: &str) -> PlanFault<A>
 
 /// The fault of a name that is missing.
 fn missing_told<A: Allocator>(alloc: A, name: &str) -> PlanFault<A>
-    ensures { IsMissing (Some name.now) result }
+    ensures { Says (IsMissing (Some name.now)) result }
 {
     match String::from_str(alloc, name) {
         Ok(name) => PlanFault::Missing(name),
@@ -137,7 +169,7 @@ fn missing_in<'s, A: Allocator, B: Allocator>(
     table: &Table<'_, A>,
     names: &'s [String<B>],
 ) -> Option<&'s str>
-    ensures { option_map (λ name. name.now) result ≡ find (λ name. not (is_system name) && not (is_some (get_by (λ key. bytes_eq name key.now) table.now))) (map string_bytes names.now) }
+    ensures { option_map (λ name. name.now) result ≡ find (λ name. is_unknown table.now name) (map string_bytes names.now) }
 {
     for name in names {
         if !is_system(name.as_bytes()) && place_at(table, name.as_bytes()).is_none() {
@@ -149,7 +181,7 @@ fn missing_in<'s, A: Allocator, B: Allocator>(
 
 /// The first name that a script requires and no script provides.
 fn missing_of<'s, A: Allocator>(table: &Table<'_, A>, script: &'s Script<A>) -> Option<&'s str>
-    ensures { option_map (λ name. name.now) result ≡ option_or (find (λ name. not (is_system name) && not (is_some (get_by (λ key. bytes_eq name key.now) table.now))) script.now.header.required_start) (find (λ name. not (is_system name) && not (is_some (get_by (λ key. bytes_eq name key.now) table.now))) script.now.header.required_stop) }
+    ensures { option_map (λ name. name.now) result ≡ unknown_of table.now script.now }
 {
     let header = script.header();
     if let Some(name) = missing_in(table, header.required_start()) {
@@ -164,9 +196,9 @@ pub(crate) fn check_missing<A: Allocator + Copy>(
     scripts: &[Script<A>],
     table: &Table<'_, A>,
 ) -> Result<(), PlanFault<A>>
-    requires { (bs : List ℕ) → get_by (λ key. bytes_eq bs key.now) table.now ≡ place_of scripts.now bs }
+    requires { HasPlaces scripts.now table.now }
     ensures whole { OnOk result (missing_from scripts.now scripts.now ≡ None) }
-    ensures missing { IfErr result (λ fault. IsMissing (missing_from scripts.now scripts.now) fault) }
+    ensures missing { IfErr result (Says (IsMissing (missing_from scripts.now scripts.now))) }
 {
     for script in scripts {
         if let Some(name) = missing_of(table, script) {

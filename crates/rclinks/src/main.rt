@@ -2,22 +2,17 @@
 //! headers allow (LSB Core 5.0).
 #![tactic(auto)]
 
-use rc_links::run_words;
+use program_edge::{tell_unread, words};
+use rc_links::{USAGE, run_words};
 use std::process::ExitCode;
-use std::{env, io};
 
-fn main(rt: HostRuntime) -> io::Result<ExitCode> {
+fn main(rt: HostRuntime) -> ExitCode {
     let alloc = rt.alloc();
-    let mut words = Vec::new(alloc);
-    for word in env::args(&rt)?.skip(1) {
-        words.push(word)?;
-    }
-    let status = run_words(
-        &rt,
-        alloc,
-        words.as_slice(),
-        &mut rt.stdout(),
-        &mut rt.stderr(),
-    );
-    Ok(ExitCode::from(status))
+    let status = match words(&rt, alloc) {
+        Ok(words) => {
+            run_words(&rt, alloc, words.as_slice(), &mut rt.stdout(), &mut rt.stderr())
+        }
+        Err(error) => tell_unread("rclinks", USAGE, &error, &mut rt.stderr()),
+    };
+    ExitCode::from(status)
 }

@@ -65,7 +65,7 @@ length-seam : (left : List ℕ) (mark : ℕ) (right : List ℕ) → length left 
 length-seam [] mark right = omega arith
 length-seam (b ∷ left) mark right = let less = length-seam left mark right in omega arith
 
-behind-utf8 : (left : List ℕ) (mark : ℕ) (right : List ℕ) → mark < 128 → IsUtf8 (left ++ mark ∷ right) → IsUtf8 right
+pub behind-utf8 : (left : List ℕ) (mark : ℕ) (right : List ℕ) → mark < 128 → IsUtf8 (left ++ mark ∷ right) → IsUtf8 right
 behind-utf8 left mark right low utf8 =
     let whole = left ++ mark ∷ right in
     let at = IsCharBoundary-after_ascii whole (length left) utf8 (length-seam left mark right) (omega (arith, get_or-seam left mark right)) in

@@ -1,6 +1,6 @@
 use Rattle.std.proofs.Common.{◌≡◌, length}
 use Rattle.std.specs.List.{list_any}
-use Rattle.lsb_header.specs.Lines.{lines_of}
+use Rattle.text_lines.specs.Lines.{lines_of}
 use Rattle.lsb_header.specs.Blocks.{is_end}
 use Rattle.lsb_header.proofs.blocks.has_end.Given as goal
 

@@ -1,5 +1,5 @@
 use Rattle.std.proofs.Common.{◌≡◌, ◌+◌, ◌<◌, ◌^◌, [], length}
-use Rattle.lsb_header.specs.Lines.{lines_of}
+use Rattle.text_lines.specs.Lines.{lines_of}
 use Rattle.lsb_header.specs.Blocks.{block_of, block_fault}
 use Rattle.lsb_header.proofs.checks.check.Given as goal
 

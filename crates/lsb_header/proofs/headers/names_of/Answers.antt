@@ -1,5 +1,5 @@
 use Rattle.lsb_header.specs.Blocks.{block_of}
-use Rattle.lsb_header.specs.Lines.{lines_of}
+use Rattle.text_lines.specs.Lines.{lines_of}
 use Rattle.lsb_header.proofs.TextLemmas.{text_at-utf8}
 use Rattle.lsb_header.proofs.headers.names_of.Goals as goal
 

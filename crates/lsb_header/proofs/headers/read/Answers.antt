@@ -1,6 +1,6 @@
 use Rattle.std.proofs.Common.{[], ◌+◌}
 use Rattle.lsb_header.specs.Blocks.{block_of}
-use Rattle.lsb_header.specs.Lines.{lines_of}
+use Rattle.text_lines.specs.Lines.{lines_of}
 use Rattle.lsb_header.proofs.TextLemmas.{block-utf8}
 use Rattle.lsb_header.proofs.headers.read.Goals as goal
 

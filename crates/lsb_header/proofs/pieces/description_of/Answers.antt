@@ -1,5 +1,5 @@
 use Rattle.lsb_header.specs.Blocks.{block_of}
-use Rattle.lsb_header.specs.Lines.{lines_of}
+use Rattle.text_lines.specs.Lines.{lines_of}
 use Rattle.lsb_header.proofs.TextLemmas.{description_of-utf8}
 use Rattle.lsb_header.proofs.pieces.description_of.Goals as goal
 

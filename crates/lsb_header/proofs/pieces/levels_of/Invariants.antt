@@ -1,5 +1,5 @@
 use Rattle.std.proofs.Common.{◌≡◌, ◌++◌, length}
-use Rattle.lsb_header.specs.Lines.{words_of}
+use Rattle.text_lines.specs.Lines.{words_of}
 use Rattle.lsb_header.specs.Blocks.{levels_of}
 use Rattle.lsb_header.proofs.pieces.levels_of.Given as goal
 

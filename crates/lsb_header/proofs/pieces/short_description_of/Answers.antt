@@ -1,8 +1,9 @@
 use Rattle.lsb_header.specs.declared.keywords.Keyword.TheVariants as keyword
 use Rattle.lsb_header.specs.Blocks.{block_of}
 use Rattle.lsb_header.specs.Headers.{text_at}
-use Rattle.lsb_header.specs.Lines.{lines_of}
-use Rattle.lsb_header.proofs.TextLemmas.{text_at-utf8, trim-utf8}
+use Rattle.text_lines.specs.Lines.{lines_of}
+use Rattle.text_lines.proofs.Utf8Lemmas.{trim-utf8}
+use Rattle.lsb_header.proofs.TextLemmas.{text_at-utf8}
 use Rattle.lsb_header.proofs.pieces.short_description_of.Goals as goal
 
 pub string_of-requires : goal.string_of-requires

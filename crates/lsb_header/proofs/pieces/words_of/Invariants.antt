@@ -1,6 +1,6 @@
 use Rattle.std.proofs.Common.{◌≡◌, ◌++◌, length, map, string_bytes}
 use Rattle.std.specs.Str.{IsUtf8}
-use Rattle.lsb_header.specs.Lines.{words_of}
+use Rattle.text_lines.specs.Lines.{words_of}
 use Rattle.lsb_header.proofs.pieces.words_of.Given as goal
 
 abbrev pub invariant-loop-word : goal.invariant-loop-word

@@ -2,12 +2,12 @@ use Rattle.std.proofs.Common.{◌+◌, subst, get_or, drop, arith}
 use Rattle.rc_links.specs.PlannedText.{PlannedText}
 use Rattle.rc_links.specs.Plans.{IsShort}
 use Rattle.rc_links.proofs.NameLemmas.{cut_at, err_and}
-use Rattle.rc_links.proofs.PlanLemmas.{any_deep, cut_number, planned-step, short-push}
+use Rattle.rc_links.proofs.PlanLemmas.{Says-weaker, any_deep, cut_number, planned-step, short-push}
 use Rattle.rc_links.proofs.planning.planned_all.Goals as goal
 
 pub returns-in_err-script-clause-deep : goal.returns-in_err-script-clause-deep
 returns-in_err-script-clause-deep g c =
-    err_and c.from_residual.result c.in_err-script.field-0.0 _ c.from_residual.ensures.1 (any_deep c.args.starts.now c.args.stops.now c.loop-place.place c.in_err-script.field-0.0 c.in_err-script.ensures.deep)
+    err_and c.from_residual.result c.in_err-script.field-0.0 _ c.from_residual.ensures.1 (Says-weaker c.in_err-script.field-0.0 (any_deep c.args.starts.now c.args.stops.now c.loop-place.place) c.in_err-script.ensures.deep)
 
 pub loop-place-preserved : goal.loop-place-preserved
 loop-place-preserved g c =

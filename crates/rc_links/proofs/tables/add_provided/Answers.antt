@@ -1,11 +1,10 @@
-use Rattle.std.proofs.Common.{◌∙◌, arith}
-use Rattle.std.specs.Str.{bytes_eq}
+use Rattle.std.proofs.Common.{arith}
 use Rattle.std.proofs.lemmas.List.{drop_all}
-use Rattle.indexmap.specs.IndexMap.{get_by}
+use Rattle.rc_links.specs.Tables.{place_in}
 use Rattle.rc_links.proofs.NameLemmas.{put_all-is}
 use Rattle.rc_links.proofs.tables.add_provided.Goals as goal
 
 pub returns : goal.returns
 returns g c = λ bs.
     let past = drop_all c.loop-name.name-index c.provides-name-items.result.now (omega (arith, c.loop-name-test.false)) in
-    (rw past at c.loop-name.invariant.known bs) ∙ put_all-is c.args.place c.args.script.now.header.provides bs (get_by (λ key. bytes_eq bs key.now) c.args.table.now)
+    rw (← put_all-is c.args.place c.args.script.now.header.provides bs (place_in c.args.table.now bs)) (rw past at c.loop-name.invariant.known bs)

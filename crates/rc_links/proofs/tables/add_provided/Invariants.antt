@@ -1,11 +1,10 @@
 use Rattle.std.proofs.Common.{string_bytes, ◌≡◌, ℕ, List, map, drop}
-use Rattle.std.specs.Str.{bytes_eq}
-use Rattle.indexmap.specs.IndexMap.{get_by}
+use Rattle.rc_links.specs.Tables.{place_in}
 use Rattle.rc_links.proofs.NameLemmas.{put_all}
 use Rattle.rc_links.proofs.tables.add_provided.Given as goal
 
 abbrev pub invariant-loop-name : goal.invariant-loop-name
 invariant-loop-name g l = record {
   names : map string_bytes l.name-items ≡ l.script.header.provides;
-  known : (bs : List ℕ) → put_all l.place (map string_bytes (drop l.name-index l.name-items)) bs (get_by (λ key. bytes_eq bs key.now) l.table) ≡ put_all l.place l.script.header.provides bs (get_by (λ key. bytes_eq bs key.now) l.fn.table);
+  known : (bs : List ℕ) → put_all l.place (map string_bytes (drop l.name-index l.name-items)) bs (place_in l.table bs) ≡ put_all l.place l.script.header.provides bs (place_in l.fn.table bs);
 }

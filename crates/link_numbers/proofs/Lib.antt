@@ -1,0 +1,3 @@
+pub mod CycleLemmas
+pub mod PassLemmas
+pub mod StepLemmas

@@ -1,0 +1,15 @@
+-- What is said of a header that was not read.
+use Rattle.std.specs.Prelude.{ℕ, List, ◌++◌, codes, decimal}
+use Rattle.lsb_header.specs.declared.faults.HeaderFault.{HeaderFault}
+use Rattle.lsb_header.specs.declared.faults.HeaderFault.TheVariants as fault
+use Rattle.lsb_header.specs.Keywords.{word_of}
+
+-- the reason, the line where the fault has one, and what a header has in its place
+abbrev pub fault_text : HeaderFault → List ℕ
+fault_text fault.NoBegin = codes "no line \"### BEGIN INIT INFO\""
+fault_text fault.NoEnd = codes "no line \"### END INIT INFO\" after \"### BEGIN INIT INFO\""
+fault_text (fault.BadLine number) =
+    codes "line " ++ decimal number ++ codes ": neither \"# Keyword: words\" nor \"#  text\" in UTF-8"
+fault_text (fault.Twice keyword) = word_of keyword ++ codes " stands twice"
+fault_text fault.NoProvides = codes "no name after \"# Provides:\""
+fault_text fault.Memory = codes "out of memory"

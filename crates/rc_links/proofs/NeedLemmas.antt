@@ -1,0 +1,113 @@
+-- The needs by names: where they are, by a table, and within which places.
+use Rattle.std.proofs.Common.{◌≡◌, ℕ, zero, suc, ◌+◌, ◌<◌, ◌≤◌, Bool, true, false, cond, List, [], ◌∷◌, ◌++◌, length, map, Option, Some, None, is_some, Result, Ok, Err, OnOk, refl, sym, ap, ◌∙◌, arith}
+use Rattle.std.specs.List.{filter_map, cons_option}
+use Rattle.std.specs.Option.{option_map, unwrap_or}
+use Rattle.std.proofs.lemmas.Bool.{true≢false}
+use Rattle.rc_links.specs.declared.needs.Phase.{Phase}
+use Rattle.rc_links.specs.declared.needs.Phase.TheVariants as phase
+use Rattle.link_numbers.specs.Numbering.{InRange}
+use Rattle.rc_links.specs.ScriptText.{ScriptText}
+use Rattle.rc_links.specs.Scripts.{has_name, named, need, needs_from, needs_of, place_from, place_of, places_of}
+
+-- two lists of names after another
+pub append_assoc : {X : Type 0} (xs ys zs : List X) → (xs ++ ys) ++ zs ≡ xs ++ (ys ++ zs)
+append_assoc [] ys zs = refl
+append_assoc (x ∷ xs) ys zs = ap (λ rest. x ∷ rest) (append_assoc xs ys zs)
+
+abbrev cons_option_of : {X Y : Type 0} (f : X → Y) (o : Option X) (rest : List Y) → List Y
+cons_option_of f None rest = rest
+cons_option_of f (Some x) rest = f x ∷ rest
+
+one_more : {X Y : Type 0} (f : X → Y) (o : Option X) (xs : List X) (ys : List Y) (rest : List Y) → map f xs ++ ys ≡ rest → map f (cons_option o xs) ++ ys ≡ cons_option_of f o rest
+one_more f None xs ys rest is = is
+one_more f (Some x) xs ys rest is = ap (λ zs. f x ∷ zs) is
+
+cons_map : {X Y : Type 0} (f : X → Y) (o : Option X) (xs : List X) → map f (cons_option o xs) ≡ cons_option_of f o (map f xs)
+cons_map f None xs = refl
+cons_map f (Some x) xs = refl
+
+pub names-after : {X Y Z : Type 0} (f : Y → Z) (h : X → Option Y) (xs ys : List X) → map f (filter_map h xs) ++ map f (filter_map h ys) ≡ map f (filter_map h (xs ++ ys))
+names-after f h [] ys = refl
+names-after f h (x ∷ xs) ys =
+    one_more f (h x) (filter_map h xs) (map f (filter_map h ys)) (map f (filter_map h (xs ++ ys))) (names-after f h xs ys) ∙ sym (cons_map f (h x) (filter_map h (xs ++ ys)))
+
+-- tables that agree give the same
+pub filter_map-ext : {X Y : Type 0} (f h : X → Option Y) (xs : List X) → ((x : X) → f x ≡ h x) → filter_map f xs ≡ filter_map h xs
+filter_map-ext f h [] same = refl
+filter_map-ext f h (x ∷ xs) same = rw (same x, filter_map-ext f h xs same) refl
+
+-- both places of each need are below the count
+abbrev Within : ℕ → List (ℕ × ℕ) → Type 0
+Within count [] = Unit {0}
+Within count (edge ∷ edges) = (edge.0 < count) × (edge.1 < count) × Within count edges
+
+Within-append : (count : ℕ) (xs ys : List (ℕ × ℕ)) → Within count xs → Within count ys → Within count (xs ++ ys)
+Within-append count [] ys first second = second
+Within-append count (x ∷ xs) ys first second = (first.0, first.1, Within-append count xs ys first.2 second)
+
+range-first : (count : ℕ) (e : ℕ × ℕ) (edges : List (ℕ × ℕ)) → (e.0 < count) × (e.1 < count) → InRange count edges → InRange count (e ∷ edges)
+range-first count e edges here rest zero within = here
+range-first count e edges here rest (suc k) within = rest k (omega arith)
+
+Within-range : (count : ℕ) (edges : List (ℕ × ℕ)) → Within count edges → InRange count edges
+Within-range count [] all = λ k within. absurd (omega arith)
+Within-range count (e ∷ edges) all = range-first count e edges (all.0, all.1) (Within-range count edges all.2)
+
+-- a place that provides a name is one of the scripts
+below_by : (place : ℕ) (scripts : List ScriptText) (bs : List ℕ) (n : ℕ) (y : Bool) → cond y (Some place) (place_from (place + 1) scripts bs) ≡ Some n → (place_from (place + 1) scripts bs ≡ Some n → n < place + 1 + length scripts) → n < place + suc (length scripts)
+below_by place scripts bs n true is rest = let e : place ≡ n = ap (λ o. unwrap_or o 0) is in omega arith
+below_by place scripts bs n false is rest = let low = rest is in omega arith
+
+place_from-below : (place : ℕ) (scripts : List ScriptText) (bs : List ℕ) (n : ℕ) → place_from place scripts bs ≡ Some n → n < place + length scripts
+place_from-below place [] bs n is = absurd (true≢false (sym (ap is_some is)))
+place_from-below place (s ∷ scripts) bs n is = below_by place scripts bs n (has_name bs s.header.provides) is (place_from-below (place + 1) scripts bs n)
+
+Within-need : (turn : Phase) (count place other : ℕ) (edges : List (ℕ × ℕ)) → place < count → other < count → Within count edges → Within count (need turn place other ∷ edges)
+Within-need phase.Start count place other edges low below rest = (low, below, rest)
+Within-need phase.Stop count place other edges low below rest = (below, low, rest)
+
+Within-option : (turn : Phase) (count place : ℕ) (o : Option ℕ) (places : List ℕ) → place < count → ((n : ℕ) → o ≡ Some n → n < count) → Within count (map (need turn place) places) → Within count (map (need turn place) (cons_option o places))
+Within-option turn count place None places low below rest = rest
+Within-option turn count place (Some n) places low below rest = Within-need turn count place n (map (need turn place) places) low (below n refl) rest
+
+Within-names : (turn : Phase) (all : List ScriptText) (place : ℕ) (names : List (List ℕ)) → place < length all → Within (length all) (map (need turn place) (places_of all names))
+Within-names turn all place [] low = tt
+Within-names turn all place (name ∷ names) low =
+    Within-option turn (length all) place (place_of all name) (places_of all names) low (λ n is. let below = place_from-below 0 all name n is in omega arith) (Within-names turn all place names low)
+
+Within-from : (turn : Phase) (all : List ScriptText) (place : ℕ) (scripts : List ScriptText) → place + length scripts ≤ length all → Within (length all) (needs_from turn all place scripts)
+Within-from turn all place [] low = tt
+Within-from turn all place (s ∷ scripts) low =
+    Within-append (length all) (map (need turn place) (places_of all (named turn s.header))) (needs_from turn all (place + 1) scripts)
+    (Within-names turn all place (named turn s.header) (omega arith)) (Within-from turn all (place + 1) scripts (omega arith))
+
+-- the needs of scripts are among their places
+pub needs-range : (turn : Phase) (scripts : List ScriptText) → InRange (length scripts) (needs_of turn scripts)
+needs-range turn scripts = Within-range (length scripts) (needs_of turn scripts) (Within-from turn scripts 0 scripts (omega arith))
+
+-- the needs of one more script
+pub needs-next : (turn : Phase) (all : List ScriptText) (place : ℕ) (s : ScriptText) (rest : List ScriptText) (f : List ℕ → Option ℕ) (edges whole : List (ℕ × ℕ)) → ((bs : List ℕ) → f bs ≡ place_of all bs)
+    → edges ++ needs_from turn all place (s ∷ rest) ≡ whole → (edges ++ map (need turn place) (filter_map f (named turn s.header))) ++ needs_from turn all (place + 1) rest ≡ whole
+needs-next turn all place s rest f edges whole same is =
+    rw (filter_map-ext f (place_of all) (named turn s.header) same) (append_assoc edges (map (need turn place) (places_of all (named turn s.header))) (needs_from turn all (place + 1) rest) ∙ is)
+
+pub append-none : {X : Type 0} (xs : List X) → xs ++ [] ≡ xs
+append-none [] = refl
+append-none (x ∷ xs) = ap (λ ys. x ∷ ys) (append-none xs)
+
+-- the needs by one more name
+step_by : {X Y : Type 0} (f : X → Y) (edges : List Y) (o : Option X) (rest : List Y) → (edges ++ cons_option (option_map f o) []) ++ rest ≡ edges ++ cons_option_of f o rest
+step_by f edges None rest = ap (λ zs. zs ++ rest) (append-none edges)
+step_by f edges (Some x) rest = append_assoc edges (f x ∷ []) rest
+
+pub names-step : {X Y Z : Type 0} (f : Y → Z) (h : X → Option Y) (name : X) (rest : List X) (edges whole : List Z) → edges ++ map f (filter_map h (name ∷ rest)) ≡ whole → (edges ++ cons_option (option_map f (h name)) []) ++ map f (filter_map h rest) ≡ whole
+names-step f h name rest edges whole is =
+    step_by f edges (h name) (map f (filter_map h rest)) ∙ (ap (λ zs. edges ++ zs) (sym (cons_map f (h name) (filter_map h rest))) ∙ is)
+
+pub names-twice : {X Y Z : Type 0} (f : Y → Z) (h : X → Option Y) (xs ys : List X) (edges middle next : List Z) → middle ≡ edges ++ map f (filter_map h xs) → next ≡ middle ++ map f (filter_map h ys) → next ≡ edges ++ map f (filter_map h (xs ++ ys))
+names-twice f h xs ys edges middle next first second =
+    second ∙ (ap (λ zs. zs ++ map f (filter_map h ys)) first ∙ (append_assoc edges (map f (filter_map h xs)) (map f (filter_map h ys)) ∙ ap (λ zs. edges ++ zs) (names-after f h xs ys)))
+
+pub on_ok : {S E : Type 0} (r : Result S E) (P Q : Type 0) → (P → Q) → OnOk r P → OnOk r Q
+on_ok (Ok x) P Q step p = step p
+on_ok (Err e) P Q step p = p

@@ -1,0 +1,13 @@
+use Rattle.std.proofs.Common.{◌≡◌, ◌≤◌, false, drop, length}
+use Rattle.std.specs.List.{list_any}
+use Rattle.rc_links.specs.Files.{is_slash}
+use Rattle.rc_links.proofs.files.last_part.Given as goal
+
+abbrev pub invariant-loop-start : goal.invariant-loop-start
+invariant-loop-start l = record {
+  within : l.start ≤ length l.path;
+  none : list_any is_slash (drop l.start l.path) ≡ false;
+}
+
+abbrev pub decreases-loop-start : goal.decreases-loop-start
+decreases-loop-start l = l.start

@@ -1,0 +1,10 @@
+use Rattle.std.proofs.Common.{string_bytes, ◌≡◌, ◌++◌, map, drop}
+use Rattle.std.specs.List.{filter_map}
+use Rattle.rc_links.specs.Scripts.{need}
+use Rattle.rc_links.specs.Tables.{place_in}
+use Rattle.rc_links.proofs.needs.add_names.Given as goal
+
+abbrev pub invariant-loop-name : goal.invariant-loop-name
+invariant-loop-name g l =
+    l.edges.items ++ map (need l.phase l.place) (filter_map (place_in l.table) (map string_bytes (drop l.name-index l.names)))
+    ≡ l.fn.edges.items ++ map (need l.phase l.place) (filter_map (place_in l.table) (map string_bytes l.names))

@@ -1,8 +1,0 @@
-use Rattle.std.proofs.Common.{◌≡◌, ◌++◌, map, drop}
-use Rattle.rc_links.specs.Links.{start_links}
-use Rattle.rc_links.proofs.printing.start_links.Given as goal
-
--- the links so far with those of the scripts that are left are all
-abbrev pub invariant-loop-script : goal.invariant-loop-script
-invariant-loop-script g l =
-    map (λ link. link.items) l.links.items ++ start_links l.level (drop l.script-index l.scripts) ≡ start_links l.level l.scripts

@@ -1,8 +1,0 @@
-use Rattle.std.proofs.Common.{◌++◌, List, drop, map, string_bytes}
-use Rattle.rc_links.specs.Runs.{AreScripts}
-use Rattle.rc_links.specs.ScriptText.{ScriptText}
-use Rattle.rc_links.proofs.runs.scripts_of.Given as goal
-
-abbrev pub invariant-loop-word : goal.invariant-loop-word
-invariant-loop-word g l =
-    (more : List ScriptText) → AreScripts (map string_bytes (drop l.word-index l.words)) more → AreScripts (map string_bytes l.words) (l.scripts.items ++ more)

@@ -1,0 +1,74 @@
+-- Runs of rclinks over the paths of init scripts.
+use Rattle.std.specs.Prelude.{◌≡◌, ◌⊎◌, ℕ, Bool, true, ◌||◌, List, [], ◌∷◌, ◌++◌, Option, Contains, codes}
+use Rattle.std.specs.List.{list_any}
+use Rattle.std.specs.Str.{bytes_eq}
+use Rattle.std.specs.Io.KnownBytes.{Appends}
+use Rattle.std.specs.declared.alloc.Global.{Global}
+use Rattle.program_edge.specs.Writing.{AppendsPrefix}
+use Rattle.lsb_header.specs.Forms.{is_empty}
+use Rattle.rc_links.specs.Files.{IsNoScriptAt, IsScriptAt, file_status}
+use Rattle.rc_links.specs.Links.{plan_text}
+use Rattle.rc_links.specs.PlannedText.{PlannedText}
+use Rattle.rc_links.specs.Plans.{IsPlan, IsRefused}
+use Rattle.rc_links.specs.ScriptText.{ScriptText}
+use Rattle.rc_links.specs.declared.faults.PlanFault.{PlanFault}
+use Rattle.rc_links.specs.declared.faults.PlanFault.TheVariants as plan_fault
+use Rattle.rc_links.specs.declared.files.FileFault.{FileFault}
+
+-- a word that asks for the usage
+abbrev pub is_help : List ℕ → Bool
+is_help word = bytes_eq word (codes "--help") || bytes_eq word (codes "-h")
+
+-- there are no words, or one of them asks for the usage
+abbrev pub wants_usage : List (List ℕ) → Bool
+wants_usage words = is_empty words || list_any is_help words
+
+-- the script of the path was added to the scripts
+abbrev pub AddsScript : List ℕ → List ScriptText → List ScriptText → Type 0
+AddsScript path old new = (script : ScriptText) × IsScriptAt path script × (new ≡ old ++ script ∷ [])
+
+-- a script for each path, in order
+abbrev pub AreScripts : List (List ℕ) → List ScriptText → Type 0
+AreScripts [] [] = Unit {0}
+AreScripts [] (s ∷ scripts) = ⊥
+AreScripts (path ∷ paths) [] = ⊥
+AreScripts (path ∷ paths) (s ∷ scripts) = IsScriptAt path s × AreScripts paths scripts
+
+-- a writer gained the text of a plan of the scripts
+abbrev pub PrintsPlan : List ScriptText → Option (List ℕ) → Option (List ℕ) → Type 0
+PrintsPlan scripts old new = (plan : List PlannedText) × IsPlan scripts plan × Appends old new (plan_text plan)
+
+-- a writer gained a prefix of the text of a plan of the scripts, which may be the whole
+abbrev pub PrintsPlanPart : List ScriptText → Option (List ℕ) → Option (List ℕ) → Type 0
+PrintsPlanPart scripts old new =
+    (plan : List PlannedText) × IsPlan scripts plan × AppendsPrefix old new (plan_text plan)
+
+-- a writer gained the text of a plan of scripts of these paths
+abbrev pub PrintsLinks : List (List ℕ) → Option (List ℕ) → Option (List ℕ) → Type 0
+PrintsLinks paths old new = (scripts : List ScriptText) × AreScripts paths scripts × PrintsPlan scripts old new
+
+-- a writer gained a prefix of the text of a plan of scripts of these paths
+abbrev pub PrintsPart : List (List ℕ) → Option (List ℕ) → Option (List ℕ) → Type 0
+PrintsPart paths old new = (scripts : List ScriptText) × AreScripts paths scripts × PrintsPlanPart scripts old new
+
+-- 4 for want of memory, 1 for another fault of the plan
+abbrev pub plan_status : {A : Type 0} → PlanFault A → ℕ
+plan_status (plan_fault.DoubleProvide name) = 1
+plan_status (plan_fault.Missing name) = 1
+plan_status (plan_fault.Cycle names) = 1
+plan_status plan_fault.TooDeep = 1
+plan_status plan_fault.Memory = 4
+
+-- the scripts have no plan, and why
+abbrev pub HasNoPlan : List ScriptText → Type 0
+HasNoPlan scripts = (found : PlanFault Global) × IsRefused scripts found × (plan_status found ≡ 1)
+
+-- one of the files is refused for its name or its header
+abbrev pub HasRefused : List (List ℕ) → Type 0
+HasRefused paths =
+    (path : List ℕ) × Contains paths path × (found : FileFault) × IsNoScriptAt path found × (file_status found ≡ 1)
+
+-- why a run on these words is refused: the usage is wanted, a file is refused, or the scripts have no plan
+abbrev pub IsRefusedRun : List (List ℕ) → Type 0
+IsRefusedRun words = (wants_usage words ≡ true) ⊎ HasRefused words
+    ⊎ ((scripts : List ScriptText) × AreScripts words scripts × HasNoPlan scripts)

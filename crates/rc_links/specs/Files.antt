@@ -1,0 +1,71 @@
+-- The scripts of files.
+use Rattle.std.specs.Prelude.{◌≡◌, ℕ, Bool, true, false, not, ◌==◌, ◌||◌, ◌&&◌, if◌then◌else◌, List, [], ◌∷◌, Option, Some, None, Err, Ok}
+use Rattle.std.specs.List.{list_all, list_any}
+use Rattle.std.specs.Char.{is_ascii_alphanumeric}
+use Rattle.lsb_header.specs.declared.faults.HeaderFault.{HeaderFault}
+use Rattle.lsb_header.specs.declared.faults.HeaderFault.TheVariants as header_fault
+use Rattle.lsb_header.specs.Forms.{is_empty}
+use Rattle.lsb_header.specs.Headers.{header_read}
+use Rattle.lsb_header.specs.Places.{second_line}
+use Rattle.rc_links.specs.ScriptText.{ScriptText}
+use Rattle.rc_links.specs.declared.files.FileFault.{FileFault}
+use Rattle.rc_links.specs.declared.files.FileFault.TheVariants as fault
+
+-- a '/'
+abbrev pub is_slash : ℕ → Bool
+is_slash b = b == 47
+
+-- what stands behind the last '/' of a path, or the whole path where it has none
+abbrev pub last_part : List ℕ → List ℕ
+last_part [] = []
+last_part (b ∷ path) = if list_any is_slash (b ∷ path) then last_part path else b ∷ path
+
+-- a letter, a digit, '.', '_' or '-'
+abbrev pub is_name_byte : ℕ → Bool
+is_name_byte b = is_ascii_alphanumeric b || b == 46 || b == 95 || b == 45
+
+-- a name that a link may have
+abbrev pub is_name : List ℕ → Bool
+is_name name = not (is_empty name) && list_all is_name_byte name
+
+-- the script of a file with this name and text
+pub record IsScriptOf (name text : List ℕ) (script : ScriptText) : Type 0 where
+  pub named : script.name ≡ name
+  pub fit : is_name name ≡ true
+  pub read : header_read text ≡ Ok script.header
+
+-- the script of a file at this path, named by the path's last part, whatever text is read from it
+abbrev pub IsScriptAt : List ℕ → ScriptText → Type 0
+IsScriptAt path script = (text : List ℕ) × IsScriptOf (last_part path) text script
+
+-- the fault of a file with this text, whose header has this one: a keyword that stands twice, with the second's line
+abbrev pub refusal_of : List ℕ → HeaderFault → FileFault
+refusal_of text header_fault.NoBegin = fault.Header header_fault.NoBegin None
+refusal_of text header_fault.NoEnd = fault.Header header_fault.NoEnd None
+refusal_of text (header_fault.BadLine number) = fault.Header (header_fault.BadLine number) None
+refusal_of text (header_fault.Twice keyword) = fault.Header (header_fault.Twice keyword) (second_line text keyword)
+refusal_of text header_fault.NoProvides = fault.Header header_fault.NoProvides None
+refusal_of text header_fault.Memory = fault.Memory
+
+-- why a file with this name and text, which was read, gives no script
+abbrev pub IsNoScript : List ℕ → List ℕ → FileFault → Type 0
+IsNoScript name text (fault.Unread error) = ⊥
+IsNoScript name text fault.Name = is_name name ≡ false
+IsNoScript name text (fault.Header found line) =
+    (is_name name ≡ true) × (header_read text ≡ Err found) × (refusal_of text found ≡ fault.Header found line)
+IsNoScript name text fault.Memory = Unit {0}
+
+-- why the file at this path gives no script, whatever text is read from it
+abbrev pub IsNoScriptAt : List ℕ → FileFault → Type 0
+IsNoScriptAt path (fault.Unread error) = Unit {0}
+IsNoScriptAt path fault.Name = is_name (last_part path) ≡ false
+IsNoScriptAt path (fault.Header found line) =
+    (text : List ℕ) × IsNoScript (last_part path) text (fault.Header found line)
+IsNoScriptAt path fault.Memory = Unit {0}
+
+-- 1 for a name or a header that is refused, 4 for a file that is not read and for want of memory
+abbrev pub file_status : FileFault → ℕ
+file_status (fault.Unread error) = 4
+file_status fault.Name = 1
+file_status (fault.Header found line) = 1
+file_status fault.Memory = 4

@@ -1,0 +1,208 @@
+ghost use Rattle.std.specs.Prelude.{◌≡◌, ◌⊎◌, ◌++◌, true, map, string_bytes, Contains, IfOk, IfErr, OnOk};
+ghost use Rattle.std.specs.List.{list_any};
+ghost use Rattle.std.specs.Io.KnownBytes.{Appends};
+ghost use Rattle.program_edge.specs.Writing.{AppendsPrefix};
+ghost use Rattle.rc_links.specs.Command.{AddsScript, AreScripts, HasNoPlan, IsRefusedRun, PrintsLinks, PrintsPart, PrintsPlan, PrintsPlanPart, is_help, plan_status, wants_usage};
+ghost use Rattle.rc_links.specs.Files.{IsNoScriptAt, file_status};
+ghost use Rattle.rc_links.specs.Links.{plan_text};
+
+use crate::faults::PlanFault;
+use crate::files::{FileFault, script_of};
+use crate::planning::plan;
+use crate::plans::Plan;
+use crate::scripts::Script;
+use init_words::Memory;
+use program_edge::{DEVICE_FAULT, DONE, REFUSED, tell_usage, write_text};
+use std::alloc::Global;
+use std::io::Write;
+use std::rt::Files;
+
+/// What is told of words that are no command line, and where help is asked for.
+pub const USAGE: &str = "rclinks: usage: rclinks FILE..\n";
+
+/// A file that gives no script, and why.
+#[derive(Drop)]
+struct Refusal<'w> {
+    fault: FileFault,
+    path: &'w str,
+}
+
+/// Adds the script of a path.
+fn add_script<R: Files>(
+    rt: &R,
+    alloc: Global,
+    scripts: &mut Vec<Script>,
+    path: &str,
+) -> Result<(), FileFault>
+    ensures added { OnOk result (AddsScript path.now scripts.old.items scripts.new.items) }
+    ensures fault { IfErr result (IsNoScriptAt path.now) }
+{
+    let script = script_of(rt, alloc, path)?;
+    scripts.push(script).map_err(Memory::from)?;
+    Ok(())
+}
+
+/// Reads the scripts of the paths, in order, up to the first that gives none.
+fn scripts_of<'w, R: Files>(
+    rt: &R,
+    alloc: Global,
+    words: &'w [String],
+) -> Result<Vec<Script>, Refusal<'w>>
+    ensures scripts { IfOk result (λ scripts. AreScripts (map string_bytes words.now) scripts.items) }
+    ensures path { IfErr result (λ refusal. Contains (map string_bytes words.now) refusal.path.now) }
+    ensures fault { IfErr result (λ refusal. IsNoScriptAt refusal.path.now refusal.fault) }
+{
+    let mut scripts = Vec::new(alloc);
+    for word in words {
+        let path = word.as_str();
+        if let Err(fault) = add_script(rt, alloc, &mut scripts, path) {
+            return Err(Refusal { fault, path });
+        }
+    }
+    Ok(scripts)
+}
+
+/// Writes why a file gives no script: a line that is always the same, and one that says the reason, the line of the
+/// file that it is about, and what to write in its place.
+fn tell_reason<E: Write>(path: &str, fault: &FileFault, err: &mut E) {
+    let _ = match fault {
+        FileFault::Unread(error) => {
+            writeln!(err, "rclinks: cannot read: {path}\nrclinks: {path}: {error}")
+        }
+        FileFault::Name => writeln!(
+            err,
+            "rclinks: bad header: {path}\nrclinks: {path}: the name of a script has bytes of A-Z a-z 0-9 . _ - alone"
+        ),
+        FileFault::Header(fault, None) => {
+            writeln!(err, "rclinks: bad header: {path}\nrclinks: {path}: {fault}")
+        }
+        FileFault::Header(fault, Some(number)) => writeln!(
+            err,
+            "rclinks: bad header: {path}\nrclinks: {path}: line {number}: {fault}"
+        ),
+        FileFault::Memory => writeln!(err, "rclinks: out of memory: {path}"),
+    };
+}
+
+/// Tells a file that gives no script, and gives the exit status.
+fn tell_file<E: Write>(refusal: &Refusal, err: &mut E) -> u8
+    ensures { result ≡ file_status refusal.now.fault }
+{
+    tell_reason(refusal.path, &refusal.fault, err);
+    refusal.fault.status()
+}
+
+/// Tells a fault of the plan, and gives the exit status.
+fn tell_fault<E: Write>(fault: &PlanFault, err: &mut E) -> u8
+    ensures { result ≡ plan_status fault.now }
+{
+    let _ = writeln!(err, "rclinks: {fault}");
+    match fault {
+        PlanFault::Memory => DEVICE_FAULT,
+        _ => REFUSED,
+    }
+}
+
+/// Writes a text, and gives the exit status.
+fn write_links<W: Write, E: Write>(text: &[u8], out: &mut W, err: &mut E) -> u8
+    ensures statuses { (result ≡ DONE) ⊎ (result ≡ DEVICE_FAULT) }
+    ensures done { result ≡ DONE → Appends (W.contents out.old) (W.contents out.new) text.now }
+    ensures part { AppendsPrefix (W.contents out.old) (W.contents out.new) text.now }
+    ensures silent { result ≡ DONE → err.new ≡ err.old }
+{
+    if write_text(out, text).is_err() || out.flush().is_err() {
+        let _ = writeln!(err, "rclinks: cannot write");
+        return DEVICE_FAULT;
+    }
+    DONE
+}
+
+/// Prints a plan's links, and gives the exit status.
+fn print_links<W: Write, E: Write>(alloc: Global, plan: &Plan, out: &mut W, err: &mut E) -> u8
+    ensures statuses { (result ≡ DONE) ⊎ (result ≡ DEVICE_FAULT) }
+    ensures done { result ≡ DONE → Appends (W.contents out.old) (W.contents out.new) (plan_text plan.now) }
+    ensures part { (out.new ≡ out.old) ⊎ AppendsPrefix (W.contents out.old) (W.contents out.new) (plan_text plan.now) }
+    ensures silent { result ≡ DONE → err.new ≡ err.old }
+{
+    match plan.print(alloc) {
+        Ok(text) => write_links(text.as_slice(), out, err),
+        Err(_) => tell_fault(&PlanFault::Memory, err),
+    }
+}
+
+/// Prints the plan of some scripts, and gives the exit status.
+fn print_plan<W: Write, E: Write>(alloc: Global, scripts: &[Script], out: &mut W, err: &mut E) -> u8
+    ensures statuses { (result ≡ DONE) ⊎ (result ≡ REFUSED) ⊎ (result ≡ DEVICE_FAULT) }
+    ensures done { result ≡ DONE → PrintsPlan scripts.now (W.contents out.old) (W.contents out.new) }
+    ensures refused { result ≡ REFUSED → HasNoPlan scripts.now }
+    ensures quiet { result ≡ REFUSED → out.new ≡ out.old }
+    ensures part { (out.new ≡ out.old) ⊎ PrintsPlanPart scripts.now (W.contents out.old) (W.contents out.new) }
+    ensures silent { result ≡ DONE → err.new ≡ err.old }
+{
+    match plan(alloc, scripts) {
+        Ok(plan) => print_links(alloc, &plan, out, err),
+        Err(fault) => tell_fault(&fault, err),
+    }
+}
+
+/// The word asks for the usage.
+fn is_help(word: &str) -> bool
+    ensures { result ≡ is_help word.now }
+{
+    word == "--help" || word == "-h"
+}
+
+/// One of the words asks for the usage.
+fn asks_help(words: &[String]) -> bool
+    ensures { result ≡ list_any is_help (map string_bytes words.now) }
+{
+    for word in words {
+        if is_help(word.as_str()) {
+            return true;
+        }
+    }
+    false
+}
+
+/// There are no words, or one of them asks for the usage.
+fn wants_usage(words: &[String]) -> bool
+    ensures { result ≡ wants_usage (map string_bytes words.now) }
+{
+    match words {
+        [] => true,
+        [_, ..] => asks_help(words),
+    }
+}
+
+/// Runs rclinks on its words, the paths of init scripts, and gives its exit status: 0 where their links were printed on
+/// `out`, 1 where there are no words or one is `--help` or `-h`, or where a script's name or header or the plan is
+/// refused, 4 where a file can't be read, the output fails or memory runs out. The first fault ends the run and is told
+/// on `err`.
+pub fn run_words<R: Files, W: Write, E: Write>(
+    rt: &R,
+    alloc: Global,
+    words: &[String],
+    out: &mut W,
+    err: &mut E,
+) -> u8
+    ensures statuses { (result ≡ DONE) ⊎ (result ≡ REFUSED) ⊎ (result ≡ DEVICE_FAULT) }
+    ensures usage { wants_usage (map string_bytes words.now) ≡ true → result ≡ REFUSED }
+    // The links of all of the files were written.
+    ensures done { result ≡ DONE →
+        PrintsLinks (map string_bytes words.now) (W.contents out.old) (W.contents out.new) }
+    ensures silent { result ≡ DONE → err.new ≡ err.old }
+    // The usage was wanted, a file was refused, or the scripts have no plan.
+    ensures refused { result ≡ REFUSED → IsRefusedRun (map string_bytes words.now) }
+    ensures quiet { result ≡ REFUSED → out.new ≡ out.old }
+    // Nothing was written, or a prefix of the links, which may be the whole.
+    ensures part { (out.new ≡ out.old)
+        ⊎ PrintsPart (map string_bytes words.now) (W.contents out.old) (W.contents out.new) }
+{
+    if wants_usage(words) {
+        return tell_usage(USAGE, err);
+    }
+    match scripts_of(rt, alloc, words) {
+        Ok(scripts) => print_plan(alloc, scripts.as_slice(), out, err),
+        Err(refusal) => tell_file(&refusal, err),
+    }
+}

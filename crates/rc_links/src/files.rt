@@ -1,0 +1,124 @@
+ghost use Rattle.std.specs.Prelude.{◌≡◌, true, IfOk, IfErr, string_bytes};
+ghost use Rattle.std.specs.List.{list_all};
+ghost use Rattle.rc_links.specs.Files.{IsNoScript, IsNoScriptAt, IsScriptAt, IsScriptOf, file_status, is_name, is_name_byte, last_part, refusal_of};
+
+use crate::scripts::Script;
+use init_words::Memory;
+use lsb_header::{HeaderFault, read, second_line};
+use program_edge::{DEVICE_FAULT, REFUSED, read_file};
+use std::alloc::Global;
+use std::io;
+use std::rt::Files;
+
+/// Why a file gives no script.
+#[derive(Clone, Copy, Debug)]
+pub(crate) enum FileFault {
+    /// It can't be read.
+    Unread(io::Error),
+    /// Its name is none that a link may have.
+    Name,
+    /// Its header is refused; with the number of the line that the fault is about, where the fault itself has none.
+    Header(HeaderFault, Option<usize>),
+    /// Want of memory.
+    Memory,
+}
+
+impl From<Memory> for FileFault {
+    ghost use Rattle.std.specs.Prelude.{◌≡◌};
+    ghost use Rattle.rc_links.specs.declared.files.FileFault.TheVariants as fault;
+
+    ghost from_gives = { λ _ given. given ≡ fault.Memory };
+
+    fn from(_error: Memory) -> FileFault {
+        FileFault::Memory
+    }
+}
+
+impl FileFault {
+    /// The exit status.
+    pub(crate) fn status(&self) -> u8
+        ensures { result ≡ file_status self.now }
+    {
+        match self {
+            FileFault::Unread(_) | FileFault::Memory => DEVICE_FAULT,
+            FileFault::Name | FileFault::Header(_, _) => REFUSED,
+        }
+    }
+}
+
+/// What stands behind the last `/` of a path, or the whole path where it has none.
+fn last_part(path: &[u8]) -> &[u8]
+    ensures { result.now ≡ last_part path.now }
+{
+    let mut start = path.len();
+    while start > 0 && path[start - 1] != b'/' {
+        start -= 1;
+    }
+    &path[start..]
+}
+
+fn is_name_byte(byte: u8) -> bool
+    ensures { result ≡ is_name_byte byte }
+{
+    byte.is_ascii_alphanumeric() || byte == b'.' || byte == b'_' || byte == b'-'
+}
+
+fn has_name_bytes(name: &[u8]) -> bool
+    ensures { result ≡ list_all is_name_byte name.now }
+{
+    name.iter().all(|byte| is_name_byte(*byte))
+}
+
+/// A name that a link may have: one or more of `A-Z a-z 0-9 . _ -`.
+fn is_name(name: &[u8]) -> bool
+    ensures { result ≡ is_name name.now }
+{
+    !name.is_empty() && has_name_bytes(name)
+}
+
+/// A string of a name that a link may have.
+fn name_of(alloc: Global, name: &[u8]) -> Result<String, Memory>
+    requires { is_name name.now ≡ true }
+    ensures { IfOk result (λ text. string_bytes text ≡ name.now) }
+{
+    match String::from_utf8(Vec::from_slice(alloc, name)?) {
+        Ok(text) => Ok(text),
+        Err(_) => unreachable!(),
+    }
+}
+
+/// The fault of a file with this text, whose header has this one.
+fn refusal_of(text: &[u8], fault: HeaderFault) -> FileFault
+    ensures { result ≡ refusal_of text.now fault }
+{
+    match fault {
+        HeaderFault::Memory => FileFault::Memory,
+        HeaderFault::Twice(keyword) => FileFault::Header(fault, second_line(text, keyword)),
+        _ => FileFault::Header(fault, None),
+    }
+}
+
+/// The script of a file with this name and text.
+fn script_in(alloc: Global, name: &[u8], text: &[u8]) -> Result<Script, FileFault>
+    ensures script { IfOk result (IsScriptOf name.now text.now) }
+    ensures fault { IfErr result (IsNoScript name.now text.now) }
+{
+    if !is_name(name) {
+        return Err(FileFault::Name);
+    }
+    match read(alloc, text) {
+        Ok(header) => Ok(Script::new(name_of(alloc, name)?, header)),
+        Err(fault) => Err(refusal_of(text, fault)),
+    }
+}
+
+/// Reads the script of a path.
+pub(crate) fn script_of<R: Files>(rt: &R, alloc: Global, path: &str) -> Result<Script, FileFault>
+    ensures script { IfOk result (IsScriptAt path.now) }
+    ensures fault { IfErr result (IsNoScriptAt path.now) }
+{
+    match read_file(rt, alloc, path) {
+        Ok(text) => script_in(alloc, last_part(path.as_bytes()), text.as_slice()),
+        Err(error) => Err(FileFault::Unread(error)),
+    }
+}

@@ -1,0 +1,104 @@
+ghost use Rattle.std.specs.Prelude.{string_bytes, ◌≡◌, ◌++◌, [], OnOk, IfOk, length, map};
+ghost use Rattle.std.specs.List.{cons_option};
+ghost use Rattle.std.specs.Option.{option_map};
+ghost use Rattle.link_numbers.specs.Numbering.{InRange};
+ghost use Rattle.rc_links.specs.Scripts.{need, named, needs_of};
+ghost use Rattle.rc_links.specs.Tables.{HasPlaces, needs_by, place_in};
+
+use crate::scripts::Script;
+use crate::tables::{Table, place_at};
+use init_words::Memory;
+use std::alloc::Allocator;
+
+/// What scripts are put in order for.
+#[derive(Clone, Copy, PartialEq, Eq)]
+pub(crate) enum Phase {
+    Start,
+    Stop,
+}
+
+/// Who needs whom, where the script at this place names another: to start, it the other; to stop, the other it.
+fn need(phase: Phase, place: usize, other: usize) -> (usize, usize)
+    ensures { result ≡ need phase place other }
+{
+    match phase {
+        Phase::Start => (place, other),
+        Phase::Stop => (other, place),
+    }
+}
+
+/// Adds who needs whom by one name, if a script provides it.
+fn add_name<A: Allocator>(
+    edges: &mut Vec<(usize, usize), A>,
+    phase: Phase,
+    place: usize,
+    table: &Table<'_, A>,
+    name: &[u8],
+) -> Result<(), Memory>
+    ensures { OnOk result (edges.new.items ≡
+        edges.old.items ++ cons_option (option_map (need phase place) (place_in table.now name.now)) []) }
+{
+    if let Some(other) = place_at(table, name) {
+        edges.push(need(phase, place, other))?;
+    }
+    Ok(())
+}
+
+/// Adds who needs whom, where the script at this place gives these names.
+fn add_names<A: Allocator, B: Allocator>(
+    edges: &mut Vec<(usize, usize), A>,
+    phase: Phase,
+    place: usize,
+    table: &Table<'_, A>,
+    names: &[String<B>],
+) -> Result<(), Memory>
+    ensures { OnOk result (edges.new.items ≡
+        edges.old.items ++ needs_by phase place table.now (map string_bytes names.now)) }
+{
+    for name in names {
+        add_name(edges, phase, place, table, name.as_bytes())?;
+    }
+    Ok(())
+}
+
+/// Adds who needs whom by the names of a script's header.
+fn add_script<A: Allocator>(
+    edges: &mut Vec<(usize, usize), A>,
+    phase: Phase,
+    place: usize,
+    script: &Script<A>,
+    table: &Table<'_, A>,
+) -> Result<(), Memory>
+    ensures { OnOk result (edges.new.items ≡
+        edges.old.items ++ needs_by phase place table.now (named phase script.now.header)) }
+{
+    let header = script.header();
+    match phase {
+        Phase::Start => {
+            add_names(edges, phase, place, table, header.required_start())?;
+            add_names(edges, phase, place, table, header.should_start())
+        }
+        Phase::Stop => {
+            add_names(edges, phase, place, table, header.required_stop())?;
+            add_names(edges, phase, place, table, header.should_stop())
+        }
+    }
+}
+
+/// Who needs whom, of all scripts.
+pub(crate) fn needs<A: Allocator + Copy>(
+    alloc: A,
+    phase: Phase,
+    scripts: &[Script<A>],
+    table: &Table<'_, A>,
+) -> Result<Vec<(usize, usize), A>, Memory>
+    requires { HasPlaces scripts.now table.now }
+    ensures needs { IfOk result (λ edges. edges.items ≡ needs_of phase scripts.now) }
+    ensures range { IfOk result (λ edges. InRange (length scripts.now) edges.items) }
+{
+    let mut edges = Vec::new(alloc);
+    for place in 0..scripts.len() {
+        add_script(&mut edges, phase, place, &scripts[place], table)?;
+    }
+    Ok(edges)
+}
