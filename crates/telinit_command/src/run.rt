@@ -1,4 +1,5 @@
 ghost use Rattle.std.specs.Prelude.{◌≡◌, ◌⊎◌, map, string_bytes, IsSome, IsNone};
+ghost use Rattle.program_edge.specs.Writing.{AppendsPrefix};
 ghost use Rattle.telinit_command.specs.CommandLine.{block_said};
 
 use crate::channel::{ChannelFault, append_block};
@@ -34,6 +35,7 @@ pub fn run_words<R: Files, W: Write, E: Write>(
     ensures usage { result ≡ REFUSED → IsNone (block_said (map string_bytes words.items)) }
     ensures quiet { _out.new ≡ _out.old }
     ensures silent { result ≡ DONE → err.new ≡ err.old }
+    ensures told { result ≡ REFUSED → AppendsPrefix (E.contents err.old) (E.contents err.new) USAGE.now }
 {
     let words = match read_words(alloc, words) {
         Ok(words) => words,
