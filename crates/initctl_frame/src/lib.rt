@@ -15,6 +15,3 @@ pub use pieces::read_pieces;
 pub use requests::{Cause, Got, Request};
 pub use signs::Sign;
 pub use stream::Blocks;
-
-#[cfg(test)]
-mod tests;

@@ -9,8 +9,6 @@ mod fields;
 mod kept;
 mod reading;
 mod tables;
-#[cfg(test)]
-mod tests;
 mod writing;
 mod written;
 

@@ -1,5 +1,5 @@
 -- What the writes of a text leave, one after the other.
-use Rattle.std.proofs.Common.{ℕ, ◌+◌, ◌<◌, List, Option, length, take, drop, arith, sym, subst, take-append-drop, length-drop}
+use Rattle.std.proofs.Common.{◌++◌, ◌∙◌, ap, [], append-nil, append_assoc, Result, Ok, Err, OnOk, OnErr, ℕ, ◌+◌, ◌<◌, List, Option, length, take, drop, arith, sym, subst, take-append-drop, length-drop}
 use Rattle.std.proofs.Math.Seq.{take-add}
 use Rattle.std.proofs.KnownBytes.{Appends-trans}
 use Rattle.std.specs.Io.KnownBytes.{Appends}
@@ -21,3 +21,25 @@ AppendsFront-take old new text done below written =
 -- a prefix that isn't the whole is a prefix
 pub AppendsFront-prefix : (old new : Option (List ℕ)) (text : List ℕ) → AppendsFront old new text → AppendsPrefix old new text
 AppendsFront-prefix old new text (front, rest, joined, written, some) = (front, rest, joined, written)
+
+-- the whole is a prefix
+pub AppendsPrefix-whole : (old new : Option (List ℕ)) (text : List ℕ) → Appends old new text → AppendsPrefix old new text
+AppendsPrefix-whole old new text written = (text, [], append-nil text, written)
+
+-- a prefix of a text's first part is a prefix of the text
+pub AppendsPrefix-first : (old new : Option (List ℕ)) (first rest : List ℕ) → AppendsPrefix old new first
+    → AppendsPrefix old new (first ++ rest)
+AppendsPrefix-first old new first rest (front, more, joined, written) =
+    (front, more ++ rest, sym (append_assoc front more rest) ∙ ap (λ text. text ++ rest) joined, written)
+
+-- a prefix of the rest behind the whole first part
+pub AppendsPrefix-then : (old mid new : Option (List ℕ)) (first rest : List ℕ) → Appends old mid first → AppendsPrefix mid new rest
+    → AppendsPrefix old new (first ++ rest)
+AppendsPrefix-then old mid new first rest whole (front, more, joined, written) =
+    (first ++ front, more, append_assoc first front more ∙ ap (λ text. first ++ text) joined, Appends-trans old mid new first front whole written)
+
+-- what a write that ended so has left
+pub AppendsPrefix-of_write : {T E : Type 0} (ended : Result T E) (old new : Option (List ℕ)) (text : List ℕ)
+    → OnOk ended (Appends old new text) → OnErr ended (AppendsFront old new text) → AppendsPrefix old new text
+AppendsPrefix-of_write (Ok value) old new text ok err = AppendsPrefix-whole old new text ok
+AppendsPrefix-of_write (Err error) old new text ok err = AppendsFront-prefix old new text err

@@ -1,12 +1,17 @@
 ghost use Rattle.std.specs.Prelude.{◌≡◌, ◌≢◌};
 ghost use Rattle.std.specs.IoError.{error_kind};
-ghost use Rattle.program_edge.specs.Arguments.{only_byte};
+ghost use Rattle.program_edge.specs.Arguments.{no_memory_text, only_byte};
+ghost use Rattle.program_edge.specs.Writing.{AppendsPrefix};
 
 use crate::statuses::{DEVICE_FAULT, REFUSED};
+use crate::writing::write_text;
 use std::alloc::Global;
 use std::env::Env;
 use std::io::{ErrorKind, Write};
 use std::{env, io};
+
+/// What is told behind the program's name where memory ran out.
+const NO_MEMORY: &str = ": out of memory: nothing was written; free some memory and ask again\n";
 
 /// The words behind the program's name. A word that is no UTF-8 is an error, `InvalidData`.
 pub fn words<R: Env + AllocGlobal>(rt: &R, alloc: Global) -> io::Result<Vec<String>> {
@@ -35,10 +40,12 @@ pub fn unread_status(error: &io::Error) -> u8
     }
 }
 
-/// Says why the words couldn't be read, want of memory or with the usage, and gives `unread_status`.
+/// Tells why the words couldn't be read, want of memory or by the usage, and gives `unread_status`.
 pub fn tell_unread<E: Write>(name: &str, usage: &str, error: &io::Error, err: &mut E) -> u8
-    ensures memory { error_kind error.now ≡ ErrorKind.OutOfMemory → result ≡ DEVICE_FAULT }
-    ensures text { error_kind error.now ≢ ErrorKind.OutOfMemory → result ≡ REFUSED }
+    ensures memory { error_kind error.now ≡ ErrorKind.OutOfMemory → (result ≡ DEVICE_FAULT)
+        × AppendsPrefix (E.contents err.old) (E.contents err.new) (no_memory_text name.now) }
+    ensures text { error_kind error.now ≢ ErrorKind.OutOfMemory → (result ≡ REFUSED)
+        × AppendsPrefix (E.contents err.old) (E.contents err.new) usage.now }
 {
     if unread_status(error) == DEVICE_FAULT {
         tell_no_memory(name, err)
@@ -47,21 +54,22 @@ pub fn tell_unread<E: Write>(name: &str, usage: &str, error: &io::Error, err: &m
     }
 }
 
-/// Writes the usage, and gives the status of words that are no command line.
+/// Tells the usage, as much of it as `err` takes, and gives the status of words that are no command line.
 pub fn tell_usage<E: Write>(usage: &str, err: &mut E) -> u8
-    ensures { result ≡ REFUSED }
+    ensures status { result ≡ REFUSED }
+    ensures told { AppendsPrefix (E.contents err.old) (E.contents err.new) usage.now }
 {
-    let _ = write!(err, "{usage}");
+    let _ = write_text(err, usage.as_bytes());
     REFUSED
 }
 
-/// Says that memory ran out before anything was done, and gives the status.
+/// Tells that memory ran out before anything was written, as much of it as `err` takes, and gives the status.
 pub fn tell_no_memory<E: Write>(name: &str, err: &mut E) -> u8
-    ensures { result ≡ DEVICE_FAULT }
+    ensures status { result ≡ DEVICE_FAULT }
+    ensures told { AppendsPrefix (E.contents err.old) (E.contents err.new) (no_memory_text name.now) }
 {
-    let _ = writeln!(
-        err,
-        "{name}: out of memory: nothing was written; free some memory and ask again"
-    );
+    if let Ok(()) = write_text(err, name.as_bytes()) {
+        let _ = write_text(err, NO_MEMORY.as_bytes());
+    }
     DEVICE_FAULT
 }

@@ -1,0 +1,258 @@
+//! Command lines of telinit(8): their exit statuses, what is told, and what is appended.
+
+use program_edge::{tell_unread, unread_status};
+use std::alloc::{AllocError, Global};
+use std::io::{ErrorKind, sink};
+use std::process::{Abort, Command, Processes};
+use std::rt::Files;
+use std::test::Fail;
+use std::{fs, io};
+use telinit_command::{USAGE, WordFault, Words, frame_of, read_words, run_words};
+
+const USAGE_TOLD: &str = "usage: telinit [-t SEC] [--initctl P] CHAR
+  SEC   seconds between the two signals that stop a child, 0 to 3600; 5 where it is left out
+  P     the file that the request is appended to; initctl where it is left out
+  CHAR  0 to 9, S or s: go to that runlevel
+        A, B, C, a, b or c: start the ondemand entries of that letter
+        Q or q: read inittab again
+        U or u: execute init anew, and keep its state
+";
+
+fn add_words(words: &mut Vec<String>, alloc: Global, line: &[&str]) -> Result<(), AllocError> {
+    for word in line {
+        words.push(String::from_str(alloc, word)?)?;
+    }
+    Ok(())
+}
+
+/// The words of a line.
+fn words_of(alloc: Global, line: &[&str]) -> Result<Vec<String>, AllocError> {
+    let mut words = Vec::new(alloc);
+    add_words(&mut words, alloc, line)?;
+    Ok(words)
+}
+
+/// The line ends with this status, and this is told.
+fn ends(
+    rt: &(impl Files + Abort),
+    alloc: Global,
+    line: &[&str],
+    status: u8,
+    told: &str,
+) -> Result<(), Fail> {
+    let mut err: Vec<u8> = Vec::new(alloc);
+    let ended = run_words(rt, alloc, words_of(alloc, line)?, &mut sink(), &mut err);
+    assert!(rt;
+        ended == status && err.as_slice() == told.as_bytes(),
+        "at {line:?}"
+    );
+    Ok(())
+}
+
+const USAGE_FAULTS: &[&[&str]] = &[
+    &["x"],
+    &["33"],
+    &["-t", "3601", "q"],
+    &["-t", "-1", "q"],
+    &["-t", "+5", "q"],
+    &["-t", "five", "q"],
+    &["-t", "q"],
+    &["q", "q"],
+    &[""],
+    &["--help"],
+    &["-h"],
+    &["help"],
+    &["--version"],
+    &["-e", "q"],
+    &["-t", "1", "-t", "2", "q"],
+    &["é"],
+    &[],
+];
+
+#[test]
+fn usage_faults_write_nothing(rt: HostRuntime) -> Result<(), Fail> {
+    for line in USAGE_FAULTS {
+        ends(&rt, rt.alloc(), line, 1, USAGE_TOLD)?;
+    }
+    assert!(rt; fs::metadata(&rt, "initctl").is_err());
+    Ok(())
+}
+
+/// The first sixteen bytes of `telinit -t 0 q`, and of `telinit q`.
+const AT_ONCE: [u8; 16] = [
+    0x69, 0x19, 0x09, 0x03, 1, 0, 0, 0, 0x71, 0, 0, 0, 0, 0, 0, 0,
+];
+
+const BY_DEFAULT: [u8; 16] = [
+    0x69, 0x19, 0x09, 0x03, 1, 0, 0, 0, 0x71, 0, 0, 0, 5, 0, 0, 0,
+];
+
+const ZEROS: [u8; 368] = [0; 368];
+
+/// The bytes are these sixteen and 368 zeros.
+fn is_block(bytes: &[u8], ints: [u8; 16]) -> bool {
+    bytes.len() == 384 && bytes[..16] == ints[..] && bytes[16..] == ZEROS[..]
+}
+
+/// The bytes are these two blocks.
+fn are_blocks(bytes: &[u8], first: [u8; 16], second: [u8; 16]) -> bool {
+    match bytes.split_at_checked(384) {
+        Some((front, rest)) => is_block(front, first) && is_block(rest, second),
+        None => false,
+    }
+}
+
+#[test]
+fn blocks_are_appended(rt: HostRuntime) -> Result<(), Fail> {
+    let _ = fs::remove_file(&rt, "two");
+    ends(
+        &rt,
+        rt.alloc(),
+        &["-t", "0", "--initctl", "two", "q"],
+        0,
+        "",
+    )?;
+    assert!(rt; fs::metadata(&rt, "two")?.len() == 384);
+    ends(&rt, rt.alloc(), &["--initctl=two", "q"], 0, "")?;
+    let bytes = fs::read(&rt, "two")?;
+    fs::remove_file(&rt, "two")?;
+    assert!(rt; are_blocks(bytes.as_slice(), AT_ONCE, BY_DEFAULT));
+    Ok(())
+}
+
+/// Lines whose channel can't be appended to, and what is told.
+const WRITE_FAULTS: &[(&[&str], &str)] = &[
+    (
+        &["--initctl", ".", "q"],
+        "telinit: cannot append to .: it is no plain file
+telinit: see that it is a file that you may write, in a folder that is there, with room on its disk
+",
+    ),
+    (
+        &["--initctl", "/dev/null", "q"],
+        "telinit: cannot append to /dev/null: it is no plain file
+telinit: see that it is a file that you may write, in a folder that is there, with room on its disk
+",
+    ),
+    (
+        &["--initctl", "fifo", "q"],
+        "telinit: cannot append to fifo: it is no plain file
+telinit: see that it is a file that you may write, in a folder that is there, with room on its disk
+",
+    ),
+    (
+        &["--initctl", "absent/initctl", "q"],
+        "telinit: cannot append to absent/initctl: No such file or directory (os error 2)
+telinit: see that it is a file that you may write, in a folder that is there, with room on its disk
+",
+    ),
+];
+
+/// Makes a FIFO, which nobody reads.
+fn make_fifo(rt: &impl Processes, alloc: Global, path: &str) -> io::Result<()> {
+    Command::new(alloc, "mkfifo")?.arg(path)?.status(rt)?;
+    Ok(())
+}
+
+#[test]
+fn write_faults_are_told(rt: HostRuntime) -> Result<(), Fail> {
+    let _ = fs::remove_file(&rt, "fifo");
+    make_fifo(&rt, rt.alloc(), "fifo")?;
+    for (line, told) in WRITE_FAULTS {
+        ends(&rt, rt.alloc(), line, 4, told)?;
+    }
+    assert!(rt; !fs::metadata(&rt, "fifo")?.is_file());
+    Ok(())
+}
+
+/// Why the words can't be had, and the status and the text of it.
+const UNREAD: &[(ErrorKind, u8, &str)] = &[
+    (
+        ErrorKind::OutOfMemory,
+        4,
+        "telinit: out of memory: nothing was written; free some memory and ask again\n",
+    ),
+    (ErrorKind::InvalidData, 1, USAGE_TOLD),
+];
+
+fn is_unread(rt: &impl Abort, alloc: Global, kind: ErrorKind, status: u8, told: &str) {
+    let error = io::Error::from(kind);
+    let mut err: Vec<u8> = Vec::new(alloc);
+    let ended = tell_unread("telinit", USAGE, &error, &mut err);
+    assert!(rt; ended == status && err.as_slice() == told.as_bytes());
+    assert!(rt; unread_status(&error) == status);
+}
+
+#[test]
+fn unread_words_are_told(rt: HostRuntime) {
+    for (kind, status, told) in UNREAD {
+        is_unread(&rt, rt.alloc(), *kind, *status, told);
+    }
+}
+
+/// A line, and the seconds, the path and the sign that are read of it.
+const LINES: &[(&[&str], u16, &str, &str)] = &[
+    (&["q"], 5, "initctl", "q"),
+    (&["-t", "0", "3"], 0, "initctl", "3"),
+    (&["-t3600", "S"], 3600, "initctl", "S"),
+    (&["33", "--initctl", "p", "-t", "0007"], 7, "p", "33"),
+];
+
+fn is_read(rt: &impl Abort, words: &Words, secs: u16, path: &str, sign: &str) {
+    assert!(rt; words.secs == secs && words.path.as_str() == path && words.sign.as_str() == sign);
+}
+
+fn line_is_read(
+    rt: &impl Abort,
+    alloc: Global,
+    line: &[&str],
+    secs: u16,
+    path: &str,
+    sign: &str,
+) -> Result<(), Fail> {
+    let words = read_words(alloc, words_of(alloc, line)?)?;
+    is_read(rt, &words, secs, path, sign);
+    Ok(())
+}
+
+fn line_is_refused(rt: &impl Abort, alloc: Global, line: &[&str]) -> Result<(), Fail> {
+    let fault = read_words(alloc, words_of(alloc, line)?).err();
+    assert!(rt; fault == Some(WordFault::Usage));
+    Ok(())
+}
+
+#[test]
+fn words_are_read(rt: HostRuntime) -> Result<(), Fail> {
+    for (line, secs, path, sign) in LINES {
+        line_is_read(&rt, rt.alloc(), line, *secs, path, sign)?;
+    }
+    line_is_refused(&rt, rt.alloc(), &["-t", "3601", "q"])
+}
+
+const SIGNS: &[(&str, bool)] = &[
+    ("q", true),
+    ("Q", true),
+    ("0", true),
+    ("a", true),
+    ("d", false),
+    ("", false),
+    ("qq", false),
+];
+
+fn is_sign(rt: &impl Abort, alloc: Global, sign: &str, is_one: bool) -> Result<(), Fail> {
+    let words = Words {
+        secs: 5,
+        path: String::new(alloc),
+        sign: String::from_str(alloc, sign)?,
+    };
+    assert!(rt; frame_of(&words).is_some() == is_one, "at {sign:?}");
+    Ok(())
+}
+
+#[test]
+fn signs_are_one_character(rt: HostRuntime) -> Result<(), Fail> {
+    for (sign, is_one) in SIGNS {
+        is_sign(&rt, rt.alloc(), sign, *is_one)?;
+    }
+    Ok(())
+}

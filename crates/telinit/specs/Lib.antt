@@ -1,4 +1,0 @@
-pub mod Channels
-pub mod CommandLine
-pub mod Frames
-pub mod Seconds

@@ -1,0 +1,54 @@
+-- The command line `telinit [-t SEC] [--initctl P] CHAR` (telinit(8)). What it takes is said by clap's own words; they are
+-- opaque, since a goal that sees them sees the whole parser.
+use Rattle.std.specs.Prelude.{ℕ, true, if◌then◌else◌, List, [], ◌∷◌, codes, Option, Some, None, unwrap_or, option_and_then, option_map, length, ◌==◌}
+use Rattle.clap.specs.Words.{App, Rule, Text, fault_of, first_of, matches_of, new_app, new_rule, with_rule}
+use Rattle.telinit_command.specs.Frames.{frame_for}
+use Rattle.telinit_command.specs.Seconds.{seconds_read}
+
+-- `-t SEC`, 5 where it is left out
+unfoldable pub seconds_rule : Rule
+seconds_rule = record (new_rule (codes "secs")) { short = Some 116; defaults = codes "5" ∷ [] }
+
+-- `--initctl P`, `initctl` where it is left out
+unfoldable pub path_rule : Rule
+path_rule = record (new_rule (codes "initctl")) { long = Some (codes "initctl"); defaults = codes "initctl" ∷ [] }
+
+-- CHAR, which has to be there
+unfoldable pub sign_rule : Rule
+sign_rule = record (new_rule (codes "sign")) { required = true }
+
+-- the words have no program's name in front
+unfoldable pub command_line : App
+unfolding seconds_rule path_rule sign_rule
+command_line =
+    let named = new_app (codes "telinit") in
+    let unnamed = record named { top = record named.top { no_binary_name = true } } in
+    with_rule (with_rule (with_rule unnamed seconds_rule) path_rule) sign_rule
+
+-- the value that the words give an argument, or its default
+abbrev pub value_in : List Text → Text → Text
+value_in words id = unwrap_or (first_of id (matches_of command_line words)) []
+
+-- seconds, path and sign
+pub record Said : Type 0 where
+  pub secs : ℕ
+  pub path : Text
+  pub sign : Text
+
+-- what words say that the command line takes: their values or the defaults, where the seconds are 0 to 3,600
+abbrev pub said_by : List Text → Option Said
+said_by words =
+    option_map (λ secs. record {
+      secs = secs;
+      path = value_in words (codes "initctl");
+      sign = value_in words (codes "sign");
+    })
+    (seconds_read (value_in words (codes "secs")))
+
+-- what words say; where the command line has a fault in them, nothing
+abbrev pub read_of : List Text → Option Said
+read_of words = if length (fault_of command_line words) == 0 then said_by words else None
+
+-- the request block that words ask for
+abbrev pub block_said : List Text → Option (List ℕ)
+block_said words = option_and_then (λ said. frame_for said.sign said.secs) (read_of words)

@@ -1,0 +1,14 @@
+ghost use Rattle.std.specs.Prelude.{◌≡◌, string_bytes};
+ghost use Rattle.telinit_command.specs.Frames.{frame_for};
+
+use crate::command::Words;
+use initctl_frame::{BLOCK, Request, Sign, encode};
+use program_edge::only_byte;
+
+/// The request block of the words (initreq.h): none where `sign` isn't one character of telinit(8).
+pub fn frame_of(words: &Words) -> Option<[u8; BLOCK]>
+    ensures { result ≡ frame_for (string_bytes words.now.sign) words.now.secs }
+{
+    let sign = Sign::read(only_byte(words.sign.as_str())?)?;
+    Some(encode(&Request::Runlvl(sign, words.secs)))
+}

@@ -1,0 +1,12 @@
+//! What telinit does: it reads a command line (telinit(8)) and appends one request block (initreq.h) to init's channel.
+#![tactic(auto)]
+
+mod channel;
+mod command;
+mod frame;
+mod run;
+mod seconds;
+
+pub use command::{WordFault, Words, read_words};
+pub use frame::frame_of;
+pub use run::{USAGE, run_words};
