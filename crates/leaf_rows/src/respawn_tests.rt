@@ -1,6 +1,6 @@
 //! Starts of one entry in time, and what the limit of 10 in 120 seconds answers (init(8)).
 
-use respawn_limit::{GREATEST_READING, Limiter, May};
+use respawn_limit::{CLOCK_LIMIT, Limiter, May};
 use std::process::Abort;
 use std::test::Fail;
 
@@ -13,7 +13,7 @@ const AND_AT_TWO: &[u64] = &[0, 60, 60, 60, 60, 60, 60, 60, 60, 60, 120];
 
 /// Notes a start, as a caller that asks first.
 fn note_start(rt: &impl Abort, limiter: &mut Limiter, time: u64) {
-    assert!(rt; time <= GREATEST_READING && limiter.starts().iter().all(|start| *start <= time));
+    assert!(rt; time <= CLOCK_LIMIT && limiter.starts().iter().all(|start| *start <= time));
     assert!(rt; limiter.may(time) == May::Yes);
     limiter.note(time);
 }
@@ -28,7 +28,7 @@ fn limiter_after(rt: &impl Abort, times: &[u64]) -> Limiter {
 
 /// The limiter answers this now, and so does one made of its parts.
 fn answers(rt: &impl Abort, limiter: &Limiter, now: u64, may: May, held: bool) {
-    assert!(rt; now <= GREATEST_READING);
+    assert!(rt; now <= CLOCK_LIMIT);
     let again = Limiter::of(limiter.starts(), limiter.held_until());
     assert!(rt; again == *limiter);
     assert!(rt; again.may(now) == may && again.held(now) == held);

@@ -3,7 +3,7 @@ use Rattle.std.specs.Prelude.{ℕ, Bool, ◌&&◌, not, ◌==◌, if◌then◌el
 use Rattle.std.specs.List.{list_all}
 use Rattle.std.specs.Char.{is_ascii_digit}
 use Rattle.std.specs.Str.Parse.{digits_value}
-use Rattle.telinit_command.specs.declared.seconds.TheConstants.{SECONDS_LIMIT}
+use Rattle.init_words.specs.declared.limits.TheConstants.{GRACE_LIMIT}
 
 -- a word of decimal digits
 abbrev pub is_numeral : List ℕ → Bool
@@ -13,4 +13,4 @@ is_numeral word = not (length word == 0) && list_all is_ascii_digit word
 abbrev pub seconds_read : List ℕ → Option ℕ
 seconds_read word =
     let secs = digits_value 10 word in
-    if is_numeral word && nat_le secs SECONDS_LIMIT then Some secs else None
+    if is_numeral word && nat_le secs GRACE_LIMIT then Some secs else None

@@ -3,8 +3,7 @@ ghost use Rattle.std.specs.List.{list_all};
 ghost use Rattle.std.specs.Char.{is_ascii_digit};
 ghost use Rattle.telinit_command.specs.Seconds.{seconds_read};
 
-/// The longest time between the two signals that stop a child, in seconds.
-pub const SECONDS_LIMIT: u16 = 3600;
+use init_words::GRACE_LIMIT;
 
 /// The seconds of a word: a decimal number of 0 to 3,600, without a sign.
 pub fn read_seconds(word: &str) -> Option<u16>
@@ -16,7 +15,7 @@ pub fn read_seconds(word: &str) -> Option<u16>
     let Ok(secs) = word.parse::<u16>() else {
         return None;
     };
-    if secs <= SECONDS_LIMIT {
+    if secs <= GRACE_LIMIT {
         Some(secs)
     } else {
         None
