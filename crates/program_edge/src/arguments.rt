@@ -1,0 +1,67 @@
+ghost use Rattle.std.specs.Prelude.{◌≡◌, ◌≢◌};
+ghost use Rattle.std.specs.IoError.{error_kind};
+ghost use Rattle.program_edge.specs.Arguments.{only_byte};
+
+use crate::statuses::{DEVICE_FAULT, REFUSED};
+use std::alloc::Global;
+use std::env::Env;
+use std::io::{ErrorKind, Write};
+use std::{env, io};
+
+/// The words behind the program's name. A word that is no UTF-8 is an error, `InvalidData`.
+pub fn words<R: Env + AllocGlobal>(rt: &R, alloc: Global) -> io::Result<Vec<String>> {
+    Ok(env::args(rt)?.skip(1).collect(alloc)?)
+}
+
+/// The byte of a word that is one byte long.
+pub fn only_byte(word: &str) -> Option<u8>
+    ensures { result ≡ only_byte word.now }
+{
+    match word.as_bytes() {
+        [byte] => Some(*byte),
+        _ => None,
+    }
+}
+
+/// The exit status of a program whose words couldn't be read: 4 for want of memory, 1 for a word that is no text.
+pub fn unread_status(error: &io::Error) -> u8
+    ensures memory { error_kind error.now ≡ ErrorKind.OutOfMemory → result ≡ DEVICE_FAULT }
+    ensures text { error_kind error.now ≢ ErrorKind.OutOfMemory → result ≡ REFUSED }
+{
+    if error.kind() == ErrorKind::OutOfMemory {
+        DEVICE_FAULT
+    } else {
+        REFUSED
+    }
+}
+
+/// Says why the words couldn't be read, want of memory or with the usage, and gives `unread_status`.
+pub fn tell_unread<E: Write>(name: &str, usage: &str, error: &io::Error, err: &mut E) -> u8
+    ensures memory { error_kind error.now ≡ ErrorKind.OutOfMemory → result ≡ DEVICE_FAULT }
+    ensures text { error_kind error.now ≢ ErrorKind.OutOfMemory → result ≡ REFUSED }
+{
+    if unread_status(error) == DEVICE_FAULT {
+        tell_no_memory(name, err)
+    } else {
+        tell_usage(usage, err)
+    }
+}
+
+/// Writes the usage, and gives the status of words that are no command line.
+pub fn tell_usage<E: Write>(usage: &str, err: &mut E) -> u8
+    ensures { result ≡ REFUSED }
+{
+    let _ = write!(err, "{usage}");
+    REFUSED
+}
+
+/// Says that memory ran out before anything was done, and gives the status.
+pub fn tell_no_memory<E: Write>(name: &str, err: &mut E) -> u8
+    ensures { result ≡ DEVICE_FAULT }
+{
+    let _ = writeln!(
+        err,
+        "{name}: out of memory: nothing was written; free some memory and ask again"
+    );
+    DEVICE_FAULT
+}

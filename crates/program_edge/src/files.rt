@@ -1,0 +1,35 @@
+ghost use Rattle.std.specs.Prelude.{◌≡◌, IfOk, IfSome, OnOk};
+ghost use Rattle.std.specs.Io.KnownBytes.{IsAtEnd};
+
+use std::alloc::Global;
+use std::fs::File;
+use std::io;
+use std::io::{ErrorKind, Read};
+use std::rt::Files;
+
+/// The most reads by which a reader is read to its end.
+pub const READS_LIMIT: u32 = 1_000_000;
+
+/// All bytes that a reader has left. A reader that isn't at its end after 1,000,000 reads of up to 8,192 bytes is an
+/// error, `FileTooLarge`.
+pub fn read_all<R: Read>(alloc: Global, from: &mut R) -> io::Result<Vec<u8>>
+    ensures whole { IfOk result (λ bytes. IfSome (R.remaining from.old) (λ left. bytes.items ≡ left)) }
+    ensures end { OnOk result (IsAtEnd (R.remaining from.new)) }
+{
+    let mut bytes = Vec::new(alloc);
+    let mut part = [0; 8192];
+    for _ in 0..READS_LIMIT {
+        let taken = from.read(&mut part)?;
+        if taken == 0 {
+            return Ok(bytes);
+        }
+        bytes.extend_from_slice(&part[..taken])?;
+    }
+    Err(io::Error::from(ErrorKind::FileTooLarge))
+}
+
+/// All bytes of a file, as `read_all` reads them.
+pub fn read_file<R: Files>(rt: &R, alloc: Global, path: &str) -> io::Result<Vec<u8>> {
+    let mut file = File::open(rt, path)?;
+    read_all(alloc, &mut file)
+}
