@@ -1,15 +1,20 @@
-//! The worked traces of init, as tables: an inittab(5), a script of what the system did, and the trace.
+//! The worked traces of init as tables, an inittab(5), a script of what the system did, and the trace; and the command
+//! line, the writers and the parts below them.
 #![tactic(auto)]
 
 #[cfg(test)]
-mod limits;
+mod edge_tests;
 #[cfg(test)]
-mod prints;
+mod large_tests;
 #[cfg(test)]
-mod programs;
+mod line_tests;
 #[cfg(test)]
-mod rows;
+mod run_tests;
+#[cfg(test)]
+mod side_tests;
 #[cfg(test)]
 mod texts;
 #[cfg(test)]
-mod writers;
+mod word_tests;
+#[cfg(test)]
+mod writer_tests;

@@ -3,28 +3,38 @@ use std::alloc::{AllocError, Global};
 /// A text of lines from one in which ` / ` stands for line ends.
 pub(crate) fn lines(alloc: Global, row: &str) -> Result<String, AllocError> {
     let mut text = String::new(alloc);
-    if row.is_empty() {
-        return Ok(text);
-    }
-    for line in row.split(" / ") {
-        text.push_str(line)?;
-        text.push('\n')?;
+    if !row.is_empty() {
+        add_lines(&mut text, row)?;
     }
     Ok(text)
 }
 
-/// A row of so many parts, each like this one, behind a head and before a tail.
-pub(crate) fn repeated(
-    alloc: Global,
-    head: &str,
-    part: &str,
-    times: u32,
-    tail: &str,
-) -> Result<String, AllocError> {
-    let mut row = String::from_str(alloc, head)?;
-    for _ in 0..times {
-        row.push_str(part)?;
+fn add_lines(text: &mut String, row: &str) -> Result<(), AllocError> {
+    for line in row.split(" / ") {
+        text.push_str(line)?;
+        text.push('\n')?;
     }
-    row.push_str(tail)?;
-    Ok(row)
+    Ok(())
+}
+
+/// The text is of these lines.
+pub(crate) fn has_lines(alloc: Global, text: &[u8], row: &str) -> Result<bool, AllocError> {
+    let want = lines(alloc, row)?;
+    Ok(text == want.as_bytes())
+}
+
+/// The words of a line, parted by single blanks.
+pub(crate) fn words_of(alloc: Global, line: &str) -> Result<Vec<String>, AllocError> {
+    let mut words = Vec::new(alloc);
+    if !line.is_empty() {
+        add_words(alloc, &mut words, line)?;
+    }
+    Ok(words)
+}
+
+fn add_words(alloc: Global, words: &mut Vec<String>, line: &str) -> Result<(), AllocError> {
+    for word in line.split(' ') {
+        words.push(String::from_str(alloc, word)?)?;
+    }
+    Ok(())
 }

@@ -1,6 +1,5 @@
 -- What the core, the system's side and the text become by a happening that is heard.
-use Rattle.std.proofs.Common.{OnOk, codes, Result, Ok, Err, OnErr, IfErr, Bool, true, false, ◌&&◌, ◌≡◌, ◌≢◌, ◌++◌, ℕ, List, [], ◌∷◌, reverse, map, Option, Some, None, is_some, refl, sym, ap, ◌∙◌, append_assoc, cond, ◌^◌}
-use Rattle.std.proofs.KnownBytes.{Appends-nil}
+use Rattle.std.proofs.Common.{OnOk, codes, Result, Ok, Err, Bool, true, false, ◌&&◌, ◌≡◌, ◌≢◌, ◌++◌, ℕ, List, [], ◌∷◌, reverse, map, Option, Some, None, is_some, refl, sym, ap, ◌∙◌, append_assoc, cond, ◌^◌}
 use Rattle.std.specs.Option.{option_map}
 use Rattle.std.proofs.lemmas.Bool.{false≢true, and_parts, and_from}
 use Rattle.std.proofs.lemmas.Grind.{reverse_onto}
@@ -13,7 +12,6 @@ use Rattle.init_trace.specs.declared.steps.Goal.{Goal}
 use Rattle.init_trace.specs.Event.{Event}
 use Rattle.init_trace.specs.Past.{table_of, is_untold}
 use Rattle.init_trace.specs.Answered.{answered_of}
-use Rattle.inittab_text.specs.Reading.{table_of_text}
 use Rattle.init_trace.specs.Lines.{event_text}
 use Rattle.init_trace.specs.Sound.{may_come, is_sound}
 use Rattle.trace_laws.proofs.Runs.{run_sound}
@@ -28,8 +26,8 @@ use Rattle.level_core.proofs.Telling.{fits_act}
 use Rattle.supervisor.specs.Script.{line_read, words_read, words_in, birth_read, reaped_read, number_read}
 use Rattle.supervisor.specs.declared.running.SimFault.{SimFault}
 use Rattle.supervisor.specs.declared.running.SimFault.TheVariants as fault
-use Rattle.supervisor.specs.Moments.{Moment, MayBeHeard, AtRest, GoesOn, Hears, LineBreaks, LineEnds, OpeningEnds, is_device}
-use Rattle.supervisor.specs.Simulation.{AppendsFront, past_text, heard, IsForbidden}
+use Rattle.supervisor.specs.Moments.{Moment, MayBeHeard, AtRest, GoesOn, Hears, LineBreaks, LineEnds}
+use Rattle.supervisor.specs.Simulation.{past_text, heard, IsForbidden}
 use Rattle.supervisor.proofs.Moves.{run_hears, past_text-more}
 
 -- an answer is under way where one may be told
@@ -178,33 +176,14 @@ hears_goes past mid next lines more after hears goes = record {
   text = goes.text ∙ ap (λ t. t ++ after) hears.text ∙ append_assoc (past_text past) more after;
 }
 
--- a fault of the device ends the line
-pub by_device : (goal : Goal) (past : List Event) (line : List ℕ) (number : ℕ) (old new : Option (List ℕ)) → LineBreaks goal past line old new → (f : SimFault) → is_device f ≡ true → LineEnds goal past line number old new f
-by_device goal past line number old new breaks fault.Table h = absurd (false≢true h)
-by_device goal past line number old new breaks (fault.Script n) h = absurd (false≢true h)
-by_device goal past line number old new breaks (fault.Forbidden n) h = absurd (false≢true h)
-by_device goal past line number old new breaks fault.Write h = breaks
-by_device goal past line number old new breaks fault.Memory h = breaks
-
-pub err_device : {S : Type 0} (r : Result S SimFault) (Q : SimFault → Type 0) → IfErr r (λ f. is_device f ≡ true) → ((f : SimFault) → is_device f ≡ true → Q f) → IfErr r Q
-err_device (Ok s) Q device each = tt
-err_device (Err f) Q device each = each f device
-
-pub err_both : {S P : Type 0} (r : Result S SimFault) (Q : SimFault → Type 0) → OnErr r P → IfErr r (λ f. is_device f ≡ true) → (P → (f : SimFault) → is_device f ≡ true → Q f) → IfErr r Q
-err_both (Ok s) Q p device each = tt
-err_both (Err f) Q p device each = each p f device
+-- a fault in the midst of a line's text ends the line
+pub broken_line : (goal : Goal) (past : List Event) (line : List ℕ) (number : ℕ) (f : SimFault) (old new : Option (List ℕ)) → LineBreaks goal past line f old new → LineEnds goal past line number f old new
+broken_line goal past line number fault.Table old new (before, after, next, more, split, runs, one, hears, leaves) = absurd leaves
+broken_line goal past line number (fault.Script n) old new (before, after, next, more, split, runs, one, hears, leaves) = absurd leaves
+broken_line goal past line number (fault.Forbidden n) old new (before, after, next, more, split, runs, one, hears, leaves) = absurd leaves
+broken_line goal past line number fault.Write old new breaks = breaks
+broken_line goal past line number fault.Memory old new breaks = breaks
 
 pub ok_then : {S E P Q : Type 0} (r : Result S E) → OnOk r P → (P → Q) → OnOk r Q
 ok_then (Ok s) p each = each p
 ok_then (Err e) p each = tt
-
--- nothing was written of the text
-pub front_none : (a : Option (List ℕ)) (text : List ℕ) → AppendsFront a a text
-front_none a text = ([], text, refl, Appends-nil a)
-
-pub opening_by_device : (inittab : List ℕ) (old new : Option (List ℕ)) → AppendsFront old new (event_text (event.NewTable (table_of_text inittab))) → (f : SimFault) → is_device f ≡ true → OpeningEnds inittab old new f
-opening_by_device inittab old new front fault.Table h = absurd (false≢true h)
-opening_by_device inittab old new front (fault.Script n) h = absurd (false≢true h)
-opening_by_device inittab old new front (fault.Forbidden n) h = absurd (false≢true h)
-opening_by_device inittab old new front fault.Write h = front
-opening_by_device inittab old new front fault.Memory h = front

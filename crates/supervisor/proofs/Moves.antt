@@ -1,7 +1,7 @@
 -- What a run and its text become by a step of init, and by a happening that it hears.
-use Rattle.std.proofs.Common.{Result, Ok, Err, OnErr, Bool, true, false, ◌&&◌, ◌≡◌, ◌++◌, ℕ, List, [], ◌∷◌, reverse, Option, refl, sym, ap, ◌∙◌, subst, append_assoc}
+use Rattle.std.proofs.Common.{Result, Ok, Err, IfErr, Bool, true, false, ◌&&◌, ◌≡◌, ◌++◌, ℕ, List, [], ◌∷◌, reverse, Option, refl, sym, ap, ◌∙◌, subst, append_assoc}
 use Rattle.std.specs.Io.KnownBytes.{Appends}
-use Rattle.std.proofs.KnownBytes.{Appends-trans}
+use Rattle.std.proofs.KnownBytes.{Appends-nil, Appends-trans}
 use Rattle.std.proofs.lemmas.Bool.{false≢true, and_parts}
 use Rattle.init_trace.specs.declared.happenings.Happening.TheVariants as event
 use Rattle.init_trace.specs.declared.steps.Step.{Step}
@@ -26,8 +26,11 @@ use Rattle.level_core.specs.Fit.{Fits}
 use Rattle.level_core.proofs.Working.{plain_step}
 use Rattle.system_side.specs.State.{State}
 use Rattle.system_side.specs.Follows.{Follows}
+use Rattle.supervisor.specs.declared.running.SimFault.{SimFault}
+use Rattle.supervisor.specs.declared.running.SimFault.TheVariants as fault
+use Rattle.supervisor.specs.Faults.{Leaves}
 use Rattle.supervisor.specs.Moments.{Moment, GoesOn}
-use Rattle.supervisor.specs.Simulation.{AppendsFront, past_text, heard}
+use Rattle.supervisor.specs.Simulation.{past_text, heard}
 
 both : (a b c : Bool) → a ≡ true → b ≡ true → c ≡ true → (a && b && c) ≡ true
 both true true true h k l = refl
@@ -134,17 +137,30 @@ moment_step goal past happening s core new_core side new_side moment decided is 
       follows = follows (run_sound goal (happening ∷ past) runs) moment.follows;
     }
 
--- a front of more text, behind text that was written
-pub front_behind : (old mid new : Option (List ℕ)) (more text : List ℕ) → Appends old mid more → AppendsFront mid new text → AppendsFront old new (more ++ text)
-front_behind old mid new more text before (front, rest, is, now) = (more ++ front, rest, append_assoc more front rest ∙ ap (λ t. more ++ t) is, Appends-trans old mid new more front before now)
+-- part of a text is left, behind text that was written
+pub leaves_behind : (f : SimFault) (old mid new : Option (List ℕ)) (more text : List ℕ) → Appends old mid more → Leaves f mid new text → Leaves f old new (more ++ text)
+leaves_behind fault.Table old mid new more text before leaves = absurd leaves
+leaves_behind (fault.Script n) old mid new more text before leaves = absurd leaves
+leaves_behind (fault.Forbidden n) old mid new more text before leaves = absurd leaves
+leaves_behind fault.Write old mid new more text before (front, rest, is, now, some) =
+    (more ++ front, rest, append_assoc more front rest ∙ ap (λ t. more ++ t) is, Appends-trans old mid new more front before now, some)
+leaves_behind fault.Memory old mid new more text before (front, rest, is, now) =
+    (more ++ front, rest, append_assoc more front rest ∙ ap (λ t. more ++ t) is, Appends-trans old mid new more front before now)
 
-pub front_all : (old new : Option (List ℕ)) (text : List ℕ) → Appends old new text → AppendsFront old new text
-front_all old new text all = (text, [], append-nil text, all)
+-- want of memory after a whole text, and before it
+pub memory_after : (old new : Option (List ℕ)) (text : List ℕ) → Appends old new text → Leaves fault.Memory old new text
+memory_after old new text all = (text, [], append-nil text, all)
+
+pub memory_before : (known : Option (List ℕ)) (text : List ℕ) → Leaves fault.Memory known known text
+memory_before known text = ([], text, refl, Appends-nil known)
 
 -- a moment stays one while init rests
 pub moment_rest : (goal : Goal) (past : List Event) (s : Step) (core new_core : CoreState) (side : State) → Moment goal past core side → is_rest s ≡ true → Fits new_core goal (with_step s past) → Moment goal past new_core side
 moment_rest goal past s core new_core side moment rests fits = record { runs = moment.runs; one_table = moment.one_table; fits = subst (Fits new_core goal) (rest_step s past rests) fits; follows = moment.follows }
 
-pub on_err : {S E : Type 0} {P : Type 0} (r : Result S E) → P → OnErr r P
-on_err (Ok s) p = tt
-on_err (Err e) p = p
+pub err_is : {S E : Type 0} (r : Result S E) (e : E) (Q : E → Type 0) → r ≡ Err e → Q e → IfErr r Q
+err_is r e Q is q = rw is q
+
+pub err_then : {S E : Type 0} (r : Result S E) (P Q : E → Type 0) → IfErr r P → ((e : E) → P e → Q e) → IfErr r Q
+err_then (Ok s) P Q p each = tt
+err_then (Err e) P Q p each = each e p

@@ -1,4 +1,4 @@
+pub mod Faults
 pub mod Moments
 pub mod Script
 pub mod Simulation
-pub mod Statuses

@@ -1,7 +1,12 @@
 -- A run of init over a script: what is written, and where it ends.
-use Rattle.std.specs.Prelude.{◌≡◌, ℕ, true, false, ◌+◌, ◌<◌, List, [], ◌∷◌, ◌++◌, map, reverse, filter, length, Option, Some, None}
-use Rattle.std.specs.Io.KnownBytes.{Appends}
+use Rattle.std.specs.Prelude.{◌≡◌, ℕ, true, false, ◌+◌, ◌<◌, List, ◌∷◌, ◌++◌, map, reverse, filter, length}
+use Rattle.std.specs.Prelude.{Option, Some, None}
+use Rattle.std.specs.Io.KnownBytes.{Appends, Keeps}
 use Rattle.init_words.specs.declared.entries.Entry.{Entry}
+use Rattle.init_words.specs.declared.levels.Level.{Level}
+use Rattle.inittab_text.specs.Lines.{lines_of}
+use Rattle.inittab_text.specs.Reading.{table_of_text}
+use Rattle.inittab_text.specs.declared.reading.TheConstants.{TEXT_LIMIT}
 use Rattle.init_trace.specs.declared.steps.Goal.{Goal}
 use Rattle.init_trace.specs.Event.{Event}
 use Rattle.init_trace.specs.Past.{table_of}
@@ -9,16 +14,31 @@ use Rattle.init_trace.specs.Due.{due, first}
 use Rattle.init_trace.specs.Lines.{trace_text}
 use Rattle.init_trace.specs.Run.{is_run, is_rest}
 use Rattle.init_trace.specs.Sound.{may_come}
+use Rattle.level_core.specs.Decide.{opening_goal}
 use Rattle.level_core.specs.Path.{is_of_one_table}
 use Rattle.system_side.specs.Steps.{is_script}
-use Rattle.inittab_text.specs.Reading.{table_of_text}
 use Rattle.supervisor.specs.declared.running.SimFault.{SimFault}
 use Rattle.supervisor.specs.declared.running.SimFault.TheVariants as fault
+use Rattle.supervisor.specs.Faults.{Leaves}
 use Rattle.supervisor.specs.Script.{line_read}
 
--- the writer has gained a front of the text, if its bytes are known
-abbrev pub AppendsFront : Option (List ℕ) → Option (List ℕ) → List ℕ → Type 0
-AppendsFront old new text = (front : List ℕ) × (rest : List ℕ) × (front ++ rest ≡ text) × Appends old new front
+-- what is simulated: the level to go to, if one is given, an inittab and a script
+pub record Scenario : Type 0 where
+  pub level : Option Level
+  pub inittab : List ℕ
+  pub script : List ℕ
+
+abbrev pub scenario : Option Level → List ℕ → List ℕ → Scenario
+scenario level inittab script = record { level = level; inittab = inittab; script = script }
+
+abbrev pub table_in : Scenario → List Entry
+table_in s = table_of_text s.inittab
+
+abbrev pub goal_in : Scenario → Goal
+goal_in s = opening_goal s.level (table_in s)
+
+abbrev pub lines_in : Scenario → List (List ℕ)
+lines_in s = lines_of s.script
 
 -- the text of a trace, the newest happening first
 abbrev pub past_text : List Event → List ℕ
@@ -29,25 +49,27 @@ abbrev pub heard : List Event → List Event
 heard past = filter is_script past
 
 -- the run of the table over these lines: init takes first due steps, and hears the lines in turn when it rests
-pub record RunOver (goal : Goal) (table : List Entry) (lines : List (List ℕ)) (past : List Event) : Type 0 where
-  pub runs : is_run goal past ≡ true
+pub record RunOver (s : Scenario) (lines : List (List ℕ)) (past : List Event) : Type 0 where
+  pub runs : is_run (goal_in s) past ≡ true
   pub one_table : is_of_one_table past ≡ true
-  pub opens : table_of past ≡ table
+  pub opens : table_of past ≡ table_in s
   pub hears : map line_read lines ≡ map Some (reverse (heard past))
 
 -- such a run, after which init rests
-pub record Rested (goal : Goal) (table : List Entry) (lines : List (List ℕ)) (past : List Event) : Type 0 where
-  pub run : RunOver goal table lines past
-  pub rests : is_rest (first (due goal past)) ≡ true
+pub record Rested (s : Scenario) (lines : List (List ℕ)) (past : List Event) : Type 0 where
+  pub run : RunOver s lines past
+  pub rests : is_rest (first (due (goal_in s) past)) ≡ true
 
 -- the run over all the lines was written
-abbrev pub Done : Option (List ℕ) → Option (List ℕ) → Goal → List Entry → List (List ℕ) → Type 0
-Done old new goal table lines = (past : List Event) × Rested goal table lines past × Appends old new (past_text past)
+abbrev pub Done : Scenario → Option (List ℕ) → Option (List ℕ) → Type 0
+Done s old new = (past : List Event) × Rested s (lines_in s) past × Appends old new (past_text past)
 
 -- the run over the lines before the n-th was written, counted from 1, and the n-th is such
-abbrev pub EndsAt : Option (List ℕ) → Option (List ℕ) → Goal → List Entry → List (List ℕ) → ℕ → (List ℕ → List Event → Type 0) → Type 0
-EndsAt old new goal table lines n such = (before : List (List ℕ)) × (line : List ℕ) × (after : List (List ℕ)) × (past : List Event)
-    × (before ++ line ∷ after ≡ lines) × (n ≡ length before + 1) × Rested goal table before past × Appends old new (past_text past) × such line past
+abbrev pub EndsAt : Scenario → ℕ → (List ℕ → List Event → Type 0) → Option (List ℕ) → Option (List ℕ) → Type 0
+EndsAt s n such old new =
+    (before : List (List ℕ)) × (line : List ℕ) × (after : List (List ℕ)) × (past : List Event)
+    × (before ++ line ∷ after ≡ lines_in s) × (n ≡ length before + 1)
+    × Rested s before past × Appends old new (past_text past) × such line past
 
 -- the line is none of a script's
 abbrev pub IsUnread : List ℕ → List Event → Type 0
@@ -55,17 +77,22 @@ IsUnread line past = line_read line ≡ None
 
 -- the line is a happening that may not come now
 abbrev pub IsForbidden : Goal → List ℕ → List Event → Type 0
-IsForbidden goal line past = (happening : Event) × (line_read line ≡ Some happening) × (may_come goal happening past ≡ false)
+IsForbidden goal line past =
+    (happening : Event) × (line_read line ≡ Some happening) × (may_come goal happening past ≡ false)
 
--- a front of a run over a front of the lines was written
-abbrev pub Broken : Option (List ℕ) → Option (List ℕ) → Goal → List Entry → List (List ℕ) → Type 0
-Broken old new goal table lines = (before : List (List ℕ)) × (after : List (List ℕ)) × (past : List Event)
-    × (before ++ after ≡ lines) × RunOver goal table before past × AppendsFront old new (past_text past)
+-- a run over a prefix of the lines was being written when the fault came
+abbrev pub Broken : Scenario → SimFault → Option (List ℕ) → Option (List ℕ) → Type 0
+Broken s f old new = (before : List (List ℕ)) × (after : List (List ℕ)) × (past : List Event)
+    × (before ++ after ≡ lines_in s) × RunOver s before past × Leaves f old new (past_text past)
+
+-- the inittab is too long
+abbrev pub IsTooLong : List ℕ → Type 0
+IsTooLong inittab = TEXT_LIMIT < length inittab
 
 -- how a run ends that doesn't reach the end of its script
-abbrev pub Ends : Option (List ℕ) → Option (List ℕ) → Goal → List ℕ → List (List ℕ) → SimFault → Type 0
-Ends old new goal inittab lines fault.Table = (65536 < length inittab) × Appends old new []
-Ends old new goal inittab lines (fault.Script n) = EndsAt old new goal (table_of_text inittab) lines n IsUnread
-Ends old new goal inittab lines (fault.Forbidden n) = EndsAt old new goal (table_of_text inittab) lines n (IsForbidden goal)
-Ends old new goal inittab lines fault.Write = Broken old new goal (table_of_text inittab) lines
-Ends old new goal inittab lines fault.Memory = Broken old new goal (table_of_text inittab) lines
+abbrev pub Ends : Scenario → SimFault → Option (List ℕ) → Option (List ℕ) → Type 0
+Ends s fault.Table old new = IsTooLong s.inittab × Keeps old new
+Ends s (fault.Script n) old new = EndsAt s n IsUnread old new
+Ends s (fault.Forbidden n) old new = EndsAt s n (IsForbidden (goal_in s)) old new
+Ends s fault.Write old new = Broken s fault.Write old new
+Ends s fault.Memory old new = Broken s fault.Memory old new

@@ -1,44 +1,63 @@
-ghost use Rattle.std.specs.Prelude.{◌≡◌, ◌<◌, ◌≤◌, length, List, [], ◌∷◌, false, true, Err, IfOk, IfSome, IfNone, IfErr, OnOk, OnErr};
+ghost use Rattle.std.specs.Prelude.{◌≡◌, ◌<◌, length, List, [], ◌∷◌, false, true, IfOk, IfSome, IfNone, IfErr, OnOk};
 ghost use Rattle.std.specs.Io.KnownBytes.{Appends};
 ghost use Rattle.init_trace.specs.Event.{Event};
 ghost use Rattle.init_trace.specs.Lines.{event_text};
 ghost use Rattle.init_trace.specs.Run.{is_rest};
-ghost use Rattle.level_core.specs.Fit.{with_step};
 ghost use Rattle.init_trace.specs.declared.steps.Goal.{Goal};
-ghost use Rattle.std.specs.Prelude.{ℕ};
-ghost use Rattle.level_core.specs.Fit.{Fits};
-ghost use Rattle.supervisor.specs.Moments.{Moment, SomeMoment, Settles, Breaks, is_device, SomeRest, AtRest, MayBeHeard, LineDone, LineEnds, TableEnds, OpeningEnds};
-ghost use Rattle.init_words.specs.declared.levels.Level.{Level};
-ghost use Rattle.inittab_text.specs.Lines.{lines_of};
-ghost use Rattle.inittab_text.specs.Reading.{table_of_text};
 ghost use Rattle.init_trace.specs.declared.happenings.Happening.TheVariants.{NewTable};
+ghost use Rattle.init_words.specs.declared.levels.Level.{Level};
+ghost use Rattle.inittab_text.specs.Reading.{table_of_text};
 ghost use Rattle.level_core.specs.Decide.{opening_goal};
-ghost use Rattle.supervisor.specs.Simulation.{AppendsFront, Done, Ends};
+ghost use Rattle.level_core.specs.Fit.{Fits, with_step};
+ghost use Rattle.supervisor.specs.Faults.{Leaves};
+ghost use Rattle.supervisor.specs.Moments.{AtRest, Breaks, ComesToRest, FromMoment, FromRest, LineDone, LineEnds, MayBeHeard, Moment, OpeningEnds, SomeMoment, SomeRest, TableEnds, opening_text};
+ghost use Rattle.supervisor.specs.Simulation.{Done, Ends, IsTooLong, scenario};
 
 use crate::script::read_line;
 use init_trace::{Happening, HappeningIn, Step, print_one, print_table};
 use init_words::{Level, Memory};
 use inittab_text::{Table, TableFault, next_line, read};
 use level_core::Core;
+use program_edge::write_text;
 use std::alloc::{AllocError, Allocator};
+use std::error::Error;
 use std::io::Write;
+use std::{fmt, io};
 use system_side::SystemSide;
-use thiserror::Error;
 
 /// Why a simulated run ended before its script did.
-#[derive(Clone, Copy, Debug, PartialEq, Eq, Error)]
+#[derive(Clone, Copy, Debug, PartialEq, Eq)]
 pub enum SimFault {
-    #[error("the inittab is longer than 65,536 bytes")]
+    /// The inittab is too long.
     Table,
-    #[error("script line {0} is not a line")]
+    /// The line of this number is none of a script's.
     Script(u64),
-    #[error("script line {0} is not allowed")]
+    /// The happening on the line of this number may not come there.
     Forbidden(u64),
-    #[error("the trace could not be written")]
+    /// The writer failed, or took no byte.
     Write,
-    #[error("out of memory")]
+    /// Want of memory.
     Memory,
 }
+
+impl fmt::Display for SimFault {
+    ghost use Rattle.std.specs.Prelude.{Some};
+    ghost use Rattle.supervisor.specs.Faults.{fault_text};
+
+    ghost output = { λ fault. Some (fault_text fault) };
+
+    fn fmt<W: fmt::Write>(&self, f: &mut fmt::Formatter<W>) -> fmt::Result {
+        match self {
+            SimFault::Table => f.write_str("the inittab is longer than 65,536 bytes"),
+            SimFault::Script(line) => write!(f, "script line {line} is not a line"),
+            SimFault::Forbidden(line) => write!(f, "script line {line} is not allowed"),
+            SimFault::Write => f.write_str("the trace could not be written"),
+            SimFault::Memory => f.write_str("out of memory"),
+        }
+    }
+}
+
+impl Error for SimFault {}
 
 impl From<Memory> for SimFault {
     ghost use Rattle.std.specs.Prelude.{◌≡◌};
@@ -51,27 +70,21 @@ impl From<Memory> for SimFault {
     }
 }
 
-/// Writes all of the text, by as many writes as it takes. A write that fails or takes no byte ends it, and a front of
-/// the text is written then.
-pub fn write_text<W: Write>(out: &mut W, text: &[u8]) -> Result<(), SimFault>
-    ensures ok { OnOk result (Appends (W.contents out.old) (W.contents out.new) text.now) }
-    ensures err { OnErr result (AppendsFront (W.contents out.old) (W.contents out.new) text.now) }
-    ensures fault { OnErr result (result ≡ Err SimFault.Write) }
-{
-    let mut done = 0;
-    while done < text.len() {
-        match out.write(&text[done..]) {
-            Ok(0) => return Err(SimFault::Write),
-            Ok(taken) => done += taken,
-            Err(_) => return Err(SimFault::Write),
-        }
+impl From<io::Error> for SimFault {
+    ghost use Rattle.std.specs.Prelude.{◌≡◌};
+    ghost use Rattle.supervisor.specs.declared.running.SimFault.TheVariants.{Write};
+
+    ghost from_gives = { λ _ fault. fault ≡ Write };
+
+    fn from(_error: io::Error) -> SimFault {
+        SimFault::Write
     }
-    Ok(())
 }
 
 /// The happening of a step that init takes; None where it rests.
 fn happening_of<A: Allocator>(step: Step) -> Option<HappeningIn<A>>
-    ensures some { IfSome result (λ happening. (is_rest step ≡ false) × ((past : List Event) → with_step step past ≡ happening ∷ past)) }
+    ensures some { IfSome result (λ happening. (is_rest step ≡ false)
+        × ((past : List Event) → with_step step past ≡ happening ∷ past)) }
     ensures none { IfNone result (is_rest step ≡ true) }
 {
     match step {
@@ -86,46 +99,48 @@ fn happening_of<A: Allocator>(step: Step) -> Option<HappeningIn<A>>
 }
 
 /// Writes the text of a happening.
-fn tell<A: Allocator + Copy, W: Write>(
+fn write_happening<A: Allocator + Copy, W: Write>(
     alloc: A,
     out: &mut W,
     happening: &HappeningIn<A>,
 ) -> Result<(), SimFault>
     ensures ok { OnOk result (Appends (W.contents out.old) (W.contents out.new) (event_text happening.now)) }
-    ensures err { OnErr result (AppendsFront (W.contents out.old) (W.contents out.new) (event_text happening.now)) }
-    ensures fault { IfErr result (λ fault. is_device fault ≡ true) }
+    ensures err { IfErr result (λ fault.
+        Leaves fault (W.contents out.old) (W.contents out.new) (event_text happening.now)) }
 {
     let text = print_one(alloc, happening)?;
-    write_text(out, &text)
+    write_text(out, &text)?;
+    Ok(())
 }
 
 /// Takes init's steps and writes them, until init rests.
-fn settle_down<A: Allocator + Copy, W: Write>(
+fn run_until_rest<A: Allocator + Copy, W: Write>(
     alloc: A,
     core: &mut Core<A>,
     side: &mut SystemSide<A>,
     out: &mut W,
 ) -> Result<(), SimFault>
     requires { SomeMoment core.old side.old }
-    ensures ok { OnOk result ((goal : Goal) (past : List Event) → Moment goal past core.old side.old
-        → Settles goal past core.new side.new (W.contents out.old) (W.contents out.new)) }
-    ensures err { OnErr result ((goal : Goal) (past : List Event) → Moment goal past core.old side.old
-        → Breaks goal past (W.contents out.old) (W.contents out.new)) }
-    ensures fault { IfErr result (λ fault. is_device fault ≡ true) }
+    ensures ok { OnOk result (FromMoment core.old side.old (λ goal past.
+        ComesToRest goal past core.new side.new (W.contents out.old) (W.contents out.new))) }
+    ensures err { IfErr result (λ fault. FromMoment core.old side.old (λ goal past.
+        Breaks goal past fault (W.contents out.old) (W.contents out.new))) }
 {
-    loop {
-        let Some(happening) = happening_of(core.next()) else {
-            return Ok(());
-        };
-        tell(alloc, out, &happening)?;
+    while let Some(happening) = happening_of(core.next()) {
+        write_happening(alloc, out, &happening)?;
         side.take(&happening)?;
     }
+    Ok(())
 }
 
 /// The core hears what came.
-fn told<A: Allocator + Copy>(core: &mut Core<A>, side: &SystemSide<A>, happening: &HappeningIn<A>)
-    ensures { (goal : Goal) (past : List Event) → Moment goal past core.old side.now → MayBeHeard goal happening.now past
-        → Fits core.new goal (happening.now ∷ past) }
+fn pass_on<A: Allocator + Copy>(
+    core: &mut Core<A>,
+    side: &SystemSide<A>,
+    happening: &HappeningIn<A>,
+)
+    ensures { FromMoment core.old side.now (λ goal past. MayBeHeard goal happening.now past
+        → Fits core.new goal (happening.now ∷ past)) }
 {
     match happening {
         Happening::Told(id) => {
@@ -148,13 +163,13 @@ fn hear<A: Allocator + Copy, W: Write>(
     happening: &HappeningIn<A>,
 ) -> Result<(), SimFault>
     ensures text { OnOk result (Appends (W.contents out.old) (W.contents out.new) (event_text happening.now)) }
-    ensures ok { OnOk result ((goal : Goal) (past : List Event) → Moment goal past core.old side.old → MayBeHeard goal happening.now past
-        → Moment goal (happening.now ∷ past) core.new side.new) }
-    ensures err { OnErr result (AppendsFront (W.contents out.old) (W.contents out.new) (event_text happening.now)) }
-    ensures fault { IfErr result (λ fault. is_device fault ≡ true) }
+    ensures ok { OnOk result (FromMoment core.old side.old (λ goal past. MayBeHeard goal happening.now past
+        → Moment goal (happening.now ∷ past) core.new side.new)) }
+    ensures err { IfErr result (λ fault.
+        Leaves fault (W.contents out.old) (W.contents out.new) (event_text happening.now)) }
 {
-    told(core, side, happening);
-    tell(alloc, out, happening)?;
+    pass_on(core, side, happening);
+    write_happening(alloc, out, happening)?;
     side.take(happening)?;
     Ok(())
 }
@@ -169,10 +184,10 @@ fn take_line<A: Allocator + Copy, W: Write>(
     number: u64,
 ) -> Result<(), SimFault>
     requires { SomeRest core.old side.old }
-    ensures ok { OnOk result ((goal : Goal) (past : List Event) → AtRest goal past core.old side.old
-        → LineDone goal past line.now core.new side.new (W.contents out.old) (W.contents out.new)) }
-    ensures err { IfErr result (λ fault. (goal : Goal) (past : List Event) → AtRest goal past core.old side.old
-        → LineEnds goal past line.now number (W.contents out.old) (W.contents out.new) fault) }
+    ensures ok { OnOk result (FromRest core.old side.old (λ goal past.
+        LineDone goal past line.now core.new side.new (W.contents out.old) (W.contents out.new))) }
+    ensures err { IfErr result (λ fault. FromRest core.old side.old (λ goal past.
+        LineEnds goal past line.now number fault (W.contents out.old) (W.contents out.new))) }
 {
     let Some(happening) = read_line(alloc, line)? else {
         return Err(SimFault::Script(number));
@@ -181,14 +196,13 @@ fn take_line<A: Allocator + Copy, W: Write>(
         return Err(SimFault::Forbidden(number));
     }
     hear(alloc, core, side, out, &happening)?;
-    settle_down(alloc, core, side, out)
+    run_until_rest(alloc, core, side, out)
 }
 
 /// The table of an inittab, whatever faults its lines have.
-fn table_read<A: Allocator + Copy>(alloc: A, inittab: &[u8]) -> Result<Table<A>, SimFault>
+fn read_table<A: Allocator + Copy>(alloc: A, inittab: &[u8]) -> Result<Table<A>, SimFault>
     ensures table { IfOk result (λ table. table ≡ table_of_text inittab.now) }
-    ensures within { OnOk result (length inittab.now ≤ 65536) }
-    ensures limit { 65536 < length inittab.now → result ≡ Err SimFault.Table }
+    ensures limit { IsTooLong inittab.now → result ≡ Err SimFault.Table }
     ensures err { IfErr result (λ fault. TableEnds inittab.now fault) }
 {
     match read(alloc, inittab) {
@@ -199,19 +213,19 @@ fn table_read<A: Allocator + Copy>(alloc: A, inittab: &[u8]) -> Result<Table<A>,
 }
 
 /// The core of an inittab, of which the table is written.
-fn opened<A: Allocator + Copy, W: Write>(
+fn open_run<A: Allocator + Copy, W: Write>(
     alloc: A,
     inittab: &[u8],
     level: Option<Level>,
     out: &mut W,
 ) -> Result<Core<A>, SimFault>
-    ensures fits { IfOk result (λ core. Fits core (opening_goal level (table_of_text inittab.now)) (NewTable (table_of_text inittab.now) ∷ [])) }
-    ensures text { OnOk result (Appends (W.contents out.old) (W.contents out.new) (event_text (NewTable (table_of_text inittab.now)))) }
-    ensures within { OnOk result (length inittab.now ≤ 65536) }
-    ensures limit { 65536 < length inittab.now → result ≡ Err SimFault.Table }
-    ensures err { IfErr result (λ fault. OpeningEnds inittab.now (W.contents out.old) (W.contents out.new) fault) }
+    ensures fits { IfOk result (λ core. Fits core (opening_goal level (table_of_text inittab.now))
+        (NewTable (table_of_text inittab.now) ∷ [])) }
+    ensures text { OnOk result (Appends (W.contents out.old) (W.contents out.new) (opening_text inittab.now)) }
+    ensures limit { IsTooLong inittab.now → result ≡ Err SimFault.Table }
+    ensures err { IfErr result (λ fault. OpeningEnds inittab.now fault (W.contents out.old) (W.contents out.new)) }
 {
-    let table = table_read(alloc, inittab)?;
+    let table = read_table(alloc, inittab)?;
     let core = Core::new(alloc, table, level)?;
     let text = print_table(alloc, core.table())?;
     write_text(out, &text)?;
@@ -219,12 +233,14 @@ fn opened<A: Allocator + Copy, W: Write>(
 }
 
 /// Runs init over an inittab(5) and a script of what the system did, a happening a line, and writes the trace as it
-/// comes: the table, and then each step of init and each line. Init takes its steps until none is due, after the opening
-/// and after each line. The level is that to go to; where none is given, it is the table's `initdefault`, and S without one.
+/// comes: the table, and then each step of init and each line. Init takes its steps until none is due, after the
+/// opening and after each line. The level is that to go to; where none is given, it is the table's `initdefault`, and S
+/// without one.
 ///
-/// The run ends at the end of the script, or before the first line that is none (`Script`) or may not come (`Forbidden`),
-/// by its number from 1. An inittab of over 65,536 bytes is refused (`Table`); where the writer fails (`Write`), or memory
-/// is wanting (`Memory`), a front of the trace is written.
+/// The run ends at the end of the script, or before the first line that is none (`Script`) or may not come
+/// (`Forbidden`), by its number from 1. An inittab of over 65,536 bytes is refused (`Table`). Where the writer fails
+/// (`Write`), a prefix of the trace is written and something of it is left; where memory is wanting (`Memory`), a prefix
+/// of it is written.
 pub fn simulate<A: Allocator + Copy, W: Write>(
     alloc: A,
     inittab: &[u8],
@@ -232,13 +248,15 @@ pub fn simulate<A: Allocator + Copy, W: Write>(
     script: &[u8],
     out: &mut W,
 ) -> Result<(), SimFault>
-    ensures done { OnOk result (Done (W.contents out.old) (W.contents out.new) (opening_goal level (table_of_text inittab.now)) (table_of_text inittab.now) (lines_of script.now)) }
-    ensures ended { IfErr result (λ fault. Ends (W.contents out.old) (W.contents out.new) (opening_goal level (table_of_text inittab.now)) inittab.now (lines_of script.now) fault) }
-    ensures limit { 65536 < length inittab.now → result ≡ Err SimFault.Table }
+    ensures done { OnOk result (Done (scenario level inittab.now script.now)
+        (W.contents out.old) (W.contents out.new)) }
+    ensures ended { IfErr result (λ fault. Ends (scenario level inittab.now script.now) fault
+        (W.contents out.old) (W.contents out.new)) }
+    ensures limit { IsTooLong inittab.now → result ≡ Err SimFault.Table }
 {
-    let mut core = opened(alloc, inittab, level, out)?;
+    let mut core = open_run(alloc, inittab, level, out)?;
     let mut side = SystemSide::new(alloc);
-    settle_down(alloc, &mut core, &mut side, out)?;
+    run_until_rest(alloc, &mut core, &mut side, out)?;
     let mut rest = script;
     let mut number = 0;
     while let Some((line, more)) = next_line(rest) {

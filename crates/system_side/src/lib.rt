@@ -3,7 +3,5 @@
 #![tactic(auto)]
 
 mod sides;
-#[cfg(test)]
-mod tests;
 
 pub use sides::SystemSide;

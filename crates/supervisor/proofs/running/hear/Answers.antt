@@ -1,7 +1,18 @@
+use Rattle.std.proofs.Common.{rules, ◌≡◌, Err}
+use Rattle.init_trace.specs.Lines.{event_text}
+use Rattle.supervisor.specs.declared.running.SimFault.TheVariants as fault
 use Rattle.supervisor.proofs.Hearing.{moment_heard}
+use Rattle.supervisor.proofs.Moves.{err_is, memory_after}
 use Rattle.supervisor.proofs.running.hear.Goals as goal
 
 pub returns-clause-ok : goal.returns-clause-ok
 returns-clause-ok g c goal past moment may =
-    moment_heard goal past c.args.happening.now c.args.core.now c.told.new.core c.args.side.now c.take.new.self moment may (c.told.ensures goal past moment may)
+    moment_heard goal past c.args.happening.now c.args.core.now c.pass_on.new.core c.args.side.now c.take.new.self moment may (c.pass_on.ensures goal past moment may)
     (λ sound follows. c.in_ok-take.ensures.ok goal past sound follows)
+
+-- the happening was written and not taken in
+pub returns-in_err-take-clause-err : goal.returns-in_err-take-clause-err
+returns-in_err-take-clause-err g c =
+    let is : c.from_residual-in_err-take.result ≡ Err fault.Memory = search rules in
+    err_is c.from_residual-in_err-take.result fault.Memory _ is
+    (memory_after (g.W.Write.contents c.args.out.now) (g.W.Write.contents c.write_happening.new.out) (event_text c.args.happening.now) c.in_ok-write_happening.ensures.ok)

@@ -1,0 +1,31 @@
+-- What a run left, where its writer was only flushed since.
+use Rattle.std.proofs.Common.{Result, Ok, Err, IfErr, OnOk, ◌⊎◌, inl, inr, ◌≡◌, List, ℕ, Option}
+use Rattle.std.specs.Io.KnownBytes.{Keeps}
+use Rattle.std.proofs.KnownBytes.{Appends-kept, Keeps-trans}
+use Rattle.supervisor.specs.declared.running.SimFault.{SimFault}
+use Rattle.supervisor.specs.declared.running.SimFault.TheVariants as fault
+use Rattle.supervisor.specs.Simulation.{Done, Ends, Scenario, past_text}
+
+pub done_kept : (s : Scenario) (old mid new : Option (List ℕ)) → Done s old mid → Keeps mid new → Done s old new
+done_kept s old mid new (past, rested, written) kept = (past, rested, Appends-kept old mid new (past_text past) written kept)
+
+pub ends_kept : (s : Scenario) (f : SimFault) (old mid new : Option (List ℕ)) → Ends s f old mid → Keeps mid new → Ends s f old new
+ends_kept s fault.Table old mid new (long, none) kept = (long, Keeps-trans old mid new none kept)
+ends_kept s (fault.Script n) old mid new (before, line, after, past, split, number, rested, written, such) kept =
+    (before, line, after, past, split, number, rested, Appends-kept old mid new (past_text past) written kept, such)
+ends_kept s (fault.Forbidden n) old mid new (before, line, after, past, split, number, rested, written, such) kept =
+    (before, line, after, past, split, number, rested, Appends-kept old mid new (past_text past) written kept, such)
+ends_kept s fault.Write old mid new (before, after, past, split, run, (front, rest, is, written, some)) kept =
+    (before, after, past, split, run, (front, rest, is, Appends-kept old mid new front written kept, some))
+ends_kept s fault.Memory old mid new (before, after, past, split, run, (front, rest, is, written)) kept =
+    (before, after, past, split, run, (front, rest, is, Appends-kept old mid new front written kept))
+
+-- a run is done, or ended by a fault
+pub either_end : {T : Type 0} (r : Result T SimFault) (D : Type 0) (E : SimFault → Type 0) → OnOk r D → IfErr r E → D ⊎ ((f : SimFault) × E f)
+either_end (Ok done) D E on_ok on_err = inl on_ok
+either_end (Err f) D E on_ok on_err = inr (f, on_err)
+
+pub either_kept : (s : Scenario) (old mid new : Option (List ℕ)) → Done s old mid ⊎ ((f : SimFault) × Ends s f old mid) → Keeps mid new
+    → Done s old new ⊎ ((f : SimFault) × Ends s f old new)
+either_kept s old mid new (inl done) kept = inl (done_kept s old mid new done kept)
+either_kept s old mid new (inr (f, ends)) kept = inr (f, ends_kept s f old mid new ends kept)

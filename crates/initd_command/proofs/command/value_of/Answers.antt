@@ -1,0 +1,15 @@
+use Rattle.std.proofs.Common.{◌∙◌, ap, List, ℕ, [], Option}
+use Rattle.std.specs.Prelude.{unwrap_or}
+use Rattle.clap.proofs.WalkLemmas.{first_value-rows}
+use Rattle.clap.specs.Words.{found_of}
+use Rattle.initd_command.proofs.command.value_of.Goals as goal
+
+pub returns-in-Some : goal.returns-in-Some
+returns-in-Some c =
+    ap (λ (value : Option (List ℕ)). unwrap_or value [])
+    (c.in-Some.ensures ∙ first_value-rows (found_of c.args.matches.now) c.args.id.now)
+
+pub returns-in-None : goal.returns-in-None
+returns-in-None c =
+    ap (λ (value : Option (List ℕ)). unwrap_or value [])
+    (c.in-None.ensures ∙ first_value-rows (found_of c.args.matches.now) c.args.id.now)

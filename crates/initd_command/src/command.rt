@@ -1,0 +1,140 @@
+ghost use Rattle.std.specs.Prelude.{◌≡◌, ◌≢◌, [], map, option_map, string_bytes, unwrap_or, IfOk, IsErrOf};
+ghost use Rattle.clap.specs.Words.{FailsBy, app_of, fault_of, first_of, found_of, kind_of, rows_of, subcommand_of, subcommand_rows_of};
+ghost use Rattle.initd_command.specs.CommandLine.{command_line, level_word_read, level_said, read_of, said_by, said_of, words_said};
+
+use clap::error::ErrorKind;
+use clap::{Arg, ArgMatches, Command, Error};
+use init_words::Level;
+use program_edge::only_byte;
+use std::alloc::{AllocError, Global};
+
+/// What a command line of `initd simulate` says.
+#[derive(Debug, Drop)]
+pub struct Words {
+    /// The runlevel to go to, where one is given.
+    pub level: Option<Level>,
+    /// The path of the inittab(5).
+    pub table: String,
+    /// The path of the script.
+    pub script: String,
+}
+
+/// Why words were not read.
+#[derive(Clone, Copy, Debug, PartialEq, Eq)]
+pub enum WordFault {
+    /// They are no command line of initd. A request for help is none.
+    Usage,
+    /// Want of memory.
+    Memory,
+}
+
+impl From<AllocError> for WordFault {
+    ghost use Rattle.std.specs.Prelude.{◌≡◌};
+    ghost use Rattle.initd_command.specs.declared.command.WordFault.TheVariants.{Memory};
+
+    ghost from_gives = { λ _ fault. fault ≡ Memory };
+
+    fn from(_error: AllocError) -> WordFault {
+        WordFault::Memory
+    }
+}
+
+/// Reads a command line, without the program's name in front.
+pub fn read_words(alloc: Global, words: &[String]) -> Result<Words, WordFault>
+    ensures ok { IfOk result (λ said. read_of (map string_bytes words.now) ≡ Some (said_of said)) }
+    ensures usage { IsErrOf result WordFault.Usage → read_of (map string_bytes words.now) ≡ None }
+{
+    let matches = match parse(alloc, words) {
+        Ok(matches) => matches,
+        Err(error) => return Err(word_fault(&error)),
+    };
+    match said(alloc, &matches)? {
+        Some(said) => Ok(said),
+        None => Err(WordFault::Usage),
+    }
+}
+
+/// The command line of `initd`.
+fn command<'a>(alloc: Global) -> Result<Command<'a>, AllocError>
+    ensures { IfOk result (λ made. app_of made ≡ command_line) }
+{
+    let level = Arg::new(alloc, "level").long("level");
+    let table = Arg::new(alloc, "table").required(true);
+    let script = Arg::new(alloc, "script").required(true);
+    let simulate = Command::new(alloc, "simulate")
+        .arg(level)?
+        .arg(table)?
+        .arg(script)?;
+    Command::new(alloc, "initd")
+        .no_binary_name(true)
+        .subcommand_required(true)
+        .subcommand(simulate)
+}
+
+fn parse<'a>(alloc: Global, words: &'a [String]) -> Result<ArgMatches<'a>, Error>
+    ensures entered { IfOk result (λ found. subcommand_rows_of found
+        ≡ subcommand_of command_line (map string_bytes words.entry.now)) }
+    ensures faults { FailsBy (fault_of command_line (map string_bytes words.entry.now)) result }
+{
+    command(alloc)?.try_get_matches_from(words)
+}
+
+/// What matches say; None where a level is none.
+fn said(alloc: Global, matches: &ArgMatches) -> Result<Option<Words>, AllocError>
+    ensures { IfOk result (λ said. option_map said_of said ≡ said_by (subcommand_rows_of matches.now)) }
+{
+    match matches.subcommand_matches("simulate") {
+        Some(simulate) => said_to_simulate(alloc, simulate),
+        None => Ok(None),
+    }
+}
+
+fn said_to_simulate(alloc: Global, matches: &ArgMatches) -> Result<Option<Words>, AllocError>
+    ensures { IfOk result (λ said. option_map said_of said ≡ words_said (rows_of (found_of matches.now))) }
+{
+    let Some(level) = level_given(matches) else {
+        return Ok(None);
+    };
+    Ok(Some(Words {
+        level,
+        table: String::from_str(alloc, value_of(matches, "table"))?,
+        script: String::from_str(alloc, value_of(matches, "script"))?,
+    }))
+}
+
+/// The level that matches give, if they give one; None where it is none.
+fn level_given(matches: &ArgMatches) -> Option<Option<Level>>
+    ensures { result ≡ level_said (rows_of (found_of matches.now)) }
+{
+    let Some(word) = matches.get_str("level") else {
+        return Some(None);
+    };
+    Some(Some(read_level(word)?))
+}
+
+/// The runlevel of a word of one character.
+fn read_level(word: &str) -> Option<Level>
+    ensures { result ≡ level_word_read word.now }
+{
+    Level::read(only_byte(word)?)
+}
+
+/// The value of an argument, where it has one.
+fn value_of<'a>(matches: &'a ArgMatches, id: &str) -> &'a str
+    ensures { result.now ≡ unwrap_or (first_of id.now (rows_of (found_of matches.entry.now))) [] }
+{
+    match matches.get_str(id) {
+        Some(value) => value,
+        None => "",
+    }
+}
+
+fn word_fault(error: &Error) -> WordFault
+    ensures { result ≡ WordFault.Usage → kind_of error.now ≢ ErrorKind.OutOfMemory }
+{
+    if error.kind() == ErrorKind::OutOfMemory {
+        WordFault::Memory
+    } else {
+        WordFault::Usage
+    }
+}

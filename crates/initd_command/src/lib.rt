@@ -1,0 +1,9 @@
+//! The command line of `initd`: its words, the files that they name, the run that they ask for, and what is told of a
+//! fault.
+#![tactic(auto)]
+
+mod command;
+mod running;
+
+pub use command::{WordFault, Words, read_words};
+pub use running::{USAGE, run_words};
