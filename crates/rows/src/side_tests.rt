@@ -4,12 +4,12 @@ use std::alloc::Global;
 use std::process::Abort;
 use std::test::Fail;
 use supervisor::read_line;
-use system_side::SystemSide;
+use system_side::SimulatedSystem;
 
 /// The happening is allowed or not, and is taken in where it is.
 fn step(
     rt: &impl Abort,
-    side: &mut SystemSide,
+    side: &mut SimulatedSystem,
     happening: &HappeningIn<Global>,
     is_allowed: bool,
 ) -> Result<(), Fail> {
@@ -24,7 +24,7 @@ fn step(
 fn step_line(
     rt: &impl Abort,
     alloc: Global,
-    side: &mut SystemSide,
+    side: &mut SimulatedSystem,
     line: &str,
     is_allowed: bool,
 ) -> Result<(), Fail> {
@@ -35,7 +35,7 @@ fn step_line(
 fn follow(
     rt: &impl Abort,
     alloc: Global,
-    side: &mut SystemSide,
+    side: &mut SimulatedSystem,
     rows: &[(&str, bool)],
 ) -> Result<(), Fail> {
     for (line, is_allowed) in rows {
@@ -45,7 +45,7 @@ fn follow(
 }
 
 /// Takes an order in.
-fn order(side: &mut SystemSide, id: &[u8], ask: Ask) -> Result<(), Fail> {
+fn order(side: &mut SimulatedSystem, id: &[u8], ask: Ask) -> Result<(), Fail> {
     let id = Id::read(id).ok_or("no id")?;
     let asked: HappeningIn<Global> = HappeningIn::Asked(id, ask);
     side.take(&asked)?;
@@ -53,7 +53,7 @@ fn order(side: &mut SystemSide, id: &[u8], ask: Ask) -> Result<(), Fail> {
 }
 
 /// The answer under way to the id's order.
-fn answer(side: &SystemSide, id: &[u8]) -> Option<Answer> {
+fn answer(side: &SimulatedSystem, id: &[u8]) -> Option<Answer> {
     side.answer(&Id::read(id)?)
 }
 
@@ -84,7 +84,7 @@ const REAPED: &[(&str, bool)] = &[("reaped a 7 killed", true)];
 const FREE: &[(&str, bool)] = &[("birth b 7", true)];
 
 /// The child of a is born with the number 7.
-fn bear_first(rt: &impl Abort, alloc: Global, side: &mut SystemSide) -> Result<(), Fail> {
+fn bear_first(rt: &impl Abort, alloc: Global, side: &mut SimulatedSystem) -> Result<(), Fail> {
     follow(rt, alloc, side, UNORDERED)?;
     order(side, b"a", Ask::Start)?;
     follow(rt, alloc, side, BORN)?;
@@ -93,7 +93,7 @@ fn bear_first(rt: &impl Abort, alloc: Global, side: &mut SystemSide) -> Result<(
 }
 
 /// It dies, and is not reaped.
-fn let_first_die(rt: &impl Abort, alloc: Global, side: &mut SystemSide) -> Result<(), Fail> {
+fn let_first_die(rt: &impl Abort, alloc: Global, side: &mut SimulatedSystem) -> Result<(), Fail> {
     order(side, b"a", Ask::Look)?;
     follow(rt, alloc, side, LOOKED_AT)?;
     order(side, b"b", Ask::Start)?;
@@ -101,7 +101,7 @@ fn let_first_die(rt: &impl Abort, alloc: Global, side: &mut SystemSide) -> Resul
 }
 
 /// It is reaped, and the child of b is born with its number.
-fn bear_second(rt: &impl Abort, alloc: Global, side: &mut SystemSide) -> Result<(), Fail> {
+fn bear_second(rt: &impl Abort, alloc: Global, side: &mut SimulatedSystem) -> Result<(), Fail> {
     order(side, b"a", Ask::Look)?;
     follow(rt, alloc, side, REAPED)?;
     assert!(rt; answer(side, b"a") == Some(Answer::Ended(Status::Killed)));
@@ -113,7 +113,7 @@ fn bear_second(rt: &impl Abort, alloc: Global, side: &mut SystemSide) -> Result<
 /// The children born for a and b take the number 7 in turn: it is free only once the first is reaped.
 #[test]
 fn number_of_two_children(rt: HostRuntime) -> Result<(), Fail> {
-    let mut side = SystemSide::new(rt.alloc());
+    let mut side = SimulatedSystem::new(rt.alloc());
     bear_first(&rt, rt.alloc(), &mut side)?;
     let_first_die(&rt, rt.alloc(), &mut side)?;
     bear_second(&rt, rt.alloc(), &mut side)
@@ -141,7 +141,7 @@ const ONE_REAPED: &[(&str, bool)] = &[
 
 #[test]
 fn two_children_at_once(rt: HostRuntime) -> Result<(), Fail> {
-    let mut side = SystemSide::new(rt.alloc());
+    let mut side = SimulatedSystem::new(rt.alloc());
     order(&mut side, b"a", Ask::Start)?;
     order(&mut side, b"b", Ask::Start)?;
     follow(&rt, rt.alloc(), &mut side, BOTH)?;

@@ -23,7 +23,8 @@ use Rattle.level_core.specs.Decide.{CoreState}
 use Rattle.level_core.specs.Fit.{Fits}
 use Rattle.level_core.specs.Path.{is_plain, is_act, is_of_one_table}
 use Rattle.level_core.proofs.Telling.{fits_act}
-use Rattle.supervisor.specs.Script.{line_read, words_read, words_in, birth_read, reaped_read, number_read}
+use Rattle.text_lines.specs.Numbers.{number_read}
+use Rattle.supervisor.specs.Script.{line_read, words_read, words_in, birth_read, reaped_read}
 use Rattle.supervisor.specs.declared.running.SimFault.{SimFault}
 use Rattle.supervisor.specs.declared.running.SimFault.TheVariants as fault
 use Rattle.supervisor.specs.Moments.{Moment, MayBeHeard, AtRest, GoesOn, Hears, LineBreaks, LineEnds}

@@ -1,4 +1,4 @@
 pub mod Hearing
 pub mod Many
 pub mod Moves
-pub pub mod Whole
+pub mod Whole

@@ -16,14 +16,15 @@ ghost use Rattle.supervisor.specs.Simulation.{Done, Ends, IsTooLong, scenario};
 use crate::script::read_line;
 use init_trace::{Happening, HappeningIn, Step, print_one, print_table};
 use init_words::{Level, Memory};
-use inittab_text::{Table, TableFault, next_line, read};
+use inittab_text::{Table, TableFault, read};
 use level_core::Core;
 use program_edge::write_text;
 use std::alloc::{AllocError, Allocator};
 use std::error::Error;
 use std::io::Write;
 use std::{fmt, io};
-use system_side::SystemSide;
+use system_side::SimulatedSystem;
+use text_lines::next_line;
 
 /// Why a simulated run ended before its script did.
 #[derive(Clone, Copy, Debug, PartialEq, Eq)]
@@ -117,7 +118,7 @@ fn write_happening<A: Allocator + Copy, W: Write>(
 fn run_until_rest<A: Allocator + Copy, W: Write>(
     alloc: A,
     core: &mut Core<A>,
-    side: &mut SystemSide<A>,
+    side: &mut SimulatedSystem<A>,
     out: &mut W,
 ) -> Result<(), SimFault>
     requires { SomeMoment core.old side.old }
@@ -136,7 +137,7 @@ fn run_until_rest<A: Allocator + Copy, W: Write>(
 /// The core hears what came.
 fn pass_on<A: Allocator + Copy>(
     core: &mut Core<A>,
-    side: &SystemSide<A>,
+    side: &SimulatedSystem<A>,
     happening: &HappeningIn<A>,
 )
     ensures { FromMoment core.old side.now (λ goal past. MayBeHeard goal happening.now past
@@ -158,7 +159,7 @@ fn pass_on<A: Allocator + Copy>(
 fn hear<A: Allocator + Copy, W: Write>(
     alloc: A,
     core: &mut Core<A>,
-    side: &mut SystemSide<A>,
+    side: &mut SimulatedSystem<A>,
     out: &mut W,
     happening: &HappeningIn<A>,
 ) -> Result<(), SimFault>
@@ -178,7 +179,7 @@ fn hear<A: Allocator + Copy, W: Write>(
 fn take_line<A: Allocator + Copy, W: Write>(
     alloc: A,
     core: &mut Core<A>,
-    side: &mut SystemSide<A>,
+    side: &mut SimulatedSystem<A>,
     out: &mut W,
     line: &[u8],
     number: u64,
@@ -255,7 +256,7 @@ pub fn simulate<A: Allocator + Copy, W: Write>(
     ensures limit { IsTooLong inittab.now → result ≡ Err SimFault.Table }
 {
     let mut core = open_run(alloc, inittab, level, out)?;
-    let mut side = SystemSide::new(alloc);
+    let mut side = SimulatedSystem::new(alloc);
     run_until_rest(alloc, &mut core, &mut side, out)?;
     let mut rest = script;
     let mut number = 0;

@@ -4,7 +4,7 @@ use Rattle.std.specs.Option.{option_map}
 use Rattle.init_trace.specs.Event.{Event}
 use Rattle.init_trace.specs.Past.{Child, has_number, is_dead, undone_of, unreaped_children}
 use Rattle.init_trace.specs.Answered.{answered_of}
-use Rattle.system_side.specs.declared.sides.Process.{Process}
+use Rattle.system_side.specs.declared.simulated.Process.{Process}
 use Rattle.system_side.specs.State.{State, order_in, answer_in, child_in}
 
 -- a child as the state keeps it

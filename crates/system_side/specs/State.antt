@@ -5,7 +5,7 @@ use Rattle.std.specs.Option.{option_map, option_map_or}
 use Rattle.init_words.specs.declared.orders.Ask.{Ask}
 use Rattle.init_words.specs.declared.orders.Answer.{Answer}
 use Rattle.init_words.specs.Ids.{same_id}
-use Rattle.system_side.specs.declared.sides.Process.{Process}
+use Rattle.system_side.specs.declared.simulated.Process.{Process}
 
 -- the undone orders and the untold answers, each by its id, and the unreaped children, each by its number
 pub record State : Type 0 where

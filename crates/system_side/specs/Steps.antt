@@ -8,7 +8,7 @@ use Rattle.init_trace.specs.Event.{Event, act_in}
 use Rattle.init_trace.specs.Past.{undone_by}
 use Rattle.init_trace.specs.Answered.{answered_by}
 use Rattle.init_trace.specs.Wanted.{is_order}
-use Rattle.system_side.specs.declared.sides.Process.{Process}
+use Rattle.system_side.specs.declared.simulated.Process.{Process}
 use Rattle.system_side.specs.State.{State, order_in, answer_in, child_in, is_living_in, is_dead_in, without, with, with_child, with_death, without_child}
 
 -- a happening of the system or of the edge that a script may have

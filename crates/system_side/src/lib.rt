@@ -2,6 +2,6 @@
 //! trace. The state is what the trace says of the orders, the answers under way and the children.
 #![tactic(auto)]
 
-mod sides;
+mod simulated;
 
-pub use sides::SystemSide;
+pub use simulated::SimulatedSystem;

@@ -1,6 +1,6 @@
 use Rattle.std.proofs.Common.{rules, ◌≡◌, ◌∷◌, [], List, Err, ◌∙◌, ap, subst, arith}
 use Rattle.init_trace.specs.declared.happenings.Happening.TheVariants.{NewTable}
-use Rattle.inittab_text.specs.Lines.{lines_of}
+use Rattle.text_lines.specs.Lines.{lines_of}
 use Rattle.inittab_text.specs.Reading.{table_of_text}
 use Rattle.supervisor.specs.declared.running.SimFault.TheVariants as fault
 use Rattle.supervisor.specs.Moments.{SoFar}

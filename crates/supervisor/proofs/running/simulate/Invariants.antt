@@ -1,5 +1,5 @@
 use Rattle.std.proofs.Common.{◌+◌, ◌≤◌, length}
-use Rattle.inittab_text.specs.Lines.{lines_of}
+use Rattle.text_lines.specs.Lines.{lines_of}
 use Rattle.supervisor.specs.Moments.{SoFar}
 use Rattle.supervisor.specs.Simulation.{scenario}
 use Rattle.supervisor.proofs.running.simulate.Given as goal

@@ -17,13 +17,13 @@ pub struct Process {
 /// What the system holds between two happenings: the orders on which nothing was done, the acts that were not told,
 /// and the unreaped children.
 #[derive(Drop)]
-pub struct SystemSide<A: Allocator = Global> {
+pub struct SimulatedSystem<A: Allocator = Global> {
     orders: IndexMap<Id, Ask, BuildHasherDefault<FoldHasher>, A>,
     answers: IndexMap<Id, Answer, BuildHasherDefault<FoldHasher>, A>,
     children: IndexMap<u32, Process, BuildHasherDefault<FoldHasher>, A>,
 }
 
-impl<A: Allocator> Model for SystemSide<A> {
+impl<A: Allocator> Model for SimulatedSystem<A> {
     ghost use Rattle.system_side.specs.State.{State};
 
     ghost Value = { State };
@@ -35,7 +35,7 @@ impl<A: Allocator> Model for SystemSide<A> {
     } };
 }
 
-impl<A: Allocator + Copy> SystemSide<A> {
+impl<A: Allocator + Copy> SimulatedSystem<A> {
     ghost use Rattle.std.specs.Prelude.{List, [], ◌∷◌};
     ghost use Rattle.init_words.specs.declared.entries.Entry.{Entry};
     ghost use Rattle.init_trace.specs.declared.happenings.Happening.TheVariants.{NewTable};
@@ -43,16 +43,16 @@ impl<A: Allocator + Copy> SystemSide<A> {
     ghost use Rattle.system_side.specs.Follows.{Follows};
 
     /// The system before init's first step: it fits the trace that is a table alone. It takes no memory.
-    pub fn new(alloc: A) -> SystemSide<A>
+    pub fn new(alloc: A) -> SimulatedSystem<A>
         ensures { (table : List Entry) → Follows result (NewTable table ∷ []) }
     {
-        SystemSide::new_by_state(alloc)
+        SimulatedSystem::new_by_state(alloc)
     }
 
-    fn new_by_state(alloc: A) -> SystemSide<A>
+    fn new_by_state(alloc: A) -> SimulatedSystem<A>
         ensures { result ≡ empty }
     {
-        SystemSide {
+        SimulatedSystem {
             orders: IndexMap::new(alloc),
             answers: IndexMap::new(alloc),
             children: IndexMap::new(alloc),
@@ -60,7 +60,7 @@ impl<A: Allocator + Copy> SystemSide<A> {
     }
 }
 
-impl<A: Allocator> SystemSide<A> {
+impl<A: Allocator> SimulatedSystem<A> {
     ghost use Rattle.std.specs.Prelude.{ℕ, List, ◌∷◌, false, ◌&&◌, IsTrue, IsOk};
     ghost use Rattle.init_trace.specs.declared.steps.Goal.{Goal};
     ghost use Rattle.init_trace.specs.Event.{Event};

@@ -1,6 +1,6 @@
 use Rattle.std.specs.Prelude.{Result, Ok, Err, OnOk}
 use Rattle.system_side.proofs.Taking.{follows_after}
-use Rattle.system_side.proofs.sides.SystemSide.take.Goals as goal
+use Rattle.system_side.proofs.simulated.SimulatedSystem.take.Goals as goal
 
 -- what three clauses say together of the same `Ok`
 three : {T E : Type 0} (r : Result T E) (P Q R S : Type 0) → (P → Q → R → S) → OnOk r P → OnOk r Q → OnOk r R → OnOk r S
