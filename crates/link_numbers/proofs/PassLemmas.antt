@@ -5,7 +5,7 @@ use Rattle.std.specs.Str.{bytes_eq}
 use Rattle.std.proofs.lemmas.Slice.Eq.{bytes_eq-Decides}
 use Rattle.std.proofs.lemmas.Bool.{false_from_ne_true, true≢false, eqb-true, eq-eqb}
 use Rattle.link_numbers.specs.Numbering.{InRange, IsLeast, IsNumbering, Needs}
-use Rattle.link_numbers.specs.Passes.{IsPartial, IsStuck, height_from, raised, settled, zeros}
+use Rattle.link_numbers.specs.Passes.{AreHeights, IsPartial, IsStuck, height_from, raised, settled, zeros}
 
 -- a number that is not 0
 pub not_zero : (n : ℕ) → 0 < n → (n == 0) ≡ false
@@ -200,10 +200,6 @@ IsPartial-start count edges = record {
   rises = λ a b need some. absurd (let e = get_or-zeros count a in omega arith);
   least = λ number is a. let e = get_or-zeros count a in omega arith;
 }
-
--- what the heights of a pass are
-abbrev pub AreHeights : List (ℕ × ℕ) → List ℕ → List ℕ → Type 0
-AreHeights edges numbers heights = (a : ℕ) → a < length numbers → get_or heights a 0 ≡ height_from numbers a 1 edges
 
 -- the number of a place after a pass: its own, or its height where it had none
 abbrev After : List ℕ → List ℕ → ℕ → Type 0

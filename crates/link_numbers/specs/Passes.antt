@@ -18,6 +18,16 @@ need_from numbers a found [] = found
 need_from numbers a found (edge ∷ edges) =
     need_from numbers a (if edge.0 == a && get_or numbers edge.1 0 == 0 then edge.1 else found) edges
 
+-- the heights of the places, one more than the greatest number that each needs
+abbrev pub AreHeights : List (ℕ × ℕ) → List ℕ → List ℕ → Type 0
+AreHeights edges numbers heights =
+    (a : ℕ) → a < length numbers → get_or heights a 0 ≡ height_from numbers a 1 edges
+
+-- for each place the last of its needs that has no number
+abbrev pub AreBlockers : List (ℕ × ℕ) → List ℕ → List ℕ → Type 0
+AreBlockers edges numbers found =
+    (a : ℕ) → a < length numbers → get_or found a 0 ≡ need_from numbers a 0 edges
+
 -- the numbers, with a height for each place that had no number
 abbrev pub settled : List ℕ → List ℕ → List ℕ
 settled [] heights = []

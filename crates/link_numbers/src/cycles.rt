@@ -1,6 +1,6 @@
 ghost use Rattle.std.specs.Prelude.{◌≡◌, ◌<◌, ◌≤◌, ◌++◌, ℕ, List, [], ◌∷◌, Some, None, is_some, if◌then◌else◌, length, get_or, set, drop, take, IfOk, OnOk, IfSome, IsPermutation};
 ghost use Rattle.link_numbers.specs.Numbering.{AllBelow, AreSteps, InRange, IsCycle, IsRing};
-ghost use Rattle.link_numbers.specs.Passes.{IsStuck, need_from};
+ghost use Rattle.link_numbers.specs.Passes.{AreBlockers, IsStuck};
 
 use init_words::Memory;
 use std::alloc::Allocator;
@@ -13,7 +13,7 @@ fn blockers<A: Allocator>(
 ) -> Result<Vec<usize, A>, Memory>
     requires { InRange (length numbers.now) edges.now }
     ensures size { IfOk result (λ found. length found.items ≡ length numbers.now) }
-    ensures value { IfOk result (λ found. (a : ℕ) → a < length numbers.now → get_or found.items a 0 ≡ need_from numbers.now a 0 edges.now) }
+    ensures value { IfOk result (λ found. AreBlockers edges.now numbers.now found.items) }
 {
     let mut found = vec![in alloc; 0; numbers.len()]?;
     for (place, need) in edges {
@@ -89,8 +89,10 @@ fn meet<A: Allocator>(
 ) -> Result<(), Memory>
     requires { place < length steps.old }
     ensures size { length steps.new ≡ length steps.old }
-    ensures steps { OnOk result (steps.new ≡ (if is_some (get_or steps.old place None) then steps.old else set steps.old place (Some need))) }
-    ensures met { OnOk result (met.new.items ≡ (if is_some (get_or steps.old place None) then met.old.items else met.old.items ++ place ∷ [])) }
+    ensures steps { OnOk result (steps.new ≡
+        (if is_some (get_or steps.old place None) then steps.old else set steps.old place (Some need))) }
+    ensures met { OnOk result (met.new.items ≡
+        (if is_some (get_or steps.old place None) then met.old.items else met.old.items ++ place ∷ [])) }
 {
     if steps[place].is_none() {
         met.push(place)?;
@@ -154,7 +156,8 @@ fn ring_along<A: Allocator>(
 ) -> Result<Option<Vec<usize, A>>, Memory>
     requires place { place < length steps.now }
     requires range { (a b : ℕ) → get_or steps.now a None ≡ Some b → b < length steps.now }
-    ensures ring { IfOk result (λ found. IfSome found (λ ring. (edges : List (ℕ × ℕ)) → AreSteps edges steps.now → IsRing edges ring.items)) }
+    ensures ring { IfOk result (λ found. IfSome found
+        (λ ring. (edges : List (ℕ × ℕ)) → AreSteps edges steps.now → IsRing edges ring.items)) }
     ensures below { IfOk result (λ found. IfSome found (λ ring. AllBelow (length steps.now) ring.items)) }
 {
     let mut ring = Vec::new(alloc);
@@ -211,7 +214,8 @@ fn earliest_ring<A: Allocator + Copy>(
     Ok(None)
 }
 
-/// A shortest ring through the earliest place that is on one, or, where none is found, the one to which this place leads.
+/// A shortest ring through the earliest place that is on one, or, where none is found, the one to which this place
+/// leads.
 fn told_ring<A: Allocator + Copy>(
     alloc: A,
     edges: &[(usize, usize)],

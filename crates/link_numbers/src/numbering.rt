@@ -19,7 +19,8 @@ fn first_without(numbers: &[usize]) -> Option<usize>
     None
 }
 
-/// The least numbers of the places, or, where there is no numbering at all, a cycle that begins with its earliest place.
+/// The least numbers of the places below the count, each 1 or more, or, where there is no numbering at all, a cycle
+/// that begins with its earliest place. The first of a pair needs the second.
 pub fn ordered<A: Allocator + Copy>(
     alloc: A,
     count: usize,

@@ -1,6 +1,6 @@
 ghost use Rattle.std.specs.Prelude.{◌≡◌, ◌+◌, ◌<◌, ◌≤◌, ℕ, true, false, if◌then◌else◌, ◌==◌, length, get_or, IfOk};
 ghost use Rattle.link_numbers.specs.Numbering.{InRange};
-ghost use Rattle.link_numbers.specs.Passes.{IsPartial, IsStuck, height_from, raised, settled};
+ghost use Rattle.link_numbers.specs.Passes.{AreHeights, IsPartial, IsStuck, raised, settled};
 
 use init_words::Memory;
 use std::alloc::Allocator;
@@ -26,7 +26,7 @@ fn heights<A: Allocator>(
     requires range { InRange (length numbers.now) edges.now }
     requires small { (a : ℕ) → get_or numbers.now a 0 + 1 < 18446744073709551616 }
     ensures size { IfOk result (λ heights. length heights.items ≡ length numbers.now) }
-    ensures value { IfOk result (λ heights. (a : ℕ) → a < length numbers.now → get_or heights.items a 0 ≡ height_from numbers.now a 1 edges.now) }
+    ensures value { IfOk result (λ heights. AreHeights edges.now numbers.now heights.items) }
 {
     let mut heights = vec![in alloc; 1; numbers.len()]?;
     for (place, need) in edges {

@@ -305,7 +305,12 @@ impl Write for Slow {
 }
 
 /// What a writer of so much room took of the links of a script, what was told, and the status, parted by bars.
-fn slow_run(rt: &impl Files, alloc: Global, room: usize, is_flushed: bool) -> Result<Vec<u8>, Fail> {
+fn slow_run(
+    rt: &impl Files,
+    alloc: Global,
+    room: usize,
+    is_flushed: bool,
+) -> Result<Vec<u8>, Fail> {
     let words = words_of(alloc, "slow-net")?;
     let mut out = Slow {
         taken: Vec::new(alloc),

@@ -125,7 +125,10 @@ const EXAMPLE: &[u8] = b"#!/bin/sh
 #[test]
 fn the_example(rt: HostRuntime) -> Result<(), Fail> {
     let given = shown_of(rt.alloc(), EXAMPLE)?;
-    assert_eq!(rt; given.as_slice(), b" web www/ $network db////35///serves pages".as_slice());
+    assert_eq!(rt;
+        given.as_slice(),
+        b" web www/ $network db////35///serves pages".as_slice()
+    );
     Ok(())
 }
 
@@ -134,7 +137,10 @@ const SHOWN: &[(&[u8], &[u8])] = &[
     // Nothing behind the '#' but blanks and tabs.
     (b"#\n# \n#\t\n# \t \n# Provides: a\n#   \n", b" a////////"),
     // Indented lines that continue no description.
-    (b"#\tx\n#  Provides: b\n# Provides: a\n#  c\n", b" a////////"),
+    (
+        b"#\tx\n#  Provides: b\n# Provides: a\n#  c\n",
+        b" a////////",
+    ),
     // Indented lines that continue one, empty comments among them.
     (
         b"# Provides: a\n# Description:\t one \n#\n#\ttwo\t\n# \t\n#   three: 3\n",
@@ -232,10 +238,19 @@ fn each_keyword_has_its_field(rt: HostRuntime) -> Result<(), Fail> {
 
 /// A keyword's second line, where it has one.
 const SECOND_LINES: &[(&[u8], Option<usize>)] = &[
-    (b"#\n### BEGIN INIT INFO\n# Provides: a\n# PROVIDES: b\n# Provides: c\n### END INIT INFO\n", Some(4)),
-    (b"### BEGIN INIT INFO\n# Provides: a\n### END INIT INFO\n# Provides: b\n", None),
+    (
+        b"#\n### BEGIN INIT INFO\n# Provides: a\n# PROVIDES: b\n# Provides: c\n### END INIT INFO\n",
+        Some(4),
+    ),
+    (
+        b"### BEGIN INIT INFO\n# Provides: a\n### END INIT INFO\n# Provides: b\n",
+        None,
+    ),
     (b"# Provides: a\n### BEGIN INIT INFO\n# Provides: b\n", None),
-    (b"### BEGIN INIT INFO\n# X-Own: b\n# Should-Start: a\n", None),
+    (
+        b"### BEGIN INIT INFO\n# X-Own: b\n# Should-Start: a\n",
+        None,
+    ),
     (b"# Provides: a\n# Provides: b\n", None),
 ];
 
@@ -292,9 +307,15 @@ fn lines_that_are_bad(rt: HostRuntime) -> Result<(), Fail> {
 const FIRST_FAULTS: &[(&[u8], HeaderFault)] = &[
     (b"", HeaderFault::NoProvides),
     (b"# Provides: \t\n", HeaderFault::NoProvides),
-    (b"# X-Provides: a\n#  Provides: a\n", HeaderFault::NoProvides),
+    (
+        b"# X-Provides: a\n#  Provides: a\n",
+        HeaderFault::NoProvides,
+    ),
     (b"# Should-Stop: a\nx\n", HeaderFault::BadLine(3)),
-    (b"x\n# Provides: a\n# Provides: b\n", HeaderFault::BadLine(2)),
+    (
+        b"x\n# Provides: a\n# Provides: b\n",
+        HeaderFault::BadLine(2),
+    ),
     (
         b"# Provides:\n# PROVIDES: b\n",
         HeaderFault::Twice(Keyword::Provides),
@@ -416,7 +437,11 @@ fn faults_are_told(rt: HostRuntime) -> Result<(), Fail> {
 }
 
 /// What is shown of a header that is read with so much room, or the fault.
-fn shown_with(alloc: Global, text: &[u8], room: usize) -> Result<Result<Vec<u8>, HeaderFault>, Fail> {
+fn shown_with(
+    alloc: Global,
+    text: &[u8],
+    room: usize,
+) -> Result<Result<Vec<u8>, HeaderFault>, Fail> {
     let heap = LocalHeap::new(alloc, room)?;
     match read(&heap, text) {
         Ok(header) => Ok(Ok(shown(alloc, &header)?)),

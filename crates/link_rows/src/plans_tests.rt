@@ -74,7 +74,11 @@ const TOLD: &[(&[Row], &[u8])] = &[
         b"missing: db",
     ),
     (
-        &[("net", "", "$network"), ("web", "www", "db"), ("db", "", "net")],
+        &[
+            ("net", "", "$network"),
+            ("web", "www", "db"),
+            ("db", "", "net"),
+        ],
         b"rc3.d/S01net ../init.d/net\nrc3.d/S02db ../init.d/db\nrc3.d/S03web ../init.d/web\n",
     ),
     (
@@ -94,7 +98,12 @@ const TOLD: &[(&[Row], &[u8])] = &[
     (&[("a", "", "a")], b"cycle: a"),
     // Of several cycles a shortest one of the earliest script.
     (
-        &[("a", "", "b c"), ("b", "", "a"), ("c", "", "d"), ("d", "", "a")],
+        &[
+            ("a", "", "b c"),
+            ("b", "", "a"),
+            ("c", "", "d"),
+            ("d", "", "a"),
+        ],
         b"cycle: a b",
     ),
     (

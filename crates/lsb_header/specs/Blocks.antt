@@ -11,7 +11,7 @@ use Rattle.lsb_header.specs.declared.keywords.Keyword.{Keyword}
 use Rattle.lsb_header.specs.declared.keywords.Keyword.TheVariants as keyword
 use Rattle.lsb_header.specs.Forms.{args_in, is_empty_comment, is_indented, is_line, known_of}
 use Rattle.lsb_header.specs.Keywords.{same_keyword}
-use Rattle.text_lines.specs.Lines.{trim, trim_end}
+use Rattle.text_lines.specs.Lines.{lines_of, trim, trim_end}
 
 -- the line that begins the header
 unfoldable pub is_begin : List ℕ → Bool
@@ -31,6 +31,10 @@ abbrev pub block_of : List (List ℕ) → List (List ℕ)
 block_of [] = []
 block_of (line ∷ lines) = if is_end line then [] else line ∷ block_of lines
 
+-- the lines of the header in the text behind the line that begins it
+abbrev pub block_in : List ℕ → List (List ℕ)
+block_in body = block_of (lines_of body)
+
 -- the keyword of a line, after those seen before it: a second one is a fault
 abbrev pub twice_fault : List Keyword → Option (Keyword × List ℕ) → Option HeaderFault
 twice_fault seen None = None
@@ -38,7 +42,8 @@ twice_fault seen (Some known) = if list_any (same_keyword known.0) seen then Som
 
 -- the fault of the line of a number, after lines that had these keywords
 abbrev pub line_fault : List Keyword → ℕ → List ℕ → Option HeaderFault
-line_fault seen number line = if not (is_line line) then Some (fault.BadLine number) else twice_fault seen (known_of line)
+line_fault seen number line =
+    if not (is_line line) then Some (fault.BadLine number) else twice_fault seen (known_of line)
 
 -- the keywords with that of a line
 abbrev pub with_known : List Keyword → Option (Keyword × List ℕ) → List Keyword

@@ -1,8 +1,12 @@
 -- What is said of a header that was not read.
-use Rattle.std.specs.Prelude.{ℕ, List, ◌++◌, codes, decimal}
+use Rattle.std.specs.Prelude.{◌≡◌, ◌≢◌, ℕ, Option, Some, List, ◌++◌, codes, decimal}
 use Rattle.lsb_header.specs.declared.faults.HeaderFault.{HeaderFault}
 use Rattle.lsb_header.specs.declared.faults.HeaderFault.TheVariants as fault
 use Rattle.lsb_header.specs.Keywords.{word_of}
+
+-- the fault is the one that is due, or memory ran out
+abbrev pub IsDue : Option HeaderFault → HeaderFault → Type 0
+IsDue due found = found ≢ fault.Memory → due ≡ Some found
 
 -- the reason, the line where the fault has one, and what a header has in its place
 abbrev pub fault_text : HeaderFault → List ℕ

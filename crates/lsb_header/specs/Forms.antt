@@ -41,7 +41,8 @@ is_word text = not (is_empty text) && not (list_any is_blank text)
 -- the word before the first colon of a line "# keyword: args", and what stands behind the colon
 unfoldable pub field_of : List ℕ → Option (List ℕ × List ℕ)
 field_of line =
-    option_and_then (λ body. option_and_then (λ parts. if is_word parts.0 then Some parts else None) (cut 58 body)) (body_of line)
+    option_and_then (λ body. option_and_then (λ parts. if is_word parts.0 then Some parts else None) (cut 58 body))
+    (body_of line)
 
 -- a line that may stand in a header
 unfoldable pub is_line : List ℕ → Bool
@@ -53,4 +54,5 @@ known_of line = option_and_then (λ parts. option_map (λ k. (k, parts.1)) (keyw
 
 -- what stands behind the colon of a line of this keyword
 unfoldable pub args_in : Keyword → List ℕ → Option (List ℕ)
-args_in keyword line = option_and_then (λ parts. if same_keyword keyword parts.0 then Some parts.1 else None) (known_of line)
+args_in keyword line =
+    option_and_then (λ parts. if same_keyword keyword parts.0 then Some parts.1 else None) (known_of line)

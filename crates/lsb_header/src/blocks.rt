@@ -2,7 +2,7 @@ ghost use Rattle.std.specs.Prelude.{◌≡◌, ◌<◌, ◌+◌, ◌≤◌, ◌�
 ghost use Rattle.std.specs.List.{list_any};
 ghost use Rattle.std.specs.Option.{option_map};
 ghost use Rattle.text_lines.specs.Lines.{lines_of};
-ghost use Rattle.lsb_header.specs.Blocks.{begun, block_of, is_begin, is_end};
+ghost use Rattle.lsb_header.specs.Blocks.{begun, block_in, is_begin, is_end};
 
 use text_lines::{first_line, without_tail};
 
@@ -57,8 +57,8 @@ pub(crate) fn has_end(body: &[u8]) -> bool
 
 /// The first line of what is left of the header, and the text after it.
 pub(crate) fn block_line(rest: &[u8]) -> Option<(&[u8], &[u8])>
-    ensures none { IfNone result (block_of (lines_of rest.now) ≡ []) }
-    ensures some { IfSome result (λ parts. block_of (lines_of rest.now) ≡ parts.0.now ∷ block_of (lines_of parts.1.now)) }
+    ensures none { IfNone result (block_in rest.now ≡ []) }
+    ensures some { IfSome result (λ parts. block_in rest.now ≡ parts.0.now ∷ block_in parts.1.now) }
     ensures shorter { IfSome result (λ parts. length parts.1.now < length rest.now) }
 {
     if rest.is_empty() {

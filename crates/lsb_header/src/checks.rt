@@ -1,8 +1,8 @@
-ghost use Rattle.std.specs.Prelude.{◌≡◌, ◌≢◌, ◌<◌, ◌+◌, ◌^◌, [], None, Some, length, OnOk, IfErr};
+ghost use Rattle.std.specs.Prelude.{◌≡◌, ◌<◌, ◌+◌, ◌^◌, [], None, length, OnOk, IfErr};
 ghost use Rattle.std.specs.List.{list_any};
-ghost use Rattle.text_lines.specs.Lines.{lines_of};
+ghost use Rattle.lsb_header.specs.Faults.{IsDue};
 ghost use Rattle.lsb_header.specs.Keywords.{same_keyword};
-ghost use Rattle.lsb_header.specs.Blocks.{block_of, block_fault, line_fault, seen_after};
+ghost use Rattle.lsb_header.specs.Blocks.{block_fault, block_in, line_fault, seen_after};
 
 use crate::blocks::block_line;
 use crate::faults::HeaderFault;
@@ -24,7 +24,7 @@ fn check_line<A: Allocator>(
 ) -> Result<(), HeaderFault>
     ensures fine { OnOk result (line_fault seen.old.items number line.now ≡ None) }
     ensures seen { OnOk result (seen.new.items ≡ seen_after seen.old.items line.now) }
-    ensures fault { IfErr result (λ fault. fault ≢ HeaderFault.Memory → line_fault seen.old.items number line.now ≡ Some fault) }
+    ensures fault { IfErr result (IsDue (line_fault seen.old.items number line.now)) }
 {
     if !is_line(line) {
         return Err(HeaderFault::BadLine(number));
@@ -42,8 +42,8 @@ fn check_line<A: Allocator>(
 /// Checks the header's lines one by one; the first has the number after this one.
 pub(crate) fn check<A: Allocator>(alloc: A, begin: usize, body: &[u8]) -> Result<(), HeaderFault>
     requires { begin + length body.now < 2 ^ 64 }
-    ensures fine { OnOk result (block_fault [] (begin + 1) (block_of (lines_of body.now)) ≡ None) }
-    ensures fault { IfErr result (λ fault. fault ≢ HeaderFault.Memory → block_fault [] (begin + 1) (block_of (lines_of body.now)) ≡ Some fault) }
+    ensures fine { OnOk result (block_fault [] (begin + 1) (block_in body.now) ≡ None) }
+    ensures fault { IfErr result (IsDue (block_fault [] (begin + 1) (block_in body.now))) }
 {
     let mut seen = Vec::new(alloc);
     let mut number = begin;

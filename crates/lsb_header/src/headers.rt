@@ -1,8 +1,8 @@
 ghost use Rattle.std.specs.Prelude.{◌≡◌, ◌≢◌, Ok, Err, map, string_bytes, IfOk, IfErr};
 ghost use Rattle.std.specs.List.{AllByRecursion};
 ghost use Rattle.std.specs.Str.{IsUtf8};
-ghost use Rattle.text_lines.specs.Lines.{lines_of, words_of};
-ghost use Rattle.lsb_header.specs.Blocks.{block_of};
+ghost use Rattle.text_lines.specs.Lines.{words_of};
+ghost use Rattle.lsb_header.specs.Blocks.{block_in};
 ghost use Rattle.lsb_header.specs.Headers.{header_of, header_read, text_at};
 
 use crate::blocks::{begun, has_end};
@@ -118,16 +118,16 @@ fn names_of<A: Allocator + Copy>(
     keyword: Keyword,
     body: &[u8],
 ) -> Result<Vec<String<A>, A>, Memory>
-    requires { AllByRecursion IsUtf8 (block_of (lines_of body.now)) }
-    ensures { IfOk result (λ words. map string_bytes words.items ≡ words_of (text_at keyword (block_of (lines_of body.now)))) }
+    requires { AllByRecursion IsUtf8 (block_in body.now) }
+    ensures { IfOk result (λ words. map string_bytes words.items ≡ words_of (text_at keyword (block_in body.now))) }
 {
     words_of(alloc, args_of(keyword, body))
 }
 
 /// The header in the lines before the one that ends it.
 fn header_of<A: Allocator + Copy>(alloc: A, body: &[u8]) -> Result<Header<A>, Memory>
-    requires { AllByRecursion IsUtf8 (block_of (lines_of body.now)) }
-    ensures { IfOk result (λ header. header ≡ header_of (block_of (lines_of body.now))) }
+    requires { AllByRecursion IsUtf8 (block_in body.now) }
+    ensures { IfOk result (λ header. header ≡ header_of (block_in body.now)) }
 {
     Ok(Header {
         provides: names_of(alloc, Keyword::Provides, body)?,

@@ -2,9 +2,9 @@ ghost use Rattle.std.specs.Prelude.{◌≡◌, ◌++◌, ◌∷◌, [], map, str
 ghost use Rattle.std.specs.List.{AllByRecursion};
 ghost use Rattle.std.specs.Str.{IsUtf8};
 ghost use Rattle.std.specs.Option.{option_map};
-ghost use Rattle.text_lines.specs.Lines.{lines_of, trim, words_of};
+ghost use Rattle.text_lines.specs.Lines.{trim, words_of};
 ghost use Rattle.lsb_header.specs.Headers.{text_at};
-ghost use Rattle.lsb_header.specs.Blocks.{args_of, block_of, continued, description_of, level_in, levels_of};
+ghost use Rattle.lsb_header.specs.Blocks.{args_of, block_in, continued, description_of, level_in, levels_of};
 
 use crate::blocks::block_line;
 use crate::forms::{args_in, is_empty_comment, is_indented};
@@ -15,7 +15,7 @@ use text_lines::{next_word, trimmed};
 
 /// What stands behind the colon of the header's line of this keyword.
 fn find_args(keyword: Keyword, body: &[u8]) -> Option<&[u8]>
-    ensures { option_map (λ args. args.now) result ≡ args_of keyword (block_of (lines_of body.now)) }
+    ensures { option_map (λ args. args.now) result ≡ args_of keyword (block_in body.now) }
 {
     let mut rest = body;
     while let Some((line, more)) = block_line(rest) {
@@ -29,7 +29,7 @@ fn find_args(keyword: Keyword, body: &[u8]) -> Option<&[u8]>
 
 /// The same, and nothing where there is no such line.
 pub(crate) fn args_of(keyword: Keyword, body: &[u8]) -> &[u8]
-    ensures { result.now ≡ unwrap_or (args_of keyword (block_of (lines_of body.now))) [] }
+    ensures { result.now ≡ unwrap_or (args_of keyword (block_in body.now)) [] }
 {
     match find_args(keyword, body) {
         Some(args) => args,
@@ -92,7 +92,7 @@ pub(crate) fn levels_of<A: Allocator>(alloc: A, text: &[u8]) -> Result<Vec<Level
 
 /// Appends what continues a description, each piece with a blank before it.
 fn continue_text<A: Allocator>(text: &mut Vec<u8, A>, body: &[u8]) -> Result<(), Memory>
-    ensures { OnOk result (text.new.items ≡ text.old.items ++ continued (block_of (lines_of body.now))) }
+    ensures { OnOk result (text.new.items ≡ text.old.items ++ continued (block_in body.now)) }
 {
     let mut rest = body;
     while let Some((line, more)) = block_line(rest) {
@@ -110,8 +110,8 @@ fn continue_text<A: Allocator>(text: &mut Vec<u8, A>, body: &[u8]) -> Result<(),
 
 /// The short description.
 pub(crate) fn short_description_of<A: Allocator>(alloc: A, body: &[u8]) -> Result<String<A>, Memory>
-    requires { AllByRecursion IsUtf8 (block_of (lines_of body.now)) }
-    ensures { IfOk result (λ text. string_bytes text ≡ trim (text_at Keyword.ShortDescription (block_of (lines_of body.now)))) }
+    requires { AllByRecursion IsUtf8 (block_in body.now) }
+    ensures { IfOk result (λ text. string_bytes text ≡ trim (text_at Keyword.ShortDescription (block_in body.now))) }
 {
     let text = trimmed(args_of(Keyword::ShortDescription, body));
     Ok(string_of(Vec::from_slice(alloc, text)?))
@@ -119,7 +119,7 @@ pub(crate) fn short_description_of<A: Allocator>(alloc: A, body: &[u8]) -> Resul
 
 /// The bytes of the description, with the lines that continue it.
 fn described<A: Allocator>(alloc: A, body: &[u8]) -> Result<Vec<u8, A>, Memory>
-    ensures { IfOk result (λ text. text.items ≡ description_of (block_of (lines_of body.now))) }
+    ensures { IfOk result (λ text. text.items ≡ description_of (block_in body.now)) }
 {
     let mut text = Vec::new(alloc);
     let mut rest = body;
@@ -136,8 +136,8 @@ fn described<A: Allocator>(alloc: A, body: &[u8]) -> Result<Vec<u8, A>, Memory>
 
 /// The description, with the lines that continue it.
 pub(crate) fn description_of<A: Allocator>(alloc: A, body: &[u8]) -> Result<String<A>, Memory>
-    requires { AllByRecursion IsUtf8 (block_of (lines_of body.now)) }
-    ensures { IfOk result (λ text. string_bytes text ≡ description_of (block_of (lines_of body.now))) }
+    requires { AllByRecursion IsUtf8 (block_in body.now) }
+    ensures { IfOk result (λ text. string_bytes text ≡ description_of (block_in body.now)) }
 {
     Ok(string_of(described(alloc, body)?))
 }

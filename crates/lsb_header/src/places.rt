@@ -1,7 +1,6 @@
 ghost use Rattle.std.specs.Prelude.{◌≡◌, ◌+◌, ◌≤◌, ◌<◌, ◌^◌, length, IfSome};
 ghost use Rattle.std.specs.Option.{option_map};
-ghost use Rattle.text_lines.specs.Lines.{lines_of};
-ghost use Rattle.lsb_header.specs.Blocks.{block_of};
+ghost use Rattle.lsb_header.specs.Blocks.{block_in};
 ghost use Rattle.lsb_header.specs.Places.{next_line, second_line};
 
 use crate::blocks::{begun, block_line};
@@ -12,7 +11,8 @@ use crate::keywords::Keyword;
 /// behind it.
 fn next_line(keyword: Keyword, before: usize, body: &[u8]) -> Option<(usize, &[u8])>
     requires { before + length body.now < 2 ^ 64 }
-    ensures value { option_map (λ at. (at.0, block_of (lines_of at.1.now))) result ≡ next_line keyword (before + 1) (block_of (lines_of body.now)) }
+    ensures value { option_map (λ at. (at.0, block_in at.1.now)) result
+        ≡ next_line keyword (before + 1) (block_in body.now) }
     ensures counted { IfSome result (λ at. at.0 + length at.1.now ≤ before + length body.now) }
 {
     let mut number = before;

@@ -45,12 +45,14 @@ start_links level plan = map (λ s. link_of (byte "S") s.start s.name) (filter (
 
 -- a link's line: where it stands, and the script that it names
 abbrev pub link_line : Level → List ℕ → List ℕ
-link_line level link = codes "rc" ++ level_code level ∷ codes ".d/" ++ link ++ codes " ../init.d/" ++ linked_name link ++ codes "\n"
+link_line level link =
+    codes "rc" ++ level_code level ∷ codes ".d/" ++ link ++ codes " ../init.d/" ++ linked_name link ++ codes "\n"
 
 -- the lines of a level: the links that stop, then those that start, each set in byte order
 abbrev pub level_text : List PlannedText → Level → List ℕ
 level_text plan level =
-    flat_map (link_line level) (in_byte_order (stop_links level plan)) ++ flat_map (link_line level) (in_byte_order (start_links level plan))
+    flat_map (link_line level) (in_byte_order (stop_links level plan))
+    ++ flat_map (link_line level) (in_byte_order (start_links level plan))
 
 -- the lines of all levels, 0 to 9 and then S
 abbrev pub plan_text : List PlannedText → List ℕ

@@ -40,7 +40,13 @@ pub record IsPlan (scripts : List ScriptText) (plan : List PlannedText) : Type 0
 
 -- a script with these numbers
 abbrev pub planned : ScriptText → ℕ → ℕ → PlannedText
-planned s start stop = record { name = s.name; start = start; stop = stop; starts = s.header.default_start; stops = s.header.default_stop }
+planned s start stop = record {
+  name = s.name;
+  start = start;
+  stop = stop;
+  starts = s.header.default_start;
+  stops = s.header.default_stop;
+}
 
 -- the scripts with these numbers, in order
 abbrev pub planned_all : List ScriptText → List ℕ → List ℕ → List PlannedText
@@ -63,10 +69,12 @@ pub record IsCycleOf (turn : Phase) (scripts : List ScriptText) (names : List (L
 -- why scripts have no plan: the first check that fails
 abbrev pub IsRefused : {A : Type 0} → List ScriptText → PlanFault A → Type 0
 IsRefused scripts (fault.DoubleProvide name) = double_from [] scripts ≡ Some (string_bytes name)
-IsRefused scripts (fault.Missing name) = (double_from [] scripts ≡ None) × (missing_from scripts scripts ≡ Some (string_bytes name))
+IsRefused scripts (fault.Missing name) =
+    (double_from [] scripts ≡ None) × (missing_from scripts scripts ≡ Some (string_bytes name))
 IsRefused scripts (fault.Cycle names) = IsProvided scripts ×
     (IsCycleOf phase.Start scripts (map string_bytes names.items)
-    ⊎ (starts : List ℕ) × AreLeast phase.Start scripts starts × IsCycleOf phase.Stop scripts (map string_bytes names.items))
+    ⊎ (starts : List ℕ) × AreLeast phase.Start scripts starts
+    × IsCycleOf phase.Stop scripts (map string_bytes names.items))
 IsRefused scripts fault.TooDeep = IsProvided scripts × (starts : List ℕ) × (stops : List ℕ)
     × AreLeast phase.Start scripts starts × AreLeast phase.Stop scripts stops × (IsDeep starts ⊎ IsDeep stops)
 IsRefused scripts fault.Memory = Unit {0}

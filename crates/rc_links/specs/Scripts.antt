@@ -15,7 +15,8 @@ has_name name names = list_any (λ other. bytes_eq name other) names
 -- the place of the first script that provides the name; the first of these has this place
 abbrev pub place_from : ℕ → List ScriptText → List ℕ → Option ℕ
 place_from place [] name = None
-place_from place (s ∷ scripts) name = if has_name name s.header.provides then Some place else place_from (place + 1) scripts name
+place_from place (s ∷ scripts) name =
+    if has_name name s.header.provides then Some place else place_from (place + 1) scripts name
 
 -- the place of the script that provides the name
 abbrev pub place_of : List ScriptText → List ℕ → Option ℕ
@@ -47,7 +48,8 @@ missing_in scripts names = find (λ name. not (is_system name) && not (is_some (
 
 -- the first name that a script requires and that is missing, what starting requires first
 abbrev pub missing_of : List ScriptText → ScriptText → Option (List ℕ)
-missing_of scripts s = option_or (missing_in scripts s.header.required_start) (missing_in scripts s.header.required_stop)
+missing_of scripts s =
+    option_or (missing_in scripts s.header.required_start) (missing_in scripts s.header.required_stop)
 
 -- the first of these, script by script
 abbrev pub missing_from : List ScriptText → List ScriptText → Option (List ℕ)

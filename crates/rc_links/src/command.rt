@@ -67,7 +67,10 @@ fn scripts_of<'w, R: Files>(
 fn tell_reason<E: Write>(path: &str, fault: &FileFault, err: &mut E) {
     let _ = match fault {
         FileFault::Unread(error) => {
-            writeln!(err, "rclinks: cannot read: {path}\nrclinks: {path}: {error}")
+            writeln!(
+                err,
+                "rclinks: cannot read: {path}\nrclinks: {path}: {error}"
+            )
         }
         FileFault::Name => writeln!(
             err,

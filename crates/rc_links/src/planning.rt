@@ -6,8 +6,8 @@ ghost use Rattle.rc_links.specs.Plans.{AreLeast, IsPlan, IsRefused, IsShort, nam
 ghost use Rattle.rc_links.specs.Scripts.{needs_of};
 ghost use Rattle.rc_links.specs.Tables.{HasPlaces};
 
-use crate::needs::{Phase, needs};
 use crate::faults::PlanFault;
+use crate::needs::{Phase, needs};
 use crate::plans::{Plan, Planned};
 use crate::scripts::Script;
 use crate::tables::{Table, check_missing, table_of};
@@ -24,7 +24,8 @@ fn add_name<A: Allocator + Copy>(
     names: &mut Vec<String<A>, A>,
     script: &Script<A>,
 ) -> Result<(), Memory>
-    ensures { OnOk result (map string_bytes names.new.items ≡ map string_bytes names.old.items ++ script.now.name ∷ []) }
+    ensures { OnOk result (map string_bytes names.new.items ≡
+        map string_bytes names.old.items ++ script.now.name ∷ []) }
 {
     names.push(String::from_str(alloc, script.name())?)?;
     Ok(())
@@ -38,7 +39,8 @@ fn add_names<A: Allocator + Copy>(
     places: &[usize],
 ) -> Result<(), Memory>
     requires { AllBelow (length scripts.now) places.now }
-    ensures { OnOk result (map string_bytes names.new.items ≡ map string_bytes names.old.items ++ names_at scripts.now places.now) }
+    ensures { OnOk result (map string_bytes names.new.items ≡
+        map string_bytes names.old.items ++ names_at scripts.now places.now) }
 {
     for place in places {
         add_name(alloc, names, &scripts[*place])?;

@@ -22,7 +22,13 @@ impl<A: Allocator> Model for Planned<A> {
 
     ghost Value = { PlannedText };
 
-    ghost view = { λ s. record { name = string_bytes s.name; start = s.start; stop = s.stop; starts = s.starts.items; stops = s.stops.items } };
+    ghost view = { λ s. record {
+      name = string_bytes s.name;
+      start = s.start;
+      stop = s.stop;
+      starts = s.starts.items;
+      stops = s.stops.items;
+    } };
 }
 
 impl<A: Allocator> Planned<A> {
@@ -34,7 +40,13 @@ impl<A: Allocator> Planned<A> {
         starts: Vec<Level, A>,
         stops: Vec<Level, A>,
     ) -> Planned<A>
-        ensures { result ≡ record { name = string_bytes name; start = start; stop = stop; starts = starts.items; stops = stops.items } }
+        ensures { result ≡ record {
+          name = string_bytes name;
+          start = start;
+          stop = stop;
+          starts = starts.items;
+          stops = stops.items;
+        } }
     {
         Planned {
             name,

@@ -164,7 +164,8 @@ fn add_lines<A: Allocator>(
     level: Level,
     mut links: Vec<Vec<u8, A>, A>,
 ) -> Result<(), Memory>
-    ensures { OnOk result (text.new.items ≡ text.old.items ++ flat_map (link_line level) (in_byte_order (map (λ link. link.items) links.items))) }
+    ensures { OnOk result (text.new.items ≡
+        text.old.items ++ flat_map (link_line level) (in_byte_order (map (λ link. link.items) links.items))) }
 {
     sort_links(&mut links);
     for link in &links {

@@ -52,7 +52,8 @@ fn first_known<'s, A: Allocator, B: Allocator>(
     table: &Table<'_, A>,
     names: &'s [String<B>],
 ) -> Option<&'s str>
-    ensures { option_map (λ name. name.now) result ≡ find (λ name. is_known table.now name) (map string_bytes names.now) }
+    ensures { option_map (λ name. name.now) result
+        ≡ find (λ name. is_known table.now name) (map string_bytes names.now) }
 {
     for name in names {
         if place_at(table, name.as_bytes()).is_some() {
@@ -169,7 +170,8 @@ fn missing_in<'s, A: Allocator, B: Allocator>(
     table: &Table<'_, A>,
     names: &'s [String<B>],
 ) -> Option<&'s str>
-    ensures { option_map (λ name. name.now) result ≡ find (λ name. is_unknown table.now name) (map string_bytes names.now) }
+    ensures { option_map (λ name. name.now) result
+        ≡ find (λ name. is_unknown table.now name) (map string_bytes names.now) }
 {
     for name in names {
         if !is_system(name.as_bytes()) && place_at(table, name.as_bytes()).is_none() {

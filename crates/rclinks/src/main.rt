@@ -10,7 +10,13 @@ fn main(rt: HostRuntime) -> ExitCode {
     let alloc = rt.alloc();
     let status = match words(&rt, alloc) {
         Ok(words) => {
-            run_words(&rt, alloc, words.as_slice(), &mut rt.stdout(), &mut rt.stderr())
+            run_words(
+                &rt,
+                alloc,
+                words.as_slice(),
+                &mut rt.stdout(),
+                &mut rt.stderr(),
+            )
         }
         Err(error) => tell_unread("rclinks", USAGE, &error, &mut rt.stderr()),
     };

@@ -1,6 +1,6 @@
-use Rattle.std.proofs.Common.{◌<◌, ◌+◌, ◌-◌, ℕ, List, Option, arith, length, get_or, drop, take, subst, sym}
+use Rattle.std.proofs.Common.{◌<◌, ◌+◌, ◌-◌, arith, length, get_or, drop, take}
 use Rattle.std.proofs.lemmas.Grind.{common_steps}
-use Rattle.link_numbers.specs.Numbering.{Needs, AreSteps}
+use Rattle.link_numbers.specs.Numbering.{Needs}
 use Rattle.link_numbers.proofs.StepLemmas.{AreSteps-met, need_at, rest_at}
 use Rattle.link_numbers.proofs.cycles.meet_all.Goals as goal
 

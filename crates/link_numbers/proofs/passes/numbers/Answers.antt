@@ -2,8 +2,8 @@ use Rattle.std.proofs.Common.{◌≡◌, arith, sym, ◌∙◌, false, length, r
 use Rattle.std.specs.Str.{bytes_eq}
 use Rattle.std.proofs.lemmas.Grind.{common_steps}
 use Rattle.std.proofs.lemmas.Bool.{true≢false}
-use Rattle.link_numbers.specs.Passes.{settled}
-use Rattle.link_numbers.proofs.PassLemmas.{AreHeights, IsPartial-next, IsPartial-start, IsStuck-same, fewer, same_lists, same_self}
+use Rattle.link_numbers.specs.Passes.{AreHeights, settled}
+use Rattle.link_numbers.proofs.PassLemmas.{IsPartial-next, IsPartial-start, IsStuck-same, fewer, same_lists, same_self}
 use Rattle.link_numbers.proofs.passes.numbers.Goals as goal
 
 pub passes-init : goal.passes-init

@@ -1,4 +1,4 @@
-use Rattle.std.proofs.Common.{◌∙◌, ◌+◌, sym, ap, subst, List, ℕ, Option, drop}
+use Rattle.std.proofs.Common.{◌∙◌, ◌+◌, sym, ap, drop}
 use Rattle.rc_links.specs.Scripts.{missing_from}
 use Rattle.rc_links.specs.Tables.{place_in}
 use Rattle.rc_links.proofs.NameLemmas.{cut_at, missing-is, missing-next, missing-told}

@@ -1,4 +1,4 @@
-use Rattle.std.proofs.Common.{string_bytes, ◌≡◌, find, is_some, map, drop}
+use Rattle.std.proofs.Common.{string_bytes, ◌≡◌, find, map, drop}
 use Rattle.rc_links.specs.Tables.{is_known}
 use Rattle.rc_links.proofs.tables.first_known.Given as goal
 
