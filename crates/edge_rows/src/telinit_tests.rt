@@ -1,4 +1,4 @@
-//! Command lines of telinit(8): their exit statuses, what is told, and what is appended.
+//! Command lines of telinit(8): their exit statuses, what is reported, and what is appended.
 
 use program_edge::{tell_unread, unread_status};
 use std::alloc::{AllocError, Global};
@@ -9,7 +9,7 @@ use std::test::Fail;
 use std::{fs, io};
 use telinit_command::{USAGE, WordFault, Words, frame_of, read_words, run_words};
 
-const USAGE_TOLD: &str = "usage: telinit [-t SEC] [--initctl P] CHAR
+const USAGE_REPORT: &str = "usage: telinit [-t SEC] [--initctl P] CHAR
   SEC   seconds between the two signals that stop a child, 0 to 3600; 5 where it is left out
   P     the file that the request is appended to; initctl where it is left out
   CHAR  0 to 9, S or s: go to that runlevel
@@ -32,18 +32,18 @@ fn words_of(alloc: Global, line: &[&str]) -> Result<Vec<String>, AllocError> {
     Ok(words)
 }
 
-/// The line ends with this status, and this is told.
+/// The line ends with this status and this report.
 fn ends(
     rt: &(impl Files + Abort),
     alloc: Global,
     line: &[&str],
     status: u8,
-    told: &str,
+    report: &str,
 ) -> Result<(), Fail> {
     let mut err: Vec<u8> = Vec::new(alloc);
     let ended = run_words(rt, alloc, words_of(alloc, line)?, &mut sink(), &mut err);
     assert!(rt;
-        ended == status && err.as_slice() == told.as_bytes(),
+        ended == status && err.as_slice() == report.as_bytes(),
         "at {line:?}"
     );
     Ok(())
@@ -72,7 +72,7 @@ const USAGE_FAULTS: &[&[&str]] = &[
 #[test]
 fn usage_faults_write_nothing(rt: HostRuntime) -> Result<(), Fail> {
     for line in USAGE_FAULTS {
-        ends(&rt, rt.alloc(), line, 1, USAGE_TOLD)?;
+        ends(&rt, rt.alloc(), line, 1, USAGE_REPORT)?;
     }
     assert!(rt; fs::metadata(&rt, "initctl").is_err());
     Ok(())
@@ -120,7 +120,7 @@ fn blocks_are_appended(rt: HostRuntime) -> Result<(), Fail> {
     Ok(())
 }
 
-/// Lines whose channel can't be appended to, and what is told.
+/// Lines whose channel can't be appended to, and what is reported.
 const WRITE_FAULTS: &[(&[&str], &str)] = &[
     (
         &["--initctl", ".", "q"],
@@ -155,11 +155,11 @@ fn make_fifo(rt: &impl Processes, alloc: Global, path: &str) -> io::Result<()> {
 }
 
 #[test]
-fn write_faults_are_told(rt: HostRuntime) -> Result<(), Fail> {
+fn write_faults_are_reported(rt: HostRuntime) -> Result<(), Fail> {
     let _ = fs::remove_file(&rt, "fifo");
     make_fifo(&rt, rt.alloc(), "fifo")?;
-    for (line, told) in WRITE_FAULTS {
-        ends(&rt, rt.alloc(), line, 4, told)?;
+    for (line, report) in WRITE_FAULTS {
+        ends(&rt, rt.alloc(), line, 4, report)?;
     }
     assert!(rt; !fs::metadata(&rt, "fifo")?.is_file());
     Ok(())
@@ -172,21 +172,21 @@ const UNREAD: &[(ErrorKind, u8, &str)] = &[
         4,
         "telinit: out of memory: nothing was written; free some memory and ask again\n",
     ),
-    (ErrorKind::InvalidData, 1, USAGE_TOLD),
+    (ErrorKind::InvalidData, 1, USAGE_REPORT),
 ];
 
-fn is_unread(rt: &impl Abort, alloc: Global, kind: ErrorKind, status: u8, told: &str) {
+fn is_unread(rt: &impl Abort, alloc: Global, kind: ErrorKind, status: u8, report: &str) {
     let error = io::Error::from(kind);
     let mut err: Vec<u8> = Vec::new(alloc);
     let ended = tell_unread("telinit", USAGE, &error, &mut err);
-    assert!(rt; ended == status && err.as_slice() == told.as_bytes());
+    assert!(rt; ended == status && err.as_slice() == report.as_bytes());
     assert!(rt; unread_status(&error) == status);
 }
 
 #[test]
-fn unread_words_are_told(rt: HostRuntime) {
-    for (kind, status, told) in UNREAD {
-        is_unread(&rt, rt.alloc(), *kind, *status, told);
+fn unread_words_are_reported(rt: HostRuntime) {
+    for (kind, status, report) in UNREAD {
+        is_unread(&rt, rt.alloc(), *kind, *status, report);
     }
 }
 

@@ -8,24 +8,24 @@ use std::process::Abort;
 use std::test::Fail;
 
 /// Adds the faults, one a line.
-fn add_faults(told: &mut String, faults: &[LineFault]) -> Result<(), Fail> {
+fn add_faults(report: &mut String, faults: &[LineFault]) -> Result<(), Fail> {
     for fault in faults {
-        writeln!(told, "{fault}")?;
+        writeln!(report, "{fault}")?;
     }
     Ok(())
 }
 
 /// The faults, one a line.
-fn told(alloc: Global, faults: &[LineFault]) -> Result<String, Fail> {
-    let mut told = String::new(alloc);
-    add_faults(&mut told, faults)?;
-    Ok(told)
+fn report_of(alloc: Global, faults: &[LineFault]) -> Result<String, Fail> {
+    let mut report = String::new(alloc);
+    add_faults(&mut report, faults)?;
+    Ok(report)
 }
 
 /// The faults of a text, one a line.
 fn faults_of(alloc: Global, text: &[u8]) -> Result<String, Fail> {
     let (_, faults) = read(alloc, text)?;
-    told(alloc, faults.as_slice())
+    report_of(alloc, faults.as_slice())
 }
 
 fn table_of(alloc: Global, text: &[u8]) -> Result<Table, TableFault> {
@@ -39,39 +39,39 @@ fn text_of(alloc: Global, table: &Table) -> Result<Vec<u8>, TableFault> {
 }
 
 /// What is written of a text.
-fn written(alloc: Global, text: &[u8]) -> Result<Vec<u8>, TableFault> {
+fn written_text(alloc: Global, text: &[u8]) -> Result<Vec<u8>, TableFault> {
     let table = table_of(alloc, text)?;
     text_of(alloc, &table)
 }
 
 /// What is written of a table's copy.
-fn copied(alloc: Global, table: &Table) -> Result<Vec<u8>, Memory> {
+fn copy_text(alloc: Global, table: &Table) -> Result<Vec<u8>, Memory> {
     let copy = table.copy(alloc)?;
     write(alloc, &copy)
 }
 
 /// What is written of the copy of the table whose written text this is, or that there is none.
-fn written_again(alloc: Global, text: &[u8]) -> Result<Vec<u8>, Memory> {
+fn copied_text(alloc: Global, text: &[u8]) -> Result<Vec<u8>, Memory> {
     match read_written(alloc, text)? {
-        Some(table) => copied(alloc, &table),
+        Some(table) => copy_text(alloc, &table),
         None => Ok(Vec::from_slice(alloc, b"no table")?),
     }
 }
 
-fn is_told(rt: &impl Abort, alloc: Global, text: &[u8], want: &str) -> Result<(), Fail> {
-    let told = faults_of(alloc, text)?;
-    assert_eq!(rt; told.as_str(), want);
+fn has_faults(rt: &impl Abort, alloc: Global, text: &[u8], want: &str) -> Result<(), Fail> {
+    let report = faults_of(alloc, text)?;
+    assert_eq!(rt; report.as_str(), want);
     Ok(())
 }
 
 fn is_written(rt: &impl Abort, alloc: Global, text: &[u8], want: &[u8]) -> Result<(), Fail> {
-    let given = written(alloc, text)?;
+    let given = written_text(alloc, text)?;
     assert_eq!(rt; given.as_slice(), want);
     Ok(())
 }
 
 fn is_written_again(rt: &impl Abort, alloc: Global, text: &[u8], want: &[u8]) -> Result<(), Fail> {
-    let given = written_again(alloc, text)?;
+    let given = copied_text(alloc, text)?;
     assert_eq!(rt; given.as_slice(), want);
     Ok(())
 }
@@ -105,7 +105,7 @@ b:3:off:
 b:2:once:x
 ";
 
-const FOUR_TOLD: &str = "inittab line 1: bad id
+const FOUR_FAULTS: &str = "inittab line 1: bad id
 inittab line 2: unknown action
 inittab line 3: no process
 inittab line 5: duplicate id
@@ -125,8 +125,8 @@ fn one_entry_is_found(rt: HostRuntime) -> Result<(), Fail> {
 }
 
 const FAULTS: &[(&[u8], &str)] = &[
-    (FIVE, FOUR_TOLD),
-    (RESPAWNS, FOUR_TOLD),
+    (FIVE, FOUR_FAULTS),
+    (RESPAWNS, FOUR_FAULTS),
     (CHECKED, CHECKS),
     (IN_USE, ""),
 ];
@@ -134,7 +134,7 @@ const FAULTS: &[(&[u8], &str)] = &[
 #[test]
 fn faults(rt: HostRuntime) -> Result<(), Fail> {
     for (text, want) in FAULTS {
-        is_told(&rt, rt.alloc(), text, want)?;
+        has_faults(&rt, rt.alloc(), text, want)?;
     }
     Ok(())
 }
@@ -274,17 +274,17 @@ fn limits(rt: HostRuntime) -> Result<(), Fail> {
 }
 
 #[test]
-fn a_text_too_long_is_told(rt: HostRuntime) -> Result<(), Fail> {
-    let mut told = String::new(rt.alloc());
-    write!(told, "{}", TableFault::TooLong)?;
-    assert_eq!(rt; told.as_str(), "inittab is longer than 65536 bytes");
+fn a_text_too_long_is_reported(rt: HostRuntime) -> Result<(), Fail> {
+    let mut report = String::new(rt.alloc());
+    write!(report, "{}", TableFault::TooLong)?;
+    assert_eq!(rt; report.as_str(), "inittab is longer than 65536 bytes");
     Ok(())
 }
 
 #[test]
 fn a_process_too_long(rt: HostRuntime) -> Result<(), Fail> {
     let text = lines(rt.alloc(), 1, PROCESS)?;
-    is_told(
+    has_faults(
         &rt,
         rt.alloc(),
         text.as_slice(),
@@ -296,7 +296,7 @@ fn a_process_too_long(rt: HostRuntime) -> Result<(), Fail> {
 fn an_entry_too_many(rt: HostRuntime) -> Result<(), Fail> {
     let text = lines(rt.alloc(), 513, b"x")?;
     is_read(&rt, rt.alloc(), text.as_slice(), 512, None)?;
-    is_told(
+    has_faults(
         &rt,
         rt.alloc(),
         text.as_slice(),

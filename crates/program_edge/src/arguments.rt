@@ -10,7 +10,7 @@ use std::env::Env;
 use std::io::{ErrorKind, Write};
 use std::{env, io};
 
-/// What is told behind the program's name where memory ran out.
+/// What is reported behind the program's name where memory ran out.
 const NO_MEMORY: &str = ": out of memory: nothing was written; free some memory and ask again\n";
 
 /// The words behind the program's name. A word that is no UTF-8 is an error, `InvalidData`.
@@ -40,7 +40,7 @@ pub fn unread_status(error: &io::Error) -> u8
     }
 }
 
-/// Tells why the words couldn't be read, want of memory or by the usage, and gives `unread_status`.
+/// Reports that memory ran out while the words were read, or else the usage, and gives `unread_status`.
 pub fn tell_unread<E: Write>(name: &str, usage: &str, error: &io::Error, err: &mut E) -> u8
     ensures memory { error_kind error.now ≡ ErrorKind.OutOfMemory → (result ≡ DEVICE_FAULT)
         × AppendsPrefix (E.contents err.old) (E.contents err.new) (no_memory_text name.now) }
@@ -54,19 +54,20 @@ pub fn tell_unread<E: Write>(name: &str, usage: &str, error: &io::Error, err: &m
     }
 }
 
-/// Tells the usage, as much of it as `err` takes, and gives the status of words that are no command line.
+/// Writes the usage, as much of it as `err` takes, and gives the status of words that are no command line.
 pub fn tell_usage<E: Write>(usage: &str, err: &mut E) -> u8
     ensures status { result ≡ REFUSED }
-    ensures told { AppendsPrefix (E.contents err.old) (E.contents err.new) usage.now }
+    ensures report { AppendsPrefix (E.contents err.old) (E.contents err.new) usage.now }
 {
     let _ = write_text(err, usage.as_bytes());
     REFUSED
 }
 
-/// Tells that memory ran out before anything was written, as much of it as `err` takes, and gives the status.
+/// Reports that memory ran out before anything was written, by as much of the text as `err` takes, and gives the status.
 pub fn tell_no_memory<E: Write>(name: &str, err: &mut E) -> u8
     ensures status { result ≡ DEVICE_FAULT }
-    ensures told { AppendsPrefix (E.contents err.old) (E.contents err.new) (no_memory_text name.now) }
+    ensures report { AppendsPrefix (E.contents err.old) (E.contents err.new)
+        (no_memory_text name.now) }
 {
     if let Ok(()) = write_text(err, name.as_bytes()) {
         let _ = write_text(err, NO_MEMORY.as_bytes());

@@ -13,7 +13,8 @@ pub const READS_LIMIT: u32 = 1_000_000;
 /// All bytes that a reader has left. A reader that isn't at its end after 1,000,000 reads of up to 8,192 bytes is an
 /// error, `FileTooLarge`.
 pub fn read_all<R: Read>(alloc: Global, from: &mut R) -> io::Result<Vec<u8>>
-    ensures whole { IfOk result (λ bytes. IfSome (R.remaining from.old) (λ left. bytes.items ≡ left)) }
+    ensures whole { IfOk result (λ bytes. IfSome (R.remaining from.old)
+        (λ left. bytes.items ≡ left)) }
     ensures end { OnOk result (IsAtEnd (R.remaining from.new)) }
 {
     let mut bytes = Vec::new(alloc);

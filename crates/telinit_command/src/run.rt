@@ -10,7 +10,7 @@ use std::alloc::Global;
 use std::io::Write;
 use std::rt::Files;
 
-/// What is told of words that are no command line.
+/// What standard error gets where the words are no command line.
 pub const USAGE: &str = "usage: telinit [-t SEC] [--initctl P] CHAR
   SEC   seconds between the two signals that stop a child, 0 to 3600; 5 where it is left out
   P     the file that the request is appended to; initctl where it is left out
@@ -22,7 +22,7 @@ pub const USAGE: &str = "usage: telinit [-t SEC] [--initctl P] CHAR
 
 /// Runs telinit on a command line without the program's name, and gives its exit status: 0 where one request block was
 /// appended, 1 where the words are no command line, 4 where the block could not be written or memory ran out.
-/// Nothing goes to standard output; a fault is told on `err`.
+/// Nothing goes to standard output; a fault is reported on `err`.
 pub fn run_words<R: Files, W: Write, E: Write>(
     rt: &R,
     alloc: Global,
@@ -35,7 +35,8 @@ pub fn run_words<R: Files, W: Write, E: Write>(
     ensures usage { result ≡ REFUSED → IsNone (block_said (map string_bytes words.items)) }
     ensures quiet { _out.new ≡ _out.old }
     ensures silent { result ≡ DONE → err.new ≡ err.old }
-    ensures told { result ≡ REFUSED → AppendsPrefix (E.contents err.old) (E.contents err.new) USAGE.now }
+    ensures report { result ≡ REFUSED
+        → AppendsPrefix (E.contents err.old) (E.contents err.new) USAGE.now }
 {
     let words = match read_words(alloc, words) {
         Ok(words) => words,
