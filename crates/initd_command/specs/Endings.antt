@@ -1,4 +1,4 @@
--- How a command line of initd ends: its exit status, what was written, and what is told of it.
+-- How a command line of initd ends: its exit status, what was written, and what is reported of it.
 use Rattle.std.specs.Prelude.{◌≡◌, ◌⊎◌, ℕ, List, [], ◌∷◌, ◌++◌, codes, Option, Some, None}
 use Rattle.std.specs.Io.KnownBytes.{Keeps}
 use Rattle.program_edge.specs.Writing.{AppendsPrefix}
@@ -60,15 +60,15 @@ fault_message f = codes "initd: " ++ fault_text f ++ codes "\n"
 abbrev pub file_message : List ℕ → List ℕ → List ℕ
 file_message path why = codes "initd: cannot read " ++ path ++ codes ": " ++ why ++ codes "\n"
 
--- the text is told, as far as the writer takes it, or that there was no memory for it
-abbrev pub TellsText : List ℕ → Option (List ℕ) → Option (List ℕ) → Type 0
-TellsText text old new = AppendsPrefix old new text ⊎ AppendsPrefix old new NO_MEMORY.now
+-- the text is reported, as far as the writer takes it, or that there was no memory for it
+abbrev pub ReportsText : List ℕ → Option (List ℕ) → Option (List ℕ) → Type 0
+ReportsText text old new = AppendsPrefix old new text ⊎ AppendsPrefix old new NO_MEMORY.now
 
--- what is told of an ending
-abbrev pub Tells : Ending → Option (List ℕ) → Option (List ℕ) → Type 0
-Tells done old new = Keeps old new
-Tells usage old new = AppendsPrefix old new USAGE.now
-Tells no_memory old new = AppendsPrefix old new NO_MEMORY.now
-Tells (unread path why) old new = TellsText (file_message path why) old new
-Tells (stopped f) old new = TellsText (fault_message f) old new
-Tells unflushed old new = TellsText (fault_message fault.Write) old new
+-- what is reported of an ending
+abbrev pub Reports : Ending → Option (List ℕ) → Option (List ℕ) → Type 0
+Reports done old new = Keeps old new
+Reports usage old new = AppendsPrefix old new USAGE.now
+Reports no_memory old new = AppendsPrefix old new NO_MEMORY.now
+Reports (unread path why) old new = ReportsText (file_message path why) old new
+Reports (stopped f) old new = ReportsText (fault_message f) old new
+Reports unflushed old new = ReportsText (fault_message fault.Write) old new

@@ -48,7 +48,7 @@ pub fn read_words(alloc: Global, words: &[String]) -> Result<Words, WordFault>
         Ok(matches) => matches,
         Err(error) => return Err(word_fault(&error)),
     };
-    match said(alloc, &matches)? {
+    match read_matches(alloc, &matches)? {
         Some(said) => Ok(said),
         None => Err(WordFault::Usage),
     }
@@ -80,19 +80,19 @@ fn parse<'a>(alloc: Global, words: &'a [String]) -> Result<ArgMatches<'a>, Error
 }
 
 /// What matches say; None where a level is none.
-fn said(alloc: Global, matches: &ArgMatches) -> Result<Option<Words>, AllocError>
+fn read_matches(alloc: Global, matches: &ArgMatches) -> Result<Option<Words>, AllocError>
     ensures { IfOk result (λ said. option_map said_of said ≡ said_by (subcommand_rows_of matches.now)) }
 {
     match matches.subcommand_matches("simulate") {
-        Some(simulate) => said_to_simulate(alloc, simulate),
+        Some(simulate) => read_simulate(alloc, simulate),
         None => Ok(None),
     }
 }
 
-fn said_to_simulate(alloc: Global, matches: &ArgMatches) -> Result<Option<Words>, AllocError>
+fn read_simulate(alloc: Global, matches: &ArgMatches) -> Result<Option<Words>, AllocError>
     ensures { IfOk result (λ said. option_map said_of said ≡ words_said (rows_of (found_of matches.now))) }
 {
-    let Some(level) = level_given(matches) else {
+    let Some(level) = read_level_option(matches) else {
         return Ok(None);
     };
     Ok(Some(Words {
@@ -103,7 +103,7 @@ fn said_to_simulate(alloc: Global, matches: &ArgMatches) -> Result<Option<Words>
 }
 
 /// The level that matches give, if they give one; None where it is none.
-fn level_given(matches: &ArgMatches) -> Option<Option<Level>>
+fn read_level_option(matches: &ArgMatches) -> Option<Option<Level>>
     ensures { result ≡ level_said (rows_of (found_of matches.now)) }
 {
     let Some(word) = matches.get_str("level") else {

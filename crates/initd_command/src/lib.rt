@@ -1,5 +1,5 @@
-//! The command line of `initd`: its words, the files that they name, the run that they ask for, and what is told of a
-//! fault.
+//! The command line of `initd`: its words, the files that they name, the run that they ask for, and what is reported
+//! of a fault.
 #![tactic(auto)]
 
 mod command;

@@ -1,11 +1,7 @@
-//! The worked traces of init as tables, an inittab(5), a script of what the system did, and the trace; and the command
-//! line, the writers and the parts below them.
+//! The worked traces of init as tables: an inittab(5), a script of what the system did, and the trace; and rows of the
+//! parts below such a run.
 #![tactic(auto)]
 
-#[cfg(test)]
-mod edge_tests;
-#[cfg(test)]
-mod large_tests;
 #[cfg(test)]
 mod line_tests;
 #[cfg(test)]
@@ -14,7 +10,3 @@ mod run_tests;
 mod side_tests;
 #[cfg(test)]
 mod texts;
-#[cfg(test)]
-mod word_tests;
-#[cfg(test)]
-mod writer_tests;

@@ -63,14 +63,14 @@ fn add_happenings(
     Ok(())
 }
 
-fn printed(alloc: Global, text: &str) -> Result<Vec<u8>, Fail> {
+fn print_lines(alloc: Global, text: &str) -> Result<Vec<u8>, Fail> {
     let mut trace = Vec::new(alloc);
     add_happenings(alloc, &mut trace, text)?;
     Ok(print(alloc, &trace)?)
 }
 
 fn is_printed(rt: &impl Abort, alloc: Global, text: &str) -> Result<(), Fail> {
-    let given = printed(alloc, text)?;
+    let given = print_lines(alloc, text)?;
     assert_eq!(rt; given.as_slice(), text.as_bytes());
     Ok(())
 }
@@ -81,26 +81,26 @@ fn traces_are_printed(rt: HostRuntime) -> Result<(), Fail> {
     is_printed(&rt, rt.alloc(), text.as_str())
 }
 
-fn printed_alone(alloc: Global, line: &str) -> Result<Vec<u8>, Fail> {
+fn print_line(alloc: Global, line: &str) -> Result<Vec<u8>, Fail> {
     let happening = read_line(alloc, line.as_bytes())?.ok_or("no line")?;
     Ok(print_one(alloc, &happening)?)
 }
 
 #[test]
 fn a_happening_is_printed(rt: HostRuntime) -> Result<(), Fail> {
-    let line = printed_alone(rt.alloc(), "told r")?;
+    let line = print_line(rt.alloc(), "told r")?;
     assert_eq!(rt; line.as_slice(), b"told r\n".as_slice());
     Ok(())
 }
 
-fn table_printed(alloc: Global, text: &[u8]) -> Result<Vec<u8>, Fail> {
+fn print_table_of(alloc: Global, text: &[u8]) -> Result<Vec<u8>, Fail> {
     let (table, _) = inittab_text::read(alloc, text)?;
     Ok(print_table(alloc, &table)?)
 }
 
 #[test]
 fn tables_are_printed(rt: HostRuntime) -> Result<(), Fail> {
-    let text = table_printed(rt.alloc(), b"r::respawn:getty\nbad\nk:S:off:\n")?;
+    let text = print_table_of(rt.alloc(), b"r::respawn:getty\nbad\nk:S:off:\n")?;
     assert!(rt;
         has_lines(
             rt.alloc(),

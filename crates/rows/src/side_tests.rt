@@ -6,50 +6,22 @@ use std::test::Fail;
 use supervisor::read_line;
 use system_side::SimulatedSystem;
 
-/// The happening is allowed or not, and is taken in where it is.
-fn step(
-    rt: &impl Abort,
-    side: &mut SimulatedSystem,
-    happening: &HappeningIn<Global>,
-    is_allowed: bool,
-) -> Result<(), Fail> {
-    assert!(rt; side.allows(happening) == is_allowed);
-    if is_allowed {
-        side.take(happening)?;
-    }
-    Ok(())
+/// What is done with the system's side, or asked of it.
+enum Turn {
+    /// It takes an order of an id.
+    Order(&'static [u8], Ask),
+    /// A script line is allowed, and taken in, or it is not.
+    Line(&'static str, bool),
+    /// The answer under way to an id's order is a birth of this number.
+    Born(&'static [u8], u32),
+    /// It is the end of a child, by this exit status or by a signal.
+    Ended(&'static [u8], Option<u8>),
 }
 
-/// The same of a script line.
-fn step_line(
-    rt: &impl Abort,
-    alloc: Global,
-    side: &mut SimulatedSystem,
-    line: &str,
-    is_allowed: bool,
-) -> Result<(), Fail> {
-    let happening = read_line(alloc, line.as_bytes())?.ok_or("no line")?;
-    step(rt, side, &happening, is_allowed)
-}
-
-fn follow(
-    rt: &impl Abort,
-    alloc: Global,
-    side: &mut SimulatedSystem,
-    rows: &[(&str, bool)],
-) -> Result<(), Fail> {
-    for (line, is_allowed) in rows {
-        step_line(rt, alloc, side, line, *is_allowed)?;
-    }
-    Ok(())
-}
-
-/// Takes an order in.
 fn order(side: &mut SimulatedSystem, id: &[u8], ask: Ask) -> Result<(), Fail> {
     let id = Id::read(id).ok_or("no id")?;
     let asked: HappeningIn<Global> = HappeningIn::Asked(id, ask);
-    side.take(&asked)?;
-    Ok(())
+    Ok(side.take(&asked)?)
 }
 
 /// The answer under way to the id's order.
@@ -57,95 +29,104 @@ fn answer(side: &SimulatedSystem, id: &[u8]) -> Option<Answer> {
     side.answer(&Id::read(id)?)
 }
 
-/// No Start is ordered.
-const UNORDERED: &[(&str, bool)] = &[("birth a 7", false)];
-
-/// A Start of a is ordered, on which the system acts once.
-const BORN: &[(&str, bool)] = &[("birth a 7", true), ("nobirth a", false)];
-
-const BORN_TOLD: &[(&str, bool)] = &[("told a", true), ("told a", false)];
-
-/// A Look of a is ordered, and its child lives. A child dies once.
-const LOOKED_AT: &[(&str, bool)] = &[
-    ("reaped a 7 killed", false),
-    ("nolook a", true),
-    ("told a", true),
-    ("death 7", true),
-    ("death 7", false),
-];
-
-/// A Start of b is ordered: the number of a dead child isn't free.
-const NOT_FREE: &[(&str, bool)] = &[("birth b 7", false)];
-
-/// A Look of a is ordered.
-const REAPED: &[(&str, bool)] = &[("reaped a 7 killed", true)];
-
-/// The number is free again.
-const FREE: &[(&str, bool)] = &[("birth b 7", true)];
-
-/// The child of a is born with the number 7.
-fn bear_first(rt: &impl Abort, alloc: Global, side: &mut SimulatedSystem) -> Result<(), Fail> {
-    follow(rt, alloc, side, UNORDERED)?;
-    order(side, b"a", Ask::Start)?;
-    follow(rt, alloc, side, BORN)?;
-    assert!(rt; answer(side, b"a") == Some(Answer::Born(ChildNo(7))));
-    follow(rt, alloc, side, BORN_TOLD)
+fn status(code: Option<u8>) -> Status {
+    match code {
+        Some(code) => Status::Exit(code),
+        None => Status::Killed,
+    }
 }
 
-/// It dies, and is not reaped.
-fn let_first_die(rt: &impl Abort, alloc: Global, side: &mut SimulatedSystem) -> Result<(), Fail> {
-    order(side, b"a", Ask::Look)?;
-    follow(rt, alloc, side, LOOKED_AT)?;
-    order(side, b"b", Ask::Start)?;
-    follow(rt, alloc, side, NOT_FREE)
+/// Takes the happening in, if it is allowed, and says whether it is.
+fn step(side: &mut SimulatedSystem, happening: &HappeningIn<Global>) -> Result<bool, Fail> {
+    let is_allowed = side.allows(happening);
+    if is_allowed {
+        side.take(happening)?;
+    }
+    Ok(is_allowed)
 }
 
-/// It is reaped, and the child of b is born with its number.
-fn bear_second(rt: &impl Abort, alloc: Global, side: &mut SimulatedSystem) -> Result<(), Fail> {
-    order(side, b"a", Ask::Look)?;
-    follow(rt, alloc, side, REAPED)?;
-    assert!(rt; answer(side, b"a") == Some(Answer::Ended(Status::Killed)));
-    follow(rt, alloc, side, FREE)?;
-    assert!(rt; answer(side, b"b") == Some(Answer::Born(ChildNo(7))));
+fn step_line(alloc: Global, side: &mut SimulatedSystem, line: &str) -> Result<bool, Fail> {
+    let happening = read_line(alloc, line.as_bytes())?.ok_or("no line")?;
+    step(side, &happening)
+}
+
+/// The turn goes as it says.
+fn goes(alloc: Global, side: &mut SimulatedSystem, turn: &Turn) -> Result<bool, Fail> {
+    match turn {
+        Turn::Order(id, ask) => order(side, id, *ask).map(|()| true),
+        Turn::Line(line, is_allowed) => Ok(step_line(alloc, side, line)? == *is_allowed),
+        Turn::Born(id, number) => Ok(answer(side, id) == Some(Answer::Born(ChildNo(*number)))),
+        Turn::Ended(id, code) => Ok(answer(side, id) == Some(Answer::Ended(status(*code)))),
+    }
+}
+
+fn follow(
+    rt: &impl Abort,
+    alloc: Global,
+    side: &mut SimulatedSystem,
+    turns: &[Turn],
+) -> Result<(), Fail> {
+    for turn in turns {
+        assert!(rt; goes(alloc, side, turn)?);
+    }
     Ok(())
 }
 
 /// The children born for a and b take the number 7 in turn: it is free only once the first is reaped.
+const IN_TURN: &[Turn] = &[
+    Turn::Line("birth a 7", false),
+    Turn::Order(b"a", Ask::Start),
+    Turn::Line("birth a 7", true),
+    Turn::Line("nobirth a", false),
+    Turn::Born(b"a", 7),
+    Turn::Line("told a", true),
+    Turn::Line("told a", false),
+    Turn::Order(b"a", Ask::Look),
+    Turn::Line("reaped a 7 killed", false),
+    Turn::Line("nolook a", true),
+    Turn::Line("told a", true),
+    Turn::Line("death 7", true),
+    Turn::Line("death 7", false),
+    Turn::Order(b"b", Ask::Start),
+    Turn::Line("birth b 7", false),
+    Turn::Order(b"a", Ask::Look),
+    Turn::Line("reaped a 7 killed", true),
+    Turn::Ended(b"a", None),
+    Turn::Line("birth b 7", true),
+    Turn::Born(b"b", 7),
+];
+
+/// Two children live at once: one is reaped while the other lives, and then the other.
+const AT_ONCE: &[Turn] = &[
+    Turn::Order(b"a", Ask::Start),
+    Turn::Order(b"b", Ask::Start),
+    Turn::Line("birth a 7", true),
+    Turn::Line("birth b 7", false),
+    Turn::Line("birth b 8", true),
+    Turn::Line("told a", true),
+    Turn::Line("told b", true),
+    Turn::Order(b"a", Ask::Look),
+    Turn::Order(b"b", Ask::Look),
+    Turn::Line("death 7", true),
+    Turn::Line("reaped b 7 exit 0", false),
+    Turn::Line("reaped b 8 exit 0", false),
+    Turn::Line("reaped a 8 exit 0", false),
+    Turn::Line("reaped a 7 exit 0", true),
+    Turn::Ended(b"a", Some(0)),
+    Turn::Line("death 7", false),
+    Turn::Line("death 8", true),
+    Turn::Line("reaped b 8 killed", true),
+    Turn::Ended(b"b", None),
+];
+
 #[test]
 fn number_of_two_children(rt: HostRuntime) -> Result<(), Fail> {
     let mut side = SimulatedSystem::new(rt.alloc());
-    bear_first(&rt, rt.alloc(), &mut side)?;
-    let_first_die(&rt, rt.alloc(), &mut side)?;
-    bear_second(&rt, rt.alloc(), &mut side)
+    follow(&rt, rt.alloc(), &mut side, IN_TURN)
 }
-
-/// Two children live at once: one is reaped while the other lives, and then the other.
-const BOTH: &[(&str, bool)] = &[
-    ("birth a 7", true),
-    ("birth b 7", false),
-    ("birth b 8", true),
-    ("told a", true),
-    ("told b", true),
-];
-
-const ONE_REAPED: &[(&str, bool)] = &[
-    ("death 7", true),
-    ("reaped b 7 exit 0", false),
-    ("reaped b 8 exit 0", false),
-    ("reaped a 8 exit 0", false),
-    ("reaped a 7 exit 0", true),
-    ("death 7", false),
-    ("death 8", true),
-    ("reaped b 8 killed", true),
-];
 
 #[test]
 fn two_children_at_once(rt: HostRuntime) -> Result<(), Fail> {
     let mut side = SimulatedSystem::new(rt.alloc());
-    order(&mut side, b"a", Ask::Start)?;
-    order(&mut side, b"b", Ask::Start)?;
-    follow(&rt, rt.alloc(), &mut side, BOTH)?;
-    order(&mut side, b"a", Ask::Look)?;
-    order(&mut side, b"b", Ask::Look)?;
-    follow(&rt, rt.alloc(), &mut side, ONE_REAPED)
+    follow(&rt, rt.alloc(), &mut side, AT_ONCE)
 }

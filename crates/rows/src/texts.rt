@@ -22,19 +22,3 @@ pub(crate) fn has_lines(alloc: Global, text: &[u8], row: &str) -> Result<bool, A
     let want = lines(alloc, row)?;
     Ok(text == want.as_bytes())
 }
-
-/// The words of a line, parted by single blanks.
-pub(crate) fn words_of(alloc: Global, line: &str) -> Result<Vec<String>, AllocError> {
-    let mut words = Vec::new(alloc);
-    if !line.is_empty() {
-        add_words(alloc, &mut words, line)?;
-    }
-    Ok(words)
-}
-
-fn add_words(alloc: Global, words: &mut Vec<String>, line: &str) -> Result<(), AllocError> {
-    for word in line.split(' ') {
-        words.push(String::from_str(alloc, word)?)?;
-    }
-    Ok(())
-}

@@ -1,4 +1,4 @@
--- Why a run ended before its script did: what is told of it, and what it leaves of a text that was being written.
+-- Why a run ended before its script did: what is reported of it, and what it leaves of a text that was being written.
 use Rattle.std.specs.Prelude.{ℕ, List, ◌++◌, codes, decimal, Option}
 use Rattle.program_edge.specs.Writing.{AppendsFront, AppendsPrefix}
 use Rattle.supervisor.specs.declared.running.SimFault.{SimFault}

@@ -10,10 +10,10 @@ returns-then-is_err g c =
     let before = g.W.Write.contents c.args.out.now in
     let after = g.W.Write.contents c.simulate-ended.new.out in (
       unflushed,
-      c.tell_fault.ensures.status,
+      c.report_fault.ensures.status,
       either_kept s before after (g.W.Write.contents c.flush.new.self)
           (either_end c.simulate-ended.result (Done s before after) (λ f. Ends s f before after) c.simulate-ended.ensures.done c.simulate-ended.ensures.ended) c.flush.ensures.bytes,
-      c.tell_fault.ensures.told,
+      c.report_fault.ensures.reported,
     )
 
 -- the run ended before its script
@@ -21,8 +21,8 @@ pub returns-in-Err : goal.returns-in-Err
 returns-in-Err g c =
     let s = scenario c.args.level c.args.inittab.now c.args.script.now in (
       stopped c.in-Err.fault,
-      c.tell_fault-in-Err.ensures.status,
+      c.report_fault-in-Err.ensures.status,
       ends_kept s c.in-Err.fault (g.W.Write.contents c.args.out.now) (g.W.Write.contents c.simulate-ended.new.out) (g.W.Write.contents c.flush.new.self)
           c.in-Err.ensures.ended c.flush.ensures.bytes,
-      c.tell_fault-in-Err.ensures.told,
+      c.report_fault-in-Err.ensures.reported,
     )

@@ -16,11 +16,11 @@ ends_by words said is unflushed old new ends = (said, is, ends)
 
 pub returns-in-Ok : goal.returns-in-Ok
 returns-in-Ok g c =
-    let (ending, status, ends, told) = c.simulate_files.ensures in
+    let (ending, status, ends, reported) = c.simulate_files.ensures in
     let is : read_of (map string_bytes c.args.words.items) ≡ Some (said_of c.in-Ok.said) = search rules in
-    (ending, status, ends_by _ (said_of c.in-Ok.said) is ending (g.W.Write.contents c.args.out.now) (g.W.Write.contents c.simulate_files.new.out) ends, told)
+    (ending, status, ends_by _ (said_of c.in-Ok.said) is ending (g.W.Write.contents c.args.out.now) (g.W.Write.contents c.simulate_files.new.out) ends, reported)
 
 pub returns-in-Err-Usage : goal.returns-in-Err-Usage
 returns-in-Err-Usage g c =
     let none : read_of (map string_bytes c.args.words.items) ≡ None = search rules in
-    (usage, refl, (none, Keeps-refl (g.W.Write.contents c.args.out.now)), c.tell.ensures)
+    (usage, refl, (none, Keeps-refl (g.W.Write.contents c.args.out.now)), c.report.ensures)

@@ -18,18 +18,18 @@ const TRACE: &[u8] =
 pub(crate) struct Slow {
     pub(crate) taken: Vec<u8>,
     pub(crate) room: usize,
-    pub(crate) fails: bool,
+    fails: bool,
     /// It can't be flushed.
-    pub(crate) is_stuck: bool,
+    is_stuck: bool,
 }
 
 impl Slow {
-    pub(crate) fn new(alloc: Global, room: usize, fails: bool) -> Slow {
+    pub(crate) fn new(alloc: Global, room: usize, fails: bool, is_stuck: bool) -> Slow {
         Slow {
             taken: Vec::new(alloc),
             room,
             fails,
-            is_stuck: false,
+            is_stuck,
         }
     }
 }
@@ -81,7 +81,7 @@ const ROOMS: &[(usize, bool)] = &[
 
 /// The run is done where all of it has room, and else the fault is the writer's, which holds as much as it has room for.
 fn is_written(rt: &impl Abort, alloc: Global, room: usize, fails: bool) -> Result<(), Fail> {
-    let mut slow = Slow::new(alloc, room, fails);
+    let mut slow = Slow::new(alloc, room, fails, false);
     let ended = simulate(alloc, INITTAB, None, SCRIPT, &mut slow);
     let end = if room < TRACE.len() {
         Err(SimFault::Write)
@@ -113,7 +113,7 @@ fn is_taken(
     is_whole: bool,
     taken: &str,
 ) -> Result<(), Fail> {
-    let mut slow = Slow::new(alloc, room, true);
+    let mut slow = Slow::new(alloc, room, true, false);
     let whole = write_text(&mut slow, b"text").is_ok();
     assert!(rt;
         whole == is_whole && slow.taken.as_slice() == taken.as_bytes(),

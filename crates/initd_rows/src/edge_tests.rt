@@ -7,7 +7,7 @@ use std::test::Fail;
 /// Why words couldn't be read, and the exit status.
 const KINDS: &[(ErrorKind, u8)] = &[(ErrorKind::OutOfMemory, 4), (ErrorKind::InvalidData, 1)];
 
-fn is_told(rt: &impl Abort, alloc: Global, kind: ErrorKind, status: u8) -> Result<(), Fail> {
+fn is_reported(rt: &impl Abort, alloc: Global, kind: ErrorKind, status: u8) -> Result<(), Fail> {
     let mut err: Vec<u8> = Vec::new(alloc);
     let given = tell_unread("initd", "usage\n", &std::io::Error::from(kind), &mut err);
     assert!(rt; given == status && !err.is_empty());
@@ -15,9 +15,9 @@ fn is_told(rt: &impl Abort, alloc: Global, kind: ErrorKind, status: u8) -> Resul
 }
 
 #[test]
-fn unread_words_are_told(rt: HostRuntime) -> Result<(), Fail> {
+fn unread_words_are_reported(rt: HostRuntime) -> Result<(), Fail> {
     for (kind, status) in KINDS {
-        is_told(&rt, rt.alloc(), *kind, *status)?;
+        is_reported(&rt, rt.alloc(), *kind, *status)?;
     }
     Ok(())
 }

@@ -3,7 +3,7 @@ use Rattle.std.specs.Prelude.{option_map}
 use Rattle.std.proofs.lemmas.Result.{IfOk-weaker}
 use Rattle.clap.specs.Words.{found_of, rows_of, subcommand_name_of, subcommand_rows_of}
 use Rattle.initd_command.proofs.Entered.{map_first, said_by_other, said_by_simulate}
-use Rattle.initd_command.proofs.command.said.Goals as goal
+use Rattle.initd_command.proofs.command.read_matches.Goals as goal
 
 -- `simulate` was entered
 pub returns-in-Some : goal.returns-in-Some
@@ -11,7 +11,7 @@ returns-in-Some c =
     let entered = subcommand_rows_of c.args.matches.now in
     let name : subcommand_name_of c.args.matches.now ≡ option_map (λ e. e.0) entered = map_first _ _ _ in
     let same = said_by_simulate entered (rows_of (found_of c.in-Some.simulate.now)) (sym name ∙ c.in-Some.ensures.found.0 refl) c.in-Some.ensures.rows in
-    IfOk-weaker c.said_to_simulate.result _ _ (λ words says. says ∙ sym same) c.said_to_simulate.ensures
+    IfOk-weaker c.read_simulate.result _ _ (λ words says. says ∙ sym same) c.read_simulate.ensures
 
 -- another subcommand was entered, or none
 pub returns-in-None : goal.returns-in-None

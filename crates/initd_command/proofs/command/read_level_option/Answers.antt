@@ -4,7 +4,7 @@ use Rattle.clap.proofs.WalkLemmas.{first_value-rows}
 use Rattle.clap.specs.Words.{found_of}
 use Rattle.init_words.specs.declared.levels.Level.{Level}
 use Rattle.initd_command.specs.CommandLine.{level_in, level_word_read}
-use Rattle.initd_command.proofs.command.level_given.Goals as goal
+use Rattle.initd_command.proofs.command.read_level_option.Goals as goal
 
 abbrev given : Option Level → Option (Option Level)
 given level = option_map Some level

@@ -1,5 +1,4 @@
-use crate::texts::words_of;
-use initd_command::run_words;
+use crate::word_tests::answers;
 use std::alloc::Global;
 use std::fmt::Write;
 use std::fs;
@@ -68,7 +67,7 @@ fn add_trace(text: &mut String) -> Result<(), Fail> {
     text.push_str("settle 3\nnudge\n")?;
     add_numbered(text, ENTRIES, "ask r", " look\n")?;
     add_looks(text)?;
-    text.push_str("clock 7\n")?;
+    text.push_str("clock 7\n--\n")?;
     Ok(())
 }
 
@@ -86,36 +85,32 @@ fn write_script<R: Files>(rt: &R, text: &mut String) -> Result<(), Fail> {
     Ok(())
 }
 
-/// The status of the run over the two files.
-fn status_of<R: Files>(
-    rt: &R,
-    alloc: Global,
-    out: &mut Vec<u8>,
-    err: &mut Vec<u8>,
-) -> Result<u8, Fail> {
-    let words = words_of(alloc, "simulate large-table large-script")?;
-    Ok(run_words(rt, alloc, words, out, err))
+/// The run over the two files is done, and its trace written.
+fn is_run<R: Files + Abort>(rt: &R, alloc: Global, text: &mut String) -> Result<(), Fail> {
+    text.clear();
+    add_trace(text)?;
+    answers(
+        rt,
+        alloc,
+        "simulate large-table large-script",
+        0,
+        text.as_str(),
+    )
 }
 
-fn is_done<R: Files + Abort>(rt: &R, alloc: Global, trace: &str) -> Result<(), Fail> {
-    let mut out: Vec<u8> = Vec::new(alloc);
-    let mut err: Vec<u8> = Vec::new(alloc);
-    let status = status_of(rt, alloc, &mut out, &mut err)?;
-    assert!(rt; status == 0 && err.is_empty() && out.as_slice() == trace.as_bytes());
-    Ok(())
+fn run_large<R: Files + Abort>(rt: &R, alloc: Global, text: &mut String) -> Result<(), Fail> {
+    write_table(rt, text)?;
+    assert!(rt; text.len() > 40_000);
+    write_script(rt, text)?;
+    assert!(rt; text.lines().count() == 2_000);
+    is_run(rt, alloc, text)
 }
 
 /// An inittab of 512 entries and over 40,000 bytes, and a script of 2,000 lines.
 #[test]
 fn a_large_run_is_done(rt: HostRuntime) -> Result<(), Fail> {
     let mut text = String::new(rt.alloc());
-    write_table(&rt, &mut text)?;
-    assert!(rt; text.len() > 40_000);
-    write_script(&rt, &mut text)?;
-    assert!(rt; text.lines().count() == 2_000);
-    text.clear();
-    add_trace(&mut text)?;
-    is_done(&rt, rt.alloc(), text.as_str())?;
+    run_large(&rt, rt.alloc(), &mut text)?;
     fs::remove_file(&rt, "large-table")?;
     fs::remove_file(&rt, "large-script")?;
     Ok(())

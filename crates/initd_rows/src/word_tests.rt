@@ -1,0 +1,248 @@
+use crate::writer_tests::Slow;
+use initd_command::run_words;
+use std::alloc::{AllocError, Global};
+use std::fs;
+use std::io::Write;
+use std::process::Abort;
+use std::rt::Files;
+use std::test::Fail;
+
+/// The words of a line, parted by single blanks.
+fn words_of(alloc: Global, line: &str) -> Result<Vec<String>, AllocError> {
+    let mut words = Vec::new(alloc);
+    if !line.is_empty() {
+        add_words(alloc, &mut words, line)?;
+    }
+    Ok(words)
+}
+
+fn add_words(alloc: Global, words: &mut Vec<String>, line: &str) -> Result<(), AllocError> {
+    for word in line.split(' ') {
+        words.push(String::from_str(alloc, word)?)?;
+    }
+    Ok(())
+}
+
+/// The exit status of a line.
+fn status_of<R: Files, W: Write>(
+    rt: &R,
+    alloc: Global,
+    line: &str,
+    out: &mut W,
+    err: &mut Vec<u8>,
+) -> Result<u8, AllocError> {
+    let words = words_of(alloc, line)?;
+    Ok(run_words(rt, alloc, words, out, err))
+}
+
+/// The same, with a line `--` and what is reported added to what is written.
+fn answer<R: Files>(
+    rt: &R,
+    alloc: Global,
+    line: &str,
+    out: &mut Vec<u8>,
+) -> Result<u8, AllocError> {
+    let mut err: Vec<u8> = Vec::new(alloc);
+    let status = status_of(rt, alloc, line, out, &mut err)?;
+    out.extend_from_slice(b"--\n")?;
+    out.extend_from_slice(&err)?;
+    Ok(status)
+}
+
+/// The words of a line end with this status, and write and report this.
+pub(crate) fn answers<R: Files + Abort>(
+    rt: &R,
+    alloc: Global,
+    line: &str,
+    status: u8,
+    want: &str,
+) -> Result<(), Fail> {
+    let mut out: Vec<u8> = Vec::new(alloc);
+    let ended = answer(rt, alloc, line, &mut out)?;
+    assert!(rt;
+        ended == status && out.as_slice() == want.as_bytes(),
+        "at {line:?}"
+    );
+    Ok(())
+}
+
+/// The same over an inittab in the file `row-table` and a script in `row-script`.
+fn answers_over<R: Files + Abort>(
+    rt: &R,
+    alloc: Global,
+    inittab: &[u8],
+    script: &[u8],
+    line: &str,
+    status: u8,
+    want: &str,
+) -> Result<(), Fail> {
+    fs::write(rt, "row-table", inittab)?;
+    fs::write(rt, "row-script", script)?;
+    answers(rt, alloc, line, status, want)?;
+    fs::remove_file(rt, "row-table")?;
+    fs::remove_file(rt, "row-script")?;
+    Ok(())
+}
+
+/// One byte more than an inittab may have.
+const TOO_LONG: &[u8] = &[b'#'; 65_537];
+
+/// An inittab, a script, a command line, its status, and what is written and reported.
+const OVER_FILES: &[(&[u8], &[u8], &str, u8, &str)] = &[
+    // Faults of the script and of the inittab.
+    (
+        b"",
+        b"nudge",
+        "simulate row-table row-script",
+        0,
+        "use 0\nenter sysinit 5\nenter S 5\nsettle S\nnudge\n--\n",
+    ),
+    (
+        b"",
+        b"birth r 9",
+        "simulate row-table row-script",
+        1,
+        "use 0\nenter sysinit 5\nenter S 5\nsettle S\n--\ninitd: script line 1 is not allowed\n",
+    ),
+    (
+        b"",
+        b"birth r",
+        "simulate row-table row-script",
+        1,
+        "use 0\nenter sysinit 5\nenter S 5\nsettle S\n--\ninitd: script line 1 is not a line\n",
+    ),
+    (
+        TOO_LONG,
+        b"",
+        "simulate row-table row-script",
+        1,
+        "--\ninitd: the inittab is longer than 65,536 bytes\n",
+    ),
+    // The level.
+    (
+        b"id:3:initdefault:\n",
+        b"",
+        "simulate row-table row-script",
+        0,
+        "use 1\nid:3:initdefault:\nenter sysinit 5\nenter boot 5\nenter 3 5\nsettle 3\n--\n",
+    ),
+    (
+        b"id:3:initdefault:\n",
+        b"",
+        "simulate --level 2 row-table row-script",
+        0,
+        "use 1\nid:3:initdefault:\nenter sysinit 5\nenter boot 5\nenter 2 5\nsettle 2\n--\n",
+    ),
+    (
+        b"id:3:initdefault:\n",
+        b"",
+        "simulate --level=0 row-table row-script",
+        0,
+        "use 1\nid:3:initdefault:\nenter sysinit 5\nenter boot 5\nenter 0 5\nsettle 0\n--\n",
+    ),
+    // Files that are not read.
+    (
+        b"",
+        b"",
+        "simulate absent row-script",
+        4,
+        "--\ninitd: cannot read absent: No such file or directory (os error 2)\n",
+    ),
+    (
+        b"",
+        b"",
+        "simulate row-table absent",
+        4,
+        "--\ninitd: cannot read absent: No such file or directory (os error 2)\n",
+    ),
+    (
+        b"",
+        b"",
+        "simulate . row-script",
+        4,
+        "--\ninitd: cannot read .: Is a directory (os error 21)\n",
+    ),
+    // An unread script comes before a long inittab.
+    (
+        TOO_LONG,
+        b"",
+        "simulate row-table absent",
+        4,
+        "--\ninitd: cannot read absent: No such file or directory (os error 2)\n",
+    ),
+];
+
+#[test]
+fn command_lines(rt: HostRuntime) -> Result<(), Fail> {
+    for (inittab, script, line, status, want) in OVER_FILES {
+        answers_over(&rt, rt.alloc(), inittab, script, line, *status, want)?;
+    }
+    Ok(())
+}
+
+/// Words that are no command line.
+const FAULTY: &[&str] = &[
+    "",
+    "simulate",
+    "simulate one",
+    "simulate one two three",
+    "simulate --level x one two",
+    "simulate --level 33 one two",
+    "simulate --level",
+    "stimulate one two",
+    "--help",
+    "help",
+    "simulate --help",
+    "--version",
+];
+
+const USAGE_REPORTED: &str = "--
+usage: initd simulate [--level L] TABLE SCRIPT
+  L       the runlevel to go to, 0 to 9, S or s; the table's initdefault where it is left out
+  TABLE   an inittab(5)
+  SCRIPT  what the system did, one happening a line
+";
+
+#[test]
+fn usage_faults_write_no_trace(rt: HostRuntime) -> Result<(), Fail> {
+    for line in FAULTY {
+        answers(&rt, rt.alloc(), line, 1, USAGE_REPORTED)?;
+    }
+    Ok(())
+}
+
+/// What a run over an empty inittab and an empty script writes.
+const SETTLED: &[u8] = b"use 0\nenter sysinit 5\nenter S 5\nsettle S\n";
+
+/// The room of a writer that fails where it is full, and whether it can't be flushed.
+const STUCK: &[(usize, bool)] = &[(1000, true), (40, false), (40, true)];
+
+/// A failed write is reported, and what is written stays.
+fn is_reported<R: Files + Abort>(rt: &R, alloc: Global, out: &mut Slow) -> Result<(), Fail> {
+    let mut err: Vec<u8> = Vec::new(alloc);
+    let status = status_of(rt, alloc, "simulate empty empty", out, &mut err)?;
+    let taken = out.room.min(SETTLED.len());
+    assert!(rt; status == 4 && out.taken.as_slice() == &SETTLED[..taken]);
+    assert!(rt; err.as_slice() == b"initd: the trace could not be written\n".as_slice());
+    Ok(())
+}
+
+fn is_stuck<R: Files + Abort>(
+    rt: &R,
+    alloc: Global,
+    room: usize,
+    is_stuck: bool,
+) -> Result<(), Fail> {
+    let mut out = Slow::new(alloc, room, true, is_stuck);
+    is_reported(rt, alloc, &mut out)
+}
+
+#[test]
+fn writers_that_fail_are_reported(rt: HostRuntime) -> Result<(), Fail> {
+    fs::write(&rt, "empty", "")?;
+    for (room, stuck) in STUCK {
+        is_stuck(&rt, rt.alloc(), *room, *stuck)?;
+    }
+    fs::remove_file(&rt, "empty")?;
+    Ok(())
+}
