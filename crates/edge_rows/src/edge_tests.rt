@@ -1,40 +1,13 @@
 //! Writers and readers that give or take little at a time, or fail in the middle, and the words of a program.
 
 use program_edge::{only_byte, read_all, read_file, words, write_text};
+use slow_writer::Slow;
 use std::alloc::Global;
 use std::env::{Env, FillError};
 use std::io::{ErrorKind, Read, Write};
 use std::process::Abort;
 use std::test::Fail;
 use std::{fs, io};
-
-/// A writer that takes one byte a write. Once it has `room` bytes it fails, or takes none.
-#[derive(Drop)]
-struct Slow {
-    taken: Vec<u8>,
-    room: usize,
-    fails: bool,
-}
-
-impl Write for Slow {
-    fn write(&mut self, buf: &[u8]) -> io::Result<usize> {
-        let [first, ..] = buf else {
-            return Ok(0);
-        };
-        if self.taken.len() < self.room {
-            self.taken.push(*first)?;
-            return Ok(1);
-        }
-        if self.fails {
-            return Err(io::Error::from(ErrorKind::BrokenPipe));
-        }
-        Ok(0)
-    }
-
-    fn flush(&mut self) -> io::Result<()> {
-        Ok(())
-    }
-}
 
 /// Room, whether a full writer fails, and how the write of `request` ends and what is taken of it.
 const WRITES: &[(usize, bool, Option<ErrorKind>, &[u8])] = &[
@@ -61,11 +34,7 @@ fn is_written(
     fault: Option<ErrorKind>,
     taken: &[u8],
 ) {
-    let mut slow = Slow {
-        taken: Vec::new(alloc),
-        room,
-        fails,
-    };
+    let mut slow = Slow::new(alloc, room, fails, false);
     let ended = fault_of(write_text(&mut slow, b"request"));
     assert!(rt; ended == fault && slow.taken.as_slice() == taken);
 }

@@ -9,14 +9,13 @@ use std::test::Fail;
 use std::{fs, io};
 use telinit_command::{USAGE, WordFault, Words, frame_of, read_words, run_words};
 
-const USAGE_REPORT: &str = "usage: telinit [-t SEC] [--initctl P] CHAR
-  SEC   seconds between the two signals that stop a child, 0 to 3600; 5 where it is left out
-  P     the file that the request is appended to; initctl where it is left out
-  CHAR  0 to 9, S or s: go to that runlevel
-        A, B, C, a, b or c: start the ondemand entries of that letter
-        Q or q: read inittab again
-        U or u: execute init anew, and keep its state
-";
+const USAGE_REPORT: &str = "usage: telinit [-t SEC] [--initctl P] CHAR\
+\n  SEC   seconds between the two signals that stop a child, 0 to 3600; 5 where it is left out\
+\n  P     the file that the request is appended to; initctl where it is left out\
+\n  CHAR  0 to 9, S or s: go to that runlevel\
+\n        A, B, C, a, b or c: start the ondemand entries of that letter\
+\n        Q or q: read inittab again\
+\n        U or u: execute init anew, and keep its state\n";
 
 fn add_words(words: &mut Vec<String>, alloc: Global, line: &[&str]) -> Result<(), AllocError> {
     for word in line {

@@ -1,9 +1,9 @@
-ghost use Rattle.std.specs.Prelude.{◌≡◌, ◌≢◌, [], map, option_map, string_bytes, unwrap_or, IfOk, IsErrOf};
-ghost use Rattle.clap.specs.Words.{FailsBy, app_of, fault_of, first_of, found_of, kind_of, rows_of, subcommand_of, subcommand_rows_of};
+ghost use Rattle.std.specs.Prelude.{◌≡◌, map, option_map, string_bytes, IfOk, IsErrOf};
+ghost use Rattle.clap.specs.Words.{FailsBy, app_of, fault_of, found_of, rows_of, subcommand_of, subcommand_rows_of};
 ghost use Rattle.initd_command.specs.CommandLine.{command_line, level_word_read, level_said, read_of, said_by, said_of, words_said};
 
-use clap::error::ErrorKind;
 use clap::{Arg, ArgMatches, Command, Error};
+use command_words::{WordFault, value_of, word_fault};
 use init_words::Level;
 use program_edge::only_byte;
 use std::alloc::{AllocError, Global};
@@ -17,26 +17,6 @@ pub struct Words {
     pub table: String,
     /// The path of the script.
     pub script: String,
-}
-
-/// Why words were not read.
-#[derive(Clone, Copy, Debug, PartialEq, Eq)]
-pub enum WordFault {
-    /// They are no command line of initd. A request for help is none.
-    Usage,
-    /// Want of memory.
-    Memory,
-}
-
-impl From<AllocError> for WordFault {
-    ghost use Rattle.std.specs.Prelude.{◌≡◌};
-    ghost use Rattle.initd_command.specs.declared.command.WordFault.TheVariants.{Memory};
-
-    ghost from_gives = { λ _ fault. fault ≡ Memory };
-
-    fn from(_error: AllocError) -> WordFault {
-        WordFault::Memory
-    }
 }
 
 /// Reads a command line, without the program's name in front.
@@ -117,24 +97,4 @@ fn read_level(word: &str) -> Option<Level>
     ensures { result ≡ level_word_read word.now }
 {
     Level::read(only_byte(word)?)
-}
-
-/// The value of an argument, where it has one.
-fn value_of<'a>(matches: &'a ArgMatches, id: &str) -> &'a str
-    ensures { result.now ≡ unwrap_or (first_of id.now (rows_of (found_of matches.entry.now))) [] }
-{
-    match matches.get_str(id) {
-        Some(value) => value,
-        None => "",
-    }
-}
-
-fn word_fault(error: &Error) -> WordFault
-    ensures { result ≡ WordFault.Usage → kind_of error.now ≢ ErrorKind.OutOfMemory }
-{
-    if error.kind() == ErrorKind::OutOfMemory {
-        WordFault::Memory
-    } else {
-        WordFault::Usage
-    }
 }

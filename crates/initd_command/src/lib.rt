@@ -5,5 +5,6 @@
 mod command;
 mod running;
 
-pub use command::{WordFault, Words, read_words};
+pub use command::{Words, read_words};
+pub use command_words::WordFault;
 pub use running::{USAGE, run_words};

@@ -4,7 +4,8 @@ ghost use Rattle.initd_command.specs.CommandLine.{said_of};
 ghost use Rattle.initd_command.specs.Endings.{Ending, EndsBy, EndsFiles, EndsRun, Reports, ReportsText, fault_message, fault_status, file_message, status_of};
 ghost use Rattle.supervisor.specs.Simulation.{scenario};
 
-use crate::command::{WordFault, Words, read_words};
+use crate::command::{Words, read_words};
+use command_words::WordFault;
 use init_words::Level;
 use program_edge::{DEVICE_FAULT, DONE, REFUSED, read_file, write_text};
 use std::alloc::{AllocError, Global};

@@ -1,5 +1,5 @@
-use crate::writer_tests::Slow;
 use initd_command::run_words;
+use slow_writer::Slow;
 use std::alloc::{AllocError, Global};
 use std::fs;
 use std::io::Write;

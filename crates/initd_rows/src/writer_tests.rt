@@ -1,7 +1,6 @@
 use program_edge::write_text;
+use slow_writer::Slow;
 use std::alloc::Global;
-use std::io;
-use std::io::{ErrorKind, Write};
 use std::process::Abort;
 use std::test::Fail;
 use supervisor::{SimFault, simulate};
@@ -12,50 +11,6 @@ const SCRIPT: &[u8] = b"birth w 10\ntold w\nnudge\n";
 
 const TRACE: &[u8] =
     b"use 3\nid:3:initdefault:\nw:3:wait:prep\nr:3:respawn:serv\nenter sysinit 5\nenter boot 5\nenter 3 5\nask w start\nbirth w 10\ntold w\nnudge\nask w look\n";
-
-/// A writer that takes one byte a write. Once it has `room` bytes it fails, or takes none.
-#[derive(Drop)]
-pub(crate) struct Slow {
-    pub(crate) taken: Vec<u8>,
-    pub(crate) room: usize,
-    fails: bool,
-    /// It can't be flushed.
-    is_stuck: bool,
-}
-
-impl Slow {
-    pub(crate) fn new(alloc: Global, room: usize, fails: bool, is_stuck: bool) -> Slow {
-        Slow {
-            taken: Vec::new(alloc),
-            room,
-            fails,
-            is_stuck,
-        }
-    }
-}
-
-impl Write for Slow {
-    fn write(&mut self, buf: &[u8]) -> io::Result<usize> {
-        let [first, ..] = buf else {
-            return Ok(0);
-        };
-        if self.taken.len() < self.room {
-            self.taken.push(*first)?;
-            return Ok(1);
-        }
-        if self.fails {
-            return Err(io::Error::from(ErrorKind::BrokenPipe));
-        }
-        Ok(0)
-    }
-
-    fn flush(&mut self) -> io::Result<()> {
-        if self.is_stuck {
-            return Err(io::Error::from(ErrorKind::BrokenPipe));
-        }
-        Ok(())
-    }
-}
 
 /// The room of a writer, and whether it fails or takes nothing where it is full.
 const ROOMS: &[(usize, bool)] = &[

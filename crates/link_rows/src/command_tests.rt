@@ -3,12 +3,12 @@
 
 use init_words::Memory;
 use rc_links::run_words;
+use slow_writer::Slow;
 use std::alloc::Global;
-use std::io::{ErrorKind, Write};
+use std::fs;
 use std::process::Abort;
 use std::rt::Files;
 use std::test::Fail;
-use std::{fs, io};
 
 /// Writes a script that provides names, requires names to start, and starts at runlevel 3.
 fn write_script(
@@ -275,35 +275,6 @@ fn a_deep_plan_is_told(rt: HostRuntime) -> Result<(), Fail> {
     Ok(())
 }
 
-/// A writer that takes one byte a write, fails once it has `room` of them, and may fail where it is flushed.
-#[derive(Drop)]
-struct Slow {
-    taken: Vec<u8>,
-    room: usize,
-    is_flushed: bool,
-}
-
-impl Write for Slow {
-    fn write(&mut self, buf: &[u8]) -> io::Result<usize> {
-        let [first, ..] = buf else {
-            return Ok(0);
-        };
-        if self.taken.len() >= self.room {
-            return Err(io::Error::from(ErrorKind::BrokenPipe));
-        }
-        self.taken.push(*first)?;
-        Ok(1)
-    }
-
-    fn flush(&mut self) -> io::Result<()> {
-        if self.is_flushed {
-            Ok(())
-        } else {
-            Err(io::Error::from(ErrorKind::BrokenPipe))
-        }
-    }
-}
-
 /// What a writer of so much room took of the links of a script, what was told, and the status, parted by bars.
 fn slow_run(
     rt: &impl Files,
@@ -312,11 +283,7 @@ fn slow_run(
     is_flushed: bool,
 ) -> Result<Vec<u8>, Fail> {
     let words = words_of(alloc, "slow-net")?;
-    let mut out = Slow {
-        taken: Vec::new(alloc),
-        room,
-        is_flushed,
-    };
+    let mut out = Slow::new(alloc, room, true, !is_flushed);
     let mut err: Vec<u8> = Vec::new(alloc);
     let status = run_words(rt, alloc, words.as_slice(), &mut out, &mut err);
     out.taken.push(b'|')?;

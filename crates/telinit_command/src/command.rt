@@ -1,10 +1,10 @@
-ghost use Rattle.std.specs.Prelude.{◌≡◌, ◌≢◌, [], map, string_bytes, unwrap_or, IfOk, IsErrOf};
-ghost use Rattle.clap.specs.Words.{FailsBy, app_of, fault_of, first_of, found_of, kind_of, matches_of, rows_of};
+ghost use Rattle.std.specs.Prelude.{◌≡◌, map, string_bytes, IfOk, IsErrOf};
+ghost use Rattle.clap.specs.Words.{FailsBy, app_of, fault_of, found_of, matches_of, rows_of};
 ghost use Rattle.telinit_command.specs.CommandLine.{command_line, read_of};
 
 use crate::seconds::read_seconds;
-use clap::error::ErrorKind;
 use clap::{Arg, ArgMatches, Command, Error};
+use command_words::{WordFault, value_of, word_fault};
 use std::alloc::{AllocError, Global};
 
 /// What a command line says.
@@ -16,28 +16,6 @@ pub struct Words {
     pub path: String,
     /// What stands for the runlevel.
     pub sign: String,
-}
-
-/// Why words were not read.
-#[derive(Clone, Copy, Debug, PartialEq, Eq, thiserror::Error)]
-pub enum WordFault {
-    /// They are no command line of telinit. A request for help is none.
-    #[error("not a command line of telinit")]
-    Usage,
-    /// Want of memory.
-    #[error("out of memory")]
-    Memory,
-}
-
-impl From<AllocError> for WordFault {
-    ghost use Rattle.std.specs.Prelude.{◌≡◌};
-    ghost use Rattle.telinit_command.specs.declared.command.WordFault.TheVariants.{Memory};
-
-    ghost from_gives = { λ _ fault. fault ≡ Memory };
-
-    fn from(_error: AllocError) -> WordFault {
-        WordFault::Memory
-    }
 }
 
 /// Reads a command line, without the program's name in front.
@@ -82,24 +60,4 @@ fn parsed<'a>(alloc: Global, words: &'a [String]) -> Result<ArgMatches<'a>, Erro
     ensures faults { FailsBy (fault_of command_line (map string_bytes words.entry.now)) result }
 {
     command(alloc)?.try_get_matches_from(words)
-}
-
-/// The value of an argument, where it has one.
-fn value_of<'a>(matches: &ArgMatches<'a>, id: &str) -> &'a str
-    ensures { result.now ≡ unwrap_or (first_of id.now (rows_of (found_of matches.now))) [] }
-{
-    match matches.get_str(id) {
-        Some(value) => value,
-        None => "",
-    }
-}
-
-fn word_fault(error: &Error) -> WordFault
-    ensures { result ≡ WordFault.Usage → kind_of error.now ≢ ErrorKind.OutOfMemory }
-{
-    if error.kind() == ErrorKind::OutOfMemory {
-        WordFault::Memory
-    } else {
-        WordFault::Usage
-    }
 }

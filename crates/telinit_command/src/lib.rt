@@ -7,6 +7,7 @@ mod frame;
 mod run;
 mod seconds;
 
-pub use command::{WordFault, Words, read_words};
+pub use command::{Words, read_words};
+pub use command_words::WordFault;
 pub use frame::frame_of;
 pub use run::{USAGE, run_words};

@@ -3,8 +3,9 @@ ghost use Rattle.program_edge.specs.Writing.{AppendsPrefix};
 ghost use Rattle.telinit_command.specs.CommandLine.{block_said};
 
 use crate::channel::{ChannelFault, append_block};
-use crate::command::{WordFault, read_words};
+use crate::command::read_words;
 use crate::frame::frame_of;
+use command_words::WordFault;
 use program_edge::{DEVICE_FAULT, DONE, REFUSED, tell_no_memory, tell_usage};
 use std::alloc::Global;
 use std::io::Write;

@@ -2,7 +2,7 @@ use Rattle.std.proofs.Common.{◌∙◌, ap, List, ℕ, [], Option}
 use Rattle.std.specs.Prelude.{unwrap_or}
 use Rattle.clap.proofs.WalkLemmas.{first_value-rows}
 use Rattle.clap.specs.Words.{found_of}
-use Rattle.telinit_command.proofs.command.value_of.Goals as goal
+use Rattle.command_words.proofs.value_of.Goals as goal
 
 pub returns-in-Some : goal.returns-in-Some
 returns-in-Some c =
