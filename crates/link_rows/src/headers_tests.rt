@@ -449,19 +449,17 @@ fn shown_with(
     }
 }
 
-/// Each growth is refused in turn, from the first on: that is told, until there is room for the whole header. The
-/// number of rooms that were too small.
-fn refusals(rt: &impl Abort, alloc: Global, text: &[u8]) -> Result<u32, Fail> {
-    let mut count = 0;
+/// Each growth is refused in turn, from the first on: that is told, until there is room for the whole header. The first
+/// room that is enough, in steps of 16 bytes.
+fn enough(rt: &impl Abort, alloc: Global, text: &[u8]) -> Result<usize, Fail> {
     for step in 4..256usize {
         match shown_with(alloc, text, 16 * step)? {
             Ok(fields) => {
                 assert!(rt; fields.as_slice() == SHOWN_NINE);
-                return Ok(count);
+                return Ok(step);
             }
             Err(fault) => assert!(rt; fault == HeaderFault::Memory),
         }
-        count += 1;
     }
     Err(Fail::from("no room"))
 }
@@ -469,7 +467,7 @@ fn refusals(rt: &impl Abort, alloc: Global, text: &[u8]) -> Result<u32, Fail> {
 #[test]
 fn want_of_memory(rt: HostRuntime) -> Result<(), Fail> {
     let text = between(rt.alloc(), BEGIN, NINE, END)?;
-    let count = refusals(&rt, rt.alloc(), text.as_slice())?;
-    assert!(rt; count > 4);
+    let step = enough(&rt, rt.alloc(), text.as_slice())?;
+    assert!(rt; step > 8);
     Ok(())
 }

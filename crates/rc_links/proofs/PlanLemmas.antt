@@ -1,12 +1,12 @@
 -- Plans: their fields, their names, and the faults that a step gives on.
-use Rattle.std.proofs.Common.{Some, string_bytes, ◌≡◌, ℕ, zero, suc, ◌+◌, ◌<◌, List, [], ◌∷◌, ◌++◌, length, map, get_or, drop, None, refl, sym, ap, ◌∙◌, subst, arith, inl, inr}
+use Rattle.std.proofs.Common.{Some, Result, Ok, Err, IfOk, string_bytes, ◌≡◌, ℕ, zero, suc, ◌+◌, ◌<◌, List, [], ◌∷◌, ◌++◌, length, map, get_or, drop, None, refl, sym, ap, ◌∙◌, subst, arith, inl, inr}
 use Rattle.std.specs.List.{AllByRecursion}
 use Rattle.rc_links.specs.declared.needs.Phase.{Phase}
 use Rattle.rc_links.specs.declared.needs.Phase.TheVariants as phase
 use Rattle.rc_links.specs.declared.faults.PlanFault.{PlanFault}
 use Rattle.rc_links.specs.declared.faults.PlanFault.TheVariants as fault
 use Rattle.rc_links.specs.Faults.{Wrong, Double, Missing, Round, IsAnyDeep, IsDouble, IsMissing, IsRound, IsTooDeep, Says}
-use Rattle.link_numbers.specs.Numbering.{HasNoNumbering, IsCycle}
+use Rattle.link_numbers.specs.Numbering.{HasNoNumbering, IsCycle, IsLeast}
 use Rattle.rc_links.specs.ScriptText.{ScriptText}
 use Rattle.rc_links.specs.PlannedText.{PlannedText}
 use Rattle.rc_links.specs.Plans.{AreLeast, IsCycleOf, IsPlan, IsProvided, IsRefused, IsShort, names_at, planned, planned_all}
@@ -115,6 +115,12 @@ same_missing x y e = cc
 
 same_round : (x y : List (List ℕ)) → Round x ≡ Round y → x ≡ y
 same_round x y e = cc
+
+-- numbers, of the right count, that are least
+pub AreLeast-order : {X Y E : Type 0} (items : X → List ℕ) (turn : Phase) (scripts : List ScriptText) (r : Result (Result X Y) E) → IfOk r (λ order. IfOk order (λ ns. length (items ns) ≡ length scripts)) → IfOk r (λ order. IfOk order (λ ns. IsLeast (length scripts) (needs_of turn scripts) (items ns))) → IfOk r (λ order. IfOk order (λ ns. AreLeast turn scripts (items ns)))
+AreLeast-order items turn scripts (Ok (Ok ns)) size least = record { size = size; least = least }
+AreLeast-order items turn scripts (Ok (Err cycle)) size least = tt
+AreLeast-order items turn scripts (Err e) size least = tt
 
 -- why there is no plan, step by step
 pub refused-double : {A : Type 0} (scripts : List ScriptText) (f : PlanFault A) → Says (IsDouble (double_from [] scripts)) f → IsRefused scripts f
