@@ -113,7 +113,8 @@ fn report_fault<E: Write>(alloc: Global, fault: &SimFault, err: &mut E) -> u8
 /// Reports that a file was not read, and gives the exit status.
 fn report_unread<E: Write>(alloc: Global, path: &str, error: &io::Error, err: &mut E) -> u8
     ensures status { result ≡ DEVICE_FAULT }
-    ensures reported { (why : List ℕ) × ReportsText (file_message path.now why) (E.contents err.old) (E.contents err.new) }
+    ensures reported { (why : List ℕ)
+        × ReportsText (file_message path.now why) (E.contents err.old) (E.contents err.new) }
 {
     report_made(unread_message(alloc, path, error), err);
     DEVICE_FAULT

@@ -34,7 +34,8 @@ const ROOMS: &[(usize, bool)] = &[
     (121, true),
 ];
 
-/// The run is done where all of it has room, and else the fault is the writer's, which holds as much as it has room for.
+/// The run is done where all of it has room, and else the fault is the writer's, which holds as much as it has room
+/// for.
 fn is_written(rt: &impl Abort, alloc: Global, room: usize, fails: bool) -> Result<(), Fail> {
     let mut slow = Slow::new(alloc, room, fails, false);
     let ended = simulate(alloc, INITTAB, None, SCRIPT, &mut slow);

@@ -146,7 +146,8 @@ fn header_of<A: Allocator + Copy>(alloc: A, body: &[u8]) -> Result<Header<A>, Me
 #[tactic(auto, unfolding(crate::specs::Headers::header_read))]
 pub fn read<A: Allocator + Copy>(alloc: A, text: &[u8]) -> Result<Header<A>, HeaderFault>
     ensures header { IfOk result (λ header. header_read text.now ≡ Ok header) }
-    ensures fault { IfErr result (λ fault. fault ≢ HeaderFault.Memory → header_read text.now ≡ Err fault) }
+    ensures fault { IfErr result (λ fault.
+        fault ≢ HeaderFault.Memory → header_read text.now ≡ Err fault) }
 {
     let Some((number, body)) = begun(text) else {
         return Err(HeaderFault::NoBegin);

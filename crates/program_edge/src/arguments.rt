@@ -63,7 +63,8 @@ pub fn tell_usage<E: Write>(usage: &str, err: &mut E) -> u8
     REFUSED
 }
 
-/// Reports that memory ran out before anything was written, by as much of the text as `err` takes, and gives the status.
+/// Reports that memory ran out before anything was written, by as much of the text as `err` takes, and gives the
+/// status.
 pub fn tell_no_memory<E: Write>(name: &str, err: &mut E) -> u8
     ensures status { result ≡ DEVICE_FAULT }
     ensures report { AppendsPrefix (E.contents err.old) (E.contents err.new)

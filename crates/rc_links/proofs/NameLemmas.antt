@@ -127,10 +127,6 @@ cut_at (y ∷ xs) (suc n) x within is =
     let e : suc n + 1 ≡ suc (n + 1) = omega arith in
     rw e (rest.0, ap (λ zs. y ∷ zs) rest.1, ap suc rest.2)
 
--- a fault that is known
-pub err_is : {S E : Type 0} (r : Result S E) (e : E) (Q : E → Type 0) → r ≡ Err e → Q e → IfErr r Q
-err_is r e Q is q = rw is q
-
 pub err_and : {S E : Type 0} (r : Result S E) (e : E) (Q : E → Type 0) → IsErrAnd r (λ given. given ≡ e) → Q e → IfErr r Q
 err_and (Ok x) e Q is q = absurd is
 err_and (Err x) e Q is q = subst Q (sym is) q

@@ -136,7 +136,8 @@ impl<A: Allocator> Plan<A> {
 
     /// The number by which the script of a name starts.
     pub fn start_number(&self, name: &str) -> Option<u8>
-        ensures { result ≡ option_map (λ s. s.start) (find (λ s. bytes_eq s.name name.now) self.now) }
+        ensures { result ≡ option_map (λ s. s.start)
+            (find (λ s. bytes_eq s.name name.now) self.now) }
     {
         let planned = self.planned(name)?;
         Some(planned.start())
@@ -144,7 +145,8 @@ impl<A: Allocator> Plan<A> {
 
     /// The number by which the script of a name stops.
     pub fn stop_number(&self, name: &str) -> Option<u8>
-        ensures { result ≡ option_map (λ s. s.stop) (find (λ s. bytes_eq s.name name.now) self.now) }
+        ensures { result ≡ option_map (λ s. s.stop)
+            (find (λ s. bytes_eq s.name name.now) self.now) }
     {
         let planned = self.planned(name)?;
         Some(planned.stop())

@@ -158,9 +158,6 @@ memory_before known text = ([], text, refl, Appends-nil known)
 pub moment_rest : (goal : Goal) (past : List Event) (s : Step) (core new_core : CoreState) (side : State) → Moment goal past core side → is_rest s ≡ true → Fits new_core goal (with_step s past) → Moment goal past new_core side
 moment_rest goal past s core new_core side moment rests fits = record { runs = moment.runs; one_table = moment.one_table; fits = subst (Fits new_core goal) (rest_step s past rests) fits; follows = moment.follows }
 
-pub err_is : {S E : Type 0} (r : Result S E) (e : E) (Q : E → Type 0) → r ≡ Err e → Q e → IfErr r Q
-err_is r e Q is q = rw is q
-
 pub err_then : {S E : Type 0} (r : Result S E) (P Q : E → Type 0) → IfErr r P → ((e : E) → P e → Q e) → IfErr r Q
 err_then (Ok s) P Q p each = tt
 err_then (Err e) P Q p each = each e p

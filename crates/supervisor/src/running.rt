@@ -240,8 +240,8 @@ fn open_run<A: Allocator + Copy, W: Write>(
 ///
 /// The run ends at the end of the script, or before the first line that is none (`Script`) or may not come
 /// (`Forbidden`), by its number from 1. An inittab of over 65,536 bytes is refused (`Table`). Where the writer fails
-/// (`Write`), a prefix of the trace is written and something of it is left; where memory is wanting (`Memory`), a prefix
-/// of it is written.
+/// (`Write`), a prefix of the trace is written and something of it is left; where memory is wanting (`Memory`), a
+/// prefix of it is written.
 pub fn simulate<A: Allocator + Copy, W: Write>(
     alloc: A,
     inittab: &[u8],

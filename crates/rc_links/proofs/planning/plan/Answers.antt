@@ -1,6 +1,6 @@
 use Rattle.std.proofs.Common.{rules, ◌≡◌, Err}
 use Rattle.rc_links.specs.Plans.{IsProvided}
-use Rattle.rc_links.proofs.NameLemmas.{err_is}
+use Rattle.init_words.proofs.Tests.{err_is}
 use Rattle.rc_links.proofs.PlanLemmas.{plan_made, refused-deep, refused-start, refused-stop}
 use Rattle.rc_links.proofs.planning.plan.Goals as goal
 

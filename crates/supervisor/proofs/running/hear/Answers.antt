@@ -2,7 +2,8 @@ use Rattle.std.proofs.Common.{rules, ◌≡◌, Err}
 use Rattle.init_trace.specs.Lines.{event_text}
 use Rattle.supervisor.specs.declared.running.SimFault.TheVariants as fault
 use Rattle.supervisor.proofs.Hearing.{moment_heard}
-use Rattle.supervisor.proofs.Moves.{err_is, memory_after}
+use Rattle.init_words.proofs.Tests.{err_is}
+use Rattle.supervisor.proofs.Moves.{memory_after}
 use Rattle.supervisor.proofs.running.hear.Goals as goal
 
 pub returns-clause-ok : goal.returns-clause-ok

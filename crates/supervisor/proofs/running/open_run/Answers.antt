@@ -1,7 +1,8 @@
 use Rattle.std.proofs.Common.{rules, ◌≡◌, Err}
 use Rattle.supervisor.specs.declared.running.SimFault.TheVariants as fault
 use Rattle.supervisor.specs.Moments.{opening_text}
-use Rattle.supervisor.proofs.Moves.{err_is, memory_before}
+use Rattle.init_words.proofs.Tests.{err_is}
+use Rattle.supervisor.proofs.Moves.{memory_before}
 use Rattle.supervisor.proofs.running.open_run.Goals as goal
 
 pub returns-in_err-text-clause-err : goal.returns-in_err-text-clause-err

@@ -7,7 +7,8 @@ use Rattle.init_trace.specs.Run.{is_rest}
 use Rattle.trace_laws.proofs.Runs.{run_sound}
 use Rattle.supervisor.specs.declared.running.SimFault.TheVariants as fault
 use Rattle.supervisor.specs.Moments.{Moment}
-use Rattle.supervisor.proofs.Moves.{err_is, moment_rest, moment_step, goes_step, leaves_behind, memory_after, more_run, more_plain}
+use Rattle.init_words.proofs.Tests.{err_is}
+use Rattle.supervisor.proofs.Moves.{moment_rest, moment_step, goes_step, leaves_behind, memory_after, more_run, more_plain}
 use Rattle.supervisor.proofs.running.run_until_rest.Goals as goal
 
 -- init rests

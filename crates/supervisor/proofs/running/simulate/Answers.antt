@@ -5,7 +5,7 @@ use Rattle.inittab_text.specs.Reading.{table_of_text}
 use Rattle.supervisor.specs.declared.running.SimFault.TheVariants as fault
 use Rattle.supervisor.specs.Moments.{SoFar}
 use Rattle.supervisor.specs.Simulation.{goal_in, scenario}
-use Rattle.supervisor.proofs.Moves.{err_is}
+use Rattle.init_words.proofs.Tests.{err_is}
 use Rattle.supervisor.proofs.Whole.{same_fault, opening_ends, broken_ends, broken_first, first_moment, so_far_first, so_far_next, line_ends, all_done}
 use Rattle.supervisor.proofs.running.simulate.Goals as goal
 

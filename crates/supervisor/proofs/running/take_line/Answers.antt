@@ -3,7 +3,8 @@ use Rattle.std.proofs.KnownBytes.{Appends-trans, Keeps-refl}
 use Rattle.init_trace.specs.Lines.{event_text}
 use Rattle.trace_laws.proofs.Runs.{run_sound}
 use Rattle.supervisor.specs.declared.running.SimFault.TheVariants as fault
-use Rattle.supervisor.proofs.Moves.{err_is, err_then, leaves_behind, memory_before, run_hears}
+use Rattle.init_words.proofs.Tests.{err_is}
+use Rattle.supervisor.proofs.Moves.{err_then, leaves_behind, memory_before, run_hears}
 use Rattle.supervisor.proofs.Hearing.{may_hear, may_not, hears_none, hears_one, hears_goes, plain_heard, broken_line, ok_then}
 use Rattle.supervisor.proofs.running.take_line.Goals as goal
 

@@ -2,7 +2,8 @@ use Rattle.std.proofs.Common.{rules, ◌≡◌, Err, List, ℕ, subst}
 use Rattle.program_edge.specs.Writing.{AppendsFront}
 use Rattle.init_trace.specs.Lines.{event_text}
 use Rattle.supervisor.specs.declared.running.SimFault.TheVariants as fault
-use Rattle.supervisor.proofs.Moves.{err_is, memory_before}
+use Rattle.init_words.proofs.Tests.{err_is}
+use Rattle.supervisor.proofs.Moves.{memory_before}
 use Rattle.supervisor.proofs.running.write_happening.Goals as goal
 
 pub returns-in_err-text-clause-err : goal.returns-in_err-text-clause-err
