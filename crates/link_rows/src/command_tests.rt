@@ -2,7 +2,7 @@
 //! output, and what is told on standard error.
 
 use init_words::Memory;
-use rc_links::run_words;
+use rclinks_command::run_words;
 use slow_writer::Slow;
 use std::alloc::Global;
 use std::fs;

@@ -1,5 +1,4 @@
 pub mod LinkLemmas
 pub mod NameLemmas
 pub mod NeedLemmas
-pub mod PathLemmas
 pub mod PlanLemmas

@@ -1,7 +1,5 @@
-pub mod Command
 pub mod FaultTexts
 pub mod Faults
-pub mod Files
 pub mod Links
 pub mod PlannedText
 pub mod Plans

@@ -2,9 +2,7 @@
 //! cycle of names that rules numbers out (LSB Core 5.0), and the links of the runlevels' folders.
 #![tactic(auto)]
 
-mod command;
 mod faults;
-mod files;
 mod needs;
 mod planning;
 mod plans;
@@ -12,7 +10,6 @@ mod printing;
 mod scripts;
 mod tables;
 
-pub use command::{USAGE, run_words};
 pub use faults::PlanFault;
 pub use planning::plan;
 pub use plans::Plan;

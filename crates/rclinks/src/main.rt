@@ -3,7 +3,7 @@
 #![tactic(auto)]
 
 use program_edge::{tell_unread, words};
-use rc_links::{USAGE, run_words};
+use rclinks_command::{USAGE, run_words};
 use std::process::ExitCode;
 
 fn main(rt: HostRuntime) -> ExitCode {

@@ -8,8 +8,8 @@ use Rattle.lsb_header.specs.Forms.{is_empty}
 use Rattle.lsb_header.specs.Headers.{header_read}
 use Rattle.lsb_header.specs.Places.{second_line}
 use Rattle.rc_links.specs.ScriptText.{ScriptText}
-use Rattle.rc_links.specs.declared.files.FileFault.{FileFault}
-use Rattle.rc_links.specs.declared.files.FileFault.TheVariants as fault
+use Rattle.rclinks_command.specs.declared.files.FileFault.{FileFault}
+use Rattle.rclinks_command.specs.declared.files.FileFault.TheVariants as fault
 
 -- a '/'
 abbrev pub is_slash : ℕ → Bool

@@ -2,17 +2,14 @@ ghost use Rattle.std.specs.Prelude.{◌≡◌, ◌⊎◌, ◌++◌, true, map, s
 ghost use Rattle.std.specs.List.{list_any};
 ghost use Rattle.std.specs.Io.KnownBytes.{Appends};
 ghost use Rattle.program_edge.specs.Writing.{AppendsPrefix};
-ghost use Rattle.rc_links.specs.Command.{AddsScript, AreScripts, HasNoPlan, IsRefusedRun, PrintsLinks, PrintsPart, PrintsPlan, PrintsPlanPart, is_help, plan_status, wants_usage};
-ghost use Rattle.rc_links.specs.Files.{IsNoScriptAt, file_status};
 ghost use Rattle.rc_links.specs.Links.{plan_text};
+ghost use Rattle.rclinks_command.specs.Command.{AddsScript, AreScripts, HasNoPlan, IsRefusedRun, PrintsLinks, PrintsPart, PrintsPlan, PrintsPlanPart, is_help, plan_status, wants_usage};
+ghost use Rattle.rclinks_command.specs.Files.{IsNoScriptAt, file_status};
 
-use crate::faults::PlanFault;
 use crate::files::{FileFault, script_of};
-use crate::planning::plan;
-use crate::plans::Plan;
-use crate::scripts::Script;
 use init_words::Memory;
 use program_edge::{DEVICE_FAULT, DONE, REFUSED, tell_usage, write_text};
+use rc_links::{Plan, PlanFault, Script, plan};
 use std::alloc::Global;
 use std::io::Write;
 use std::rt::Files;

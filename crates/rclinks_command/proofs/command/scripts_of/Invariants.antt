@@ -1,7 +1,7 @@
 use Rattle.std.proofs.Common.{◌++◌, List, drop, map, string_bytes}
-use Rattle.rc_links.specs.Command.{AreScripts}
+use Rattle.rclinks_command.specs.Command.{AreScripts}
 use Rattle.rc_links.specs.ScriptText.{ScriptText}
-use Rattle.rc_links.proofs.command.scripts_of.Given as goal
+use Rattle.rclinks_command.proofs.command.scripts_of.Given as goal
 
 abbrev pub invariant-loop-word : goal.invariant-loop-word
 invariant-loop-word g l =

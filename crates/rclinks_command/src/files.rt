@@ -1,11 +1,11 @@
 ghost use Rattle.std.specs.Prelude.{◌≡◌, true, IfOk, IfErr, string_bytes};
 ghost use Rattle.std.specs.List.{list_all};
-ghost use Rattle.rc_links.specs.Files.{IsNoScript, IsNoScriptAt, IsScriptAt, IsScriptOf, file_status, is_name, is_name_byte, last_part, refusal_of};
+ghost use Rattle.rclinks_command.specs.Files.{IsNoScript, IsNoScriptAt, IsScriptAt, IsScriptOf, file_status, is_name, is_name_byte, last_part, refusal_of};
 
-use crate::scripts::Script;
 use init_words::Memory;
 use lsb_header::{HeaderFault, read, second_line};
 use program_edge::{DEVICE_FAULT, REFUSED, read_file};
+use rc_links::Script;
 use std::alloc::Global;
 use std::io;
 use std::rt::Files;
@@ -25,7 +25,7 @@ pub(crate) enum FileFault {
 
 impl From<Memory> for FileFault {
     ghost use Rattle.std.specs.Prelude.{◌≡◌};
-    ghost use Rattle.rc_links.specs.declared.files.FileFault.TheVariants as fault;
+    ghost use Rattle.rclinks_command.specs.declared.files.FileFault.TheVariants as fault;
 
     ghost from_gives = { λ _ given. given ≡ fault.Memory };
 

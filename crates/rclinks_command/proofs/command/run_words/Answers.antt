@@ -1,5 +1,5 @@
 use Rattle.std.proofs.Common.{inl, inr}
-use Rattle.rc_links.proofs.command.run_words.Goals as goal
+use Rattle.rclinks_command.proofs.command.run_words.Goals as goal
 
 pub returns-in-Ok-clause-refused : goal.returns-in-Ok-clause-refused
 returns-in-Ok-clause-refused g c = λ is.

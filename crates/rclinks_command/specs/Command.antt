@@ -6,14 +6,14 @@ use Rattle.std.specs.Io.KnownBytes.{Appends}
 use Rattle.std.specs.declared.alloc.Global.{Global}
 use Rattle.program_edge.specs.Writing.{AppendsPrefix}
 use Rattle.lsb_header.specs.Forms.{is_empty}
-use Rattle.rc_links.specs.Files.{IsNoScriptAt, IsScriptAt, file_status}
 use Rattle.rc_links.specs.Links.{plan_text}
 use Rattle.rc_links.specs.PlannedText.{PlannedText}
 use Rattle.rc_links.specs.Plans.{IsPlan, IsRefused}
 use Rattle.rc_links.specs.ScriptText.{ScriptText}
 use Rattle.rc_links.specs.declared.faults.PlanFault.{PlanFault}
 use Rattle.rc_links.specs.declared.faults.PlanFault.TheVariants as plan_fault
-use Rattle.rc_links.specs.declared.files.FileFault.{FileFault}
+use Rattle.rclinks_command.specs.Files.{IsNoScriptAt, IsScriptAt, file_status}
+use Rattle.rclinks_command.specs.declared.files.FileFault.{FileFault}
 
 -- a word that asks for the usage
 abbrev pub is_help : List ℕ → Bool

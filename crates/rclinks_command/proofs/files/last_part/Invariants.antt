@@ -1,7 +1,7 @@
 use Rattle.std.proofs.Common.{◌≡◌, ◌≤◌, false, drop, length}
 use Rattle.std.specs.List.{list_any}
-use Rattle.rc_links.specs.Files.{is_slash}
-use Rattle.rc_links.proofs.files.last_part.Given as goal
+use Rattle.rclinks_command.specs.Files.{is_slash}
+use Rattle.rclinks_command.proofs.files.last_part.Given as goal
 
 abbrev pub invariant-loop-start : goal.invariant-loop-start
 invariant-loop-start l = record {
