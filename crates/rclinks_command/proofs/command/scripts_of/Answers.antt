@@ -1,8 +1,7 @@
-use Rattle.std.proofs.Common.{[], ◌∷◌, subst, map, string_bytes}
+use Rattle.std.proofs.Common.{[], ◌∷◌, append_assoc, subst, map, string_bytes}
 use Rattle.std.proofs.lemmas.List.{append-nil, at_drop_all}
 use Rattle.rclinks_command.specs.Files.{IsScriptAt}
-use Rattle.rclinks_command.proofs.NeedLemmas.{append_assoc}
-use Rattle.rclinks_command.proofs.NameLemmas.{cut_at}
+use Rattle.rc_links.proofs.NameLemmas.{cut_at}
 use Rattle.rclinks_command.proofs.command.scripts_of.Goals as goal
 
 pub returns-clause-scripts : goal.returns-clause-scripts
