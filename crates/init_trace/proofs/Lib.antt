@@ -1,1 +1,4 @@
+pub mod LineTexts
+pub mod LineWords
+pub mod ReadTexts
 mod Rows

@@ -6,6 +6,8 @@ pub mod Event
 pub mod Lawful
 pub mod Lines
 pub mod Past
+pub mod Range
+pub mod Reading
 pub mod Run
 pub mod Sound
 pub mod Spells

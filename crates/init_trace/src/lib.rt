@@ -4,8 +4,11 @@
 
 mod happenings;
 mod printing;
+mod reading;
 mod steps;
+mod words;
 
 pub use happenings::{Handed, Happening, HappeningIn};
 pub use printing::{print, print_one, print_table};
+pub use reading::{ReadFault, first_happening, read};
 pub use steps::{Goal, Step};

@@ -1,5 +1,6 @@
 pub mod Distinct
 pub mod Entries
+pub mod LineLemmas
 pub mod MarkLemmas
 pub mod ReadLemmas
 pub mod WriteLemmas

@@ -238,7 +238,7 @@ is_text-written e h =
     is_text-front e.id (levels ++ 58 ∷ (word ++ 58 ∷ p)) (plain_id e.id (id_bytes e.id h.id))
     (is_text-front levels (word ++ 58 ∷ p) (plain_levels e.act e.levels.items) (is_text-front word p (plain_word e.act) h.text))
 
-one_line : (e : Entry) → Parts e → has_byte 10 (fields_written e) ≡ false
+pub one_line : (e : Entry) → Parts e → has_byte 10 (fields_written e) ≡ false
 one_line e h =
     let levels = levels_written e.act e.levels.items in
     let word = word_of e.act in

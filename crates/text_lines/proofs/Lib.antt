@@ -1,4 +1,5 @@
 pub mod BlankLemmas
 pub mod CutLemmas
 pub mod NumberLemmas
+pub mod PieceLemmas
 pub mod Utf8Lemmas

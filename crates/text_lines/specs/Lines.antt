@@ -1,6 +1,6 @@
 -- The lines of a text, and the words of a line.
-use Rattle.std.specs.Prelude.{ℕ, suc, Bool, true, ◌==◌, ◌||◌, reverse, if◌then◌else◌, List, [], ◌∷◌, Option, Some, None}
-use Rattle.std.specs.List.{list_any}
+use Rattle.std.specs.Prelude.{ℕ, zero, suc, Bool, true, ◌==◌, ◌||◌, reverse, filter, length, if◌then◌else◌, List, [], ◌∷◌, Option, Some, None, option_and_then}
+use Rattle.std.specs.List.{list_any, slice_split}
 use Rattle.std.specs.Option.{option_map}
 
 -- a byte is there
@@ -25,6 +25,19 @@ onto_first_line b (line ∷ lines) = (b ∷ line) ∷ lines
 abbrev pub lines_of : List ℕ → List (List ℕ)
 lines_of [] = []
 lines_of (b ∷ text) = if b == 10 then [] ∷ lines_of text else onto_first_line b (lines_of text)
+
+-- how many newlines a text has
+abbrev pub newlines : List ℕ → ℕ
+newlines text = length (filter (λ b. b == 10) text)
+
+-- what stands after so many lines, each with its newline; none where the text has fewer
+abbrev pub after_lines : ℕ → List ℕ → Option (List ℕ)
+after_lines zero text = Some text
+after_lines (suc n) text = option_and_then (λ parts. after_lines n parts.1) (cut 10 text)
+
+-- the pieces of a text, set apart by the bytes of a kind
+abbrev pub pieces_of : ℕ → List ℕ → List (List ℕ)
+pieces_of mark text = slice_split (λ b. b == mark) text
 
 -- a blank or a tab
 abbrev pub is_blank : ℕ → Bool

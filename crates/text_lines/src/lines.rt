@@ -1,7 +1,7 @@
 ghost use Rattle.std.specs.Prelude.{◌≡◌, ◌<◌, [], ◌∷◌, false, length, IfSome, IfNone};
 ghost use Rattle.std.specs.Option.{option_map};
 ghost use Rattle.std.specs.Str.{is_utf8};
-ghost use Rattle.text_lines.specs.Lines.{cut, has_byte, lines_of};
+ghost use Rattle.text_lines.specs.Lines.{after_lines, cut, has_byte, lines_of};
 
 use memchr::memchr;
 use std::str;
@@ -40,6 +40,17 @@ pub fn next_line(text: &[u8]) -> Option<(&[u8], &[u8])>
         return None;
     }
     Some(first_line(text))
+}
+
+/// What stands after the first so many lines of a text, each with its newline; None where the text has fewer.
+pub fn after_lines(count: usize, text: &[u8]) -> Option<&[u8]>
+    ensures { option_map (λ rest. rest.now) result ≡ after_lines count text.now }
+{
+    let mut rest = text;
+    for _ in 0..count {
+        (_, rest) = cut(b'\n', rest)?;
+    }
+    Some(rest)
 }
 
 /// The text is UTF-8.

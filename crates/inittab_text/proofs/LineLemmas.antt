@@ -1,0 +1,91 @@
+-- The lines of a written table: one an entry; and what is read is a table.
+use Rattle.std.proofs.Common.{◌≡◌, ℕ, Bool, true, false, cond, not, ◌==◌, List, [], ◌∷◌, ◌++◌, length, Option, Some, None, Result, Ok, Err, refl, ◌∙◌, arith}
+use Rattle.std.specs.List.{list_all}
+use Rattle.std.specs.Str.{bytes_eq}
+use Rattle.std.proofs.lemmas.Bool.{and_parts, and_from, not-true, not_from_false, or_parts, or_from}
+use Rattle.std.proofs.lemmas.List.{append_assoc}
+use Rattle.init_words.specs.declared.entries.Entry.{Entry}
+use Rattle.inittab_text.specs.declared.faults.LineKind.{LineKind}
+use Rattle.text_lines.specs.Lines.{has_byte, newlines, after_lines, lines_of, onto_first_line}
+use Rattle.text_lines.proofs.CutLemmas.{cut-append}
+use Rattle.text_lines.proofs.PieceLemmas.{newlines-append, newlines-line}
+use Rattle.inittab_text.specs.Checks.{verdict_of}
+use Rattle.inittab_text.specs.Reading.{entries_after, entries_from, table_of_text}
+use Rattle.inittab_text.specs.Written.{fields_written, text_of, is_written, is_table, table_written}
+use Rattle.inittab_text.proofs.Entries.{table_parts, is_table-push}
+use Rattle.inittab_text.proofs.ReadLemmas.{kept_entry}
+use Rattle.inittab_text.proofs.WriteLemmas.{one_line, parts}
+
+-- a line an entry
+newlines-written : (table : List Entry) → list_all is_written table ≡ true → newlines (text_of table) ≡ length table
+newlines-written [] are = refl
+newlines-written (e ∷ table) are =
+    let both = and_parts (is_written e) (list_all is_written table) are in
+    newlines-append (fields_written e ++ 10 ∷ []) (text_of table)
+    ∙ omega (arith, newlines-line (fields_written e) (one_line e (parts e both.0)), newlines-written table both.1)
+
+pub newlines-text : (table : List Entry) → is_table table ≡ true → newlines (text_of table) ≡ length table
+newlines-text table is = newlines-written table (table_parts table is).2
+
+-- behind so many lines as a table has entries stands what stands behind its text
+after_written : (table : List Entry) (more : List ℕ) → list_all is_written table ≡ true → after_lines (length table) (text_of table ++ more) ≡ Some more
+after_written [] more are = refl
+after_written (e ∷ table) more are =
+    let both = and_parts (is_written e) (list_all is_written table) are in
+    let line = fields_written e in
+    let regrouped : ((line ++ 10 ∷ []) ++ text_of table) ++ more ≡ line ++ 10 ∷ (text_of table ++ more) =
+      append_assoc (line ++ 10 ∷ []) (text_of table) more ∙ append_assoc line (10 ∷ []) (text_of table ++ more) in
+    rw (regrouped, cut-append 10 line (text_of table ++ more) (one_line e (parts e both.0))) (after_written table more both.1)
+
+pub after_lines-text : (table : List Entry) (more : List ℕ) → is_table table ≡ true → after_lines (length table) (text_of table ++ more) ≡ Some more
+after_lines-text table more is = after_written table more (table_parts table is).2
+
+-- the lines of a text have no newline
+lacks : List ℕ → Bool
+lacks line = not (has_byte 10 line)
+
+onto_lacks : (b : ℕ) (lines : List (List ℕ)) → has_byte 10 (b ∷ []) ≡ false → list_all lacks lines ≡ true → list_all lacks (onto_first_line b lines) ≡ true
+unfolding lacks
+onto_lacks b [] one all = and_from _ _ (not_from_false (has_byte 10 (b ∷ [])) one) refl
+onto_lacks b (line ∷ lines) one all =
+    let both = and_parts (lacks line) (list_all lacks lines) all in
+    let here = (or_parts _ _ one).0 in
+    and_from _ _ (not_from_false (has_byte 10 (b ∷ line)) (or_from _ _ here (not-true (has_byte 10 line) both.0))) both.1
+
+lines_by : (b : ℕ) (text : List ℕ) (x : Bool) → (b == 10) ≡ x → list_all lacks (lines_of text) ≡ true → list_all lacks (cond x ([] ∷ lines_of text) (onto_first_line b (lines_of text))) ≡ true
+unfolding lacks
+lines_by b text true is all = all
+lines_by b text false is all = onto_lacks b (lines_of text) (or_from _ _ is refl) all
+
+lines_lack : (text : List ℕ) → list_all lacks (lines_of text) ≡ true
+unfolding lacks
+lines_lack [] = refl
+lines_lack (b ∷ text) = lines_by b text (b == 10) refl (lines_lack text)
+
+-- a table, after a line of it
+table_after : (before : List Entry) (line : List ℕ) (v : Result (Option Entry) LineKind) → verdict_of before line ≡ v → has_byte 10 line ≡ false → is_table before ≡ true → is_table (entries_after before v) ≡ true
+table_after before line (Ok (Some e)) is one table =
+    let kept = kept_entry before line e is one in
+    is_table-push before e table kept.0 kept.1 kept.2
+table_after before line (Ok None) is one table = table
+table_after before line (Err kind) is one table = table
+
+table_from_lines : (before : List Entry) (lines : List (List ℕ)) → list_all lacks lines ≡ true → is_table before ≡ true → is_table (entries_from before lines) ≡ true
+unfolding lacks
+table_from_lines before [] all table = table
+table_from_lines before (line ∷ lines) all table =
+    let both = and_parts (lacks line) (list_all lacks lines) all in
+    table_from_lines (entries_after before (verdict_of before line)) lines both.1 (table_after before line (verdict_of before line) refl (not-true (has_byte 10 line) both.0) table)
+
+-- what is read is a table
+pub is_table-read : (text : List ℕ) → is_table (table_of_text text) ≡ true
+is_table-read text = table_from_lines [] (lines_of text) (lines_lack text) refl
+
+written_by : (text : List ℕ) (b : Bool) (table : List Entry) → cond b (Some (table_of_text text)) None ≡ Some table → is_table table ≡ true
+written_by text true table is =
+    let same : table_of_text text ≡ table = cc in
+    rw (← same) (is_table-read text)
+written_by text false table is = absurd (cc)
+
+pub is_table-written : (text : List ℕ) (table : List Entry) → table_written text ≡ Some table → is_table table ≡ true
+is_table-written text table is = written_by text (bytes_eq (text_of (table_of_text text)) text) table is

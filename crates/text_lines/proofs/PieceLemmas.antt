@@ -1,0 +1,99 @@
+-- A text in pieces, and a text by its lines: what is cut off and what is left make the whole.
+use Rattle.std.proofs.Common.{◌≡◌, ℕ, zero, suc, ◌+◌, ◌-◌, ◌<◌, Bool, true, false, cond, not, ◌==◌, List, [], ◌∷◌, ◌++◌, length, take, filter, Some, None, refl, sym, ap, ◌∙◌, arith, length-append}
+use Rattle.std.specs.List.{join_with_byte, list_all}
+use Rattle.std.proofs.lemmas.Bool.{or_parts, eq-eqb, and_parts, not-true}
+use Rattle.std.proofs.lemmas.List.{append_assoc}
+use Rattle.std.proofs.lemmas.Option.{option_and_then_some}
+use Rattle.text_lines.specs.Lines.{cut, has_byte, newlines, after_lines, pieces_of}
+use Rattle.text_lines.proofs.CutLemmas.{cut-parts, cut-lacks}
+
+-- the first piece, and those of what stands behind it
+pub pieces_of-at : (mark : ℕ) (word rest : List ℕ) → has_byte mark word ≡ false → pieces_of mark (word ++ mark ∷ rest) ≡ word ∷ pieces_of mark rest
+pieces_of-at mark [] rest lacks = rw (eq-eqb mark mark refl) refl
+pieces_of-at mark (b ∷ word) rest lacks =
+    let parts = or_parts (b == mark) (has_byte mark word) lacks in
+    rw (parts.0, pieces_of-at mark word rest parts.1) refl
+
+pub pieces_of-last : (mark : ℕ) (word : List ℕ) → has_byte mark word ≡ false → pieces_of mark word ≡ word ∷ []
+pieces_of-last mark [] lacks = refl
+pieces_of-last mark (b ∷ word) lacks =
+    let parts = or_parts (b == mark) (has_byte mark word) lacks in
+    rw (parts.0, pieces_of-last mark word parts.1) refl
+
+pub pieces_of-cut : (mark : ℕ) (text word rest : List ℕ) → cut mark text ≡ Some (word, rest) → pieces_of mark text ≡ word ∷ pieces_of mark rest
+pieces_of-cut mark text word rest is =
+    let parts = cut-parts mark text word rest is in
+    ap (pieces_of mark) parts.0 ∙ pieces_of-at mark word rest parts.1
+
+pub pieces_of-whole : (mark : ℕ) (text : List ℕ) → cut mark text ≡ None → pieces_of mark text ≡ text ∷ []
+pieces_of-whole mark text is = pieces_of-last mark text (cut-lacks mark text is)
+
+-- pieces without the byte, joined by it, are the pieces again
+pub pieces_of-joined : (mark : ℕ) (word : List ℕ) (words : List (List ℕ)) → list_all (λ w. not (has_byte mark w)) (word ∷ words) ≡ true
+    → pieces_of mark (join_with_byte mark (word ∷ words)) ≡ word ∷ words
+pieces_of-joined mark word [] lack = pieces_of-last mark word (not-true (has_byte mark word) (and_parts (not (has_byte mark word)) true lack).0)
+pieces_of-joined mark word (next ∷ words) lack =
+    let parts = and_parts (not (has_byte mark word)) (list_all (λ w. not (has_byte mark w)) (next ∷ words)) lack in
+    pieces_of-at mark word (join_with_byte mark (next ∷ words)) (not-true (has_byte mark word) parts.0) ∙ ap (λ ps. word ∷ ps) (pieces_of-joined mark next words parts.1)
+
+-- newlines of two texts
+newlines_by : (b : ℕ) (left right : List ℕ) (x : Bool) → newlines (left ++ right) ≡ newlines left + newlines right
+    → length (cond x (b ∷ filter (λ c. c == 10) (left ++ right)) (filter (λ c. c == 10) (left ++ right))) ≡ length (cond x (b ∷ filter (λ c. c == 10) left) (filter (λ c. c == 10) left)) + newlines right
+newlines_by b left right true rest = omega (arith, rest)
+newlines_by b left right false rest = rest
+
+pub newlines-append : (left right : List ℕ) → newlines (left ++ right) ≡ newlines left + newlines right
+newlines-append [] right = omega arith
+newlines-append (b ∷ left) right = newlines_by b left right (b == 10) (newlines-append left right)
+
+pub newlines-none : (text : List ℕ) → has_byte 10 text ≡ false → newlines text ≡ 0
+newlines-none [] lacks = refl
+newlines-none (b ∷ text) lacks =
+    let parts = or_parts (b == 10) (has_byte 10 text) lacks in
+    rw (parts.0, newlines-none text parts.1) refl
+
+pub newlines-line : (line : List ℕ) → has_byte 10 line ≡ false → newlines (line ++ 10 ∷ []) ≡ 1
+newlines-line line lacks = newlines-append line (10 ∷ []) ∙ ap (λ n. n + 1) (newlines-none line lacks)
+
+-- what stands after so many lines is an end of the text, behind so many newlines
+pub record Front (count : ℕ) (text rest : List ℕ) : Type 0 where
+  pub front : List ℕ
+  pub whole : text ≡ front ++ rest
+  pub counted : newlines front ≡ count
+
+pub after_lines-front : (count : ℕ) (text rest : List ℕ) → after_lines count text ≡ Some rest → Front count text rest
+after_lines-front zero text rest is =
+    let same : text ≡ rest = cc in
+    record { front = []; whole = same; counted = refl }
+after_lines-front (suc n) text rest is =
+    option_and_then_some (λ (parts : List ℕ × List ℕ). after_lines n parts.1) (cut 10 text) rest is (λ parts at more.
+    let first = cut-parts 10 text parts.0 parts.1 at in
+    let behind = after_lines-front n parts.1 rest more in
+    record {
+      front = (parts.0 ++ 10 ∷ []) ++ behind.front;
+      whole = first.0 ∙ sym (append_assoc parts.0 (10 ∷ []) parts.1) ∙ ap (λ t. (parts.0 ++ 10 ∷ []) ++ t) behind.whole ∙ sym (append_assoc (parts.0 ++ 10 ∷ []) behind.front rest);
+      counted = newlines-append (parts.0 ++ 10 ∷ []) behind.front ∙ omega (arith, newlines-line parts.0 first.1, behind.counted);
+    })
+
+-- the text before an end of it
+pub take-front : (front rest : List ℕ) → take (length (front ++ rest) - length rest) (front ++ rest) ≡ front
+take-front front rest = short (length (front ++ rest) - length rest) (omega (arith, length-append front rest))
+  where
+    taken : (xs : List ℕ) → take (length xs) (xs ++ rest) ≡ xs
+    taken [] = refl
+    taken (x ∷ xs) = ap (λ ys. x ∷ ys) (taken xs)
+
+    short : (n : ℕ) → n ≡ length front → take n (front ++ rest) ≡ front
+    short n same = ap (λ k. take k (front ++ rest)) same ∙ taken front
+
+-- one line of those that are wanted is gone
+pub after_lines-step : (n : ℕ) (text line rest : List ℕ) → 0 < n → cut 10 text ≡ Some (line, rest) → after_lines n text ≡ after_lines (n - 1) rest
+after_lines-step zero text line rest some is = absurd (omega arith)
+after_lines-step (suc n) text line rest some is =
+    let less : suc n - 1 ≡ n = omega arith in
+    rw (is, less) refl
+
+-- a text that has a line too few
+pub after_lines-short : (n : ℕ) (text : List ℕ) → 0 < n → cut 10 text ≡ None → after_lines n text ≡ None
+after_lines-short zero text some is = absurd (omega arith)
+after_lines-short (suc n) text some is = rw is refl
