@@ -43,8 +43,8 @@ use Rattle.init_trace.specs.declared.happenings.Handed.{Handed as HandOver}
 use Rattle.init_trace.specs.declared.happenings.Handed.TheVariants as handed
 use Rattle.init_trace.specs.Event.{Event}
 use Rattle.init_trace.specs.Lines.{words_of, words_behind, line_of_words, table_lines, event_text, level_word, letter_word, stage_word, order_word, power_word, cause_number, status_words, got_words, handed_words}
-use Rattle.init_trace.specs.Range.{Begun, is_in_range, is_number, is_status, is_request, is_hand_over}
-use Rattle.init_trace.specs.Reading.{line_count, level_of_word, letter_of_word, stage_of_word, order_of_word, power_of_word, cause_of_word, words_read, words_in, entries_brought, table_before, table_begun, begun_by, begun}
+use Rattle.init_trace.specs.Range.{Begun, line_count, is_in_range, is_number, is_status, is_request, is_hand_over}
+use Rattle.init_trace.specs.Reading.{level_of_word, letter_of_word, stage_of_word, order_of_word, power_of_word, cause_of_word, words_read, words_in, entries_brought, table_before, table_begun, begun_by, begun}
 use Rattle.init_trace.proofs.LineWords.{words_read-of}
 
 -- THE WORDS OF A HAPPENING ARE WORDS

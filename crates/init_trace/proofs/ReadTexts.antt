@@ -10,8 +10,8 @@ use Rattle.text_lines.proofs.PieceLemmas.{newlines-append}
 use Rattle.init_trace.specs.declared.happenings.Happening.TheVariants.{NewTable}
 use Rattle.init_trace.specs.Event.{Event}
 use Rattle.init_trace.specs.Lines.{event_text, trace_text}
-use Rattle.init_trace.specs.Range.{Begun, is_in_range, are_in_range, BeginsNone}
-use Rattle.init_trace.specs.Reading.{begun, line_count}
+use Rattle.init_trace.specs.Range.{Begun, line_count, is_in_range, are_in_range, BeginsNone}
+use Rattle.init_trace.specs.Reading.{begun}
 use Rattle.init_trace.proofs.LineTexts.{begun-text, text-begun, newlines-event}
 
 -- one happening at most begins a text
@@ -99,3 +99,7 @@ counted_on before more rest text h number is begins whole counted =
 
 pub none_left : (front rest text : List ℕ) → front ++ rest ≡ text → rest ≡ [] → front ≡ text
 none_left front rest text whole empty = sym (append-nil front) ∙ ap (λ r. front ++ r) (sym empty) ∙ whole
+
+-- the lines of a happening are no more than the bytes that it takes off a text
+pub lines_within : (h : Event) (more rest : List ℕ) → is_in_range h ≡ true → event_text h ++ more ≡ rest → line_count h + length more ≤ length rest
+lines_within h more rest is begins = omega (arith, newlines-few (event_text h), newlines-event h is, length-append (event_text h) more, ap length begins)

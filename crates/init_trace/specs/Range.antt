@@ -1,5 +1,5 @@
 -- The happenings that a trace can hold, and a text that is that of none from a line on.
-use Rattle.std.specs.Prelude.{◌≡◌, ◌≢◌, ℕ, Bool, true, ◌+◌, ◌^◌, ◌&&◌, nat_lt, List, [], ◌++◌}
+use Rattle.std.specs.Prelude.{◌≡◌, ◌≢◌, ℕ, Bool, true, ◌+◌, ◌^◌, ◌&&◌, nat_lt, List, [], ◌++◌, length}
 use Rattle.std.specs.List.{list_all}
 use Rattle.init_words.specs.declared.children.Status.{Status}
 use Rattle.init_words.specs.declared.children.Status.TheVariants.{Exit, Killed}
@@ -66,6 +66,11 @@ are_in_range trace = list_all is_in_range trace
 -- a happening and the text behind it
 abbrev pub Begun : Type 0
 Begun = Event × List ℕ
+
+-- how many lines a happening has: its own, and one for each entry of its table
+abbrev pub line_count : Event → ℕ
+line_count (NewTable table) = length table + 1
+line_count _ = 1
 
 -- the text begins with no happening's text
 abbrev pub BeginsNone : List ℕ → Type 0

@@ -214,8 +214,3 @@ begun_by (Some count) line text = table_begun count text
 -- the first happening of a text, and the text behind it
 abbrev pub begun : List ℕ → Option Begun
 begun text = option_and_then (λ parts. begun_by (entries_brought (words_in parts.0)) parts.0 parts.1) (cut 10 text)
-
--- how many lines a happening has: its own, and one for each entry of its table
-abbrev pub line_count : Event → ℕ
-line_count (NewTable table) = length table + 1
-line_count _ = 1

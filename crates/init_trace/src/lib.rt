@@ -10,5 +10,5 @@ mod words;
 
 pub use happenings::{Handed, Happening, HappeningIn};
 pub use printing::{print, print_one, print_table};
-pub use reading::{ReadFault, first_happening, read};
+pub use reading::{ReadFault, first_happening, line_count, read};
 pub use steps::{Goal, Step};

@@ -2,8 +2,8 @@ ghost use Rattle.std.specs.Prelude.{◌≡◌, ◌∷◌, List, true, Some, opti
 ghost use Rattle.std.specs.Result.{MatchResult};
 ghost use Rattle.init_trace.specs.Event.{Event};
 ghost use Rattle.init_trace.specs.Lines.{event_text, trace_text};
-ghost use Rattle.init_trace.specs.Range.{Begun, is_in_range, are_in_range, BeginsNone, Unread};
-ghost use Rattle.init_trace.specs.Reading.{begun, line_count, table_begun};
+ghost use Rattle.init_trace.specs.Range.{Begun, line_count, is_in_range, are_in_range, BeginsNone, Unread};
+ghost use Rattle.init_trace.specs.Reading.{begun, table_begun};
 
 use crate::happenings::{Happening, HappeningIn};
 use crate::words::{read_line, read_use};
@@ -94,8 +94,8 @@ pub fn first_happening<A: Allocator + Copy>(
     first_by_words(alloc, text)
 }
 
-/// The number of lines of a happening's text.
-fn line_count<A: Allocator>(happening: &HappeningIn<A>) -> u64
+/// How many lines a happening has: its own, and one for each entry of its table.
+pub fn line_count<A: Allocator>(happening: &HappeningIn<A>) -> u64
     ensures { result ≡ line_count happening.now }
 {
     match happening {

@@ -11,14 +11,14 @@ done_kept s old mid new (past, rested, written) kept = (past, rested, Appends-ke
 
 pub ends_kept : (s : Scenario) (f : SimFault) (old mid new : Option (List ℕ)) → Ends s f old mid → Keeps mid new → Ends s f old new
 ends_kept s fault.Table old mid new (long, none) kept = (long, Keeps-trans old mid new none kept)
-ends_kept s (fault.Script n) old mid new (before, line, after, past, split, number, rested, written, such) kept =
-    (before, line, after, past, split, number, rested, Appends-kept old mid new (past_text past) written kept, such)
-ends_kept s (fault.Forbidden n) old mid new (before, line, after, past, split, number, rested, written, such) kept =
-    (before, line, after, past, split, number, rested, Appends-kept old mid new (past_text past) written kept, such)
-ends_kept s fault.Write old mid new (before, after, past, split, run, (front, rest, is, written, some)) kept =
-    (before, after, past, split, run, (front, rest, is, Appends-kept old mid new front written kept, some))
-ends_kept s fault.Memory old mid new (before, after, past, split, run, (front, rest, is, written)) kept =
-    (before, after, past, split, run, (front, rest, is, Appends-kept old mid new front written kept))
+ends_kept s (fault.Script n) old mid new (rest, past, number, rested, written, such) kept =
+    (rest, past, number, rested, Appends-kept old mid new (past_text past) written kept, such)
+ends_kept s (fault.Forbidden n) old mid new (rest, past, number, rested, written, such) kept =
+    (rest, past, number, rested, Appends-kept old mid new (past_text past) written kept, such)
+ends_kept s fault.Write old mid new (rest, past, run, (front, back, is, written, some)) kept =
+    (rest, past, run, (front, back, is, Appends-kept old mid new front written kept, some))
+ends_kept s fault.Memory old mid new (rest, past, run, (front, back, is, written)) kept =
+    (rest, past, run, (front, back, is, Appends-kept old mid new front written kept))
 
 -- a run is done, or ended by a fault
 pub either_end : {T : Type 0} (r : Result T SimFault) (D : Type 0) (E : SimFault → Type 0) → OnOk r D → IfErr r E → D ⊎ ((f : SimFault) × E f)

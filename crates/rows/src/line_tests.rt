@@ -1,88 +1,104 @@
-use crate::texts::{has_lines, lines};
-use init_trace::{HappeningIn, print, print_one, print_table};
+use crate::texts::{first_line, has_lines};
+use init_trace::{HappeningIn, ReadFault, print, print_one, print_table, read};
 use std::alloc::Global;
 use std::process::Abort;
 use std::test::Fail;
-use supervisor::read_line;
 
-/// Lines of a script and texts that are none.
-const LINES: &[(&str, bool)] = &[
-    ("birth r 0", true),
-    ("birth r 4294967295", true),
-    ("nobirth r", true),
-    ("death 7", true),
-    ("reaped r 7 exit 255", true),
-    ("reaped r 7 killed", true),
-    ("still r", true),
-    ("nolook r", true),
-    ("told r", true),
-    ("clock 18446744073709551615", true),
-    ("nudge", true),
-    ("", false),
-    ("nudge ", false),
-    (" nudge", false),
-    ("death 07", false),
-    ("death +7", false),
-    ("death", false),
-    ("birth toolong 7", false),
-    ("hit r", false),
-    ("use 0", false),
-    ("enter S 5", false),
-    ("reaped r 7 exit", false),
+/// Texts of traces, and texts that are none with the number of the line at which no happening begins.
+const TEXTS: &[(&str, u64)] = &[
+    ("", 0),
+    ("birth r 0\nbirth r 4294967295\nnobirth r\ndeath 7\nstill r\nnolook r\nhit r\nmiss r\ntold r\n", 0),
+    ("reaped r 7 exit 0\nreaped r 7 exit 255\nreaped r 7 killed\nnudge\nnotread\n", 0),
+    ("clock 0\nclock 18446744073709551615\n", 0),
+    ("enter sysinit 0\nenter boot 5\nenter S 3600\nenter 9 1\nsettle S\nsettle 0\ncall A\ncall C\n", 0),
+    ("ask abcd start\nask r look\nask r term\nask r kill\nhold r\npower fail\npower failnow\npower ok\n", 0),
+    ("got level 3 3600\ngot call B\ngot reload\ngot reexec\ngot power ok\ngot nothing 1\ngot nothing 4\n", 0),
+    ("handed whole\nhanded cut 20\nhanded older 18446744073709551615\nhanded none\n", 0),
+    ("use 0\nuse 2\na:3:once:x\nb:1:respawn:y\nnudge\n", 0),
+    // No last newline, and a line of no byte.
+    ("nudge", 1),
+    ("nudge\nnudge\nnudge", 3),
+    ("use 2\na:3:once:x\nb:1:once:y", 1),
+    ("\n", 1),
+    ("nudge\n\nnudge\n", 2),
+    // Blanks, tabs and bytes that no line has.
+    ("nudge \n", 1),
+    (" nudge\n", 1),
+    ("told  r\n", 1),
+    ("told\tr\n", 1),
+    ("birth r  7\n", 1),
+    ("nudge\r\n", 1),
+    ("told r\0\n", 1),
+    // Numbers with a sign or a zero in front, and past their range.
+    ("death 07\n", 1),
+    ("death +7\n", 1),
+    ("birth r 4294967296\n", 1),
+    ("reaped r 7 exit 256\n", 1),
+    ("clock 18446744073709551616\n", 1),
+    ("enter S 3601\n", 1),
+    ("got level 3 3601\n", 1),
+    ("got nothing 0\n", 1),
+    ("got nothing 5\n", 1),
+    // Words that are none, too few or too many.
+    ("death\n", 1),
+    ("told\n", 1),
+    ("told toolong\n", 1),
+    ("told r r\n", 1),
+    ("told #a\n", 1),
+    ("enter s 5\n", 1),
+    ("settle sysinit\n", 1),
+    ("call a\n", 1),
+    ("call D\n", 1),
+    ("ask r stop\n", 1),
+    ("power fine\n", 1),
+    ("reaped r 7 exit\n", 1),
+    ("reaped r 7 killed 9\n", 1),
+    ("reaped r 7 exit 0 0\n", 1),
+    ("handed cut\n", 1),
+    ("Nudge\n", 1),
+    ("nudge\nbye\n", 2),
+    // Tables with a line too few, an entry that is not in its written form, or too large a number of entries.
+    ("use\n", 1),
+    ("use 2\na:3:once:x\n", 1),
+    ("nudge\nuse 2\na:3:once:x\na:3:once:y\n", 2),
+    ("use 1\na:33:once:x\nnudge\n", 1),
+    ("use 1\na:s:once:x\n", 1),
+    ("use 1\na:3:ONCE:x\n", 1),
+    ("use 1\n#\n", 1),
+    ("use 513\n", 1),
+    ("use 1\na:3:once:x\nb:3:once:y\n", 3),
 ];
 
-fn is_line(rt: &impl Abort, alloc: Global, line: &str, is_line: bool) -> Result<(), Fail> {
-    assert!(rt;
-        read_line(alloc, line.as_bytes())?.is_some() == is_line,
-        "at {line:?}"
-    );
+/// 0 where the trace prints as the text again.
+fn printed_again(alloc: Global, trace: &[HappeningIn<Global>], text: &str) -> Result<u64, Fail> {
+    let again = print(alloc, trace)?;
+    Ok(if again.as_slice() == text.as_bytes() { 0 } else { u64::MAX })
+}
+
+/// The number of the line at which the text is no trace's, 0 where it is one's.
+fn fault_in(alloc: Global, text: &str) -> Result<u64, Fail> {
+    match read(alloc, text.as_bytes()) {
+        Ok(trace) => printed_again(alloc, &trace, text),
+        Err(ReadFault::Line(number)) => Ok(number),
+        Err(ReadFault::Memory) => Err(Fail::from("out of memory")),
+    }
+}
+
+fn is_read(rt: &impl Abort, alloc: Global, text: &str, fault: u64) -> Result<(), Fail> {
+    assert!(rt; fault_in(alloc, text)? == fault, "at {text:?}");
     Ok(())
 }
 
 #[test]
-fn script_lines_are_read(rt: HostRuntime) -> Result<(), Fail> {
-    for (line, is_one) in LINES {
-        is_line(&rt, rt.alloc(), line, *is_one)?;
+fn traces_are_read(rt: HostRuntime) -> Result<(), Fail> {
+    for (text, fault) in TEXTS {
+        is_read(&rt, rt.alloc(), text, *fault)?;
     }
     Ok(())
-}
-
-/// Happenings as they are printed.
-const TRACE: &str =
-    "clock 18446744073709551615 / birth r 7 / reaped r 7 exit 255 / reaped r 7 killed / nudge";
-
-/// Adds the happenings of script lines.
-fn add_happenings(
-    alloc: Global,
-    trace: &mut Vec<HappeningIn<Global>>,
-    text: &str,
-) -> Result<(), Fail> {
-    for line in text.lines() {
-        trace.push(read_line(alloc, line.as_bytes())?.ok_or("no line")?)?;
-    }
-    Ok(())
-}
-
-fn print_lines(alloc: Global, text: &str) -> Result<Vec<u8>, Fail> {
-    let mut trace = Vec::new(alloc);
-    add_happenings(alloc, &mut trace, text)?;
-    Ok(print(alloc, &trace)?)
-}
-
-fn is_printed(rt: &impl Abort, alloc: Global, text: &str) -> Result<(), Fail> {
-    let given = print_lines(alloc, text)?;
-    assert_eq!(rt; given.as_slice(), text.as_bytes());
-    Ok(())
-}
-
-#[test]
-fn traces_are_printed(rt: HostRuntime) -> Result<(), Fail> {
-    let text = lines(rt.alloc(), TRACE)?;
-    is_printed(&rt, rt.alloc(), text.as_str())
 }
 
 fn print_line(alloc: Global, line: &str) -> Result<Vec<u8>, Fail> {
-    let happening = read_line(alloc, line.as_bytes())?.ok_or("no line")?;
+    let happening = first_line(alloc, line)?;
     Ok(print_one(alloc, &happening)?)
 }
 

@@ -175,9 +175,36 @@ const FAULTS: &[(&str, SimFault, &str)] = &[
         SimFault::Script(1),
         "use 0 / enter sysinit 5 / enter S 5 / settle S",
     ),
+    // Lines of init are no script's, and a table is not read now; its lines count as lines of the script.
     (
         "settle S",
-        SimFault::Script(1),
+        SimFault::Forbidden(1),
+        "use 0 / enter sysinit 5 / enter S 5 / settle S",
+    ),
+    (
+        "nudge / use 1 / a:3:once:x / told a",
+        SimFault::Forbidden(2),
+        "use 0 / enter sysinit 5 / enter S 5 / settle S / nudge",
+    ),
+    (
+        "nudge / use 2 / a:3:once:x",
+        SimFault::Script(2),
+        "use 0 / enter sysinit 5 / enter S 5 / settle S / nudge",
+    ),
+    // No signal is under way, and requests are not taken yet.
+    (
+        "hit r",
+        SimFault::Forbidden(1),
+        "use 0 / enter sysinit 5 / enter S 5 / settle S",
+    ),
+    (
+        "got reload",
+        SimFault::Forbidden(1),
+        "use 0 / enter sysinit 5 / enter S 5 / settle S",
+    ),
+    (
+        "handed whole",
+        SimFault::Forbidden(1),
         "use 0 / enter sysinit 5 / enter S 5 / settle S",
     ),
     (

@@ -1,9 +1,9 @@
+use crate::texts::first_line;
 use init_trace::HappeningIn;
 use init_words::{Answer, Ask, ChildNo, Id, Status};
 use std::alloc::Global;
 use std::process::Abort;
 use std::test::Fail;
-use supervisor::read_line;
 use system_side::SimulatedSystem;
 
 /// What is done with the system's side, or asked of it.
@@ -46,7 +46,7 @@ fn step(side: &mut SimulatedSystem, happening: &HappeningIn<Global>) -> Result<b
 }
 
 fn step_line(alloc: Global, side: &mut SimulatedSystem, line: &str) -> Result<bool, Fail> {
-    let happening = read_line(alloc, line.as_bytes())?.ok_or("no line")?;
+    let happening = first_line(alloc, line)?;
     step(side, &happening)
 }
 

@@ -1,4 +1,6 @@
+use init_trace::{HappeningIn, first_happening};
 use std::alloc::{AllocError, Global};
+use std::test::Fail;
 
 /// A text of lines from one in which ` / ` stands for line ends.
 pub(crate) fn lines(alloc: Global, row: &str) -> Result<String, AllocError> {
@@ -21,4 +23,11 @@ fn add_lines(text: &mut String, row: &str) -> Result<(), AllocError> {
 pub(crate) fn has_lines(alloc: Global, text: &[u8], row: &str) -> Result<bool, AllocError> {
     let want = lines(alloc, row)?;
     Ok(text == want.as_bytes())
+}
+
+/// The happening of a line.
+pub(crate) fn first_line(alloc: Global, line: &str) -> Result<HappeningIn<Global>, Fail> {
+    let text = lines(alloc, line)?;
+    let (happening, _) = first_happening(alloc, text.as_bytes())?.ok_or("no line")?;
+    Ok(happening)
 }

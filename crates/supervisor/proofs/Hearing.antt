@@ -1,16 +1,15 @@
 -- What the core, the system's side and the text become by a happening that is heard.
-use Rattle.std.proofs.Common.{OnOk, codes, Result, Ok, Err, Bool, true, false, ◌&&◌, ◌≡◌, ◌≢◌, ◌++◌, ℕ, List, [], ◌∷◌, reverse, map, Option, Some, None, is_some, refl, sym, ap, ◌∙◌, append_assoc, cond, ◌^◌}
-use Rattle.std.specs.Option.{option_map}
+use Rattle.std.proofs.Common.{OnOk, Result, Ok, Err, Bool, true, false, ◌&&◌, ◌||◌, ◌≡◌, ◌≢◌, ◌++◌, ℕ, List, [], ◌∷◌, Option, Some, None, is_some, refl, sym, ap, ◌∙◌, append_assoc, cond, subst}
 use Rattle.std.proofs.lemmas.Bool.{false≢true, and_parts, and_from}
-use Rattle.std.proofs.lemmas.Grind.{reverse_onto}
-use Rattle.std.proofs.lemmas.List.{append-nil, map-append}
-use Rattle.init_words.specs.declared.children.Status.{Status}
-use Rattle.init_words.specs.declared.children.Status.TheVariants.{Exit, Killed}
-use Rattle.init_words.specs.Ids.{id_read, same_id}
+use Rattle.init_words.specs.declared.orders.Ask.{Ask}
+use Rattle.init_words.specs.declared.orders.Ask.TheVariants.{Start, Look, Term, Kill}
+use Rattle.init_words.specs.Ids.{same_id}
 use Rattle.init_trace.specs.declared.happenings.Happening.TheVariants as event
 use Rattle.init_trace.specs.declared.steps.Goal.{Goal}
-use Rattle.init_trace.specs.Event.{Event}
-use Rattle.init_trace.specs.Past.{table_of, is_untold}
+use Rattle.init_trace.specs.Event.{Event, SystemAct, act_in}
+use Rattle.init_trace.specs.Range.{is_in_range, are_in_range}
+use Rattle.init_trace.specs.Wanted.{is_order}
+use Rattle.init_trace.specs.Past.{table_of, is_untold, undone_by, undone_of}
 use Rattle.init_trace.specs.Answered.{answered_of}
 use Rattle.init_trace.specs.Lines.{event_text}
 use Rattle.init_trace.specs.Sound.{may_come, is_sound}
@@ -23,12 +22,10 @@ use Rattle.level_core.specs.Decide.{CoreState}
 use Rattle.level_core.specs.Fit.{Fits}
 use Rattle.level_core.specs.Path.{is_plain, is_act, is_of_one_table}
 use Rattle.level_core.proofs.Telling.{fits_act}
-use Rattle.text_lines.specs.Numbers.{number_read}
-use Rattle.supervisor.specs.Script.{line_read, words_read, words_in, birth_read, reaped_read}
 use Rattle.supervisor.specs.declared.running.SimFault.{SimFault}
 use Rattle.supervisor.specs.declared.running.SimFault.TheVariants as fault
-use Rattle.supervisor.specs.Moments.{Moment, MayBeHeard, AtRest, GoesOn, Hears, LineBreaks, LineEnds}
-use Rattle.supervisor.specs.Simulation.{past_text, heard, IsForbidden}
+use Rattle.supervisor.specs.Moments.{Moment, MayBeHeard, AtRest, GoesOn, Hears, HeardBreaks, HeardEnds}
+use Rattle.supervisor.specs.Simulation.{past_text, heard}
 use Rattle.supervisor.proofs.Moves.{run_hears, past_text-more}
 
 -- an answer is under way where one may be told
@@ -91,77 +88,62 @@ moment_heard goal past happening core new_core side new_side moment may fits fol
       follows = follows (run_sound goal (happening ∷ past) runs) moment.follows;
     }
 
--- what a line brings is plain, and of a script
-abbrev plain : Option Event → Bool
-plain None = true
-plain (Some happening) = is_plain happening && is_script happening
+-- on a run of one table no signal waits for the system, so none is heard
+signal : Option Ask → Bool
+signal order = is_order Term order || is_order Kill order
 
-plain_if : (b : Bool) (x y : Option Event) → plain x ≡ true → plain y ≡ true → plain (cond b x y) ≡ true
-plain_if true x y hx hy = hx
-plain_if false x y hx hy = hy
-
-plain_map : {X : Type 0} (f : X → Event) → ((x : X) → (is_plain (f x) && is_script (f x)) ≡ true) → (o : Option X) → plain (option_map f o) ≡ true
-plain_map f each None = refl
-plain_map f each (Some x) = each x
-
-plain_birth : (id : Option (List ℕ)) (number : Option ℕ) → plain (birth_read id number) ≡ true
-plain_birth (Some id) (Some number) = refl
-plain_birth (Some id) None = refl
-plain_birth None number = refl
-
-plain_reaped : (id : Option (List ℕ)) (number : Option ℕ) (status : Option Status) → plain (reaped_read id number status) ≡ true
-plain_reaped (Some id) (Some number) (Some status) = refl
-plain_reaped (Some id) (Some number) None = refl
-plain_reaped (Some id) None status = refl
-plain_reaped None number status = refl
-
-plain_words : (words : List (List ℕ)) → plain (words_read words) ≡ true
-plain_words [] = refl
-plain_words (word ∷ []) = plain_if _ (Some event.Nudge) None refl refl
-plain_words (word ∷ given ∷ []) = at (same_id word (codes "nobirth")) (same_id word (codes "death")) (same_id word (codes "still")) (same_id word (codes "nolook")) (same_id word (codes "told")) (same_id word (codes "clock"))
+signal_by : (id : List ℕ) (o : Option SystemAct) (before : Option Ask) → signal before ≡ false → signal (undone_by id o before) ≡ false
+unfolding signal
+signal_by id None before none = none
+signal_by id (Some act) before none = by (same_id id act.id)
   where
-    at : (a b c d e f : Bool) → plain (cond a (option_map event.NoBirth (id_read given)) (cond b (option_map event.Death (number_read (2 ^ 32) given)) (cond c (option_map event.Still (id_read given))
-        (cond d (option_map event.NoLook (id_read given)) (cond e (option_map event.Told (id_read given)) (cond f (option_map event.Clock (number_read (2 ^ 64) given)) None)))))) ≡ true
-    at true b c d e f = plain_map event.NoBirth (λ x. refl) (id_read given)
-    at false true c d e f = plain_map event.Death (λ x. refl) (number_read (2 ^ 32) given)
-    at false false true d e f = plain_map event.Still (λ x. refl) (id_read given)
-    at false false false true e f = plain_map event.NoLook (λ x. refl) (id_read given)
-    at false false false false true f = plain_map event.Told (λ x. refl) (id_read given)
-    at false false false false false true = plain_map event.Clock (λ x. refl) (number_read (2 ^ 64) given)
-    at false false false false false false = refl
-plain_words (word ∷ id ∷ number ∷ []) = plain_if _ _ None (plain_birth (id_read id) (number_read (2 ^ 32) number)) refl
-plain_words (word ∷ id ∷ number ∷ how ∷ []) = plain_if _ _ None (plain_reaped (id_read id) (number_read (2 ^ 32) number) (Some Killed)) refl
-plain_words (word ∷ id ∷ number ∷ how ∷ code ∷ []) = plain_if _ _ None (plain_reaped (id_read id) (number_read (2 ^ 32) number) (option_map Exit (number_read 256 code))) refl
-plain_words (a ∷ b ∷ c ∷ d ∷ e ∷ f ∷ words) = refl
+    by : (b : Bool) → signal (cond b None before) ≡ false
+    by true = refl
+    by false = none
 
-plain_line : (line : List ℕ) (happening : Event) → Some happening ≡ line_read line → (is_plain happening && is_script happening) ≡ true
-plain_line line happening is = ap plain is ∙ plain_words (words_in line)
+signal_if : (b : Bool) (order before : Option Ask) → signal order ≡ false → signal before ≡ false → signal (cond b order before) ≡ false
+signal_if true order before one other = one
+signal_if false order before one other = other
 
-pub may_hear : (goal : Goal) (past : List Event) (line : List ℕ) (happening : Event) (core : CoreState) (side : State) → AtRest goal past core side → Some happening ≡ line_read line
+no_signal : (id : List ℕ) (past : List Event) → is_of_one_table past ≡ true → signal (undone_of id past) ≡ false
+unfolding signal
+no_signal id [] one = absurd (false≢true one)
+no_signal id (event.NewTable table ∷ []) one = refl
+no_signal id (event.NewTable table ∷ h ∷ past) one = absurd (false≢true one)
+no_signal id (event.Asked i Start ∷ past) one = signal_if (same_id id i) (Some Start) (undone_of id past) refl (no_signal id past one)
+no_signal id (event.Asked i Look ∷ past) one = signal_if (same_id id i) (Some Look) (undone_of id past) refl (no_signal id past one)
+no_signal id (event.Asked i Term ∷ past) one = absurd (false≢true one)
+no_signal id (event.Asked i Kill ∷ past) one = absurd (false≢true one)
+no_signal id (event.Told i ∷ past) one = signal_if (same_id id i) None (undone_of id past) refl (no_signal id past one)
+no_signal id (h ∷ past) one = signal_by id (act_in h) (undone_of id past) (no_signal id past (and_parts (is_plain h) (is_of_one_table past) one).1)
+
+plain_may : (goal : Goal) (h : Event) (past : List Event) → is_of_one_table past ≡ true → (is_script h && may_come goal h past) ≡ true → is_plain h ≡ true
+unfolding signal
+plain_may goal (event.NewTable table) past one may = absurd (false≢true may)
+plain_may goal event.NotRead past one may = absurd (false≢true may)
+plain_may goal (event.Call letter) past one may = absurd (false≢true may)
+plain_may goal (event.Power kind) past one may = absurd (false≢true may)
+plain_may goal (event.Asked id Term) past one may = absurd (false≢true may)
+plain_may goal (event.Asked id Kill) past one may = absurd (false≢true may)
+plain_may goal (event.Hit id) past one may = absurd (false≢true (sym (no_signal id past one) ∙ may))
+plain_may goal (event.Miss id) past one may = absurd (false≢true (sym (no_signal id past one) ∙ may))
+plain_may goal (event.Got request) past one may = absurd (false≢true may)
+plain_may goal (event.Handed how) past one may = absurd (false≢true may)
+plain_may goal _ past one may = refl
+
+pub may_hear : (goal : Goal) (past : List Event) (happening : Event) (core : CoreState) (side : State) → AtRest goal past core side
     → true ≡ (is_script happening && may_come goal happening past) → MayBeHeard goal happening past
-may_hear goal past line happening core side at is may = record { plain = (and_parts (is_plain happening) (is_script happening) (plain_line line happening is)).0; may = sym may; rests = at.rests }
+may_hear goal past happening core side at may = record { plain = plain_may goal happening past at.moment.one_table (sym may); may = sym may; rests = at.rests }
 
-pub may_not : (goal : Goal) (past : List Event) (line : List ℕ) (happening : Event) → Some happening ≡ line_read line → false ≡ (is_script happening && may_come goal happening past) → IsForbidden goal line past
-may_not goal past line happening is may = (happening, sym is, by (is_script happening) (may_come goal happening past) (and_parts (is_plain happening) (is_script happening) (plain_line line happening is)).1 may)
-  where
-    by : (a b : Bool) → a ≡ true → false ≡ (a && b) → b ≡ false
-    by true b h k = sym k
-    by false b h k = absurd (false≢true h)
-
--- nothing came
-pub hears_none : (past : List Event) → Hears past past [] []
-hears_none past = record { table = refl; hears = sym (append-nil (map Some (reverse (heard past)))); text = sym (append-nil (past_text past)) }
-
--- one line was heard
-pub hears_one : (past : List Event) (line : List ℕ) (happening : Event) → Some happening ≡ line_read line → Hears past (happening ∷ past) (line ∷ []) (event_text happening)
-hears_one past line happening is =
-    let parts = and_parts (is_plain happening) (is_script happening) (plain_line line happening is) in
+-- a happening was heard
+pub hears_one : (goal : Goal) (past : List Event) (happening : Event) → is_in_range happening ≡ true → MayBeHeard goal happening past → Hears past (happening ∷ past) (event_text happening) (event_text happening)
+hears_one goal past happening ranged may =
+    let script : is_script happening ≡ true = (and_parts (is_script happening) (may_come goal happening past) may.may).0 in
+    let more : heard (happening ∷ past) ≡ happening ∷ heard past = ap (λ (b : Bool). cond b (happening ∷ heard past) (heard past)) script in
     record {
-      table = same_table happening parts.0;
-      hears = ap (λ (b : Bool). map Some (reverse (cond b (happening ∷ heard past) (heard past)))) parts.1
-          ∙ ap (map Some) (reverse_onto (heard past) happening [])
-          ∙ map-append Some (reverse (heard past)) (happening ∷ [])
-          ∙ ap (λ o. map Some (reverse (heard past)) ++ o ∷ []) is;
+      table = same_table happening may.plain;
+      are = λ are. rw more (and_from (is_in_range happening) (are_in_range (heard past)) ranged are);
+      hears = ap past_text more ∙ past_text-more happening (heard past);
       text = past_text-more happening past;
     }
   where
@@ -169,21 +151,22 @@ hears_one past line happening is =
     same_table (event.NewTable table) plain = absurd (false≢true plain)
     same_table h plain = refl
 
--- lines were heard, and init went on
-pub hears_goes : (past mid next : List Event) (lines : List (List ℕ)) (more after : List ℕ) → Hears past mid lines more → GoesOn mid next after → Hears past next lines (more ++ after)
-hears_goes past mid next lines more after hears goes = record {
+-- a happening was heard, and init went on
+pub hears_goes : (past mid next : List Event) (said more after : List ℕ) → Hears past mid said more → GoesOn mid next after → Hears past next said (more ++ after)
+hears_goes past mid next said more after hears goes = record {
   table = goes.table ∙ hears.table;
-  hears = ap (λ es. map Some (reverse es)) goes.hears ∙ hears.hears;
+  are = λ are. subst (λ es. are_in_range es ≡ true) (sym goes.hears) (hears.are are);
+  hears = ap past_text goes.hears ∙ hears.hears;
   text = goes.text ∙ ap (λ t. t ++ after) hears.text ∙ append_assoc (past_text past) more after;
 }
 
--- a fault in the midst of a line's text ends the line
-pub broken_line : (goal : Goal) (past : List Event) (line : List ℕ) (number : ℕ) (f : SimFault) (old new : Option (List ℕ)) → LineBreaks goal past line f old new → LineEnds goal past line number f old new
-broken_line goal past line number fault.Table old new (before, after, next, more, split, runs, one, hears, leaves) = absurd leaves
-broken_line goal past line number (fault.Script n) old new (before, after, next, more, split, runs, one, hears, leaves) = absurd leaves
-broken_line goal past line number (fault.Forbidden n) old new (before, after, next, more, split, runs, one, hears, leaves) = absurd leaves
-broken_line goal past line number fault.Write old new breaks = breaks
-broken_line goal past line number fault.Memory old new breaks = breaks
+-- a fault in the midst of what came ends the run
+pub broken_heard : (goal : Goal) (past : List Event) (happening : Event) (number : ℕ) (f : SimFault) (old new : Option (List ℕ)) → HeardBreaks goal past happening f old new → HeardEnds goal past happening number f old new
+broken_heard goal past happening number fault.Table old new (next, more, runs, one, hears, leaves) = absurd leaves
+broken_heard goal past happening number (fault.Script n) old new (next, more, runs, one, hears, leaves) = absurd leaves
+broken_heard goal past happening number (fault.Forbidden n) old new (next, more, runs, one, hears, leaves) = absurd leaves
+broken_heard goal past happening number fault.Write old new breaks = breaks
+broken_heard goal past happening number fault.Memory old new breaks = breaks
 
 pub ok_then : {S E P Q : Type 0} (r : Result S E) → OnOk r P → (P → Q) → OnOk r Q
 ok_then (Ok s) p each = each p

@@ -1,4 +1,3 @@
 pub mod Hearing
-pub mod Many
 pub mod Moves
 pub mod Whole

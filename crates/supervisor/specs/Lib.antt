@@ -1,4 +1,3 @@
 pub mod Faults
 pub mod Moments
-pub mod Script
 pub mod Simulation

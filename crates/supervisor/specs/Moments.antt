@@ -1,11 +1,13 @@
 -- A moment of a simulated run, and what init's own steps make of it.
-use Rattle.std.specs.Prelude.{◌≡◌, length, ℕ, true, ◌&&◌, List, [], ◌∷◌, ◌++◌, map, Some, reverse, Option}
+use Rattle.std.specs.Prelude.{◌≡◌, ℕ, true, false, ◌&&◌, ◌+◌, List, ◌++◌, Option}
 use Rattle.std.specs.Io.KnownBytes.{Appends, Keeps}
 use Rattle.init_trace.specs.declared.steps.Goal.{Goal}
 use Rattle.init_trace.specs.Event.{Event}
 use Rattle.inittab_text.specs.Reading.{table_of_text}
 use Rattle.init_trace.specs.declared.happenings.Happening.TheVariants.{NewTable}
 use Rattle.init_trace.specs.Lines.{event_text}
+use Rattle.init_trace.specs.Range.{are_in_range}
+use Rattle.text_lines.specs.Lines.{newlines}
 use Rattle.init_trace.specs.Past.{table_of}
 use Rattle.init_trace.specs.Due.{due, first}
 use Rattle.init_trace.specs.Run.{is_run, is_rest}
@@ -19,9 +21,7 @@ use Rattle.system_side.specs.Follows.{Follows}
 use Rattle.supervisor.specs.declared.running.SimFault.{SimFault}
 use Rattle.supervisor.specs.declared.running.SimFault.TheVariants as fault
 use Rattle.supervisor.specs.Faults.{Leaves}
-use Rattle.supervisor.specs.Script.{line_read}
-use Rattle.supervisor.specs.Simulation.{IsForbidden, IsTooLong, IsUnread, RunOver, Scenario}
-use Rattle.supervisor.specs.Simulation.{goal_in, heard, lines_in, past_text}
+use Rattle.supervisor.specs.Simulation.{IsTooLong, RunOver, Scenario, goal_in, heard, heard_text, past_text}
 
 -- the core fits the run so far, and the system's side follows it
 pub record Moment (goal : Goal) (past : List Event) (core : CoreState) (side : State) : Type 0 where
@@ -73,31 +73,32 @@ pub record MayBeHeard (goal : Goal) (happening : Event) (past : List Event) : Ty
   pub may : (is_script happening && may_come goal happening past) ≡ true
   pub rests : is_rest (first (due goal past)) ≡ true
 
--- the trace went on from past to next: the same table, these lines heard, and this text more
-pub record Hears (past next : List Event) (lines : List (List ℕ)) (more : List ℕ) : Type 0 where
+-- the trace went on from past to next: the same table, this was heard of the script, and this text is more
+pub record Hears (past next : List Event) (said more : List ℕ) : Type 0 where
   pub table : table_of next ≡ table_of past
-  pub hears : map Some (reverse (heard next)) ≡ map Some (reverse (heard past)) ++ map line_read lines
+  pub are : are_in_range (heard past) ≡ true → are_in_range (heard next) ≡ true
+  pub hears : heard_text next ≡ heard_text past ++ said
   pub text : past_text next ≡ past_text past ++ more
 
--- a line was heard, and init went on until it rests, and what came was written
-abbrev pub LineDone : Goal → List Event → List ℕ → CoreState → State → Option (List ℕ) → Option (List ℕ) → Type 0
-LineDone goal past line core side old new = (next : List Event) × (more : List ℕ)
-    × AtRest goal next core side × Hears past next (line ∷ []) more × Appends old new more
+-- a happening was heard, and init went on until it rests, and what came was written
+abbrev pub HeardOne : Goal → List Event → Event → CoreState → State → Option (List ℕ) → Option (List ℕ) → Type 0
+HeardOne goal past happening core side old new = (next : List Event) × (more : List ℕ)
+    × AtRest goal next core side × Hears past next (event_text happening) more × Appends old new more
 
--- the line is heard or not, and what came was being written when the fault came
-abbrev pub LineBreaks : Goal → List Event → List ℕ → SimFault → Option (List ℕ) → Option (List ℕ) → Type 0
-LineBreaks goal past line f old new =
-    (before : List (List ℕ)) × (after : List (List ℕ)) × (next : List Event) × (more : List ℕ)
-    × (before ++ after ≡ line ∷ []) × (is_run goal next ≡ true) × (is_of_one_table next ≡ true)
-    × Hears past next before more × Leaves f old new more
+-- a happening was heard, and what came was being written when the fault came
+abbrev pub HeardBreaks : Goal → List Event → Event → SimFault → Option (List ℕ) → Option (List ℕ) → Type 0
+HeardBreaks goal past happening f old new = (next : List Event) × (more : List ℕ)
+    × (is_run goal next ≡ true) × (is_of_one_table next ≡ true)
+    × Hears past next (event_text happening) more × Leaves f old new more
 
--- how a line of this number may end the run
-abbrev pub LineEnds : Goal → List Event → List ℕ → ℕ → SimFault → Option (List ℕ) → Option (List ℕ) → Type 0
-LineEnds goal past line number fault.Table old new = ⊥
-LineEnds goal past line number (fault.Script n) old new = (n ≡ number) × IsUnread line past × Keeps old new
-LineEnds goal past line number (fault.Forbidden n) old new = (n ≡ number) × IsForbidden goal line past × Keeps old new
-LineEnds goal past line number fault.Write old new = LineBreaks goal past line fault.Write old new
-LineEnds goal past line number fault.Memory old new = LineBreaks goal past line fault.Memory old new
+-- how a happening whose line has this number may end the run
+abbrev pub HeardEnds : Goal → List Event → Event → ℕ → SimFault → Option (List ℕ) → Option (List ℕ) → Type 0
+HeardEnds goal past happening number fault.Table old new = ⊥
+HeardEnds goal past happening number (fault.Script n) old new = ⊥
+HeardEnds goal past happening number (fault.Forbidden n) old new =
+    (n ≡ number) × ((is_script happening && may_come goal happening past) ≡ false) × Keeps old new
+HeardEnds goal past happening number fault.Write old new = HeardBreaks goal past happening fault.Write old new
+HeardEnds goal past happening number fault.Memory old new = HeardBreaks goal past happening fault.Memory old new
 
 -- how the reading of an inittab ends where there is no table
 abbrev pub TableEnds : List ℕ → SimFault → Type 0
@@ -117,13 +118,16 @@ OpeningEnds inittab (fault.Forbidden n) old new = ⊥
 OpeningEnds inittab fault.Write old new = Leaves fault.Write old new (opening_text inittab)
 OpeningEnds inittab fault.Memory old new = Leaves fault.Memory old new (opening_text inittab)
 
--- the run over the lines so far: they and those of the rest are all lines, and init rests
-pub record SoFar (s : Scenario) (rest : List (List ℕ)) (number : ℕ) (core : CoreState) (side : State)
+-- the run over the script up to this rest of it, whose first line has the number; init rests
+pub record SoFar (s : Scenario) (rest : List ℕ) (number : ℕ) (core : CoreState) (side : State)
     (old new : Option (List ℕ)) : Type 0 where
-  pub before : List (List ℕ)
   pub past : List Event
-  pub lines : before ++ rest ≡ lines_in s
-  pub counted : number ≡ length before
+  pub counted : number ≡ newlines (heard_text past) + 1
   pub at : AtRest (goal_in s) past core side
-  pub run : RunOver s before past
+  pub run : RunOver s rest past
   pub written : Appends old new (past_text past)
+
+-- of each run up to the beginning of a text, which core and side are at, and of what was written before it
+abbrev pub FromScript : List ℕ → CoreState → State → Option (List ℕ) → (Scenario → Option (List ℕ) → Type 0) → Type 0
+FromScript text core side now P =
+    (s : Scenario) (before : Option (List ℕ)) → SoFar s text 1 core side before now → P s before

@@ -1,17 +1,17 @@
 -- A run of init over a script: what is written, and where it ends.
-use Rattle.std.specs.Prelude.{◌≡◌, ℕ, true, false, ◌+◌, ◌<◌, List, ◌∷◌, ◌++◌, map, reverse, filter, length}
-use Rattle.std.specs.Prelude.{Option, Some, None}
+use Rattle.std.specs.Prelude.{◌≡◌, ◌≢◌, ℕ, true, false, ◌&&◌, ◌+◌, ◌<◌, List, [], ◌++◌, reverse, filter, length, Option}
 use Rattle.std.specs.Io.KnownBytes.{Appends, Keeps}
 use Rattle.init_words.specs.declared.entries.Entry.{Entry}
 use Rattle.init_words.specs.declared.levels.Level.{Level}
-use Rattle.text_lines.specs.Lines.{lines_of}
+use Rattle.text_lines.specs.Lines.{ended, newlines}
 use Rattle.inittab_text.specs.Reading.{table_of_text}
 use Rattle.inittab_text.specs.declared.reading.TheConstants.{TEXT_LIMIT}
 use Rattle.init_trace.specs.declared.steps.Goal.{Goal}
 use Rattle.init_trace.specs.Event.{Event}
 use Rattle.init_trace.specs.Past.{table_of}
 use Rattle.init_trace.specs.Due.{due, first}
-use Rattle.init_trace.specs.Lines.{trace_text}
+use Rattle.init_trace.specs.Lines.{event_text, trace_text}
+use Rattle.init_trace.specs.Range.{is_in_range, are_in_range, BeginsNone}
 use Rattle.init_trace.specs.Run.{is_run, is_rest}
 use Rattle.init_trace.specs.Sound.{may_come}
 use Rattle.level_core.specs.Decide.{opening_goal}
@@ -20,7 +20,6 @@ use Rattle.system_side.specs.Steps.{is_script}
 use Rattle.supervisor.specs.declared.running.SimFault.{SimFault}
 use Rattle.supervisor.specs.declared.running.SimFault.TheVariants as fault
 use Rattle.supervisor.specs.Faults.{Leaves}
-use Rattle.supervisor.specs.Script.{line_read}
 
 -- what is simulated: the level to go to, if one is given, an inittab and a script
 pub record Scenario : Type 0 where
@@ -37,53 +36,59 @@ table_in s = table_of_text s.inittab
 abbrev pub goal_in : Scenario → Goal
 goal_in s = opening_goal s.level (table_in s)
 
-abbrev pub lines_in : Scenario → List (List ℕ)
-lines_in s = lines_of s.script
+-- the text of the script, its last line ended
+abbrev pub script_in : Scenario → List ℕ
+script_in s = ended s.script
 
 -- the text of a trace, the newest happening first
 abbrev pub past_text : List Event → List ℕ
 past_text past = trace_text (reverse past)
 
--- what was heard in a trace, the newest first: all but init's own steps and the table
+-- what was heard in a trace, the newest first: all but init's own steps and the table; and its text
 abbrev pub heard : List Event → List Event
 heard past = filter is_script past
 
--- the run of the table over these lines: init takes first due steps, and hears the lines in turn when it rests
-pub record RunOver (s : Scenario) (lines : List (List ℕ)) (past : List Event) : Type 0 where
+abbrev pub heard_text : List Event → List ℕ
+heard_text past = past_text (heard past)
+
+-- the run of the table over the script up to this rest of it: init takes first due steps, and hears what the script
+-- says in turn when it rests
+pub record RunOver (s : Scenario) (rest : List ℕ) (past : List Event) : Type 0 where
   pub runs : is_run (goal_in s) past ≡ true
   pub one_table : is_of_one_table past ≡ true
   pub opens : table_of past ≡ table_in s
-  pub hears : map line_read lines ≡ map Some (reverse (heard past))
+  pub are : are_in_range (heard past) ≡ true
+  pub hears : heard_text past ++ rest ≡ script_in s
 
 -- such a run, after which init rests
-pub record Rested (s : Scenario) (lines : List (List ℕ)) (past : List Event) : Type 0 where
-  pub run : RunOver s lines past
+pub record Rested (s : Scenario) (rest : List ℕ) (past : List Event) : Type 0 where
+  pub run : RunOver s rest past
   pub rests : is_rest (first (due (goal_in s) past)) ≡ true
 
--- the run over all the lines was written
+-- the run over the whole script was written
 abbrev pub Done : Scenario → Option (List ℕ) → Option (List ℕ) → Type 0
-Done s old new = (past : List Event) × Rested s (lines_in s) past × Appends old new (past_text past)
+Done s old new = (past : List Event) × Rested s [] past × Appends old new (past_text past)
 
--- the run over the lines before the n-th was written, counted from 1, and the n-th is such
+-- the run over the lines before the n-th was written, counted from 1, and the rest from the n-th on is such
 abbrev pub EndsAt : Scenario → ℕ → (List ℕ → List Event → Type 0) → Option (List ℕ) → Option (List ℕ) → Type 0
 EndsAt s n such old new =
-    (before : List (List ℕ)) × (line : List ℕ) × (after : List (List ℕ)) × (past : List Event)
-    × (before ++ line ∷ after ≡ lines_in s) × (n ≡ length before + 1)
-    × Rested s before past × Appends old new (past_text past) × such line past
+    (rest : List ℕ) × (past : List Event) × (n ≡ newlines (heard_text past) + 1)
+    × Rested s rest past × Appends old new (past_text past) × such rest past
 
--- the line is none of a script's
+-- something is left, and it begins with no happening's text
 abbrev pub IsUnread : List ℕ → List Event → Type 0
-IsUnread line past = line_read line ≡ None
+IsUnread rest past = (rest ≢ []) × BeginsNone rest
 
--- the line is a happening that may not come now
+-- it begins with the text of a happening that a script may not have, or not now
 abbrev pub IsForbidden : Goal → List ℕ → List Event → Type 0
-IsForbidden goal line past =
-    (happening : Event) × (line_read line ≡ Some happening) × (may_come goal happening past ≡ false)
+IsForbidden goal rest past =
+    (happening : Event) × (more : List ℕ) × (is_in_range happening ≡ true) × (event_text happening ++ more ≡ rest)
+    × ((is_script happening && may_come goal happening past) ≡ false)
 
--- a run over a prefix of the lines was being written when the fault came
+-- a run over a part of the script was being written when the fault came
 abbrev pub Broken : Scenario → SimFault → Option (List ℕ) → Option (List ℕ) → Type 0
-Broken s f old new = (before : List (List ℕ)) × (after : List (List ℕ)) × (past : List Event)
-    × (before ++ after ≡ lines_in s) × RunOver s before past × Leaves f old new (past_text past)
+Broken s f old new =
+    (rest : List ℕ) × (past : List Event) × RunOver s rest past × Leaves f old new (past_text past)
 
 -- the inittab is too long
 abbrev pub IsTooLong : List ℕ → Type 0

@@ -2,7 +2,5 @@
 #![tactic(auto)]
 
 mod running;
-mod script;
 
 pub use running::{SimFault, simulate};
-pub use script::read_line;

@@ -2,6 +2,7 @@ ghost use Rattle.std.specs.Prelude.{◌≡◌, ◌<◌, length, List, [], ◌∷
 ghost use Rattle.std.specs.Io.KnownBytes.{Appends};
 ghost use Rattle.init_trace.specs.Event.{Event};
 ghost use Rattle.init_trace.specs.Lines.{event_text};
+ghost use Rattle.init_trace.specs.Range.{is_in_range};
 ghost use Rattle.init_trace.specs.Run.{is_rest};
 ghost use Rattle.init_trace.specs.declared.steps.Goal.{Goal};
 ghost use Rattle.init_trace.specs.declared.happenings.Happening.TheVariants.{NewTable};
@@ -10,11 +11,10 @@ ghost use Rattle.inittab_text.specs.Reading.{table_of_text};
 ghost use Rattle.level_core.specs.Decide.{opening_goal};
 ghost use Rattle.level_core.specs.Fit.{Fits, with_step};
 ghost use Rattle.supervisor.specs.Faults.{Leaves};
-ghost use Rattle.supervisor.specs.Moments.{AtRest, Breaks, ComesToRest, FromMoment, FromRest, LineDone, LineEnds, MayBeHeard, Moment, OpeningEnds, SomeMoment, SomeRest, TableEnds, opening_text};
+ghost use Rattle.supervisor.specs.Moments.{AtRest, Breaks, ComesToRest, FromMoment, FromRest, FromScript, HeardEnds, HeardOne, MayBeHeard, Moment, OpeningEnds, SomeMoment, SomeRest, TableEnds, opening_text};
 ghost use Rattle.supervisor.specs.Simulation.{Done, Ends, IsTooLong, scenario};
 
-use crate::script::read_line;
-use init_trace::{Happening, HappeningIn, Step, print_one, print_table};
+use init_trace::{Happening, HappeningIn, Step, first_happening, line_count, print_one, print_table};
 use init_words::{Level, Memory};
 use inittab_text::{Table, TableFault, read};
 use level_core::Core;
@@ -24,16 +24,16 @@ use std::error::Error;
 use std::io::Write;
 use std::{fmt, io};
 use system_side::SimulatedSystem;
-use text_lines::next_line;
+use text_lines::ended;
 
 /// Why a simulated run ended before its script did.
 #[derive(Clone, Copy, Debug, PartialEq, Eq)]
 pub enum SimFault {
     /// The inittab is too long.
     Table,
-    /// The line of this number is none of a script's.
+    /// No happening begins at the line of this number.
     Script(u64),
-    /// The happening on the line of this number may not come there.
+    /// The happening on the line of this number may not come there, or not in a script.
     Forbidden(u64),
     /// The writer failed, or took no byte.
     Write,
@@ -67,6 +67,17 @@ impl From<Memory> for SimFault {
     ghost from_gives = { λ _ fault. fault ≡ Memory };
 
     fn from(_error: Memory) -> SimFault {
+        SimFault::Memory
+    }
+}
+
+impl From<AllocError> for SimFault {
+    ghost use Rattle.std.specs.Prelude.{◌≡◌};
+    ghost use Rattle.supervisor.specs.declared.running.SimFault.TheVariants.{Memory};
+
+    ghost from_gives = { λ _ fault. fault ≡ Memory };
+
+    fn from(_error: AllocError) -> SimFault {
         SimFault::Memory
     }
 }
@@ -175,28 +186,26 @@ fn hear<A: Allocator + Copy, W: Write>(
     Ok(())
 }
 
-/// Hears a script line, the number-th, and takes init's steps until it rests.
-fn take_line<A: Allocator + Copy, W: Write>(
+/// Hears a happening, whose line has the number, and takes init's steps until it rests.
+fn hear_next<A: Allocator + Copy, W: Write>(
     alloc: A,
     core: &mut Core<A>,
     side: &mut SimulatedSystem<A>,
     out: &mut W,
-    line: &[u8],
+    happening: &HappeningIn<A>,
     number: u64,
 ) -> Result<(), SimFault>
-    requires { SomeRest core.old side.old }
+    requires rests { SomeRest core.old side.old }
+    requires ranged { is_in_range happening.now ≡ true }
     ensures ok { OnOk result (FromRest core.old side.old (λ goal past.
-        LineDone goal past line.now core.new side.new (W.contents out.old) (W.contents out.new))) }
+        HeardOne goal past happening.now core.new side.new (W.contents out.old) (W.contents out.new))) }
     ensures err { IfErr result (λ fault. FromRest core.old side.old (λ goal past.
-        LineEnds goal past line.now number fault (W.contents out.old) (W.contents out.new))) }
+        HeardEnds goal past happening.now number fault (W.contents out.old) (W.contents out.new))) }
 {
-    let Some(happening) = read_line(alloc, line)? else {
-        return Err(SimFault::Script(number));
-    };
-    if !side.allows(&happening) {
+    if !side.allows(happening) {
         return Err(SimFault::Forbidden(number));
     }
-    hear(alloc, core, side, out, &happening)?;
+    hear(alloc, core, side, out, happening)?;
     run_until_rest(alloc, core, side, out)
 }
 
@@ -233,14 +242,41 @@ fn open_run<A: Allocator + Copy, W: Write>(
     Ok(core)
 }
 
+/// Hears the happenings of a text in turn, and takes init's steps after each until it rests.
+fn hear_all<A: Allocator + Copy, W: Write>(
+    alloc: A,
+    core: &mut Core<A>,
+    side: &mut SimulatedSystem<A>,
+    out: &mut W,
+    text: &[u8],
+) -> Result<(), SimFault>
+    requires { SomeRest core.old side.old }
+    ensures done { OnOk result (
+        FromScript text.now core.old side.old (W.contents out.old) (λ s before. Done s before (W.contents out.new))) }
+    ensures ended { IfErr result (λ fault.
+        FromScript text.now core.old side.old (W.contents out.old) (λ s before. Ends s fault before (W.contents out.new))) }
+{
+    let mut rest = text;
+    let mut number = 1;
+    while !rest.is_empty() {
+        let Some((happening, more)) = first_happening(alloc, rest)? else {
+            return Err(SimFault::Script(number));
+        };
+        hear_next(alloc, core, side, out, &happening, number)?;
+        number += line_count(&happening);
+        rest = more;
+    }
+    Ok(())
+}
+
 /// Runs init over an inittab(5) and a script of what the system did, a happening a line, and writes the trace as it
 /// comes: the table, and then each step of init and each line. Init takes its steps until none is due, after the
 /// opening and after each line. The level is that to go to; where none is given, it is the table's `initdefault`, and S
 /// without one.
 ///
-/// The run ends at the end of the script, or before the first line that is none (`Script`) or may not come
-/// (`Forbidden`), by its number from 1. An inittab of over 65,536 bytes is refused (`Table`). Where the writer fails
-/// (`Write`), a prefix of the trace is written and something of it is left; where memory is wanting (`Memory`), a
+/// The run ends at the end of the script, or before the first line that is no line of a trace (`Script`) or may not
+/// come (`Forbidden`), by its number from 1. An inittab of over 65,536 bytes is refused (`Table`). Where the writer
+/// fails (`Write`), a prefix of the trace is written and something of it is left; where memory is wanting (`Memory`), a
 /// prefix of it is written.
 pub fn simulate<A: Allocator + Copy, W: Write>(
     alloc: A,
@@ -258,12 +294,6 @@ pub fn simulate<A: Allocator + Copy, W: Write>(
     let mut core = open_run(alloc, inittab, level, out)?;
     let mut side = SimulatedSystem::new(alloc);
     run_until_rest(alloc, &mut core, &mut side, out)?;
-    let mut rest = script;
-    let mut number = 0;
-    while let Some((line, more)) = next_line(rest) {
-        number += 1;
-        take_line(alloc, &mut core, &mut side, out, line, number)?;
-        rest = more;
-    }
-    Ok(())
+    let script = ended(alloc, script)?;
+    hear_all(alloc, &mut core, &mut side, out, &script)
 }

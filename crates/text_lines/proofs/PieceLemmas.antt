@@ -1,10 +1,10 @@
 -- A text in pieces, and a text by its lines: what is cut off and what is left make the whole.
-use Rattle.std.proofs.Common.{◌≡◌, ℕ, zero, suc, ◌+◌, ◌-◌, ◌<◌, Bool, true, false, cond, not, ◌==◌, List, [], ◌∷◌, ◌++◌, length, take, filter, Some, None, refl, sym, ap, ◌∙◌, arith, length-append}
+use Rattle.std.proofs.Common.{◌≡◌, ℕ, zero, suc, ◌+◌, ◌-◌, ◌<◌, Bool, true, false, cond, not, ◌==◌, List, [], ◌∷◌, ◌++◌, length, take, filter, slice_get, Option, Some, None, refl, sym, ap, ◌∙◌, arith, length-append}
 use Rattle.std.specs.List.{join_with_byte, list_all}
 use Rattle.std.proofs.lemmas.Bool.{or_parts, eq-eqb, and_parts, not-true}
 use Rattle.std.proofs.lemmas.List.{append_assoc}
-use Rattle.std.proofs.lemmas.Option.{option_and_then_some}
-use Rattle.text_lines.specs.Lines.{cut, has_byte, newlines, after_lines, pieces_of}
+use Rattle.std.proofs.lemmas.Option.{option_and_then_some, same_Some}
+use Rattle.text_lines.specs.Lines.{cut, ended, has_byte, newlines, after_lines, pieces_of}
 use Rattle.text_lines.proofs.CutLemmas.{cut-parts, cut-lacks}
 
 -- the first piece, and those of what stands behind it
@@ -97,3 +97,25 @@ after_lines-step (suc n) text line rest some is =
 pub after_lines-short : (n : ℕ) (text : List ℕ) → 0 < n → cut 10 text ≡ None → after_lines n text ≡ None
 after_lines-short zero text some is = absurd (omega arith)
 after_lines-short (suc n) text some is = rw is refl
+
+-- a text with its last line ended
+pub ended-closed : (text : List ℕ) → slice_get text (length text - 1) ≡ Some 10 → ended text ≡ text
+ended-closed [] last = absurd (cc)
+ended-closed (b ∷ []) last =
+    let newline : b ≡ 10 = same_Some b 10 last in
+    rw (newline) refl
+ended-closed (b ∷ c ∷ text) last = ap (λ t. b ∷ t) (ended-closed (c ∷ text) (behind b c text (Some 10) last))
+  where
+    behind : (b c : ℕ) (text : List ℕ) (o : Option ℕ) → slice_get (b ∷ c ∷ text) (length (b ∷ c ∷ text) - 1) ≡ o → slice_get (c ∷ text) (length (c ∷ text) - 1) ≡ o
+    behind b c text o is =
+        let less : length (b ∷ c ∷ text) - 1 ≡ suc (length (c ∷ text) - 1) = omega arith in
+        sym (ap (slice_get (b ∷ c ∷ text)) less) ∙ is
+
+pub ended-open : (text : List ℕ) (byte : ℕ) → slice_get text (length text - 1) ≡ Some byte → (byte == 10) ≡ false → ended text ≡ text ++ 10 ∷ []
+ended-open [] byte last other = absurd (cc)
+ended-open (b ∷ []) byte last other =
+    let same : b ≡ byte = same_Some b byte last in
+    rw (same, other) refl
+ended-open (b ∷ c ∷ text) byte last other =
+    let less : length (b ∷ c ∷ text) - 1 ≡ suc (length (c ∷ text) - 1) = omega arith in
+    ap (λ t. b ∷ t) (ended-open (c ∷ text) byte (sym (ap (slice_get (b ∷ c ∷ text)) less) ∙ last) other)

@@ -26,6 +26,12 @@ abbrev pub lines_of : List ℕ → List (List ℕ)
 lines_of [] = []
 lines_of (b ∷ text) = if b == 10 then [] ∷ lines_of text else onto_first_line b (lines_of text)
 
+-- a text whose last line ends with a newline
+abbrev pub ended : List ℕ → List ℕ
+ended [] = []
+ended (b ∷ []) = if b == 10 then b ∷ [] else b ∷ 10 ∷ []
+ended (b ∷ c ∷ text) = b ∷ ended (c ∷ text)
+
 -- how many newlines a text has
 abbrev pub newlines : List ℕ → ℕ
 newlines text = length (filter (λ b. b == 10) text)

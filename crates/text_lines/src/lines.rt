@@ -1,9 +1,10 @@
-ghost use Rattle.std.specs.Prelude.{◌≡◌, ◌<◌, [], ◌∷◌, false, length, IfSome, IfNone};
+ghost use Rattle.std.specs.Prelude.{◌≡◌, ◌<◌, [], ◌∷◌, false, length, IfSome, IfNone, IfOk, ◌++◌, true};
 ghost use Rattle.std.specs.Option.{option_map};
 ghost use Rattle.std.specs.Str.{is_utf8};
-ghost use Rattle.text_lines.specs.Lines.{after_lines, cut, has_byte, lines_of};
+ghost use Rattle.text_lines.specs.Lines.{after_lines, cut, ended, has_byte, lines_of};
 
 use memchr::memchr;
+use std::alloc::{AllocError, Allocator};
 use std::str;
 
 /// What stands before the first byte of this kind, and what stands after it; None where the text has none.
@@ -51,6 +52,29 @@ pub fn after_lines(count: usize, text: &[u8]) -> Option<&[u8]>
         (_, rest) = cut(b'\n', rest)?;
     }
     Some(rest)
+}
+
+/// The text has a last line without a newline.
+fn is_open(text: &[u8]) -> bool
+    ensures open { result ≡ true → ended text.now ≡ text.now ++ 10 ∷ [] }
+    ensures closed { result ≡ false → ended text.now ≡ text.now }
+{
+    match text.last() {
+        Some(byte) => *byte != b'\n',
+        None => false,
+    }
+}
+
+/// A text with a newline behind its last line, where it lacks one.
+pub fn ended<A: Allocator>(alloc: A, text: &[u8]) -> Result<Vec<u8, A>, AllocError>
+    ensures { IfOk result (λ whole. whole.items ≡ ended text.now) }
+{
+    let mut whole = Vec::new(alloc);
+    whole.extend_from_slice(text)?;
+    if is_open(text) {
+        whole.push(b'\n')?;
+    }
+    Ok(whole)
 }
 
 /// The text is UTF-8.
