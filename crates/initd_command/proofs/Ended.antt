@@ -1,5 +1,5 @@
 -- What a run left, where its writer was only flushed since.
-use Rattle.std.proofs.Common.{Result, Ok, Err, IfErr, OnOk, ◌⊎◌, inl, inr, ◌≡◌, List, ℕ, Option}
+use Rattle.std.proofs.Common.{Result, Ok, Err, IfErr, OnOk, ◌⊎◌, inl, inr, List, ℕ, Option}
 use Rattle.std.specs.Io.KnownBytes.{Keeps}
 use Rattle.std.proofs.KnownBytes.{Appends-kept, Keeps-trans}
 use Rattle.supervisor.specs.declared.running.SimFault.{SimFault}

@@ -1,10 +1,10 @@
 -- What a command line says that entered a subcommand, by the subcommand's name.
-use Rattle.std.proofs.Common.{◌≡◌, ◌∙◌, Bool, true, false, cond, Option, Some, None, List, codes, refl, sym}
+use Rattle.std.proofs.Common.{◌≡◌, Bool, true, false, cond, Option, Some, None, List, codes, refl}
 use Rattle.std.specs.Prelude.{option_map}
 use Rattle.std.specs.Str.{bytes_eq}
 use Rattle.std.proofs.lemmas.Slice.Eq.{bytes_eq-Decides}
 use Rattle.clap.specs.Words.{Row, Text}
-use Rattle.initd_command.specs.CommandLine.{Said, said_by, words_said}
+use Rattle.initd_command.specs.CommandLine.{judged_by, runs, said_by, trace_said, words_said}
 
 -- the first parts of pairs that were mapped
 pub map_first : {A B C : Type 0} (f : A → B) (g : A → C) (o : Option A)
@@ -14,7 +14,7 @@ map_first f g (Some a) = refl
 
 pub said_by_simulate : (entered : Option (Text × List Row)) (rows : List Row)
     → option_map (λ e. e.0) entered ≡ Some (codes "simulate") → option_map (λ e. e.1) entered ≡ Some rows
-    → said_by entered ≡ words_said rows
+    → said_by entered ≡ option_map runs (words_said rows)
 said_by_simulate None rows name is = cc
 said_by_simulate (Some (name, given)) rows named is =
     let the_name : name ≡ codes "simulate" = cc in
@@ -22,10 +22,28 @@ said_by_simulate (Some (name, given)) rows named is =
     rw ((bytes_eq-Decides name (codes "simulate")).1 the_name, the_rows) refl
 
 pub said_by_other : (entered : Option (Text × List Row)) → (option_map (λ e. e.0) entered ≡ Some (codes "simulate") → ⊥)
-    → None ≡ said_by entered
+    → judged_by entered ≡ said_by entered
 said_by_other None other = refl
 said_by_other (Some (name, rows)) other = at (bytes_eq name (codes "simulate")) refl
   where
-    at : (b : Bool) → bytes_eq name (codes "simulate") ≡ b → None ≡ cond b (words_said rows) None
+    at : (b : Bool) → bytes_eq name (codes "simulate") ≡ b → judged_by (Some (name, rows)) ≡ cond b (option_map runs (words_said rows)) (judged_by (Some (name, rows)))
     at false is = refl
     at true is = let the_name : name ≡ codes "simulate" = (bytes_eq-Decides name (codes "simulate")).0 is in absurd (other (rw the_name refl))
+
+pub judged_by_check : (entered : Option (Text × List Row)) (rows : List Row)
+    → option_map (λ e. e.0) entered ≡ Some (codes "check") → option_map (λ e. e.1) entered ≡ Some rows
+    → judged_by entered ≡ Some (trace_said rows)
+judged_by_check None rows name is = cc
+judged_by_check (Some (name, given)) rows named is =
+    let the_name : name ≡ codes "check" = cc in
+    let the_rows : given ≡ rows = cc in
+    rw ((bytes_eq-Decides name (codes "check")).1 the_name, the_rows) refl
+
+pub judged_by_other : (entered : Option (Text × List Row)) → (option_map (λ e. e.0) entered ≡ Some (codes "check") → ⊥)
+    → None ≡ judged_by entered
+judged_by_other None other = refl
+judged_by_other (Some (name, rows)) other = at (bytes_eq name (codes "check")) refl
+  where
+    at : (b : Bool) → bytes_eq name (codes "check") ≡ b → None ≡ cond b (Some (trace_said rows)) None
+    at false is = refl
+    at true is = let the_name : name ≡ codes "check" = (bytes_eq-Decides name (codes "check")).0 is in absurd (other (rw the_name refl))

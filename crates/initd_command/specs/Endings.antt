@@ -1,17 +1,18 @@
 -- How a command line of initd ends: its exit status, what was written, and what is reported of it.
-use Rattle.std.specs.Prelude.{◌≡◌, ◌⊎◌, ℕ, List, [], ◌∷◌, ◌++◌, codes, Option, Some, None}
+use Rattle.std.specs.Prelude.{◌⊎◌, ℕ, List, ◌++◌, codes, decimal, Option}
 use Rattle.std.specs.Io.KnownBytes.{Keeps}
 use Rattle.program_edge.specs.Writing.{AppendsPrefix}
-use Rattle.program_edge.specs.declared.statuses.TheConstants.{DONE, REFUSED, DEVICE_FAULT}
+use Rattle.program_edge.specs.declared.statuses.TheConstants.{DONE, REFUSED, UNLAWFUL, DEVICE_FAULT}
 use Rattle.supervisor.specs.declared.running.SimFault.{SimFault}
 use Rattle.supervisor.specs.declared.running.SimFault.TheVariants as fault
 use Rattle.supervisor.specs.Faults.{fault_text}
-use Rattle.supervisor.specs.Simulation.{Done, Ends, Scenario, scenario}
-use Rattle.initd_command.specs.CommandLine.{Said, read_of}
-use Rattle.initd_command.specs.declared.running.TheConstants.{NO_MEMORY, USAGE}
+use Rattle.initd_command.specs.declared.checking.TheConstants.{UNWRITTEN}
+use Rattle.initd_command.specs.declared.reports.TheConstants.{NO_MEMORY}
+use Rattle.initd_command.specs.declared.running.TheConstants.{USAGE}
 
 -- done; the words are no command line, or want memory; the file of a path was not read, and why; the run ended before
--- its script; the writer could not be flushed
+-- its script; the writer could not be flushed; a trace is lawful, or unlawful, of which this is told; its line of this
+-- number is none; the verdict could not be written
 pub data Ending : Type 0 where
   done : Ending
   usage : Ending
@@ -19,6 +20,10 @@ pub data Ending : Type 0 where
   unread : List ℕ → List ℕ → Ending
   stopped : SimFault → Ending
   unflushed : Ending
+  lawful : Ending
+  unlawful : List ℕ → Ending
+  torn : ℕ → Ending
+  unwritten : Ending
 
 abbrev pub fault_status : SimFault → ℕ
 fault_status fault.Table = REFUSED
@@ -34,31 +39,19 @@ status_of no_memory = DEVICE_FAULT
 status_of (unread path why) = DEVICE_FAULT
 status_of (stopped f) = fault_status f
 status_of unflushed = DEVICE_FAULT
-
--- how a run may end
-abbrev pub EndsRun : Scenario → Ending → Option (List ℕ) → Option (List ℕ) → Type 0
-EndsRun s done old new = Done s old new
-EndsRun s (stopped f) old new = Ends s f old new
-EndsRun s unflushed old new = Done s old new ⊎ ((f : SimFault) × Ends s f old new)
-EndsRun s _ old new = ⊥
-
--- how a command line ends that was read: a file is not read and nothing written, or a run ends over what was read
-abbrev pub EndsFiles : Said → Ending → Option (List ℕ) → Option (List ℕ) → Type 0
-EndsFiles said (unread path why) old new = ((path ≡ said.table) ⊎ (path ≡ said.script)) × Keeps old new
-EndsFiles said ending old new =
-    (inittab script : List ℕ) × EndsRun (scenario said.level inittab script) ending old new
-
--- how words end: they are no command line or want memory, and nothing is written, or they end by what they say
-abbrev pub EndsBy : List (List ℕ) → Ending → Option (List ℕ) → Option (List ℕ) → Type 0
-EndsBy words usage old new = (read_of words ≡ None) × Keeps old new
-EndsBy words no_memory old new = Keeps old new
-EndsBy words ending old new = (said : Said) × (read_of words ≡ Some said) × EndsFiles said ending old new
+status_of lawful = DONE
+status_of (unlawful message) = UNLAWFUL
+status_of (torn line) = REFUSED
+status_of unwritten = DEVICE_FAULT
 
 abbrev pub fault_message : SimFault → List ℕ
 fault_message f = codes "initd: " ++ fault_text f ++ codes "\n"
 
 abbrev pub file_message : List ℕ → List ℕ → List ℕ
 file_message path why = codes "initd: cannot read " ++ path ++ codes ": " ++ why ++ codes "\n"
+
+abbrev pub torn_message : ℕ → List ℕ
+torn_message line = codes "initd: trace line " ++ decimal line ++ codes " is not a line\n"
 
 -- the text is reported, as far as the writer takes it, or that there was no memory for it
 abbrev pub ReportsText : List ℕ → Option (List ℕ) → Option (List ℕ) → Type 0
@@ -72,3 +65,7 @@ Reports no_memory old new = AppendsPrefix old new NO_MEMORY.now
 Reports (unread path why) old new = ReportsText (file_message path why) old new
 Reports (stopped f) old new = ReportsText (fault_message f) old new
 Reports unflushed old new = ReportsText (fault_message fault.Write) old new
+Reports lawful old new = Keeps old new
+Reports (unlawful message) old new = AppendsPrefix old new message
+Reports (torn line) old new = ReportsText (torn_message line) old new
+Reports unwritten old new = AppendsPrefix old new UNWRITTEN.now

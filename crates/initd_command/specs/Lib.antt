@@ -1,2 +1,4 @@
 pub mod CommandLine
 pub mod Endings
+pub mod Runs
+pub mod Verdicts

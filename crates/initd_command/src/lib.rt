@@ -2,9 +2,11 @@
 //! of a fault.
 #![tactic(auto)]
 
+mod checking;
 mod command;
+mod reports;
 mod running;
 
-pub use command::{Words, read_words};
+pub use command::{Simulation, Words, read_words};
 pub use command_words::WordFault;
 pub use running::{USAGE, run_words};

@@ -140,6 +140,43 @@ const OVER_FILES: &[(&[u8], &[u8], &str, u8, &str)] = &[
         0,
         "use 1\nid:3:initdefault:\nenter sysinit 5\nenter boot 5\nenter 0 5\nsettle 0\n--\n",
     ),
+    // Traces that are judged: the first breach, and the line of the file where it is.
+    (b"", b"", "check row-script", 0, "lawful\n--\n"),
+    (
+        b"",
+        b"use 0\nenter sysinit 5\nenter S 5\nsettle S\n",
+        "check row-script",
+        0,
+        "lawful\n--\n",
+    ),
+    (
+        b"",
+        b"use 2\na:3:once:x\nb:1:once:y\nenter 3 5\nask a start\nbirth a 10\ntold a\nenter 1 5\nask b start\nbirth b 11\n",
+        "check row-script",
+        2,
+        "unlawful: happening 7, law 4\n--\nline 10: birth b 11: an excluded child is unreaped\n",
+    ),
+    (
+        b"",
+        b"settle 3\n",
+        "check row-script",
+        2,
+        "unlawful: happening 0, law 5\n--\nline 1: settle 3: the level is not settled\n",
+    ),
+    (
+        b"",
+        b"nudge\nnudge",
+        "check row-script",
+        1,
+        "--\ninitd: trace line 2 is not a line\n",
+    ),
+    (
+        b"",
+        b"",
+        "check absent",
+        4,
+        "--\ninitd: cannot read absent: No such file or directory (os error 2)\n",
+    ),
     // Files that are not read.
     (
         b"",
@@ -186,6 +223,9 @@ const FAULTY: &[&str] = &[
     "simulate",
     "simulate one",
     "simulate one two three",
+    "check",
+    "check one two",
+    "check --level 3 one",
     "simulate --level x one two",
     "simulate --level 33 one two",
     "simulate --level",
@@ -198,9 +238,11 @@ const FAULTY: &[&str] = &[
 
 const USAGE_REPORTED: &str = "--
 usage: initd simulate [--level L] TABLE SCRIPT
+       initd check TRACE
   L       the runlevel to go to, 0 to 9, S or s; the table's initdefault where it is left out
   TABLE   an inittab(5)
   SCRIPT  what the system did, one happening a line
+  TRACE   a trace of init, which is judged
 ";
 
 #[test]

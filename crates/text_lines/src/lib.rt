@@ -8,6 +8,6 @@ mod numbers;
 mod words;
 
 pub use blanks::{has_blank, is_all_blank, is_blank, trimmed, without_blanks, without_tail};
-pub use lines::{after_lines, cut, ended, first_line, is_utf8, next_line};
+pub use lines::{after_lines, cut, ended, first_line, is_utf8, newlines, next_line};
 pub use numbers::{read_below, read_number};
 pub use words::next_word;

@@ -1,7 +1,7 @@
-ghost use Rattle.std.specs.Prelude.{◌≡◌, ◌<◌, [], ◌∷◌, false, length, IfSome, IfNone, IfOk, ◌++◌, true};
+ghost use Rattle.std.specs.Prelude.{◌≡◌, ◌<◌, ◌≤◌, [], ◌∷◌, false, length, IfSome, IfNone, IfOk, ◌++◌, true};
 ghost use Rattle.std.specs.Option.{option_map};
 ghost use Rattle.std.specs.Str.{is_utf8};
-ghost use Rattle.text_lines.specs.Lines.{after_lines, cut, ended, has_byte, lines_of};
+ghost use Rattle.text_lines.specs.Lines.{after_lines, cut, ended, has_byte, lines_of, newlines};
 
 use memchr::memchr;
 use std::alloc::{AllocError, Allocator};
@@ -52,6 +52,20 @@ pub fn after_lines(count: usize, text: &[u8]) -> Option<&[u8]>
         (_, rest) = cut(b'\n', rest)?;
     }
     Some(rest)
+}
+
+/// How many newlines a text has.
+pub fn newlines(text: &[u8]) -> usize
+    ensures value { result ≡ newlines text.now }
+    ensures within { result ≤ length text.now }
+{
+    let mut count = 0;
+    for byte in text {
+        if *byte == b'\n' {
+            count += 1;
+        }
+    }
+    count
 }
 
 /// The text has a last line without a newline.

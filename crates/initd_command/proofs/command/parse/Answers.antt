@@ -3,15 +3,15 @@ use Rattle.std.specs.Prelude.{map, string_bytes}
 use Rattle.std.proofs.lemmas.Result.{IfOk-weaker}
 use Rattle.clap.specs.Words.{App, FailsBy, Text, is_simple, is_simple_and_free, subcommand_of, fault_of}
 use Rattle.clap.proofs.OnLiterals.{clap_on_literals}
-use Rattle.initd_command.specs.CommandLine.{command_line, level_rule, script_rule, simulate_line, table_rule}
+use Rattle.initd_command.specs.CommandLine.{check_line, command_line, level_rule, script_rule, simulate_line, table_rule, trace_rule}
 use Rattle.initd_command.proofs.command.parse.Goals as goal
 
 is_simple_line : is_simple command_line ≡ true
-unfolding level_rule table_rule script_rule simulate_line command_line
+unfolding level_rule table_rule script_rule simulate_line trace_rule check_line command_line
 is_simple_line = refl
 
 is_free_line : is_simple_and_free command_line ≡ true
-unfolding level_rule table_rule script_rule simulate_line command_line clap_on_literals
+unfolding level_rule table_rule script_rule simulate_line trace_rule check_line command_line clap_on_literals
 is_free_line = refl
 
 pub returns-clause-entered : goal.returns-clause-entered

@@ -1,9 +1,9 @@
-use Rattle.std.proofs.Common.{◌≡◌, ◌∙◌, ap, codes, Option, Some, None}
+use Rattle.std.proofs.Common.{◌∙◌, ap, codes, Option, Some}
 use Rattle.std.specs.Prelude.{option_map}
 use Rattle.clap.proofs.WalkLemmas.{first_value-rows}
 use Rattle.clap.specs.Words.{found_of}
 use Rattle.init_words.specs.declared.levels.Level.{Level}
-use Rattle.initd_command.specs.CommandLine.{level_in, level_word_read}
+use Rattle.initd_command.specs.CommandLine.{level_in}
 use Rattle.initd_command.proofs.command.read_level_option.Goals as goal
 
 abbrev given : Option Level → Option (Option Level)

@@ -1,4 +1,4 @@
-use Rattle.std.proofs.Common.{◌≡◌, ◌∙◌, refl, sym, codes, Some}
+use Rattle.std.proofs.Common.{◌≡◌, ◌∙◌, refl, sym}
 use Rattle.std.specs.Prelude.{option_map}
 use Rattle.std.proofs.lemmas.Result.{IfOk-weaker}
 use Rattle.clap.specs.Words.{found_of, rows_of, subcommand_name_of, subcommand_rows_of}
@@ -18,4 +18,5 @@ pub returns-in-None : goal.returns-in-None
 returns-in-None c =
     let entered = subcommand_rows_of c.args.matches.now in
     let name : subcommand_name_of c.args.matches.now ≡ option_map (λ e. e.0) entered = map_first _ _ _ in
-    said_by_other entered (λ named. let wrong = c.in-None.ensures.found.1 (name ∙ named) in cc)
+    let same = said_by_other entered (λ named. let wrong = c.in-None.ensures.found.1 (name ∙ named) in cc) in
+    IfOk-weaker c.read_check.result _ _ (λ words says. says ∙ same) c.read_check.ensures

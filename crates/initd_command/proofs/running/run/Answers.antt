@@ -1,6 +1,8 @@
+use Rattle.std.proofs.Common.{refl}
+use Rattle.std.proofs.KnownBytes.{Keeps-refl}
 use Rattle.supervisor.specs.Simulation.{Done, Ends, scenario}
-use Rattle.initd_command.specs.Endings.{Ending, stopped, unflushed}
-use Rattle.initd_command.proofs.Ended.{either_end, either_kept, ends_kept}
+use Rattle.initd_command.specs.Endings.{done, stopped, unflushed}
+use Rattle.initd_command.proofs.Ended.{done_kept, either_end, either_kept, ends_kept}
 use Rattle.initd_command.proofs.running.run.Goals as goal
 
 -- the writer could not be flushed
@@ -26,3 +28,9 @@ returns-in-Err g c =
           c.in-Err.ensures.ended c.flush.ensures.bytes,
       c.report_fault-in-Err.ensures.reported,
     )
+
+-- the run is done
+pub returns-in-Ok : goal.returns-in-Ok
+returns-in-Ok g c =
+    let s = scenario c.args.level c.args.inittab.now c.args.script.now in
+    (done, refl, done_kept s (g.W.Write.contents c.args.out.now) (g.W.Write.contents c.simulate-ended.new.out) (g.W.Write.contents c.flush.new.self) c.in-Ok.ensures.done c.flush.ensures.bytes, Keeps-refl (g.E.Write.contents c.args.err.now))

@@ -1,26 +1,50 @@
-use Rattle.std.proofs.Common.{◌≡◌, rules, List, ℕ, Option, Some, None, map, string_bytes, refl}
+use Rattle.std.proofs.Common.{◌≡◌, rules, List, ℕ, Option, Some, None, map, string_bytes, refl, reverse}
 use Rattle.std.proofs.KnownBytes.{Keeps-refl}
-use Rattle.initd_command.specs.CommandLine.{Said, read_of, said_of}
-use Rattle.initd_command.specs.Endings.{Ending, EndsBy, EndsFiles, done, no_memory, stopped, unflushed, unread, usage}
+use Rattle.initd_command.specs.CommandLine.{Said, judges, read_of, run_of, runs}
+use Rattle.initd_command.specs.Endings.{Ending, done, lawful, no_memory, stopped, torn, unflushed, unlawful, unread, unwritten, usage}
+use Rattle.init_trace.specs.Event.{Event}
+use Rattle.init_trace.specs.Lawful.{Fault, first_breach}
+use Rattle.initd_command.specs.Verdicts.{EndsBreached}
+use Rattle.initd_command.specs.Runs.{EndsBy, EndsSaid}
 use Rattle.initd_command.proofs.running.run_words.Goals as goal
+
+-- a verdict is no usage fault
+no_usage : (trace : List Event) (breach : Option Fault) (old new : Option (List ℕ)) → EndsBreached trace breach usage old new → ⊥
+no_usage trace None old new none = none
+no_usage trace (Some fault) old new none = none
 
 -- an ending of what was read
 ends_by : (words : List (List ℕ)) (said : Said) → read_of words ≡ Some said → (ending : Ending) (old new : Option (List ℕ))
-    → EndsFiles said ending old new → EndsBy words ending old new
+    → EndsSaid said ending old new → EndsBy words ending old new
 ends_by words said is done old new ends = (said, is, ends)
-ends_by words said is usage old new (inittab, script, none) = absurd none
-ends_by words said is no_memory old new (inittab, script, none) = absurd none
+ends_by words (runs run) is usage old new ends = absurd ends.2
+ends_by words (judges path) is usage old new ends = absurd (no_usage ends.1.0 (first_breach (reverse ends.1.0)) old new ends.1.3)
+ends_by words (runs run) is no_memory old new ends = absurd ends.2
+ends_by words (judges path) is no_memory old new ends = ends.1
 ends_by words said is (unread path why) old new ends = (said, is, ends)
 ends_by words said is (stopped f) old new ends = (said, is, ends)
 ends_by words said is unflushed old new ends = (said, is, ends)
+ends_by words said is lawful old new ends = (said, is, ends)
+ends_by words said is (unlawful message) old new ends = (said, is, ends)
+ends_by words said is (torn line) old new ends = (said, is, ends)
+ends_by words said is unwritten old new ends = (said, is, ends)
 
-pub returns-in-Ok : goal.returns-in-Ok
-returns-in-Ok g c =
+pub returns-in-Ok-Simulate : goal.returns-in-Ok-Simulate
+returns-in-Ok-Simulate g c =
     let (ending, status, ends, reported) = c.simulate_files.ensures in
-    let is : read_of (map string_bytes c.args.words.items) ≡ Some (said_of c.in-Ok.said) = search rules in
-    (ending, status, ends_by _ (said_of c.in-Ok.said) is ending (g.W.Write.contents c.args.out.now) (g.W.Write.contents c.simulate_files.new.out) ends, reported)
+    let is : read_of (map string_bytes c.args.words.items) ≡ Some (runs (run_of c.in-Ok-Simulate.said)) = search rules in
+    (ending, status, ends_by _ (runs (run_of c.in-Ok-Simulate.said)) is ending (g.W.Write.contents c.args.out.now) (g.W.Write.contents c.simulate_files.new.out) ends, reported)
+
+pub returns-in-Ok-Check : goal.returns-in-Ok-Check
+returns-in-Ok-Check g c =
+    let (ending, status, ends, reported) = c.check_file.ensures in
+    let is : read_of (map string_bytes c.args.words.items) ≡ Some (judges c.as_str.result.now) = search rules in
+    (ending, status, ends_by _ (judges c.as_str.result.now) is ending (g.W.Write.contents c.args.out.now) (g.W.Write.contents c.check_file.new.out) ends, reported)
 
 pub returns-in-Err-Usage : goal.returns-in-Err-Usage
 returns-in-Err-Usage g c =
     let none : read_of (map string_bytes c.args.words.items) ≡ None = search rules in
     (usage, refl, (none, Keeps-refl (g.W.Write.contents c.args.out.now)), c.report.ensures)
+
+pub returns : goal.returns
+returns g c = (no_memory, refl, Keeps-refl (g.W.Write.contents c.args.out.now), c.report-in-Err-Memory.ensures)

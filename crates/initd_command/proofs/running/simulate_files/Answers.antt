@@ -1,6 +1,6 @@
 use Rattle.std.proofs.Common.{◌≡◌, string_bytes, rules, inl, inr}
 use Rattle.std.proofs.KnownBytes.{Keeps-refl}
-use Rattle.initd_command.specs.Endings.{Ending, unread}
+use Rattle.initd_command.specs.Endings.{unread}
 use Rattle.initd_command.proofs.running.simulate_files.Goals as goal
 
 -- the inittab was not read

@@ -1,0 +1,62 @@
+-- What the changes of a record leave: its id, and that its times are no later than now.
+use Rattle.std.proofs.Common.{◌≡◌, refl, ℕ, Bool, true, false, List, Option, Some, None}
+use Rattle.std.specs.Option.{option_or}
+use Rattle.init_words.specs.declared.entries.Entry.{Entry}
+use Rattle.init_words.specs.declared.stages.Stage.{Stage}
+use Rattle.inittab_text.specs.Tables.{entry_of}
+use Rattle.init_words.specs.declared.orders.Ask.{Ask}
+use Rattle.init_words.specs.declared.orders.Ask.TheVariants.{Start, Look, Term, Kill}
+use Rattle.init_words.specs.declared.orders.Answer.{Answer}
+use Rattle.init_words.specs.declared.orders.Answer.TheVariants.{Born, NotBorn, Ended, Alive, NoLook, Hit, Miss}
+use Rattle.child_table.specs.State.{SlotState}
+use Rattle.child_table.specs.declared.children.Living.{Living}
+use Rattle.child_table.specs.declared.children.Stop.{Stop}
+use Rattle.child_table.specs.declared.children.Stop.TheVariants.{Due}
+use Rattle.child_table.specs.Times.{is_timely, is_stop_timely}
+use Rattle.child_table.specs.Changes.{after_order, after_answer, after_enter}
+use Rattle.child_table.specs.Judging.{is_excluded, judged, judged_child, after_judge}
+use Rattle.child_table.proofs.Timely.{timely_parts, timely_from}
+
+pub id-after_order : (ask : Ask) (now : ℕ) (slot : SlotState) → (after_order ask now slot).id ≡ slot.id
+id-after_order Start now slot = refl
+id-after_order Look now slot = refl
+id-after_order Term now slot = refl
+id-after_order Kill now slot = refl
+
+pub id-after_answer : (answer : Answer) (now : ℕ) (slot : SlotState) → (after_answer answer now slot).id ≡ slot.id
+id-after_answer (Born n) now slot = refl
+id-after_answer NotBorn now slot = refl
+id-after_answer (Ended status) now slot = refl
+id-after_answer Alive now slot = refl
+id-after_answer NoLook now slot = refl
+id-after_answer Hit now slot = refl
+id-after_answer Miss now slot = refl
+
+pub id-after_judge : (table : List Entry) (stage : Stage) (slot : SlotState) → (after_judge table stage slot).id ≡ slot.id
+id-after_judge table stage slot = child slot.child
+  where
+    by : (b : Bool) → (judged b slot).id ≡ slot.id
+    by true = refl
+    by false = refl
+
+    child : (child : Option Living) → (judged_child stage table child slot).id ≡ slot.id
+    child None = refl
+    child (Some living) = by (is_excluded stage living.act (entry_of slot.id table))
+
+due_timely : (now : ℕ) (stop : Option Stop) → is_stop_timely now stop ≡ true → is_stop_timely now (option_or stop (Some Due)) ≡ true
+due_timely now None h = refl
+due_timely now (Some stop) h = h
+
+pub timely_judge : (now : ℕ) (table : List Entry) (stage : Stage) (slot : SlotState) → is_timely now slot ≡ true → is_timely now (after_judge table stage slot) ≡ true
+timely_judge now table stage slot all = child slot.child
+  where
+    by : (b : Bool) → is_timely now (judged b slot) ≡ true
+    by true = let parts = timely_parts now slot all in timely_from now (judged true slot) parts.0 (due_timely now slot.stop parts.1)
+    by false = timely_from now (judged false slot) (timely_parts now slot all).0 refl
+
+    child : (child : Option Living) → is_timely now (judged_child stage table child slot) ≡ true
+    child None = all
+    child (Some living) = by (is_excluded stage living.act (entry_of slot.id table))
+
+pub timely_enter : (now : ℕ) (slot : SlotState) → is_timely now slot ≡ true → is_timely now (after_enter slot) ≡ true
+timely_enter now slot all = timely_from now (after_enter slot) refl (timely_parts now slot all).1

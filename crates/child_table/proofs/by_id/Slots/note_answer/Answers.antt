@@ -1,0 +1,23 @@
+use Rattle.std.proofs.Common.{ap}
+use Rattle.std.specs.Option.{is_some, option_copied_mut}
+use Rattle.init_words.proofs.Tests.{both_ways}
+use Rattle.respawn_limit.specs.declared.TheConstants.{CLOCK_LIMIT}
+use Rattle.child_table.specs.Lists.{has_slot}
+use Rattle.child_table.specs.Changes.{after_answer}
+use Rattle.child_table.proofs.Changed.{id-after_answer}
+use Rattle.child_table.proofs.Found.{absent_in, written}
+use Rattle.child_table.proofs.Timely.{timely_answer}
+use Rattle.child_table.proofs.by_id.Slots.note_answer.Goals as goal
+
+pub unreachable-requires : goal.unreachable-requires
+unreachable-requires g c =
+    let none = absent_in c.args.id _ c.self.inside.records.entries c.args.self.now c.self.invariant.0 c.self.view_is c.get_mut.ensures.value (ap option_copied_mut c.in_default.is) in
+    both_ways (has_slot c.args.id c.args.self.now) c.requires.known (ap is_some none)
+
+pub invariant_of-self : goal.invariant_of-self
+invariant_of-self g c =
+    let left = written c.args.id (after_answer c.args.answer c.args.now) _ _ _ _ _ (λ s. id-after_answer c.args.answer c.args.now s) c.self.invariant.0 c.get_mut.ensures.unique c.self.view_is c.in-Some.ensures.value c.note_answer.ensures (c.get_mut.follows.holds c.note_answer.new.self) in
+    (left.own, left.timely CLOCK_LIMIT (λ s kept. timely_answer c.args.answer c.args.now CLOCK_LIMIT c.requires.limit s kept) (rw c.self.view_is at c.self.invariant.1))
+
+pub returns : goal.returns
+returns g c = (written c.args.id (after_answer c.args.answer c.args.now) _ _ _ _ _ (λ s. id-after_answer c.args.answer c.args.now s) c.self.invariant.0 c.get_mut.ensures.unique c.self.view_is c.in-Some.ensures.value c.note_answer.ensures (c.get_mut.follows.holds c.note_answer.new.self)).values

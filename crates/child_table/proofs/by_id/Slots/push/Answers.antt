@@ -1,0 +1,11 @@
+use Rattle.respawn_limit.specs.declared.TheConstants.{CLOCK_LIMIT}
+use Rattle.child_table.proofs.Found.{pushed}
+use Rattle.child_table.proofs.by_id.Slots.push.Goals as goal
+
+pub invariant_of-self-2 : goal.invariant_of-self-2
+invariant_of-self-2 g c =
+    let left = pushed c.args.slot c.id-id.result c.self.inside.records c.insert.new.self c.args.self.now c.id-id.ensures c.self.invariant.0 c.self.view_is c.requires.new c.in_ok-insert.ensures.entries in
+    (left.own, left.timely CLOCK_LIMIT c.requires.timely (rw c.self.view_is at c.self.invariant.1))
+
+pub returns-clause-pushed : goal.returns-clause-pushed
+returns-clause-pushed g c = (pushed c.args.slot c.id-id.result c.self.inside.records c.insert.new.self c.args.self.now c.id-id.ensures c.self.invariant.0 c.self.view_is c.requires.new c.in_ok-insert.ensures.entries).values

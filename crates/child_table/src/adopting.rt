@@ -1,0 +1,99 @@
+ghost use Rattle.std.specs.Prelude.{◌≡◌, ◌<◌, ◌++◌, Some, None, map, length, slice_get, option_map, true, IfSome, IfOk, OnOk, OnErr};
+ghost use Rattle.std.specs.Option.{option_to_list};
+ghost use Rattle.respawn_limit.specs.declared.TheConstants.{CLOCK_LIMIT};
+ghost use Rattle.init_words.specs.declared.entries.Entry.{Entry};
+ghost use Rattle.child_table.specs.Times.{is_timely};
+ghost use Rattle.child_table.specs.Lists.{slot_of, are_distinct};
+ghost use Rattle.child_table.specs.Adopting.{adopted, left_one, entry_slots, left_slots, after_adopt};
+
+use crate::by_id::Slots;
+use crate::records::Slot;
+use init_words::Memory;
+use inittab_text::Table;
+use std::alloc::Allocator;
+
+impl<A: Allocator + Copy> Slots<A> {
+    ghost use Rattle.child_table.specs.State.{new_slot};
+
+    /// The records of a table of which nothing was asked yet.
+    pub fn new(alloc: A, table: &Table<A>) -> Result<Slots<A>, Memory>
+        ensures { IfOk result (λ slots. slots ≡ map new_slot table.now) }
+    {
+        let mut slots = Slots::empty(alloc);
+        slots.adopt(table)?;
+        Ok(slots)
+    }
+
+    /// Another table was read: its entries have the records now, and those of other ids stay where they have a child.
+    /// On want of memory nothing is changed.
+    pub fn adopt(&mut self, table: &Table<A>) -> Result<(), Memory>
+        ensures adopted { OnOk result (self.new ≡ after_adopt table.now self.old) }
+        ensures unchanged { OnErr result (self.new ≡ self.old) }
+    {
+        let room = table.len().max(self.len());
+        let mut next = Slots::with_room(self.allocator(), room)?;
+        next.push_entries(table, self)?;
+        next.push_left(table, self)?;
+        *self = next;
+        Ok(())
+    }
+}
+
+impl<A: Allocator> Slots<A> {
+    fn push_entries(&mut self, table: &Table<A>, before: &Slots<A>) -> Result<(), Memory>
+        requires { are_distinct (self.old ++ entry_slots table.now before.now) ≡ true }
+        ensures { OnOk result (self.new ≡ self.old ++ entry_slots table.now before.now) }
+    {
+        for place in 0..table.len() {
+            self.push(adopted_slot(table, place, before))?;
+        }
+        Ok(())
+    }
+
+    fn push_left(&mut self, table: &Table<A>, before: &Slots<A>) -> Result<(), Memory>
+        requires { are_distinct (self.old ++ left_slots table.now before.now) ≡ true }
+        ensures { OnOk result (self.new ≡ self.old ++ left_slots table.now before.now) }
+    {
+        for place in 0..before.len() {
+            self.push_any(left_slot(table, before, place))?;
+        }
+        Ok(())
+    }
+
+    fn push_any(&mut self, slot: Option<Slot>) -> Result<(), Memory>
+        requires new { IfSome slot (λ s. slot_of s.id self.old ≡ None) }
+        requires timely { IfSome slot (λ s. is_timely CLOCK_LIMIT s ≡ true) }
+        ensures { OnOk result (self.new ≡ self.old ++ option_to_list slot) }
+    {
+        match slot {
+            Some(slot) => self.push(slot),
+            None => Ok(()),
+        }
+    }
+}
+
+/// The record of the entry at a place of another table.
+fn adopted_slot<A: Allocator>(table: &Table<A>, place: usize, before: &Slots<A>) -> Slot
+    requires { place < length table.now }
+    ensures value { Some result
+        ≡ option_map (λ (e : Entry). adopted e (slot_of e.id before.now)) (slice_get table.now place) }
+    ensures timely { is_timely CLOCK_LIMIT result ≡ true }
+{
+    let Some(entry) = table.at(place) else {
+        unreachable!()
+    };
+    Slot::adopted(entry, before.by_id(&entry.id))
+}
+
+/// The record at a place, as it stays without an entry, if it does.
+fn left_slot<A: Allocator>(table: &Table<A>, before: &Slots<A>, place: usize) -> Option<Slot>
+    ensures value { result ≡ left_one table.now (slice_get before.now place) }
+    ensures timely { IfSome result (λ s. is_timely CLOCK_LIMIT s ≡ true) }
+{
+    let slot = before.at(place)?;
+    if slot.is_left_over(table) {
+        Some(slot.left_over())
+    } else {
+        None
+    }
+}

@@ -1,0 +1,300 @@
+ghost use Rattle.std.specs.Prelude.{◌≡◌, ◌≤◌, ◌++◌, [], ◌∷◌, map, length, slice_get, option_copied, IfOk, IfSome, OnOk, OnErr, None, true};
+ghost use Rattle.init_words.specs.declared.orders.Ask.{Ask};
+ghost use Rattle.respawn_limit.specs.declared.TheConstants.{CLOCK_LIMIT};
+
+use crate::records::Slot;
+use indexmap::IndexMap;
+use init_words::{Answer, Ask, ChildNo, Id, Memory, Refusal, Stage};
+use inittab_text::Table;
+use std::alloc::{Allocator, Global};
+use std::hash::{BuildHasherDefault, FoldHasher};
+use std::marker::Model;
+
+/// Init's records, one an id, in record order: those of the table's entries, then those of ids that left the table and
+/// still have a child. A contract sees them as a list.
+///
+/// Each time that a call is given is a reading of one clock, in seconds, at most `CLOCK_LIMIT`.
+#[derive(Drop)]
+pub struct Slots<A: Allocator = Global> {
+    records: IndexMap<Id, Slot, BuildHasherDefault<FoldHasher>, A>,
+}
+
+impl<A: Allocator> Model for Slots<A> {
+    ghost use Rattle.std.specs.Prelude.{◌≡◌, List, true};
+    ghost use Rattle.indexmap.specs.IndexMap.{keys, values};
+    ghost use Rattle.respawn_limit.specs.declared.TheConstants.{CLOCK_LIMIT};
+    ghost use Rattle.child_table.specs.State.{SlotState};
+    ghost use Rattle.child_table.specs.Lists.{slot_ids};
+    ghost use Rattle.child_table.specs.Times.{are_timely};
+
+    ghost Value = { List SlotState };
+
+    ghost view = { λ slots. values slots.records };
+
+    ghost invariant = { λ slots. (keys slots.records ≡ slot_ids (values slots.records))
+        × (are_timely CLOCK_LIMIT (values slots.records) ≡ true) };
+}
+
+impl<A: Allocator + Copy> Slots<A> {
+    /// No records. It takes no memory.
+    pub(crate) fn empty(alloc: A) -> Slots<A>
+        ensures { result ≡ [] }
+    {
+        Slots {
+            records: IndexMap::new(alloc),
+        }
+    }
+
+    /// No records, with room for some.
+    pub(crate) fn with_room(alloc: A, room: usize) -> Result<Slots<A>, Memory>
+        ensures { IfOk result (λ slots. slots ≡ []) }
+    {
+        Ok(Slots {
+            records: IndexMap::with_capacity(alloc, room)?,
+        })
+    }
+
+    /// The allocator that the records stand on.
+    pub(crate) fn allocator(&self) -> A {
+        *self.records.allocator()
+    }
+}
+
+impl<A: Allocator> Slots<A> {
+    ghost use Rattle.std.specs.List.{list_any};
+    ghost use Rattle.child_table.specs.State.{SlotState};
+    ghost use Rattle.child_table.specs.Lists.{is_busy, are_distinct, slot_of, has_slot, can_ask, order_in, id_of_child, is_quiet, with_changed, without, refusal_of, is_over_in, after_told};
+    ghost use Rattle.child_table.specs.Times.{is_timely, are_timely};
+    ghost use Rattle.child_table.specs.Changes.{after_order, after_hold, after_call, after_enter, after_nudge, after_answer};
+    ghost use Rattle.child_table.specs.Judging.{after_judge};
+
+    /// How many records there are. No id has two, and no time that they keep is above the clock's limit.
+    pub fn len(&self) -> usize
+        ensures value { result ≡ length self.now }
+        ensures distinct { are_distinct self.now ≡ true }
+        ensures timely { are_timely CLOCK_LIMIT self.now ≡ true }
+    {
+        self.records.len()
+    }
+
+    /// The record at a place, counted from 0 in record order.
+    pub fn at(&self, place: usize) -> Option<&Slot>
+        ensures value { option_copied result ≡ slice_get self.now place }
+        ensures timely { IfSome result (λ slot. is_timely CLOCK_LIMIT slot.now ≡ true) }
+    {
+        let (_, slot) = self.records.get_index(place)?;
+        Some(slot)
+    }
+
+    /// The records in their order.
+    pub fn as_slice(&self) -> &[Slot]
+        ensures { result.now ≡ self.now }
+    {
+        self.records.values().as_slice()
+    }
+
+    /// The record of an id.
+    pub fn by_id(&self, id: &Id) -> Option<&Slot>
+        ensures value { option_copied result ≡ slot_of id.now self.now }
+        ensures timely { IfSome result (λ slot. is_timely CLOCK_LIMIT slot.now ≡ true) }
+    {
+        self.records.get(id)
+    }
+
+    /// The id of the first record whose child has the number.
+    pub fn by_child(&self, number: ChildNo) -> Option<Id>
+        ensures { result ≡ id_of_child number self.now }
+    {
+        let slot = self
+            .records
+            .values()
+            .find(|slot| slot.child() == Some(number))?;
+        Some(slot.id())
+    }
+
+    /// No start and no signal is unanswered; looks may be.
+    pub fn quiet(&self) -> bool
+        ensures { result ≡ is_quiet self.now }
+    {
+        !self.is_busy()
+    }
+
+    fn is_busy(&self) -> bool
+        ensures { result ≡ list_any (λ (slot : SlotState). is_busy slot.order) self.now }
+    {
+        self.records.values().any(|slot| slot.is_busy())
+    }
+
+    /// The order may be given about the id now: none is open, and a start is that of an entry without child, which the
+    /// respawn limit allows now; any other order is about a child.
+    pub fn can_ask(&self, id: &Id, ask: Ask, now: u64) -> bool
+        requires { now ≤ CLOCK_LIMIT }
+        ensures { result ≡ can_ask id.now ask now self.now }
+    {
+        match self.by_id(id) {
+            Some(slot) => slot.can_be_asked(ask, now),
+            None => false,
+        }
+    }
+
+    /// An order was given about an id, as `can_ask` allows.
+    pub fn ask(&mut self, id: Id, ask: Ask, now: u64)
+        requires allowed { can_ask id ask now self.old ≡ true }
+        requires limit { now ≤ CLOCK_LIMIT }
+        requires timely { are_timely now self.old ≡ true }
+        ensures { self.new ≡ with_changed id (after_order ask now) self.old }
+    {
+        let Some(slot) = self.records.get_mut(&id) else {
+            unreachable!()
+        };
+        slot.note_order(ask, now);
+    }
+
+    /// An answer about an id came, at this time: refused where no order is open for the id (`NotAsked`), or where its
+    /// order is of another kind (`WrongAnswer`). A refusal changes nothing. A record whose child ended is gone where
+    /// the table doesn't have the id.
+    pub fn told(&mut self, id: Id, answer: Answer, now: u64) -> Result<(), Refusal>
+        requires { now ≤ CLOCK_LIMIT }
+        ensures told { OnOk result (self.new ≡ after_told id answer now self.old) }
+        ensures refused { result ≡ refusal_of (order_in id self.old) answer }
+        ensures unchanged { OnErr result (self.new ≡ self.old) }
+    {
+        self.refusal(&id, &answer)?;
+        self.note_told(id, answer, now);
+        Ok(())
+    }
+
+    fn note_told(&mut self, id: Id, answer: Answer, now: u64)
+        requires known { has_slot id self.old ≡ true }
+        requires limit { now ≤ CLOCK_LIMIT }
+        ensures { self.new ≡ after_told id answer now self.old }
+    {
+        if self.is_over(&id, &answer) {
+            self.remove(id);
+        } else {
+            self.note_answer(id, answer, now);
+        }
+    }
+
+    /// Why an answer about the id is refused, if it is.
+    fn refusal(&self, id: &Id, answer: &Answer) -> Result<(), Refusal>
+        ensures { result ≡ refusal_of (order_in id.now self.now) answer.now }
+    {
+        let Some(slot) = self.by_id(id) else {
+            return Err(Refusal::NotAsked);
+        };
+        let Some(ask) = slot.order() else {
+            return Err(Refusal::NotAsked);
+        };
+        if answer.answers(ask) {
+            Ok(())
+        } else {
+            Err(Refusal::WrongAnswer)
+        }
+    }
+
+    /// The answer ends the record of the id.
+    fn is_over(&self, id: &Id, answer: &Answer) -> bool
+        ensures { result ≡ is_over_in id.now answer.now self.now }
+    {
+        match self.by_id(id) {
+            Some(slot) => slot.is_over(*answer),
+            None => false,
+        }
+    }
+
+    fn note_answer(&mut self, id: Id, answer: Answer, now: u64)
+        requires known { has_slot id self.old ≡ true }
+        requires limit { now ≤ CLOCK_LIMIT }
+        ensures { self.new ≡ with_changed id (after_answer answer now) self.old }
+    {
+        let Some(slot) = self.records.get_mut(&id) else {
+            unreachable!()
+        };
+        slot.note_answer(answer, now);
+    }
+
+    fn remove(&mut self, id: Id)
+        ensures { self.new ≡ without id self.old }
+    {
+        self.records.shift_remove(&id);
+    }
+
+    /// A respawning entry, of which there is a record, is held from now on (init(8)).
+    pub fn hold(&mut self, id: Id, now: u64)
+        requires known { has_slot id self.old ≡ true }
+        requires limit { now ≤ CLOCK_LIMIT }
+        ensures { self.new ≡ with_changed id (after_hold now) self.old }
+    {
+        let Some(slot) = self.records.get_mut(&id) else {
+            unreachable!()
+        };
+        slot.note_hold(now);
+    }
+
+    /// A letter or the power called an entry, of which there is a record.
+    pub fn called(&mut self, id: Id)
+        requires known { has_slot id self.old ≡ true }
+        ensures { self.new ≡ with_changed id after_call self.old }
+    {
+        let Some(slot) = self.records.get_mut(&id) else {
+            unreachable!()
+        };
+        slot.note_call();
+    }
+
+    /// A stage was entered: nothing was asked, called, counted or held in it yet.
+    pub fn entered(&mut self)
+        ensures { self.new ≡ map after_enter self.old }
+    {
+        // All are kept: `retain` says what is written to each, as `values_mut` doesn't.
+        self.records.retain(
+            |_id: &Id, slot: &mut Slot| -> bool
+                ensures { (result ≡ true) × (slot.new ≡ after_enter slot.old) }
+            {
+                slot.note_enter();
+                true
+            },
+        );
+    }
+
+    /// A round began: each child is to be looked at.
+    pub fn nudge(&mut self)
+        ensures { self.new ≡ map after_nudge self.old }
+    {
+        self.records.retain(
+            |_id: &Id, slot: &mut Slot| -> bool
+                ensures { (result ≡ true) × (slot.new ≡ after_nudge slot.old) }
+            {
+                slot.note_nudge();
+                true
+            },
+        );
+    }
+
+    /// The children are judged by the table and the stage: those that they exclude are to be stopped, and no other.
+    pub fn judge(&mut self, table: &Table<A>, stage: Stage)
+        ensures { self.new ≡ map (after_judge table.now stage) self.old }
+    {
+        self.records.retain(
+            |_id: &Id, slot: &mut Slot| -> bool
+                ensures { (result ≡ true) × (slot.new ≡ after_judge table.entry.now stage slot.old) }
+            {
+                slot.judge(table, stage);
+                true
+            },
+        );
+    }
+
+    /// Adds the record of an id that has none behind the others.
+    pub(crate) fn push(&mut self, slot: Slot) -> Result<(), Memory>
+        requires new { slot_of slot.id self.old ≡ None }
+        requires timely { is_timely CLOCK_LIMIT slot ≡ true }
+        ensures pushed { OnOk result (self.new ≡ self.old ++ slot ∷ []) }
+        ensures unchanged { OnErr result (self.new ≡ self.old) }
+    {
+        let id = slot.id();
+        self.records.insert(id, slot)?;
+        Ok(())
+    }
+}

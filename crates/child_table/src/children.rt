@@ -1,0 +1,20 @@
+use init_words::{Act, ChildNo};
+
+/// A child that init knows of.
+#[derive(Clone, Copy, Debug, PartialEq, Eq)]
+pub struct Living {
+    pub number: ChildNo,
+    /// The action that its id had in the table when it was born.
+    pub act: Option<Act>,
+}
+
+/// How far the stopping of an excluded child has come (init(8)): SIGTERM first, then SIGKILL.
+#[derive(Clone, Copy, Debug, PartialEq, Eq)]
+pub enum Stop {
+    /// No signal was sent yet.
+    Due,
+    /// SIGTERM was sent at this time, in seconds.
+    Termed(u64),
+    /// SIGKILL was sent at this time, in seconds.
+    Killed(u64),
+}

@@ -1,0 +1,33 @@
+-- How a command line of initd ends, by what it says: a run of init, or a judged trace.
+use Rattle.std.specs.Prelude.{◌≡◌, ◌⊎◌, ℕ, List, Option, Some, None}
+use Rattle.std.specs.Io.KnownBytes.{Keeps}
+use Rattle.supervisor.specs.declared.running.SimFault.{SimFault}
+use Rattle.supervisor.specs.Simulation.{Done, Ends, Scenario, scenario}
+use Rattle.initd_command.specs.CommandLine.{Run, Said, judges, read_of, runs}
+use Rattle.initd_command.specs.Endings.{Ending, done, usage, no_memory, unread, stopped, unflushed}
+use Rattle.initd_command.specs.Verdicts.{EndsCheck}
+
+-- how a run may end
+abbrev pub EndsRun : Scenario → Ending → Option (List ℕ) → Option (List ℕ) → Type 0
+EndsRun s done old new = Done s old new
+EndsRun s (stopped f) old new = Ends s f old new
+EndsRun s unflushed old new = Done s old new ⊎ ((f : SimFault) × Ends s f old new)
+EndsRun s _ old new = ⊥
+
+-- how a run ends of files: one is not read and nothing written, or the run ends over what was read
+abbrev pub EndsFiles : Run → Ending → Option (List ℕ) → Option (List ℕ) → Type 0
+EndsFiles run (unread path why) old new = ((path ≡ run.table) ⊎ (path ≡ run.script)) × Keeps old new
+EndsFiles run ending old new =
+    (inittab script : List ℕ) × EndsRun (scenario run.level inittab script) ending old new
+
+-- how a command line ends that was read
+abbrev pub EndsSaid : Said → Ending → Option (List ℕ) → Option (List ℕ) → Type 0
+EndsSaid (runs run) ending old new = EndsFiles run ending old new
+EndsSaid (judges path) ending old new = EndsCheck path ending old new
+
+-- how words end: they are no command line or want memory, and nothing is written, or they end by what they say
+abbrev pub EndsBy : List (List ℕ) → Ending → Option (List ℕ) → Option (List ℕ) → Type 0
+EndsBy words usage old new = (read_of words ≡ None) × Keeps old new
+EndsBy words no_memory old new = Keeps old new
+EndsBy words ending old new = (said : Said) × (read_of words ≡ Some said) × EndsSaid said ending old new
+

@@ -1,0 +1,73 @@
+ghost use Rattle.std.specs.Prelude.{◌≡◌, ℕ, List, OnErr, string_bytes, IfOk};
+ghost use Rattle.program_edge.specs.Writing.{AppendsPrefix};
+ghost use Rattle.initd_command.specs.Endings.{ReportsText, fault_message, fault_status, file_message};
+
+use program_edge::{DEVICE_FAULT, REFUSED, write_text};
+use std::alloc::AllocError;
+use std::alloc::Global;
+use std::io;
+use std::io::Write;
+use supervisor::SimFault;
+
+/// What is reported where memory runs out, also for the message itself.
+pub(crate) const NO_MEMORY: &str = "initd: out of memory\n";
+
+/// Reports a fault of a run, and gives the exit status.
+pub(crate) fn report_fault<E: Write>(alloc: Global, fault: &SimFault, err: &mut E) -> u8
+    ensures status { result ≡ fault_status fault.now }
+    ensures reported { ReportsText (fault_message fault.now) (E.contents err.old) (E.contents err.new) }
+{
+    report_made(format!(in alloc; "initd: {fault}\n"), err);
+    match fault {
+        SimFault::Table | SimFault::Script(_) | SimFault::Forbidden(_) => REFUSED,
+        SimFault::Write | SimFault::Memory => DEVICE_FAULT,
+    }
+}
+
+/// Reports that a file was not read, and gives the exit status.
+pub(crate) fn report_unread<E: Write>(alloc: Global, path: &str, error: &io::Error, err: &mut E) -> u8
+    ensures status { result ≡ DEVICE_FAULT }
+    ensures reported { (why : List ℕ)
+        × ReportsText (file_message path.now why) (E.contents err.old) (E.contents err.new) }
+{
+    report_made(unread_message(alloc, path, error), err);
+    DEVICE_FAULT
+}
+
+fn unread_message(alloc: Global, path: &str, error: &io::Error) -> Result<String, AllocError>
+    ensures { IfOk result (λ text. (why : List ℕ) × (string_bytes text ≡ file_message path.now why)) }
+{
+    let why = format!(in alloc; "{error}")?;
+    message_with(alloc, path, why.as_str())
+}
+
+fn message_with(alloc: Global, path: &str, why: &str) -> Result<String, AllocError>
+    ensures { IfOk result (λ text. string_bytes text ≡ file_message path.now why.now) }
+{
+    format!(in alloc; "initd: cannot read {path}: {why}\n")
+}
+
+/// Reports a message that was made, or that there was no memory to make it.
+pub(crate) fn report_made<E: Write>(message: Result<String, AllocError>, err: &mut E)
+    ensures made { IfOk message (λ text. AppendsPrefix (E.contents err.old) (E.contents err.new) (string_bytes text)) }
+    ensures unmade { OnErr message (AppendsPrefix (E.contents err.old) (E.contents err.new) NO_MEMORY.now) }
+{
+    match &message {
+        Ok(text) => report(text.as_str(), err),
+        Err(_) => report(NO_MEMORY, err),
+    }
+}
+
+/// Writes a text as far as the writer takes it.
+pub(crate) fn report<E: Write>(text: &str, err: &mut E)
+    ensures { AppendsPrefix (E.contents err.old) (E.contents err.new) text.now }
+{
+    report_bytes(text.as_bytes(), err);
+}
+
+/// The same of bytes.
+pub(crate) fn report_bytes<E: Write>(text: &[u8], err: &mut E)
+    ensures { AppendsPrefix (E.contents err.old) (E.contents err.new) text.now }
+{
+    let _ = write_text(err, text);
+}

@@ -1,0 +1,99 @@
+-- The child of an id among children of which at most one has the id.
+use Rattle.std.proofs.Common.{◌≡◌, refl, sym, ◌∙◌, ap, subst, ℕ, Bool, true, false, not, ◌&&◌, ◌||◌, cond, List, [], ◌∷◌, filter, find, Option, Some, None, is_some}
+use Rattle.std.specs.List.{list_any}
+use Rattle.std.specs.Option.{option_map, option_map_or}
+use Rattle.std.proofs.lemmas.Bool.{false≢true, and_parts, or_left, or_right, not-true}
+use Rattle.std.proofs.lemmas.Option.{none-some, same_Some}
+use Rattle.init_trace.specs.Event.{Event}
+use Rattle.init_trace.specs.Past.{Child, is_of, unreaped_children}
+use Rattle.init_words.proofs.Same.{same_id-is}
+use Rattle.init_words.proofs.Tests.{falsely, not_from, or_false, any_less, any_filtered, find_none}
+
+-- the youngest unreaped child of an id
+abbrev pub child_of : List ℕ → List Event → Option Child
+child_of id past = find (is_of id) (unreaped_children past)
+
+-- a test that fails adds nothing
+pub or_none : (a b : Bool) → b ≡ false → (a || b) ≡ a
+or_none a b none = ap (λ c. a || c) none ∙ or_false a
+
+-- what is found passes
+pub found_passes : {X : Type 0} (p : X → Bool) (xs : List X) (x : X) → find p xs ≡ Some x → p x ≡ true
+found_passes p [] x h = absurd (none-some x h)
+found_passes {X} p (y ∷ xs) x h = split (p y) refl (found_passes p xs x) h where
+  split : (b : Bool) → p y ≡ b → (find p xs ≡ Some x → p x ≡ true) → cond b (Some y) (find p xs) ≡ Some x → p x ≡ true
+  split true passes rest h = ap p (sym (same_Some y x h)) ∙ passes
+  split false fails rest h = rest h
+
+-- one is found exactly where one passes
+pub found_any : {X Y : Type 0} (f : X → Y) (p : X → Bool) (xs : List X) → is_some (option_map f (find p xs)) ≡ list_any p xs
+found_any f p [] = refl
+found_any {X} f p (x ∷ xs) = split (p x) (found_any f p xs) where
+  split : (b : Bool) → is_some (option_map f (find p xs)) ≡ list_any p xs → is_some (option_map f (cond b (Some x) (find p xs))) ≡ (b || list_any p xs)
+  split true rest = refl
+  split false rest = rest
+
+-- what the one that is found passes, one passes
+pub found_test : {X : Type 0} (p q : X → Bool) (xs : List X) → option_map_or q (find p xs) false ≡ true → list_any q xs ≡ true
+found_test p q [] h = h
+found_test {X} p q (x ∷ xs) h = split (p x) (found_test p q xs) h where
+  split : (b : Bool) → (option_map_or q (find p xs) false ≡ true → list_any q xs ≡ true) → option_map_or q (cond b (Some x) (find p xs)) false ≡ true → (q x || list_any q xs) ≡ true
+  split true rest h = or_left (q x) (list_any q xs) h
+  split false rest h = or_right (q x) (list_any q xs) (rest h)
+
+-- what holds of no child, and of each child at its own id, holds of the child of an id
+pub by_child : (P : List ℕ → Option Child → Type 0) → ((id : List ℕ) → P id None) → ((child : Child) → P child.id (Some child)) → (id : List ℕ) (past : List Event) → P id (child_of id past)
+by_child P none some id past = split (child_of id past) refl where
+  split : (o : Option Child) → child_of id past ≡ o → P id o
+  split None is = none id
+  split (Some child) is = subst (λ x. P x (Some child)) (sym (same_id-is id child.id (found_passes (is_of id) (unreaped_children past) child is))) (some child)
+
+-- at most one passes
+abbrev pub is_lone : (Child → Bool) → List Child → Bool
+is_lone p [] = true
+is_lone p (x ∷ xs) = cond (p x) (not (list_any p xs)) (is_lone p xs)
+
+lone_none : (p : Child → Bool) (xs : List Child) → list_any p xs ≡ false → is_lone p xs ≡ true
+lone_none p [] h = refl
+lone_none p (x ∷ xs) h = split (p x) (lone_none p xs) h where
+  split : (b : Bool) → (list_any p xs ≡ false → is_lone p xs ≡ true) → (b || list_any p xs) ≡ false → cond b (not (list_any p xs)) (is_lone p xs) ≡ true
+  split true rest h = absurd (false≢true (sym h))
+  split false rest h = rest h
+
+-- of those that are left at most one passes
+pub lone_filter : (p q : Child → Bool) (xs : List Child) → is_lone p xs ≡ true → is_lone p (filter q xs) ≡ true
+lone_filter p q [] h = refl
+lone_filter p q (x ∷ xs) h = split (p x) (q x) refl (lone_filter p q xs) h where
+  gone : not (list_any p xs) ≡ true → list_any p (filter q xs) ≡ false
+  gone none = falsely (list_any p (filter q xs)) (list_any p xs) (any_filtered p q xs) (not-true (list_any p xs) none)
+
+  split : (b c : Bool) → p x ≡ b → (is_lone p xs ≡ true → is_lone p (filter q xs) ≡ true) → cond b (not (list_any p xs)) (is_lone p xs) ≡ true → is_lone p (cond c (x ∷ filter q xs) (filter q xs)) ≡ true
+  split true true is rest h = rw is (not_from (list_any p (filter q xs)) (gone h))
+  split true false is rest h = lone_none p (filter q xs) (gone h)
+  split false true is rest h = rw is (rest h)
+  split false false is rest h = rest h
+
+-- what is found, if it is left
+abbrev pub left_if : (Child → Bool) → Option Child → Option Child
+left_if q None = None
+left_if q (Some x) = cond (q x) (Some x) None
+
+pub lone_left : (p q : Child → Bool) (xs : List Child) → is_lone p xs ≡ true → find p (filter q xs) ≡ left_if q (find p xs)
+lone_left p q [] h = refl
+lone_left p q (x ∷ xs) h = split (p x) (q x) refl refl (lone_left p q xs) h where
+  gone : not (list_any p xs) ≡ true → list_any p (filter q xs) ≡ false
+  gone none = falsely (list_any p (filter q xs)) (list_any p xs) (any_filtered p q xs) (not-true (list_any p xs) none)
+
+  split : (b c : Bool) → p x ≡ b → q x ≡ c → (is_lone p xs ≡ true → find p (filter q xs) ≡ left_if q (find p xs)) → cond b (not (list_any p xs)) (is_lone p xs) ≡ true → find p (cond c (x ∷ filter q xs) (filter q xs)) ≡ left_if q (cond b (Some x) (find p xs))
+  split true true is own rest h = rw (is, own) refl
+  split true false is own rest h = rw own (find_none p (filter q xs) (gone h))
+  split false true is own rest h = rw is (rest h)
+  split false false is own rest h = rest h
+
+-- whether the only one that passes p passes q too is told by the one that is found
+pub lone_any : (p q : Child → Bool) (xs : List Child) → is_lone p xs ≡ true → list_any (λ x. p x && q x) xs ≡ option_map_or q (find p xs) false
+lone_any p q [] h = refl
+lone_any p q (x ∷ xs) h = split (p x) (lone_any p q xs) h where
+  split : (b : Bool) → (is_lone p xs ≡ true → list_any (λ y. p y && q y) xs ≡ option_map_or q (find p xs) false) → cond b (not (list_any p xs)) (is_lone p xs) ≡ true → (b && q x || list_any (λ y. p y && q y) xs) ≡ option_map_or q (cond b (Some x) (find p xs)) false
+  split true rest h = or_none (q x) (list_any (λ y. p y && q y) xs) (falsely (list_any (λ y. p y && q y) xs) (list_any p xs) (any_less (λ y. p y && q y) p (λ y both. (and_parts (p y) (q y) both).0) xs) (not-true (list_any p xs) h))
+  split false rest h = rest h

@@ -1,0 +1,157 @@
+-- The law that a happening breaks by the state is the one that it breaks by the past.
+use Rattle.std.proofs.Common.{◌≡◌, ◌+◌, ◌-◌, refl, sym, ◌∙◌, ap, ℕ, Bool, true, false, not, ◌&&◌, ◌||◌, cond, nat_le, nat_lt, List, slice_get, take, Option, Some, None, is_some}
+use Rattle.std.specs.List.{list_any, list_all}
+use Rattle.std.specs.Map.{keys_of}
+use Rattle.std.specs.Option.{option_map, option_map_or}
+use Rattle.std.proofs.lemmas.Bool.{and_from}
+use Rattle.std.proofs.lemmas.Map.Made.{is_some-lookup}
+use Rattle.respawn_limit.specs.declared.TheConstants.{HOLD, STARTS, WINDOW}
+use Rattle.init_words.specs.declared.entries.Entry.{Entry}
+use Rattle.init_words.specs.declared.levels.Level.{Level}
+use Rattle.init_words.specs.declared.levels.Mark.TheVariants.{At}
+use Rattle.init_words.specs.declared.orders.Ask.TheVariants.{Start, Term, Kill}
+use Rattle.init_words.specs.Ids.{same_id}
+use Rattle.init_words.specs.Levels.{names}
+use Rattle.init_words.specs.Actions.{served_by}
+use Rattle.inittab_text.specs.Tables.{entry_of}
+use Rattle.init_trace.specs.declared.happenings.Happening.TheVariants.{Asked, Hold, Settle, Birth}
+use Rattle.init_trace.specs.Event.{Event}
+use Rattle.init_trace.specs.Past.{table_of, stage_of, grace_of, time_of, Child, is_of, has_child, unreaped_children}
+use Rattle.init_trace.specs.Wanted.{starts_in, is_asked, is_called, is_owed, is_excluded, may_live}
+use Rattle.init_trace.specs.Wishes.{is_level}
+use Rattle.init_trace.specs.Spells.{is_ripe, spell_hits}
+use Rattle.init_trace.specs.Timing.{start_times, hold_times, is_held, is_full}
+use Rattle.init_trace.specs.Due.{is_served, is_settled}
+use Rattle.init_trace.specs.Lawful.{is_placed, is_in_turn, is_limited_id, is_free, is_due_hold, may_term, may_kill, broken}
+use Rattle.init_words.proofs.Same.{same_id-is, same_id-self}
+use Rattle.init_words.proofs.Tests.{same_tests, any_less, any_same, Passing, passing}
+use Rattle.trace_check.specs.declared.parts.Living.{Living}
+use Rattle.trace_check.specs.State.{State, at, among}
+use Rattle.trace_check.specs.Flaws.{is_alive, is_excluded_in, none_excluded_in, is_placed_in, is_owed_in, is_in_turn_in, is_held_in, is_full_in, is_free_in, is_due_hold_in, is_served_in, is_settled_in, is_over_in, may_kill_in, flaw_in}
+use Rattle.trace_check.proofs.Children.{child_of, found_any, found_test, by_child, lone_any}
+use Rattle.trace_check.proofs.Found.{found_all, found_before}
+use Rattle.trace_check.proofs.Reading.{living_of, least_term, term_of, newest, Reads}
+use Rattle.trace_check.proofs.Windows.{full_by_last, held_by_last}
+use Rattle.trace_check.proofs.Terms.{over_age, ripe_least}
+
+-- a TERM was told in the spell of the child, and the grace since is over
+abbrev is_ripe_child : List Event → Child → Bool
+is_ripe_child past child = list_any (is_ripe (grace_of past) (time_of past)) (spell_hits child past)
+
+module _ (s : State) (past : List Event) (r : Reads s past) where
+  pub alive : (id : List ℕ) → is_alive s id ≡ has_child id (unreaped_children past)
+  alive id = ap is_some (r.children id) ∙ found_any living_of (is_of id) (unreaped_children past)
+
+  -- the child of an id is excluded by the state where it is by the past
+  excluded : (id : List ℕ) → is_excluded_in (table_of past) s id ≡ option_map_or (is_excluded past) (child_of id past) false
+  excluded id = by_child (λ x o. at x s.children ≡ option_map living_of o → is_excluded_in (table_of past) s x ≡ option_map_or (is_excluded past) o false) (λ x is. ap (test x) is)
+      (λ c is. ap (test c.id) is ∙ ap (λ now. not (may_live (entry_of c.id (table_of past)) c.act now)) r.stage) id past (r.children id)
+    where
+      test : List ℕ → Option Living → Bool
+      test x o = option_map_or (λ living. not (may_live (entry_of x (table_of past)) living.act s.stage)) o false
+
+  -- an excluded child is found at a key, and the child of a key that is excluded is one
+  any_excluded : list_any (is_excluded_in (table_of past) s) (keys_of s.children) ≡ list_any (is_excluded past) (unreaped_children past)
+  any_excluded = same_tests (list_any (is_excluded_in (table_of past) s) (keys_of s.children)) (list_any (is_excluded past) (unreaped_children past)) (λ h. there (passing (is_excluded_in (table_of past) s) (keys_of s.children) h)) (λ h. back (passing (is_excluded past) (unreaped_children past) h)) where
+    there : Passing (is_excluded_in (table_of past) s) (keys_of s.children) → list_any (is_excluded past) (unreaped_children past) ≡ true
+    there key = found_test (is_of key.item) (is_excluded past) (unreaped_children past) (sym (excluded key.item) ∙ key.passes)
+
+    back : Passing (is_excluded past) (unreaped_children past) → list_any (is_excluded_in (table_of past) s) (keys_of s.children) ≡ true
+    back child =
+        let id : List ℕ = child.item.id in
+        let own : is_of id child.item ≡ true = same_id-self id in
+        let is : is_excluded_in (table_of past) s id ≡ true =
+        excluded id ∙ sym (lone_any (is_of id) (is_excluded past) (unreaped_children past) (r.lone id))
+        ∙ child.within (λ c. is_of id c && is_excluded past c) (and_from (is_of id child.item) (is_excluded past child.item) own child.passes) in
+        let key : list_any (same_id id) (keys_of s.children) ≡ true =
+        sym (is_some-lookup (same_id id) s.children) ∙ alive id ∙ child.within (is_of id) own in
+        any_less (same_id id) (is_excluded_in (table_of past) s) (λ k same. ap (is_excluded_in (table_of past) s) (sym (same_id-is id k same)) ∙ is) (keys_of s.children) key
+
+  placed : (id : List ℕ) → is_placed_in (table_of past) s id ≡ is_placed id past
+  placed id = ap (λ now. option_map_or (λ e. starts_in e now) (entry_of id (table_of past)) false) r.stage
+
+  -- the entry that is found for its id is owed
+  called : (e : Entry) → entry_of e.id (table_of past) ≡ Some e → among e.id s.called ≡ is_called e past
+  called e found = r.called e.id ∙ ap (λ o. option_map_or (λ x. is_called x past) o false) found
+
+  owed : (e : Entry) → entry_of e.id (table_of past) ≡ Some e → is_owed_in s e ≡ is_owed e past
+  owed e found = rw (r.kept e.id, r.orders e.id, r.asked e.id, r.stage, called e found) refl
+
+  in_turn : (id : List ℕ) → is_in_turn_in (table_of past) s id ≡ is_in_turn id past
+  in_turn id = ap not (found_before (is_owed_in s) (λ e. is_owed e past) id (table_of past) r.distinct owed)
+
+  held : (id : List ℕ) → is_held_in s id ≡ is_held id past
+  held id = ap (λ o. option_map_or (λ began. nat_lt (s.time - began) HOLD) o false) (r.holds id) ∙ ap (λ now. option_map_or (λ began. nat_lt (now - began) HOLD) (newest (hold_times id past)) false) r.time ∙ held_by_last id past
+
+  full : (id : List ℕ) → is_full_in s id ≡ is_full id past
+  full id = ap (λ ts. option_map_or (λ started. nat_lt (s.time - started) WINDOW) (slice_get ts (STARTS - 1)) false) (r.starts id) ∙ ap (λ now. option_map_or (λ started. nat_lt (now - started) WINDOW) (slice_get (take STARTS (start_times id past)) (STARTS - 1)) false) r.time ∙ full_by_last id past
+
+  free : (id : List ℕ) → is_free_in (table_of past) s id ≡ is_free id past
+  free id = ap (λ b. not (is_limited_id id past) || not b && not (is_full_in s id)) (held id) ∙ ap (λ b. not (is_limited_id id past) || not (is_held id past) && not b) (full id)
+
+  due_hold : (id : List ℕ) → is_due_hold_in (table_of past) s id ≡ is_due_hold id past
+  due_hold id = ap (λ b. is_limited_id id past && not b && is_full_in s id) (held id) ∙ ap (λ b. is_limited_id id past && not (is_held id past) && b) (full id)
+
+  served : (level : Level) (e : Entry) → entry_of e.id (table_of past) ≡ Some e → is_served_in level s e ≡ is_served level (unreaped_children past) past e
+  served level e found =
+      ap (λ b. not b && rest (among e.id s.asked) (is_alive s e.id) (is_held_in s e.id)) (owed e found)
+      ∙ ap (λ b. not (is_owed e past) && rest b (is_alive s e.id) (is_held_in s e.id)) (r.asked e.id)
+      ∙ ap (λ b. not (is_owed e past) && rest (is_asked e.id past) b (is_held_in s e.id)) (alive e.id)
+      ∙ ap (λ b. not (is_owed e past) && rest (is_asked e.id past) (has_child e.id (unreaped_children past)) b) (held e.id)
+    where
+      rest : Bool → Bool → Bool → Bool
+      rest asked there held = not (names (At level) e.levels.items) || served_by e.act asked (there || held)
+
+  settled : (level : Level) → is_settled_in level (table_of past) s ≡ is_settled level (unreaped_children past) past
+  settled level =
+      ap (λ now. is_level level now && none_excluded_in (table_of past) s && list_all (is_served_in level s) (table_of past)) r.stage
+      ∙ ap (λ b. is_level level (stage_of past) && not b && list_all (is_served_in level s) (table_of past)) any_excluded
+      ∙ ap (λ b. is_level level (stage_of past) && not (list_any (is_excluded past) (unreaped_children past)) && b) (found_all (is_served_in level s) (is_served level (unreaped_children past) past) (table_of past) r.distinct (served level))
+
+  may_be_termed : (id : List ℕ) → is_excluded_in (table_of past) s id ≡ may_term id past
+  may_be_termed id = excluded id ∙ sym (lone_any (is_of id) (is_excluded past) (unreaped_children past) (r.lone id))
+
+  over : (id : List ℕ) → is_over_in s id ≡ option_map_or (is_ripe_child past) (child_of id past) false
+  over id = aged (r.termed id) ∙ by_child (λ x o. option_map_or (λ told. nat_le told s.time && nat_le s.grace (s.time - told)) (term_of past o) false ≡ option_map_or (is_ripe_child past) o false) (λ x. refl) child id past where
+    aged : at id s.termed ≡ term_of past (child_of id past) → is_over_in s id ≡ option_map_or (λ told. nat_le told s.time && nat_le s.grace (s.time - told)) (term_of past (child_of id past)) false
+    aged is = ap (λ o. option_map_or (λ told. nat_le told s.time && nat_le s.grace (s.time - told)) o false) is
+
+    sum : (o : Option ℕ) → option_map_or (λ told. nat_le told s.time && nat_le s.grace (s.time - told)) o false ≡ option_map_or (λ told. nat_le (told + s.grace) s.time) o false
+    sum None = refl
+    sum (Some told) = over_age s.grace s.time told
+
+    child : (c : Child) → option_map_or (λ told. nat_le told s.time && nat_le s.grace (s.time - told)) (least_term (spell_hits c past)) false ≡ is_ripe_child past c
+    child c =
+        let least : Option ℕ = least_term (spell_hits c past) in
+        sum least ∙ ap (λ grace. option_map_or (λ told. nat_le (told + grace) s.time) least false) r.grace
+        ∙ ap (λ now. option_map_or (λ told. nat_le (told + grace_of past) now) least false) r.time
+        ∙ sym (ripe_least (grace_of past) (time_of past) (spell_hits c past))
+
+  both_found : (p q : Child → Bool) (o : Option Child) → (option_map_or p o false && option_map_or q o false) ≡ option_map_or (λ c. p c && q c) o false
+  both_found p q None = refl
+  both_found p q (Some c) = refl
+
+  and_three : (a b c : Bool) → (a && (b && c)) ≡ (a && b && c)
+  and_three true b c = refl
+  and_three false b c = refl
+
+  may_be_killed : (id : List ℕ) → may_kill_in (table_of past) s id ≡ may_kill id past
+  may_be_killed id =
+      ap (λ b. b && is_over_in s id) (excluded id) ∙ ap (λ b. option_map_or (is_excluded past) (child_of id past) false && b) (over id)
+      ∙ both_found (is_excluded past) (is_ripe_child past) (child_of id past)
+      ∙ sym (lone_any (is_of id) (λ c. is_excluded past c && is_ripe_child past c) (unreaped_children past) (r.lone id))
+      ∙ any_same (λ c. is_of id c && (is_excluded past c && is_ripe_child past c)) (λ c. is_of id c && is_excluded past c && is_ripe_child past c) (λ c. and_three (is_of id c) (is_excluded past c) (is_ripe_child past c)) (unreaped_children past)
+
+  not_not : (b : Bool) (x y : Option ℕ) → cond b x y ≡ cond (not (not b)) x y
+  not_not true x y = refl
+  not_not false x y = refl
+
+  -- the flaw is the law that is broken
+  pub flaw_reads : (happening : Event) → flaw_in (table_of past) s happening ≡ broken happening past
+  flaw_reads (Birth id number) = rw (alive id, placed id, in_turn id, any_excluded) (not_not (has_child id (unreaped_children past)) _ _)
+  flaw_reads (Settle level) = ap (λ b. cond (not b) (Some 5) None) (settled level)
+  flaw_reads (Asked id Start) = ap (λ b. cond (not b) (Some 6) None) (free id)
+  flaw_reads (Hold id) = ap (λ b. cond (not b) (Some 6) None) (due_hold id)
+  flaw_reads (Asked id Term) = ap (λ b. cond (not b) (Some 7) None) (may_be_termed id)
+  flaw_reads (Asked id Kill) = ap (λ b. cond (not b) (Some 7) None) (may_be_killed id)
+  flaw_reads _ = refl

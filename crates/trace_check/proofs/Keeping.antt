@@ -1,0 +1,129 @@
+-- What a happening makes of each part of the state is what the longer past says.
+use Rattle.std.proofs.Common.{◌≡◌, refl, sym, ◌∙◌, ap, lit≤, ℕ, ◌-◌, Bool, true, false, not, ◌&&◌, ◌||◌, cond, List, [], ◌∷◌, ◌++◌, filter, take, take-take, Option, Some, None}
+use Rattle.std.specs.List.{list_any}
+use Rattle.std.specs.Option.{option_map_or}
+use Rattle.std.proofs.lemmas.Bool.{not_from_true}
+use Rattle.std.proofs.lemmas.List.Folds.{list_any-append}
+use Rattle.respawn_limit.specs.declared.TheConstants.{STARTS}
+use Rattle.init_words.specs.declared.entries.Entry.{Entry}
+use Rattle.init_words.specs.declared.orders.Ask.{Ask}
+use Rattle.init_words.specs.declared.orders.Ask.TheVariants.{Start, Term}
+use Rattle.init_words.specs.Ids.{same_id}
+use Rattle.inittab_text.specs.Tables.{has_id, entry_of, is_distinct}
+use Rattle.init_trace.specs.declared.happenings.Happening.TheVariants.{NewTable, Enter, Call, Power, Asked, Hold, Birth, Hit, Told, Clock}
+use Rattle.init_trace.specs.Event.{Event}
+use Rattle.init_trace.specs.Past.{table_of, stage_of, grace_of, time_of, Child, is_of, has_child, open_of, unreaped_children, kept_children}
+use Rattle.init_trace.specs.Wanted.{is_order, is_asked, is_called, starts_in}
+use Rattle.init_trace.specs.Spells.{untold_hits}
+use Rattle.init_trace.specs.Timing.{start_times, hold_times}
+use Rattle.init_words.proofs.Same.{same_id-is, same_id-apart}
+use Rattle.init_words.proofs.Tests.{not_from, or_false, and_false, any_within, any_without}
+use Rattle.trace_check.specs.After.{table_after, stage_after, grace_after, time_after, order_after, kept_after, is_changed, asked_after, is_named, called_after, sent_after, starts_after, hold_after}
+use Rattle.trace_check.proofs.Children.{found_passes}
+use Rattle.trace_check.proofs.Found.{entry_any, id_any}
+use Rattle.trace_check.proofs.Reading.{calls_of, has_sent, newest}
+
+pub table_step : (happening : Event) (past : List Event) → table_after happening (table_of past) ≡ table_of (happening ∷ past)
+table_step (NewTable table) past = refl
+table_step _ past = refl
+
+pub stage_step : (happening : Event) (past : List Event) → stage_after happening (stage_of past) ≡ stage_of (happening ∷ past)
+stage_step (Enter stage grace) past = refl
+stage_step _ past = refl
+
+pub grace_step : (happening : Event) (past : List Event) → grace_after happening (grace_of past) ≡ grace_of (happening ∷ past)
+grace_step (Enter stage grace) past = refl
+grace_step _ past = refl
+
+pub time_step : (happening : Event) (past : List Event) → time_after happening (time_of past) ≡ time_of (happening ∷ past)
+time_step (Clock reading) past = refl
+time_step _ past = refl
+
+pub order_step : (happening : Event) (id : List ℕ) (past : List Event) → order_after happening id (open_of id past) ≡ open_of id (happening ∷ past)
+order_step (Asked i ask) id past = refl
+order_step (Told i) id past = refl
+order_step _ id past = refl
+
+-- a Told makes the kept children of its id the unreaped ones
+told_kept : (id i : List ℕ) (unreaped kept : List Child) → cond (same_id id i) (has_child i unreaped) (has_child id kept) ≡ has_child id (filter (is_of i) unreaped ++ filter (λ child. not (is_of i child)) kept)
+told_kept id i unreaped kept = split (same_id id i) refl ∙ sym (list_any-append (is_of id) (filter (is_of i) unreaped) (filter others kept)) where
+  others : Child → Bool
+  others child = not (is_of i child)
+
+  split : (b : Bool) → same_id id i ≡ b → cond b (has_child i unreaped) (has_child id kept) ≡ (list_any (is_of id) (filter (is_of i) unreaped) || list_any (is_of id) (filter others kept))
+  split true same =
+      let is : id ≡ i = same_id-is id i same in
+      let own : has_child i unreaped ≡ (list_any (is_of i) (filter (is_of i) unreaped) || list_any (is_of i) (filter others kept)) =
+      sym (or_false (has_child i unreaped)) ∙ ap (λ b. has_child i unreaped || b) (sym (any_without (is_of i) others (λ child here. not_from_true (is_of i child) here) kept))
+      ∙ ap (λ b. b || list_any (is_of i) (filter others kept)) (sym (any_within (is_of i) (is_of i) (λ child here. here) unreaped)) in
+      own ∙ ap (λ x. list_any (is_of x) (filter (is_of i) unreaped) || list_any (is_of x) (filter others kept)) (sym is)
+  split false differ =
+      sym (any_within (is_of id) others (λ child here. not_from (is_of i child) (same_id-apart id i child.id differ here)) kept)
+      ∙ ap (λ b. b || list_any (is_of id) (filter others kept)) (sym (any_without (is_of id) (is_of i) (λ child here. same_id-apart id i child.id differ here) unreaped))
+
+pub kept_step : (is_alive : List ℕ → Bool) (happening : Event) (id : List ℕ) (past : List Event) → ((i : List ℕ) → is_alive i ≡ has_child i (unreaped_children past)) → kept_after is_alive happening id (has_child id (kept_children past)) ≡ has_child id (kept_children (happening ∷ past))
+kept_step is_alive (Birth i n) id past alive = refl
+kept_step is_alive (Told i) id past alive = ap (λ b. cond (same_id id i) b (has_child id (kept_children past))) (alive i) ∙ told_kept id i (unreaped_children past) (kept_children past)
+kept_step is_alive _ id past alive = refl
+
+pub asked_step : (happening : Event) (id : List ℕ) (past : List Event) → asked_after (table_of past) happening id (is_asked id past) ≡ is_asked id (happening ∷ past)
+asked_step (Enter stage grace) id past = refl
+asked_step (NewTable table) id past = ap (λ b. not b && is_asked id past) (id_any id (λ i. is_changed i table (table_of past)) table)
+asked_step (Asked i Start) id past = refl
+asked_step _ id past = refl
+
+never : (o : Option Entry) → false ≡ option_map_or (λ (e : Entry). false) o false
+never None = refl
+never (Some e) = refl
+
+-- an entry that is named, or was called before
+named_or : (q r : Entry → Bool) (o : Option Entry) → (option_map_or q o false || option_map_or r o false) ≡ option_map_or (λ e. q e || r e) o false
+named_or q r None = refl
+named_or q r (Some e) = refl
+
+-- a Start of an id ends the call of its entry
+start_ends : (id i : List ℕ) (r : Entry → Bool) (table : List Entry) → (not (same_id id i) && option_map_or r (entry_of id table) false) ≡ option_map_or (λ e. not (same_id e.id i) && r e) (entry_of id table) false
+start_ends id i r table = split (entry_of id table) refl where
+  split : (o : Option Entry) → entry_of id table ≡ o → (not (same_id id i) && option_map_or r o false) ≡ option_map_or (λ e. not (same_id e.id i) && r e) o false
+  split None is = and_false (not (same_id id i))
+  split (Some e) is = ap (λ x. not (same_id x i) && r e) (same_id-is id e.id (found_passes (has_id id) table e is))
+
+pub called_step : (happening : Event) (id : List ℕ) (past : List Event) → is_distinct (table_of past) ≡ true → called_after (table_of past) (stage_of past) happening id (calls_of id past) ≡ calls_of id (happening ∷ past)
+called_step (Enter stage grace) id past distinct = never (entry_of id (table_of past))
+called_step (NewTable table) id past distinct = never (entry_of id table)
+called_step (Power kind) id past distinct = ap (λ b. b || calls_of id past) (entry_any id (λ e. is_named (Power kind) e && starts_in e (stage_of past)) (table_of past) distinct) ∙ named_or (λ e. is_named (Power kind) e && starts_in e (stage_of past)) (λ e. is_called e past) (entry_of id (table_of past))
+called_step (Call letter) id past distinct = ap (λ b. b || calls_of id past) (entry_any id (λ e. is_named (Call letter) e && starts_in e (stage_of past)) (table_of past) distinct) ∙ named_or (λ e. is_named (Call letter) e && starts_in e (stage_of past)) (λ e. is_called e past) (entry_of id (table_of past))
+called_step (Asked i Start) id past distinct = start_ends id i (λ e. is_called e past) (table_of past)
+called_step _ id past distinct = refl
+
+-- the Hits that are not told, where an id's are forgotten, or one is added
+forgotten : (b : Bool) (hits : List (Option Ask)) → (not b && list_any (is_order Term) hits) ≡ list_any (is_order Term) (cond b [] hits)
+forgotten true hits = refl
+forgotten false hits = refl
+
+pub sent_step : (open_order : List ℕ → Option Ask) (happening : Event) (id : List ℕ) (past : List Event) → ((i : List ℕ) → open_order i ≡ open_of i past) → sent_after open_order happening id (has_sent id past) ≡ has_sent id (happening ∷ past)
+sent_step open_order (Birth i n) id past orders = forgotten (same_id id i) (untold_hits id past)
+sent_step open_order (Told i) id past orders = forgotten (same_id id i) (untold_hits id past)
+sent_step open_order (Hit i) id past orders = split (same_id id i) refl where
+  split : (b : Bool) → same_id id i ≡ b → (b && is_order Term (open_order i) || has_sent id past) ≡ list_any (is_order Term) (cond b (open_of id past ∷ untold_hits id past) (untold_hits id past))
+  split true same = ap (λ o. is_order Term o || has_sent id past) (orders i ∙ ap (λ x. open_of x past) (sym (same_id-is id i same)))
+  split false differ = refl
+sent_step open_order _ id past orders = refl
+
+pub starts_step : (happening : Event) (id : List ℕ) (past : List Event) → starts_after (time_of past) happening id (take STARTS (start_times id past)) ≡ take STARTS (start_times id (happening ∷ past))
+starts_step (NewTable table) id past = refl
+starts_step (Enter stage grace) id past = refl
+starts_step (Asked i Start) id past = split (same_id id i) where
+  split : (b : Bool) → cond b (time_of past ∷ take (STARTS - 1) (take STARTS (start_times id past))) (take STARTS (start_times id past)) ≡ take STARTS (cond b (time_of past ∷ start_times id past) (start_times id past))
+  split true = ap (λ ts. time_of past ∷ ts) (take-take 9 10 (start_times id past) (lit≤ tt))
+  split false = refl
+starts_step _ id past = refl
+
+pub hold_step : (happening : Event) (id : List ℕ) (past : List Event) → hold_after (time_of past) happening id (newest (hold_times id past)) ≡ newest (hold_times id (happening ∷ past))
+hold_step (NewTable table) id past = refl
+hold_step (Enter stage grace) id past = refl
+hold_step (Hold i) id past = split (same_id id i) where
+  split : (b : Bool) → cond b (Some (time_of past)) (newest (hold_times id past)) ≡ newest (cond b (time_of past ∷ hold_times id past) (hold_times id past))
+  split true = refl
+  split false = refl
+hold_step _ id past = refl

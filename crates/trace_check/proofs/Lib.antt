@@ -1,0 +1,12 @@
+pub mod Walks
+pub mod Lookups
+pub mod Children
+pub mod Found
+pub mod Reading
+pub mod Windows
+pub mod Terms
+pub mod Keeping
+pub mod Bearing
+pub mod Judging
+pub mod Passing
+mod Rows

@@ -1,0 +1,80 @@
+-- Traces, the oldest happening first, each with its first breach: `refl` computes them.
+use Rattle.std.proofs.Common.{◌≡◌, refl, ℕ, List, [], ◌∷◌, ◌++◌, reverse, replicate, codes, Option, Some, None}
+use Rattle.init_words.specs.declared.entries.Entry.{Entry}
+use Rattle.init_words.specs.declared.actions.Act.{Act}
+use Rattle.init_words.specs.declared.actions.Act.TheVariants as act
+use Rattle.init_words.specs.declared.levels.Level.{Level}
+use Rattle.init_words.specs.declared.levels.Level.TheVariants as level
+use Rattle.init_words.specs.declared.levels.Mark.TheVariants.{At}
+use Rattle.init_words.specs.declared.stages.Stage.TheVariants.{Run}
+use Rattle.init_words.specs.declared.orders.Ask.TheVariants.{Start, Term, Kill}
+use Rattle.init_trace.specs.declared.happenings.Happening.TheVariants.{NewTable, Enter, Asked, Hold, Settle, Birth, Hit, Told, Clock}
+use Rattle.init_trace.specs.Event.{Event}
+use Rattle.init_trace.specs.Lawful.{Fault, first_breach}
+
+abbrev entry : List ℕ → Level → Act → Entry
+entry id at action = record { id = id; levels = record { items = At at ∷ [] }; act = action; process = record { items = codes "x" } }
+
+abbrev enter : Level → Event
+enter at = Enter (Run at) 5
+
+abbrev breach : ℕ → ℕ → Option Fault
+breach place law = Some (record { place = place; law = law })
+
+abbrev first_of : List Event → Option Fault
+first_of trace = first_breach (reverse trace)
+
+nothing : first_of [] ≡ None
+nothing = refl
+
+-- a level settled before anything
+settled_at_once : first_of (Settle level.L3 ∷ []) ≡ breach 0 5
+settled_at_once = refl
+
+-- a birth before anything
+born_at_once : first_of (Birth (codes "a") 1 ∷ []) ≡ breach 0 2
+born_at_once = refl
+
+-- a hold of an entry that the limit does not hold for
+once_held : first_of (NewTable (entry (codes "a") level.L3 act.Once ∷ []) ∷ Hold (codes "a") ∷ []) ≡ breach 1 6
+once_held = refl
+
+-- a KILL to nobody
+nobody_killed : first_of (NewTable (entry (codes "a") level.L3 act.Respawn ∷ []) ∷ enter level.L3 ∷ Asked (codes "a") Kill ∷ []) ≡ breach 2 7
+nobody_killed = refl
+
+-- a birth while an excluded child lives
+started_past_forerunner : first_of (NewTable (entry (codes "a") level.L3 act.Once ∷ entry (codes "b") level.L1 act.Once ∷ []) ∷ enter level.L3 ∷ Asked (codes "a") Start ∷ Birth (codes "a") 10 ∷ Told (codes "a") ∷ enter level.L1 ∷ Asked (codes "b") Start ∷ Birth (codes "b") 11 ∷ []) ≡ breach 7 4
+started_past_forerunner = refl
+
+-- a second child of an id, which starts in no stage, while an excluded one lives: the least law
+second_child : first_of (NewTable (entry (codes "a") level.L3 act.Respawn ∷ []) ∷ enter level.L3 ∷ Birth (codes "a") 1 ∷ enter level.L1 ∷ Birth (codes "a") 2 ∷ []) ≡ breach 4 1
+second_child = refl
+
+-- a birth before an earlier entry that init waits for
+out_of_turn : first_of (NewTable (entry (codes "w") level.L3 act.Wait ∷ entry (codes "r") level.L3 act.Respawn ∷ []) ∷ enter level.L3 ∷ Birth (codes "r") 1 ∷ []) ≡ breach 2 3
+out_of_turn = refl
+
+-- of two breaches the first
+first_of_two : first_of (Settle level.L3 ∷ Birth (codes "a") 1 ∷ []) ≡ breach 0 5
+first_of_two = refl
+
+-- a KILL before the grace is over
+killed_early : first_of (NewTable (entry (codes "a") level.L3 act.Respawn ∷ []) ∷ enter level.L3 ∷ Birth (codes "a") 1 ∷ enter level.L1 ∷ Asked (codes "a") Term ∷ Hit (codes "a") ∷ Told (codes "a") ∷ Clock 4 ∷ Asked (codes "a") Kill ∷ []) ≡ breach 8 7
+killed_early = refl
+
+-- a KILL after a TERM of an earlier spell
+killed_after_a_return : first_of (NewTable (entry (codes "a") level.L3 act.Respawn ∷ []) ∷ enter level.L3 ∷ Birth (codes "a") 1 ∷ enter level.L1 ∷ Asked (codes "a") Term ∷ Hit (codes "a") ∷ Told (codes "a") ∷ enter level.L3 ∷ enter level.L1 ∷ Clock 5 ∷ Asked (codes "a") Kill ∷ []) ≡ breach 10 7
+killed_after_a_return = refl
+
+-- and one after the grace
+killed_in_time : first_of (NewTable (entry (codes "a") level.L3 act.Respawn ∷ []) ∷ enter level.L3 ∷ Birth (codes "a") 1 ∷ enter level.L1 ∷ Asked (codes "a") Term ∷ Hit (codes "a") ∷ Told (codes "a") ∷ Clock 5 ∷ Asked (codes "a") Kill ∷ []) ≡ None
+killed_in_time = refl
+
+-- the eleventh start at once
+eleventh_start : first_of (NewTable (entry (codes "r") level.S act.Respawn ∷ []) ∷ enter level.S ∷ replicate 11 (Asked (codes "r") Start)) ≡ breach 12 6
+eleventh_start = refl
+
+-- and two minutes after the first
+eleventh_later : first_of (NewTable (entry (codes "r") level.S act.Respawn ∷ []) ∷ enter level.S ∷ replicate 10 (Asked (codes "r") Start) ++ Clock 120 ∷ Asked (codes "r") Start ∷ []) ≡ None
+eleventh_later = refl

@@ -1,0 +1,56 @@
+-- One more entry of a table that is walked.
+use Rattle.std.proofs.Common.{◌≡◌, refl, sym, ◌∙◌, ap, ℕ, ◌+◌, Bool, true, false, not, ◌&&◌, ◌||◌, cond, List, [], ◌∷◌, take, drop, slice_get, Some}
+use Rattle.std.specs.List.{list_any, list_all}
+use Rattle.std.proofs.lemmas.List.Folds.{list_any_more}
+use Rattle.std.proofs.lemmas.Option.{slice_get_within, get_or_from_slice_get}
+use Rattle.init_words.specs.declared.entries.Entry.{Entry}
+use Rattle.init_words.specs.Ids.{same_id}
+use Rattle.init_trace.specs.Wanted.{entries_before}
+use Rattle.inittab_text.proofs.Entries.{drop-slice_get}
+
+pub any_taken : {X : Type 0} (p : X → Bool) (xs : List X) (i : ℕ) (x : X) → slice_get xs i ≡ Some x → list_any p (take (i + 1) xs) ≡ (list_any p (take i xs) || p x)
+any_taken p xs i x is = list_any_more p xs i x (slice_get_within xs i x is) ∙ ap (λ y. list_any p (take i xs) || p y) (get_or_from_slice_get xs i x x is)
+
+or_turn : (a b c : Bool) → (b || (a || c)) ≡ (a || b || c)
+or_turn true true c = refl
+or_turn true false c = refl
+or_turn false b c = refl
+
+and_turn : (a b c : Bool) → (not b && (not a && c)) ≡ (not (a || b) && c)
+and_turn true true c = refl
+and_turn true false c = refl
+and_turn false b c = refl
+
+-- one more is added where the test holds
+pub one_added : {X : Type 0} (p : X → Bool) (xs : List X) (i : ℕ) (x : X) (was now first : Bool) → slice_get xs i ≡ Some x → now ≡ (p x || was) → was ≡ (list_any p (take i xs) || first) → now ≡ (list_any p (take (i + 1) xs) || first)
+one_added p xs i x was now first is step so_far = step ∙ ap (λ b. p x || b) so_far ∙ or_turn (list_any p (take i xs)) (p x) first ∙ ap (λ b. b || first) (sym (any_taken p xs i x is))
+
+-- one more is taken away where the test holds
+pub one_dropped : {X : Type 0} (p : X → Bool) (xs : List X) (i : ℕ) (x : X) (was now first : Bool) → slice_get xs i ≡ Some x → now ≡ (not (p x) && was) → was ≡ (not (list_any p (take i xs)) && first) → now ≡ (not (list_any p (take (i + 1) xs)) && first)
+one_dropped p xs i x was now first is step so_far = step ∙ ap (λ b. not (p x) && b) so_far ∙ and_turn (list_any p (take i xs)) (p x) first ∙ ap (λ b. not b && first) (sym (any_taken p xs i x is))
+
+-- a test of all that goes on, or fails
+all_step : {X : Type 0} (p : X → Bool) (xs : List X) (i : ℕ) (x : X) → slice_get xs i ≡ Some x → list_all p (drop i xs) ≡ (p x && list_all p (drop (i + 1) xs))
+all_step p xs i x is = ap (list_all p) (drop-slice_get xs i x is)
+
+pub all_next : {X : Type 0} (p : X → Bool) (xs : List X) (i : ℕ) (x : X) → slice_get xs i ≡ Some x → list_all p (drop i xs) ≡ list_all p xs → p x ≡ true → list_all p (drop (i + 1) xs) ≡ list_all p xs
+all_next p xs i x is so_far passes = sym (all_step p xs i x is ∙ ap (λ b. b && list_all p (drop (i + 1) xs)) passes) ∙ so_far
+
+pub all_stop : {X : Type 0} (p : X → Bool) (xs : List X) (i : ℕ) (x : X) → slice_get xs i ≡ Some x → list_all p (drop i xs) ≡ list_all p xs → p x ≡ false → false ≡ list_all p xs
+all_stop p xs i x is so_far fails = sym (all_step p xs i x is ∙ ap (λ b. b && list_all p (drop (i + 1) xs)) fails) ∙ so_far
+
+-- a test of the entries before an id's that goes on, comes to the id, or finds one
+before_step : (p : Entry → Bool) (id : List ℕ) (es : List Entry) (i : ℕ) (e : Entry) → slice_get es i ≡ Some e → list_any p (entries_before id (drop i es)) ≡ list_any p (cond (same_id id e.id) [] (e ∷ entries_before id (drop (i + 1) es)))
+before_step p id es i e is = ap (λ rest. list_any p (entries_before id rest)) (drop-slice_get es i e is)
+
+before_other : (p : Entry → Bool) (id : List ℕ) (es : List Entry) (i : ℕ) (e : Entry) → slice_get es i ≡ Some e → same_id id e.id ≡ false → list_any p (entries_before id (drop i es)) ≡ (p e || list_any p (entries_before id (drop (i + 1) es)))
+before_other p id es i e is differ = before_step p id es i e is ∙ ap (λ b. list_any p (cond b [] (e ∷ entries_before id (drop (i + 1) es)))) differ
+
+pub before_next : (p : Entry → Bool) (id : List ℕ) (es : List Entry) (i : ℕ) (e : Entry) → slice_get es i ≡ Some e → list_any p (entries_before id (drop i es)) ≡ list_any p (entries_before id es) → same_id id e.id ≡ false → p e ≡ false → list_any p (entries_before id (drop (i + 1) es)) ≡ list_any p (entries_before id es)
+before_next p id es i e is so_far differ fails = sym (before_other p id es i e is differ ∙ ap (λ b. b || list_any p (entries_before id (drop (i + 1) es))) fails) ∙ so_far
+
+pub before_end : (p : Entry → Bool) (id : List ℕ) (es : List Entry) (i : ℕ) (e : Entry) → slice_get es i ≡ Some e → list_any p (entries_before id (drop i es)) ≡ list_any p (entries_before id es) → same_id id e.id ≡ true → true ≡ not (list_any p (entries_before id es))
+before_end p id es i e is so_far same = ap not (sym (before_step p id es i e is ∙ ap (λ b. list_any p (cond b [] (e ∷ entries_before id (drop (i + 1) es)))) same) ∙ so_far)
+
+pub before_found : (p : Entry → Bool) (id : List ℕ) (es : List Entry) (i : ℕ) (e : Entry) → slice_get es i ≡ Some e → list_any p (entries_before id (drop i es)) ≡ list_any p (entries_before id es) → same_id id e.id ≡ false → p e ≡ true → false ≡ not (list_any p (entries_before id es))
+before_found p id es i e is so_far differ passes = ap not (sym (before_other p id es i e is differ ∙ ap (λ b. b || list_any p (entries_before id (drop (i + 1) es))) passes) ∙ so_far)

@@ -1,0 +1,109 @@
+-- The last ten starts and the last hold tell all that the limit asks of the past, since the time never falls.
+use Rattle.std.proofs.Common.{◌≡◌, ◌≤◌, ◌+◌, ◌-◌, refl, sym, ◌∙◌, ap, ℕ, Bool, true, false, ◌||◌, cond, max, min, nat_lt, nat_le, List, [], ◌∷◌, take, filter, length, slice_get, suc, zero, arith, le_trans, le_refl}
+use Rattle.std.specs.List.{list_any}
+use Rattle.std.specs.Option.{option_map_or}
+use Rattle.std.proofs.lemmas.Bool.{ltb-true, lt-ltb, ltb-false, le-ltb, or_left}
+use Rattle.std.proofs.lemmas.Bool.Decides.{nat_tests}
+use Rattle.respawn_limit.specs.declared.TheConstants.{HOLD, STARTS, WINDOW, CLOCK_LIMIT}
+use Rattle.init_words.specs.declared.orders.Ask.TheVariants.{Start}
+use Rattle.init_words.specs.Ids.{same_id}
+use Rattle.init_trace.specs.declared.happenings.Happening.TheVariants.{NewTable, Enter, Asked, Hold, Clock}
+use Rattle.init_trace.specs.Event.{Event}
+use Rattle.init_trace.specs.Past.{time_of}
+use Rattle.init_trace.specs.Timing.{start_times, hold_times, is_held, is_full}
+use Rattle.init_words.proofs.Tests.{same_tests, or_either}
+use Rattle.trace_check.proofs.Reading.{newest}
+
+-- times that fall, the first no later than a bound
+abbrev Falling : ℕ → List ℕ → Type 0
+Falling bound [] = Unit {0}
+Falling bound (t ∷ ts) = (t ≤ bound) × Falling t ts
+
+falls_below : (a b : ℕ) (ts : List ℕ) → a ≤ b → Falling a ts → Falling b ts
+falls_below a b [] le falls = tt
+falls_below a b (t ∷ ts) le falls = (le_trans falls.0 le, falls.1)
+
+one_more : (b : Bool) (now : ℕ) (ts : List ℕ) → Falling now ts → Falling now (cond b (now ∷ ts) ts)
+one_more true now ts falls = (le_refl now, falls)
+one_more false now ts falls = falls
+
+starts_fall : (id : List ℕ) (past : List Event) → Falling (time_of past) (start_times id past)
+starts_fall id [] = tt
+starts_fall id (NewTable table ∷ past) = tt
+starts_fall id (Enter stage grace ∷ past) = tt
+starts_fall id (Asked i Start ∷ past) = one_more (same_id id i) (time_of past) (start_times id past) (starts_fall id past)
+starts_fall id (Clock reading ∷ past) = falls_below (time_of past) (max (min reading CLOCK_LIMIT) (time_of past)) (start_times id past) (omega arith) (starts_fall id past)
+starts_fall id (_ ∷ past) = starts_fall id past
+
+holds_fall : (id : List ℕ) (past : List Event) → Falling (time_of past) (hold_times id past)
+holds_fall id [] = tt
+holds_fall id (NewTable table ∷ past) = tt
+holds_fall id (Enter stage grace ∷ past) = tt
+holds_fall id (Hold i ∷ past) = one_more (same_id id i) (time_of past) (hold_times id past) (holds_fall id past)
+holds_fall id (Clock reading ∷ past) = falls_below (time_of past) (max (min reading CLOCK_LIMIT) (time_of past)) (hold_times id past) (omega arith) (holds_fall id past)
+holds_fall id (_ ∷ past) = holds_fall id past
+
+-- a start is young where its age is below two minutes
+abbrev is_young : ℕ → ℕ → Bool
+is_young now started = nat_lt (now - started) WINDOW
+
+old_later : (now a b : ℕ) → b ≤ a → is_young now a ≡ false → is_young now b ≡ false
+old_later now a b le old = le-ltb (now - b) WINDOW (omega (arith, ltb-false (now - a) WINDOW old))
+
+-- behind an old one all are old
+none_young : (now a : ℕ) (ts : List ℕ) → is_young now a ≡ false → Falling a ts → filter (is_young now) ts ≡ []
+none_young now a [] old falls = refl
+none_young now a (t ∷ ts) old falls =
+    let this = old_later now a t falls.0 old in
+    ap (λ b. cond b (t ∷ filter (is_young now) ts) (filter (is_young now) ts)) this ∙ none_young now t ts this falls.1
+
+old_at : (now a n : ℕ) (ts : List ℕ) → is_young now a ≡ false → Falling a ts → option_map_or (is_young now) (slice_get ts n) false ≡ false
+old_at now a n [] old falls = refl
+old_at now a zero (t ∷ ts) old falls = old_later now a t falls.0 old
+old_at now a (suc n) (t ∷ ts) old falls = old_at now t n ts (old_later now a t falls.0 old) falls.1
+
+le_suc : (a b : ℕ) → nat_le (suc a) (suc b) ≡ nat_le a b
+le_suc a b = grind (arith, nat_tests)
+
+le_zero : (a : ℕ) → nat_le (suc a) 0 ≡ false
+le_zero a = grind (arith, nat_tests)
+
+le_one : (b : ℕ) → nat_le 1 (suc b) ≡ true
+le_one b = grind (arith, nat_tests)
+
+-- of falling times more than n are young exactly where that at n is
+pub many_young : (now bound n : ℕ) (ts : List ℕ) → Falling bound ts → nat_le (suc n) (length (filter (is_young now) ts)) ≡ option_map_or (is_young now) (slice_get ts n) false
+many_young now bound n [] falls = le_zero n
+many_young now bound n (t ∷ ts) falls = split (is_young now t) refl n (λ m. many_young now t m ts falls.1) where
+  split : (b : Bool) → is_young now t ≡ b → (k : ℕ) → ((m : ℕ) → nat_le (suc m) (length (filter (is_young now) ts)) ≡ option_map_or (is_young now) (slice_get ts m) false) → nat_le (suc k) (length (cond b (t ∷ filter (is_young now) ts) (filter (is_young now) ts))) ≡ option_map_or (is_young now) (slice_get (t ∷ ts) k) false
+  split true young zero rest = le_one (length (filter (is_young now) ts)) ∙ sym young
+  split true young (suc k) rest = le_suc (suc k) (length (filter (is_young now) ts)) ∙ rest k
+  split false old zero rest = ap (λ ys. nat_le 1 (length ys)) (none_young now t ts old falls.1) ∙ sym old
+  split false old (suc k) rest = ap (λ ys. nat_le (suc (suc k)) (length ys)) (none_young now t ts old falls.1) ∙ le_zero (suc k) ∙ sym (old_at now t k ts old falls.1)
+
+taken_at : {X : Type 0} (n : ℕ) (ts : List X) → slice_get (take (suc n) ts) n ≡ slice_get ts n
+taken_at n [] = refl
+taken_at zero (t ∷ ts) = refl
+taken_at (suc n) (t ∷ ts) = taken_at n ts
+
+-- the window is full exactly where the tenth last start is young
+pub full_by_last : (id : List ℕ) (past : List Event) → option_map_or (λ started. nat_lt (time_of past - started) WINDOW) (slice_get (take STARTS (start_times id past)) (STARTS - 1)) false ≡ is_full id past
+full_by_last id past = ap (λ o. option_map_or (is_young (time_of past)) o false) (taken_at 9 (start_times id past)) ∙ sym (many_young (time_of past) (time_of past) 9 (start_times id past) (starts_fall id past))
+
+-- a hold is in force exactly where the last one is
+in_force : (now began : ℕ) → nat_lt (now - began) HOLD ≡ nat_lt now (began + HOLD)
+in_force now began = grind (arith, nat_tests)
+
+later_holds : (now a b : ℕ) → b ≤ a → nat_lt now (b + HOLD) ≡ true → nat_lt now (a + HOLD) ≡ true
+later_holds now a b le h = lt-ltb now (a + HOLD) (omega (arith, ltb-true now (b + HOLD) h))
+
+first_holds : (now bound : ℕ) (ts : List ℕ) → Falling bound ts → list_any (λ began. nat_lt now (began + HOLD)) ts ≡ true → nat_lt now (bound + HOLD) ≡ true
+first_holds now bound [] falls h = absurd (cc)
+first_holds now bound (t ∷ ts) falls h = later_holds now bound t falls.0 (or_either (nat_lt now (t + HOLD)) (list_any (λ began. nat_lt now (began + HOLD)) ts) h (λ here. here) (λ later. first_holds now t ts falls.1 later))
+
+held_newest : (now bound : ℕ) (ts : List ℕ) → Falling bound ts → option_map_or (λ began. nat_lt (now - began) HOLD) (newest ts) false ≡ list_any (λ began. nat_lt now (began + HOLD)) ts
+held_newest now bound [] falls = refl
+held_newest now bound (t ∷ ts) falls = in_force now t ∙ same_tests (nat_lt now (t + HOLD)) (nat_lt now (t + HOLD) || list_any (λ began. nat_lt now (began + HOLD)) ts) (or_left (nat_lt now (t + HOLD)) (list_any (λ began. nat_lt now (began + HOLD)) ts)) (λ h. or_either (nat_lt now (t + HOLD)) (list_any (λ began. nat_lt now (began + HOLD)) ts) h (λ here. here) (first_holds now t ts falls.1))
+
+pub held_by_last : (id : List ℕ) (past : List Event) → option_map_or (λ began. nat_lt (time_of past - began) HOLD) (newest (hold_times id past)) false ≡ is_held id past
+held_by_last id past = held_newest (time_of past) (time_of past) (hold_times id past) (holds_fall id past)

@@ -1,0 +1,9 @@
+use Rattle.std.proofs.Common.{◌≡◌, drop}
+use Rattle.std.specs.List.{list_any}
+use Rattle.init_trace.specs.Wanted.{entries_before}
+use Rattle.trace_check.specs.Flaws.{is_owed_in}
+use Rattle.trace_check.proofs.judge.Judge.is_in_turn.Given as goal
+
+-- the answer is that of what is left
+abbrev pub invariant-loop-place : goal.invariant-loop-place
+invariant-loop-place g l = list_any (is_owed_in l.self) (entries_before l.id (drop l.place l.table)) ≡ list_any (is_owed_in l.self) (entries_before l.id l.table)

@@ -1,0 +1,10 @@
+use Rattle.std.proofs.Common.{◌≡◌, ℕ, not, ◌&&◌, List, take}
+use Rattle.std.specs.List.{list_any}
+use Rattle.inittab_text.specs.Tables.{has_id}
+use Rattle.trace_check.specs.State.{among}
+use Rattle.trace_check.specs.After.{is_changed}
+use Rattle.trace_check.proofs.parts.drop_brought.Given as goal
+
+-- what was asked before and is brought by no entry so far
+abbrev pub invariant-loop-place : goal.invariant-loop-place
+invariant-loop-place g l = (id : List ℕ) → among id l.asked.keys ≡ (not (list_any (λ e. has_id id e && is_changed e.id l.next l.before) (take l.place l.next)) && among id l.fn.asked.keys)

@@ -1,0 +1,139 @@
+-- What a happening makes of each part of the state, at each id by what was there before.
+use Rattle.std.specs.Prelude.{ℕ, Bool, false, not, ◌&&◌, ◌||◌, ◌-◌, ◌==◌, if◌then◌else◌, max, min, List, [], ◌∷◌, take, Option, Some, None}
+use Rattle.std.specs.Option.{option_map_or}
+use Rattle.std.specs.List.{list_any}
+use Rattle.respawn_limit.specs.declared.TheConstants.{CLOCK_LIMIT, STARTS}
+use Rattle.init_words.specs.declared.entries.Entry.{Entry}
+use Rattle.init_words.specs.declared.levels.Mark.TheVariants.{OnCall}
+use Rattle.init_words.specs.declared.stages.Stage.{Stage}
+use Rattle.init_words.specs.declared.orders.Ask.{Ask}
+use Rattle.init_words.specs.declared.orders.Ask.TheVariants.{Start, Term}
+use Rattle.init_words.specs.Ids.{same_id}
+use Rattle.init_words.specs.Levels.{names}
+use Rattle.init_words.specs.Actions.{is_called_by, is_ondemand}
+use Rattle.inittab_text.specs.Tables.{has_id, entry_of, act_of}
+use Rattle.init_trace.specs.declared.happenings.Happening.TheVariants.{NewTable, Enter, Call, Power, Asked, Hold, Birth, Reaped, Hit, Told, Clock}
+use Rattle.init_trace.specs.Event.{Event}
+use Rattle.init_trace.specs.Wanted.{starts_in, is_order, same_acts, may_live}
+use Rattle.trace_check.specs.declared.parts.Living.{Living}
+
+abbrev pub table_after : Event → List Entry → List Entry
+table_after (NewTable next) table = next
+table_after _ table = table
+
+abbrev pub stage_after : Event → Option Stage → Option Stage
+stage_after (Enter next grace) stage = Some next
+stage_after _ stage = stage
+
+abbrev pub grace_after : Event → ℕ → ℕ
+grace_after (Enter stage next) grace = next
+grace_after _ grace = grace
+
+abbrev pub time_after : Event → ℕ → ℕ
+time_after (Clock reading) time = max (min reading CLOCK_LIMIT) time
+time_after _ time = time
+
+-- the open order of an id
+abbrev pub order_after : Event → List ℕ → Option Ask → Option Ask
+order_after (Asked i ask) id before = if same_id id i then Some ask else before
+order_after (Told i) id before = if same_id id i then None else before
+order_after _ id before = before
+
+-- an id has a kept child, where `is_alive` says which have an unreaped one
+abbrev pub kept_after : (List ℕ → Bool) → Event → List ℕ → Bool → Bool
+kept_after is_alive (Birth i n) id before = same_id id i || before
+kept_after is_alive (Told i) id before = if same_id id i then is_alive i else before
+kept_after is_alive _ id before = before
+
+-- an id has another action in a table than in the one before, or none in one of them
+abbrev pub is_changed : List ℕ → List Entry → List Entry → Bool
+is_changed id table before = not (same_acts (act_of id table) (act_of id before))
+
+-- a Start of an id was asked since its entry's beginning
+abbrev pub asked_after : List Entry → Event → List ℕ → Bool → Bool
+asked_after table (Enter stage grace) id before = false
+asked_after table (NewTable next) id before =
+    not (list_any (λ e. has_id id e && is_changed e.id next table) next) && before
+asked_after table (Asked i Start) id before = same_id id i || before
+asked_after table _ id before = before
+
+-- news of the power or a letter names an entry
+abbrev pub is_named : Event → Entry → Bool
+is_named (Power kind) e = is_called_by kind e.act
+is_named (Call letter) e = is_ondemand e.act && names (OnCall letter) e.levels.items
+is_named _ e = false
+
+-- an entry of the id is called where it starts
+abbrev pub is_named_at : List Entry → Option Stage → Event → List ℕ → Bool
+is_named_at table stage happening id = list_any (λ e. has_id id e && (is_named happening e && starts_in e stage)) table
+
+-- the entry of an id is called
+abbrev pub called_after : List Entry → Option Stage → Event → List ℕ → Bool → Bool
+called_after table stage (Enter next grace) id before = false
+called_after table stage (NewTable next) id before = false
+called_after table stage (Power kind) id before = is_named_at table stage (Power kind) id || before
+called_after table stage (Call letter) id before = is_named_at table stage (Call letter) id || before
+called_after table stage (Asked i Start) id before = not (same_id id i) && before
+called_after table stage _ id before = before
+
+-- a TERM of the id was sent and is not told, where `open_order` says the open order of each
+abbrev pub sent_after : (List ℕ → Option Ask) → Event → List ℕ → Bool → Bool
+sent_after open_order (Birth i n) id before = not (same_id id i) && before
+sent_after open_order (Told i) id before = not (same_id id i) && before
+sent_after open_order (Hit i) id before = same_id id i && is_order Term (open_order i) || before
+sent_after open_order _ id before = before
+
+-- the times of the last ten Starts of an id, the newest first
+abbrev pub starts_after : ℕ → Event → List ℕ → List ℕ → List ℕ
+starts_after time (NewTable next) id before = []
+starts_after time (Enter next grace) id before = []
+starts_after time (Asked i Start) id before = if same_id id i then time ∷ take (STARTS - 1) before else before
+starts_after time _ id before = before
+
+-- the time of the last Hold of an id
+abbrev pub hold_after : ℕ → Event → List ℕ → Option ℕ → Option ℕ
+hold_after time (NewTable next) id before = None
+hold_after time (Enter next grace) id before = None
+hold_after time (Hold i) id before = if same_id id i then Some time else before
+hold_after time _ id before = before
+
+-- there is a child, and it has this number
+abbrev pub is_numbered : ℕ → Option Living → Bool
+is_numbered number child = option_map_or (λ living. number == living.number) child false
+
+-- the unreaped child of an id, where `child` says that of each before
+abbrev pub child_after : List Entry → (List ℕ → Option Living) → Event → List ℕ → Option Living
+child_after table child (Birth i n) id =
+    if same_id id i then Some (record { number = n; act = act_of i table }) else child id
+child_after table child (Reaped i n status) id =
+    if same_id id i && is_numbered n (child i) then None else child id
+child_after table child _ id = child id
+
+-- the child of an id may live by the table and in the stage
+abbrev pub spares : List Entry → Option Stage → (List ℕ → Option Living) → List ℕ → Bool
+spares table stage child id =
+    option_map_or (λ living. may_live (entry_of id table) living.act stage) (child id) false
+
+-- the child of an id is excluded
+abbrev pub excludes : List Entry → Option Stage → (List ℕ → Option Living) → List ℕ → Bool
+excludes table stage child id =
+    option_map_or (λ living. not (may_live (entry_of id table) living.act stage)) (child id) false
+
+-- the earlier of a time and another, where there is another
+abbrev pub earliest : ℕ → Option ℕ → ℕ
+earliest time None = time
+earliest time (Some other) = min time other
+
+-- when the first TERM of the spell of an id's child was told, where `child`, `is_sent` and `term` say what was before
+abbrev pub term_after : List Entry → Option Stage → ℕ → (List ℕ → Option Living) → (List ℕ → Bool)
+    → (List ℕ → Option ℕ) → Event → List ℕ → Option ℕ
+term_after table stage time child is_sent term (Birth i n) id = if same_id id i then None else term id
+term_after table stage time child is_sent term (Reaped i n status) id =
+    if same_id id i && is_numbered n (child i) then None else term id
+term_after table stage time child is_sent term (Told i) id =
+    if same_id id i && (is_sent i && excludes table stage child i) then Some (earliest time (term i)) else term id
+term_after table stage time child is_sent term (NewTable next) id =
+    if spares next stage child id then None else term id
+term_after table stage time child is_sent term (Enter next grace) id =
+    if spares table (Some next) child id then None else term id
+term_after table stage time child is_sent term _ id = term id

@@ -1,0 +1,5 @@
+pub mod Tables
+pub mod State
+pub mod After
+pub mod Flaws
+pub mod Faults

@@ -1,0 +1,58 @@
+-- What the checker keeps between two happenings, and how it is read.
+use Rattle.std.specs.Prelude.{ℕ, Bool, List, [], Option, Some, None}
+use Rattle.std.specs.Map.{lookup}
+use Rattle.std.specs.List.{list_any}
+use Rattle.init_words.specs.declared.stages.Stage.{Stage}
+use Rattle.init_words.specs.declared.orders.Ask.{Ask}
+use Rattle.init_words.specs.Ids.{same_id}
+use Rattle.trace_check.specs.declared.parts.Living.{Living}
+
+-- what is kept of an id
+abbrev pub at : {X : Type 0} → List ℕ → List (List ℕ × X) → Option X
+at id entries = lookup (same_id id) entries
+
+-- the id is in the set
+abbrev pub among : List ℕ → List (List ℕ) → Bool
+among id ids = list_any (same_id id) ids
+
+-- the times that are kept of an id; none where nothing is
+abbrev pub times_or_none : Option (List ℕ) → List ℕ
+times_or_none None = []
+times_or_none (Some times) = times
+
+abbrev pub times_at : List ℕ → List (List ℕ × List ℕ) → List ℕ
+times_at id starts = times_or_none (at id starts)
+
+-- the stage, the seconds between the two signals and the time in force; the open orders; the ids with a kept child, of
+-- which a start was asked, that are called, and of which a sent TERM is not told; the last starts and the last hold of
+-- an id; its unreaped child; and when the first TERM of the child's spell was told
+pub record State : Type 0 where
+  pub stage : Option Stage
+  pub grace : ℕ
+  pub time : ℕ
+  pub orders : List (List ℕ × Ask)
+  pub kept : List (List ℕ)
+  pub asked : List (List ℕ)
+  pub called : List (List ℕ)
+  pub sent : List (List ℕ)
+  pub starts : List (List ℕ × List ℕ)
+  pub holds : List (List ℕ × ℕ)
+  pub children : List (List ℕ × Living)
+  pub termed : List (List ℕ × ℕ)
+
+-- before the first happening
+abbrev pub opening : State
+opening = record {
+  stage = None;
+  grace = 0;
+  time = 0;
+  orders = [];
+  kept = [];
+  asked = [];
+  called = [];
+  sent = [];
+  starts = [];
+  holds = [];
+  children = [];
+  termed = [];
+}

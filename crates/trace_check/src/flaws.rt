@@ -1,0 +1,230 @@
+ghost use Rattle.std.specs.Prelude.{◌≡◌, not, if◌then◌else◌};
+ghost use Rattle.trace_check.specs.Flaws.{is_limited_in};
+
+use crate::judge::Judge;
+use crate::parts::is_open;
+use crate::spells::excludes;
+use crate::tables::{InForce, starts_in};
+use init_trace::{Happening, HappeningIn};
+use init_words::{Ask, Entry, Id, Level, Stage, waited};
+use respawn_limit::HOLD;
+use std::alloc::Allocator;
+
+/// The respawn limit holds for the id's entry (init(8)).
+fn is_limited<B: Allocator>(table: &InForce<'_, B>, id: &Id) -> bool
+    ensures { result ≡ is_limited_in table.now id.now }
+{
+    match table.act(id) {
+        Some(act) => act.is_limited(),
+        None => false,
+    }
+}
+
+impl<A: Allocator> Judge<A> {
+    ghost use Rattle.std.specs.Map.{keys_of};
+    ghost use Rattle.std.specs.List.{list_any, list_all};
+    ghost use Rattle.init_trace.specs.Wishes.{is_level};
+    ghost use Rattle.trace_check.specs.Flaws.{is_alive, is_excluded_in, none_excluded_in, is_placed_in, is_starting, is_wanted_in, is_owed_in, is_in_turn_in, is_held_in, is_full_in, is_free_in, is_due_hold_in, is_served_in, is_settled_in, is_over_in, may_kill_in, flaw_of_birth, flaw_in};
+
+    /// The least law that the happening breaks, where `table` is in force before it.
+    pub(crate) fn flaw<B: Allocator>(
+        &self,
+        table: &InForce<'_, B>,
+        happening: &HappeningIn<B>,
+    ) -> Option<u8>
+        ensures { result ≡ flaw_in table.now self.now happening.now }
+    {
+        match happening {
+            Happening::Birth(id, _) => self.flaw_of_birth(table, id),
+            Happening::Settle(level) => unless(self.is_settled(*level, table), 5),
+            Happening::Asked(id, Ask::Start) => unless(self.is_free(table, id), 6),
+            Happening::Hold(id) => unless(self.is_due_hold(table, id), 6),
+            Happening::Asked(id, Ask::Term) => unless(self.is_excluded(table, id), 7),
+            Happening::Asked(id, Ask::Kill) => unless(self.may_kill(table, id), 7),
+            _ => None,
+        }
+    }
+
+    fn flaw_of_birth<B: Allocator>(&self, table: &InForce<'_, B>, id: &Id) -> Option<u8>
+        ensures { result ≡ flaw_of_birth table.now self.now id.now }
+    {
+        if self.is_alive(id) {
+            Some(1)
+        } else if !self.is_placed(table, id) {
+            Some(2)
+        } else if !self.is_in_turn(table, id) {
+            Some(3)
+        } else {
+            unless(self.none_excluded(table), 4)
+        }
+    }
+
+    fn is_alive(&self, id: &Id) -> bool
+        ensures { result ≡ is_alive self.now id.now }
+    {
+        self.children.contains_key(id)
+    }
+
+    /// The child of the id is excluded.
+    fn is_excluded<B: Allocator>(&self, table: &InForce<'_, B>, id: &Id) -> bool
+        ensures { result ≡ is_excluded_in table.now self.now id.now }
+    {
+        excludes(table, self.stage, &self.children, id)
+    }
+
+    fn none_excluded<B: Allocator>(&self, table: &InForce<'_, B>) -> bool
+        ensures { result ≡ none_excluded_in table.now self.now }
+    {
+        !self.any_excluded(table)
+    }
+
+    fn any_excluded<B: Allocator>(&self, table: &InForce<'_, B>) -> bool
+        ensures { result
+            ≡ list_any (is_excluded_in table.now self.now) (keys_of self.now.children) }
+    {
+        self.children.keys().any(|id| self.is_excluded(table, id))
+    }
+
+    /// The id has an entry, which starts in the stage.
+    fn is_placed<B: Allocator>(&self, table: &InForce<'_, B>, id: &Id) -> bool
+        ensures { result ≡ is_placed_in table.now self.now id.now }
+    {
+        match table.get(id) {
+            Some(entry) => starts_in(entry, self.stage),
+            None => false,
+        }
+    }
+
+    fn is_starting(&self, id: &Id) -> bool
+        ensures { result ≡ is_starting self.now id.now }
+    {
+        is_open(&self.orders, id, Ask::Start)
+    }
+
+    fn is_wanted(&self, entry: &Entry) -> bool
+        ensures { result ≡ is_wanted_in self.now entry.now }
+    {
+        let id = &entry.id;
+        let idle = !self.kept.contains(id) && !self.is_starting(id);
+        let asked = self.asked.contains(id);
+        let called = self.called.contains(id);
+        starts_in(entry, self.stage) && entry.act.is_wanted(idle, !asked, called)
+    }
+
+    /// Init waits for the entry, which is not done.
+    fn is_owed(&self, entry: &Entry) -> bool
+        ensures { result ≡ is_owed_in self.now entry.now }
+    {
+        let id = &entry.id;
+        waited(entry) && (self.kept.contains(id) || self.is_starting(id) || self.is_wanted(entry))
+    }
+
+    /// No entry before the id's is owed.
+    fn is_in_turn<B: Allocator>(&self, table: &InForce<'_, B>, id: &Id) -> bool
+        ensures { result ≡ is_in_turn_in table.now self.now id.now }
+    {
+        for place in 0..table.len() {
+            let entry = table.entry(place);
+            if *id == entry.id {
+                return true;
+            }
+            if self.is_owed(entry) {
+                return false;
+            }
+        }
+        true
+    }
+
+    /// A hold of the id is in force: it began less than five minutes ago (init(8)).
+    fn is_held(&self, id: &Id) -> bool
+        ensures { result ≡ is_held_in self.now id.now }
+    {
+        match self.holds.get(id) {
+            Some(began) => self.time.saturating_sub(*began) < HOLD,
+            None => false,
+        }
+    }
+
+    /// Ten starts of the id are younger than two minutes (init(8)).
+    fn is_full(&self, id: &Id) -> bool
+        ensures { result ≡ is_full_in self.now id.now }
+    {
+        match self.starts.get(id) {
+            Some(starts) => starts.is_full(self.time),
+            None => false,
+        }
+    }
+
+    fn is_free<B: Allocator>(&self, table: &InForce<'_, B>, id: &Id) -> bool
+        ensures { result ≡ is_free_in table.now self.now id.now }
+    {
+        !is_limited(table, id) || !self.is_held(id) && !self.is_full(id)
+    }
+
+    fn is_due_hold<B: Allocator>(&self, table: &InForce<'_, B>, id: &Id) -> bool
+        ensures { result ≡ is_due_hold_in table.now self.now id.now }
+    {
+        is_limited(table, id) && !self.is_held(id) && self.is_full(id)
+    }
+
+    /// The entry keeps the level from being settled by nothing.
+    fn is_served(&self, level: Level, entry: &Entry) -> bool
+        ensures { result ≡ is_served_in level self.now entry.now }
+    {
+        if self.is_owed(entry) {
+            return false;
+        }
+        let kept_up = self.is_alive(&entry.id) || self.is_held(&entry.id);
+        let asked = self.asked.contains(&entry.id);
+        !entry.names_level(level) || entry.act.is_served(asked, kept_up)
+    }
+
+    fn all_served<B: Allocator>(&self, level: Level, table: &InForce<'_, B>) -> bool
+        ensures { result ≡ list_all (is_served_in level self.now) table.now }
+    {
+        for place in 0..table.len() {
+            if !self.is_served(level, table.entry(place)) {
+                return false;
+            }
+        }
+        true
+    }
+
+    fn is_in_level(&self, level: Level) -> bool
+        ensures { result ≡ is_level level self.now.stage }
+    {
+        match self.stage {
+            Some(Stage::Run(current)) => level == current,
+            _ => false,
+        }
+    }
+
+    fn is_settled<B: Allocator>(&self, level: Level, table: &InForce<'_, B>) -> bool
+        ensures { result ≡ is_settled_in level table.now self.now }
+    {
+        self.is_in_level(level) && self.none_excluded(table) && self.all_served(level, table)
+    }
+
+    /// The grace since the first TERM in the child's spell is over.
+    fn is_over(&self, id: &Id) -> bool
+        ensures { result ≡ is_over_in self.now id.now }
+    {
+        match self.termed.get(id) {
+            Some(told) => *told <= self.time && u64::from(self.grace) <= self.time - *told,
+            None => false,
+        }
+    }
+
+    fn may_kill<B: Allocator>(&self, table: &InForce<'_, B>, id: &Id) -> bool
+        ensures { result ≡ may_kill_in table.now self.now id.now }
+    {
+        self.is_excluded(table, id) && self.is_over(id)
+    }
+}
+
+/// The law is broken where its test fails.
+fn unless(test: bool, law: u8) -> Option<u8>
+    ensures { result ≡ (if not test then Some law else None) }
+{
+    if test { None } else { Some(law) }
+}

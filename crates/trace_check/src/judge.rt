@@ -1,0 +1,134 @@
+ghost use Rattle.std.specs.Prelude.{◌≡◌, OnOk};
+
+use crate::limits::Starts;
+use crate::maps::{ById, Ids};
+use crate::parts::{
+    Living, grace_after, stage_after, take_asked, take_called, take_child, take_hold, take_kept,
+    take_order, take_sent, take_start, time_after,
+};
+use crate::spells::take_term;
+use crate::tables::InForce;
+use indexmap::{IndexMap, IndexSet};
+use init_trace::HappeningIn;
+use init_words::{Ask, Memory, Stage};
+use std::alloc::Allocator;
+use std::marker::Model;
+
+/// What the checker keeps between two happenings: all that the laws ask of the past but the table, which the trace lends.
+#[derive(Drop)]
+pub(crate) struct Judge<A: Allocator> {
+    pub(crate) stage: Option<Stage>,
+    pub(crate) grace: u16,
+    pub(crate) time: u64,
+    pub(crate) orders: ById<Ask, A>,
+    pub(crate) kept: Ids<A>,
+    pub(crate) asked: Ids<A>,
+    pub(crate) called: Ids<A>,
+    pub(crate) sent: Ids<A>,
+    pub(crate) starts: ById<Starts, A>,
+    pub(crate) holds: ById<u64, A>,
+    pub(crate) children: ById<Living, A>,
+    pub(crate) termed: ById<u64, A>,
+}
+
+impl<A: Allocator> Model for Judge<A> {
+    ghost use Rattle.trace_check.specs.State.{State};
+
+    ghost Value = { State };
+
+    ghost view = { λ j. record {
+      stage = j.stage;
+      grace = j.grace;
+      time = j.time;
+      orders = j.orders.entries;
+      kept = j.kept.keys;
+      asked = j.asked.keys;
+      called = j.called.keys;
+      sent = j.sent.keys;
+      starts = j.starts.entries;
+      holds = j.holds.entries;
+      children = j.children.entries;
+      termed = j.termed.entries;
+    } };
+}
+
+impl<A: Allocator + Copy> Judge<A> {
+    ghost use Rattle.std.specs.Prelude.{ℕ, List, is_some};
+    ghost use Rattle.trace_check.specs.State.{opening, at, among, times_at};
+    ghost use Rattle.trace_check.specs.After.{stage_after, grace_after, time_after, order_after, kept_after, asked_after, called_after, sent_after, starts_after, hold_after, child_after, term_after};
+
+    /// Before the first happening. It takes no memory.
+    pub(crate) fn new(alloc: A) -> Judge<A>
+        ensures { result ≡ opening }
+    {
+        Judge {
+            stage: None,
+            grace: 0,
+            time: 0,
+            orders: IndexMap::new(alloc),
+            kept: IndexSet::new(alloc),
+            asked: IndexSet::new(alloc),
+            called: IndexSet::new(alloc),
+            sent: IndexSet::new(alloc),
+            starts: IndexMap::new(alloc),
+            holds: IndexMap::new(alloc),
+            children: IndexMap::new(alloc),
+            termed: IndexMap::new(alloc),
+        }
+    }
+
+    /// Takes the happening in, where `table` was in force before it.
+    pub(crate) fn take<B: Allocator>(
+        &mut self,
+        table: &InForce<'_, B>,
+        happening: &HappeningIn<B>,
+    ) -> Result<(), Memory>
+        ensures stage { OnOk result (self.new.stage ≡ stage_after happening.now self.old.stage) }
+        ensures grace { OnOk result (self.new.grace ≡ grace_after happening.now self.old.grace) }
+        ensures time { OnOk result (self.new.time ≡ time_after happening.now self.old.time) }
+        ensures orders { OnOk result ((id : List ℕ) → at id self.new.orders
+            ≡ order_after happening.now id (at id self.old.orders)) }
+        ensures kept { OnOk result ((id : List ℕ) → among id self.new.kept
+            ≡ kept_after (λ i. is_some (at i self.old.children)) happening.now id
+            (among id self.old.kept)) }
+        ensures asked { OnOk result ((id : List ℕ) → among id self.new.asked
+            ≡ asked_after table.now happening.now id (among id self.old.asked)) }
+        ensures called { OnOk result ((id : List ℕ) → among id self.new.called
+            ≡ called_after table.now self.old.stage happening.now id (among id self.old.called)) }
+        ensures sent { OnOk result ((id : List ℕ) → among id self.new.sent
+            ≡ sent_after (λ i. at i self.old.orders) happening.now id (among id self.old.sent)) }
+        ensures starts { OnOk result ((id : List ℕ) → times_at id self.new.starts
+            ≡ starts_after self.old.time happening.now id (times_at id self.old.starts)) }
+        ensures holds { OnOk result ((id : List ℕ) → at id self.new.holds
+            ≡ hold_after self.old.time happening.now id (at id self.old.holds)) }
+        ensures children { OnOk result ((id : List ℕ) → at id self.new.children
+            ≡ child_after table.now (λ i. at i self.old.children) happening.now id) }
+        ensures termed { OnOk result ((id : List ℕ) → at id self.new.termed
+            ≡ term_after table.now self.old.stage self.old.time (λ i. at i self.old.children)
+            (λ i. among i self.old.sent) (λ i. at i self.old.termed) happening.now id) }
+    {
+        let stage = self.stage;
+        let time = self.time;
+        take_term(
+            &mut self.termed,
+            &self.children,
+            &self.sent,
+            table,
+            stage,
+            time,
+            happening,
+        )?;
+        take_sent(&mut self.sent, &self.orders, happening)?;
+        take_kept(&mut self.kept, &self.children, happening)?;
+        take_child(&mut self.children, table, happening)?;
+        take_order(&mut self.orders, happening)?;
+        take_asked(&mut self.asked, table, happening)?;
+        take_called(&mut self.called, table, stage, happening)?;
+        take_start(&mut self.starts, time, happening)?;
+        take_hold(&mut self.holds, time, happening)?;
+        self.stage = stage_after(happening, stage);
+        self.grace = grace_after(happening, self.grace);
+        self.time = time_after(happening, time);
+        Ok(())
+    }
+}

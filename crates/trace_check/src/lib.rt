@@ -1,0 +1,16 @@
+//! The checker of traces: whether a run of init kept the seven laws, and else the first breach.
+//!
+//! It judges any list of happenings, forged ones too, in one pass. It keeps what the laws ask of the past, and never the
+//! past itself, so that a happening costs what the entries and the living children of its moment cost.
+#![tactic(auto)]
+
+mod flaws;
+mod judge;
+mod limits;
+mod maps;
+mod parts;
+mod pass;
+mod spells;
+mod tables;
+
+pub use pass::{Verdict, check};

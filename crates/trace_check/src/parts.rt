@@ -1,0 +1,317 @@
+ghost use Rattle.std.specs.Prelude.{◌≡◌, ℕ, not, ◌&&◌, ◌||◌, if◌then◌else◌, List, ◌∷◌, ◌-◌, take, is_some, option_copied, OnOk};
+ghost use Rattle.init_words.specs.Ids.{same_id};
+ghost use Rattle.inittab_text.specs.Tables.{has_id};
+ghost use Rattle.std.specs.List.{list_any};
+ghost use Rattle.respawn_limit.specs.declared.TheConstants.{STARTS};
+ghost use Rattle.init_trace.specs.Wanted.{is_order, starts_in};
+ghost use Rattle.trace_check.specs.State.{at, among, times_at};
+ghost use Rattle.trace_check.specs.After.{stage_after, grace_after, time_after, order_after, kept_after, is_changed, asked_after, is_named, is_named_at, called_after, sent_after, starts_after, hold_after, is_numbered, child_after};
+
+use crate::limits::Starts;
+use crate::maps::{ById, Ids, add_if, drop_if, forget_all, forget_ids, set_if};
+use crate::tables::{InForce, starts_in};
+use init_trace::{Happening, HappeningIn};
+use init_words::{Act, Ask, ChildNo, Entry, Id, Mark, Memory, Stage, names};
+use respawn_limit::CLOCK_LIMIT;
+use std::alloc::Allocator;
+
+/// An unreaped child: its number, and the action that its id had when it was born.
+#[derive(Clone, Copy)]
+pub(crate) struct Living {
+    pub(crate) number: ChildNo,
+    pub(crate) act: Option<Act>,
+}
+
+pub(crate) fn stage_after<B: Allocator>(
+    happening: &HappeningIn<B>,
+    stage: Option<Stage>,
+) -> Option<Stage>
+    ensures { result ≡ stage_after happening.now stage }
+{
+    match happening {
+        Happening::Enter(next, _) => Some(*next),
+        _ => stage,
+    }
+}
+
+pub(crate) fn grace_after<B: Allocator>(happening: &HappeningIn<B>, grace: u16) -> u16
+    ensures { result ≡ grace_after happening.now grace }
+{
+    match happening {
+        Happening::Enter(_, next) => *next,
+        _ => grace,
+    }
+}
+
+pub(crate) fn time_after<B: Allocator>(happening: &HappeningIn<B>, time: u64) -> u64
+    ensures { result ≡ time_after happening.now time }
+{
+    match happening {
+        Happening::Clock(reading) => (*reading).min(CLOCK_LIMIT).max(time),
+        _ => time,
+    }
+}
+
+/// The open orders.
+pub(crate) fn take_order<A: Allocator, B: Allocator>(
+    orders: &mut ById<Ask, A>,
+    happening: &HappeningIn<B>,
+) -> Result<(), Memory>
+    ensures { OnOk result ((id : List ℕ)
+        → at id orders.new.entries ≡ order_after happening.now id (at id orders.old.entries)) }
+{
+    match happening {
+        Happening::Asked(id, ask) => {
+            orders.insert(*id, *ask)?;
+            Ok(())
+        }
+        Happening::Told(id) => {
+            orders.swap_remove(id);
+            Ok(())
+        }
+        _ => Ok(()),
+    }
+}
+
+/// The ids with a kept child.
+pub(crate) fn take_kept<A: Allocator, B: Allocator>(
+    kept: &mut Ids<A>,
+    children: &ById<Living, A>,
+    happening: &HappeningIn<B>,
+) -> Result<(), Memory>
+    ensures { OnOk result ((id : List ℕ) → among id kept.new.keys
+        ≡ kept_after (λ i. is_some (at i children.now.entries)) happening.now id
+        (among id kept.old.keys)) }
+{
+    match happening {
+        Happening::Birth(id, _) => {
+            kept.insert(*id)?;
+            Ok(())
+        }
+        Happening::Told(id) => set_if(kept, id, children.contains_key(id)),
+        _ => Ok(()),
+    }
+}
+
+/// The ids of which a start was asked.
+pub(crate) fn take_asked<A: Allocator + Copy, B: Allocator>(
+    asked: &mut Ids<A>,
+    table: &InForce<'_, B>,
+    happening: &HappeningIn<B>,
+) -> Result<(), Memory>
+    ensures { OnOk result ((id : List ℕ) → among id asked.new.keys
+        ≡ asked_after table.now happening.now id (among id asked.old.keys)) }
+{
+    match happening {
+        Happening::Enter(..) => {
+            forget_ids(asked);
+            Ok(())
+        }
+        Happening::NewTable(next) => {
+            drop_brought(asked, table, &InForce::of(next));
+            Ok(())
+        }
+        Happening::Asked(id, Ask::Start) => {
+            asked.insert(*id)?;
+            Ok(())
+        }
+        _ => Ok(()),
+    }
+}
+
+/// The entries that a table brings begin anew.
+fn drop_brought<A: Allocator, B: Allocator>(
+    asked: &mut Ids<A>,
+    before: &InForce<'_, B>,
+    next: &InForce<'_, B>,
+)
+    ensures { (id : List ℕ) → among id asked.new.keys
+        ≡ (not (list_any (λ e. has_id id e && is_changed e.id next.now before.now) next.now)
+        && among id asked.old.keys) }
+{
+    for place in 0..next.len() {
+        let entry = next.entry(place);
+        drop_if(asked, &entry.id, next.is_changed(before, &entry.id));
+    }
+}
+
+/// News of the power or a letter names the entry.
+fn is_named<B: Allocator>(happening: &HappeningIn<B>, entry: &Entry) -> bool
+    ensures { result ≡ is_named happening.now entry.now }
+{
+    match happening {
+        Happening::Power(kind) => entry.act.is_called_by(*kind),
+        Happening::Call(letter) => {
+            entry.act.is_ondemand() && names(entry.levels.as_slice(), Mark::OnCall(*letter))
+        }
+        _ => false,
+    }
+}
+
+/// The happening calls the entry, where it starts.
+fn is_called<B: Allocator>(happening: &HappeningIn<B>, stage: Option<Stage>, entry: &Entry) -> bool
+    ensures { result ≡ (is_named happening.now entry.now && starts_in entry.now stage) }
+{
+    is_named(happening, entry) && starts_in(entry, stage)
+}
+
+/// The entries that are called.
+pub(crate) fn take_called<A: Allocator + Copy, B: Allocator>(
+    called: &mut Ids<A>,
+    table: &InForce<'_, B>,
+    stage: Option<Stage>,
+    happening: &HappeningIn<B>,
+) -> Result<(), Memory>
+    ensures { OnOk result ((id : List ℕ) → among id called.new.keys
+        ≡ called_after table.now stage happening.now id (among id called.old.keys)) }
+{
+    match happening {
+        Happening::Enter(..) | Happening::NewTable(_) => {
+            forget_ids(called);
+            Ok(())
+        }
+        Happening::Power(_) | Happening::Call(_) => add_named(called, table, stage, happening),
+        Happening::Asked(id, Ask::Start) => {
+            called.swap_remove(id);
+            Ok(())
+        }
+        _ => Ok(()),
+    }
+}
+
+fn add_named<A: Allocator, B: Allocator>(
+    called: &mut Ids<A>,
+    table: &InForce<'_, B>,
+    stage: Option<Stage>,
+    happening: &HappeningIn<B>,
+) -> Result<(), Memory>
+    ensures { OnOk result ((id : List ℕ) → among id called.new.keys
+        ≡ (is_named_at table.now stage happening.now id || among id called.old.keys)) }
+{
+    for place in 0..table.len() {
+        let entry = table.entry(place);
+        add_if(called, &entry.id, is_called(happening, stage, entry))?;
+    }
+    Ok(())
+}
+
+/// The ids of which a sent TERM is not told.
+pub(crate) fn take_sent<A: Allocator, B: Allocator>(
+    sent: &mut Ids<A>,
+    orders: &ById<Ask, A>,
+    happening: &HappeningIn<B>,
+) -> Result<(), Memory>
+    ensures { OnOk result ((id : List ℕ) → among id sent.new.keys
+        ≡ sent_after (λ i. at i orders.now.entries) happening.now id (among id sent.old.keys)) }
+{
+    match happening {
+        Happening::Birth(id, _) | Happening::Told(id) => {
+            sent.swap_remove(id);
+            Ok(())
+        }
+        Happening::Hit(id) => add_if(sent, id, is_open(orders, id, Ask::Term)),
+        _ => Ok(()),
+    }
+}
+
+/// The open order of the id is of this kind.
+pub(crate) fn is_open<A: Allocator>(orders: &ById<Ask, A>, id: &Id, ask: Ask) -> bool
+    ensures { result ≡ is_order ask (at id.now orders.now.entries) }
+{
+    match orders.get(id) {
+        Some(given) => *given == ask,
+        None => false,
+    }
+}
+
+/// The last starts of each id.
+pub(crate) fn take_start<A: Allocator + Copy, B: Allocator>(
+    starts: &mut ById<Starts, A>,
+    time: u64,
+    happening: &HappeningIn<B>,
+) -> Result<(), Memory>
+    ensures { OnOk result ((id : List ℕ) → times_at id starts.new.entries
+        ≡ starts_after time happening.now id (times_at id starts.old.entries)) }
+{
+    match happening {
+        Happening::Enter(..) | Happening::NewTable(_) => {
+            forget_all(starts);
+            Ok(())
+        }
+        Happening::Asked(id, Ask::Start) => note_start(starts, *id, time),
+        _ => Ok(()),
+    }
+}
+
+fn note_start<A: Allocator>(starts: &mut ById<Starts, A>, id: Id, time: u64) -> Result<(), Memory>
+    ensures { OnOk result ((other : List ℕ) → times_at other starts.new.entries
+        ≡ (if same_id other id then time ∷ take (STARTS - 1) (times_at other starts.old.entries)
+        else times_at other starts.old.entries)) }
+{
+    if let Some(times) = starts.get_mut(&id) {
+        times.note(time);
+        return Ok(());
+    }
+    starts.insert(id, Starts::first(time))?;
+    Ok(())
+}
+
+/// The last hold of each id.
+pub(crate) fn take_hold<A: Allocator + Copy, B: Allocator>(
+    holds: &mut ById<u64, A>,
+    time: u64,
+    happening: &HappeningIn<B>,
+) -> Result<(), Memory>
+    ensures { OnOk result ((id : List ℕ) → at id holds.new.entries
+        ≡ hold_after time happening.now id (at id holds.old.entries)) }
+{
+    match happening {
+        Happening::Enter(..) | Happening::NewTable(_) => {
+            forget_all(holds);
+            Ok(())
+        }
+        Happening::Hold(id) => {
+            holds.insert(*id, time)?;
+            Ok(())
+        }
+        _ => Ok(()),
+    }
+}
+
+/// The unreaped child of each id.
+pub(crate) fn take_child<A: Allocator, B: Allocator>(
+    children: &mut ById<Living, A>,
+    table: &InForce<'_, B>,
+    happening: &HappeningIn<B>,
+) -> Result<(), Memory>
+    ensures { OnOk result ((id : List ℕ) → at id children.new.entries
+        ≡ child_after table.now (λ i. at i children.old.entries) happening.now id) }
+{
+    match happening {
+        Happening::Birth(id, number) => {
+            let living = Living {
+                number: *number,
+                act: table.act(id),
+            };
+            children.insert(*id, living)?;
+            Ok(())
+        }
+        Happening::Reaped(id, number, _) => {
+            if is_numbered(children.get(id), *number) {
+                children.swap_remove(id);
+            }
+            Ok(())
+        }
+        _ => Ok(()),
+    }
+}
+
+/// There is a child, and it has this number.
+pub(crate) fn is_numbered(child: Option<&Living>, number: ChildNo) -> bool
+    ensures { result ≡ is_numbered number (option_copied child.entry) }
+{
+    match child {
+        Some(living) => number == living.number,
+        None => false,
+    }
+}

@@ -1,0 +1,111 @@
+ghost use Rattle.std.specs.Prelude.{◌≡◌, ℕ, if◌then◌else◌, List, OnOk};
+ghost use Rattle.init_words.specs.Ids.{same_id};
+ghost use Rattle.trace_check.specs.State.{at, among};
+ghost use Rattle.trace_check.specs.After.{spares, excludes, earliest, term_after};
+
+use crate::maps::{ById, Ids};
+use crate::parts::{Living, is_numbered};
+use crate::tables::{InForce, may_live};
+use init_trace::{Happening, HappeningIn};
+use init_words::{Id, Memory, Stage};
+use std::alloc::Allocator;
+
+/// The child of the id may live by this table and in this stage.
+fn spares<A: Allocator, B: Allocator>(
+    table: &InForce<'_, B>,
+    stage: Option<Stage>,
+    children: &ById<Living, A>,
+    id: &Id,
+) -> bool
+    ensures { result ≡ spares table.now stage (λ i. at i children.now.entries) id.now }
+{
+    match children.get(id) {
+        Some(living) => may_live(table.get(id), living.act, stage),
+        None => false,
+    }
+}
+
+/// The child of the id is excluded: it may not live, and is stopped (init(8)).
+pub(crate) fn excludes<A: Allocator, B: Allocator>(
+    table: &InForce<'_, B>,
+    stage: Option<Stage>,
+    children: &ById<Living, A>,
+    id: &Id,
+) -> bool
+    ensures { result ≡ excludes table.now stage (λ i. at i children.now.entries) id.now }
+{
+    match children.get(id) {
+        Some(living) => !may_live(table.get(id), living.act, stage),
+        None => false,
+    }
+}
+
+/// When the first TERM was told in the spell of each id's child, the stretch of time in which it is excluded.
+pub(crate) fn take_term<A: Allocator + Copy, B: Allocator>(
+    termed: &mut ById<u64, A>,
+    children: &ById<Living, A>,
+    sent: &Ids<A>,
+    table: &InForce<'_, B>,
+    stage: Option<Stage>,
+    time: u64,
+    happening: &HappeningIn<B>,
+) -> Result<(), Memory>
+    ensures { OnOk result ((id : List ℕ) → at id termed.new.entries
+        ≡ term_after table.now stage time (λ i. at i children.now.entries)
+        (λ i. among i sent.now.keys) (λ i. at i termed.old.entries) happening.now id) }
+{
+    match happening {
+        Happening::Birth(id, _) => {
+            termed.swap_remove(id);
+            Ok(())
+        }
+        Happening::Reaped(id, number, _) => {
+            if is_numbered(children.get(id), *number) {
+                termed.swap_remove(id);
+            }
+            Ok(())
+        }
+        Happening::Told(id) => {
+            if sent.contains(id) && excludes(table, stage, children, id) {
+                note_term(termed, *id, time)?;
+            }
+            Ok(())
+        }
+        Happening::NewTable(next) => {
+            end_spells(termed, children, &InForce::of(next), stage);
+            Ok(())
+        }
+        Happening::Enter(next, _) => {
+            end_spells(termed, children, table, Some(*next));
+            Ok(())
+        }
+        _ => Ok(()),
+    }
+}
+
+fn note_term<A: Allocator>(termed: &mut ById<u64, A>, id: Id, time: u64) -> Result<(), Memory>
+    ensures { OnOk result ((other : List ℕ) → at other termed.new.entries
+        ≡ (if same_id other id then Some (earliest time (at id termed.old.entries))
+        else at other termed.old.entries)) }
+{
+    let first = match termed.get(&id) {
+        Some(other) => time.min(*other),
+        None => time,
+    };
+    termed.insert(id, first)?;
+    Ok(())
+}
+
+/// The spells of the children that are no longer excluded end.
+fn end_spells<A: Allocator, B: Allocator>(
+    termed: &mut ById<u64, A>,
+    children: &ById<Living, A>,
+    table: &InForce<'_, B>,
+    stage: Option<Stage>,
+)
+    ensures { (id : List ℕ) → at id termed.new.entries
+        ≡ (if spares table.now stage (λ i. at i children.now.entries) id then None
+        else at id termed.old.entries) }
+{
+    termed.retain(|id, _| !spares(table, stage, children, id));
+}
