@@ -1,4 +1,4 @@
-use Rattle.std.proofs.Common.{rules, ◌≡◌, ◌∷◌, [], List, Err, ◌∙◌, ap, subst}
+use Rattle.std.proofs.Common.{rules, ◌≡◌, ◌∷◌, [], Err, ◌∙◌, ap, subst}
 use Rattle.init_trace.specs.declared.happenings.Happening.TheVariants.{NewTable}
 use Rattle.inittab_text.specs.Reading.{table_of_text}
 use Rattle.supervisor.specs.declared.running.SimFault.TheVariants as fault
