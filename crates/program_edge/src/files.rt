@@ -1,7 +1,7 @@
 ghost use Rattle.std.specs.Prelude.{◌≡◌, IfOk, IfSome, OnOk};
 ghost use Rattle.std.specs.Io.KnownBytes.{IsAtEnd};
 
-use std::alloc::Global;
+use std::alloc::Allocator;
 use std::fs::File;
 use std::io;
 use std::io::{ErrorKind, Read};
@@ -12,7 +12,7 @@ pub const READS_LIMIT: u32 = 1_000_000;
 
 /// All bytes that a reader has left. A reader that isn't at its end after 1,000,000 reads of up to 8,192 bytes is an
 /// error, `FileTooLarge`.
-pub fn read_all<R: Read>(alloc: Global, from: &mut R) -> io::Result<Vec<u8>>
+pub fn read_all<R: Read, A: Allocator>(alloc: A, from: &mut R) -> io::Result<Vec<u8, A>>
     ensures whole { IfOk result (λ bytes. IfSome (R.remaining from.old)
         (λ left. bytes.items ≡ left)) }
     ensures end { OnOk result (IsAtEnd (R.remaining from.new)) }
@@ -30,7 +30,11 @@ pub fn read_all<R: Read>(alloc: Global, from: &mut R) -> io::Result<Vec<u8>>
 }
 
 /// All bytes of a file, as `read_all` reads them.
-pub fn read_file<R: Files>(rt: &R, alloc: Global, path: &str) -> io::Result<Vec<u8>> {
+pub fn read_file<R: Files, A: Allocator>(
+    rt: &R,
+    alloc: A,
+    path: &str,
+) -> io::Result<Vec<u8, A>> {
     let mut file = File::open(rt, path)?;
     read_all(alloc, &mut file)
 }

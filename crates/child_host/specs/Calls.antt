@@ -1,0 +1,60 @@
+-- What a host tells of its calls, and when it may answer a fault.
+use Rattle.std.specs.Prelude.{◌≡◌, ◌<◌, ◌≤◌, ◌+◌, ◌-◌, ◌^◌, ◌⊎◌, min, ℕ, Bool, true, false, if◌then◌else◌}
+use Rattle.std.specs.Prelude.{List, ◌∷◌, take, Option, Some, None, IfSome, Result, Ok, Err}
+use Rattle.init_words.specs.declared.entries.Entry.{Entry}
+use Rattle.init_words.specs.declared.orders.Answer.{Answer}
+use Rattle.init_words.specs.declared.orders.Answer.TheVariants as answer
+use Rattle.child_host.specs.declared.calls.Call.{Call}
+use Rattle.child_host.specs.declared.calls.HostFault.{HostFault}
+use Rattle.child_host.specs.declared.calls.Reply.{Reply}
+use Rattle.child_host.specs.declared.calls.Reply.TheVariants.{Now, Later}
+
+-- a call with what was answered, in whichever memory its texts and its table lie
+abbrev pub HostCall : Type 0
+HostCall = Call (List ℕ) (List Entry)
+
+-- a text, or why it was not had
+abbrev pub TextRead : Type 0
+TextRead = Result (List ℕ) HostFault
+
+-- where a host tells its record now, the newest call first, it told it before, and the record has gained this call
+abbrev pub Adds : Option (List HostCall) → Option (List HostCall) → HostCall → Type 0
+Adds old new call = IfSome new (λ all. (before : List HostCall) × (old ≡ Some before) × (all ≡ call ∷ before))
+
+-- where a call failed, the count of faults has risen, or stood at its greatest number; it never falls
+pub record HasCause (before now : ℕ) (failed : Bool) : Type 0 where
+  pub later : before ≤ now
+  pub cause : failed ≡ true → (before < now) ⊎ (before ≡ 2 ^ 64 - 1)
+
+-- the count of faults after a call: it stays at its greatest number
+abbrev pub counted : Bool → ℕ → ℕ
+counted failed faults = if failed then min (faults + 1) (2 ^ 64 - 1) else faults
+
+-- answers that tell of a fault
+abbrev pub is_failed_answer : Answer → Bool
+is_failed_answer answer.NotBorn = true
+is_failed_answer answer.NoLook = true
+is_failed_answer answer.Miss = true
+is_failed_answer _ = false
+
+abbrev pub is_failed_reply : Reply → Bool
+is_failed_reply (Now given) = is_failed_answer given
+is_failed_reply Later = false
+
+abbrev pub is_failed_late : Option (List ℕ × Answer) → Bool
+is_failed_late (Some late) = is_failed_answer late.1
+is_failed_late None = false
+
+-- the text that a call gave, whatever it is held in
+abbrev pub text_read : {T : Type 0} → (T → List ℕ) → Result T HostFault → TextRead
+text_read text (Ok held) = Ok (text held)
+text_read text (Err fault) = Err fault
+
+-- the text that a call left in the front of a buffer
+abbrev pub front_read : Result ℕ HostFault → List ℕ → TextRead
+front_read (Ok count) buffer = Ok (take count buffer)
+front_read (Err fault) buffer = Err fault
+
+-- what is known of a host that tells no calls
+pub record FaultCount : Type 0 where
+  pub faults : ℕ

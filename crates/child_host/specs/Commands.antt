@@ -1,0 +1,24 @@
+-- How the process of an inittab entry is started (inittab(5)).
+use Rattle.std.specs.Prelude.{ℕ, Bool, if◌then◌else◌, ◌==◌, List, [], ◌∷◌, ◌++◌, codes, Option, Some, None}
+use Rattle.std.specs.List.{list_any}
+use Rattle.std.specs.Process.{command_program, command_args}
+use Rattle.std.specs.declared.process.command.Command.{Command}
+use Rattle.text_lines.specs.Lines.{words_of}
+
+-- a character that a shell reads: one of ~ ` ! $ ^ & * ( ) = | \ { } [ ] ; " ' < > ?
+abbrev pub is_shell_byte : ℕ → Bool
+is_shell_byte byte = list_any (λ b. b == byte) (codes "~`!$^&*()=|\\{}[];\"'<>?")
+
+-- the text has such a character
+abbrev pub needs_shell : List ℕ → Bool
+needs_shell text = list_any is_shell_byte text
+
+-- the program and its arguments: a shell that becomes the process, or else the words of the text
+abbrev pub words_run : List ℕ → List (List ℕ)
+words_run text =
+    if needs_shell text then codes "sh" ∷ codes "-c" ∷ (codes "exec " ++ text) ∷ [] else words_of text
+
+-- the program and the arguments of a command; none where there is no command
+abbrev pub words_in : {A : Type 0} → Option (Command A) → List (List ℕ)
+words_in (Some command) = command_program command ∷ command_args command
+words_in None = []

@@ -1,0 +1,4 @@
+pub mod Announced
+pub mod Calls
+pub mod Commands
+pub mod Script

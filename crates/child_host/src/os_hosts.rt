@@ -1,0 +1,189 @@
+ghost use Rattle.std.specs.Prelude.{◌≡◌, IfOk, OnErr, IsErr};
+
+use crate::announcements::announcement_text;
+use crate::calls::{HostFault, Reply};
+use crate::children::{Children, run_line, say_not_born};
+use crate::faults::{counted, is_failed_reply};
+use crate::hosts::Host;
+use crate::paths::Paths;
+use init_trace::HappeningIn;
+use init_words::{Answer, ChildNo, Id, Memory, Sig};
+use std::alloc::{Allocator, Global};
+use std::io;
+use std::io::ErrorKind;
+use std::marker::Model;
+use std::process::Processes;
+use std::rt::{Clock, Files};
+use std::time::SystemTime;
+
+/// A host that asks the operating system. It tells nothing of its calls, and answers each order at once.
+///
+/// A process text is executed by `sh` where it has a character that a shell reads; any other is split at blanks and
+/// tabs and started directly. A start for an id that has a child is refused. A child is looked at by waitpid(2) with
+/// WNOHANG; SIGTERM is sent by kill(1) in `sh`, SIGKILL directly, and a pause is a sleep(1) in `sh`. Requests are read
+/// from the channel file's first byte on. The clock gives the seconds since the beginning of 1970.
+#[derive(Drop)]
+pub struct OsHost<R: Processes + Files + Clock + Print + Eprint + Drop, A: Allocator = Global> {
+    rt: R,
+    alloc: A,
+    children: Children<R, A>,
+    paths: Paths<A>,
+    /// The line that a shell runs to pause.
+    pause: String<A>,
+    faults: u64,
+}
+
+impl<R: Processes + Files + Clock + Print + Eprint + Drop, A: Allocator> Model for OsHost<R, A> {
+    ghost use Rattle.child_host.specs.Calls.{FaultCount};
+
+    ghost Value = { FaultCount };
+
+    ghost view = { λ host. record { faults = host.faults } };
+}
+
+impl<R: Processes + Files + Clock + Print + Eprint + Drop, A: Allocator + Copy> OsHost<R, A> {
+    /// A host without children, over the paths of the inittab, of the channel of requests and of the text of init's
+    /// state. A text of the state is written to the path with `.new` behind it before it is put in its place.
+    pub fn new(
+        rt: R,
+        alloc: A,
+        inittab: &str,
+        channel: &str,
+        state: &str,
+    ) -> Result<OsHost<R, A>, Memory>
+        ensures { IfOk result (λ host. host.faults ≡ 0) }
+    {
+        Ok(OsHost {
+            rt,
+            alloc,
+            children: Children::new(alloc),
+            paths: Paths::new(alloc, inittab, channel, state)?,
+            pause: String::from_str(alloc, "sleep 1")?,
+            faults: 0,
+        })
+    }
+
+    /// The host with another length of its pauses, as sleep(1) reads it; `1` is a second.
+    pub fn with_pause(mut self, length: &str) -> Result<OsHost<R, A>, Memory>
+        ensures { IfOk result (λ host. host.faults ≡ self.faults) }
+    {
+        self.pause = format!(in self.alloc; "sleep {length}")?;
+        Ok(self)
+    }
+}
+
+/// The seconds since the beginning of 1970.
+fn seconds(rt: &impl Clock) -> io::Result<u64> {
+    match SystemTime::now(rt)?.duration_since(SystemTime::UNIX_EPOCH) {
+        Ok(time) => Ok(time.as_secs()),
+        Err(_) => Err(io::Error::from(ErrorKind::InvalidData)),
+    }
+}
+
+/// Prints what init says of the happening, at once; false where that failed.
+fn say<A: Allocator, B: Allocator>(rt: &impl Print, alloc: A, happening: &HappeningIn<B>) -> bool {
+    match announcement_text(alloc, happening) {
+        Ok(text) => rt.write_all(text.as_slice()).is_ok(),
+        Err(_) => false,
+    }
+}
+
+/// The host's fault for an error of the system.
+fn fault_of(error: &io::Error) -> HostFault {
+    match error.kind() {
+        ErrorKind::OutOfMemory => HostFault::Memory,
+        _ => HostFault::Device,
+    }
+}
+
+/// What the system gave, or the fault that its error is.
+fn told<T>(outcome: io::Result<T>) -> Result<T, HostFault>
+    ensures ok { IfOk result (λ value. outcome ≡ Ok value) }
+    ensures err { OnErr result (IsErr outcome) }
+{
+    match outcome {
+        Ok(value) => Ok(value),
+        Err(error) => Err(fault_of(&error)),
+    }
+}
+
+impl<R: Processes + Files + Clock + Print + Eprint + Drop, A: Allocator + Copy> Host
+    for OsHost<R, A> {
+    ghost use Rattle.std.specs.Prelude.{None};
+    ghost use Rattle.child_host.specs.Calls.{FaultCount};
+
+    ghost told = { λ _. None };
+
+    ghost failures = { λ (host : FaultCount). host.faults };
+
+    fn start<B: Allocator + Copy>(&mut self, alloc: B, id: Id, command: &[u8]) -> Reply {
+        let reply = match self.children.start(&self.rt, alloc, id, command) {
+            Ok(number) => Reply::Now(Answer::Born(ChildNo(number))),
+            Err(error) => {
+                say_not_born(&self.rt, &id, command, &error);
+                Reply::Now(Answer::NotBorn)
+            }
+        };
+        self.faults = counted(self.faults, is_failed_reply(&reply));
+        reply
+    }
+
+    fn look(&mut self, id: Id) -> Reply {
+        let reply = Reply::Now(self.children.look(&id));
+        self.faults = counted(self.faults, is_failed_reply(&reply));
+        reply
+    }
+
+    fn signal(&mut self, id: Id, signal: Sig) -> Reply {
+        let reply = Reply::Now(self.children.signal(&self.rt, &id, signal));
+        self.faults = counted(self.faults, is_failed_reply(&reply));
+        reply
+    }
+
+    fn late(&mut self) -> Option<(Id, Answer)> {
+        None
+    }
+
+    fn clock(&mut self) -> Result<u64, HostFault> {
+        let reading = told(seconds(&self.rt));
+        self.faults = counted(self.faults, reading.is_err());
+        reading
+    }
+
+    fn take_bytes(&mut self, buffer: &mut [u8]) -> Result<usize, HostFault> {
+        let taken = told(self.paths.take_bytes(&self.rt, buffer));
+        self.faults = counted(self.faults, taken.is_err());
+        taken
+    }
+
+    fn read_table<B: Allocator + Copy>(&mut self, alloc: B) -> Result<Vec<u8, B>, HostFault> {
+        let text = told(self.paths.read_table(&self.rt, alloc));
+        self.faults = counted(self.faults, text.is_err());
+        text
+    }
+
+    fn carry<B: Allocator + Copy>(
+        &mut self,
+        alloc: B,
+        text: &[u8],
+    ) -> Result<Vec<u8, B>, HostFault> {
+        let back = told(self.paths.carry(&self.rt, alloc, text));
+        self.faults = counted(self.faults, back.is_err());
+        back
+    }
+
+    fn announce<B: Allocator>(&mut self, happening: &HappeningIn<B>) {
+        let said = say(&self.rt, self.alloc, happening);
+        self.faults = counted(self.faults, !said);
+    }
+
+    fn pause(&mut self) {
+        let slept = run_line(&self.rt, self.alloc, self.pause.as_str());
+        let paused = matches!(slept, Ok(true));
+        self.faults = counted(self.faults, !paused);
+    }
+
+    fn faults(&self) -> u64 {
+        self.faults
+    }
+}

@@ -1,0 +1,141 @@
+ghost use Rattle.std.specs.Prelude.{◌≡◌, ◌≤◌, length, IfOk};
+ghost use Rattle.child_host.specs.Calls.{HostCall, Adds, text_read, front_read};
+ghost use Rattle.child_host.specs.Script.{tale};
+
+use crate::calls::{Bytes, Call, CallIn, HostFault, Reply};
+use init_trace::{Happening, HappeningIn};
+use init_words::{Id, Memory};
+use std::alloc::Allocator;
+
+/// Keeps a call, where all calls before it were kept and there is room for it; else calls are not told from here on.
+pub(crate) fn record<A: Allocator>(
+    calls: &mut Vec<CallIn<A>, A>,
+    tells: &mut bool,
+    call: Result<CallIn<A>, Memory>,
+)
+    ensures { (made : HostCall) → IfOk call (λ value. value ≡ made)
+        → Adds (tale tells.old calls.old.items) (tale tells.new calls.new.items) made }
+{
+    *tells = match call {
+        Ok(call) => *tells && calls.push(call).is_ok(),
+        Err(_) => false,
+    };
+}
+
+/// The call that started a child.
+pub(crate) fn start_call<A: Allocator>(
+    alloc: A,
+    id: Id,
+    command: &[u8],
+    reply: &Reply,
+) -> Result<CallIn<A>, Memory>
+    ensures { IfOk result (λ call. call ≡ Call.Start id command.now reply.now) }
+{
+    Ok(Call::Start(id, Bytes::copy_of(alloc, command)?, *reply))
+}
+
+/// A copy of a text that was read, or of why it was not.
+fn text_copy<A: Allocator, B: Allocator>(
+    alloc: A,
+    text: &Result<Vec<u8, B>, HostFault>,
+) -> Result<Result<Bytes<A>, HostFault>, Memory>
+    ensures { IfOk result (λ copy. copy ≡ text_read (λ held. held.items) text.now) }
+{
+    match text {
+        Ok(text) => Ok(Ok(Bytes::copy_of(alloc, text.as_slice())?)),
+        Err(fault) => Ok(Err(*fault)),
+    }
+}
+
+/// The call that read the inittab.
+pub(crate) fn table_call<A: Allocator, B: Allocator>(
+    alloc: A,
+    text: &Result<Vec<u8, B>, HostFault>,
+) -> Result<CallIn<A>, Memory>
+    ensures { IfOk result (λ call.
+        call ≡ Call.ReadTable (text_read (λ held. held.items) text.now)) }
+{
+    Ok(Call::ReadTable(text_copy(alloc, text)?))
+}
+
+/// The call that carried a text.
+pub(crate) fn carry_call<A: Allocator + Copy, B: Allocator>(
+    alloc: A,
+    text: &[u8],
+    back: &Result<Vec<u8, B>, HostFault>,
+) -> Result<CallIn<A>, Memory>
+    ensures { IfOk result (λ call.
+        call ≡ Call.Carry text.now (text_read (λ held. held.items) back.now)) }
+{
+    Ok(Call::Carry(Bytes::copy_of(alloc, text)?, text_copy(alloc, back)?))
+}
+
+/// A copy of what was taken to the front of a buffer.
+fn front_copy<A: Allocator>(
+    alloc: A,
+    buffer: &[u8],
+    taken: &Result<usize, HostFault>,
+) -> Result<Result<Bytes<A>, HostFault>, Memory>
+    requires { IfOk taken.now (λ count. count ≤ length buffer.now) }
+    ensures { IfOk result (λ copy. copy ≡ front_read taken.now buffer.now) }
+{
+    match taken {
+        Ok(count) => Ok(Ok(Bytes::copy_of(alloc, &buffer[..*count])?)),
+        Err(fault) => Ok(Err(*fault)),
+    }
+}
+
+/// The call that took bytes.
+pub(crate) fn bytes_call<A: Allocator>(
+    alloc: A,
+    buffer: &[u8],
+    taken: &Result<usize, HostFault>,
+) -> Result<CallIn<A>, Memory>
+    requires { IfOk taken.now (λ count. count ≤ length buffer.now) }
+    ensures { IfOk result (λ call.
+        call ≡ Call.TakeBytes (length buffer.now) (front_read taken.now buffer.now)) }
+{
+    Ok(Call::TakeBytes(buffer.len(), front_copy(alloc, buffer, taken)?))
+}
+
+/// The call that announced a happening.
+pub(crate) fn announce_call<A: Allocator + Copy, B: Allocator>(
+    alloc: A,
+    happening: &HappeningIn<B>,
+) -> Result<CallIn<A>, Memory>
+    ensures { IfOk result (λ call. call ≡ Call.Announce happening.now) }
+{
+    Ok(Call::Announce(happening_copy(alloc, happening)?))
+}
+
+/// A copy of the happening in memory of the allocator.
+fn happening_copy<A: Allocator + Copy, B: Allocator>(
+    alloc: A,
+    happening: &HappeningIn<B>,
+) -> Result<HappeningIn<A>, Memory>
+    ensures { IfOk result (λ copy. copy ≡ happening.now) }
+{
+    Ok(match happening {
+        Happening::NewTable(table) => Happening::NewTable(table.copy(alloc)?),
+        Happening::NotRead => Happening::NotRead,
+        Happening::Enter(stage, grace) => Happening::Enter(*stage, *grace),
+        Happening::Call(letter) => Happening::Call(*letter),
+        Happening::Power(kind) => Happening::Power(*kind),
+        Happening::Asked(id, order) => Happening::Asked(*id, *order),
+        Happening::Hold(id) => Happening::Hold(*id),
+        Happening::Settle(level) => Happening::Settle(*level),
+        Happening::Birth(id, child) => Happening::Birth(*id, *child),
+        Happening::NoBirth(id) => Happening::NoBirth(*id),
+        Happening::Death(child) => Happening::Death(*child),
+        Happening::Reaped(id, child, status) => Happening::Reaped(*id, *child, *status),
+        Happening::Still(id) => Happening::Still(*id),
+        Happening::NoLook(id) => Happening::NoLook(*id),
+        Happening::Hit(id) => Happening::Hit(*id),
+        Happening::Miss(id) => Happening::Miss(*id),
+        Happening::Told(id) => Happening::Told(*id),
+        Happening::Clock(reading) => Happening::Clock(*reading),
+        Happening::Nudge => Happening::Nudge,
+        Happening::Got(request) => Happening::Got(*request),
+        Happening::Handed(how) => Happening::Handed(*how),
+    })
+}

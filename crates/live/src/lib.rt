@@ -1,0 +1,9 @@
+//! The tests of a host over the operating system: real children, real files.
+#![tactic(auto)]
+
+#[cfg(test)]
+mod children_tests;
+#[cfg(test)]
+mod files_tests;
+#[cfg(test)]
+mod said_tests;
