@@ -8,7 +8,8 @@ use std::process::Abort;
 use std::test::Fail;
 use trace_check::{Verdict, check};
 
-const TRACE: &[u8] = b"use 2\na:3:once:x\nb:1:once:y\nenter 3 5\nask a start\nbirth a 10\ntold a\nenter 1 5\nask b start\nbirth b 11\n";
+const TRACE: &[u8] =
+    b"use 2\na:3:once:x\nb:1:once:y\nenter 3 5\nask a start\nbirth a 10\ntold a\nenter 1 5\nask b start\nbirth b 11\n";
 
 /// Whether the trace was read, and what the checker says of it then.
 fn judged(heap: &LocalHeap) -> Result<Result<Verdict, Memory>, ReadFault> {
@@ -39,6 +40,9 @@ fn counts(rt: &impl Abort, alloc: Global) -> Result<(usize, usize, usize), Fail>
 #[test]
 fn refused_growths(rt: HostRuntime) -> Result<(), Fail> {
     let (unread, unjudged, done) = counts(&rt, rt.alloc())?;
-    assert!(rt; unread > 8 && unjudged > 3 && done > 8, "{unread} {unjudged} {done}");
+    assert!(rt;
+        unread > 8 && unjudged > 3 && done > 8,
+        "{unread} {unjudged} {done}"
+    );
     Ok(())
 }

@@ -20,12 +20,7 @@ fn add_line(text: &mut String, line: &str) -> Result<(), AllocError> {
 }
 
 /// A text of lines from one in which ` / ` stands for line ends, its line at a place changed.
-fn changed(
-    alloc: Global,
-    trace: &str,
-    place: usize,
-    change: Change,
-) -> Result<String, AllocError> {
+fn changed(alloc: Global, trace: &str, place: usize, change: Change) -> Result<String, AllocError> {
     let mut text = String::new(alloc);
     let mut held = None;
     for (at, line) in trace.split(" / ").enumerate() {
@@ -49,11 +44,7 @@ fn changed(
 }
 
 /// `.` for a lawful trace, else the place of the first breach and its law; `!` where it does not print as the text.
-fn verdict_on(
-    alloc: Global,
-    trace: &[HappeningIn<Global>],
-    text: &str,
-) -> Result<String, Fail> {
+fn verdict_on(alloc: Global, trace: &[HappeningIn<Global>], text: &str) -> Result<String, Fail> {
     let again = print(alloc, trace)?;
     if again.as_slice() != text.as_bytes() {
         return Ok(String::from_str(alloc, "!")?);

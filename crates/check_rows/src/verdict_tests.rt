@@ -6,26 +6,11 @@ use std::test::Fail;
 /// Traces, where ` / ` stands for line ends, and their verdicts: `.` where it is lawful, else the place of the first
 /// breach from 0 and its law.
 const VERDICTS: &[(&str, &str)] = &[
-    (
-        "",
-        ".",
-    ),
-    (
-        "settle 3",
-        "0:5",
-    ),
-    (
-        "birth a 1",
-        "0:2",
-    ),
-    (
-        "use 1 / a:3:once:x / hold a",
-        "1:6",
-    ),
-    (
-        "use 1 / a:3:respawn:x / enter 3 5 / ask a kill",
-        "2:7",
-    ),
+    ("", "."),
+    ("settle 3", "0:5"),
+    ("birth a 1", "0:2"),
+    ("use 1 / a:3:once:x / hold a", "1:6"),
+    ("use 1 / a:3:respawn:x / enter 3 5 / ask a kill", "2:7"),
     (
         "use 1 / r:S:respawn:x / enter S 5 / ask r start / ask r start / ask r start / ask r \
          start / ask r start / ask r start / ask r start / ask r start / ask r start / ask r \
@@ -58,10 +43,7 @@ const VERDICTS: &[(&str, &str)] = &[
         "use 1 / a:3:once:x / enter 3 5 / ask a start / birth a 1 / enter 1 5 / settle 1",
         "5:5",
     ),
-    (
-        "use 1 / a:3:respawn:x / enter 3 5 / settle 3",
-        "2:5",
-    ),
+    ("use 1 / a:3:respawn:x / enter 3 5 / settle 3", "2:5"),
     (
         "use 1 / a:3:respawn:x / enter 3 5 / ask a start / birth a 1 / settle 3 / enter 4 5 / \
          settle 3",
@@ -153,10 +135,7 @@ const VERDICTS: &[(&str, &str)] = &[
          clock 9 / ask a kill",
         "8:7",
     ),
-    (
-        "birth a 1 / use 1 / a:3:once:x",
-        "0:2",
-    ),
+    ("birth a 1 / use 1 / a:3:once:x", "0:2"),
     (
         "use 0 / enter sysinit 5 / nudge / told x / death 4 / reaped y 4 killed / still z / \
          handed older 4 / got nothing 2 / clock 7",

@@ -120,17 +120,6 @@ pub new_any : (made : List SlotState) (found : Option SlotState) (rest all : Lis
 new_any made None rest all is distinct = tt
 new_any made (Some slot) rest all is distinct = new_of made slot rest all is distinct
 
--- a list made along another, one item at a time
-pub one_made : {X Y : Type 0} (f : X → Y) (made : List Y) (xs : List X) (i : ℕ) (y : Y) (all : List Y) → Some y ≡ option_map f (slice_get xs i) → made ++ map f (drop i xs) ≡ all → (made ++ y ∷ []) ++ map f (drop (i + 1) xs) ≡ all
-one_made {X} {Y} f made xs i y all here so_far = found (slice_get xs i) refl
-  where
-    found : (o : Option X) → slice_get xs i ≡ o → (made ++ y ∷ []) ++ map f (drop (i + 1) xs) ≡ all
-    found None is = let none : Some y ≡ None = here ∙ ap (option_map f) is in cc
-    found (Some x) is =
-        let made_of : Some y ≡ Some (f x) = here ∙ ap (option_map f) is in
-        let is_made : y ≡ f x = cc in
-        rw (append_assoc made (y ∷ []) (map f (drop (i + 1) xs)), is_made) (ap (λ rest. made ++ map f rest) (sym (drop-slice_get xs i x is)) ∙ so_far)
-
 drop_past : {X : Type 0} (xs : List X) (i : ℕ) → slice_get xs i ≡ None → drop (i + 1) xs ≡ drop i xs
 drop_past [] zero none = refl
 drop_past [] (suc i) none = let more : suc i + 1 ≡ suc (i + 1) = omega arith in rw more refl

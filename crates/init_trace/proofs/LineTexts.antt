@@ -475,9 +475,9 @@ table_begins first rest count h more brought is =
             let as_many : count ≡ length table = sym counted ∙ ap newlines (sym text) ∙ newlines-text table is_one in
             let spelled : words_of (NewTable table) ≡ words_in first = ap (λ n. codes "use" ∷ decimal n ∷ []) (sym as_many) ∙ sym (use_words (words_in first) count brought) in
             let begins : event_text (NewTable table) ++ behind ≡ first ++ 10 ∷ rest =
-              text_begins (NewTable table) behind
-              ∙ ap (λ t. t ++ 10 ∷ (text_of table ++ behind)) (rejoined first (words_of (NewTable table)) (sym spelled))
-              ∙ ap (λ t. first ++ 10 ∷ (t ++ behind)) text ∙ ap (λ t. first ++ 10 ∷ t) (sym whole) in
+            text_begins (NewTable table) behind
+            ∙ ap (λ t. t ++ 10 ∷ (text_of table ++ behind)) (rejoined first (words_of (NewTable table)) (sym spelled))
+            ∙ ap (λ t. first ++ 10 ∷ (t ++ behind)) text ∙ ap (λ t. first ++ 10 ∷ t) (sym whole) in
             rw (← same.0, ← same.1) (is_one, begins)
 
 begins_by : (first rest : List ℕ) (o : Option ℕ) (h : Event) (more : List ℕ) → entries_brought (words_in first) ≡ o → begun_by o first rest ≡ Some (h, more) → Begins h more (first ++ 10 ∷ rest)

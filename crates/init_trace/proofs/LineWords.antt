@@ -3,7 +3,8 @@ use Rattle.std.proofs.Common.{◌≡◌, ℕ, ◌+◌, ◌^◌, Bool, true, fals
 use Rattle.std.specs.Option.{option_map}
 use Rattle.std.proofs.lemmas.Bool.{and_parts, and_from, eqb-true}
 use Rattle.std.proofs.lemmas.Fmt.{decimal_digit}
-use Rattle.std.proofs.lemmas.Option.{option_and_then_some}
+use Rattle.std.proofs.lemmas.Option.{option_and_then_some, same_Some}
+use Rattle.inittab_text.proofs.ReadLemmas.{option_map_some}
 use Rattle.text_lines.specs.Lines.{cut}
 use Rattle.text_lines.proofs.PieceLemmas.{pieces_of-cut, pieces_of-whole}
 use Rattle.text_lines.specs.Numbers.{number_read}
@@ -45,16 +46,8 @@ choice false one other x is here there = there is
 named : {X P : Type 0} (word name : List ℕ) (one other : Option X) (x : X) → cond (same_id word name) one other ≡ Some x → (word ≡ name → one ≡ Some x → P) → (other ≡ Some x → P) → P
 named word name one other x is here there = choice (same_id word name) one other x is (λ same at. here (same_id-is word name same) at) there
 
--- what was read is it
-is_read : {X : Type 0} (x y : X) → Some x ≡ Some y → x ≡ y
-is_read x y is = cc
-
 nothing : {X P : Type 0} (x : X) → ◌≡◌ {A = Option X} None (Some x) → P
 nothing x is = absurd (cc)
-
-mapped : {X Y P : Type 0} (f : X → Y) (o : Option X) (y : Y) → option_map f o ≡ Some y → ((x : X) → o ≡ Some x → f x ≡ y → P) → P
-mapped f None y is next = absurd (cc)
-mapped f (Some x) y is next = next x refl (cc)
 
 paired : {X Y Z P : Type 0} (f : X → Y → Z) (o : Option X) (p : Option Y) (z : Z) → both f o p ≡ Some z → ((x : X) (y : Y) → o ≡ Some x → p ≡ Some y → f x y ≡ z → P) → P
 paired f None p z is next = absurd (cc)
@@ -69,11 +62,11 @@ tripled f (Some w) (Some x) (Some y) z is next = next w x y refl refl refl (cc)
 
 -- an id that was read
 id_of : (word id : List ℕ) → id_read word ≡ Some id → (id ≡ word) × (is_id id ≡ true)
-id_of word id is = choice (is_id word) (Some word) None id is (λ holds at. let same : word ≡ id = is_read word id at in (sym same, subst (λ w. is_id w ≡ true) same holds)) (nothing id)
+id_of word id is = choice (is_id word) (Some word) None id is (λ holds at. let same : word ≡ id = same_Some word id at in (sym same, subst (λ w. is_id w ≡ true) same holds)) (nothing id)
 
 own_level_is : (code : ℕ) (o : Option Level) (level : Level) → own_level code o ≡ Some level → level_code level ≡ code
 own_level_is code None level is = nothing level is
-own_level_is code (Some k) level is = choice (level_code k == code) (Some k) None level is (λ holds at. let same : k ≡ level = is_read k level at in subst (λ l. level_code l ≡ code) same (eqb-true (level_code k) code holds)) (nothing level)
+own_level_is code (Some k) level is = choice (level_code k == code) (Some k) None level is (λ holds at. let same : k ≡ level = same_Some k level at in subst (λ l. level_code l ≡ code) same (eqb-true (level_code k) code holds)) (nothing level)
 
 level_of : (word : List ℕ) (level : Level) → level_of_word word ≡ Some level → level_word level ≡ word
 level_of [] level is = nothing level is
@@ -82,7 +75,7 @@ level_of (code ∷ b ∷ word) level is = nothing level is
 
 own_letter_is : (code : ℕ) (o : Option Letter) (letter : Letter) → own_letter code o ≡ Some letter → letter_code letter ≡ code
 own_letter_is code None letter is = nothing letter is
-own_letter_is code (Some k) letter is = choice (letter_code k == code) (Some k) None letter is (λ holds at. let same : k ≡ letter = is_read k letter at in subst (λ l. letter_code l ≡ code) same (eqb-true (letter_code k) code holds)) (nothing letter)
+own_letter_is code (Some k) letter is = choice (letter_code k == code) (Some k) None letter is (λ holds at. let same : k ≡ letter = same_Some k letter at in subst (λ l. letter_code l ≡ code) same (eqb-true (letter_code k) code holds)) (nothing letter)
 
 letter_of : (word : List ℕ) (letter : Letter) → letter_of_word word ≡ Some letter → letter_word letter ≡ word
 letter_of [] letter is = nothing letter is
@@ -91,13 +84,13 @@ letter_of (code ∷ b ∷ word) letter is = nothing letter is
 
 -- a constant that was read at a name
 at_name : {X : Type 0} (write : X → List ℕ) (word name : List ℕ) (k x : X) → write k ≡ name → word ≡ name → Some k ≡ Some x → write x ≡ word
-at_name write word name k x own same is = let at : k ≡ x = is_read k x is in subst (λ y. write y ≡ word) at (own ∙ sym same)
+at_name write word name k x own same is = let at : k ≡ x = same_Some k x is in subst (λ y. write y ≡ word) at (own ∙ sym same)
 
 stage_of_is : (word : List ℕ) (now : Stage) → stage_of_word word ≡ Some now → stage_word now ≡ word
 stage_of_is word now is =
     named word (codes "sysinit") _ _ now is (λ same at. at_name stage_word word (codes "sysinit") stage.Sysinit now refl same at) (λ is.
     named word (codes "boot") _ _ now is (λ same at. at_name stage_word word (codes "boot") stage.Boot now refl same at) (λ is.
-    mapped stage.Run (level_of_word word) now is (λ level at same. subst (λ s. stage_word s ≡ word) same (level_of word level at))))
+    option_map_some stage.Run (level_of_word word) now is (λ level at same. subst (λ s. stage_word s ≡ word) same (level_of word level at))))
 
 order_of_is : (word : List ℕ) (order : Ask) → order_of_word word ≡ Some order → order_word order ≡ word
 order_of_is word order is =
@@ -130,7 +123,7 @@ Read happening words = (words_of happening ≡ words) × (is_in_range happening 
 -- of a happening that is one word and an id
 about : (word id : List ℕ) (given : List ℕ) (make : List ℕ → Event) (name : List ℕ) (h : Event) → ((i : List ℕ) → words_of (make i) ≡ name ∷ i ∷ []) → ((i : List ℕ) → is_in_range (make i) ≡ is_id i) → word ≡ name → id_read given ≡ Some id → Some (make id) ≡ Some h → Read h (word ∷ given ∷ [])
 about word id given make name h spoken ranged same at is =
-    let this : make id ≡ h = is_read (make id) h is in
+    let this : make id ≡ h = same_Some (make id) h is in
     let own = id_of given id at in
     subst (λ e. Read e (word ∷ given ∷ [])) this (spoken id ∙ rw (same, own.0) refl, ranged id ∙ own.1)
 
@@ -151,14 +144,14 @@ request_is word request is =
   where
     constant : (k : Request) (name : List ℕ) → got_words k ≡ name ∷ [] → is_request k ≡ true → word ≡ name → Some k ≡ Some request → (got_words request ≡ word ∷ []) × (is_request request ≡ true)
     constant k name spoken ranged same is =
-        let this : k ≡ request = is_read k request is in
+        let this : k ≡ request = same_Some k request is in
         subst (λ r. (got_words r ≡ word ∷ []) × (is_request r ≡ true)) this (spoken ∙ rw same refl, ranged)
 
 request_pair_is : (word given : List ℕ) (request : Request) → request_pair_read word given ≡ Some request → (got_words request ≡ word ∷ given ∷ []) × (is_request request ≡ true)
 request_pair_is word given request is =
-    named word (codes "call") _ _ request is (λ same made. mapped got.Call (letter_of_word given) request made (λ letter at this. made_of (got.Call letter) this (rw (same, letter_of given letter at) refl, refl))) (λ is.
-    named word (codes "power") _ _ request is (λ same made. mapped got.Power (power_of_word given) request made (λ kind at this. made_of (got.Power kind) this (rw (same, power_of_is given kind at) refl, refl))) (λ is.
-    named word (codes "nothing") _ _ request is (λ same made. mapped got.Nothing (cause_of_word given) request made (λ why at this. made_of (got.Nothing why) this (rw (same, cause_of_is given why at) refl, refl))) (nothing request)))
+    named word (codes "call") _ _ request is (λ same made. option_map_some got.Call (letter_of_word given) request made (λ letter at this. made_of (got.Call letter) this (rw (same, letter_of given letter at) refl, refl))) (λ is.
+    named word (codes "power") _ _ request is (λ same made. option_map_some got.Power (power_of_word given) request made (λ kind at this. made_of (got.Power kind) this (rw (same, power_of_is given kind at) refl, refl))) (λ is.
+    named word (codes "nothing") _ _ request is (λ same made. option_map_some got.Nothing (cause_of_word given) request made (λ why at this. made_of (got.Nothing why) this (rw (same, cause_of_is given why at) refl, refl))) (nothing request)))
   where
     made_of : (k : Request) → k ≡ request → (got_words k ≡ word ∷ given ∷ []) × (is_request k ≡ true) → (got_words request ≡ word ∷ given ∷ []) × (is_request request ≡ true)
     made_of k this own = subst (λ r. (got_words r ≡ word ∷ given ∷ []) × (is_request r ≡ true)) this own
@@ -170,21 +163,21 @@ handed_is word how is =
   where
     constant : (k : HandOver) (name : List ℕ) → handed_words k ≡ name ∷ [] → is_hand_over k ≡ true → word ≡ name → Some k ≡ Some how → (handed_words how ≡ word ∷ []) × (is_hand_over how ≡ true)
     constant k name spoken ranged same is =
-        let this : k ≡ how = is_read k how is in
+        let this : k ≡ how = same_Some k how is in
         subst (λ r. (handed_words r ≡ word ∷ []) × (is_hand_over r ≡ true)) this (spoken ∙ rw same refl, ranged)
 
 handed_pair_is : (word given : List ℕ) (how : HandOver) → handed_pair_read word given ≡ Some how → (handed_words how ≡ word ∷ given ∷ []) × (is_hand_over how ≡ true)
 handed_pair_is word given how is =
-    named word (codes "cut") _ _ how is (λ same made. mapped handed.Cut (number_read (2 ^ 64) given) how made (λ n at this. made_of (handed.Cut n) this (rw (same, (decimal-number_read (2 ^ 64) given n at).0) refl, (decimal-number_read (2 ^ 64) given n at).1))) (λ is.
-    named word (codes "older") _ _ how is (λ same made. mapped handed.Older (number_read (2 ^ 64) given) how made (λ n at this. made_of (handed.Older n) this (rw (same, (decimal-number_read (2 ^ 64) given n at).0) refl, (decimal-number_read (2 ^ 64) given n at).1))) (nothing how))
+    named word (codes "cut") _ _ how is (λ same made. option_map_some handed.Cut (number_read (2 ^ 64) given) how made (λ n at this. made_of (handed.Cut n) this (rw (same, (decimal-number_read (2 ^ 64) given n at).0) refl, (decimal-number_read (2 ^ 64) given n at).1))) (λ is.
+    named word (codes "older") _ _ how is (λ same made. option_map_some handed.Older (number_read (2 ^ 64) given) how made (λ n at this. made_of (handed.Older n) this (rw (same, (decimal-number_read (2 ^ 64) given n at).0) refl, (decimal-number_read (2 ^ 64) given n at).1))) (nothing how))
   where
     made_of : (k : HandOver) → k ≡ how → (handed_words k ≡ word ∷ given ∷ []) × (is_hand_over k ≡ true) → (handed_words how ≡ word ∷ given ∷ []) × (is_hand_over how ≡ true)
     made_of k this own = subst (λ r. (handed_words r ≡ word ∷ given ∷ []) × (is_hand_over r ≡ true)) this own
 
 one_is : (word : List ℕ) (h : Event) → one_read word ≡ Some h → Read h (word ∷ [])
 one_is word h is =
-    named word (codes "nudge") _ _ h is (λ same made. subst (λ e. Read e (word ∷ [])) (is_read Nudge h made) (rw same refl, refl)) (λ is.
-    named word (codes "notread") _ _ h is (λ same made. subst (λ e. Read e (word ∷ [])) (is_read NotRead h made) (rw same refl, refl)) (nothing h))
+    named word (codes "nudge") _ _ h is (λ same made. subst (λ e. Read e (word ∷ [])) (same_Some Nudge h made) (rw same refl, refl)) (λ is.
+    named word (codes "notread") _ _ h is (λ same made. subst (λ e. Read e (word ∷ [])) (same_Some NotRead h made) (rw same refl, refl)) (nothing h))
 
 -- a happening that was made of what was read
 made : (k h : Event) (words : List (List ℕ)) → k ≡ h → Read k words → Read h words
@@ -192,13 +185,13 @@ made k h words this own = subst (λ e. Read e words) this own
 
 two_is : (word given : List ℕ) (h : Event) → two_read word given ≡ Some h → Read h (word ∷ given ∷ [])
 two_is word given h is =
-    named word (codes "clock") _ _ h is (λ same is. mapped Clock (number_read (2 ^ 64) given) h is (λ n at this. made (Clock n) h _ this (rw (same, (decimal-number_read (2 ^ 64) given n at).0) refl, (decimal-number_read (2 ^ 64) given n at).1))) (λ is.
-    named word (codes "death") _ _ h is (λ same is. mapped Death (child_of_word given) h is (λ n at this. made (Death n) h _ this (rw (same, (decimal-number_read (2 ^ 32) given n at).0) refl, (decimal-number_read (2 ^ 32) given n at).1))) (λ is.
-    named word (codes "settle") _ _ h is (λ same is. mapped Settle (level_of_word given) h is (λ level at this. made (Settle level) h _ this (rw (same, level_of given level at) refl, refl))) (λ is.
-    named word (codes "call") _ _ h is (λ same is. mapped Call (letter_of_word given) h is (λ letter at this. made (Call letter) h _ this (rw (same, letter_of given letter at) refl, refl))) (λ is.
-    named word (codes "power") _ _ h is (λ same is. mapped Power (power_of_word given) h is (λ kind at this. made (Power kind) h _ this (rw (same, power_of_is given kind at) refl, refl))) (λ is.
-    named word (codes "got") _ _ h is (λ same is. mapped Got (request_read given) h is (λ request at this. made (Got request) h _ this (rw (same, (request_is given request at).0) refl, (request_is given request at).1))) (λ is.
-    named word (codes "handed") _ _ h is (λ same is. mapped Handed (handed_read given) h is (λ how at this. made (Handed how) h _ this (rw (same, (handed_is given how at).0) refl, (handed_is given how at).1))) (λ is.
+    named word (codes "clock") _ _ h is (λ same is. option_map_some Clock (number_read (2 ^ 64) given) h is (λ n at this. made (Clock n) h _ this (rw (same, (decimal-number_read (2 ^ 64) given n at).0) refl, (decimal-number_read (2 ^ 64) given n at).1))) (λ is.
+    named word (codes "death") _ _ h is (λ same is. option_map_some Death (child_of_word given) h is (λ n at this. made (Death n) h _ this (rw (same, (decimal-number_read (2 ^ 32) given n at).0) refl, (decimal-number_read (2 ^ 32) given n at).1))) (λ is.
+    named word (codes "settle") _ _ h is (λ same is. option_map_some Settle (level_of_word given) h is (λ level at this. made (Settle level) h _ this (rw (same, level_of given level at) refl, refl))) (λ is.
+    named word (codes "call") _ _ h is (λ same is. option_map_some Call (letter_of_word given) h is (λ letter at this. made (Call letter) h _ this (rw (same, letter_of given letter at) refl, refl))) (λ is.
+    named word (codes "power") _ _ h is (λ same is. option_map_some Power (power_of_word given) h is (λ kind at this. made (Power kind) h _ this (rw (same, power_of_is given kind at) refl, refl))) (λ is.
+    named word (codes "got") _ _ h is (λ same is. option_map_some Got (request_read given) h is (λ request at this. made (Got request) h _ this (rw (same, (request_is given request at).0) refl, (request_is given request at).1))) (λ is.
+    named word (codes "handed") _ _ h is (λ same is. option_map_some Handed (handed_read given) h is (λ how at this. made (Handed how) h _ this (rw (same, (handed_is given how at).0) refl, (handed_is given how at).1))) (λ is.
     option_and_then_some (about_read word) (id_read given) h is (λ id at more. about_is word given id h at more))))))))
 
 three_is : (word first second : List ℕ) (h : Event) → three_read word first second ≡ Some h → Read h (word ∷ first ∷ second ∷ [])
@@ -206,8 +199,8 @@ three_is word first second h is =
     named word (codes "ask") _ _ h is (λ same is. paired Asked (id_read first) (order_of_word second) h is (λ id order at of this. made (Asked id order) h _ this (rw (same, (id_of first id at).0, order_of_is second order of) refl, (id_of first id at).1))) (λ is.
     named word (codes "birth") _ _ h is (λ same is. paired Birth (id_read first) (child_of_word second) h is (λ id n at of this. made (Birth id n) h _ this (rw (same, (id_of first id at).0, (decimal-number_read (2 ^ 32) second n of).0) refl, and_from _ _ (id_of first id at).1 (decimal-number_read (2 ^ 32) second n of).1))) (λ is.
     named word (codes "enter") _ _ h is (λ same is. paired Enter (stage_of_word first) (seconds_of_word second) h is (λ now seconds at of this. made (Enter now seconds) h _ this (rw (same, stage_of_is first now at, (decimal-number_read (GRACE_LIMIT + 1) second seconds of).0) refl, (decimal-number_read (GRACE_LIMIT + 1) second seconds of).1))) (λ is.
-    named word (codes "got") _ _ h is (λ same is. mapped Got (request_pair_read first second) h is (λ request at this. made (Got request) h _ this (rw (same, (request_pair_is first second request at).0) refl, (request_pair_is first second request at).1))) (λ is.
-    named word (codes "handed") _ _ h is (λ same is. mapped Handed (handed_pair_read first second) h is (λ how at this. made (Handed how) h _ this (rw (same, (handed_pair_is first second how at).0) refl, (handed_pair_is first second how at).1))) (nothing h)))))
+    named word (codes "got") _ _ h is (λ same is. option_map_some Got (request_pair_read first second) h is (λ request at this. made (Got request) h _ this (rw (same, (request_pair_is first second request at).0) refl, (request_pair_is first second request at).1))) (λ is.
+    named word (codes "handed") _ _ h is (λ same is. option_map_some Handed (handed_pair_read first second) h is (λ how at this. made (Handed how) h _ this (rw (same, (handed_pair_is first second how at).0) refl, (handed_pair_is first second how at).1))) (nothing h)))))
 
 -- the words of two names at once
 two_named : {X P : Type 0} (word name other second : List ℕ) (one rest : Option X) (x : X) → cond (same_id word name && same_id other second) one rest ≡ Some x → (word ≡ name → other ≡ second → one ≡ Some x → P) → (rest ≡ Some x → P) → P
@@ -226,7 +219,7 @@ four_is word first second third h is =
   where
     killed : (status : Status) (id : List ℕ) (n : ℕ) → word ≡ codes "reaped" → third ≡ codes "killed" → id_read first ≡ Some id → child_of_word second ≡ Some n → Some Killed ≡ Some status → Read (Reaped id n status) (word ∷ first ∷ second ∷ third ∷ [])
     killed status id n same how at of was =
-        let this : Killed ≡ status = is_read Killed status was in
+        let this : Killed ≡ status = same_Some Killed status was in
         subst (λ s. Read (Reaped id n s) (word ∷ first ∷ second ∷ third ∷ [])) this (reaped_is word first second None Killed (third ∷ []) id n same at of (rw how refl) refl)
 
 five_is : (word first second third fourth : List ℕ) (h : Event) → five_read word first second third fourth ≡ Some h → Read h (word ∷ first ∷ second ∷ third ∷ fourth ∷ [])
@@ -235,7 +228,7 @@ five_is word first second third fourth h is =
   where
     ended : (status : Status) (id : List ℕ) (n : ℕ) → word ≡ codes "reaped" → third ≡ codes "exit" → id_read first ≡ Some id → child_of_word second ≡ Some n → code_of_word fourth ≡ Some status → Read (Reaped id n status) (word ∷ first ∷ second ∷ third ∷ fourth ∷ [])
     ended status id n same how at of was =
-        mapped Exit (number_read 256 fourth) status was (λ code read this.
+        option_map_some Exit (number_read 256 fourth) status was (λ code read this.
         let own = decimal-number_read 256 fourth code read in
         subst (λ s. Read (Reaped id n s) (word ∷ first ∷ second ∷ third ∷ fourth ∷ [])) this (reaped_is word first second None (Exit code) (third ∷ fourth ∷ []) id n same at of (rw (how, own.0) refl) own.1))
 

@@ -94,7 +94,7 @@ counted_on before more rest text h number is begins whole counted =
     let both : newlines (before ++ event_text h) ≡ newlines before + newlines (event_text h) = newlines-append before (event_text h) in
     let few : newlines (before ++ event_text h) ≤ length (before ++ event_text h) = newlines-few (before ++ event_text h) in
     let front : length (before ++ event_text h) ≤ length text =
-      omega (arith, length-append before (event_text h), length-append before rest, length-append (event_text h) more, ap length begins, ap length whole) in
+    omega (arith, length-append before (event_text h), length-append before rest, length-append (event_text h) more, ap length begins, ap length whole) in
     (omega (arith, both, newlines-event h is, counted), omega (arith, both, newlines-event h is, counted, few, front))
 
 pub none_left : (front rest text : List ℕ) → front ++ rest ≡ text → rest ≡ [] → front ≡ text

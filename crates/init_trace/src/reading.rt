@@ -116,10 +116,7 @@ fn keep<A: Allocator>(
 
 /// The happenings of a trace's text, the oldest first: those that print as this text. A text that is no trace's is
 /// refused with the number of the first line at which no happening begins (`Line`).
-pub fn read<A: Allocator + Copy>(
-    alloc: A,
-    text: &[u8],
-) -> Result<Vec<HappeningIn<A>, A>, ReadFault>
+pub fn read<A: Allocator + Copy>(alloc: A, text: &[u8]) -> Result<Vec<HappeningIn<A>, A>, ReadFault>
     ensures read { IfOk result (λ trace.
         (are_in_range trace.items ≡ true) × (trace_text trace.items ≡ text.now)) }
     // No other trace has the text, and one that has it is read.

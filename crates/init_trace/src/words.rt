@@ -24,7 +24,11 @@ fn read_level(word: &[u8]) -> Option<Level>
         return None;
     };
     let level = Level::read(*code)?;
-    if level.code() == *code { Some(level) } else { None }
+    if level.code() == *code {
+        Some(level)
+    } else {
+        None
+    }
 }
 
 fn read_letter(word: &[u8]) -> Option<Letter>
@@ -34,7 +38,11 @@ fn read_letter(word: &[u8]) -> Option<Letter>
         return None;
     };
     let letter = Letter::read(*code)?;
-    if letter.code() == *code { Some(letter) } else { None }
+    if letter.code() == *code {
+        Some(letter)
+    } else {
+        None
+    }
 }
 
 fn read_stage(word: &[u8]) -> Option<Stage>
@@ -268,17 +276,10 @@ fn read_four<A: Allocator>(
     ensures { result ≡ four_read word.now first.now second.now third.now }
 {
     if is(word, b"reaped") && is(third, b"killed") {
-        return Some(Happening::Reaped(
-            Id::read(first)?,
-            read_child(second)?,
-            Status::Killed,
-        ));
+        return Some(Happening::Reaped(Id::read(first)?, read_child(second)?, Status::Killed));
     }
     if is(word, b"got") && is(first, b"level") {
-        return Some(Happening::Got(Got::Level(
-            read_level(second)?,
-            read_seconds(third)?,
-        )));
+        return Some(Happening::Got(Got::Level(read_level(second)?, read_seconds(third)?)));
     }
     None
 }
@@ -293,11 +294,7 @@ fn read_five<A: Allocator>(
     ensures { result ≡ five_read word.now first.now second.now third.now fourth.now }
 {
     if is(word, b"reaped") && is(third, b"exit") {
-        return Some(Happening::Reaped(
-            Id::read(first)?,
-            read_child(second)?,
-            read_code(fourth)?,
-        ));
+        return Some(Happening::Reaped(Id::read(first)?, read_child(second)?, read_code(fourth)?));
     }
     None
 }

@@ -1,6 +1,7 @@
 -- Lemmas on tests, and on lists that are searched and filtered by them.
-use Rattle.std.proofs.Common.{◌≡◌, refl, sym, ◌∙◌, ap, inl, inr, Bool, true, false, not, ◌&&◌, ◌||◌, cond, List, [], ◌∷◌, filter, find, Option, Some, None, is_none, Result, Ok, Err}
+use Rattle.std.proofs.Common.{◌≡◌, refl, sym, ◌∙◌, ap, inl, inr, Bool, true, false, not, ◌&&◌, ◌||◌, cond, List, [], ◌∷◌, filter, find, Option, Some, None, is_none, is_some, Result, Ok, Err}
 use Rattle.std.specs.List.{list_any, list_all}
+use Rattle.std.specs.Option.{option_map}
 use Rattle.std.specs.Result.{IfErr}
 use Rattle.std.proofs.lemmas.Bool.{false≢true, false_from_ne_true, and_parts, and_from, or_cases, or_left, or_right, or_parts, or_from}
 use Rattle.std.proofs.lemmas.List.Elements.{filter_agree}
@@ -40,6 +41,13 @@ or_false false = refl
 pub and_false : (b : Bool) → (b && false) ≡ false
 and_false true = refl
 and_false false = refl
+
+pub or_none : (a b : Bool) → b ≡ false → (a || b) ≡ a
+or_none a b none = ap (λ c. a || c) none ∙ or_false a
+
+pub and_three : (a b c : Bool) → (a && (b && c)) ≡ (a && b && c)
+and_three true b c = refl
+and_three false b c = refl
 
 -- options
 pub is_none-is : {X : Type 0} (o : Option X) → is_none o ≡ true → o ≡ None
@@ -136,6 +144,14 @@ find_none p [] h = refl
 find_none p (x ∷ xs) h =
     let parts = or_parts (p x) (list_any p xs) h in
     rw parts.0 (find_none p xs parts.1)
+
+-- something is found exactly where something passes
+pub found_any : {X Y : Type 0} (f : X → Y) (p : X → Bool) (xs : List X) → is_some (option_map f (find p xs)) ≡ list_any p xs
+found_any f p [] = refl
+found_any {X} f p (x ∷ xs) = split (p x) (found_any f p xs) where
+  split : (b : Bool) → is_some (option_map f (find p xs)) ≡ list_any p xs → is_some (option_map f (cond b (Some x) (find p xs))) ≡ (b || list_any p xs)
+  split true rest = refl
+  split false rest = rest
 
 -- what holds of an error holds of a result that is it
 pub err_is : {S E : Type 0} (r : Result S E) (e : E) (Q : E → Type 0) → r ≡ Err e → Q e → IfErr r Q

@@ -30,4 +30,3 @@ abbrev pub EndsBy : List (List ℕ) → Ending → Option (List ℕ) → Option 
 EndsBy words usage old new = (read_of words ≡ None) × Keeps old new
 EndsBy words no_memory old new = Keeps old new
 EndsBy words ending old new = (said : Said) × (read_of words ≡ Some said) × EndsSaid said ending old new
-

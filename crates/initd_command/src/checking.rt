@@ -135,16 +135,16 @@ fn breach_message(
 {
     let before = print(alloc, &trace[..place])?;
     let own = print_one(alloc, &trace[place])?;
-    let text = message_of(alloc, newlines(&before) as u64 + 1, first_line(&own), law_text(law))?;
+    let text = message_of(
+        alloc,
+        newlines(&before) as u64 + 1,
+        first_line(&own),
+        law_text(law),
+    )?;
     Ok(text)
 }
 
-fn message_of(
-    alloc: Global,
-    number: u64,
-    line: &[u8],
-    why: &[u8],
-) -> Result<Vec<u8>, AllocError>
+fn message_of(alloc: Global, number: u64, line: &[u8], why: &[u8]) -> Result<Vec<u8>, AllocError>
     ensures { IfOk result (λ text. text.items ≡ message_of number line.now why.now) }
 {
     let mut text = Vec::new(alloc);

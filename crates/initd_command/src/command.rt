@@ -111,14 +111,12 @@ fn read_check(alloc: Global, matches: &ArgMatches) -> Result<Option<Words>, Allo
 fn read_trace(alloc: Global, matches: &ArgMatches) -> Result<Words, AllocError>
     ensures { IfOk result (λ said. said_of said ≡ trace_said (rows_of (found_of matches.now))) }
 {
-    Ok(Words::Check(String::from_str(
-        alloc,
-        value_of(matches, "trace"),
-    )?))
+    Ok(Words::Check(String::from_str(alloc, value_of(matches, "trace"))?))
 }
 
 fn read_simulate(alloc: Global, matches: &ArgMatches) -> Result<Option<Words>, AllocError>
-    ensures { IfOk result (λ said. option_map said_of said ≡ option_map runs (words_said (rows_of (found_of matches.now)))) }
+    ensures { IfOk result (λ said.
+        option_map said_of said ≡ option_map runs (words_said (rows_of (found_of matches.now)))) }
 {
     let Some(level) = read_level_option(matches) else {
         return Ok(None);

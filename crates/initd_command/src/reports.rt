@@ -3,8 +3,7 @@ ghost use Rattle.program_edge.specs.Writing.{AppendsPrefix};
 ghost use Rattle.initd_command.specs.Endings.{ReportsText, fault_message, fault_status, file_message};
 
 use program_edge::{DEVICE_FAULT, REFUSED, write_text};
-use std::alloc::AllocError;
-use std::alloc::Global;
+use std::alloc::{AllocError, Global};
 use std::io;
 use std::io::Write;
 use supervisor::SimFault;
@@ -25,7 +24,12 @@ pub(crate) fn report_fault<E: Write>(alloc: Global, fault: &SimFault, err: &mut 
 }
 
 /// Reports that a file was not read, and gives the exit status.
-pub(crate) fn report_unread<E: Write>(alloc: Global, path: &str, error: &io::Error, err: &mut E) -> u8
+pub(crate) fn report_unread<E: Write>(
+    alloc: Global,
+    path: &str,
+    error: &io::Error,
+    err: &mut E,
+) -> u8
     ensures status { result ≡ DEVICE_FAULT }
     ensures reported { (why : List ℕ)
         × ReportsText (file_message path.now why) (E.contents err.old) (E.contents err.new) }

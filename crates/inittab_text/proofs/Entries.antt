@@ -1,5 +1,5 @@
 -- Lists of entries: one more behind them, and what is left of them from a place on.
-use Rattle.std.proofs.Common.{◌≡◌, refl, sym, ◌∙◌, ap, cond, zero, suc, ◌+◌, ◌<◌, ◌≤◌, Bool, true, false, not, ◌&&◌, nat_le, List, [], ◌∷◌, ◌++◌, length, drop, slice_get, length-append, ℕ, map, Option, Some, None, find, subst, arith}
+use Rattle.std.proofs.Common.{◌≡◌, refl, sym, ◌∙◌, ap, cond, zero, suc, ◌+◌, ◌<◌, ◌≤◌, Bool, true, false, not, ◌&&◌, nat_le, List, [], ◌∷◌, ◌++◌, length, drop, slice_get, length-append, ℕ, map, Option, Some, None, find, option_map, append_assoc, subst, arith}
 use Rattle.std.specs.Map.{keys_of, values_of, lookup}
 use Rattle.std.specs.List.{list_any, list_all}
 use Rattle.std.specs.Option.{option_or}
@@ -41,6 +41,17 @@ drop-slice_get (y ∷ xs) zero x is =
 drop-slice_get (y ∷ xs) (suc i) x is =
     let more : suc i + 1 ≡ suc (i + 1) = omega arith in
     rw more (drop-slice_get xs i x is)
+
+-- a list made along another, one item at a time
+pub one_made : {X Y : Type 0} (f : X → Y) (made : List Y) (xs : List X) (i : ℕ) (y : Y) (all : List Y) → Some y ≡ option_map f (slice_get xs i) → made ++ map f (drop i xs) ≡ all → (made ++ y ∷ []) ++ map f (drop (i + 1) xs) ≡ all
+one_made {X} {Y} f made xs i y all here so_far = at (slice_get xs i) refl
+  where
+    at : (found : Option X) → slice_get xs i ≡ found → (made ++ y ∷ []) ++ map f (drop (i + 1) xs) ≡ all
+    at None is = let none : Some y ≡ None = here ∙ ap (option_map f) is in cc
+    at (Some x) is =
+        let made_of : Some y ≡ Some (f x) = here ∙ ap (option_map f) is in
+        let is_made : y ≡ f x = cc in
+        rw (append_assoc made (y ∷ []) (map f (drop (i + 1) xs)), is_made) (ap (λ rest. made ++ map f rest) (sym (drop-slice_get xs i x is)) ∙ so_far)
 
 pub default_level_of-drop : (es : List Entry) (i : ℕ) (e : Entry) → slice_get es i ≡ Some e → default_level_of (drop i es) ≡ option_or (default_of e) (default_level_of (drop (i + 1) es))
 default_level_of-drop es i e is = ap default_level_of (drop-slice_get es i e is)

@@ -34,7 +34,7 @@ after_written (e ∷ table) more are =
     let both = and_parts (is_written e) (list_all is_written table) are in
     let line = fields_written e in
     let regrouped : ((line ++ 10 ∷ []) ++ text_of table) ++ more ≡ line ++ 10 ∷ (text_of table ++ more) =
-      append_assoc (line ++ 10 ∷ []) (text_of table) more ∙ append_assoc line (10 ∷ []) (text_of table ++ more) in
+    append_assoc (line ++ 10 ∷ []) (text_of table) more ∙ append_assoc line (10 ∷ []) (text_of table ++ more) in
     rw (regrouped, cut-append 10 line (text_of table ++ more) (one_line e (parts e both.0))) (after_written table more both.1)
 
 pub after_lines-text : (table : List Entry) (more : List ℕ) → is_table table ≡ true → after_lines (length table) (text_of table ++ more) ≡ Some more

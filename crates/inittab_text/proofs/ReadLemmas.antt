@@ -31,7 +31,7 @@ use Rattle.inittab_text.proofs.MarkLemmas.{length-marks_of, has_no_repeat-withou
 abbrev pub spelled : FieldBytes → List ℕ
 spelled f = f.id ++ 58 ∷ (f.levels ++ 58 ∷ (f.action ++ 58 ∷ f.process))
 
-option_map_some : {X Y P : Type 0} (f : X → Y) (o : Option X) (y : Y) → option_map f o ≡ Some y → ((x : X) → o ≡ Some x → f x ≡ y → P) → P
+pub option_map_some : {X Y P : Type 0} (f : X → Y) (o : Option X) (y : Y) → option_map f o ≡ Some y → ((x : X) → o ≡ Some x → f x ≡ y → P) → P
 option_map_some f None y is next = absurd (cc)
 option_map_some f (Some x) y is next = next x refl (cc)
 

@@ -1,7 +1,6 @@
 pub mod FirstDue
 pub mod Fitting
 pub mod Heads
-pub mod Opening
 pub mod Pairs
 pub mod Plain
 pub mod Same

@@ -1,7 +1,7 @@
 -- What the records say of an entry is what the past says of it.
 use Rattle.std.proofs.Common.{Bool, true, false, not, ◌≡◌, ◌&&◌, ◌||◌, ℕ, List, [], ◌∷◌, map, zip, find, Option, Some, None, is_some, is_none, refl, sym, ap, ◌∙◌, cond, option_map}
 use Rattle.std.specs.List.{list_any}
-use Rattle.init_words.proofs.Tests.{and_false, or_true}
+use Rattle.init_words.proofs.Tests.{found_any, and_false, or_true}
 use Rattle.init_words.specs.declared.entries.Entry.{Entry}
 use Rattle.init_words.specs.declared.stages.Stage.{Stage}
 use Rattle.init_words.specs.declared.orders.Ask.{Ask}
@@ -33,20 +33,12 @@ pub record Tame (past : List Event) : Type 0 where
   pub busy : list_any (λ order. not (same_ask Look order.ask)) (open_orders past) ≡ list_any (λ (e : Entry). is_busy (open_of e.id past)) (table_of past)
   pub asked : list_any (λ order. true) (open_orders past) ≡ list_any (λ (e : Entry). is_some (open_of e.id past)) (table_of past)
 
-pub found_some : {X Y : Type 0} (f : X → Y) (p : X → Bool) (xs : List X) → is_some (option_map f (find p xs)) ≡ list_any p xs
-found_some f p [] = refl
-found_some {X} {Y} f p (x ∷ xs) = at (p x) (found_some f p xs)
-  where
-    at : (b : Bool) → is_some (option_map f (find p xs)) ≡ list_any p xs → is_some (option_map f (cond b (Some x) (find p xs))) ≡ (b || list_any p xs)
-    at true h = refl
-    at false h = h
-
 none_by_some : {X : Type 0} (o : Option X) → is_none o ≡ not (is_some o)
 none_by_some None = refl
 none_by_some (Some x) = refl
 
 pub child_some : (id : List ℕ) (past : List Event) → is_some (known_child id past) ≡ has_child id (known_children past)
-child_some id past = found_some living (is_of id) (known_children past)
+child_some id past = found_any living (is_of id) (known_children past)
 
 pub child_none : (id : List ℕ) (past : List Event) → is_none (known_child id past) ≡ not (has_child id (known_children past))
 child_none id past = none_by_some (known_child id past) ∙ ap not (child_some id past)

@@ -30,11 +30,7 @@ pub fn read_all<R: Read, A: Allocator>(alloc: A, from: &mut R) -> io::Result<Vec
 }
 
 /// All bytes of a file, as `read_all` reads them.
-pub fn read_file<R: Files, A: Allocator>(
-    rt: &R,
-    alloc: A,
-    path: &str,
-) -> io::Result<Vec<u8, A>> {
+pub fn read_file<R: Files, A: Allocator>(rt: &R, alloc: A, path: &str) -> io::Result<Vec<u8, A>> {
     let mut file = File::open(rt, path)?;
     read_all(alloc, &mut file)
 }

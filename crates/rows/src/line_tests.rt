@@ -7,13 +7,31 @@ use std::test::Fail;
 /// Texts of traces, and texts that are none with the number of the line at which no happening begins.
 const TEXTS: &[(&str, u64)] = &[
     ("", 0),
-    ("birth r 0\nbirth r 4294967295\nnobirth r\ndeath 7\nstill r\nnolook r\nhit r\nmiss r\ntold r\n", 0),
-    ("reaped r 7 exit 0\nreaped r 7 exit 255\nreaped r 7 killed\nnudge\nnotread\n", 0),
+    (
+        "birth r 0\nbirth r 4294967295\nnobirth r\ndeath 7\nstill r\nnolook r\nhit r\nmiss r\ntold r\n",
+        0,
+    ),
+    (
+        "reaped r 7 exit 0\nreaped r 7 exit 255\nreaped r 7 killed\nnudge\nnotread\n",
+        0,
+    ),
     ("clock 0\nclock 18446744073709551615\n", 0),
-    ("enter sysinit 0\nenter boot 5\nenter S 3600\nenter 9 1\nsettle S\nsettle 0\ncall A\ncall C\n", 0),
-    ("ask abcd start\nask r look\nask r term\nask r kill\nhold r\npower fail\npower failnow\npower ok\n", 0),
-    ("got level 3 3600\ngot call B\ngot reload\ngot reexec\ngot power ok\ngot nothing 1\ngot nothing 4\n", 0),
-    ("handed whole\nhanded cut 20\nhanded older 18446744073709551615\nhanded none\n", 0),
+    (
+        "enter sysinit 0\nenter boot 5\nenter S 3600\nenter 9 1\nsettle S\nsettle 0\ncall A\ncall C\n",
+        0,
+    ),
+    (
+        "ask abcd start\nask r look\nask r term\nask r kill\nhold r\npower fail\npower failnow\npower ok\n",
+        0,
+    ),
+    (
+        "got level 3 3600\ngot call B\ngot reload\ngot reexec\ngot power ok\ngot nothing 1\ngot nothing 4\n",
+        0,
+    ),
+    (
+        "handed whole\nhanded cut 20\nhanded older 18446744073709551615\nhanded none\n",
+        0,
+    ),
     ("use 0\nuse 2\na:3:once:x\nb:1:respawn:y\nnudge\n", 0),
     // No last newline, and a line of no byte.
     ("nudge", 1),
@@ -72,7 +90,11 @@ const TEXTS: &[(&str, u64)] = &[
 /// 0 where the trace prints as the text again.
 fn printed_again(alloc: Global, trace: &[HappeningIn<Global>], text: &str) -> Result<u64, Fail> {
     let again = print(alloc, trace)?;
-    Ok(if again.as_slice() == text.as_bytes() { 0 } else { u64::MAX })
+    Ok(if again.as_slice() == text.as_bytes() {
+        0
+    } else {
+        u64::MAX
+    })
 }
 
 /// The number of the line at which the text is no trace's, 0 where it is one's.

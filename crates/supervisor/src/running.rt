@@ -14,7 +14,9 @@ ghost use Rattle.supervisor.specs.Faults.{Leaves};
 ghost use Rattle.supervisor.specs.Moments.{AtRest, Breaks, ComesToRest, FromMoment, FromRest, FromScript, HeardEnds, HeardOne, MayBeHeard, Moment, OpeningEnds, SomeMoment, SomeRest, TableEnds, opening_text};
 ghost use Rattle.supervisor.specs.Simulation.{Done, Ends, IsTooLong, scenario};
 
-use init_trace::{Happening, HappeningIn, Step, first_happening, line_count, print_one, print_table};
+use init_trace::{
+    Happening, HappeningIn, Step, first_happening, line_count, print_one, print_table,
+};
 use init_words::{Level, Memory};
 use inittab_text::{Table, TableFault, read};
 use level_core::Core;
@@ -252,9 +254,11 @@ fn hear_all<A: Allocator + Copy, W: Write>(
 ) -> Result<(), SimFault>
     requires { SomeRest core.old side.old }
     ensures done { OnOk result (
-        FromScript text.now core.old side.old (W.contents out.old) (λ s before. Done s before (W.contents out.new))) }
+        FromScript text.now core.old side.old (W.contents out.old)
+        (λ s before. Done s before (W.contents out.new))) }
     ensures ended { IfErr result (λ fault.
-        FromScript text.now core.old side.old (W.contents out.old) (λ s before. Ends s fault before (W.contents out.new))) }
+        FromScript text.now core.old side.old (W.contents out.old)
+        (λ s before. Ends s fault before (W.contents out.new))) }
 {
     let mut rest = text;
     let mut number = 1;

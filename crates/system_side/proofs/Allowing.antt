@@ -12,7 +12,7 @@ use Rattle.init_trace.specs.Past.{Child, has_number, is_child, is_dead, is_livin
 use Rattle.init_trace.specs.Wanted.{is_order}
 use Rattle.init_trace.specs.Sound.{may_come, is_sound}
 use Rattle.init_words.proofs.Same.{same_id-is}
-use Rattle.init_words.proofs.Tests.{any_same}
+use Rattle.init_words.proofs.Tests.{and_three, any_same}
 use Rattle.trace_laws.proofs.Told.{answered_untold}
 use Rattle.system_side.specs.State.{State, is_living_in, is_dead_in}
 use Rattle.system_side.specs.Steps.{is_script, allowed}
@@ -24,10 +24,6 @@ and_swap true true = refl
 and_swap true false = refl
 and_swap false true = refl
 and_swap false false = refl
-
-and_three : (a b c : Bool) → (a && (b && c)) ≡ (a && b && c)
-and_three true b c = refl
-and_three false b c = refl
 
 living : (number : ℕ) (past : List Event) (o : Option Child) → option_map_or (λ child. not (is_dead child.id number past)) o false ≡ option_map_or (λ child. not child.is_dead) (option_map (process_of number past) o) false
 living number past None = refl

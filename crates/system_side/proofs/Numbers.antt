@@ -10,7 +10,7 @@ use Rattle.init_words.specs.declared.orders.Ask.TheVariants.{Start}
 use Rattle.init_trace.specs.Past.{Child, is_child, has_number, undone_of, unreaped_children}
 use Rattle.init_trace.specs.Wanted.{is_order}
 use Rattle.init_trace.specs.Sound.{may_come, is_sound}
-use Rattle.init_words.proofs.Tests.{falsely, both_ways, not_from, any_less, any_filtered}
+use Rattle.init_words.proofs.Tests.{or_none, falsely, both_ways, not_from, any_less, any_filtered}
 use Rattle.trace_laws.proofs.Keeps.{sound_ind}
 
 -- at most one child of the list passes
@@ -52,10 +52,6 @@ one_number goal past h = sound_ind goal (λ before. (number : ℕ) → is_single
 pub single_any : (p q : Child → Bool) (xs : List Child) → is_single p xs ≡ true → list_any (λ x. p x && q x) xs ≡ option_map_or q (find p xs) false
 single_any p q [] h = refl
 single_any p q (x ∷ xs) h = split (p x) (single_any p q xs) h where
-  or_none : (a b : Bool) → b ≡ false → (a || b) ≡ a
-  or_none true b none = refl
-  or_none false b none = none
-
   split : (b : Bool) → (is_single p xs ≡ true → list_any (λ y. p y && q y) xs ≡ option_map_or q (find p xs) false) → cond b (not (list_any p xs)) (is_single p xs) ≡ true → (b && q x || list_any (λ y. p y && q y) xs) ≡ option_map_or q (cond b (Some x) (find p xs)) false
   split true rest h = or_none (q x) (list_any (λ y. p y && q y) xs) (falsely (list_any (λ y. p y && q y) xs) (list_any p xs) (any_less (λ y. p y && q y) p (λ y both. (and_parts (p y) (q y) both).0) xs) (not-true (list_any p xs) h))
   split false rest h = rest h

@@ -17,16 +17,16 @@ use Rattle.init_words.proofs.Tests.{not_from, all_less, all_fail}
 use Rattle.trace_laws.proofs.Limits.{start_free}
 
 -- times that fall, the first no later than a bound
-abbrev Falling : ℕ → List ℕ → Type 0
+abbrev pub Falling : ℕ → List ℕ → Type 0
 Falling bound [] = Unit {0}
 Falling bound (t ∷ ts) = (t ≤ bound) × Falling t ts
 
-falls_below : (a b : ℕ) (ts : List ℕ) → a ≤ b → Falling a ts → Falling b ts
+pub falls_below : (a b : ℕ) (ts : List ℕ) → a ≤ b → Falling a ts → Falling b ts
 falls_below a b [] le falls = tt
 falls_below a b (t ∷ ts) le falls = (le_trans falls.0 le, falls.1)
 
 -- the starts of an id fall in time
-starts_fall : (id : List ℕ) (past : List Event) → Falling (time_of past) (start_times id past)
+pub starts_fall : (id : List ℕ) (past : List Event) → Falling (time_of past) (start_times id past)
 starts_fall id [] = tt
 starts_fall id (NewTable table ∷ past) = tt
 starts_fall id (Enter stage grace ∷ past) = tt
@@ -38,10 +38,10 @@ starts_fall id (Clock reading ∷ past) = falls_below (time_of past) (max (min r
 starts_fall id (_ ∷ past) = starts_fall id past
 
 -- a time is young where its age is below two minutes
-abbrev is_young : ℕ → ℕ → Bool
+abbrev pub is_young : ℕ → ℕ → Bool
 is_young now started = nat_lt (now - started) WINDOW
 
-old_later : (now a b : ℕ) → b ≤ a → is_young now a ≡ false → is_young now b ≡ false
+pub old_later : (now a b : ℕ) → b ≤ a → is_young now a ≡ false → is_young now b ≡ false
 old_later now a b le old = le-ltb (now - b) WINDOW (omega (arith, ltb-false (now - a) WINDOW old))
 
 all_old : (now a : ℕ) (ts : List ℕ) → is_young now a ≡ false → Falling a ts → list_all (λ t. not (is_young now t)) ts ≡ true

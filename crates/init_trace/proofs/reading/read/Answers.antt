@@ -19,7 +19,7 @@ overflow_add-number g c =
     let found : (is_in_range c.in-Some.happening ≡ true) × (event_text c.in-Some.happening ++ c.in-Some.more.now ≡ c.loop-rest.rest.now) = search rules in
     let invariant = c.loop-rest.invariant in
     let bound : c.loop-rest.number + c.line_count-number.result ≤ length c.args.text.now + 1 =
-      rw c.line_count-number.ensures (counted_on (trace_text c.loop-rest.trace.items) c.in-Some.more.now c.loop-rest.rest.now c.args.text.now c.in-Some.happening c.loop-rest.number found.0 found.1 invariant.whole invariant.counted).1 in
+    rw c.line_count-number.ensures (counted_on (trace_text c.loop-rest.trace.items) c.in-Some.more.now c.loop-rest.rest.now c.args.text.now c.in-Some.happening c.loop-rest.number found.0 found.1 invariant.whole invariant.counted).1 in
     grind (arith, common_steps)
 
 pub loop-rest-smaller : goal.loop-rest-smaller

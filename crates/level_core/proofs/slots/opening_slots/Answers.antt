@@ -1,6 +1,6 @@
 use Rattle.std.proofs.Common.{map}
 use Rattle.level_core.specs.Slots.{new_slot}
-use Rattle.level_core.proofs.Opening.{one_made}
+use Rattle.inittab_text.proofs.Entries.{one_made}
 use Rattle.level_core.proofs.slots.opening_slots.Goals as goal
 
 pub loop-place-preserved : goal.loop-place-preserved

@@ -2,7 +2,8 @@ use Rattle.std.proofs.Common.{◌++◌, ◌+◌, map, drop}
 use Rattle.init_words.specs.declared.entries.Entry.{Entry}
 use Rattle.child_table.specs.Lists.{slot_of}
 use Rattle.child_table.specs.Adopting.{adopted, entry_slots}
-use Rattle.child_table.proofs.Adopted.{one_made, new_of}
+use Rattle.inittab_text.proofs.Entries.{one_made}
+use Rattle.child_table.proofs.Adopted.{new_of}
 use Rattle.child_table.proofs.by_id.Slots.push_entries.Goals as goal
 
 pub push-requires-clause-new : goal.push-requires-clause-new
