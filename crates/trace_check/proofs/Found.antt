@@ -9,7 +9,7 @@ use Rattle.inittab_text.specs.Tables.{has_id, entry_of, is_distinct}
 use Rattle.init_trace.specs.Wanted.{entries_before}
 use Rattle.init_words.proofs.Same.{same_id-is, same_id-self, same_id-sym}
 use Rattle.init_words.proofs.Tests.{falsely, any_less}
-use Rattle.trace_check.proofs.Children.{or_none}
+use Rattle.init_words.proofs.Tests.{or_none}
 
 -- what holds of each entry
 abbrev Each : (Entry → Type 0) → List Entry → Type 0

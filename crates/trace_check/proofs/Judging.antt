@@ -24,11 +24,11 @@ use Rattle.init_trace.specs.Timing.{start_times, hold_times, is_held, is_full}
 use Rattle.init_trace.specs.Due.{is_served, is_settled}
 use Rattle.init_trace.specs.Lawful.{is_placed, is_in_turn, is_limited_id, is_free, is_due_hold, may_term, may_kill, broken}
 use Rattle.init_words.proofs.Same.{same_id-is, same_id-self}
-use Rattle.init_words.proofs.Tests.{same_tests, any_less, any_same, Passing, passing}
-use Rattle.trace_check.specs.declared.parts.Living.{Living}
+use Rattle.init_words.proofs.Tests.{same_tests, any_less, any_same, Passing, passing, found_any, and_three}
+use Rattle.trace_check.specs.declared.children.Living.{Living}
 use Rattle.trace_check.specs.State.{State, at, among}
 use Rattle.trace_check.specs.Flaws.{is_alive, is_excluded_in, none_excluded_in, is_placed_in, is_owed_in, is_in_turn_in, is_held_in, is_full_in, is_free_in, is_due_hold_in, is_served_in, is_settled_in, is_over_in, may_kill_in, flaw_in}
-use Rattle.trace_check.proofs.Children.{child_of, found_any, found_test, by_child, lone_any}
+use Rattle.trace_check.proofs.Lone.{child_of, found_test, by_child, lone_any}
 use Rattle.trace_check.proofs.Found.{found_all, found_before}
 use Rattle.trace_check.proofs.Reading.{living_of, least_term, term_of, newest, Reads}
 use Rattle.trace_check.proofs.Windows.{full_by_last, held_by_last}
@@ -130,10 +130,6 @@ module _ (s : State) (past : List Event) (r : Reads s past) where
   both_found : (p q : Child → Bool) (o : Option Child) → (option_map_or p o false && option_map_or q o false) ≡ option_map_or (λ c. p c && q c) o false
   both_found p q None = refl
   both_found p q (Some c) = refl
-
-  and_three : (a b c : Bool) → (a && (b && c)) ≡ (a && b && c)
-  and_three true b c = refl
-  and_three false b c = refl
 
   may_be_killed : (id : List ℕ) → may_kill_in (table_of past) s id ≡ may_kill id past
   may_be_killed id =

@@ -19,7 +19,7 @@ use Rattle.init_trace.specs.Timing.{start_times, hold_times}
 use Rattle.init_words.proofs.Same.{same_id-is, same_id-apart}
 use Rattle.init_words.proofs.Tests.{not_from, or_false, and_false, any_within, any_without}
 use Rattle.trace_check.specs.After.{table_after, stage_after, grace_after, time_after, order_after, kept_after, is_changed, asked_after, is_named, called_after, sent_after, starts_after, hold_after}
-use Rattle.trace_check.proofs.Children.{found_passes}
+use Rattle.trace_check.proofs.Lone.{found_passes}
 use Rattle.trace_check.proofs.Found.{entry_any, id_any}
 use Rattle.trace_check.proofs.Reading.{calls_of, has_sent, newest}
 

@@ -1,6 +1,6 @@
 pub mod Walks
 pub mod Lookups
-pub mod Children
+pub mod Lone
 pub mod Found
 pub mod Reading
 pub mod Windows

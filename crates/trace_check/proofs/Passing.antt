@@ -1,5 +1,5 @@
 -- One happening after another: the state goes on reading the past, and the first breach stays the first.
-use Rattle.std.proofs.Common.{◌≡◌, ◌<◌, ◌≤◌, refl, sym, ◌∙◌, ap, subst, ℕ, ◌+◌, true, List, [], ◌∷◌, ◌++◌, length, reverse, take, take_all, drop, get_or, is_some, arith, Some, None}
+use Rattle.std.proofs.Common.{◌≡◌, ◌<◌, ◌≤◌, refl, sym, ◌∙◌, ap, subst, ℕ, ◌+◌, true, List, [], ◌∷◌, ◌++◌, length, reverse, take, take_all, drop, get_or, is_some, arith, Option, Some, None}
 use Rattle.std.proofs.lemmas.List.{take_more, reverse-append, length-reverse, length-take-le, take-append-drop}
 use Rattle.init_words.specs.declared.entries.Entry.{Entry}
 use Rattle.inittab_text.specs.Tables.{is_distinct}
@@ -86,8 +86,8 @@ flaw_is : (trace : List Event) (place : ℕ) (happening : Event) (s : State) (ta
 flaw_is trace place happening s table passed = ap (λ t. flaw_in t s happening) passed.in_force ∙ flaw_reads s (reverse (take place trace)) passed.reads happening
 
 -- one more that breaks no law is passed
-pub passed_more : (trace : List Event) (place : ℕ) (happening : Event) (old new : State) (table next : List Entry) → Passed old table place trace → place < length trace → happening ≡ get_or trace place happening → None ≡ flaw_in table old happening → Took table old new happening → next ≡ table_after happening table → is_distinct next ≡ true → Passed new next (place + 1) trace
-passed_more trace place happening old new table next passed within is lawful took after distinct = record {
+pub passed_more : (trace : List Event) (place : ℕ) (happening : Event) (old new : State) (table next : List Entry) (flaw : Option ℕ) → Passed old table place trace → place < length trace → happening ≡ get_or trace place happening → flaw ≡ None → flaw ≡ flaw_in table old happening → Took table old new happening → next ≡ table_after happening table → is_distinct next ≡ true → Passed new next (place + 1) trace
+passed_more trace place happening old new table next flaw passed within is lawful flawed took after distinct = record {
   reads = subst (Reads new) (sym now) (reads_after happening past old new (subst (λ t. Took t old new happening) passed.in_force took) lawful_here (ap is_distinct (sym next_is) ∙ distinct) passed.reads);
   in_force = next_is ∙ ap table_of (sym now);
   none = ap first_breach now ∙ ap (λ o. earlier o (breach_at (length past) (broken happening past))) passed.none ∙ ap (breach_at (length past)) lawful_here;
@@ -99,7 +99,7 @@ passed_more trace place happening old new table next passed within is lawful too
   now = one_more trace place happening within is
 
   lawful_here : broken happening past ≡ None
-  lawful_here = sym (flaw_is trace place happening old table passed) ∙ sym lawful
+  lawful_here = sym (flaw_is trace place happening old table passed) ∙ sym flawed ∙ lawful
 
   next_is : next ≡ table_of (happening ∷ past)
   next_is = after ∙ ap (table_after happening) passed.in_force ∙ table_step happening past

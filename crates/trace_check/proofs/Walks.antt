@@ -22,12 +22,16 @@ and_turn true false c = refl
 and_turn false b c = refl
 
 -- one more is added where the test holds
-pub one_added : {X : Type 0} (p : X → Bool) (xs : List X) (i : ℕ) (x : X) (was now first : Bool) → slice_get xs i ≡ Some x → now ≡ (p x || was) → was ≡ (list_any p (take i xs) || first) → now ≡ (list_any p (take (i + 1) xs) || first)
-one_added p xs i x was now first is step so_far = step ∙ ap (λ b. p x || b) so_far ∙ or_turn (list_any p (take i xs)) (p x) first ∙ ap (λ b. b || first) (sym (any_taken p xs i x is))
+pub one_added : {X : Type 0} (has test : X → Bool) (xs : List X) (i : ℕ) (x : X) (flag was now first : Bool) → slice_get xs i ≡ Some x → flag ≡ test x → now ≡ (has x && flag || was) → was ≡ (list_any (λ y. has y && test y) (take i xs) || first) → now ≡ (list_any (λ y. has y && test y) (take (i + 1) xs) || first)
+one_added has test xs i x flag was now first is tested step so_far =
+    step ∙ ap (λ b. has x && b || was) tested ∙ ap (λ b. has x && test x || b) so_far ∙ or_turn (list_any (λ y. has y && test y) (take i xs)) (has x && test x) first
+    ∙ ap (λ b. b || first) (sym (any_taken (λ y. has y && test y) xs i x is))
 
 -- one more is taken away where the test holds
-pub one_dropped : {X : Type 0} (p : X → Bool) (xs : List X) (i : ℕ) (x : X) (was now first : Bool) → slice_get xs i ≡ Some x → now ≡ (not (p x) && was) → was ≡ (not (list_any p (take i xs)) && first) → now ≡ (not (list_any p (take (i + 1) xs)) && first)
-one_dropped p xs i x was now first is step so_far = step ∙ ap (λ b. not (p x) && b) so_far ∙ and_turn (list_any p (take i xs)) (p x) first ∙ ap (λ b. not b && first) (sym (any_taken p xs i x is))
+pub one_dropped : {X : Type 0} (has test : X → Bool) (xs : List X) (i : ℕ) (x : X) (flag was now first : Bool) → slice_get xs i ≡ Some x → flag ≡ test x → now ≡ (not (has x && flag) && was) → was ≡ (not (list_any (λ y. has y && test y) (take i xs)) && first) → now ≡ (not (list_any (λ y. has y && test y) (take (i + 1) xs)) && first)
+one_dropped has test xs i x flag was now first is tested step so_far =
+    step ∙ ap (λ b. not (has x && b) && was) tested ∙ ap (λ b. not (has x && test x) && b) so_far ∙ and_turn (list_any (λ y. has y && test y) (take i xs)) (has x && test x) first
+    ∙ ap (λ b. not b && first) (sym (any_taken (λ y. has y && test y) xs i x is))
 
 -- a test of all that goes on, or fails
 all_step : {X : Type 0} (p : X → Bool) (xs : List X) (i : ℕ) (x : X) → slice_get xs i ≡ Some x → list_all p (drop i xs) ≡ (p x && list_all p (drop (i + 1) xs))

@@ -1,39 +1,22 @@
 -- The last ten starts and the last hold tell all that the limit asks of the past, since the time never falls.
-use Rattle.std.proofs.Common.{◌≡◌, ◌≤◌, ◌+◌, ◌-◌, refl, sym, ◌∙◌, ap, ℕ, Bool, true, false, ◌||◌, cond, max, min, nat_lt, nat_le, List, [], ◌∷◌, take, filter, length, slice_get, suc, zero, arith, le_trans, le_refl}
+use Rattle.std.proofs.Common.{◌≡◌, ◌≤◌, ◌+◌, ◌-◌, refl, sym, ◌∙◌, ap, ℕ, Bool, true, false, ◌||◌, cond, max, min, nat_lt, nat_le, List, [], ◌∷◌, take, filter, length, slice_get, suc, zero, arith, le_refl}
 use Rattle.std.specs.List.{list_any}
 use Rattle.std.specs.Option.{option_map_or}
-use Rattle.std.proofs.lemmas.Bool.{ltb-true, lt-ltb, ltb-false, le-ltb, or_left}
+use Rattle.std.proofs.lemmas.Bool.{ltb-true, lt-ltb, or_left}
 use Rattle.std.proofs.lemmas.Bool.Decides.{nat_tests}
 use Rattle.respawn_limit.specs.declared.TheConstants.{HOLD, STARTS, WINDOW, CLOCK_LIMIT}
-use Rattle.init_words.specs.declared.orders.Ask.TheVariants.{Start}
 use Rattle.init_words.specs.Ids.{same_id}
-use Rattle.init_trace.specs.declared.happenings.Happening.TheVariants.{NewTable, Enter, Asked, Hold, Clock}
+use Rattle.init_trace.specs.declared.happenings.Happening.TheVariants.{NewTable, Enter, Hold, Clock}
 use Rattle.init_trace.specs.Event.{Event}
 use Rattle.init_trace.specs.Past.{time_of}
 use Rattle.init_trace.specs.Timing.{start_times, hold_times, is_held, is_full}
 use Rattle.init_words.proofs.Tests.{same_tests, or_either}
 use Rattle.trace_check.proofs.Reading.{newest}
-
--- times that fall, the first no later than a bound
-abbrev Falling : ℕ → List ℕ → Type 0
-Falling bound [] = Unit {0}
-Falling bound (t ∷ ts) = (t ≤ bound) × Falling t ts
-
-falls_below : (a b : ℕ) (ts : List ℕ) → a ≤ b → Falling a ts → Falling b ts
-falls_below a b [] le falls = tt
-falls_below a b (t ∷ ts) le falls = (le_trans falls.0 le, falls.1)
+use Rattle.trace_laws.proofs.Pace.{Falling, falls_below, starts_fall, is_young, old_later}
 
 one_more : (b : Bool) (now : ℕ) (ts : List ℕ) → Falling now ts → Falling now (cond b (now ∷ ts) ts)
 one_more true now ts falls = (le_refl now, falls)
 one_more false now ts falls = falls
-
-starts_fall : (id : List ℕ) (past : List Event) → Falling (time_of past) (start_times id past)
-starts_fall id [] = tt
-starts_fall id (NewTable table ∷ past) = tt
-starts_fall id (Enter stage grace ∷ past) = tt
-starts_fall id (Asked i Start ∷ past) = one_more (same_id id i) (time_of past) (start_times id past) (starts_fall id past)
-starts_fall id (Clock reading ∷ past) = falls_below (time_of past) (max (min reading CLOCK_LIMIT) (time_of past)) (start_times id past) (omega arith) (starts_fall id past)
-starts_fall id (_ ∷ past) = starts_fall id past
 
 holds_fall : (id : List ℕ) (past : List Event) → Falling (time_of past) (hold_times id past)
 holds_fall id [] = tt
@@ -42,13 +25,6 @@ holds_fall id (Enter stage grace ∷ past) = tt
 holds_fall id (Hold i ∷ past) = one_more (same_id id i) (time_of past) (hold_times id past) (holds_fall id past)
 holds_fall id (Clock reading ∷ past) = falls_below (time_of past) (max (min reading CLOCK_LIMIT) (time_of past)) (hold_times id past) (omega arith) (holds_fall id past)
 holds_fall id (_ ∷ past) = holds_fall id past
-
--- a start is young where its age is below two minutes
-abbrev is_young : ℕ → ℕ → Bool
-is_young now started = nat_lt (now - started) WINDOW
-
-old_later : (now a b : ℕ) → b ≤ a → is_young now a ≡ false → is_young now b ≡ false
-old_later now a b le old = le-ltb (now - b) WINDOW (omega (arith, ltb-false (now - a) WINDOW old))
 
 -- behind an old one all are old
 none_young : (now a : ℕ) (ts : List ℕ) → is_young now a ≡ false → Falling a ts → filter (is_young now) ts ≡ []

@@ -15,7 +15,7 @@ use Rattle.inittab_text.specs.Tables.{has_id, entry_of, act_of}
 use Rattle.init_trace.specs.declared.happenings.Happening.TheVariants.{NewTable, Enter, Call, Power, Asked, Hold, Birth, Reaped, Hit, Told, Clock}
 use Rattle.init_trace.specs.Event.{Event}
 use Rattle.init_trace.specs.Wanted.{starts_in, is_order, same_acts, may_live}
-use Rattle.trace_check.specs.declared.parts.Living.{Living}
+use Rattle.trace_check.specs.declared.children.Living.{Living}
 
 abbrev pub table_after : Event → List Entry → List Entry
 table_after (NewTable next) table = next

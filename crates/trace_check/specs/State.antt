@@ -5,7 +5,7 @@ use Rattle.std.specs.List.{list_any}
 use Rattle.init_words.specs.declared.stages.Stage.{Stage}
 use Rattle.init_words.specs.declared.orders.Ask.{Ask}
 use Rattle.init_words.specs.Ids.{same_id}
-use Rattle.trace_check.specs.declared.parts.Living.{Living}
+use Rattle.trace_check.specs.declared.children.Living.{Living}
 
 -- what is kept of an id
 abbrev pub at : {X : Type 0} → List ℕ → List (List ℕ × X) → Option X

@@ -1,10 +1,10 @@
 ghost use Rattle.std.specs.Prelude.{◌≡◌, OnOk};
 
-use crate::limits::Starts;
+use crate::children::{Living, take_child};
+use crate::limits::{Starts, take_hold, take_start};
 use crate::maps::{ById, Ids};
 use crate::parts::{
-    Living, grace_after, stage_after, take_asked, take_called, take_child, take_hold, take_kept,
-    take_order, take_sent, take_start, time_after,
+    grace_after, stage_after, take_asked, take_called, take_kept, take_order, take_sent, time_after,
 };
 use crate::spells::take_term;
 use crate::tables::InForce;

@@ -4,6 +4,7 @@
 //! past itself, so that a happening costs what the entries and the living children of its moment cost.
 #![tactic(auto)]
 
+mod children;
 mod flaws;
 mod judge;
 mod limits;

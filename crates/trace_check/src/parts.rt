@@ -1,26 +1,17 @@
-ghost use Rattle.std.specs.Prelude.{◌≡◌, ℕ, not, ◌&&◌, ◌||◌, if◌then◌else◌, List, ◌∷◌, ◌-◌, take, is_some, option_copied, OnOk};
-ghost use Rattle.init_words.specs.Ids.{same_id};
+ghost use Rattle.std.specs.Prelude.{◌≡◌, ℕ, not, ◌&&◌, ◌||◌, List, is_some, OnOk};
 ghost use Rattle.inittab_text.specs.Tables.{has_id};
 ghost use Rattle.std.specs.List.{list_any};
-ghost use Rattle.respawn_limit.specs.declared.TheConstants.{STARTS};
 ghost use Rattle.init_trace.specs.Wanted.{is_order, starts_in};
-ghost use Rattle.trace_check.specs.State.{at, among, times_at};
-ghost use Rattle.trace_check.specs.After.{stage_after, grace_after, time_after, order_after, kept_after, is_changed, asked_after, is_named, is_named_at, called_after, sent_after, starts_after, hold_after, is_numbered, child_after};
+ghost use Rattle.trace_check.specs.State.{at, among};
+ghost use Rattle.trace_check.specs.After.{stage_after, grace_after, time_after, order_after, kept_after, is_changed, asked_after, is_named, is_named_at, called_after, sent_after};
 
-use crate::limits::Starts;
-use crate::maps::{ById, Ids, add_if, drop_if, forget_all, forget_ids, set_if};
+use crate::children::Living;
+use crate::maps::{ById, Ids, add_if, drop_if, forget_ids, set_if};
 use crate::tables::{InForce, starts_in};
 use init_trace::{Happening, HappeningIn};
-use init_words::{Act, Ask, ChildNo, Entry, Id, Mark, Memory, Stage, names};
+use init_words::{Ask, Entry, Id, Mark, Memory, Stage, names};
 use respawn_limit::CLOCK_LIMIT;
 use std::alloc::Allocator;
-
-/// An unreaped child: its number, and the action that its id had when it was born.
-#[derive(Clone, Copy)]
-pub(crate) struct Living {
-    pub(crate) number: ChildNo,
-    pub(crate) act: Option<Act>,
-}
 
 pub(crate) fn stage_after<B: Allocator>(
     happening: &HappeningIn<B>,
@@ -220,98 +211,6 @@ pub(crate) fn is_open<A: Allocator>(orders: &ById<Ask, A>, id: &Id, ask: Ask) ->
 {
     match orders.get(id) {
         Some(given) => *given == ask,
-        None => false,
-    }
-}
-
-/// The last starts of each id.
-pub(crate) fn take_start<A: Allocator + Copy, B: Allocator>(
-    starts: &mut ById<Starts, A>,
-    time: u64,
-    happening: &HappeningIn<B>,
-) -> Result<(), Memory>
-    ensures { OnOk result ((id : List ℕ) → times_at id starts.new.entries
-        ≡ starts_after time happening.now id (times_at id starts.old.entries)) }
-{
-    match happening {
-        Happening::Enter(..) | Happening::NewTable(_) => {
-            forget_all(starts);
-            Ok(())
-        }
-        Happening::Asked(id, Ask::Start) => note_start(starts, *id, time),
-        _ => Ok(()),
-    }
-}
-
-fn note_start<A: Allocator>(starts: &mut ById<Starts, A>, id: Id, time: u64) -> Result<(), Memory>
-    ensures { OnOk result ((other : List ℕ) → times_at other starts.new.entries
-        ≡ (if same_id other id then time ∷ take (STARTS - 1) (times_at other starts.old.entries)
-        else times_at other starts.old.entries)) }
-{
-    if let Some(times) = starts.get_mut(&id) {
-        times.note(time);
-        return Ok(());
-    }
-    starts.insert(id, Starts::first(time))?;
-    Ok(())
-}
-
-/// The last hold of each id.
-pub(crate) fn take_hold<A: Allocator + Copy, B: Allocator>(
-    holds: &mut ById<u64, A>,
-    time: u64,
-    happening: &HappeningIn<B>,
-) -> Result<(), Memory>
-    ensures { OnOk result ((id : List ℕ) → at id holds.new.entries
-        ≡ hold_after time happening.now id (at id holds.old.entries)) }
-{
-    match happening {
-        Happening::Enter(..) | Happening::NewTable(_) => {
-            forget_all(holds);
-            Ok(())
-        }
-        Happening::Hold(id) => {
-            holds.insert(*id, time)?;
-            Ok(())
-        }
-        _ => Ok(()),
-    }
-}
-
-/// The unreaped child of each id.
-pub(crate) fn take_child<A: Allocator, B: Allocator>(
-    children: &mut ById<Living, A>,
-    table: &InForce<'_, B>,
-    happening: &HappeningIn<B>,
-) -> Result<(), Memory>
-    ensures { OnOk result ((id : List ℕ) → at id children.new.entries
-        ≡ child_after table.now (λ i. at i children.old.entries) happening.now id) }
-{
-    match happening {
-        Happening::Birth(id, number) => {
-            let living = Living {
-                number: *number,
-                act: table.act(id),
-            };
-            children.insert(*id, living)?;
-            Ok(())
-        }
-        Happening::Reaped(id, number, _) => {
-            if is_numbered(children.get(id), *number) {
-                children.swap_remove(id);
-            }
-            Ok(())
-        }
-        _ => Ok(()),
-    }
-}
-
-/// There is a child, and it has this number.
-pub(crate) fn is_numbered(child: Option<&Living>, number: ChildNo) -> bool
-    ensures { result ≡ is_numbered number (option_copied child.entry) }
-{
-    match child {
-        Some(living) => number == living.number,
         None => false,
     }
 }

@@ -1,6 +1,7 @@
 ghost use Rattle.std.specs.Prelude.{◌≡◌, IfOk, reverse};
 ghost use Rattle.init_trace.specs.Lawful.{first_breach};
 ghost use Rattle.trace_check.specs.Faults.{fault_of};
+ghost use Rattle.trace_check.specs.State.{opening};
 
 use crate::judge::Judge;
 use crate::tables::{InForce, table_after};
@@ -28,6 +29,17 @@ pub fn check<A: Allocator + Copy, B: Allocator>(
     ensures { IfOk result (λ verdict. fault_of verdict ≡ first_breach (reverse trace.now)) }
 {
     let mut judge = Judge::new(alloc);
+    first_breach(&mut judge, trace)
+}
+
+/// The verdict of a judge that has taken nothing in.
+fn first_breach<A: Allocator + Copy, B: Allocator>(
+    judge: &mut Judge<A>,
+    trace: &[HappeningIn<B>],
+) -> Result<Verdict, Memory>
+    requires { judge.old ≡ opening }
+    ensures { IfOk result (λ verdict. fault_of verdict ≡ first_breach (reverse trace.now)) }
+{
     let mut table = InForce::none();
     for (place, happening) in trace.iter().enumerate() {
         if let Some(law) = judge.flaw(&table, happening) {

@@ -3,8 +3,8 @@ ghost use Rattle.init_words.specs.Ids.{same_id};
 ghost use Rattle.trace_check.specs.State.{at, among};
 ghost use Rattle.trace_check.specs.After.{spares, excludes, earliest, term_after};
 
+use crate::children::{Living, is_numbered};
 use crate::maps::{ById, Ids};
-use crate::parts::{Living, is_numbered};
 use crate::tables::{InForce, may_live};
 use init_trace::{Happening, HappeningIn};
 use init_words::{Id, Memory, Stage};

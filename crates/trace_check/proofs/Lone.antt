@@ -1,22 +1,19 @@
 -- The child of an id among children of which at most one has the id.
-use Rattle.std.proofs.Common.{◌≡◌, refl, sym, ◌∙◌, ap, subst, ℕ, Bool, true, false, not, ◌&&◌, ◌||◌, cond, List, [], ◌∷◌, filter, find, Option, Some, None, is_some}
+use Rattle.std.proofs.Common.{◌≡◌, refl, sym, ◌∙◌, ap, subst, ℕ, Bool, true, false, not, ◌&&◌, ◌||◌, cond, List, [], ◌∷◌, filter, find, Option, Some, None}
 use Rattle.std.specs.List.{list_any}
-use Rattle.std.specs.Option.{option_map, option_map_or}
+use Rattle.std.specs.Option.{option_map_or}
 use Rattle.std.proofs.lemmas.Bool.{false≢true, and_parts, or_left, or_right, not-true}
 use Rattle.std.proofs.lemmas.Option.{none-some, same_Some}
 use Rattle.init_trace.specs.Event.{Event}
 use Rattle.init_trace.specs.Past.{Child, is_of, unreaped_children}
 use Rattle.init_words.proofs.Same.{same_id-is}
-use Rattle.init_words.proofs.Tests.{falsely, not_from, or_false, any_less, any_filtered, find_none}
+use Rattle.init_words.proofs.Tests.{falsely, not_from, any_less, any_filtered, find_none, or_none}
 
 -- the youngest unreaped child of an id
 abbrev pub child_of : List ℕ → List Event → Option Child
 child_of id past = find (is_of id) (unreaped_children past)
 
 -- a test that fails adds nothing
-pub or_none : (a b : Bool) → b ≡ false → (a || b) ≡ a
-or_none a b none = ap (λ c. a || c) none ∙ or_false a
-
 -- what is found passes
 pub found_passes : {X : Type 0} (p : X → Bool) (xs : List X) (x : X) → find p xs ≡ Some x → p x ≡ true
 found_passes p [] x h = absurd (none-some x h)
@@ -26,13 +23,6 @@ found_passes {X} p (y ∷ xs) x h = split (p y) refl (found_passes p xs x) h whe
   split false fails rest h = rest h
 
 -- one is found exactly where one passes
-pub found_any : {X Y : Type 0} (f : X → Y) (p : X → Bool) (xs : List X) → is_some (option_map f (find p xs)) ≡ list_any p xs
-found_any f p [] = refl
-found_any {X} f p (x ∷ xs) = split (p x) (found_any f p xs) where
-  split : (b : Bool) → is_some (option_map f (find p xs)) ≡ list_any p xs → is_some (option_map f (cond b (Some x) (find p xs))) ≡ (b || list_any p xs)
-  split true rest = refl
-  split false rest = rest
-
 -- what the one that is found passes, one passes
 pub found_test : {X : Type 0} (p q : X → Bool) (xs : List X) → option_map_or q (find p xs) false ≡ true → list_any q xs ≡ true
 found_test p q [] h = h

@@ -1,5 +1,5 @@
 use Rattle.trace_check.proofs.Passing.{Passed}
-use Rattle.trace_check.proofs.pass.check.Given as goal
+use Rattle.trace_check.proofs.pass.first_breach.Given as goal
 
 -- the happenings so far are passed
 abbrev pub invariant-loop-place : goal.invariant-loop-place

@@ -1,0 +1,54 @@
+ghost use Rattle.std.specs.Prelude.{◌≡◌, ℕ, List, option_copied, OnOk};
+ghost use Rattle.trace_check.specs.State.{at};
+ghost use Rattle.trace_check.specs.After.{is_numbered, child_after};
+
+use crate::maps::ById;
+use crate::tables::InForce;
+use init_trace::{Happening, HappeningIn};
+use init_words::{Act, ChildNo, Memory};
+use std::alloc::Allocator;
+
+/// An unreaped child: its number, and the action that its id had when it was born.
+#[derive(Clone, Copy)]
+pub(crate) struct Living {
+    pub(crate) number: ChildNo,
+    pub(crate) act: Option<Act>,
+}
+
+/// The unreaped child of each id.
+pub(crate) fn take_child<A: Allocator, B: Allocator>(
+    children: &mut ById<Living, A>,
+    table: &InForce<'_, B>,
+    happening: &HappeningIn<B>,
+) -> Result<(), Memory>
+    ensures { OnOk result ((id : List ℕ) → at id children.new.entries
+        ≡ child_after table.now (λ i. at i children.old.entries) happening.now id) }
+{
+    match happening {
+        Happening::Birth(id, number) => {
+            let living = Living {
+                number: *number,
+                act: table.act(id),
+            };
+            children.insert(*id, living)?;
+            Ok(())
+        }
+        Happening::Reaped(id, number, _) => {
+            if is_numbered(children.get(id), *number) {
+                children.swap_remove(id);
+            }
+            Ok(())
+        }
+        _ => Ok(()),
+    }
+}
+
+/// There is a child, and it has this number.
+pub(crate) fn is_numbered(child: Option<&Living>, number: ChildNo) -> bool
+    ensures { result ≡ is_numbered number (option_copied child.entry) }
+{
+    match child {
+        Some(living) => number == living.number,
+        None => false,
+    }
+}
