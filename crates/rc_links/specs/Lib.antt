@@ -1,6 +1,7 @@
 pub mod FaultTexts
 pub mod Faults
 pub mod Links
+pub mod Names
 pub mod PlannedText
 pub mod Plans
 pub mod ScriptText

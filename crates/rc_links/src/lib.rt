@@ -3,6 +3,7 @@
 #![tactic(auto)]
 
 mod faults;
+mod names;
 mod needs;
 mod planning;
 mod plans;
@@ -11,6 +12,7 @@ mod scripts;
 mod tables;
 
 pub use faults::PlanFault;
+pub use names::{is_name, is_name_byte};
 pub use planning::plan;
 pub use plans::Plan;
 pub use scripts::Script;

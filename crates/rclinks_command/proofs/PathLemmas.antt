@@ -7,7 +7,8 @@ use Rattle.std.proofs.lemmas.List.Folds.{list_any_at}
 use Rattle.std.proofs.lemmas.Bool.{true≢false}
 use Rattle.std.proofs.lemmas.Str.{IsUtf8-from_ascii}
 use Rattle.lsb_header.specs.Forms.{is_empty}
-use Rattle.rclinks_command.specs.Files.{is_name, is_name_byte, is_slash, last_part}
+use Rattle.rc_links.specs.Names.{is_name, is_name_byte}
+use Rattle.rclinks_command.specs.Files.{is_slash, last_part}
 
 no_slash : (b : ℕ) → b ≢ 47 → is_slash b ≡ false
 no_slash b other = elim (eqb_tells b 47) [ inl is ↦ absurd (other is.1) | inr is ↦ is.0 ]

@@ -1,12 +1,11 @@
 -- The scripts of files.
-use Rattle.std.specs.Prelude.{◌≡◌, ℕ, Bool, true, false, not, ◌==◌, ◌||◌, ◌&&◌, if◌then◌else◌, List, [], ◌∷◌, None, Err, Ok}
-use Rattle.std.specs.List.{list_all, list_any}
-use Rattle.std.specs.Char.{is_ascii_alphanumeric}
+use Rattle.std.specs.Prelude.{◌≡◌, ℕ, Bool, true, false, ◌==◌, if◌then◌else◌, List, [], ◌∷◌, None, Err, Ok}
+use Rattle.std.specs.List.{list_any}
 use Rattle.lsb_header.specs.declared.faults.HeaderFault.{HeaderFault}
 use Rattle.lsb_header.specs.declared.faults.HeaderFault.TheVariants as header_fault
-use Rattle.lsb_header.specs.Forms.{is_empty}
 use Rattle.lsb_header.specs.Headers.{header_read}
 use Rattle.lsb_header.specs.Places.{second_line}
+use Rattle.rc_links.specs.Names.{is_name}
 use Rattle.rc_links.specs.ScriptText.{ScriptText}
 use Rattle.rclinks_command.specs.declared.files.FileFault.{FileFault}
 use Rattle.rclinks_command.specs.declared.files.FileFault.TheVariants as fault
@@ -19,14 +18,6 @@ is_slash b = b == 47
 abbrev pub last_part : List ℕ → List ℕ
 last_part [] = []
 last_part (b ∷ path) = if list_any is_slash (b ∷ path) then last_part path else b ∷ path
-
--- a letter, a digit, '.', '_' or '-'
-abbrev pub is_name_byte : ℕ → Bool
-is_name_byte b = is_ascii_alphanumeric b || b == 46 || b == 95 || b == 45
-
--- a name that a link may have
-abbrev pub is_name : List ℕ → Bool
-is_name name = not (is_empty name) && list_all is_name_byte name
 
 -- the script of a file with this name and text
 pub record IsScriptOf (name text : List ℕ) (script : ScriptText) : Type 0 where

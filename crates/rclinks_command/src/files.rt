@@ -1,11 +1,11 @@
 ghost use Rattle.std.specs.Prelude.{◌≡◌, true, IfOk, IfErr, string_bytes};
-ghost use Rattle.std.specs.List.{list_all};
-ghost use Rattle.rclinks_command.specs.Files.{IsNoScript, IsNoScriptAt, IsScriptAt, IsScriptOf, file_status, is_name, is_name_byte, last_part, refusal_of};
+ghost use Rattle.rc_links.specs.Names.{is_name};
+ghost use Rattle.rclinks_command.specs.Files.{IsNoScript, IsNoScriptAt, IsScriptAt, IsScriptOf, file_status, last_part, refusal_of};
 
 use init_words::Memory;
 use lsb_header::{HeaderFault, read, second_line};
 use program_edge::{DEVICE_FAULT, REFUSED, read_file};
-use rc_links::Script;
+use rc_links::{Script, is_name};
 use std::alloc::Global;
 use std::io;
 use std::rt::Files;
@@ -55,25 +55,6 @@ fn last_part(path: &[u8]) -> &[u8]
         start -= 1;
     }
     &path[start..]
-}
-
-fn is_name_byte(byte: u8) -> bool
-    ensures { result ≡ is_name_byte byte }
-{
-    byte.is_ascii_alphanumeric() || byte == b'.' || byte == b'_' || byte == b'-'
-}
-
-fn has_name_bytes(name: &[u8]) -> bool
-    ensures { result ≡ list_all is_name_byte name.now }
-{
-    name.iter().all(|byte| is_name_byte(*byte))
-}
-
-/// A name that a link may have: one or more of `A-Z a-z 0-9 . _ -`.
-fn is_name(name: &[u8]) -> bool
-    ensures { result ≡ is_name name.now }
-{
-    !name.is_empty() && has_name_bytes(name)
 }
 
 /// A string of a name that a link may have.
