@@ -1,0 +1,15 @@
+//! `rc DIR PREV NEW`: runs the scripts of a runlevel's folder, those that stop and then those that start (LSB Core 5.0,
+//! System Initialization).
+#![tactic(auto)]
+
+use program_edge::{tell_unread, words};
+use rc_command::{USAGE, run_words};
+use std::process::ExitCode;
+
+fn main(rt: HostRuntime) -> ExitCode {
+    let status = match words(&rt, rt.alloc()) {
+        Ok(words) => run_words(&rt, rt.alloc(), words, &mut rt.stdout(), &mut rt.stderr()),
+        Err(error) => tell_unread("rc", USAGE, &error, &mut rt.stderr()),
+    };
+    ExitCode::from(status)
+}

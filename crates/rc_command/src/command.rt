@@ -1,0 +1,126 @@
+ghost use Rattle.std.specs.Prelude.{◌≡◌, map, option_map, string_bytes, IfOk, IsErrOf};
+ghost use Rattle.clap.specs.Words.{FailsBy, app_of, fault_of, found_of, matches_of, rows_of};
+ghost use Rattle.rc_command.specs.CommandLine.{command_line, is_dir, level_of, previous_of, read_of, rows_said, said_by, said_of};
+
+use clap::{Arg, ArgMatches, Command, Error};
+use command_words::{WordFault, value_of, word_fault};
+use init_words::Level;
+use program_edge::only_byte;
+use rc_links::is_name_byte;
+use std::alloc::{AllocError, Global};
+
+/// What a command line says.
+#[derive(Debug, Drop)]
+pub struct Words {
+    /// The folder that holds those of the runlevels.
+    pub dir: String,
+    /// The runlevel before, if there was one.
+    pub previous: Option<Level>,
+    /// The runlevel that is entered.
+    pub new: Level,
+}
+
+/// Reads a command line, without the program's name in front.
+pub fn read_words(alloc: Global, words: &[String]) -> Result<Words, WordFault>
+    ensures ok { IfOk result (λ said. read_of (map string_bytes words.now) ≡ Some (said_of said)) }
+    ensures usage { IsErrOf result WordFault.Usage → read_of (map string_bytes words.now) ≡ None }
+{
+    let matches = match parsed(alloc, words) {
+        Ok(matches) => matches,
+        Err(error) => return Err(word_fault(&error)),
+    };
+    match read_matches(alloc, &matches)? {
+        Some(said) => Ok(said),
+        None => Err(WordFault::Usage),
+    }
+}
+
+/// The command line of `rc`.
+fn command<'a>(alloc: Global) -> Result<Command<'a>, AllocError>
+    ensures { IfOk result (λ made. app_of made ≡ command_line) }
+{
+    let dir = Arg::new(alloc, "dir").required(true);
+    let previous = Arg::new(alloc, "previous").required(true);
+    let new = Arg::new(alloc, "new").required(true);
+    Command::new(alloc, "rc")
+        .no_binary_name(true)
+        .arg(dir)?
+        .arg(previous)?
+        .arg(new)
+}
+
+fn parsed<'a>(alloc: Global, words: &'a [String]) -> Result<ArgMatches<'a>, Error>
+    ensures rows { IfOk result (λ found. rows_of (found_of found)
+        ≡ matches_of command_line (map string_bytes words.entry.now)) }
+    ensures faults { FailsBy (fault_of command_line (map string_bytes words.entry.now)) result }
+{
+    command(alloc)?.try_get_matches_from(words)
+}
+
+/// What matches say; None where a word is no path or no level.
+fn read_matches(alloc: Global, matches: &ArgMatches) -> Result<Option<Words>, AllocError>
+    ensures { IfOk result (λ said.
+        option_map said_of said ≡ rows_said (rows_of (found_of matches.now))) }
+{
+    let dir = value_of(matches, "dir");
+    words_of(
+        alloc,
+        dir,
+        value_of(matches, "previous"),
+        value_of(matches, "new"),
+    )
+}
+
+fn words_of(
+    alloc: Global,
+    dir: &str,
+    before: &str,
+    after: &str,
+) -> Result<Option<Words>, AllocError>
+    ensures { IfOk result (λ said.
+        option_map said_of said ≡ said_by dir.now before.now after.now) }
+{
+    if !is_dir(dir) {
+        return Ok(None);
+    }
+    let Some(previous) = previous_of(before) else {
+        return Ok(None);
+    };
+    let Some(new) = level_of(after) else {
+        return Ok(None);
+    };
+    Ok(Some(Words {
+        dir: String::from_str(alloc, dir)?,
+        previous,
+        new,
+    }))
+}
+
+/// The path has bytes of `A-Z a-z 0-9 . _ - /` alone.
+fn is_dir(word: &str) -> bool
+    ensures { result ≡ is_dir word.now }
+{
+    word.as_bytes()
+        .iter()
+        .all(|byte| is_name_byte(*byte) || *byte == b'/')
+}
+
+/// The runlevel of a word, `0` to `9` or `S`.
+fn level_of(word: &str) -> Option<Level>
+    ensures { result ≡ level_of word.now }
+{
+    if word == "s" {
+        return None;
+    }
+    Level::read(only_byte(word)?)
+}
+
+/// The runlevel before, or none where the word is `N`; None where it is neither.
+fn previous_of(word: &str) -> Option<Option<Level>>
+    ensures { result ≡ previous_of word.now }
+{
+    if word == "N" {
+        return Some(None);
+    }
+    Some(Some(level_of(word)?))
+}

@@ -1,0 +1,11 @@
+//! The command line of `rc`: its words, the folders of links that they name, the run that they ask for, and what is
+//! reported of a fault.
+#![tactic(auto)]
+
+mod command;
+mod folders;
+mod running;
+
+pub use command::{Words, read_words};
+pub use command_words::WordFault;
+pub use running::{PAUSES_LIMIT, USAGE, run_words};

@@ -1,0 +1,129 @@
+ghost use Rattle.std.specs.Prelude.{◌≡◌, ◌≢◌, ◌⊎◌, IsSome, map, string_bytes};
+ghost use Rattle.rc_command.specs.CommandLine.{read_of};
+ghost use Rattle.rc_command.specs.Endings.{Reports, ReportsPart};
+
+use crate::command::{Words, read_words};
+use crate::folders::{folder_of, names_in, previous_names};
+use child_host::OsHost;
+use command_words::WordFault;
+use program_edge::{DEVICE_FAULT, DONE, LIMIT_REACHED, REFUSED, tell_no_memory, tell_usage};
+use rc_driver::{Rc, RunEnd, run_links};
+use std::alloc::Global;
+use std::io;
+use std::io::Write;
+use std::process::Processes;
+use std::rt::{Clock, Files};
+
+/// The greatest number of pauses of a run, of a second each.
+pub const PAUSES_LIMIT: u32 = 100_000;
+
+/// What is reported of words that are no command line.
+pub const USAGE: &str = "usage: rc DIR PREV NEW
+  DIR   the folder that holds those of the runlevels, as rc3.d; of bytes of A-Z a-z 0-9 . _ - / alone
+  PREV  the runlevel before, 0 to 9 or S, or N where there was none
+  NEW   the runlevel that is entered, 0 to 9 or S
+";
+
+/// Runs rc on a command line without the program's name, and gives its exit status: 0 where all scripts of NEW's folder
+/// were carried out, whatever their own statuses, 1 where the words are no command line, 3 where a script has not ended
+/// after 100,000 pauses, 4 where NEW's folder can't be listed, the output fails or memory runs out. A line for each
+/// script is written on `out` at its end, and a fault is reported on `err`.
+pub fn run_words<R, W: Write, E: Write>(
+    rt: &R,
+    alloc: Global,
+    words: Vec<String>,
+    out: &mut W,
+    err: &mut E,
+) -> u8
+where
+    R: Processes + Files + Clock + Print + Eprint + Alloc + Clone + Drop,
+    ensures statuses { (result ≡ DONE) ⊎ (result ≡ REFUSED) ⊎ (result ≡ LIMIT_REACHED)
+        ⊎ (result ≡ DEVICE_FAULT) }
+    ensures refused { result ≡ REFUSED → read_of (map string_bytes words.items) ≡ None }
+    ensures said { result ≡ DONE → IsSome (read_of (map string_bytes words.items)) }
+    ensures done { result ≡ DONE → Reports (W.contents out.old) (W.contents out.new) }
+    ensures part { (out.new ≡ out.old) ⊎ ReportsPart (W.contents out.old) (W.contents out.new) }
+{
+    match read_words(alloc, words.as_slice()) {
+        Ok(said) => run(rt, alloc, &said, out, err),
+        Err(WordFault::Usage) => tell_usage(USAGE, err),
+        Err(WordFault::Memory) => tell_no_memory("rc", err),
+    }
+}
+
+/// Runs the scripts of the new level's folder.
+fn run<R, W: Write, E: Write>(rt: &R, alloc: Global, said: &Words, out: &mut W, err: &mut E) -> u8
+where
+    R: Processes + Files + Clock + Print + Eprint + Alloc + Clone + Drop,
+    ensures statuses { (result ≡ DONE) ⊎ (result ≡ LIMIT_REACHED) ⊎ (result ≡ DEVICE_FAULT) }
+    ensures done { result ≡ DONE → Reports (W.contents out.old) (W.contents out.new) }
+    ensures part { (out.new ≡ out.old) ⊎ ReportsPart (W.contents out.old) (W.contents out.new) }
+{
+    let dir = said.dir.as_str();
+    let Ok(path) = folder_of(alloc, dir, said.new) else {
+        return tell_no_memory("rc", err);
+    };
+    let previous = match previous_names(rt, alloc, dir, said.previous) {
+        Ok(previous) => previous,
+        Err(error) => return tell_unlisted(dir, &error, err),
+    };
+    match names_in(rt, alloc, path.as_str()) {
+        Ok(names) => run_names(rt, alloc, path.as_str(), &previous, &names, out, err),
+        Err(error) => tell_unlisted(path.as_str(), &error, err),
+    }
+}
+
+/// Runs the scripts of a folder, from the names in the folder of the previous level and in it.
+fn run_names<R, W: Write, E: Write>(
+    rt: &R,
+    alloc: Global,
+    path: &str,
+    previous: &[String],
+    names: &[String],
+    out: &mut W,
+    err: &mut E,
+) -> u8
+where
+    R: Processes + Files + Clock + Print + Eprint + Clone + Drop,
+    ensures statuses { (result ≡ DONE) ⊎ (result ≡ LIMIT_REACHED) ⊎ (result ≡ DEVICE_FAULT) }
+    ensures done { result ≡ DONE → Reports (W.contents out.old) (W.contents out.new) }
+    ensures part { (out.new ≡ out.old) ⊎ ReportsPart (W.contents out.old) (W.contents out.new) }
+{
+    let Ok(mut rc) = Rc::new(alloc, previous, names) else {
+        return tell_no_memory("rc", err);
+    };
+    let Ok(own) = rt.clone() else {
+        return tell_no_memory("rc", err);
+    };
+    let Ok(mut host) = OsHost::new(own, alloc, "", "", "") else {
+        return tell_no_memory("rc", err);
+    };
+    let ended = run_links(alloc, &mut rc, &mut host, path, PAUSES_LIMIT, out);
+    tell_end(ended, err)
+}
+
+/// Reports how a run ended, where it wasn't done, and gives the exit status.
+fn tell_end<E: Write>(ended: RunEnd, err: &mut E) -> u8
+    ensures statuses { (result ≡ DONE) ⊎ (result ≡ LIMIT_REACHED) ⊎ (result ≡ DEVICE_FAULT) }
+    ensures done { result ≡ DONE → ended ≡ RunEnd.Done }
+{
+    let (status, report) = match ended {
+        RunEnd::Done => return DONE,
+        RunEnd::Limit => (
+            LIMIT_REACHED,
+            "rc: a script has not ended after 100000 pauses",
+        ),
+        RunEnd::Write => (DEVICE_FAULT, "rc: cannot write"),
+        RunEnd::Memory => (DEVICE_FAULT, "rc: out of memory"),
+    };
+    let _ = writeln!(err, "{report}");
+    status
+}
+
+/// Reports that a folder was not listed, and gives the exit status.
+fn tell_unlisted<E: Write>(path: &str, error: &io::Error, err: &mut E) -> u8
+    ensures { result ≡ DEVICE_FAULT }
+{
+    let _ = writeln!(err, "rc: cannot list {path}: {error}");
+    DEVICE_FAULT
+}

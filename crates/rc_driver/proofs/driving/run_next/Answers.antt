@@ -1,0 +1,16 @@
+use Rattle.rc_driver.proofs.RunLemmas.{Advances-by, Went-done, Went-stops, Went-waiting}
+use Rattle.rc_driver.proofs.driving.run_next.Goals as goal
+
+pub returns-in-Ok-answer-clause-more : goal.returns-in-Ok-answer-clause-more
+returns-in-Ok-answer-clause-more g c = λ is.
+    Advances-by c.args.rc.now c.next.new.self c.answer.new.self _ _ (c.in-Run.link.now, c.in-Run.arg) c.in-Ok.answer c.in-Run.ensures.1 c.in-Ok-answer.ensures.ok.1 c.in-Ok.ensures.ok
+
+pub returns-in-Err-clause-ended : goal.returns-in-Err-clause-ended
+returns-in-Err-clause-ended g c =
+    Went-stops _ _ _ _ _ (c.in-Run.link.now, c.in-Run.arg) c.in-Run.ensures.1 c.in-Run.ensures.2 c.in-Err.ensures.err
+
+pub returns-in-Waiting-clause-ended : goal.returns-in-Waiting-clause-ended
+returns-in-Waiting-clause-ended g c = Went-waiting _ _ _ c.in-Waiting.ensures
+
+pub returns-in-Done-clause-ended : goal.returns-in-Done-clause-ended
+returns-in-Done-clause-ended g c = Went-done _ _ _ c.in-Done.ensures

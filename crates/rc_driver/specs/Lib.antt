@@ -1,0 +1,4 @@
+pub mod Links
+pub mod Report
+pub mod Runs
+pub mod Steps

@@ -1,0 +1,11 @@
+//! The scripts of a runlevel's folder: which of its links are run when it is entered, in which order and with which
+//! argument, one at a time, and their run over a host (LSB Core 5.0, System Initialization).
+#![tactic(auto)]
+
+mod driving;
+mod links;
+mod progress;
+mod runs;
+
+pub use driving::{RunEnd, run_links};
+pub use runs::{Arg, NotAsked, Rc, RcAnswer, RcStep};

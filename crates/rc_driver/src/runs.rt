@@ -1,0 +1,132 @@
+ghost use Rattle.std.specs.Prelude.{◌≡◌, ◌++◌, false, true, map, string_bytes, IfOk, OnOk, OnErr};
+ghost use Rattle.rc_driver.specs.Runs.{rc_run, scripts_of, texts_of, with_arg};
+ghost use Rattle.rc_driver.specs.Steps.{Steps};
+
+use crate::links::{start_links, stop_links};
+use init_words::{Memory, Status};
+use std::alloc::{Allocator, Global};
+use std::collections::VecDeque;
+use std::marker::Model;
+use thiserror::Error;
+
+/// The argument that a script is run with (LSB Core 5.0, init script actions).
+#[derive(Clone, Copy, Debug, PartialEq, Eq)]
+pub enum Arg {
+    /// The service is started.
+    Start,
+    /// The service is stopped.
+    Stop,
+}
+
+/// What is to be done next in a run of scripts.
+#[derive(Clone, Copy, Debug, PartialEq, Eq)]
+pub enum RcStep<'n> {
+    /// The script of this link is to be run with this argument.
+    Run(&'n str, Arg),
+    /// The answer to the script that was handed out last is missing.
+    Waiting,
+    /// All scripts were handed out and answered.
+    Done,
+}
+
+/// How a script that was handed out came to its end.
+#[derive(Clone, Copy, Debug, PartialEq, Eq)]
+pub enum RcAnswer {
+    /// It ended so.
+    Ended(Status),
+    /// It could not be started.
+    NotStarted,
+}
+
+/// An answer that was not asked for.
+#[derive(Clone, Copy, Debug, PartialEq, Eq, Error)]
+#[error("no script was handed out")]
+pub struct NotAsked;
+
+/// The scripts that are run where a runlevel is entered, one at a time, and how far their run is. The links are
+/// borrowed from the new folder's names.
+#[derive(Drop)]
+pub struct Rc<'n, A: Allocator = Global> {
+    /// Those that are not handed out yet.
+    left: VecDeque<(&'n str, Arg), A>,
+    /// The answer to the last one that was handed out is missing.
+    waits: bool,
+}
+
+impl<'n, A: Allocator> Model for Rc<'n, A> {
+    ghost use Rattle.rc_driver.specs.Runs.{RcState, scripts_of};
+
+    ghost Value = { RcState };
+
+    ghost view = { λ rc. record { left = scripts_of rc.left.items; waits = rc.waits } };
+}
+
+/// Adds the links, each with the argument.
+fn add_scripts<'n, A: Allocator>(
+    scripts: &mut VecDeque<(&'n str, Arg), A>,
+    links: &[&'n str],
+    arg: Arg,
+) -> Result<(), Memory>
+    ensures { OnOk result (scripts_of scripts.new.items
+        ≡ scripts_of scripts.old.items ++ with_arg arg (texts_of links.now)) }
+{
+    for link in links {
+        scripts.push_back((*link, arg))?;
+    }
+    Ok(())
+}
+
+impl<'n, A: Allocator + Copy> Rc<'n, A> {
+    /// The run of the scripts of a level, from the names in the folder of the previous level and in that of the new
+    /// one. A link is `S` or `K`, two digits, and one or more bytes of `A-Z a-z 0-9 . _ -`; other names are passed
+    /// over. The K links of the new folder are stopped in byte order, then its S links are started in byte order, but
+    /// not those that run already: the previous folder has an S link with the same part behind the digits, and the new
+    /// one no such K link.
+    pub fn new(alloc: A, previous: &[String], new: &'n [String]) -> Result<Rc<'n, A>, Memory>
+        ensures { IfOk result (λ rc. rc ≡ record {
+          left = rc_run (map string_bytes previous.now) (map string_bytes new.now);
+          waits = false;
+        }) }
+    {
+        let mut left = VecDeque::new(alloc);
+        add_scripts(&mut left, stop_links(alloc, new)?.as_slice(), Arg::Stop)?;
+        add_scripts(
+            &mut left,
+            start_links(alloc, previous, new)?.as_slice(),
+            Arg::Start,
+        )?;
+        Ok(Rc { left, waits: false })
+    }
+}
+
+impl<'n, A: Allocator> Rc<'n, A> {
+    /// The next script, once the one before was answered; `Waiting` until then, and `Done` behind the last.
+    pub fn next(&mut self) -> RcStep<'n>
+        ensures { Steps self.old result self.new }
+    {
+        if self.waits {
+            return RcStep::Waiting;
+        }
+        match self.left.pop_front() {
+            Some((link, arg)) => {
+                self.waits = true;
+                RcStep::Run(link, arg)
+            }
+            None => RcStep::Done,
+        }
+    }
+
+    /// Takes the answer to the script that was handed out last. Refused where none is missing. How a script ended
+    /// changes nothing in what follows.
+    pub fn answer(&mut self, _answer: RcAnswer) -> Result<(), NotAsked>
+        ensures ok { OnOk result ((self.old.waits ≡ true)
+            × (self.new ≡ record self.old { waits = false })) }
+        ensures err { OnErr result ((self.old.waits ≡ false) × (self.new ≡ self.old)) }
+    {
+        if !self.waits {
+            return Err(NotAsked);
+        }
+        self.waits = false;
+        Ok(())
+    }
+}
