@@ -5,7 +5,7 @@ use Rattle.std.specs.Process.{command_program, command_args}
 use Rattle.std.specs.declared.process.command.Command.{Command}
 use Rattle.text_lines.specs.Lines.{words_of}
 
--- a character that a shell reads: one of ~ ` ! $ ^ & * ( ) = | \ { } [ ] ; " ' < > ?
+-- a character that a shell reads
 abbrev pub is_shell_byte : ℕ → Bool
 is_shell_byte byte = list_any (λ b. b == byte) (codes "~`!$^&*()=|\\{}[];\"'<>?")
 
