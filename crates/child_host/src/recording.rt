@@ -3,7 +3,7 @@ ghost use Rattle.child_host.specs.Calls.{HostCall, Adds, text_read, front_read};
 ghost use Rattle.child_host.specs.Script.{tale};
 
 use crate::calls::{Bytes, Call, CallIn, HostFault, Reply};
-use init_trace::{Happening, HappeningIn};
+use init_trace::{HappeningIn, happening_copy};
 use init_words::{Id, Memory};
 use std::alloc::Allocator;
 
@@ -106,36 +106,4 @@ pub(crate) fn announce_call<A: Allocator + Copy, B: Allocator>(
     ensures { IfOk result (λ call. call ≡ Call.Announce happening.now) }
 {
     Ok(Call::Announce(happening_copy(alloc, happening)?))
-}
-
-/// A copy of the happening in memory of the allocator.
-fn happening_copy<A: Allocator + Copy, B: Allocator>(
-    alloc: A,
-    happening: &HappeningIn<B>,
-) -> Result<HappeningIn<A>, Memory>
-    ensures { IfOk result (λ copy. copy ≡ happening.now) }
-{
-    Ok(match happening {
-        Happening::NewTable(table) => Happening::NewTable(table.copy(alloc)?),
-        Happening::NotRead => Happening::NotRead,
-        Happening::Enter(stage, grace) => Happening::Enter(*stage, *grace),
-        Happening::Call(letter) => Happening::Call(*letter),
-        Happening::Power(kind) => Happening::Power(*kind),
-        Happening::Asked(id, order) => Happening::Asked(*id, *order),
-        Happening::Hold(id) => Happening::Hold(*id),
-        Happening::Settle(level) => Happening::Settle(*level),
-        Happening::Birth(id, child) => Happening::Birth(*id, *child),
-        Happening::NoBirth(id) => Happening::NoBirth(*id),
-        Happening::Death(child) => Happening::Death(*child),
-        Happening::Reaped(id, child, status) => Happening::Reaped(*id, *child, *status),
-        Happening::Still(id) => Happening::Still(*id),
-        Happening::NoLook(id) => Happening::NoLook(*id),
-        Happening::Hit(id) => Happening::Hit(*id),
-        Happening::Miss(id) => Happening::Miss(*id),
-        Happening::Told(id) => Happening::Told(*id),
-        Happening::Clock(reading) => Happening::Clock(*reading),
-        Happening::Nudge => Happening::Nudge,
-        Happening::Got(request) => Happening::Got(*request),
-        Happening::Handed(how) => Happening::Handed(*how),
-    })
 }

@@ -11,12 +11,12 @@ use std::test::Fail;
 
 /// An answer, but for a birth.
 enum Told {
-    NotBorn,
-    Ended(Status),
     Alive,
     NoLook,
-    Hit,
+    Ended(Status),
+    NotBorn,
     Miss,
+    Hit,
 }
 
 impl Told {

@@ -14,10 +14,12 @@ use std::alloc::Allocator;
 
 impl<A: Allocator + Copy> Slots<A> {
     ghost use Rattle.child_table.specs.State.{new_slot};
+    ghost use Rattle.inittab_text.specs.Tables.{is_distinct};
 
-    /// The records of a table of which nothing was asked yet.
+    /// The records of a table of which nothing was asked yet. A table has no id twice.
     pub fn new(alloc: A, table: &Table<A>) -> Result<Slots<A>, Memory>
-        ensures { IfOk result (λ slots. slots ≡ map new_slot table.now) }
+        ensures records { IfOk result (λ slots. slots ≡ map new_slot table.now) }
+        ensures distinct { is_distinct table.now ≡ true }
     {
         let mut slots = Slots::empty(alloc);
         slots.adopt(table)?;
@@ -25,10 +27,11 @@ impl<A: Allocator + Copy> Slots<A> {
     }
 
     /// Another table was read: its entries have the records now, and those of other ids stay where they have a child.
-    /// On want of memory nothing is changed.
+    /// On want of memory nothing is changed. A table has no id twice.
     pub fn adopt(&mut self, table: &Table<A>) -> Result<(), Memory>
         ensures adopted { OnOk result (self.new ≡ after_adopt table.now self.old) }
         ensures unchanged { OnErr result (self.new ≡ self.old) }
+        ensures distinct { is_distinct table.now ≡ true }
     {
         let room = table.len().max(self.len());
         let mut next = Slots::with_room(self.allocator(), room)?;

@@ -86,10 +86,13 @@ impl<A: Allocator> Slots<A> {
         Some(slot)
     }
 
-    /// The records in their order.
+    /// The records in their order. No id has two.
     pub fn as_slice(&self) -> &[Slot]
-        ensures { result.now ≡ self.now }
+        ensures value { result.now ≡ self.now }
+        ensures distinct { are_distinct self.now ≡ true }
     {
+        // `len` says that no id has two, as `values` doesn't.
+        let _ = self.len();
         self.records.values().as_slice()
     }
 

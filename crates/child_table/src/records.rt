@@ -73,6 +73,13 @@ impl Slot {
         }
     }
 
+    /// It has a child.
+    pub fn has_child(&self) -> bool
+        ensures { result ≡ is_some self.now.child }
+    {
+        self.child.is_some()
+    }
+
     /// The action that the id had in the table when its child was born.
     pub fn act(&self) -> Option<Act>
         ensures { result ≡ birth_act self.now }

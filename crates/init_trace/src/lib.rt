@@ -2,12 +2,14 @@
 //! Its definitions say which steps init owes, which traces a sound system allows, and which laws they keep.
 #![tactic(auto)]
 
+mod copies;
 mod happenings;
 mod printing;
 mod reading;
 mod steps;
 mod words;
 
+pub use copies::happening_copy;
 pub use happenings::{Handed, Happening, HappeningIn};
 pub use printing::{print, print_one, print_table};
 pub use reading::{ReadFault, first_happening, line_count, read};

@@ -4,7 +4,7 @@ ghost use Rattle.init_words.specs.Entries.{without_plus, starts_of, lives_of, wa
 
 use crate::actions::Act;
 use crate::ids::Id;
-use crate::levels::{Level, Mark, names};
+use crate::levels::{Letter, Level, Mark, names};
 use crate::stages::Stage;
 use arrayvec::ArrayVec;
 use std::alloc::AllocError;
@@ -41,6 +41,13 @@ impl Entry {
         ensures { result ≡ names (Mark.At level) self.now.levels.items }
     {
         names(self.levels.as_slice(), Mark::At(level))
+    }
+
+    /// The entry names the letter.
+    pub fn names_letter(&self, letter: Letter) -> bool
+        ensures { result ≡ names (Mark.OnCall letter) self.now.levels.items }
+    {
+        names(self.levels.as_slice(), Mark::OnCall(letter))
     }
 }
 

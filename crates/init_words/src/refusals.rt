@@ -34,10 +34,21 @@ pub enum Refusal {
     NotAsked,
     /// The id's open order is of another kind than the answer.
     WrongAnswer,
-    /// A start or a signal is not answered yet. Nothing gives it yet: no table comes into force after the first.
+    /// A start or a signal is not answered yet, so no table is adopted.
     NotQuiet,
-    /// Want of memory. Nothing gives it yet: no call of the core but its opening takes memory.
+    /// Want of memory for the records of a table.
     Memory,
+}
+
+impl From<Memory> for Refusal {
+    ghost use Rattle.std.specs.Prelude.{◌≡◌};
+    ghost use Rattle.init_words.specs.declared.refusals.Refusal.TheVariants as refusal;
+
+    ghost from_gives = { λ _ given. given ≡ refusal.Memory };
+
+    fn from(_error: Memory) -> Refusal {
+        Refusal::Memory
+    }
 }
 
 impl fmt::Display for Refusal {

@@ -13,7 +13,7 @@ pub ends_kept : (s : Scenario) (f : SimFault) (old mid new : Option (List ℕ)) 
 ends_kept s fault.Table old mid new (long, none) kept = (long, Keeps-trans old mid new none kept)
 ends_kept s (fault.Script n) old mid new (rest, past, number, rested, written, such) kept =
     (rest, past, number, rested, Appends-kept old mid new (past_text past) written kept, such)
-ends_kept s (fault.Forbidden n) old mid new (rest, past, number, rested, written, such) kept =
+ends_kept s (fault.Forbidden n why) old mid new (rest, past, number, rested, written, such) kept =
     (rest, past, number, rested, Appends-kept old mid new (past_text past) written kept, such)
 ends_kept s fault.Write old mid new (rest, past, run, (front, back, is, written, some)) kept =
     (rest, past, run, (front, back, is, Appends-kept old mid new front written kept, some))

@@ -1,24 +1,27 @@
 -- How a command line of initd ends: its exit status, what was written, and what is reported of it.
-use Rattle.std.specs.Prelude.{◌⊎◌, ℕ, List, ◌++◌, codes, decimal, Option}
+use Rattle.std.specs.Prelude.{◌⊎◌, ℕ, List, [], ◌++◌, codes, decimal, Option}
 use Rattle.std.specs.Io.KnownBytes.{Keeps}
 use Rattle.program_edge.specs.Writing.{AppendsPrefix}
 use Rattle.program_edge.specs.declared.statuses.TheConstants.{DONE, REFUSED, UNLAWFUL, DEVICE_FAULT}
 use Rattle.supervisor.specs.declared.running.SimFault.{SimFault}
 use Rattle.supervisor.specs.declared.running.SimFault.TheVariants as fault
 use Rattle.supervisor.specs.Faults.{fault_text}
+use Rattle.system_side.specs.declared.objections.Objection.{Objection}
+use Rattle.system_side.specs.Objections.{objection_text}
+use Rattle.initd_command.specs.Lines.{line_at, line_told}
 use Rattle.initd_command.specs.declared.checking.TheConstants.{UNWRITTEN}
 use Rattle.initd_command.specs.declared.reports.TheConstants.{NO_MEMORY}
 use Rattle.initd_command.specs.declared.running.TheConstants.{USAGE}
 
--- done; the words are no command line, or want memory; the file of a path was not read, and why; the run ended before
--- its script; the writer could not be flushed; a trace is lawful, or unlawful, of which this is told; its line of this
+-- done; the words are no command line, or want memory; the file of a path was not read, and why; the run over this
+-- script ended before its end; the writer could not be flushed; a trace is lawful, or unlawful, of which this is told; its line of this
 -- number is none; the verdict could not be written
 pub data Ending : Type 0 where
   done : Ending
   usage : Ending
   no_memory : Ending
   unread : List ℕ → List ℕ → Ending
-  stopped : SimFault → Ending
+  stopped : List ℕ → SimFault → Ending
   unflushed : Ending
   lawful : Ending
   unlawful : List ℕ → Ending
@@ -28,7 +31,7 @@ pub data Ending : Type 0 where
 abbrev pub fault_status : SimFault → ℕ
 fault_status fault.Table = REFUSED
 fault_status (fault.Script line) = REFUSED
-fault_status (fault.Forbidden line) = REFUSED
+fault_status (fault.Forbidden line why) = REFUSED
 fault_status fault.Write = DEVICE_FAULT
 fault_status fault.Memory = DEVICE_FAULT
 
@@ -37,15 +40,25 @@ status_of done = DONE
 status_of usage = REFUSED
 status_of no_memory = DEVICE_FAULT
 status_of (unread path why) = DEVICE_FAULT
-status_of (stopped f) = fault_status f
+status_of (stopped script f) = fault_status f
 status_of unflushed = DEVICE_FAULT
 status_of lawful = DONE
 status_of (unlawful message) = UNLAWFUL
 status_of (torn line) = REFUSED
 status_of unwritten = DEVICE_FAULT
 
-abbrev pub fault_message : SimFault → List ℕ
-fault_message f = codes "initd: " ++ fault_text f ++ codes "\n"
+-- a line of a script that may not come there, and why
+abbrev pub reason_message : List ℕ → Objection → List ℕ
+reason_message line why = codes "initd: " ++ line_told line ++ codes ": " ++ objection_text why ++ codes "\n"
+
+-- of a line that may not come, by its number in the script
+abbrev pub reason_of : List ℕ → SimFault → List ℕ
+reason_of script (fault.Forbidden number why) = reason_message (line_at number script) why
+reason_of script _ = []
+
+-- the fault of a run over this script, and behind it the reason of one for a line that may not come
+abbrev pub fault_message : List ℕ → SimFault → List ℕ
+fault_message script f = codes "initd: " ++ fault_text f ++ codes "\n" ++ reason_of script f
 
 abbrev pub file_message : List ℕ → List ℕ → List ℕ
 file_message path why = codes "initd: cannot read " ++ path ++ codes ": " ++ why ++ codes "\n"
@@ -63,8 +76,8 @@ Reports done old new = Keeps old new
 Reports usage old new = AppendsPrefix old new USAGE.now
 Reports no_memory old new = AppendsPrefix old new NO_MEMORY.now
 Reports (unread path why) old new = ReportsText (file_message path why) old new
-Reports (stopped f) old new = ReportsText (fault_message f) old new
-Reports unflushed old new = ReportsText (fault_message fault.Write) old new
+Reports (stopped script f) old new = ReportsText (fault_message script f) old new
+Reports unflushed old new = ReportsText (fault_message [] fault.Write) old new
 Reports lawful old new = Keeps old new
 Reports (unlawful message) old new = AppendsPrefix old new message
 Reports (torn line) old new = ReportsText (torn_message line) old new

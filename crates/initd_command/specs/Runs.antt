@@ -10,7 +10,7 @@ use Rattle.initd_command.specs.Verdicts.{EndsCheck}
 -- how a run may end
 abbrev pub EndsRun : Scenario → Ending → Option (List ℕ) → Option (List ℕ) → Type 0
 EndsRun s done old new = Done s old new
-EndsRun s (stopped f) old new = Ends s f old new
+EndsRun s (stopped script f) old new = (script ≡ s.script) × Ends s f old new
 EndsRun s unflushed old new = Done s old new ⊎ ((f : SimFault) × Ends s f old new)
 EndsRun s _ old new = ⊥
 

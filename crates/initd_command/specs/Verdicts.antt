@@ -3,11 +3,12 @@ use Rattle.std.specs.Prelude.{◌≡◌, ℕ, true, ◌+◌, ◌==◌, if◌then
 use Rattle.std.specs.Option.{option_map_or}
 use Rattle.std.specs.Io.KnownBytes.{Appends, Keeps}
 use Rattle.program_edge.specs.Writing.{AppendsPrefix}
-use Rattle.text_lines.specs.Lines.{cut, newlines}
+use Rattle.text_lines.specs.Lines.{newlines}
 use Rattle.init_trace.specs.Event.{Event}
 use Rattle.init_trace.specs.Lawful.{Fault, first_breach}
 use Rattle.init_trace.specs.Lines.{event_text, trace_text}
 use Rattle.init_trace.specs.Range.{are_in_range, Stops}
+use Rattle.initd_command.specs.Lines.{first_line}
 use Rattle.initd_command.specs.Endings.{Ending, no_memory, unread, lawful, unlawful, torn, unwritten}
 
 abbrev pub fault_at : ℕ → ℕ → Fault
@@ -30,10 +31,6 @@ law_text law =
     else if law == 5 then codes "the level is not settled"
     else if law == 6 then codes "the respawn limit is not kept"
     else codes "the signal is not due"
-
--- what stands before the first newline
-abbrev pub first_line : List ℕ → List ℕ
-first_line text = option_map_or (λ parts. parts.0) (cut 10 text) text
 
 -- a line, its number and what is said of it
 abbrev pub message_of : ℕ → List ℕ → List ℕ → List ℕ

@@ -3,8 +3,9 @@ ghost use Rattle.std.specs.Io.KnownBytes.{Appends};
 ghost use Rattle.program_edge.specs.Writing.{AppendsPrefix};
 ghost use Rattle.init_trace.specs.Lawful.{Fault};
 ghost use Rattle.initd_command.specs.Endings.{Ending, Reports, ReportsText, status_of, torn_message};
-ghost use Rattle.initd_command.specs.Verdicts.{EndsBreach, EndsCheck, EndsLawful, EndsTrace, EndsVerdict, breach_message, first_line, fault_at, law_text, message_of, unlawful_text};
+ghost use Rattle.initd_command.specs.Verdicts.{EndsBreach, EndsCheck, EndsLawful, EndsTrace, EndsVerdict, breach_message, fault_at, law_text, message_of, unlawful_text};
 
+use crate::lines::first_line;
 use crate::reports::{NO_MEMORY, report, report_bytes, report_made, report_unread};
 use init_trace::{HappeningIn, ReadFault, print, print_one, read};
 use init_words::Memory;
@@ -13,7 +14,7 @@ use program_edge::{DEVICE_FAULT, DONE, REFUSED, UNLAWFUL, read_file, write_text}
 use std::alloc::{AllocError, Global};
 use std::io::Write;
 use std::rt::Files;
-use text_lines::{cut, newlines};
+use text_lines::newlines;
 use trace_check::{Verdict, check};
 
 /// Reads the trace of a path and judges it.
@@ -157,16 +158,6 @@ fn message_of(alloc: Global, number: u64, line: &[u8], why: &[u8]) -> Result<Vec
     text.extend_from_slice(why)?;
     text.push(b'\n')?;
     Ok(text)
-}
-
-/// What stands before the first newline.
-fn first_line(text: &[u8]) -> &[u8]
-    ensures { result.now ≡ first_line text.now }
-{
-    match cut(b'\n', text) {
-        Some((line, _)) => line,
-        None => text,
-    }
 }
 
 /// What breaks a law, in words.

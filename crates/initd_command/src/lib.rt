@@ -4,6 +4,7 @@
 
 mod checking;
 mod command;
+mod lines;
 mod reports;
 mod running;
 

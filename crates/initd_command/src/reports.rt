@@ -1,26 +1,64 @@
-ghost use Rattle.std.specs.Prelude.{◌≡◌, ℕ, List, OnErr, string_bytes, IfOk};
+ghost use Rattle.std.specs.Prelude.{◌≡◌, ℕ, List, OnOk, OnErr, string_bytes, IfOk, ◌++◌};
 ghost use Rattle.program_edge.specs.Writing.{AppendsPrefix};
-ghost use Rattle.initd_command.specs.Endings.{ReportsText, fault_message, fault_status, file_message};
+ghost use Rattle.initd_command.specs.Endings.{ReportsText, fault_message, fault_status, file_message, reason_message};
 
+use crate::lines::{line_at, line_told};
 use program_edge::{DEVICE_FAULT, REFUSED, write_text};
 use std::alloc::{AllocError, Global};
 use std::io;
 use std::io::Write;
 use supervisor::SimFault;
+use system_side::Objection;
 
 /// What is reported where memory runs out, also for the message itself.
 pub(crate) const NO_MEMORY: &str = "initd: out of memory\n";
 
-/// Reports a fault of a run, and gives the exit status.
-pub(crate) fn report_fault<E: Write>(alloc: Global, fault: &SimFault, err: &mut E) -> u8
+/// Reports a fault of a run over a script, and gives the exit status.
+pub(crate) fn report_fault<E: Write>(
+    alloc: Global,
+    script: &[u8],
+    fault: &SimFault,
+    err: &mut E,
+) -> u8
     ensures status { result ≡ fault_status fault.now }
-    ensures reported { ReportsText (fault_message fault.now) (E.contents err.old) (E.contents err.new) }
+    ensures reported { ReportsText (fault_message script.now fault.now) (E.contents err.old) (E.contents err.new) }
 {
-    report_made(format!(in alloc; "initd: {fault}\n"), err);
+    report_lines(fault_message(alloc, script, fault), err);
     match fault {
-        SimFault::Table | SimFault::Script(_) | SimFault::Forbidden(_) => REFUSED,
+        SimFault::Table | SimFault::Script(_) | SimFault::Forbidden(_, _) => REFUSED,
         SimFault::Write | SimFault::Memory => DEVICE_FAULT,
     }
+}
+
+/// The fault in words, and the line at fault with the reason where it is one that may not come.
+fn fault_message(alloc: Global, script: &[u8], fault: &SimFault) -> Result<Vec<u8>, AllocError>
+    ensures { IfOk result (λ text. text.items ≡ fault_message script.now fault.now) }
+{
+    let first = format!(in alloc; "initd: {fault}\n")?;
+    let mut text = Vec::new(alloc);
+    text.extend_from_slice(first.as_bytes())?;
+    if let SimFault::Forbidden(number, why) = fault {
+        add_reason(alloc, &mut text, line_at(*number, script), why)?;
+    }
+    Ok(text)
+}
+
+/// Adds a script line that may not come, and why.
+fn add_reason(
+    alloc: Global,
+    text: &mut Vec<u8>,
+    line: &[u8],
+    why: &Objection,
+) -> Result<(), AllocError>
+    ensures { OnOk result (text.new.items ≡ text.old.items ++ reason_message line.now why.now) }
+{
+    let reason = format!(in alloc; "{why}")?;
+    text.extend_from_slice(b"initd: ")?;
+    text.extend_from_slice(line_told(line))?;
+    text.extend_from_slice(b": ")?;
+    text.extend_from_slice(reason.as_bytes())?;
+    text.push(b'\n')?;
+    Ok(())
 }
 
 /// Reports that a file was not read, and gives the exit status.
@@ -58,6 +96,17 @@ pub(crate) fn report_made<E: Write>(message: Result<String, AllocError>, err: &m
 {
     match &message {
         Ok(text) => report(text.as_str(), err),
+        Err(_) => report(NO_MEMORY, err),
+    }
+}
+
+/// The same of lines that may not be text.
+fn report_lines<E: Write>(message: Result<Vec<u8>, AllocError>, err: &mut E)
+    ensures made { IfOk message (λ text. AppendsPrefix (E.contents err.old) (E.contents err.new) text.items) }
+    ensures unmade { OnErr message (AppendsPrefix (E.contents err.old) (E.contents err.new) NO_MEMORY.now) }
+{
+    match &message {
+        Ok(text) => report_bytes(text, err),
         Err(_) => report(NO_MEMORY, err),
     }
 }

@@ -92,10 +92,10 @@ fn run<W: Write, E: Write>(
 {
     let ended = simulate(alloc, inittab, level, script, out);
     if out.flush().is_err() {
-        return report_fault(alloc, &SimFault::Write, err);
+        return report_fault(alloc, script, &SimFault::Write, err);
     }
     match ended {
         Ok(()) => DONE,
-        Err(fault) => report_fault(alloc, &fault, err),
+        Err(fault) => report_fault(alloc, script, &fault, err),
     }
 }

@@ -1,13 +1,4 @@
-pub mod FirstDue
-pub mod Fitting
-pub mod Heads
+pub mod Called
+pub mod Kept
 pub mod Pairs
-pub mod Plain
-pub mod Same
 pub mod Starts
-pub mod Stepping
-pub mod Taming
-pub mod Telling
-pub mod Timely
-pub mod Windows
-pub mod Working

@@ -3,11 +3,11 @@ use Rattle.std.proofs.Common.{true, false, ◌≡◌, ℕ, ◌+◌, ◌<◌, ◌
 use Rattle.init_words.specs.declared.entries.Entry.{Entry}
 use Rattle.init_words.specs.declared.stages.Stage.{Stage}
 use Rattle.init_trace.specs.declared.steps.Step.{Step}
-use Rattle.level_core.specs.declared.slots.Slot.{Slot}
-use Rattle.level_core.specs.Decide.{start_along, start_step, is_owed_slot}
+use Rattle.child_table.specs.State.{SlotState}
+use Rattle.core_state.specs.Decide.{start_along, start_step, is_owed_slot}
 use Rattle.level_core.proofs.Pairs.{pair_at, no_pair_at, no_pair_past}
 
-module _ (stage : Stage) (now : ℕ) (table : List Entry) (slots : List Slot) (i : ℕ)
+module _ (stage : Stage) (now : ℕ) (table : List Entry) (slots : List SlotState) (i : ℕ)
     (so_far : start_along stage now (zip table slots) ≡ start_along stage now (drop i (zip table slots))) where
   pub along_none : slice_get table i ≡ None → None ≡ start_along stage now (zip table slots)
   along_none none = rw (so_far, no_pair_at table slots i none) refl
@@ -15,11 +15,11 @@ module _ (stage : Stage) (now : ℕ) (table : List Entry) (slots : List Slot) (i
   pub along_past : length slots ≤ i → None ≡ start_along stage now (zip table slots)
   along_past past = rw (so_far, no_pair_past table slots i past) refl
 
-  pub along_found : (e : Entry) (slot : Slot) (step : Step) → slice_get table i ≡ Some e → i < length slots → slot ≡ get_or slots i slot → Some step ≡ start_step stage now e slot → Some step ≡ start_along stage now (zip table slots)
+  pub along_found : (e : Entry) (slot : SlotState) (step : Step) → slice_get table i ≡ Some e → i < length slots → slot ≡ get_or slots i slot → Some step ≡ start_step stage now e slot → Some step ≡ start_along stage now (zip table slots)
   along_found e slot step at h is found = rw (so_far, pair_at table slots i e slot at h is, ← found) refl
 
-  pub along_owed : (e : Entry) (slot : Slot) → slice_get table i ≡ Some e → i < length slots → slot ≡ get_or slots i slot → None ≡ start_step stage now e slot → true ≡ is_owed_slot stage e slot → None ≡ start_along stage now (zip table slots)
+  pub along_owed : (e : Entry) (slot : SlotState) → slice_get table i ≡ Some e → i < length slots → slot ≡ get_or slots i slot → None ≡ start_step stage now e slot → true ≡ is_owed_slot stage e slot → None ≡ start_along stage now (zip table slots)
   along_owed e slot at h is none owed = rw (so_far, pair_at table slots i e slot at h is, ← none, ← owed) refl
 
-  pub along_pass : (e : Entry) (slot : Slot) → slice_get table i ≡ Some e → i < length slots → slot ≡ get_or slots i slot → None ≡ start_step stage now e slot → false ≡ is_owed_slot stage e slot → start_along stage now (zip table slots) ≡ start_along stage now (drop (i + 1) (zip table slots))
+  pub along_pass : (e : Entry) (slot : SlotState) → slice_get table i ≡ Some e → i < length slots → slot ≡ get_or slots i slot → None ≡ start_step stage now e slot → false ≡ is_owed_slot stage e slot → start_along stage now (zip table slots) ≡ start_along stage now (drop (i + 1) (zip table slots))
   along_pass e slot at h is none owed = rw (so_far, pair_at table slots i e slot at h is, ← none, ← owed) refl

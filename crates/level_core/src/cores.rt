@@ -1,56 +1,76 @@
 ghost use Rattle.std.specs.Prelude.{◌≡◌, IfOk, OnOk, OnErr};
 
-use crate::deciding::{look_among, settle_step, stage_step, start_among};
-use crate::slots::{
-    Slot, answer_told, hold_given, opening_slots, order_given, order_of, round_begun, stage_entered,
+use crate::calling::{call_named, judge_in};
+use crate::deciding::{level_step, next_stage};
+use crate::walking::{
+    all_done, all_served, any_busy, has_excluded, is_idle, look_among, start_among, stop_among,
 };
+use child_table::Slots;
+use core_state::News;
 use init_trace::{Goal, Step};
 use init_words::{Answer, GRACE, Id, Level, Memory, Refusal, Stage};
+use initctl_frame::Got;
 use inittab_text::Table;
 use respawn_limit::CLOCK_LIMIT;
 use std::alloc::{Allocator, Global};
 use std::marker::Model;
 
-/// Init's decisions: its table, one record an id, the stage, the goal and the time.
+/// Init's decisions: its table, one record an id, the stage, the goal, the time, and what was asked of it.
 #[derive(Drop)]
 pub struct Core<A: Allocator = Global> {
     table: Table<A>,
-    slots: Vec<Slot, A>,
+    slots: Slots<A>,
     stage: Option<Stage>,
     grace: u16,
     goal: Goal,
     booted: bool,
     announced: bool,
     time: u64,
+    reexec: bool,
+    reread: bool,
+    level_wish: Option<Goal>,
+    news: News,
+    generation: u64,
 }
 
 impl<A: Allocator> Model for Core<A> {
     ghost use Rattle.std.specs.Prelude.{◌≡◌, ◌≤◌, true};
     ghost use Rattle.respawn_limit.specs.declared.TheConstants.{CLOCK_LIMIT};
-    ghost use Rattle.level_core.specs.Slots.{are_timely};
-    ghost use Rattle.level_core.specs.Decide.{CoreState};
+    ghost use Rattle.child_table.specs.Times.{are_timely};
+    ghost use Rattle.child_table.specs.Order.{IsInOrder};
+    ghost use Rattle.core_state.specs.State.{CoreState};
 
     ghost Value = { CoreState };
 
     ghost view = { λ c. record {
       table = c.table;
-      slots = c.slots.items;
+      slots = c.slots;
       stage = c.stage;
       grace = c.grace;
       goal = c.goal;
       booted = c.booted;
       announced = c.announced;
       time = c.time;
+      reexec = c.reexec;
+      reread = c.reread;
+      level_wish = c.level_wish;
+      news = c.news;
+      generation = c.generation;
     } };
 
-    ghost invariant = { λ c. (c.time ≤ CLOCK_LIMIT) × (are_timely c.time c.slots.items ≡ true) };
+    ghost invariant = { λ c. (c.time ≤ CLOCK_LIMIT) × (are_timely c.time c.slots ≡ true)
+        × IsInOrder c.table c.slots };
 }
 
 impl<A: Allocator + Copy> Core<A> {
-    ghost use Rattle.std.specs.Prelude.{[], ◌∷◌};
+    ghost use Rattle.std.specs.Prelude.{[], ◌∷◌, IfErr, Err, true, false, if◌then◌else◌};
+    ghost use Rattle.init_words.specs.declared.refusals.Refusal.TheVariants as refusal;
     ghost use Rattle.init_trace.specs.declared.happenings.Happening.TheVariants.{NewTable};
-    ghost use Rattle.level_core.specs.Decide.{opening_goal, opening_state};
-    ghost use Rattle.level_core.specs.Fit.{Fits};
+    ghost use Rattle.inittab_text.specs.Tables.{is_distinct};
+    ghost use Rattle.child_table.specs.Lists.{is_quiet};
+    ghost use Rattle.core_state.specs.State.{opening_goal, opening_state};
+    ghost use Rattle.core_state.specs.Steps.{after_adopt};
+    ghost use Rattle.core_state.specs.Fit.{Fits, OnEachTrace};
 
     /// The core before its first stage, with the goal of the level that is given, else of the table's default level,
     /// else of S.
@@ -64,10 +84,12 @@ impl<A: Allocator + Copy> Core<A> {
     }
 
     fn new_by_state(alloc: A, table: Table<A>, level: Option<Level>) -> Result<Core<A>, Memory>
-        ensures { IfOk result (λ core. core ≡ opening_state table (opening_goal level table)) }
+        ensures state { IfOk result (λ core.
+            core ≡ opening_state table (opening_goal level table)) }
+        ensures distinct { is_distinct table ≡ true }
     {
         let level = level.or(table.default_level()).unwrap_or(Level::S);
-        let slots = opening_slots(alloc, &table)?;
+        let slots = Slots::new(alloc, &table)?;
         Ok(Core {
             table,
             slots,
@@ -80,23 +102,65 @@ impl<A: Allocator + Copy> Core<A> {
             booted: false,
             announced: false,
             time: 0,
+            reexec: false,
+            reread: false,
+            level_wish: None,
+            news: News::new(),
+            generation: 0,
         })
+    }
+
+    /// Another table is in force (telinit(8), `q`): its entries have the records, and children of ids that left it are
+    /// to be stopped. Refused while a start or a signal is not answered (`NotQuiet`), before any memory is taken, and
+    /// for want of memory; a refusal changes nothing.
+    pub fn adopt(&mut self, table: Table<A>) -> Result<(), Refusal>
+        ensures adopted { OnOk result (self.new ≡ after_adopt table self.old) }
+        ensures busy { is_quiet self.old.slots ≡ false → result ≡ Err refusal.NotQuiet }
+        ensures refused { IfErr result (λ why.
+            why ≡ (if is_quiet self.old.slots then refusal.Memory else refusal.NotQuiet)) }
+        ensures unchanged { OnErr result (self.new ≡ self.old) }
+        ensures fits { OnOk result (OnEachTrace self.old (λ goal past.
+            Fits self.new goal (NewTable table ∷ past))) }
+    {
+        self.adopt_by_state(table)
+    }
+
+    fn adopt_by_state(&mut self, table: Table<A>) -> Result<(), Refusal>
+        ensures distinct { OnOk result (is_distinct table ≡ true) }
+        ensures adopted { OnOk result (self.new ≡ after_adopt table self.old) }
+        ensures busy { is_quiet self.old.slots ≡ false → result ≡ Err refusal.NotQuiet }
+        ensures refused { IfErr result (λ why.
+            why ≡ (if is_quiet self.old.slots then refusal.Memory else refusal.NotQuiet)) }
+        ensures unchanged { OnErr result (self.new ≡ self.old) }
+    {
+        if !self.slots.quiet() {
+            return Err(Refusal::NotQuiet);
+        }
+        self.slots.adopt(&table)?;
+        judge_in(&mut self.slots, &table, self.stage);
+        self.table = table;
+        self.announced = false;
+        self.reread = false;
+        Ok(())
     }
 }
 
 impl<A: Allocator> Core<A> {
-    ghost use Rattle.level_core.specs.Decide.{decide, after_step, after_told, after_round, after_clock, refusal_of};
-    ghost use Rattle.level_core.specs.Slots.{order_in};
-    ghost use Rattle.std.specs.Prelude.{IsTrue, IsOk, List, ◌∷◌, ◌<◌, Some, false, ℕ};
-    ghost use Rattle.init_trace.specs.declared.happenings.Happening.TheVariants.{Nudge, Clock, Told};
-    ghost use Rattle.init_trace.specs.declared.steps.Goal.{Goal};
-    ghost use Rattle.init_trace.specs.Event.{Event};
+    ghost use Rattle.std.specs.Prelude.{IsTrue, IsOk, List, ◌∷◌, ◌<◌, Some, true, false, ℕ};
+    ghost use Rattle.init_words.specs.declared.stages.Stage.{Stage};
+    ghost use Rattle.init_trace.specs.declared.happenings.Happening.TheVariants as happening;
     ghost use Rattle.init_trace.specs.Answered.{answered_of};
     ghost use Rattle.init_trace.specs.Due.{due, first};
-    ghost use Rattle.level_core.specs.Fit.{Fits, with_step};
-    ghost use Rattle.level_core.specs.Path.{OnEachRun};
-    ghost use Rattle.level_core.specs.Work.{work_left};
     ghost use Rattle.init_trace.specs.Run.{is_rest};
+    ghost use Rattle.child_table.specs.Order.{IsInOrder};
+    ghost use Rattle.child_table.specs.Lists.{are_distinct, order_in, refusal_of};
+    ghost use Rattle.core_state.specs.Decide.{decide, wished_step, wish_step, stands, calm_step, work_step, is_drained};
+    ghost use Rattle.core_state.specs.Decide as core;
+    ghost use Rattle.core_state.specs.Steps as steps;
+    ghost use Rattle.init_trace.specs.declared.happenings.Handed.{Handed};
+    ghost use Rattle.core_state.specs.Steps.{after_step, after_told, after_round, after_clock, after_got, after_not_read, after_handed};
+    ghost use Rattle.core_state.specs.Fit.{Fits, OnEachTrace, with_step};
+    ghost use Rattle.core_state.specs.Work.{work_left};
 
     /// The stage in force.
     pub fn stage(&self) -> Option<Stage>
@@ -119,6 +183,13 @@ impl<A: Allocator> Core<A> {
         &self.table
     }
 
+    /// The records, in record order.
+    pub fn slots(&self) -> &Slots<A>
+        ensures { result.now ≡ self.now.slots }
+    {
+        &self.slots
+    }
+
     /// The goal: the level to go to, and the seconds between the two signals.
     pub fn goal(&self) -> Goal
         ensures { result ≡ self.now.goal }
@@ -126,70 +197,216 @@ impl<A: Allocator> Core<A> {
         self.goal
     }
 
-    fn due_step(&self) -> Step
-        ensures { result ≡ decide self.now }
+    /// How often init was executed anew since its opening.
+    pub fn generation(&self) -> u64
+        ensures { result ≡ self.now.generation }
     {
+        self.generation
+    }
+
+    /// Nothing is left to do and nothing runs: a run level is announced as settled, no record has a child or an order,
+    /// no wish stands, and no entry is held.
+    pub fn drained(&self) -> bool
+        ensures { result ≡ is_drained self.now }
+    {
+        match self.stage {
+            Some(Stage::Run(level)) => {
+                self.announced
+                    && !self.stands(Stage::Run(level))
+                    && !any_busy(self.time, self.slots.as_slice())
+            }
+            _ => false,
+        }
+    }
+
+    /// What is wished, where no start and no signal is open.
+    fn wished_step(&self, stage: Stage) -> Option<Step>
+        ensures { result ≡ wished_step stage self.now }
+    {
+        if self.reexec {
+            return Some(Step::Reexec);
+        }
+        if self.reread {
+            return Some(Step::Reread);
+        }
+        if let Some(step) = level_step(self.booted, self.level_wish) {
+            return Some(step);
+        }
+        self.news_step(stage)
+    }
+
+    fn news_step(&self, stage: Stage) -> Option<Step>
+        ensures { result ≡ core.news_step stage self.now }
+    {
+        match stage {
+            Stage::Run(_) => self.news.first_step(),
+            Stage::Sysinit | Stage::Boot => None,
+        }
+    }
+
+    fn wish_step(&self, stage: Stage) -> Option<Step>
+        ensures { result ≡ wish_step stage self.now }
+    {
+        if self.slots.quiet() {
+            self.wished_step(stage)
+        } else {
+            None
+        }
+    }
+
+    /// A wish stands.
+    fn stands(&self, stage: Stage) -> bool
+        ensures { result ≡ stands stage self.now }
+    {
+        self.reexec || self.reread || self.level_wish.is_some() || self.has_news(stage)
+    }
+
+    /// There is news, and it counts in the stage.
+    fn has_news(&self, stage: Stage) -> bool
+        ensures { result ≡ core.counts_news stage self.now }
+    {
+        match stage {
+            Stage::Run(_) => self.news.is_some(),
+            Stage::Sysinit | Stage::Boot => false,
+        }
+    }
+
+    /// After Sysinit and Boot, the stage that comes next.
+    fn stage_step(&self, stage: Stage) -> Option<Step>
+        ensures { result ≡ core.stage_step stage self.now.goal self.now.table self.now.slots }
+    {
+        let next = next_stage(stage, self.goal.level)?;
+        if self.slots.quiet() && all_done(stage, &self.table, self.slots.as_slice()) {
+            Some(Step::Enter(next, self.goal.grace))
+        } else {
+            None
+        }
+    }
+
+    /// In a run level, that it is settled, once.
+    fn settle_step(&self, stage: Stage) -> Option<Step>
+        ensures { result ≡ core.settle_step stage self.now.announced
+            self.now.time self.now.table self.now.slots }
+    {
+        let Stage::Run(level) = stage else {
+            return None;
+        };
+        let slots = self.slots.as_slice();
+        if !self.announced && is_idle(slots) && all_served(level, self.time, &self.table, slots) {
+            Some(Step::Settle(level))
+        } else {
+            None
+        }
+    }
+
+    /// Where no child is excluded: a start or a hold, the next stage, or that the level is settled.
+    fn calm_step(&self, stage: Stage) -> Option<Step>
+        ensures { result ≡ calm_step stage self.now }
+    {
+        if let Some(step) = start_among(stage, self.time, &self.table, self.slots.as_slice()) {
+            return Some(step);
+        }
+        if let Some(step) = self.stage_step(stage) {
+            return Some(step);
+        }
+        self.settle_step(stage)
+    }
+
+    /// Where no wish stands: a signal, or one of those.
+    fn work_step(&self, stage: Stage) -> Option<Step>
+        ensures { result ≡ work_step stage self.now }
+    {
+        if self.stands(stage) {
+            return None;
+        }
+        let slots = self.slots.as_slice();
+        if let Some(step) = stop_among(self.grace, self.time, slots) {
+            return Some(step);
+        }
+        if has_excluded(slots) {
+            return None;
+        }
+        self.calm_step(stage)
+    }
+
+    fn due_step(&self) -> Step
+        ensures step { result ≡ decide self.now }
+        ensures distinct { are_distinct self.now.slots ≡ true }
+        ensures order { IsInOrder self.now.table self.now.slots }
+    {
+        let slots = self.slots.as_slice();
         let Some(stage) = self.stage else {
             return Step::Enter(Stage::Sysinit, self.goal.grace);
         };
-        if let Some(step) = start_among(stage, self.time, &self.table, &self.slots) {
+        if let Some(step) = self.wish_step(stage) {
             return step;
         }
-        if let Some(step) = stage_step(stage, self.goal, &self.table, &self.slots) {
+        if let Some(step) = self.work_step(stage) {
             return step;
         }
-        if let Some(step) = settle_step(
-            stage,
-            self.announced,
-            self.time,
-            &self.table,
-            &self.slots,
-        ) {
-            return step;
-        }
-        look_among(&self.slots).unwrap_or(Step::Idle)
+        look_among(slots).unwrap_or(Step::Idle)
     }
 
+    fn enter(&mut self, stage: Stage, grace: u16)
+        ensures { self.new ≡ after_step (Step.Enter stage grace) self.old }
+    {
+        self.slots.entered();
+        self.slots.judge(&self.table, stage);
+        self.stage = Some(stage);
+        self.grace = grace;
+        self.goal = self.level_wish.unwrap_or(self.goal);
+        self.level_wish = None;
+        self.booted = stage == Stage::Boot || self.booted;
+        self.announced = false;
+    }
+
+    /// The step is taken, as it was decided on.
     fn apply(&mut self, step: &Step)
+        requires decided { decide self.old ≡ step.now }
+        requires distinct { are_distinct self.old.slots ≡ true }
         ensures { self.new ≡ after_step step.now self.old }
     {
         match *step {
-            Step::Enter(stage, grace) => {
-                stage_entered(&mut self.slots);
-                self.stage = Some(stage);
-                self.grace = grace;
-                self.booted = stage == Stage::Boot || self.booted;
-                self.announced = false;
+            Step::Enter(stage, grace) => self.enter(stage, grace),
+            Step::Power(kind) => {
+                call_named(&mut self.slots, &self.table, step, self.stage);
+                self.news.set_power(kind, false);
             }
-            Step::Order(id, ask) => order_given(&mut self.slots, id, ask, self.time),
-            Step::Hold(id) => hold_given(&mut self.slots, id, self.time),
+            Step::Call(letter) => {
+                call_named(&mut self.slots, &self.table, step, self.stage);
+                self.news.set_letter(letter, false);
+            }
+            Step::Order(id, ask) => self.slots.ask(id, ask, self.time),
+            Step::Hold(id) => self.slots.hold(id, self.time),
             Step::Settle(_) => self.announced = true,
-            Step::Call(_) | Step::Power(_) | Step::Reread | Step::Reexec | Step::Idle => {}
+            Step::Reread | Step::Reexec | Step::Idle => {}
         }
     }
 
     fn next_by_state(&mut self) -> Step
         ensures step { result ≡ decide self.old }
         ensures state { self.new ≡ after_step result self.old }
+        ensures falls { is_rest result ≡ false → work_left self.new < work_left self.old }
     {
         let step = self.due_step();
         self.apply(&step);
         step
     }
 
-    /// What init does next, which counts as done from here on: the first step that is due, Idle where none is.
-    /// It takes no memory.
+    /// What init does next, which counts as done from here on: the first step that is due, Idle where none is. A step
+    /// that reads inittab or executes init anew stays due until it is answered, by `adopt` or `not_read`, and by
+    /// `not_handed`. It takes no memory.
     ///
-    /// On traces of one table: a core that fits the trace gives the first due step, and fits the trace with that step.
+    /// Of every goal and every sound trace that the core fits: it gives the first due step, and fits the trace with
+    /// that step.
     pub fn next(&mut self) -> Step
         ensures step { result ≡ decide self.old }
         ensures state { self.new ≡ after_step result self.old }
-        ensures due { OnEachRun self.old (λ goal past. result ≡ first (due goal past)) }
-        ensures fits { OnEachRun self.old (λ goal past.
+        ensures due { OnEachTrace self.old (λ goal past. result ≡ first (due goal past)) }
+        ensures fits { OnEachTrace self.old (λ goal past.
             Fits self.new goal (with_step result past)) }
         // its own steps end: each leaves less to do
-        ensures falls { OnEachRun self.old (λ goal past.
-            is_rest result ≡ false → work_left self.new < work_left self.old) }
+        ensures falls { is_rest result ≡ false → work_left self.new < work_left self.old }
     {
         self.next_by_state()
     }
@@ -200,10 +417,10 @@ impl<A: Allocator> Core<A> {
         ensures told { OnOk result (self.new ≡ after_told id answer self.old) }
         ensures refused { result ≡ refusal_of (order_in id self.old.slots) answer }
         ensures unchanged { OnErr result (self.new ≡ self.old) }
-        ensures taken { OnEachRun self.old (λ goal past.
+        ensures taken { OnEachTrace self.old (λ goal past.
             answered_of id past ≡ Some answer → IsOk result) }
-        ensures fits { OnEachRun self.old (λ goal past.
-            answered_of id past ≡ Some answer → Fits self.new goal (Told id ∷ past)) }
+        ensures fits { OnEachTrace self.old (λ goal past.
+            answered_of id past ≡ Some answer → Fits self.new goal (happening.Told id ∷ past)) }
     {
         self.answer_by_state(id, answer)
     }
@@ -213,21 +430,85 @@ impl<A: Allocator> Core<A> {
         ensures refused { result ≡ refusal_of (order_in id self.old.slots) answer }
         ensures unchanged { OnErr result (self.new ≡ self.old) }
     {
-        let Some(ask) = order_of(&self.slots, id) else {
-            return Err(Refusal::NotAsked);
-        };
-        if !answer.answers(ask) {
-            return Err(Refusal::WrongAnswer);
-        }
-        answer_told(&mut self.slots, id, &answer);
+        self.slots.told(id, answer, self.time)?;
         Ok(())
     }
 
-    /// A round begins: each child is to be looked at.
+    /// A request was heard (telinit(8), initreq.h). Its seconds are at most 3,600.
+    pub fn got(&mut self, request: Got)
+        ensures state { self.new ≡ after_got request self.old }
+        ensures fits { OnEachTrace self.old (λ goal past.
+            Fits self.new goal (happening.Got request ∷ past)) }
+    {
+        self.got_by_state(request);
+    }
+
+    fn got_by_state(&mut self, request: Got)
+        ensures { self.new ≡ after_got request self.old }
+    {
+        match request {
+            Got::Level(level, grace) => self.hear_level(Goal { level, grace }),
+            Got::Call(letter) => self.news.set_letter(letter, true),
+            Got::Reload => self.reread = true,
+            Got::Reexec => self.reexec = true,
+            Got::Power(kind) => self.news.set_power(kind, true),
+            Got::Nothing(_) => {}
+        }
+    }
+
+    /// In the level that is asked for a wish for another is forgotten; in another level it is wished for; before the
+    /// run levels it is the goal.
+    fn hear_level(&mut self, wish: Goal)
+        ensures { self.new ≡ steps.heard_in self.old.stage wish self.old }
+    {
+        let Some(Stage::Run(now)) = self.stage else {
+            self.goal = wish;
+            self.reread = true;
+            return;
+        };
+        if wish.level == now {
+            self.level_wish = None;
+        } else {
+            self.level_wish = Some(wish);
+            self.reread = true;
+        }
+    }
+
+    /// Inittab could not be read: the table in force stays.
+    pub fn not_read(&mut self)
+        ensures state { self.new ≡ after_not_read self.old }
+        ensures fits { OnEachTrace self.old (λ goal past.
+            Fits self.new goal (happening.NotRead ∷ past)) }
+    {
+        self.not_read_by_state();
+    }
+
+    fn not_read_by_state(&mut self)
+        ensures { self.new ≡ after_not_read self.old }
+    {
+        self.reread = false;
+    }
+
+    /// Init was not executed anew: the wish for it is over, whatever came of the hand-over.
+    pub fn not_handed(&mut self)
+        ensures state { self.new ≡ after_handed self.old }
+        ensures fits { OnEachTrace self.old (λ goal past. (how : Handed)
+            → Fits self.new goal (happening.Handed how ∷ past)) }
+    {
+        self.not_handed_by_state();
+    }
+
+    fn not_handed_by_state(&mut self)
+        ensures { self.new ≡ after_handed self.old }
+    {
+        self.reexec = false;
+    }
+
+    /// A round begins: each child is to be looked at, and a signal that missed one may be sent again.
     pub fn nudge(&mut self)
         ensures state { self.new ≡ after_round self.old }
-        ensures fits { (goal : Goal) (past : List Event)
-            → Fits self.old goal past → Fits self.new goal (Nudge ∷ past) }
+        ensures fits { OnEachTrace self.old (λ goal past.
+            Fits self.new goal (happening.Nudge ∷ past)) }
     {
         self.nudge_by_state();
     }
@@ -235,15 +516,21 @@ impl<A: Allocator> Core<A> {
     fn nudge_by_state(&mut self)
         ensures { self.new ≡ after_round self.old }
     {
-        round_begun(&mut self.slots);
+        self.slots.nudge();
     }
 
     /// The clock shows this reading, in seconds. The time is the greatest reading; one above 1,000,000,000,000 counts
     /// as that.
     pub fn clock(&mut self, reading: u64)
         ensures state { self.new ≡ after_clock reading self.old }
-        ensures fits { (goal : Goal) (past : List Event)
-            → Fits self.old goal past → Fits self.new goal (Clock reading ∷ past) }
+        ensures fits { OnEachTrace self.old (λ goal past.
+            Fits self.new goal (happening.Clock reading ∷ past)) }
+    {
+        self.clock_by_state(reading);
+    }
+
+    fn clock_by_state(&mut self, reading: u64)
+        ensures { self.new ≡ after_clock reading self.old }
     {
         self.time = reading.min(CLOCK_LIMIT).max(self.time);
     }

@@ -1,16 +1,16 @@
 //! The decisions of init: what it does next, by its table, its records of children, and what it was told (init(8)).
 //!
 //! A `Core` neither starts nor stops anything itself. `next` says the step that is due, its caller carries it out, and
-//! `answer`, `clock` and `nudge` tell the core what came of it.
+//! `answer`, `got`, `adopt`, `clock` and `nudge` tell the core what came of it, and what came from outside.
 #![tactic(auto)]
 
+mod calling;
 mod cores;
 mod deciding;
-mod laws;
-mod slots;
+mod walking;
 
+pub use child_table::{Living, Slot, Stop};
+pub use core_state::{News, law_of_acts, law_of_records};
 pub use cores::Core;
 pub use init_trace::{Goal, Step};
-pub use laws::law_of_acts;
-pub use slots::{Living, Slot};
 pub use trace_laws::law_agreement;

@@ -29,20 +29,19 @@ fn run_rows(
     run_over(alloc, inittab.as_str(), level, script, out)
 }
 
-/// The run ends so, and what is written is the trace.
+/// The run is done, and what is written is the trace.
 fn is_run(
     rt: &impl Abort,
     alloc: Global,
     inittab: &str,
     level: Option<Level>,
     script: &str,
-    end: Result<(), SimFault>,
     trace: &str,
 ) -> Result<(), Fail> {
     let mut out: Vec<u8> = Vec::new(alloc);
     let ended = run_rows(alloc, inittab, level, script, &mut out)?;
     assert!(rt;
-        ended == end && has_lines(alloc, &out, trace)?,
+        ended.is_ok() && has_lines(alloc, &out, trace)?,
         "at {script:?}"
     );
     Ok(())
@@ -82,6 +81,78 @@ const RUNS: &[(&str, &str, &str)] = &[
         "birth s 1 / told s / nudge / death 1 / reaped s 1 exit 0 / told s / birth b 2 / told b / nobirth o / told o",
         "use 4 / id:3:initdefault: / s::sysinit:a / b::boot:b / o:3:once:c / enter sysinit 5 / ask s start / birth s 1 / told s / nudge / ask s look / death 1 / reaped s 1 exit 0 / told s / enter boot 5 / ask b start / birth b 2 / told b / enter 3 5 / ask o start / nobirth o / told o / settle 3",
     ),
+    // Another level is asked for: its table can't be read, and the child that does not belong to it is stopped.
+    (
+        "id:3:initdefault: / r:3:respawn:serv",
+        "got level 1 5 / birth r 10 / told r / notread / hit r",
+        "use 2 / id:3:initdefault: / r:3:respawn:serv / enter sysinit 5 / enter boot 5 / enter 3 5 / ask r start / got level 1 5 / birth r 10 / told r / notread / enter 1 5 / ask r term / hit r",
+    ),
+    // It is killed once the grace is over since the term was told.
+    (
+        "id:3:initdefault: / r:3:respawn:serv",
+        "got level 1 5 / birth r 10 / told r / notread / hit r / clock 100 / told r / clock 104 / clock 105",
+        "use 2 / id:3:initdefault: / r:3:respawn:serv / enter sysinit 5 / enter boot 5 / enter 3 5 / ask r start / got level 1 5 / birth r 10 / told r / notread / enter 1 5 / ask r term / hit r / clock 100 / told r / clock 104 / clock 105 / ask r kill",
+    ),
+    // A clock set back does not count.
+    (
+        "id:3:initdefault: / r:3:respawn:serv",
+        "got level 1 5 / birth r 10 / told r / notread / hit r / clock 100 / clock 40 / told r / clock 104 / clock 105",
+        "use 2 / id:3:initdefault: / r:3:respawn:serv / enter sysinit 5 / enter boot 5 / enter 3 5 / ask r start / got level 1 5 / birth r 10 / told r / notread / enter 1 5 / ask r term / hit r / clock 100 / clock 40 / told r / clock 104 / clock 105 / ask r kill",
+    ),
+    // The first way to a level other than S leads through the boot entries.
+    (
+        "id:S:initdefault: / b::bootwait:prep / r:2:respawn:serv",
+        "got level 2 5 / notread / birth b 5 / told b / nudge / death 5 / reaped b 5 exit 0 / told b / birth r 6 / told r / got level 2 5",
+        "use 3 / id:S:initdefault: / b::bootwait:prep / r:2:respawn:serv / enter sysinit 5 / enter S 5 / settle S / got level 2 5 / notread / enter boot 5 / ask b start / birth b 5 / told b / nudge / ask b look / death 5 / reaped b 5 exit 0 / told b / enter 2 5 / ask r start / birth r 6 / told r / settle 2 / got level 2 5",
+    ),
+    // The power fails.
+    (
+        "id:3:initdefault: / pw:3:powerwait:p / r:3:respawn:s",
+        "birth r 4 / told r / got power fail / birth pw 5 / told pw / nudge",
+        "use 3 / id:3:initdefault: / pw:3:powerwait:p / r:3:respawn:s / enter sysinit 5 / enter boot 5 / enter 3 5 / ask r start / birth r 4 / told r / settle 3 / got power fail / power fail / ask pw start / birth pw 5 / told pw / nudge / ask pw look / ask r look",
+    ),
+    // A letter is called.
+    (
+        "id:3:initdefault: / d:A:ondemand:x",
+        "got call A / birth d 5 / told d / nudge / death 5 / reaped d 5 exit 0 / told d",
+        "use 2 / id:3:initdefault: / d:A:ondemand:x / enter sysinit 5 / enter boot 5 / enter 3 5 / settle 3 / got call A / call A / ask d start / birth d 5 / told d / nudge / ask d look / death 5 / reaped d 5 exit 0 / told d",
+    ),
+    // Inittab is to be read, and the script ends.
+    (
+        "",
+        "got reload",
+        "use 0 / enter sysinit 5 / enter S 5 / settle S / got reload",
+    ),
+    // It is read anew, and the child's entry is gone.
+    (
+        "r:S:respawn:x",
+        "birth r 7 / told r / got reload / use 0 / hit r / told r / nudge / death 7 / reaped r 7 killed / told r",
+        "use 1 / r:S:respawn:x / enter sysinit 5 / enter S 5 / ask r start / birth r 7 / told r / settle S / got reload / use 0 / ask r term / hit r / told r / nudge / ask r look / death 7 / reaped r 7 killed / told r / settle S",
+    ),
+    // The child's entry is the same.
+    (
+        "r:S:respawn:x",
+        "birth r 7 / told r / got reload / use 1 / r:S:respawn:x",
+        "use 1 / r:S:respawn:x / enter sysinit 5 / enter S 5 / ask r start / birth r 7 / told r / settle S / got reload / use 1 / r:S:respawn:x / settle S",
+    ),
+    // Another command takes effect at the next start.
+    (
+        "r:S:respawn:x",
+        "birth r 7 / told r / got reload / use 1 / r:S:respawn:y",
+        "use 1 / r:S:respawn:x / enter sysinit 5 / enter S 5 / ask r start / birth r 7 / told r / settle S / got reload / use 1 / r:S:respawn:y / settle S",
+    ),
+    // Another action stops the child.
+    (
+        "r:S:respawn:x",
+        "birth r 7 / told r / got reload / use 1 / r:S:once:x",
+        "use 1 / r:S:respawn:x / enter sysinit 5 / enter S 5 / ask r start / birth r 7 / told r / settle S / got reload / use 1 / r:S:once:x / ask r term",
+    ),
+    // Inittab is read once the open start is told.
+    (
+        "r:S:respawn:x",
+        "got reload / birth r 7 / told r / use 0",
+        "use 1 / r:S:respawn:x / enter sysinit 5 / enter S 5 / ask r start / got reload / birth r 7 / told r / use 0 / ask r term",
+    ),
     // Ten failed starts are held.
     (
         "r:S:respawn:x",
@@ -105,7 +176,7 @@ const RUNS: &[(&str, &str, &str)] = &[
 #[test]
 fn runs(rt: HostRuntime) -> Result<(), Fail> {
     for (inittab, script, trace) in RUNS {
-        is_run(&rt, rt.alloc(), inittab, None, script, Ok(()), trace)?;
+        is_run(&rt, rt.alloc(), inittab, None, script, trace)?;
     }
     Ok(())
 }
@@ -115,109 +186,219 @@ fn the_level_is_the_one_given(rt: HostRuntime) -> Result<(), Fail> {
     let inittab = "id:3:initdefault: / r:2:respawn:serv / t:3:respawn:other";
     let trace =
         "use 3 / id:3:initdefault: / r:2:respawn:serv / t:3:respawn:other / enter sysinit 5 / enter boot 5 / enter 2 5 / ask r start";
-    is_run(&rt, rt.alloc(), inittab, Some(Level::L2), "", Ok(()), trace)
+    is_run(&rt, rt.alloc(), inittab, Some(Level::L2), "", trace)
 }
 
-/// A script over an empty inittab, its fault, and what was heard before.
-const FAULTS: &[(&str, SimFault, &str)] = &[
+/// How a run ends before its script does: at the line of this number, which is none, or may not come, and why.
+enum Stop {
+    Script(u64),
+    Forbidden(u64, &'static str),
+}
+
+/// The fault is the one that is wanted.
+fn is_stop(alloc: Global, fault: SimFault, stop: &Stop) -> Result<bool, AllocError> {
+    match stop {
+        Stop::Script(number) => Ok(fault == SimFault::Script(*number)),
+        Stop::Forbidden(number, reason) => is_forbidden(alloc, fault, *number, reason),
+    }
+}
+
+fn is_forbidden(
+    alloc: Global,
+    fault: SimFault,
+    number: u64,
+    reason: &str,
+) -> Result<bool, AllocError> {
+    let SimFault::Forbidden(line, why) = fault else {
+        return Ok(false);
+    };
+    let text = format!(in alloc; "{why}")?;
+    Ok(line == number && text.as_str() == reason)
+}
+
+/// The run ends so, and what is written is the trace before.
+fn is_stopped(
+    rt: &impl Abort,
+    alloc: Global,
+    inittab: &str,
+    script: &str,
+    stop: &Stop,
+    trace: &str,
+) -> Result<(), Fail> {
+    let mut out: Vec<u8> = Vec::new(alloc);
+    let fault = run_rows(alloc, inittab, None, script, &mut out)?
+        .err()
+        .ok_or("no fault")?;
+    assert!(rt;
+        is_stop(alloc, fault, stop)? && has_lines(alloc, &out, trace)?,
+        "at {script:?}"
+    );
+    Ok(())
+}
+
+/// An inittab, a script, its fault, and the trace of what was before.
+const FAULTS: &[(&str, &str, Stop, &str)] = &[
     (
+        "",
         "birth r 9",
-        SimFault::Forbidden(1),
+        Stop::Forbidden(1, "no start of r is open"),
         "use 0 / enter sysinit 5 / enter S 5 / settle S",
     ),
     (
+        "",
         "nudge / told r",
-        SimFault::Forbidden(2),
+        Stop::Forbidden(2, "nothing is to be told of r"),
         "use 0 / enter sysinit 5 / enter S 5 / settle S / nudge",
     ),
     (
+        "",
         "nudge / clock 5 / death 4",
-        SimFault::Forbidden(3),
+        Stop::Forbidden(3, "no living child has the number 4"),
         "use 0 / enter sysinit 5 / enter S 5 / settle S / nudge / clock 5",
     ),
     (
+        "",
         "still r",
-        SimFault::Forbidden(1),
+        Stop::Forbidden(1, "no look of r is open"),
         "use 0 / enter sysinit 5 / enter S 5 / settle S",
     ),
     (
-        "nudges",
-        SimFault::Script(1),
-        "use 0 / enter sysinit 5 / enter S 5 / settle S",
-    ),
-    (
-        "nudge / clock 05",
-        SimFault::Script(2),
-        "use 0 / enter sysinit 5 / enter S 5 / settle S / nudge",
-    ),
-    (
-        "clock 18446744073709551616",
-        SimFault::Script(1),
-        "use 0 / enter sysinit 5 / enter S 5 / settle S",
-    ),
-    (
-        "birth r 4294967296",
-        SimFault::Script(1),
-        "use 0 / enter sysinit 5 / enter S 5 / settle S",
-    ),
-    (
-        "reaped r 4 exit 256",
-        SimFault::Script(1),
-        "use 0 / enter sysinit 5 / enter S 5 / settle S",
-    ),
-    (
-        "reaped r 4 killed 9",
-        SimFault::Script(1),
-        "use 0 / enter sysinit 5 / enter S 5 / settle S",
-    ),
-    (
-        "birth r  9",
-        SimFault::Script(1),
-        "use 0 / enter sysinit 5 / enter S 5 / settle S",
-    ),
-    // Lines of init are no script's, and a table is not read now; its lines count as lines of the script.
-    (
-        "settle S",
-        SimFault::Forbidden(1),
-        "use 0 / enter sysinit 5 / enter S 5 / settle S",
-    ),
-    (
-        "nudge / use 1 / a:3:once:x / told a",
-        SimFault::Forbidden(2),
-        "use 0 / enter sysinit 5 / enter S 5 / settle S / nudge",
-    ),
-    (
-        "nudge / use 2 / a:3:once:x",
-        SimFault::Script(2),
-        "use 0 / enter sysinit 5 / enter S 5 / settle S / nudge",
-    ),
-    // No signal is under way, and requests are not taken yet.
-    (
+        "",
         "hit r",
-        SimFault::Forbidden(1),
+        Stop::Forbidden(1, "no term or kill of r is open"),
         "use 0 / enter sysinit 5 / enter S 5 / settle S",
     ),
     (
-        "got reload",
-        SimFault::Forbidden(1),
+        "",
+        "nudges",
+        Stop::Script(1),
         "use 0 / enter sysinit 5 / enter S 5 / settle S",
     ),
     (
-        "handed whole",
-        SimFault::Forbidden(1),
+        "",
+        "nudge / clock 05",
+        Stop::Script(2),
+        "use 0 / enter sysinit 5 / enter S 5 / settle S / nudge",
+    ),
+    (
+        "",
+        "clock 18446744073709551616",
+        Stop::Script(1),
         "use 0 / enter sysinit 5 / enter S 5 / settle S",
     ),
     (
+        "",
+        "birth r 4294967296",
+        Stop::Script(1),
+        "use 0 / enter sysinit 5 / enter S 5 / settle S",
+    ),
+    (
+        "",
+        "reaped r 4 exit 256",
+        Stop::Script(1),
+        "use 0 / enter sysinit 5 / enter S 5 / settle S",
+    ),
+    (
+        "",
+        "reaped r 4 killed 9",
+        Stop::Script(1),
+        "use 0 / enter sysinit 5 / enter S 5 / settle S",
+    ),
+    (
+        "",
+        "birth r  9",
+        Stop::Script(1),
+        "use 0 / enter sysinit 5 / enter S 5 / settle S",
+    ),
+    (
+        "",
         "told",
-        SimFault::Script(1),
+        Stop::Script(1),
         "use 0 / enter sysinit 5 / enter S 5 / settle S",
+    ),
+    // Lines of init are no script's, and a hand-over is not simulated.
+    (
+        "",
+        "settle S",
+        Stop::Forbidden(1, "this is a step of init itself"),
+        "use 0 / enter sysinit 5 / enter S 5 / settle S",
+    ),
+    (
+        "",
+        "handed whole",
+        Stop::Forbidden(1, "a hand-over is not simulated"),
+        "use 0 / enter sysinit 5 / enter S 5 / settle S",
+    ),
+    // No table is to be read now, nor could it not be; what is read of a table is one happening.
+    (
+        "",
+        "nudge / use 1 / a:3:once:x / told a",
+        Stop::Forbidden(2, "inittab is not to be read now"),
+        "use 0 / enter sysinit 5 / enter S 5 / settle S / nudge",
+    ),
+    (
+        "",
+        "nudge / use 2 / a:3:once:x",
+        Stop::Script(2),
+        "use 0 / enter sysinit 5 / enter S 5 / settle S / nudge",
+    ),
+    (
+        "",
+        "notread",
+        Stop::Forbidden(1, "inittab is not to be read now"),
+        "use 0 / enter sysinit 5 / enter S 5 / settle S",
+    ),
+    (
+        "",
+        "got reload / notread / notread",
+        Stop::Forbidden(3, "inittab is not to be read now"),
+        "use 0 / enter sysinit 5 / enter S 5 / settle S / got reload / notread",
+    ),
+    (
+        "",
+        "got reload / use 0 / use 0",
+        Stop::Forbidden(3, "inittab is not to be read now"),
+        "use 0 / enter sysinit 5 / enter S 5 / settle S / got reload / use 0 / settle S",
+    ),
+    // Init is to be executed anew before inittab is read, and waits for an open start before either.
+    (
+        "",
+        "got reexec / got reload / use 0",
+        Stop::Forbidden(3, "inittab is not to be read now"),
+        "use 0 / enter sysinit 5 / enter S 5 / settle S / got reexec / got reload",
+    ),
+    (
+        "r:S:respawn:x",
+        "got reload / use 0",
+        Stop::Forbidden(2, "inittab is not to be read now"),
+        "use 1 / r:S:respawn:x / enter sysinit 5 / enter S 5 / ask r start / got reload",
+    ),
+    // The table's lines are not as they are written.
+    (
+        "",
+        "got reload / use 1 / a:S:bogus:x",
+        Stop::Script(2),
+        "use 0 / enter sysinit 5 / enter S 5 / settle S / got reload",
+    ),
+    (
+        "",
+        "got reload / use 2 / a:2:once:x / a:3:once:y",
+        Stop::Script(2),
+        "use 0 / enter sysinit 5 / enter S 5 / settle S / got reload",
+    ),
+    // The lines of each table count.
+    (
+        "",
+        "got reload / use 2 / a:2:once:x / b:2:once:y / got reload / use 1 / a:2:once:x / told a",
+        Stop::Forbidden(8, "nothing is to be told of a"),
+        "use 0 / enter sysinit 5 / enter S 5 / settle S / got reload / use 2 / a:2:once:x / b:2:once:y / settle S / got reload / use 1 / a:2:once:x / settle S",
     ),
 ];
 
 #[test]
 fn a_run_ends_before_the_line_at_fault(rt: HostRuntime) -> Result<(), Fail> {
-    for (script, fault, trace) in FAULTS {
-        is_run(&rt, rt.alloc(), "", None, script, Err(*fault), trace)?;
+    for (inittab, script, stop, trace) in FAULTS {
+        is_stopped(&rt, rt.alloc(), inittab, script, stop, trace)?;
     }
     Ok(())
 }

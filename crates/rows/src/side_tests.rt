@@ -12,6 +12,8 @@ enum Turn {
     Order(&'static [u8], Ask),
     /// A script line is allowed, and taken in, or it is not.
     Line(&'static str, bool),
+    /// This is objected to a script line.
+    Refused(&'static str, &'static str),
     /// The answer under way to an id's order is a birth of this number.
     Born(&'static [u8], u32),
     /// It is the end of a child, by this exit status or by a signal.
@@ -50,11 +52,20 @@ fn step_line(alloc: Global, side: &mut SimulatedSystem, line: &str) -> Result<bo
     step(side, &happening)
 }
 
+/// What is objected to a script line is this text.
+fn objects(side: &SimulatedSystem, alloc: Global, line: &str, text: &str) -> Result<bool, Fail> {
+    let happening = first_line(alloc, line)?;
+    let objection = side.objection(&happening).ok_or("no objection")?;
+    let given = format!(in alloc; "{objection}")?;
+    Ok(given.as_str() == text)
+}
+
 /// The turn goes as it says.
 fn goes(alloc: Global, side: &mut SimulatedSystem, turn: &Turn) -> Result<bool, Fail> {
     match turn {
         Turn::Order(id, ask) => order(side, id, *ask).map(|()| true),
         Turn::Line(line, is_allowed) => Ok(step_line(alloc, side, line)? == *is_allowed),
+        Turn::Refused(line, text) => objects(side, alloc, line, text),
         Turn::Born(id, number) => Ok(answer(side, id) == Some(Answer::Born(ChildNo(*number)))),
         Turn::Ended(id, code) => Ok(answer(side, id) == Some(Answer::Ended(status(*code)))),
     }
@@ -119,6 +130,64 @@ const AT_ONCE: &[Turn] = &[
     Turn::Ended(b"b", None),
 ];
 
+/// What may not come next, and why: each objection, and what is never objected to.
+const OBJECTIONS: &[Turn] = &[
+    Turn::Refused("birth a 7", "no start of a is open"),
+    Turn::Refused("nobirth a", "no start of a is open"),
+    Turn::Refused("told a", "nothing is to be told of a"),
+    Turn::Refused("death 7", "no living child has the number 7"),
+    Turn::Order(b"a", Ask::Start),
+    Turn::Order(b"b~!c", Ask::Start),
+    Turn::Refused("still a", "no look of a is open"),
+    Turn::Line("birth a 4294967295", true),
+    Turn::Refused("nobirth a", "no start of a is open"),
+    Turn::Refused(
+        "birth b~!c 4294967295",
+        "an unreaped child has the number 4294967295",
+    ),
+    Turn::Line("told a", true),
+    Turn::Refused("reaped a 4294967295 exit 0", "no look of a is open"),
+    Turn::Refused("nolook a", "no look of a is open"),
+    Turn::Order(b"a", Ask::Look),
+    Turn::Refused(
+        "reaped a 4294967295 exit 0",
+        "a has no dead child with the number 4294967295",
+    ),
+    Turn::Line("death 4294967295", true),
+    Turn::Refused(
+        "death 4294967295",
+        "no living child has the number 4294967295",
+    ),
+    Turn::Refused(
+        "birth b~!c 4294967295",
+        "an unreaped child has the number 4294967295",
+    ),
+    Turn::Refused("reaped a 8 killed", "a has no dead child with the number 8"),
+    Turn::Refused("reaped b~!c 4294967295 killed", "no look of b~!c is open"),
+    Turn::Line("reaped a 4294967295 killed", true),
+    Turn::Line("told a", true),
+    Turn::Refused("hit a", "no term or kill of a is open"),
+    Turn::Refused("miss b~!c", "no term or kill of b~!c is open"),
+    Turn::Order(b"a", Ask::Term),
+    Turn::Line("hit a", true),
+    Turn::Refused("miss a", "no term or kill of a is open"),
+    Turn::Line("told a", true),
+    Turn::Order(b"a", Ask::Kill),
+    Turn::Line("miss a", true),
+    Turn::Refused("enter S 5", "this is a step of init itself"),
+    Turn::Refused("call A", "this is a step of init itself"),
+    Turn::Refused("power ok", "this is a step of init itself"),
+    Turn::Refused("ask a look", "this is a step of init itself"),
+    Turn::Refused("hold a", "this is a step of init itself"),
+    Turn::Refused("settle 2", "this is a step of init itself"),
+    Turn::Refused("use 0", "inittab is not to be read now"),
+    Turn::Refused("handed whole", "a hand-over is not simulated"),
+    Turn::Line("notread", true),
+    Turn::Line("got reload", true),
+    Turn::Line("clock 5", true),
+    Turn::Line("nudge", true),
+];
+
 #[test]
 fn number_of_two_children(rt: HostRuntime) -> Result<(), Fail> {
     let mut side = SimulatedSystem::new(rt.alloc());
@@ -129,4 +198,10 @@ fn number_of_two_children(rt: HostRuntime) -> Result<(), Fail> {
 fn two_children_at_once(rt: HostRuntime) -> Result<(), Fail> {
     let mut side = SimulatedSystem::new(rt.alloc());
     follow(&rt, rt.alloc(), &mut side, AT_ONCE)
+}
+
+#[test]
+fn each_objection(rt: HostRuntime) -> Result<(), Fail> {
+    let mut side = SimulatedSystem::new(rt.alloc());
+    follow(&rt, rt.alloc(), &mut side, OBJECTIONS)
 }

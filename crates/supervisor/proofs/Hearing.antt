@@ -1,160 +1,173 @@
--- What the core, the system's side and the text become by a happening that is heard.
-use Rattle.std.proofs.Common.{OnOk, Result, Ok, Err, Bool, true, false, ◌&&◌, ◌||◌, ◌≡◌, ◌≢◌, ◌++◌, ℕ, List, [], ◌∷◌, Option, Some, None, is_some, refl, sym, ap, ◌∙◌, append_assoc, cond, subst}
+-- What may be said where init rests, and what the core, the system's side and the text become by it.
+use Rattle.std.proofs.Common.{OnOk, Result, Ok, Err, IfOk, Bool, true, false, ◌&&◌, cond, ◌≡◌, ◌≢◌, ◌++◌, ℕ, List, ◌∷◌, Option, Some, None, is_some, is_none, refl, sym, ap, ◌∙◌, append_assoc, subst}
 use Rattle.std.proofs.lemmas.Bool.{false≢true, and_parts, and_from}
-use Rattle.init_words.specs.declared.orders.Ask.{Ask}
-use Rattle.init_words.specs.declared.orders.Ask.TheVariants.{Start, Look, Term, Kill}
-use Rattle.init_words.specs.Ids.{same_id}
+use Rattle.initctl_frame.specs.declared.requests.Got.{Got as Request}
+use Rattle.inittab_text.specs.Tables.{is_distinct}
+use Rattle.inittab_text.proofs.Entries.{table_parts}
+use Rattle.init_words.specs.declared.entries.Entry.{Entry}
 use Rattle.init_trace.specs.declared.happenings.Happening.TheVariants as event
 use Rattle.init_trace.specs.declared.steps.Goal.{Goal}
-use Rattle.init_trace.specs.Event.{Event, SystemAct, act_in}
+use Rattle.init_trace.specs.Event.{Event}
 use Rattle.init_trace.specs.Range.{is_in_range, are_in_range}
-use Rattle.init_trace.specs.Wanted.{is_order}
-use Rattle.init_trace.specs.Past.{table_of, is_untold, undone_by, undone_of}
+use Rattle.init_trace.specs.Past.{is_untold, is_quiet}
 use Rattle.init_trace.specs.Answered.{answered_of}
+use Rattle.init_trace.specs.Due.{due, first}
 use Rattle.init_trace.specs.Lines.{event_text}
+use Rattle.init_trace.specs.Run.{is_run, is_next, is_rest, is_reread}
 use Rattle.init_trace.specs.Sound.{may_come, is_sound}
 use Rattle.trace_laws.proofs.Runs.{run_sound}
 use Rattle.trace_laws.proofs.Told.{answered_untold}
+use Rattle.child_table.specs.Lists as lists
+use Rattle.core_state.specs.State.{CoreState}
+use Rattle.core_state.specs.Fit.{Fits, is_act}
+use Rattle.core_state.proofs.Fitted.{fit_records}
+use Rattle.core_state.proofs.Reading.{quiet_same}
+use Rattle.core_state.proofs.Hearing.{fits_act}
+use Rattle.system_side.specs.declared.objections.Objection.{Objection}
+use Rattle.system_side.specs.declared.objections.Objection.TheVariants as objection
 use Rattle.system_side.specs.State.{State}
-use Rattle.system_side.specs.Steps.{is_script}
+use Rattle.system_side.specs.Objections.{unless, objection_to}
 use Rattle.system_side.specs.Follows.{Follows}
-use Rattle.level_core.specs.Decide.{CoreState}
-use Rattle.level_core.specs.Fit.{Fits}
-use Rattle.level_core.specs.Path.{is_plain, is_act, is_of_one_table}
-use Rattle.level_core.proofs.Telling.{fits_act}
+use Rattle.system_side.proofs.Allowing.{none_may}
 use Rattle.supervisor.specs.declared.running.SimFault.{SimFault}
 use Rattle.supervisor.specs.declared.running.SimFault.TheVariants as fault
-use Rattle.supervisor.specs.Moments.{Moment, MayBeHeard, AtRest, GoesOn, Hears, HeardBreaks, HeardEnds}
-use Rattle.supervisor.specs.Simulation.{past_text, heard}
-use Rattle.supervisor.proofs.Moves.{run_hears, past_text-more}
+use Rattle.supervisor.specs.Moments.{Moment, AtRest, IsReadyFor, GoesOn, Hears, HeardBreaks, HeardEnds}
+use Rattle.supervisor.specs.Said.{is_said, may_be_said, objection_in, IsObjected, first_table, heard}
+use Rattle.supervisor.specs.Simulation.{past_text}
+use Rattle.supervisor.proofs.Moves.{first_more, heard_more, run_hears, past_text-more}
+use Rattle.supervisor.proofs.Rereading.{reread_quiet}
 
 -- an answer is under way where one may be told
-pub nothing_under_way : (id : List ℕ) (past : List Event) → None ≡ answered_of id past → is_untold id past ≡ true → ⊥
-nothing_under_way id past none untold = false≢true (ap is_some none ∙ answered_untold id past ∙ untold)
+pub nothing_told : (goal : Goal) (past : List Event) (happening : Event) (id : List ℕ) → happening ≡ event.Told id → may_be_said goal happening past ≡ true → None ≡ answered_of id past → ⊥
+nothing_told goal past happening id is may none =
+    let told = subst (λ h. may_be_said goal h past ≡ true) is may in
+    let untold = (and_parts (is_rest (first (due goal past))) (is_untold id past) told).1 in
+    false≢true (ap is_some none ∙ answered_untold id past ∙ untold)
 
-pub sound_then : (goal : Goal) (past : List Event) (happening : Event) (core : CoreState) (side : State) → Moment goal past core side → MayBeHeard goal happening past → is_sound goal (happening ∷ past) ≡ true
-sound_then goal past happening core side moment may = run_sound goal (happening ∷ past) (run_hears goal happening past may.rests may.may moment.runs)
+unless_read : (b : Bool) (given : Objection) (other : Bool) → (b ≡ true → other ≡ true) → is_none (unless b given) ≡ (b && other)
+unless_read true given other holds = sym (holds refl)
+unless_read false given other holds = refl
 
--- what the core hears of itself changes nothing in it
-pub fits_silent : (goal : Goal) (past : List Event) (happening : Event) (core : CoreState) (side : State) → Moment goal past core side → MayBeHeard goal happening past
-    → ((id : List ℕ) → happening ≢ event.Told id) → ((reading : ℕ) → happening ≢ event.Clock reading) → happening ≢ event.Nudge → Fits core goal (happening ∷ past)
-fits_silent goal past happening core side moment may not_told not_clock not_nudge = at happening refl
+-- where init rests, nothing is objected exactly to what may be said
+none_said : (goal : Goal) (past : List Event) (side : State) → is_sound goal past ≡ true → Follows side past → is_rest (first (due goal past)) ≡ true
+    → (happening : Event) → is_in_range happening ≡ true → is_none (objection_in (is_reread (first (due goal past))) side happening) ≡ may_be_said goal happening past
+none_said goal past side sound follows rests = at
   where
+    waits : (may : Bool) → may ≡ (is_rest (first (due goal past)) && may)
+    waits may = ap (λ b. b && may) (sym rests)
+
+    at : (happening : Event) → is_in_range happening ≡ true → is_none (objection_in (is_reread (first (due goal past))) side happening) ≡ may_be_said goal happening past
+    at (event.NewTable table) ranged = unless_read (is_reread (first (due goal past))) objection.NotNow (is_quiet past && is_distinct table)
+        (λ reads. and_from (is_quiet past) (is_distinct table) (reread_quiet goal past reads) (table_parts table ranged).1)
+    at event.NotRead ranged = unless_read (is_reread (first (due goal past))) objection.NotNow true (λ reads. refl)
+    at (event.Birth id n) ranged = none_may goal past side sound follows (event.Birth id n) ∙ waits (may_come goal (event.Birth id n) past)
+    at (event.NoBirth id) ranged = none_may goal past side sound follows (event.NoBirth id) ∙ waits (may_come goal (event.NoBirth id) past)
+    at (event.Death n) ranged = none_may goal past side sound follows (event.Death n) ∙ waits (may_come goal (event.Death n) past)
+    at (event.Reaped id n status) ranged = none_may goal past side sound follows (event.Reaped id n status) ∙ waits (may_come goal (event.Reaped id n status) past)
+    at (event.Still id) ranged = none_may goal past side sound follows (event.Still id) ∙ waits (may_come goal (event.Still id) past)
+    at (event.NoLook id) ranged = none_may goal past side sound follows (event.NoLook id) ∙ waits (may_come goal (event.NoLook id) past)
+    at (event.Hit id) ranged = none_may goal past side sound follows (event.Hit id) ∙ waits (may_come goal (event.Hit id) past)
+    at (event.Miss id) ranged = none_may goal past side sound follows (event.Miss id) ∙ waits (may_come goal (event.Miss id) past)
+    at (event.Told id) ranged = none_may goal past side sound follows (event.Told id) ∙ waits (may_come goal (event.Told id) past)
+    at (event.Clock reading) ranged = none_may goal past side sound follows (event.Clock reading) ∙ waits (may_come goal (event.Clock reading) past)
+    at event.Nudge ranged = none_may goal past side sound follows event.Nudge ∙ waits (may_come goal event.Nudge past)
+    at (event.Got request) ranged = none_may goal past side sound follows (event.Got request) ∙ waits (may_come goal (event.Got request) past)
+    at _ ranged = refl
+
+by_rest : (goal : Goal) (past : List Event) (happening : Event) (rereads : Bool) (core : CoreState) (side : State) → AtRest goal past rereads core side → is_in_range happening ≡ true
+    → is_none (objection_in rereads side happening) ≡ may_be_said goal happening past
+by_rest goal past happening rereads core side at ranged = ap (λ b. is_none (objection_in b side happening)) at.read
+    ∙ none_said goal past side (run_sound goal past at.moment.runs) at.moment.follows at.rests happening ranged
+
+pub may_say : (goal : Goal) (past : List Event) (happening : Event) (rereads : Bool) (core : CoreState) (side : State) → AtRest goal past rereads core side → is_in_range happening ≡ true
+    → None ≡ objection_in rereads side happening → may_be_said goal happening past ≡ true
+may_say goal past happening rereads core side at ranged none = sym (by_rest goal past happening rereads core side at ranged) ∙ ap is_none (sym none)
+
+pub objected : (goal : Goal) (past : List Event) (happening : Event) (rereads : Bool) (core : CoreState) (side : State) (why : Objection) → AtRest goal past rereads core side → is_in_range happening ≡ true
+    → Some why ≡ objection_in rereads side happening → (may_be_said goal happening past ≡ false) × IsObjected goal happening past why
+objected goal past happening rereads core side why at ranged some = (
+  sym (by_rest goal past happening rereads core side at ranged) ∙ ap is_none (sym some),
+  (side, at.moment.follows, ap (λ b. objection_in b side happening) (sym at.read) ∙ sym some),
+)
+
+-- where a table may be said, the core is ready for it
+pub ready : (goal : Goal) (past : List Event) (happening : Event) (core : CoreState) (side : State) → Moment goal past core side → may_be_said goal happening past ≡ true → IsReadyFor happening core
+ready goal past (event.NewTable table) core side moment may =
+    let reads = (and_parts (is_reread (first (due goal past))) (is_quiet past && is_distinct table) may).0 in
+    ap lists.is_quiet (fit_records core goal past moment.fits) ∙ sym (quiet_same goal past (run_sound goal past moment.runs)) ∙ reread_quiet goal past reads
+ready goal past _ core side moment may = tt
+
+pub sound_then : (goal : Goal) (past : List Event) (happening : Event) (core : CoreState) (side : State) → Moment goal past core side → may_be_said goal happening past ≡ true → is_sound goal (happening ∷ past) ≡ true
+sound_then goal past happening core side moment may = run_sound goal (happening ∷ past) (run_hears goal happening past may moment.runs)
+
+pub fits_at : (goal : Goal) (past : List Event) (core new_core : CoreState) (happening same : Event) → core ≡ new_core → happening ≡ same → Fits new_core goal (same ∷ past) → Fits core goal (happening ∷ past)
+fits_at goal past core new_core happening same is become fits = rw (is, become) fits
+
+-- what the system does changes nothing in the core
+pub fits_silent : (goal : Goal) (past : List Event) (happening : Event) (core : CoreState) (side : State) → Moment goal past core side → may_be_said goal happening past ≡ true
+    → ((table : List Entry) → happening ≢ event.NewTable table) → happening ≢ event.NotRead → ((id : List ℕ) → happening ≢ event.Told id) → ((reading : ℕ) → happening ≢ event.Clock reading)
+    → happening ≢ event.Nudge → ((request : Request) → happening ≢ event.Got request) → Fits core goal (happening ∷ past)
+fits_silent goal past happening core side moment may not_table not_read not_told not_clock not_nudge not_got = at happening refl
+  where
+    said : is_said happening ≡ true
+    said = (and_parts (is_said happening) (is_next (first (due goal past)) happening) (and_parts (is_said happening && is_next (first (due goal past)) happening) (may_come goal happening past) may).0).0
+
     act : (h : Event) → happening ≡ h → is_act h ≡ true → Fits core goal (happening ∷ past)
-    act h is acts = fits_act goal happening past (rw is acts) (sound_then goal past happening core side moment may) core moment.fits
+    act h is acts = fits_act goal past core (run_sound goal past moment.runs) moment.fits happening (ap is_act is ∙ acts) (sound_then goal past happening core side moment may)
 
-    unscripted : (h : Event) → happening ≡ h → is_script h ≡ false → Fits core goal (happening ∷ past)
-    unscripted h is no_script = absurd (false≢true (sym no_script ∙ sym (ap is_script is) ∙ (and_parts (is_script happening) (may_come goal happening past) may.may).0))
-
-    unplain : (h : Event) → happening ≡ h → is_plain h ≡ false → Fits core goal (happening ∷ past)
-    unplain h is not_plain = absurd (false≢true (sym not_plain ∙ sym (ap is_plain is) ∙ may.plain))
+    unsaid : (h : Event) → happening ≡ h → is_said h ≡ false → Fits core goal (happening ∷ past)
+    unsaid h is other = absurd (false≢true (sym other ∙ sym (ap is_said is) ∙ said))
 
     at : (h : Event) → happening ≡ h → Fits core goal (happening ∷ past)
-    at (event.NewTable table) is = unscripted _ is refl
-    at event.NotRead is = unscripted _ is refl
-    at (event.Enter stage grace) is = unscripted _ is refl
-    at (event.Call letter) is = unscripted _ is refl
-    at (event.Power kind) is = unscripted _ is refl
-    at (event.Asked id ask) is = unscripted _ is refl
-    at (event.Hold id) is = unscripted _ is refl
-    at (event.Settle level) is = unscripted _ is refl
+    at (event.NewTable table) is = absurd (not_table table is)
+    at event.NotRead is = absurd (not_read is)
+    at (event.Enter stage grace) is = unsaid _ is refl
+    at (event.Call letter) is = unsaid _ is refl
+    at (event.Power kind) is = unsaid _ is refl
+    at (event.Asked id ask) is = unsaid _ is refl
+    at (event.Hold id) is = unsaid _ is refl
+    at (event.Settle level) is = unsaid _ is refl
     at (event.Birth id n) is = act _ is refl
     at (event.NoBirth id) is = act _ is refl
     at (event.Death n) is = act _ is refl
     at (event.Reaped id n status) is = act _ is refl
     at (event.Still id) is = act _ is refl
     at (event.NoLook id) is = act _ is refl
-    at (event.Hit id) is = unplain _ is refl
-    at (event.Miss id) is = unplain _ is refl
+    at (event.Hit id) is = act _ is refl
+    at (event.Miss id) is = act _ is refl
     at (event.Told id) is = absurd (not_told id is)
     at (event.Clock reading) is = absurd (not_clock reading is)
     at event.Nudge is = absurd (not_nudge is)
-    at (event.Got request) is = unscripted _ is refl
-    at (event.Handed how) is = unscripted _ is refl
-
-pub plain_heard : (h : Event) (past : List Event) → is_plain h ≡ true → is_of_one_table past ≡ true → is_of_one_table (h ∷ past) ≡ true
-plain_heard (event.NewTable table) past plain one = absurd (false≢true plain)
-plain_heard h past plain one = and_from (is_plain h) (is_of_one_table past) plain one
+    at (event.Got request) is = absurd (not_got request is)
+    at (event.Handed how) is = unsaid _ is refl
 
 -- a moment after a happening that was heard
-pub moment_heard : (goal : Goal) (past : List Event) (happening : Event) (core new_core : CoreState) (side new_side : State) → Moment goal past core side → MayBeHeard goal happening past → Fits new_core goal (happening ∷ past)
+pub moment_heard : (goal : Goal) (past : List Event) (happening : Event) (core new_core : CoreState) (side new_side : State) → Moment goal past core side → may_be_said goal happening past ≡ true → Fits new_core goal (happening ∷ past)
     → (is_sound goal (happening ∷ past) ≡ true → Follows side past → Follows new_side (happening ∷ past)) → Moment goal (happening ∷ past) new_core new_side
 moment_heard goal past happening core new_core side new_side moment may fits follows =
-    let runs = run_hears goal happening past may.rests may.may moment.runs in
+    let runs = run_hears goal happening past may moment.runs in
     record {
       runs = runs;
-      one_table = plain_heard happening past may.plain moment.one_table;
       fits = fits;
       follows = follows (run_sound goal (happening ∷ past) runs) moment.follows;
     }
 
--- on a run of one table no signal waits for the system, so none is heard
-signal : Option Ask → Bool
-signal order = is_order Term order || is_order Kill order
-
-signal_by : (id : List ℕ) (o : Option SystemAct) (before : Option Ask) → signal before ≡ false → signal (undone_by id o before) ≡ false
-unfolding signal
-signal_by id None before none = none
-signal_by id (Some act) before none = by (same_id id act.id)
-  where
-    by : (b : Bool) → signal (cond b None before) ≡ false
-    by true = refl
-    by false = none
-
-signal_if : (b : Bool) (order before : Option Ask) → signal order ≡ false → signal before ≡ false → signal (cond b order before) ≡ false
-signal_if true order before one other = one
-signal_if false order before one other = other
-
-no_signal : (id : List ℕ) (past : List Event) → is_of_one_table past ≡ true → signal (undone_of id past) ≡ false
-unfolding signal
-no_signal id [] one = absurd (false≢true one)
-no_signal id (event.NewTable table ∷ []) one = refl
-no_signal id (event.NewTable table ∷ h ∷ past) one = absurd (false≢true one)
-no_signal id (event.Asked i Start ∷ past) one = signal_if (same_id id i) (Some Start) (undone_of id past) refl (no_signal id past one)
-no_signal id (event.Asked i Look ∷ past) one = signal_if (same_id id i) (Some Look) (undone_of id past) refl (no_signal id past one)
-no_signal id (event.Asked i Term ∷ past) one = absurd (false≢true one)
-no_signal id (event.Asked i Kill ∷ past) one = absurd (false≢true one)
-no_signal id (event.Told i ∷ past) one = signal_if (same_id id i) None (undone_of id past) refl (no_signal id past one)
-no_signal id (h ∷ past) one = signal_by id (act_in h) (undone_of id past) (no_signal id past (and_parts (is_plain h) (is_of_one_table past) one).1)
-
-plain_may : (goal : Goal) (h : Event) (past : List Event) → is_of_one_table past ≡ true → (is_script h && may_come goal h past) ≡ true → is_plain h ≡ true
-unfolding signal
-plain_may goal (event.NewTable table) past one may = absurd (false≢true may)
-plain_may goal event.NotRead past one may = absurd (false≢true may)
-plain_may goal (event.Call letter) past one may = absurd (false≢true may)
-plain_may goal (event.Power kind) past one may = absurd (false≢true may)
-plain_may goal (event.Asked id Term) past one may = absurd (false≢true may)
-plain_may goal (event.Asked id Kill) past one may = absurd (false≢true may)
-plain_may goal (event.Hit id) past one may = absurd (false≢true (sym (no_signal id past one) ∙ may))
-plain_may goal (event.Miss id) past one may = absurd (false≢true (sym (no_signal id past one) ∙ may))
-plain_may goal (event.Got request) past one may = absurd (false≢true may)
-plain_may goal (event.Handed how) past one may = absurd (false≢true may)
-plain_may goal _ past one may = refl
-
-pub may_hear : (goal : Goal) (past : List Event) (happening : Event) (core : CoreState) (side : State) → AtRest goal past core side
-    → true ≡ (is_script happening && may_come goal happening past) → MayBeHeard goal happening past
-may_hear goal past happening core side at may = record { plain = plain_may goal happening past at.moment.one_table (sym may); may = sym may; rests = at.rests }
-
 -- a happening was heard
-pub hears_one : (goal : Goal) (past : List Event) (happening : Event) → is_in_range happening ≡ true → MayBeHeard goal happening past → Hears past (happening ∷ past) (event_text happening) (event_text happening)
-hears_one goal past happening ranged may =
-    let script : is_script happening ≡ true = (and_parts (is_script happening) (may_come goal happening past) may.may).0 in
-    let more : heard (happening ∷ past) ≡ happening ∷ heard past = ap (λ (b : Bool). cond b (happening ∷ heard past) (heard past)) script in
+pub hears_one : (goal : Goal) (past : List Event) (happening : Event) → is_run goal past ≡ true → is_in_range happening ≡ true → may_be_said goal happening past ≡ true → Hears past (happening ∷ past) (event_text happening) (event_text happening)
+hears_one goal past happening runs ranged may =
+    let said : is_said happening ≡ true = (and_parts (is_said happening) (is_next (first (due goal past)) happening) (and_parts (is_said happening && is_next (first (due goal past)) happening) (may_come goal happening past) may).0).0 in
+    let more : heard (happening ∷ past) ≡ happening ∷ heard past = heard_more goal happening past runs ∙ ap (λ (b : Bool). cond b (happening ∷ heard past) (heard past)) said in
     record {
-      table = same_table happening may.plain;
+      opens = first_more goal happening past runs;
       are = λ are. rw more (and_from (is_in_range happening) (are_in_range (heard past)) ranged are);
       hears = ap past_text more ∙ past_text-more happening (heard past);
       text = past_text-more happening past;
     }
-  where
-    same_table : (h : Event) → is_plain h ≡ true → table_of (h ∷ past) ≡ table_of past
-    same_table (event.NewTable table) plain = absurd (false≢true plain)
-    same_table h plain = refl
 
 -- a happening was heard, and init went on
 pub hears_goes : (past mid next : List Event) (said more after : List ℕ) → Hears past mid said more → GoesOn mid next after → Hears past next said (more ++ after)
 hears_goes past mid next said more after hears goes = record {
-  table = goes.table ∙ hears.table;
+  opens = goes.opens ∙ hears.opens;
   are = λ are. subst (λ es. are_in_range es ≡ true) (sym goes.hears) (hears.are are);
   hears = ap past_text goes.hears ∙ hears.hears;
   text = goes.text ∙ ap (λ t. t ++ after) hears.text ∙ append_assoc (past_text past) more after;
@@ -162,12 +175,16 @@ hears_goes past mid next said more after hears goes = record {
 
 -- a fault in the midst of what came ends the run
 pub broken_heard : (goal : Goal) (past : List Event) (happening : Event) (number : ℕ) (f : SimFault) (old new : Option (List ℕ)) → HeardBreaks goal past happening f old new → HeardEnds goal past happening number f old new
-broken_heard goal past happening number fault.Table old new (next, more, runs, one, hears, leaves) = absurd leaves
-broken_heard goal past happening number (fault.Script n) old new (next, more, runs, one, hears, leaves) = absurd leaves
-broken_heard goal past happening number (fault.Forbidden n) old new (next, more, runs, one, hears, leaves) = absurd leaves
+broken_heard goal past happening number fault.Table old new (next, more, runs, hears, leaves) = absurd leaves
+broken_heard goal past happening number (fault.Script n) old new (next, more, runs, hears, leaves) = absurd leaves
+broken_heard goal past happening number (fault.Forbidden n why) old new (next, more, runs, hears, leaves) = absurd leaves
 broken_heard goal past happening number fault.Write old new breaks = breaks
 broken_heard goal past happening number fault.Memory old new breaks = breaks
 
 pub ok_then : {S E P Q : Type 0} (r : Result S E) → OnOk r P → (P → Q) → OnOk r Q
 ok_then (Ok s) p each = each p
 ok_then (Err e) p each = tt
+
+pub ok_gives : {S E : Type 0} (r : Result S E) (P Q : S → Type 0) → IfOk r P → ((s : S) → P s → Q s) → IfOk r Q
+ok_gives (Ok s) P Q p each = each s p
+ok_gives (Err e) P Q p each = tt

@@ -1,3 +1,4 @@
 pub mod Hearing
 pub mod Moves
+pub mod Rereading
 pub mod Whole

@@ -8,7 +8,7 @@ use Rattle.supervisor.specs.declared.running.SimFault.TheVariants.{Table, Script
 abbrev pub fault_text : SimFault → List ℕ
 fault_text Table = codes "the inittab is longer than 65,536 bytes"
 fault_text (Script line) = codes "script line " ++ decimal line ++ codes " is not a line"
-fault_text (Forbidden line) = codes "script line " ++ decimal line ++ codes " is not allowed"
+fault_text (Forbidden line why) = codes "script line " ++ decimal line ++ codes " is not allowed"
 fault_text Write = codes "the trace could not be written"
 fault_text Memory = codes "out of memory"
 

@@ -1,3 +1,4 @@
 pub mod Faults
 pub mod Moments
+pub mod Said
 pub mod Simulation

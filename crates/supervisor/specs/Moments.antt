@@ -1,5 +1,5 @@
 -- A moment of a simulated run, and what init's own steps make of it.
-use Rattle.std.specs.Prelude.{◌≡◌, ℕ, true, false, ◌&&◌, ◌+◌, List, ◌++◌, Option}
+use Rattle.std.specs.Prelude.{◌≡◌, ℕ, Bool, true, false, ◌+◌, List, ◌++◌, Option}
 use Rattle.std.specs.Io.KnownBytes.{Appends, Keeps}
 use Rattle.init_trace.specs.declared.steps.Goal.{Goal}
 use Rattle.init_trace.specs.Event.{Event}
@@ -8,25 +8,22 @@ use Rattle.init_trace.specs.declared.happenings.Happening.TheVariants.{NewTable}
 use Rattle.init_trace.specs.Lines.{event_text}
 use Rattle.init_trace.specs.Range.{are_in_range}
 use Rattle.text_lines.specs.Lines.{newlines}
-use Rattle.init_trace.specs.Past.{table_of}
 use Rattle.init_trace.specs.Due.{due, first}
-use Rattle.init_trace.specs.Run.{is_run, is_rest}
-use Rattle.init_trace.specs.Sound.{may_come}
-use Rattle.system_side.specs.Steps.{is_script}
-use Rattle.level_core.specs.Decide.{CoreState}
-use Rattle.level_core.specs.Fit.{Fits}
-use Rattle.level_core.specs.Path.{is_plain, is_of_one_table}
+use Rattle.init_trace.specs.Run.{is_run, is_rest, is_reread}
+use Rattle.child_table.specs.Lists.{is_quiet}
+use Rattle.core_state.specs.State.{CoreState}
+use Rattle.core_state.specs.Fit.{Fits}
 use Rattle.system_side.specs.State.{State}
 use Rattle.system_side.specs.Follows.{Follows}
 use Rattle.supervisor.specs.declared.running.SimFault.{SimFault}
 use Rattle.supervisor.specs.declared.running.SimFault.TheVariants as fault
 use Rattle.supervisor.specs.Faults.{Leaves}
-use Rattle.supervisor.specs.Simulation.{IsTooLong, RunOver, Scenario, goal_in, heard, heard_text, past_text}
+use Rattle.supervisor.specs.Said.{may_be_said, IsObjected, first_table, heard}
+use Rattle.supervisor.specs.Simulation.{IsTooLong, RunOver, Scenario, goal_in, heard_text, past_text}
 
 -- the core fits the run so far, and the system's side follows it
 pub record Moment (goal : Goal) (past : List Event) (core : CoreState) (side : State) : Type 0 where
   pub runs : is_run goal past ≡ true
-  pub one_table : is_of_one_table past ≡ true
   pub fits : Fits core goal past
   pub follows : Follows side past
 
@@ -37,66 +34,66 @@ SomeMoment core side = (goal : Goal) × (past : List Event) × Moment goal past 
 abbrev pub FromMoment : CoreState → State → (Goal → List Event → Type 0) → Type 0
 FromMoment core side P = (goal : Goal) (past : List Event) → Moment goal past core side → P goal past
 
--- the trace went on from past to next: the same table, nothing heard, and this text more
+-- the trace went on from past to next: it begins with the same table, nothing was heard, and this text is more
 pub record GoesOn (past next : List Event) (more : List ℕ) : Type 0 where
-  pub table : table_of next ≡ table_of past
+  pub opens : first_table next ≡ first_table past
   pub hears : heard next ≡ heard past
   pub text : past_text next ≡ past_text past ++ more
 
+-- a moment at which init rests, and whether inittab is to be read then
+pub record AtRest (goal : Goal) (past : List Event) (rereads : Bool) (core : CoreState) (side : State) : Type 0 where
+  pub moment : Moment goal past core side
+  pub rests : is_rest (first (due goal past)) ≡ true
+  pub read : rereads ≡ is_reread (first (due goal past))
+
+abbrev pub SomeRest : Bool → CoreState → State → Type 0
+SomeRest rereads core side = (goal : Goal) × (past : List Event) × AtRest goal past rereads core side
+
+-- of each run in which core and side are at rest
+abbrev pub FromRest : Bool → CoreState → State → (Goal → List Event → Type 0) → Type 0
+FromRest rereads core side P =
+    (goal : Goal) (past : List Event) → AtRest goal past rereads core side → P goal past
+
 -- init went on until it rests, and wrote what it did
-abbrev pub ComesToRest : Goal → List Event → CoreState → State → Option (List ℕ) → Option (List ℕ) → Type 0
-ComesToRest goal past core side old new =
-    (next : List Event) × (more : List ℕ) × Moment goal next core side × GoesOn past next more × Appends old new more
-    × (is_rest (first (due goal next)) ≡ true)
+abbrev pub ComesToRest : Goal → List Event → Bool → CoreState → State → Option (List ℕ) → Option (List ℕ) → Type 0
+ComesToRest goal past rereads core side old new =
+    (next : List Event) × (more : List ℕ) × AtRest goal next rereads core side × GoesOn past next more
+    × Appends old new more
 
 -- init went on, and was writing what it did when the fault came
 abbrev pub Breaks : Goal → List Event → SimFault → Option (List ℕ) → Option (List ℕ) → Type 0
 Breaks goal past f old new =
-    (next : List Event) × (more : List ℕ) × (is_run goal next ≡ true) × (is_of_one_table next ≡ true)
-    × GoesOn past next more × Leaves f old new more
+    (next : List Event) × (more : List ℕ) × (is_run goal next ≡ true) × GoesOn past next more × Leaves f old new more
 
--- a moment at which init rests
-pub record AtRest (goal : Goal) (past : List Event) (core : CoreState) (side : State) : Type 0 where
-  pub moment : Moment goal past core side
-  pub rests : is_rest (first (due goal past)) ≡ true
+-- a table is adopted where no start and no signal is open in the core
+abbrev pub IsReadyFor : Event → CoreState → Type 0
+IsReadyFor (NewTable table) core = is_quiet core.slots ≡ true
+IsReadyFor _ core = Unit {0}
 
-abbrev pub SomeRest : CoreState → State → Type 0
-SomeRest core side = (goal : Goal) × (past : List Event) × AtRest goal past core side
-
--- of each run in which core and side are at rest
-abbrev pub FromRest : CoreState → State → (Goal → List Event → Type 0) → Type 0
-FromRest core side P = (goal : Goal) (past : List Event) → AtRest goal past core side → P goal past
-
--- a happening of a script that may come now
-pub record MayBeHeard (goal : Goal) (happening : Event) (past : List Event) : Type 0 where
-  pub plain : is_plain happening ≡ true
-  pub may : (is_script happening && may_come goal happening past) ≡ true
-  pub rests : is_rest (first (due goal past)) ≡ true
-
--- the trace went on from past to next: the same table, this was heard of the script, and this text is more
+-- the trace went on from past to next: it begins with the same table, this was heard of the script, and this text is
+-- more
 pub record Hears (past next : List Event) (said more : List ℕ) : Type 0 where
-  pub table : table_of next ≡ table_of past
+  pub opens : first_table next ≡ first_table past
   pub are : are_in_range (heard past) ≡ true → are_in_range (heard next) ≡ true
   pub hears : heard_text next ≡ heard_text past ++ said
   pub text : past_text next ≡ past_text past ++ more
 
 -- a happening was heard, and init went on until it rests, and what came was written
-abbrev pub HeardOne : Goal → List Event → Event → CoreState → State → Option (List ℕ) → Option (List ℕ) → Type 0
-HeardOne goal past happening core side old new = (next : List Event) × (more : List ℕ)
-    × AtRest goal next core side × Hears past next (event_text happening) more × Appends old new more
+abbrev pub HeardOne : Goal → List Event → Event → Bool → CoreState → State → Option (List ℕ) → Option (List ℕ) → Type 0
+HeardOne goal past happening rereads core side old new = (next : List Event) × (more : List ℕ)
+    × AtRest goal next rereads core side × Hears past next (event_text happening) more × Appends old new more
 
 -- a happening was heard, and what came was being written when the fault came
 abbrev pub HeardBreaks : Goal → List Event → Event → SimFault → Option (List ℕ) → Option (List ℕ) → Type 0
 HeardBreaks goal past happening f old new = (next : List Event) × (more : List ℕ)
-    × (is_run goal next ≡ true) × (is_of_one_table next ≡ true)
-    × Hears past next (event_text happening) more × Leaves f old new more
+    × (is_run goal next ≡ true) × Hears past next (event_text happening) more × Leaves f old new more
 
 -- how a happening whose line has this number may end the run
 abbrev pub HeardEnds : Goal → List Event → Event → ℕ → SimFault → Option (List ℕ) → Option (List ℕ) → Type 0
 HeardEnds goal past happening number fault.Table old new = ⊥
 HeardEnds goal past happening number (fault.Script n) old new = ⊥
-HeardEnds goal past happening number (fault.Forbidden n) old new =
-    (n ≡ number) × ((is_script happening && may_come goal happening past) ≡ false) × Keeps old new
+HeardEnds goal past happening number (fault.Forbidden n why) old new =
+    (n ≡ number) × (may_be_said goal happening past ≡ false) × IsObjected goal happening past why × Keeps old new
 HeardEnds goal past happening number fault.Write old new = HeardBreaks goal past happening fault.Write old new
 HeardEnds goal past happening number fault.Memory old new = HeardBreaks goal past happening fault.Memory old new
 
@@ -114,20 +111,21 @@ opening_text inittab = event_text (NewTable (table_of_text inittab))
 abbrev pub OpeningEnds : List ℕ → SimFault → Option (List ℕ) → Option (List ℕ) → Type 0
 OpeningEnds inittab fault.Table old new = IsTooLong inittab × Keeps old new
 OpeningEnds inittab (fault.Script n) old new = ⊥
-OpeningEnds inittab (fault.Forbidden n) old new = ⊥
+OpeningEnds inittab (fault.Forbidden n why) old new = ⊥
 OpeningEnds inittab fault.Write old new = Leaves fault.Write old new (opening_text inittab)
 OpeningEnds inittab fault.Memory old new = Leaves fault.Memory old new (opening_text inittab)
 
 -- the run over the script up to this rest of it, whose first line has the number; init rests
-pub record SoFar (s : Scenario) (rest : List ℕ) (number : ℕ) (core : CoreState) (side : State)
+pub record SoFar (s : Scenario) (rest : List ℕ) (number : ℕ) (rereads : Bool) (core : CoreState) (side : State)
     (old new : Option (List ℕ)) : Type 0 where
   pub past : List Event
   pub counted : number ≡ newlines (heard_text past) + 1
-  pub at : AtRest (goal_in s) past core side
+  pub at : AtRest (goal_in s) past rereads core side
   pub run : RunOver s rest past
   pub written : Appends old new (past_text past)
 
 -- of each run up to the beginning of a text, which core and side are at, and of what was written before it
-abbrev pub FromScript : List ℕ → CoreState → State → Option (List ℕ) → (Scenario → Option (List ℕ) → Type 0) → Type 0
-FromScript text core side now P =
-    (s : Scenario) (before : Option (List ℕ)) → SoFar s text 1 core side before now → P s before
+abbrev pub FromScript : List ℕ → Bool → CoreState → State → Option (List ℕ)
+    → (Scenario → Option (List ℕ) → Type 0) → Type 0
+FromScript text rereads core side now P =
+    (s : Scenario) (before : Option (List ℕ)) → SoFar s text 1 rereads core side before now → P s before

@@ -1,5 +1,5 @@
 -- A run of init over a script: what is written, and where it ends.
-use Rattle.std.specs.Prelude.{◌≡◌, ◌≢◌, ℕ, true, false, ◌&&◌, ◌+◌, ◌<◌, List, [], ◌++◌, reverse, filter, length, Option}
+use Rattle.std.specs.Prelude.{◌≡◌, ◌≢◌, ℕ, true, false, ◌+◌, ◌<◌, List, [], ◌++◌, reverse, length, Option}
 use Rattle.std.specs.Io.KnownBytes.{Appends, Keeps}
 use Rattle.init_words.specs.declared.entries.Entry.{Entry}
 use Rattle.init_words.specs.declared.levels.Level.{Level}
@@ -8,18 +8,16 @@ use Rattle.inittab_text.specs.Reading.{table_of_text}
 use Rattle.inittab_text.specs.declared.reading.TheConstants.{TEXT_LIMIT}
 use Rattle.init_trace.specs.declared.steps.Goal.{Goal}
 use Rattle.init_trace.specs.Event.{Event}
-use Rattle.init_trace.specs.Past.{table_of}
 use Rattle.init_trace.specs.Due.{due, first}
 use Rattle.init_trace.specs.Lines.{event_text, trace_text}
 use Rattle.init_trace.specs.Range.{is_in_range, are_in_range, BeginsNone}
 use Rattle.init_trace.specs.Run.{is_run, is_rest}
-use Rattle.init_trace.specs.Sound.{may_come}
-use Rattle.level_core.specs.Decide.{opening_goal}
-use Rattle.level_core.specs.Path.{is_of_one_table}
-use Rattle.system_side.specs.Steps.{is_script}
+use Rattle.core_state.specs.State.{opening_goal}
+use Rattle.system_side.specs.declared.objections.Objection.{Objection}
 use Rattle.supervisor.specs.declared.running.SimFault.{SimFault}
 use Rattle.supervisor.specs.declared.running.SimFault.TheVariants as fault
 use Rattle.supervisor.specs.Faults.{Leaves}
+use Rattle.supervisor.specs.Said.{may_be_said, IsObjected, first_table, heard}
 
 -- what is simulated: the level to go to, if one is given, an inittab and a script
 pub record Scenario : Type 0 where
@@ -44,19 +42,15 @@ script_in s = ended s.script
 abbrev pub past_text : List Event → List ℕ
 past_text past = trace_text (reverse past)
 
--- what was heard in a trace, the newest first: all but init's own steps and the table; and its text
-abbrev pub heard : List Event → List Event
-heard past = filter is_script past
-
+-- the text of what was heard in a trace
 abbrev pub heard_text : List Event → List ℕ
 heard_text past = past_text (heard past)
 
--- the run of the table over the script up to this rest of it: init takes first due steps, and hears what the script
--- says in turn when it rests
+-- the run over the script up to this rest of it: it begins with the inittab's table, init takes first due steps, and
+-- hears what the script says in turn when it rests
 pub record RunOver (s : Scenario) (rest : List ℕ) (past : List Event) : Type 0 where
   pub runs : is_run (goal_in s) past ≡ true
-  pub one_table : is_of_one_table past ≡ true
-  pub opens : table_of past ≡ table_in s
+  pub opens : first_table past ≡ table_in s
   pub are : are_in_range (heard past) ≡ true
   pub hears : heard_text past ++ rest ≡ script_in s
 
@@ -79,11 +73,11 @@ EndsAt s n such old new =
 abbrev pub IsUnread : List ℕ → List Event → Type 0
 IsUnread rest past = (rest ≢ []) × BeginsNone rest
 
--- it begins with the text of a happening that a script may not have, or not now
-abbrev pub IsForbidden : Goal → List ℕ → List Event → Type 0
-IsForbidden goal rest past =
+-- it begins with the text of a happening that a script may not have, or not now, and this is why
+abbrev pub IsForbidden : Goal → Objection → List ℕ → List Event → Type 0
+IsForbidden goal why rest past =
     (happening : Event) × (more : List ℕ) × (is_in_range happening ≡ true) × (event_text happening ++ more ≡ rest)
-    × ((is_script happening && may_come goal happening past) ≡ false)
+    × (may_be_said goal happening past ≡ false) × IsObjected goal happening past why
 
 -- a run over a part of the script was being written when the fault came
 abbrev pub Broken : Scenario → SimFault → Option (List ℕ) → Option (List ℕ) → Type 0
@@ -98,6 +92,6 @@ IsTooLong inittab = TEXT_LIMIT < length inittab
 abbrev pub Ends : Scenario → SimFault → Option (List ℕ) → Option (List ℕ) → Type 0
 Ends s fault.Table old new = IsTooLong s.inittab × Keeps old new
 Ends s (fault.Script n) old new = EndsAt s n IsUnread old new
-Ends s (fault.Forbidden n) old new = EndsAt s n (IsForbidden (goal_in s)) old new
+Ends s (fault.Forbidden n why) old new = EndsAt s n (IsForbidden (goal_in s) why) old new
 Ends s fault.Write old new = Broken s fault.Write old new
 Ends s fault.Memory old new = Broken s fault.Memory old new

@@ -1,23 +1,25 @@
-ghost use Rattle.std.specs.Prelude.{◌≡◌, ◌<◌, length, List, [], ◌∷◌, false, true, IfOk, IfSome, IfNone, IfErr, OnOk};
+ghost use Rattle.std.specs.Prelude.{◌≡◌, ◌<◌, length, List, [], ◌∷◌, false, true, IfOk, IfSome, IfNone, IfErr, OnOk, IsOkUnless};
 ghost use Rattle.std.specs.Io.KnownBytes.{Appends};
 ghost use Rattle.init_trace.specs.Event.{Event};
 ghost use Rattle.init_trace.specs.Lines.{event_text};
 ghost use Rattle.init_trace.specs.Range.{is_in_range};
-ghost use Rattle.init_trace.specs.Run.{is_rest};
+ghost use Rattle.init_trace.specs.Run.{is_rest, is_reread};
 ghost use Rattle.init_trace.specs.declared.steps.Goal.{Goal};
 ghost use Rattle.init_trace.specs.declared.happenings.Happening.TheVariants.{NewTable};
 ghost use Rattle.init_words.specs.declared.levels.Level.{Level};
 ghost use Rattle.inittab_text.specs.Reading.{table_of_text};
-ghost use Rattle.level_core.specs.Decide.{opening_goal};
-ghost use Rattle.level_core.specs.Fit.{Fits, with_step};
+ghost use Rattle.child_table.specs.Lists.{is_quiet};
+ghost use Rattle.core_state.specs.State.{opening_goal};
+ghost use Rattle.core_state.specs.Fit.{Fits, OnEachTrace, with_step};
 ghost use Rattle.supervisor.specs.Faults.{Leaves};
-ghost use Rattle.supervisor.specs.Moments.{AtRest, Breaks, ComesToRest, FromMoment, FromRest, FromScript, HeardEnds, HeardOne, MayBeHeard, Moment, OpeningEnds, SomeMoment, SomeRest, TableEnds, opening_text};
+ghost use Rattle.supervisor.specs.Moments.{Breaks, ComesToRest, FromMoment, FromRest, FromScript, HeardEnds, HeardOne, IsReadyFor, Moment, OpeningEnds, SomeMoment, SomeRest, TableEnds, opening_text};
+ghost use Rattle.supervisor.specs.Said.{may_be_said, objection_in};
 ghost use Rattle.supervisor.specs.Simulation.{Done, Ends, IsTooLong, scenario};
 
 use init_trace::{
     Happening, HappeningIn, Step, first_happening, line_count, print_one, print_table,
 };
-use init_words::{Level, Memory};
+use init_words::{Level, Memory, Refusal};
 use inittab_text::{Table, TableFault, read};
 use level_core::Core;
 use program_edge::write_text;
@@ -25,7 +27,7 @@ use std::alloc::{AllocError, Allocator};
 use std::error::Error;
 use std::io::Write;
 use std::{fmt, io};
-use system_side::SimulatedSystem;
+use system_side::{Objection, SimulatedSystem};
 use text_lines::ended;
 
 /// Why a simulated run ended before its script did.
@@ -35,8 +37,8 @@ pub enum SimFault {
     Table,
     /// No happening begins at the line of this number.
     Script(u64),
-    /// The happening on the line of this number may not come there, or not in a script.
-    Forbidden(u64),
+    /// The happening on the line of this number may not come there, or not in a script, and why.
+    Forbidden(u64, Objection),
     /// The writer failed, or took no byte.
     Write,
     /// Want of memory.
@@ -53,7 +55,7 @@ impl fmt::Display for SimFault {
         match self {
             SimFault::Table => f.write_str("the inittab is longer than 65,536 bytes"),
             SimFault::Script(line) => write!(f, "script line {line} is not a line"),
-            SimFault::Forbidden(line) => write!(f, "script line {line} is not allowed"),
+            SimFault::Forbidden(line, _) => write!(f, "script line {line} is not allowed"),
             SimFault::Write => f.write_str("the trace could not be written"),
             SimFault::Memory => f.write_str("out of memory"),
         }
@@ -112,6 +114,13 @@ fn happening_of<A: Allocator>(step: Step) -> Option<HappeningIn<A>>
     }
 }
 
+/// The step is that to read inittab again.
+fn is_reread(step: &Step) -> bool
+    ensures { result ≡ is_reread step.now }
+{
+    matches!(step, Step::Reread)
+}
+
 /// Writes the text of a happening.
 fn write_happening<A: Allocator + Copy, W: Write>(
     alloc: A,
@@ -127,45 +136,95 @@ fn write_happening<A: Allocator + Copy, W: Write>(
     Ok(())
 }
 
-/// Takes init's steps and writes them, until init rests.
+/// Takes init's steps and writes them, until init rests, and says whether inittab is to be read then.
 fn run_until_rest<A: Allocator + Copy, W: Write>(
     alloc: A,
     core: &mut Core<A>,
     side: &mut SimulatedSystem<A>,
     out: &mut W,
-) -> Result<(), SimFault>
+) -> Result<bool, SimFault>
     requires { SomeMoment core.old side.old }
-    ensures ok { OnOk result (FromMoment core.old side.old (λ goal past.
-        ComesToRest goal past core.new side.new (W.contents out.old) (W.contents out.new))) }
+    ensures ok { IfOk result (λ rereads. FromMoment core.old side.old (λ goal past.
+        ComesToRest goal past rereads core.new side.new (W.contents out.old) (W.contents out.new))) }
     ensures err { IfErr result (λ fault. FromMoment core.old side.old (λ goal past.
         Breaks goal past fault (W.contents out.old) (W.contents out.new))) }
 {
-    while let Some(happening) = happening_of(core.next()) {
+    'steps: loop {
+        let step = core.next();
+        let rereads = is_reread(&step);
+        let Some(happening) = happening_of(step) else {
+            return Ok(rereads);
+        };
         write_happening(alloc, out, &happening)?;
         side.take(&happening)?;
     }
-    Ok(())
+}
+
+/// What is objected to a happening: a table, and that inittab could not be read, come only where it is to be read.
+fn objection_to<A: Allocator>(
+    side: &SimulatedSystem<A>,
+    happening: &HappeningIn<A>,
+    rereads: bool,
+) -> Option<Objection>
+    ensures { result ≡ objection_in rereads side.now happening.now }
+{
+    match happening {
+        Happening::NewTable(_) | Happening::NotRead => {
+            if rereads {
+                None
+            } else {
+                Some(Objection::NotNow)
+            }
+        }
+        _ => side.objection(happening),
+    }
+}
+
+/// The core takes a copy of the table for that in force.
+fn adopt<A: Allocator + Copy>(
+    alloc: A,
+    core: &mut Core<A>,
+    table: &Table<A>,
+) -> Result<(), SimFault>
+    requires { is_quiet core.old.slots ≡ true }
+    ensures ok { OnOk result (OnEachTrace core.old (λ goal past.
+        Fits core.new goal (NewTable table.now ∷ past))) }
+    ensures err { IsOkUnless result SimFault.Memory }
+{
+    let copy = table.copy(alloc)?;
+    match core.adopt(copy) {
+        Ok(()) => Ok(()),
+        Err(Refusal::Memory) => Err(SimFault::Memory),
+        Err(_) => unreachable!(),
+    }
 }
 
 /// The core hears what came.
 fn pass_on<A: Allocator + Copy>(
+    alloc: A,
     core: &mut Core<A>,
     side: &SimulatedSystem<A>,
     happening: &HappeningIn<A>,
-)
-    ensures { FromMoment core.old side.now (λ goal past. MayBeHeard goal happening.now past
-        → Fits core.new goal (happening.now ∷ past)) }
+) -> Result<(), SimFault>
+    requires { IsReadyFor happening.now core.old }
+    ensures ok { OnOk result (FromMoment core.old side.now (λ goal past.
+        may_be_said goal happening.now past ≡ true → Fits core.new goal (happening.now ∷ past))) }
+    ensures err { IsOkUnless result SimFault.Memory }
 {
     match happening {
+        Happening::NewTable(table) => adopt(alloc, core, table)?,
+        Happening::NotRead => core.not_read(),
         Happening::Told(id) => {
             if let Some(answer) = side.answer(id) {
                 let _ = core.answer(*id, answer);
             }
         }
-        Happening::Nudge => core.nudge(),
         Happening::Clock(reading) => core.clock(*reading),
+        Happening::Nudge => core.nudge(),
+        Happening::Got(request) => core.got(*request),
         _ => {}
     }
+    Ok(())
 }
 
 /// Writes a happening that may come, and takes it in.
@@ -176,36 +235,40 @@ fn hear<A: Allocator + Copy, W: Write>(
     out: &mut W,
     happening: &HappeningIn<A>,
 ) -> Result<(), SimFault>
+    requires { IsReadyFor happening.now core.old }
     ensures text { OnOk result (Appends (W.contents out.old) (W.contents out.new) (event_text happening.now)) }
-    ensures ok { OnOk result (FromMoment core.old side.old (λ goal past. MayBeHeard goal happening.now past
+    ensures ok { OnOk result (FromMoment core.old side.old (λ goal past.
+        may_be_said goal happening.now past ≡ true
         → Moment goal (happening.now ∷ past) core.new side.new)) }
     ensures err { IfErr result (λ fault.
         Leaves fault (W.contents out.old) (W.contents out.new) (event_text happening.now)) }
 {
-    pass_on(core, side, happening);
+    pass_on(alloc, core, side, happening)?;
     write_happening(alloc, out, happening)?;
     side.take(happening)?;
     Ok(())
 }
 
-/// Hears a happening, whose line has the number, and takes init's steps until it rests.
+/// Hears a happening, whose line has the number, where nothing is objected to it, and takes init's steps until it
+/// rests. Given, and given back, is whether inittab is to be read.
 fn hear_next<A: Allocator + Copy, W: Write>(
     alloc: A,
     core: &mut Core<A>,
     side: &mut SimulatedSystem<A>,
     out: &mut W,
     happening: &HappeningIn<A>,
+    rereads: bool,
     number: u64,
-) -> Result<(), SimFault>
-    requires rests { SomeRest core.old side.old }
+) -> Result<bool, SimFault>
+    requires rests { SomeRest rereads core.old side.old }
     requires ranged { is_in_range happening.now ≡ true }
-    ensures ok { OnOk result (FromRest core.old side.old (λ goal past.
-        HeardOne goal past happening.now core.new side.new (W.contents out.old) (W.contents out.new))) }
-    ensures err { IfErr result (λ fault. FromRest core.old side.old (λ goal past.
+    ensures ok { IfOk result (λ next. FromRest rereads core.old side.old (λ goal past.
+        HeardOne goal past happening.now next core.new side.new (W.contents out.old) (W.contents out.new))) }
+    ensures err { IfErr result (λ fault. FromRest rereads core.old side.old (λ goal past.
         HeardEnds goal past happening.now number fault (W.contents out.old) (W.contents out.new))) }
 {
-    if !side.allows(happening) {
-        return Err(SimFault::Forbidden(number));
+    if let Some(objection) = objection_to(side, happening, rereads) {
+        return Err(SimFault::Forbidden(number, objection));
     }
     hear(alloc, core, side, out, happening)?;
     run_until_rest(alloc, core, side, out)
@@ -244,44 +307,50 @@ fn open_run<A: Allocator + Copy, W: Write>(
     Ok(core)
 }
 
-/// Hears the happenings of a text in turn, and takes init's steps after each until it rests.
+/// Hears the happenings of a text in turn, and takes init's steps after each until it rests. Given is whether inittab is
+/// to be read at the beginning.
 fn hear_all<A: Allocator + Copy, W: Write>(
     alloc: A,
     core: &mut Core<A>,
     side: &mut SimulatedSystem<A>,
     out: &mut W,
     text: &[u8],
+    rereads: bool,
 ) -> Result<(), SimFault>
-    requires { SomeRest core.old side.old }
+    requires { SomeRest rereads core.old side.old }
     ensures done { OnOk result (
-        FromScript text.now core.old side.old (W.contents out.old)
+        FromScript text.now rereads core.old side.old (W.contents out.old)
         (λ s before. Done s before (W.contents out.new))) }
     ensures ended { IfErr result (λ fault.
-        FromScript text.now core.old side.old (W.contents out.old)
+        FromScript text.now rereads core.old side.old (W.contents out.old)
         (λ s before. Ends s fault before (W.contents out.new))) }
 {
     let mut rest = text;
     let mut number = 1;
+    let mut reads = rereads;
     while !rest.is_empty() {
         let Some((happening, more)) = first_happening(alloc, rest)? else {
             return Err(SimFault::Script(number));
         };
-        hear_next(alloc, core, side, out, &happening, number)?;
+        reads = hear_next(alloc, core, side, out, &happening, reads, number)?;
         number += line_count(&happening);
         rest = more;
     }
     Ok(())
 }
 
-/// Runs init over an inittab(5) and a script of what the system did, a happening a line, and writes the trace as it
-/// comes: the table, and then each step of init and each line. Init takes its steps until none is due, after the
-/// opening and after each line. The level is that to go to; where none is given, it is the table's `initdefault`, and S
-/// without one.
+/// Runs init over an inittab(5) and a script of what the system and the edge did, a happening a line, and writes the
+/// trace as it comes: the table, and then each step of init and each line. Init takes its steps until none is due but to
+/// read inittab or to execute itself anew, after the opening and after each line. The level is that to go to; where none
+/// is given, it is the table's `initdefault`, and S without one.
+///
+/// Where inittab is to be read, a table of the script (`use`, and its lines behind it) is what was read, and `notread`
+/// that it could not be; where it is not, neither may come. A hand-over is not simulated, so it may not come at all.
 ///
 /// The run ends at the end of the script, or before the first line that is no line of a trace (`Script`) or may not
-/// come (`Forbidden`), by its number from 1. An inittab of over 65,536 bytes is refused (`Table`). Where the writer
-/// fails (`Write`), a prefix of the trace is written and something of it is left; where memory is wanting (`Memory`), a
-/// prefix of it is written.
+/// come (`Forbidden`, with the reason), by its number from 1; the lines of a table count, and it is named by its first.
+/// An inittab of over 65,536 bytes is refused (`Table`). Where the writer fails (`Write`), a prefix of the trace is
+/// written and something of it is left; where memory is wanting (`Memory`), a prefix of it is written.
 pub fn simulate<A: Allocator + Copy, W: Write>(
     alloc: A,
     inittab: &[u8],
@@ -297,7 +366,7 @@ pub fn simulate<A: Allocator + Copy, W: Write>(
 {
     let mut core = open_run(alloc, inittab, level, out)?;
     let mut side = SimulatedSystem::new(alloc);
-    run_until_rest(alloc, &mut core, &mut side, out)?;
+    let rereads = run_until_rest(alloc, &mut core, &mut side, out)?;
     let script = ended(alloc, script)?;
-    hear_all(alloc, &mut core, &mut side, out, &script)
+    hear_all(alloc, &mut core, &mut side, out, &script, rereads)
 }

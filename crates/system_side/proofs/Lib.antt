@@ -1,3 +1,4 @@
 pub mod Numbers
+pub mod Spelled
 pub mod Allowing
 pub mod Taking

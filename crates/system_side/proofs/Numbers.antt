@@ -1,8 +1,8 @@
 -- No two unreaped children have one number.
-use Rattle.std.proofs.Common.{◌≡◌, refl, sym, ◌∙◌, ap, ℕ, ◌==◌, Bool, true, false, not, ◌&&◌, ◌||◌, cond, List, [], ◌∷◌, filter, Some, find, is_none}
+use Rattle.std.proofs.Common.{◌≡◌, refl, ◌∙◌, ap, ℕ, ◌==◌, Bool, true, false, not, ◌||◌, cond, List, [], ◌∷◌, filter, Some, find, is_none}
 use Rattle.std.specs.List.{list_any}
-use Rattle.std.specs.Option.{option_map, option_map_or}
-use Rattle.std.proofs.lemmas.Bool.{false≢true, and_parts, eqb-true, not-true}
+use Rattle.std.specs.Option.{option_map}
+use Rattle.std.proofs.lemmas.Bool.{and_parts, eqb-true, not-true}
 use Rattle.init_trace.specs.declared.happenings.Happening.TheVariants.{Birth, Reaped}
 use Rattle.init_trace.specs.declared.steps.Goal.{Goal}
 use Rattle.init_trace.specs.Event.{Event}
@@ -10,61 +10,27 @@ use Rattle.init_words.specs.declared.orders.Ask.TheVariants.{Start}
 use Rattle.init_trace.specs.Past.{Child, is_child, has_number, undone_of, unreaped_children}
 use Rattle.init_trace.specs.Wanted.{is_order}
 use Rattle.init_trace.specs.Sound.{may_come, is_sound}
-use Rattle.init_words.proofs.Tests.{or_none, falsely, both_ways, not_from, any_less, any_filtered}
+use Rattle.init_words.proofs.Tests.{both_ways, any_less}
 use Rattle.trace_laws.proofs.Keeps.{sound_ind}
-
--- at most one child of the list passes
-abbrev pub is_single : (Child → Bool) → List Child → Bool
-is_single p [] = true
-is_single p (x ∷ xs) = cond (p x) (not (list_any p xs)) (is_single p xs)
-
-single_none : (p : Child → Bool) (xs : List Child) → list_any p xs ≡ false → is_single p xs ≡ true
-single_none p [] h = refl
-single_none p (x ∷ xs) h = split (p x) (single_none p xs) h where
-  split : (b : Bool) → (list_any p xs ≡ false → is_single p xs ≡ true) → (b || list_any p xs) ≡ false → cond b (not (list_any p xs)) (is_single p xs) ≡ true
-  split true rest h = absurd (false≢true (sym h))
-  split false rest h = rest h
-
-single_filter : (p q : Child → Bool) (xs : List Child) → is_single p xs ≡ true → is_single p (filter q xs) ≡ true
-single_filter p q [] h = refl
-single_filter p q (x ∷ xs) h = split (p x) (q x) refl (single_filter p q xs) h where
-  gone : not (list_any p xs) ≡ true → list_any p (filter q xs) ≡ false
-  gone none = falsely (list_any p (filter q xs)) (list_any p xs) (any_filtered p q xs) (not-true (list_any p xs) none)
-
-  split : (b c : Bool) → p x ≡ b → (is_single p xs ≡ true → is_single p (filter q xs) ≡ true) → cond b (not (list_any p xs)) (is_single p xs) ≡ true → is_single p (cond c (x ∷ filter q xs) (filter q xs)) ≡ true
-  split true true is rest h = rw is (not_from (list_any p (filter q xs)) (gone h))
-  split true false is rest h = single_none p (filter q xs) (gone h)
-  split false true is rest h = rw is (rest h)
-  split false false is rest h = rest h
+use Rattle.trace_laws.proofs.Lone.{none_filtered, is_lone, lone_filter}
 
 -- no number has two unreaped children
-pub one_number : (goal : Goal) (past : List Event) → is_sound goal past ≡ true → (number : ℕ) → is_single (has_number number) (unreaped_children past) ≡ true
-one_number goal past h = sound_ind goal (λ before. (number : ℕ) → is_single (has_number number) (unreaped_children before) ≡ true) (λ table distinct number. refl) next past h where
-  next : (happening : Event) (before : List Event) → may_come goal happening before ≡ true → is_sound goal before ≡ true → ((number : ℕ) → is_single (has_number number) (unreaped_children before) ≡ true) → (number : ℕ) → is_single (has_number number) (unreaped_children (happening ∷ before)) ≡ true
+pub one_number : (goal : Goal) (past : List Event) → is_sound goal past ≡ true → (number : ℕ) → is_lone (has_number number) (unreaped_children past) ≡ true
+one_number goal past h = sound_ind goal (λ before. (number : ℕ) → is_lone (has_number number) (unreaped_children before) ≡ true) (λ table distinct number. refl) next past h where
+  next : (happening : Event) (before : List Event) → may_come goal happening before ≡ true → is_sound goal before ≡ true → ((number : ℕ) → is_lone (has_number number) (unreaped_children before) ≡ true) → (number : ℕ) → is_lone (has_number number) (unreaped_children (happening ∷ before)) ≡ true
   next (Birth i n) before may sound one number = at_number (number == n) refl where
-    at_number : (b : Bool) → (number == n) ≡ b → cond b (not (list_any (has_number number) (unreaped_children before))) (is_single (has_number number) (unreaped_children before)) ≡ true
+    at_number : (b : Bool) → (number == n) ≡ b → cond b (not (list_any (has_number number) (unreaped_children before))) (is_lone (has_number number) (unreaped_children before)) ≡ true
     at_number true same = ap (λ m. not (list_any (has_number m) (unreaped_children before))) (eqb-true number n same) ∙ (and_parts (is_order Start (undone_of i before)) (not (list_any (has_number n) (unreaped_children before))) may).1
     at_number false differ = one number
-  next (Reaped i n status) before may sound one number = single_filter (has_number number) (λ child. not (is_child i n child)) (unreaped_children before) (one number)
+  next (Reaped i n status) before may sound one number = lone_filter (has_number number) (λ child. not (is_child i n child)) (unreaped_children before) (one number)
   next _ before may sound one number = one number
 
--- where at most one child passes p, whether one of them passes q too is told by the first
-pub single_any : (p q : Child → Bool) (xs : List Child) → is_single p xs ≡ true → list_any (λ x. p x && q x) xs ≡ option_map_or q (find p xs) false
-single_any p q [] h = refl
-single_any p q (x ∷ xs) h = split (p x) (single_any p q xs) h where
-  split : (b : Bool) → (is_single p xs ≡ true → list_any (λ y. p y && q y) xs ≡ option_map_or q (find p xs) false) → cond b (not (list_any p xs)) (is_single p xs) ≡ true → (b && q x || list_any (λ y. p y && q y) xs) ≡ option_map_or q (cond b (Some x) (find p xs)) false
-  split true rest h = or_none (q x) (list_any (λ y. p y && q y) xs) (falsely (list_any (λ y. p y && q y) xs) (list_any p xs) (any_less (λ y. p y && q y) p (λ y both. (and_parts (p y) (q y) both).0) xs) (not-true (list_any p xs) h))
-  split false rest h = rest h
-
 -- where at most one child passes p, none is left without those that pass r, if one passes r
-pub single_gone : (p r : Child → Bool) → ((x : Child) → r x ≡ true → p x ≡ true) → (xs : List Child) → is_single p xs ≡ true → list_any r xs ≡ true → list_any p (filter (λ x. not (r x)) xs) ≡ false
-single_gone p r within [] h there = refl
-single_gone p r within (x ∷ xs) h there = split (p x) (r x) refl refl (single_gone p r within xs) h there where
-  gone : not (list_any p xs) ≡ true → list_any p (filter (λ y. not (r y)) xs) ≡ false
-  gone none = falsely (list_any p (filter (λ y. not (r y)) xs)) (list_any p xs) (any_filtered p (λ y. not (r y)) xs) (not-true (list_any p xs) none)
-
-  split : (b c : Bool) → p x ≡ b → r x ≡ c → (is_single p xs ≡ true → list_any r xs ≡ true → list_any p (filter (λ y. not (r y)) xs) ≡ false) → cond b (not (list_any p xs)) (is_single p xs) ≡ true → (c || list_any r xs) ≡ true → list_any p (cond (not c) (x ∷ filter (λ y. not (r y)) xs) (filter (λ y. not (r y)) xs)) ≡ false
-  split true true is own rest h there = gone h
+pub lone_gone : (p r : Child → Bool) → ((x : Child) → r x ≡ true → p x ≡ true) → (xs : List Child) → is_lone p xs ≡ true → list_any r xs ≡ true → list_any p (filter (λ x. not (r x)) xs) ≡ false
+lone_gone p r within [] h there = refl
+lone_gone p r within (x ∷ xs) h there = split (p x) (r x) refl refl (lone_gone p r within xs) h there where
+  split : (b c : Bool) → p x ≡ b → r x ≡ c → (is_lone p xs ≡ true → list_any r xs ≡ true → list_any p (filter (λ y. not (r y)) xs) ≡ false) → cond b (not (list_any p xs)) (is_lone p xs) ≡ true → (c || list_any r xs) ≡ true → list_any p (cond (not c) (x ∷ filter (λ y. not (r y)) xs) (filter (λ y. not (r y)) xs)) ≡ false
+  split true true is own rest h there = none_filtered p (λ y. not (r y)) xs h
   split true false is own rest h there = both_ways (list_any p xs) (any_less r p within xs there) (not-true (list_any p xs) h)
   split false true is own rest h there = both_ways (p x) (within x own) is
   split false false is own rest h there = rw is (rest h there)

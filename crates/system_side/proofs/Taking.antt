@@ -19,7 +19,7 @@ use Rattle.trace_laws.proofs.Told.{same_find}
 use Rattle.system_side.specs.State.{State, order_in, answer_in, child_in, died}
 use Rattle.system_side.specs.Steps.{order_after, answer_after, child_after}
 use Rattle.system_side.specs.Follows.{Follows, process_of, child_with}
-use Rattle.system_side.proofs.Numbers.{one_number, single_gone}
+use Rattle.system_side.proofs.Numbers.{one_number, lone_gone}
 
 order_step : (happening : Event) (id : List ℕ) (past : List Event) → order_after happening id (undone_of id past) ≡ undone_of id (happening ∷ past)
 order_step (Asked i ask) id past = refl
@@ -78,7 +78,7 @@ reap_step i n number past none = at_number (number == n) refl where
   at_number false differ = ap (option_map (process_of number past)) (sym (same_find (has_number number) (filter (λ child. not (is_child i n child)) (unreaped_children past)) (unreaped_children past) (filter_within (has_number number) (λ child. not (is_child i n child)) (reaped_other i n number differ) (unreaped_children past))))
 
 none_left : (goal : Goal) (i : List ℕ) (n : ℕ) (past : List Event) → is_sound goal past ≡ true → list_any (is_child i n) (unreaped_children past) ≡ true → find (has_number n) (filter (λ child. not (is_child i n child)) (unreaped_children past)) ≡ None
-none_left goal i n past sound there = find_none (has_number n) (filter (λ child. not (is_child i n child)) (unreaped_children past)) (single_gone (has_number n) (is_child i n) (λ child h. (and_parts (same_id i child.id) (n == child.number) h).1) (unreaped_children past) (one_number goal past sound n) there)
+none_left goal i n past sound there = find_none (has_number n) (filter (λ child. not (is_child i n child)) (unreaped_children past)) (lone_gone (has_number n) (is_child i n) (λ child h. (and_parts (same_id i child.id) (n == child.number) h).1) (unreaped_children past) (one_number goal past sound n) there)
 
 child_step : (goal : Goal) (happening : Event) (past : List Event) → is_sound goal (happening ∷ past) ≡ true → (number : ℕ) → child_after happening number (child_with number past) ≡ child_with number (happening ∷ past)
 child_step goal (Birth i n) past sound number = birth_step i n number past

@@ -1,5 +1,7 @@
 ghost use Rattle.std.specs.Prelude.{◌≡◌, OnOk, OnErr};
+ghost use Rattle.system_side.specs.Objections.{unless};
 
+use crate::objections::Objection;
 use indexmap::IndexMap;
 use init_trace::{Happening, HappeningIn};
 use init_words::{Answer, Ask, ChildNo, Id, Memory};
@@ -61,7 +63,7 @@ impl<A: Allocator + Copy> SimulatedSystem<A> {
 }
 
 impl<A: Allocator> SimulatedSystem<A> {
-    ghost use Rattle.std.specs.Prelude.{ℕ, List, ◌∷◌, false, ◌&&◌, IsTrue, IsOk};
+    ghost use Rattle.std.specs.Prelude.{ℕ, List, ◌∷◌, false, true, ◌&&◌, IsTrue, IsOk, is_none, is_some};
     ghost use Rattle.init_trace.specs.declared.steps.Goal.{Goal};
     ghost use Rattle.init_trace.specs.Event.{Event};
     ghost use Rattle.init_trace.specs.Answered.{answered_of};
@@ -69,39 +71,71 @@ impl<A: Allocator> SimulatedSystem<A> {
     ghost use Rattle.init_trace.specs.Wanted.{is_order};
     ghost use Rattle.init_words.specs.declared.orders.Answer.TheVariants.{Born};
     ghost use Rattle.system_side.specs.State.{order_in, answer_in, OrdersBy, AnswersBy, ChildrenBy, is_living_in, is_dead_in, without, with, with_child, with_death};
-    ghost use Rattle.system_side.specs.Steps.{is_script, needs_memory, allowed, order_after, answer_after, child_after};
+    ghost use Rattle.system_side.specs.Steps.{is_script, needs_memory, order_after, answer_after, child_after};
+    ghost use Rattle.system_side.specs.Objections.{objection_to};
     ghost use Rattle.system_side.specs.Follows.{Follows};
 
     /// The happening may come next, and is one of the system or of the edge: an act on an order, a death, a telling, a
-    /// nudge or a reading of the clock. A step of init is never allowed.
+    /// nudge, a reading of the clock, a request, or that inittab could not be read. A step of init is never allowed.
     pub fn allows<B: Allocator>(&self, happening: &HappeningIn<B>) -> bool
         ensures may_come { (goal : Goal) (past : List Event)
             → IsTrue (is_sound goal past) → Follows self.now past
             → result ≡ (is_script happening.now && may_come goal happening.now past) }
         ensures other { is_script happening.now ≡ false → result ≡ false }
     {
-        self.allows_by_state(happening)
+        self.objection(happening).is_none()
     }
 
-    fn allows_by_state<B: Allocator>(&self, happening: &HappeningIn<B>) -> bool
-        ensures { result ≡ allowed self.now happening.now }
+    /// Why the happening may not come next, or not in a script: the first reason. None where it may.
+    pub fn objection<B: Allocator>(&self, happening: &HappeningIn<B>) -> Option<Objection>
+        ensures value { result ≡ objection_to self.now happening.now }
+        ensures none { (goal : Goal) (past : List Event)
+            → IsTrue (is_sound goal past) → Follows self.now past
+            → is_none result ≡ (is_script happening.now && may_come goal happening.now past) }
+        ensures other { is_script happening.now ≡ false → is_some result ≡ true }
+    {
+        self.objection_by_state(happening)
+    }
+
+    fn objection_by_state<B: Allocator>(&self, happening: &HappeningIn<B>) -> Option<Objection>
+        ensures { result ≡ objection_to self.now happening.now }
     {
         match happening {
             Happening::Birth(id, number) => {
-                self.is_undone(id, Ask::Start) && self.children.get(&number.0).is_none()
+                if self.is_undone(id, Ask::Start) {
+                    let is_free = self.children.get(&number.0).is_none();
+                    unless(is_free, Objection::NumberTaken(*number))
+                } else {
+                    Some(Objection::NoStart(*id))
+                }
             }
-            Happening::NoBirth(id) => self.is_undone(id, Ask::Start),
-            Happening::Death(number) => self.is_living(*number),
+            Happening::NoBirth(id) => {
+                unless(self.is_undone(id, Ask::Start), Objection::NoStart(*id))
+            }
+            Happening::Death(number) => {
+                unless(self.is_living(*number), Objection::NoneLiving(*number))
+            }
             Happening::Reaped(id, number, _) => {
-                self.is_undone(id, Ask::Look) && self.is_dead(id, *number)
+                if self.is_undone(id, Ask::Look) {
+                    unless(self.is_dead(id, *number), Objection::NoneDead(*id, *number))
+                } else {
+                    Some(Objection::NoLook(*id))
+                }
             }
-            Happening::Still(id) | Happening::NoLook(id) => self.is_undone(id, Ask::Look),
+            Happening::Still(id) | Happening::NoLook(id) => {
+                unless(self.is_undone(id, Ask::Look), Objection::NoLook(*id))
+            }
             Happening::Hit(id) | Happening::Miss(id) => {
-                self.is_undone(id, Ask::Term) || self.is_undone(id, Ask::Kill)
+                let is_signalled = self.is_undone(id, Ask::Term) || self.is_undone(id, Ask::Kill);
+                unless(is_signalled, Objection::NoSignal(*id))
             }
-            Happening::Told(id) => self.answers.get(id).is_some(),
-            Happening::Nudge | Happening::Clock(_) => true,
-            _ => false,
+            Happening::Told(id) => {
+                unless(self.answers.get(id).is_some(), Objection::NothingDone(*id))
+            }
+            Happening::NotRead | Happening::Clock(_) | Happening::Nudge | Happening::Got(_) => None,
+            Happening::NewTable(_) => Some(Objection::NotNow),
+            Happening::Handed(_) => Some(Objection::NoHandOver),
+            _ => Some(Objection::OwnStep),
         }
     }
 
@@ -245,4 +279,11 @@ impl<A: Allocator> SimulatedSystem<A> {
         self.orders.swap_remove(id);
         self.answers.swap_remove(id);
     }
+}
+
+/// The objection, but none where the test holds.
+fn unless(holds: bool, objection: Objection) -> Option<Objection>
+    ensures { result ≡ unless holds objection }
+{
+    if holds { None } else { Some(objection) }
 }

@@ -15,10 +15,11 @@ use Rattle.init_trace.specs.Lawful.{broken}
 use Rattle.init_words.proofs.Same.{same_id-is, same_id-self, same_id-sym}
 use Rattle.init_words.proofs.Tests.{not_from, and_true, and_false}
 use Rattle.trace_laws.proofs.Spells.{is_still, spell_still, spell_nudge, spell_enter, spell_table, spell_birth, spell_told}
+use Rattle.trace_laws.proofs.Lone.{is_lone, lone_filter}
 use Rattle.trace_check.specs.declared.children.Living.{Living}
 use Rattle.trace_check.specs.After.{is_numbered, child_after, spares, excludes, earliest, term_after}
 use Rattle.trace_check.proofs.Lookups.{none_both}
-use Rattle.trace_check.proofs.Lone.{child_of, by_child, is_lone, lone_filter, left_if, lone_left}
+use Rattle.trace_check.proofs.Lone.{child_of, by_child, left_if, lone_left}
 use Rattle.trace_check.proofs.Reading.{has_sent, living_of, least_term, term_of}
 use Rattle.trace_check.proofs.Terms.{told_terms}
 

@@ -25,10 +25,11 @@ use Rattle.init_trace.specs.Due.{is_served, is_settled}
 use Rattle.init_trace.specs.Lawful.{is_placed, is_in_turn, is_limited_id, is_free, is_due_hold, may_term, may_kill, broken}
 use Rattle.init_words.proofs.Same.{same_id-is, same_id-self}
 use Rattle.init_words.proofs.Tests.{same_tests, any_less, any_same, Passing, passing, found_any, and_three}
+use Rattle.trace_laws.proofs.Lone.{lone_any}
 use Rattle.trace_check.specs.declared.children.Living.{Living}
 use Rattle.trace_check.specs.State.{State, at, among}
 use Rattle.trace_check.specs.Flaws.{is_alive, is_excluded_in, none_excluded_in, is_placed_in, is_owed_in, is_in_turn_in, is_held_in, is_full_in, is_free_in, is_due_hold_in, is_served_in, is_settled_in, is_over_in, may_kill_in, flaw_in}
-use Rattle.trace_check.proofs.Lone.{child_of, found_test, by_child, lone_any}
+use Rattle.trace_check.proofs.Lone.{child_of, found_test, by_child}
 use Rattle.trace_check.proofs.Found.{found_all, found_before}
 use Rattle.trace_check.proofs.Reading.{living_of, least_term, term_of, newest, Reads}
 use Rattle.trace_check.proofs.Windows.{full_by_last, held_by_last}

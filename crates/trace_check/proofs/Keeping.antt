@@ -18,6 +18,7 @@ use Rattle.init_trace.specs.Spells.{untold_hits}
 use Rattle.init_trace.specs.Timing.{start_times, hold_times}
 use Rattle.init_words.proofs.Same.{same_id-is, same_id-apart}
 use Rattle.init_words.proofs.Tests.{not_from, or_false, and_false, any_within, any_without}
+use Rattle.trace_laws.proofs.Tests.{never}
 use Rattle.trace_check.specs.After.{table_after, stage_after, grace_after, time_after, order_after, kept_after, is_changed, asked_after, is_named, called_after, sent_after, starts_after, hold_after}
 use Rattle.trace_check.proofs.Lone.{found_passes}
 use Rattle.trace_check.proofs.Found.{entry_any, id_any}
@@ -71,10 +72,6 @@ asked_step (Enter stage grace) id past = refl
 asked_step (NewTable table) id past = ap (λ b. not b && is_asked id past) (id_any id (λ i. is_changed i table (table_of past)) table)
 asked_step (Asked i Start) id past = refl
 asked_step _ id past = refl
-
-never : (o : Option Entry) → false ≡ option_map_or (λ (e : Entry). false) o false
-never None = refl
-never (Some e) = refl
 
 -- an entry that is named, or was called before
 named_or : (q r : Entry → Bool) (o : Option Entry) → (option_map_or q o false || option_map_or r o false) ≡ option_map_or (λ e. q e || r e) o false

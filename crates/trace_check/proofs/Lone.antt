@@ -1,19 +1,19 @@
 -- The child of an id among children of which at most one has the id.
-use Rattle.std.proofs.Common.{◌≡◌, refl, sym, ◌∙◌, ap, subst, ℕ, Bool, true, false, not, ◌&&◌, ◌||◌, cond, List, [], ◌∷◌, filter, find, Option, Some, None}
+use Rattle.std.proofs.Common.{◌≡◌, refl, sym, ◌∙◌, ap, subst, ℕ, Bool, true, false, not, ◌||◌, cond, List, [], ◌∷◌, filter, find, Option, Some, None}
 use Rattle.std.specs.List.{list_any}
 use Rattle.std.specs.Option.{option_map_or}
-use Rattle.std.proofs.lemmas.Bool.{false≢true, and_parts, or_left, or_right, not-true}
+use Rattle.std.proofs.lemmas.Bool.{or_left, or_right}
 use Rattle.std.proofs.lemmas.Option.{none-some, same_Some}
 use Rattle.init_trace.specs.Event.{Event}
 use Rattle.init_trace.specs.Past.{Child, is_of, unreaped_children}
 use Rattle.init_words.proofs.Same.{same_id-is}
-use Rattle.init_words.proofs.Tests.{falsely, not_from, any_less, any_filtered, find_none, or_none}
+use Rattle.init_words.proofs.Tests.{find_none}
+use Rattle.trace_laws.proofs.Lone.{none_filtered, is_lone}
 
 -- the youngest unreaped child of an id
 abbrev pub child_of : List ℕ → List Event → Option Child
 child_of id past = find (is_of id) (unreaped_children past)
 
--- a test that fails adds nothing
 -- what is found passes
 pub found_passes : {X : Type 0} (p : X → Bool) (xs : List X) (x : X) → find p xs ≡ Some x → p x ≡ true
 found_passes p [] x h = absurd (none-some x h)
@@ -22,7 +22,6 @@ found_passes {X} p (y ∷ xs) x h = split (p y) refl (found_passes p xs x) h whe
   split true passes rest h = ap p (sym (same_Some y x h)) ∙ passes
   split false fails rest h = rest h
 
--- one is found exactly where one passes
 -- what the one that is found passes, one passes
 pub found_test : {X : Type 0} (p q : X → Bool) (xs : List X) → option_map_or q (find p xs) false ≡ true → list_any q xs ≡ true
 found_test p q [] h = h
@@ -38,31 +37,6 @@ by_child P none some id past = split (child_of id past) refl where
   split None is = none id
   split (Some child) is = subst (λ x. P x (Some child)) (sym (same_id-is id child.id (found_passes (is_of id) (unreaped_children past) child is))) (some child)
 
--- at most one passes
-abbrev pub is_lone : (Child → Bool) → List Child → Bool
-is_lone p [] = true
-is_lone p (x ∷ xs) = cond (p x) (not (list_any p xs)) (is_lone p xs)
-
-lone_none : (p : Child → Bool) (xs : List Child) → list_any p xs ≡ false → is_lone p xs ≡ true
-lone_none p [] h = refl
-lone_none p (x ∷ xs) h = split (p x) (lone_none p xs) h where
-  split : (b : Bool) → (list_any p xs ≡ false → is_lone p xs ≡ true) → (b || list_any p xs) ≡ false → cond b (not (list_any p xs)) (is_lone p xs) ≡ true
-  split true rest h = absurd (false≢true (sym h))
-  split false rest h = rest h
-
--- of those that are left at most one passes
-pub lone_filter : (p q : Child → Bool) (xs : List Child) → is_lone p xs ≡ true → is_lone p (filter q xs) ≡ true
-lone_filter p q [] h = refl
-lone_filter p q (x ∷ xs) h = split (p x) (q x) refl (lone_filter p q xs) h where
-  gone : not (list_any p xs) ≡ true → list_any p (filter q xs) ≡ false
-  gone none = falsely (list_any p (filter q xs)) (list_any p xs) (any_filtered p q xs) (not-true (list_any p xs) none)
-
-  split : (b c : Bool) → p x ≡ b → (is_lone p xs ≡ true → is_lone p (filter q xs) ≡ true) → cond b (not (list_any p xs)) (is_lone p xs) ≡ true → is_lone p (cond c (x ∷ filter q xs) (filter q xs)) ≡ true
-  split true true is rest h = rw is (not_from (list_any p (filter q xs)) (gone h))
-  split true false is rest h = lone_none p (filter q xs) (gone h)
-  split false true is rest h = rw is (rest h)
-  split false false is rest h = rest h
-
 -- what is found, if it is left
 abbrev pub left_if : (Child → Bool) → Option Child → Option Child
 left_if q None = None
@@ -71,19 +45,8 @@ left_if q (Some x) = cond (q x) (Some x) None
 pub lone_left : (p q : Child → Bool) (xs : List Child) → is_lone p xs ≡ true → find p (filter q xs) ≡ left_if q (find p xs)
 lone_left p q [] h = refl
 lone_left p q (x ∷ xs) h = split (p x) (q x) refl refl (lone_left p q xs) h where
-  gone : not (list_any p xs) ≡ true → list_any p (filter q xs) ≡ false
-  gone none = falsely (list_any p (filter q xs)) (list_any p xs) (any_filtered p q xs) (not-true (list_any p xs) none)
-
   split : (b c : Bool) → p x ≡ b → q x ≡ c → (is_lone p xs ≡ true → find p (filter q xs) ≡ left_if q (find p xs)) → cond b (not (list_any p xs)) (is_lone p xs) ≡ true → find p (cond c (x ∷ filter q xs) (filter q xs)) ≡ left_if q (cond b (Some x) (find p xs))
   split true true is own rest h = rw (is, own) refl
-  split true false is own rest h = rw own (find_none p (filter q xs) (gone h))
+  split true false is own rest h = rw own (find_none p (filter q xs) (none_filtered p q xs h))
   split false true is own rest h = rw is (rest h)
   split false false is own rest h = rest h
-
--- whether the only one that passes p passes q too is told by the one that is found
-pub lone_any : (p q : Child → Bool) (xs : List Child) → is_lone p xs ≡ true → list_any (λ x. p x && q x) xs ≡ option_map_or q (find p xs) false
-lone_any p q [] h = refl
-lone_any p q (x ∷ xs) h = split (p x) (lone_any p q xs) h where
-  split : (b : Bool) → (is_lone p xs ≡ true → list_any (λ y. p y && q y) xs ≡ option_map_or q (find p xs) false) → cond b (not (list_any p xs)) (is_lone p xs) ≡ true → (b && q x || list_any (λ y. p y && q y) xs) ≡ option_map_or q (cond b (Some x) (find p xs)) false
-  split true rest h = or_none (q x) (list_any (λ y. p y && q y) xs) (falsely (list_any (λ y. p y && q y) xs) (list_any p xs) (any_less (λ y. p y && q y) p (λ y both. (and_parts (p y) (q y) both).0) xs) (not-true (list_any p xs) h))
-  split false rest h = rest h

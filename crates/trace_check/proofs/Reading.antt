@@ -10,10 +10,11 @@ use Rattle.init_trace.specs.Past.{table_of, stage_of, grace_of, time_of, Child, 
 use Rattle.init_trace.specs.Wanted.{is_order, is_asked, is_called}
 use Rattle.init_trace.specs.Spells.{Signal, untold_hits, spell_hits}
 use Rattle.init_trace.specs.Timing.{start_times, hold_times}
+use Rattle.trace_laws.proofs.Lone.{is_lone}
 use Rattle.trace_check.specs.declared.children.Living.{Living}
 use Rattle.trace_check.specs.State.{State, at, among, times_at}
 use Rattle.trace_check.specs.After.{earliest}
-use Rattle.trace_check.proofs.Lone.{child_of, is_lone}
+use Rattle.trace_check.proofs.Lone.{child_of}
 
 -- the entry of the id, if it has one, is called
 abbrev pub calls_of : List ℕ → List Event → Bool

@@ -21,6 +21,7 @@ use Rattle.init_words.proofs.Same.{same_id-is, same_id-self, same_id-sym}
 use Rattle.init_words.proofs.Tests.{both_ways, or_either, any_less, all_less, all_fail, any_none}
 use Rattle.trace_laws.proofs.Tests.{is_order-is}
 use Rattle.trace_laws.proofs.Orders.{undone_is_open}
+use Rattle.trace_laws.proofs.Lone.{only_one}
 use Rattle.trace_laws.proofs.Dues.{MayStop, due_facts}
 use Rattle.trace_laws.proofs.Keeps.{sound_holds, sound_ind, asked_free, free_told, stop_unreaped}
 use Rattle.trace_laws.proofs.Births.{one_child, at_moment}
@@ -134,15 +135,12 @@ hits_told id (_ ∷ past) h = hits_told id past h
 one_all : (p r : Child → Bool) (xs : List Child) → length (filter p xs) ≤ 1 → list_any (λ x. p x && r x) xs ≡ true → list_all (λ x. not (p x) || r x) xs ≡ true
 one_all p r [] one there = refl
 one_all p r (x ∷ xs) one there = split (p x) (r x) one there (one_all p r xs) where
-  alone : length (x ∷ filter p xs) ≤ 1 → list_any p xs ≡ false
-  alone few = any_none p xs (nil_from_length (filter p xs) (omega arith))
-
   others : list_any p xs ≡ false → list_all (λ y. not (p y) || r y) xs ≡ true
   others none = all_less (λ y. not (p y)) (λ y. not (p y) || r y) (λ y free. or_left (not (p y)) (r y) free) xs (all_fail p xs none)
 
   split : (b c : Bool) → length (cond b (x ∷ filter p xs) (filter p xs)) ≤ 1 → (b && c || list_any (λ y. p y && r y) xs) ≡ true → (length (filter p xs) ≤ 1 → list_any (λ y. p y && r y) xs ≡ true → list_all (λ y. not (p y) || r y) xs ≡ true) → ((not b || c) && list_all (λ y. not (p y) || r y) xs) ≡ true
-  split true true one there rest = others (alone one)
-  split true false one there rest = both_ways (list_any p xs) (any_less (λ y. p y && r y) p (λ y both. (and_parts (p y) (r y) both).0) xs there) (alone one)
+  split true true one there rest = others (only_one p x xs one)
+  split true false one there rest = both_ways (list_any p xs) (any_less (λ y. p y && r y) p (λ y both. (and_parts (p y) (r y) both).0) xs there) (only_one p x xs one)
   split false c one there rest = rest one there
 
 all_and : (p q : Child → Bool) (xs : List Child) → list_all p xs ≡ true → list_all q xs ≡ true → list_all (λ x. p x && q x) xs ≡ true

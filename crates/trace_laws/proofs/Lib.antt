@@ -18,3 +18,5 @@ pub mod Known
 pub mod Records
 pub mod Spells
 pub mod Runs
+pub mod Stopping
+pub mod Lone

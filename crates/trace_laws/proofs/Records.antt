@@ -55,7 +55,7 @@ start_in_table goal past h = sound_ind goal (λ before. (id : List ℕ) → open
   next _ before may sound rest id is = rest id is
 
 -- an id of a table's entries
-ids_listed : (id : List ℕ) (es : List Entry) → list_any (same_id id) (ids_of es) ≡ list_any (has_id id) es
+pub ids_listed : (id : List ℕ) (es : List Entry) → list_any (same_id id) (ids_of es) ≡ list_any (has_id id) es
 ids_listed id [] = refl
 ids_listed id (e ∷ es) = ap (λ b. same_id id e.id || b) (ids_listed id es)
 

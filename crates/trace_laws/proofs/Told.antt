@@ -15,22 +15,19 @@ use Rattle.init_words.specs.Orders.{same_ask, answers}
 use Rattle.inittab_text.specs.Tables.{has_id, entry_of, act_of, is_distinct}
 use Rattle.init_trace.specs.declared.happenings.Happening.TheVariants.{NewTable, Asked, Birth, NoBirth, Reaped, Still, NoLook, Hit, Miss, Told}
 use Rattle.init_trace.specs.declared.steps.Goal.{Goal}
-use Rattle.init_trace.specs.declared.steps.Step.TheVariants as step
 use Rattle.init_trace.specs.Event.{Event}
 use Rattle.init_trace.specs.Past.{table_of, Child, is_of, is_child, has_child, open_of, undone_of, is_untold, open_orders, is_quiet, newborn, unreaped_children, kept_children, known_children}
 use Rattle.init_trace.specs.Wanted.{starts_now, is_order, is_excluded}
 use Rattle.init_trace.specs.Answered.{answered_of, child_after}
-use Rattle.init_trace.specs.Due.{is_due}
 use Rattle.init_trace.specs.Lawful.{is_placed}
 use Rattle.init_trace.specs.Sound.{may_come, is_sound}
-use Rattle.trace_laws.specs.Tables.{keeps_table}
 use Rattle.init_words.proofs.Same.{same_id-is, same_id-self}
 use Rattle.init_words.proofs.Tests.{both_ways, falsely, or_either, any_filtered, any_less, any_none, find_none}
 use Rattle.trace_laws.proofs.Tests.{is_order-is}
-use Rattle.trace_laws.proofs.Orders.{cleared, undone_is_open, quiet_looks, open_listed, told_same, told_other, reaped_other, told_known, known_kept, kept_before_told}
-use Rattle.trace_laws.proofs.Dues.{MayStop, due_facts}
-use Rattle.trace_laws.proofs.Keeps.{start_undone, look_undone, born_ready, sound_holds, sound_ind, asked_free, free_told, placed_spared, entry_listed}
-use Rattle.trace_laws.proofs.Births.{is_table, sound_step, one_child}
+use Rattle.trace_laws.proofs.Orders.{cleared, undone_is_open, quiet_looks, open_listed, told_same, told_other, reaped_other, told_known}
+use Rattle.trace_laws.proofs.Dues.{MayStop}
+use Rattle.trace_laws.proofs.Keeps.{start_undone, look_undone, sound_holds, sound_ind, asked_free, free_told, placed_spared, entry_listed}
+use Rattle.trace_laws.proofs.Births.{sound_step, one_child}
 
 -- an id with no open Start: its kept children are the known ones
 pub kept_known : (goal : Goal) (past : List Event) → is_sound goal past ≡ true → (id : List ℕ) → is_order Start (open_of id past) ≡ false → filter (is_of id) (kept_children past) ≡ filter (is_of id) (known_children past)
@@ -207,55 +204,12 @@ order_open id ask past = open_listed (same_ask ask) id past ∙ given (open_of i
   given None = refl
   given (Some a) = refl
 
--- where no table came after the first, each open order and each kept child is of an entry of it
-record InTable (past : List Event) : Type 0 where
-  orders : (id : List ℕ) (ask : Ask) → open_of id past ≡ Some ask → list_any (has_id id) (table_of past) ≡ true
-  children : (id : List ℕ) → has_child id (kept_children past) ≡ true → list_any (has_id id) (table_of past) ≡ true
-
+-- a signal is due to a known child; the entry of a birth stands in the table
 pub stop_known : (id : List ℕ) (ask : Ask) (past : List Event) → MayStop id ask past → has_child id (known_children past) ≡ true
 stop_known id ask past may = may.within (is_of id) may.own
-
-asked_in_table : (goal : Goal) (i : List ℕ) (ask : Ask) (past : List Event) → is_due goal (step.Order i ask) past ≡ true → InTable past → list_any (has_id i) (table_of past) ≡ true
-asked_in_table goal i Start past may rest = (due_facts goal past (step.Order i Start) may).run.listed
-asked_in_table goal i Look past may rest = rest.children i (known_kept (is_of i) past (due_facts goal past (step.Order i Look) may).there)
-asked_in_table goal i Term past may rest = rest.children i (known_kept (is_of i) past (stop_known i Term past (due_facts goal past (step.Order i Term) may)))
-asked_in_table goal i Kill past may rest = rest.children i (known_kept (is_of i) past (stop_known i Kill past (due_facts goal past (step.Order i Kill) may)))
-
-orders_keep : (goal : Goal) (happening : Event) (past : List Event) → may_come goal happening past ≡ true → is_table happening ≡ false → InTable past → (id : List ℕ) (ask : Ask) → open_of id (happening ∷ past) ≡ Some ask → list_any (has_id id) (table_of (happening ∷ past)) ≡ true
-orders_keep goal (NewTable table) past may other rest id ask h = absurd (false≢true (sym other))
-orders_keep goal (Asked i given) past may other rest id ask h = at_id (same_id id i) refl h where
-  at_id : (b : Bool) → same_id id i ≡ b → cond b (Some given) (open_of id past) ≡ Some ask → list_any (has_id id) (table_of past) ≡ true
-  at_id true same h = ap (λ x. list_any (has_id x) (table_of past)) (same_id-is id i same) ∙ asked_in_table goal i given past may rest
-  at_id false differ h = rest.orders id ask h
-orders_keep goal (Told i) past may other rest id ask h = cleared (same_id id i) (open_of id past) ask (λ differ is. rest.orders id ask is) h
-orders_keep goal (_) past may other rest id ask h = rest.orders id ask h
 
 pub placed_listed : (id : List ℕ) (past : List Event) → is_placed id past ≡ true → list_any (has_id id) (table_of past) ≡ true
 placed_listed id past h = found (entry_of id (table_of past)) refl h where
   found : (o : Option Entry) → entry_of id (table_of past) ≡ o → option_map_or (λ e. starts_now e past) o false ≡ true → list_any (has_id id) (table_of past) ≡ true
   found None is h = absurd (false≢true h)
   found (Some e) is h = entry_listed id (table_of past) e is
-
-children_keep : (goal : Goal) (happening : Event) (past : List Event) → may_come goal happening past ≡ true → is_table happening ≡ false → is_sound goal past ≡ true → InTable past → (id : List ℕ) → has_child id (kept_children (happening ∷ past)) ≡ true → list_any (has_id id) (table_of (happening ∷ past)) ≡ true
-children_keep goal (NewTable table) past may other sound rest id h = absurd (false≢true (sym other))
-children_keep goal (Birth i n) past may other sound rest id h = or_either (same_id id i) (has_child id (kept_children past)) h (λ same. ap (λ x. list_any (has_id x) (table_of past)) (same_id-is id i same) ∙ placed_listed i past (born_ready goal i n past may (sound_holds goal past sound)).placed) (rest.children id)
-children_keep goal (Told i) past may other sound rest id h = rest.children id (kept_before_told (is_of id) i past h)
-children_keep goal (_) past may other sound rest id h = rest.children id h
-
-keeps_before : (happening next : Event) (past : List Event) → keeps_table (happening ∷ next ∷ past) ≡ true → (is_table happening ≡ false) × (keeps_table (next ∷ past) ≡ true)
-keeps_before (NewTable table) next past h = absurd (false≢true h)
-keeps_before _ next past h = (refl, h)
-
-in_table : (goal : Goal) (past : List Event) → is_sound goal past ≡ true → keeps_table past ≡ true → InTable past
-in_table goal past h = sound_ind goal (λ before. keeps_table before ≡ true → InTable before) (λ table distinct one. record { orders = λ id ask is. absurd (none-some ask is); children = λ id there. absurd (false≢true there) }) next past h where
-  next : (happening : Event) (before : List Event) → may_come goal happening before ≡ true → is_sound goal before ≡ true → (keeps_table before ≡ true → InTable before) → keeps_table (happening ∷ before) ≡ true → InTable (happening ∷ before)
-  next happening [] may sound rest one = absurd (false≢true sound)
-  next happening (x ∷ before) may sound rest one =
-      let parts = keeps_before happening x before one in
-      record { orders = orders_keep goal happening (x ∷ before) may parts.0 (rest parts.1); children = children_keep goal happening (x ∷ before) may parts.0 sound (rest parts.1) }
-
-pub open_in_table : (goal : Goal) (past : List Event) → is_sound goal past ≡ true → keeps_table past ≡ true → (id : List ℕ) (ask : Ask) → open_of id past ≡ Some ask → list_any (has_id id) (table_of past) ≡ true
-open_in_table goal past h one id ask is = (in_table goal past h one).orders id ask is
-
-pub child_in_table : (goal : Goal) (past : List Event) → is_sound goal past ≡ true → keeps_table past ≡ true → (id : List ℕ) → has_child id (kept_children past) ≡ true → list_any (has_id id) (table_of past) ≡ true
-child_in_table goal past h one id there = (in_table goal past h one).children id there

@@ -1,5 +1,4 @@
 pub mod Belonging
 pub mod Moments
 pub mod Stretches
-pub mod Tables
 pub mod Warnings

@@ -6,9 +6,9 @@ use Rattle.supervisor.proofs.running.hear_all.Given as goal
 abbrev pub invariant-loop-rest : goal.invariant-loop-rest
 invariant-loop-rest g l = record {
   bounded : l.number + length l.rest ≤ length l.text + 1;
-  some : SomeRest l.core l.side;
-  so_far : FromScript l.text l.fn.core l.fn.side (g.W.Write.contents l.fn.out) (λ s before.
-      SoFar s l.rest l.number l.core l.side before (g.W.Write.contents l.out));
+  some : SomeRest l.reads l.core l.side;
+  so_far : FromScript l.text l.rereads l.fn.core l.fn.side (g.W.Write.contents l.fn.out) (λ s before.
+      SoFar s l.rest l.number l.reads l.core l.side before (g.W.Write.contents l.out));
 }
 
 abbrev pub decreases-loop-rest : goal.decreases-loop-rest

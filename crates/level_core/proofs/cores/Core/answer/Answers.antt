@@ -1,11 +1,11 @@
 use Rattle.std.proofs.Common.{◌∙◌, rules}
-use Rattle.level_core.proofs.Telling.{answer_taken, fits_told}
+use Rattle.core_state.proofs.Hearing.{answer_taken, fits_told}
 use Rattle.level_core.proofs.cores.Core.answer.Goals as goal
 
 pub returns-clause-taken : goal.returns-clause-taken
-returns-clause-taken g c goal past sound one fits told = rw (c.answer_by_state.ensures.refused ∙ answer_taken goal past sound one c.args.self.now fits c.args.id c.args.answer told) (search rules)
+returns-clause-taken g c goal past sound fits told = rw (c.answer_by_state.ensures.refused ∙ answer_taken goal past c.args.self.now sound fits c.args.id c.args.answer told) (search rules)
 
 pub returns-clause-fits : goal.returns-clause-fits
-returns-clause-fits g c goal past sound one fits told =
-    let state = rw (c.answer_by_state.ensures.refused ∙ answer_taken goal past sound one c.args.self.now fits c.args.id c.args.answer told) at c.answer_by_state.ensures.told in
-    rw state (fits_told goal past sound c.args.self.now fits c.args.id c.args.answer told)
+returns-clause-fits g c goal past sound fits told =
+    let state = rw (c.answer_by_state.ensures.refused ∙ answer_taken goal past c.args.self.now sound fits c.args.id c.args.answer told) at c.answer_by_state.ensures.told in
+    rw state (fits_told goal past c.args.self.now sound fits c.args.id c.args.answer told)

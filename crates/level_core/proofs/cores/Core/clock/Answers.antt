@@ -1,11 +1,5 @@
-use Rattle.std.proofs.Common.{◌≤◌, arith}
-use Rattle.respawn_limit.specs.declared.TheConstants.{CLOCK_LIMIT}
-use Rattle.level_core.proofs.Timely.{timely_later}
+use Rattle.core_state.proofs.Hearing.{fits_clock}
 use Rattle.level_core.proofs.cores.Core.clock.Goals as goal
 
-pub invariant_of-self : goal.invariant_of-self
-invariant_of-self g c =
-    let kept : c.self.inside.time ≤ CLOCK_LIMIT = c.self.invariant.0 in
-    let later : c.self.inside.time ≤ c.max-self-inside.result = omega arith in
-    let capped : c.max-self-inside.result ≤ CLOCK_LIMIT = omega arith in
-    (capped, timely_later c.self.inside.time c.max-self-inside.result later c.self.inside.slots.items c.self.invariant.1)
+pub returns-clause-fits : goal.returns-clause-fits
+returns-clause-fits g c goal past sound fits = rw c.clock_by_state.ensures (fits_clock goal past c.args.self.now sound fits c.args.reading)

@@ -1,5 +1,8 @@
-use Rattle.level_core.proofs.Timely.{timely_left, timely_nudged}
+use Rattle.std.proofs.Common.{refl}
+use Rattle.child_table.specs.Changes.{after_nudge}
+use Rattle.child_table.proofs.Timely.{timely_map}
+use Rattle.child_table.proofs.Ordered.{order_map}
 use Rattle.level_core.proofs.cores.Core.nudge_by_state.Goals as goal
 
 pub invariant_of-self : goal.invariant_of-self
-invariant_of-self g c = (c.self.invariant.0, timely_left c.self.inside.time c.self.inside.slots.len c.deref_mut.result.now c.round_begun.new.slots c.self.inside.slots.items c.self.inside.slots.ok.0 c.deref_mut.ensures.value c.round_begun.auto.slots (rw (c.round_begun.ensures, c.deref_mut.ensures.value) (timely_nudged c.self.inside.time c.self.inside.slots.items c.self.invariant.1)))
+invariant_of-self g c = (c.self.invariant.0, rw c.nudge.ensures (timely_map c.self.inside.time after_nudge (λ slot h. h) c.self.inside.slots c.self.invariant.1), rw c.nudge.ensures (order_map after_nudge (λ s. refl) (λ s. refl) c.self.inside.table c.self.inside.slots c.self.invariant.2))

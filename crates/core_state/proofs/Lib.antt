@@ -1,0 +1,17 @@
+pub mod Acts
+pub mod Allowed
+pub mod Deciding
+pub mod Fitted
+pub mod Heads
+pub mod Hearing
+pub mod Moments
+pub mod Ordering
+pub mod Ranks
+pub mod Reading
+pub mod Recorded
+pub mod Stepping
+pub mod Stops
+pub mod Tables
+pub mod Telling
+pub mod Windows
+pub mod Working

@@ -1,0 +1,35 @@
+ghost use Rattle.std.specs.Prelude.{◌≡◌};
+ghost use Rattle.initd_command.specs.Lines.{first_line, line_at, line_told};
+
+use text_lines::{after_lines, cut};
+
+/// What stands before the first newline.
+pub(crate) fn first_line(text: &[u8]) -> &[u8]
+    ensures { result.now ≡ first_line text.now }
+{
+    match cut(b'\n', text) {
+        Some((line, _)) => line,
+        None => text,
+    }
+}
+
+/// The line of this number, counted from 1.
+pub(crate) fn line_at(number: u64, text: &[u8]) -> &[u8]
+    ensures { result.now ≡ line_at number text.now }
+{
+    match after_lines(number.saturating_sub(1) as usize, text) {
+        Some(rest) => first_line(rest),
+        None => &[],
+    }
+}
+
+/// A script line as it is told: of a table the first word alone.
+pub(crate) fn line_told(line: &[u8]) -> &[u8]
+    ensures { result.now ≡ line_told line.now }
+{
+    if line.starts_with(b"use ") {
+        b"use"
+    } else {
+        line
+    }
+}

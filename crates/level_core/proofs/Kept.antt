@@ -1,0 +1,73 @@
+-- Each call keeps the records timely, and in the order of the table.
+use Rattle.std.proofs.Common.{◌≡◌, refl, sym, subst, ℕ, Bool, true, false, ◌&&◌, List, [], ◌∷◌, map, Option, Some, None, Result, Ok, Err, OnOk}
+use Rattle.init_words.specs.declared.entries.Entry.{Entry}
+use Rattle.init_words.specs.declared.stages.Stage.{Stage}
+use Rattle.child_table.specs.State.{SlotState, new_slot}
+use Rattle.child_table.specs.Changes.{after_enter}
+use Rattle.child_table.specs.Judging.{after_judge}
+use Rattle.child_table.specs.Adopting.{after_adopt}
+use Rattle.child_table.specs.Times.{is_timely, are_timely}
+use Rattle.child_table.specs.Order.{IsInOrder}
+use Rattle.child_table.proofs.Changed.{timely_judge, timely_enter, id-after_judge}
+use Rattle.child_table.proofs.Ordered.{order_map, order_adopt, act-after_judge}
+use Rattle.child_table.proofs.Adopted.{timely_adopt}
+use Rattle.child_table.proofs.Timely.{timely_map}
+use Rattle.level_core.proofs.Called.{slot_called}
+use Rattle.core_state.specs.Steps.{judged_in, called_if, with_called}
+use Rattle.core_state.specs.Steps as core
+use Rattle.core_state.specs.State.{CoreState}
+use Rattle.core_state.specs.Fit.{Fits, OnEachTrace}
+use Rattle.core_state.specs.Decide.{decide}
+use Rattle.core_state.proofs.Allowed.{decide_allowed, decide_holds}
+use Rattle.core_state.proofs.Hearing.{fits_adopt}
+use Rattle.init_trace.specs.declared.steps.Step.TheVariants.{Order, Hold}
+use Rattle.init_words.specs.declared.orders.Ask.{Ask}
+use Rattle.child_table.specs.Lists.{are_distinct, can_ask, has_slot}
+use Rattle.init_words.specs.declared.refusals.Refusal.{Refusal}
+use Rattle.init_trace.specs.declared.happenings.Happening.TheVariants.{NewTable}
+use Rattle.inittab_text.specs.Tables.{has_id, is_distinct}
+use Rattle.std.specs.List.{list_any}
+
+abbrev pub IsKept : ℕ → List Entry → List SlotState → Type 0
+IsKept now table slots = (are_timely now slots ≡ true) × IsInOrder table slots
+
+pub kept_judged : (now : ℕ) (table : List Entry) (stage : Stage) (slots : List SlotState) → IsKept now table slots → IsKept now table (map (after_judge table stage) slots)
+kept_judged now table stage slots kept = (timely_map now (after_judge table stage) (λ slot h. timely_judge now table stage slot h) slots kept.0, order_map (after_judge table stage) (id-after_judge table stage) (act-after_judge table stage) table slots kept.1)
+
+pub kept_entered : (now : ℕ) (table : List Entry) (stage : Stage) (slots : List SlotState) → IsKept now table slots → IsKept now table (map (after_judge table stage) (map after_enter slots))
+kept_entered now table stage slots kept = kept_judged now table stage (map after_enter slots) (timely_map now after_enter (λ slot h. timely_enter now slot h) slots kept.0, order_map after_enter (λ s. refl) (λ s. refl) table slots kept.1)
+
+pub kept_adopted : (now : ℕ) (table : List Entry) (stage : Option Stage) (slots : List SlotState) → are_timely now slots ≡ true → IsKept now table (judged_in stage table (after_adopt table slots))
+kept_adopted now table None slots timely = (timely_adopt now table slots timely, order_adopt table slots)
+kept_adopted now table (Some stage) slots timely = kept_judged now table stage (after_adopt table slots) (timely_adopt now table slots timely, order_adopt table slots)
+
+pub timely_opening : (now : ℕ) (table : List Entry) → are_timely now (map new_slot table) ≡ true
+timely_opening now [] = refl
+timely_opening now (e ∷ es) = timely_opening now es
+
+-- a call changes neither times nor order
+called_timely : (now : ℕ) (b : Bool) (slot : SlotState) → is_timely now slot ≡ true → is_timely now (called_if b slot) ≡ true
+called_timely now true slot h = h
+called_timely now false slot h = h
+
+called_act : (b : Bool) (slot : SlotState) → (called_if b slot).act ≡ slot.act
+called_act true slot = refl
+called_act false slot = refl
+
+pub kept_called : (now : ℕ) (table : List Entry) (named : Entry → Bool) (slots : List SlotState) → IsKept now table slots → IsKept now table (with_called named table slots)
+kept_called now table named slots kept = (timely_map now call (λ slot h. called_timely now (list_any (λ e. has_id slot.id e && named e) table) slot h) slots kept.0, order_map call (λ slot. slot_called (list_any (λ e. has_id slot.id e && named e) table) slot) (λ slot. called_act (list_any (λ e. has_id slot.id e && named e) table) slot) table slots kept.1)
+  where
+    call : SlotState → SlotState
+    call slot = called_if (list_any (λ e. has_id slot.id e && named e) table) slot
+
+-- what was adopted fits
+pub adopted_fits : (result : Result (Unit {0}) Refusal) (table : List Entry) (old new : CoreState) → OnOk result (new ≡ core.after_adopt table old) → OnOk result (is_distinct table ≡ true) → OnOk result (OnEachTrace old (λ goal past. Fits new goal (NewTable table ∷ past)))
+adopted_fits (Ok done) table old new is distinct = λ goal past sound fits. rw is (fits_adopt goal past old sound fits table distinct)
+adopted_fits (Err why) table old new is distinct = tt
+
+-- what was decided on is allowed, by the records behind the core's view
+pub allowed_in : (c v : CoreState) → v ≡ c → IsInOrder v.table v.slots → are_distinct c.slots ≡ true → (id : List ℕ) (ask : Ask) → decide c ≡ Order id ask → can_ask id ask v.time v.slots ≡ true
+allowed_in c v is order distinct id ask decided = subst (λ (x : CoreState). can_ask id ask x.time x.slots ≡ true) (sym is) (decide_allowed c (subst (λ (x : CoreState). IsInOrder x.table x.slots) is order) distinct id ask decided)
+
+pub held_in : (c v : CoreState) → v ≡ c → IsInOrder v.table v.slots → (id : List ℕ) → decide c ≡ Hold id → has_slot id v.slots ≡ true
+held_in c v is order id decided = subst (λ (x : CoreState). has_slot id x.slots ≡ true) (sym is) (decide_holds c (subst (λ (x : CoreState). IsInOrder x.table x.slots) is order) id decided)

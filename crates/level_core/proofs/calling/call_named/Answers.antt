@@ -1,0 +1,18 @@
+use Rattle.std.proofs.Common.{◌<◌, length, sym, ◌∙◌, ap, take, arith}
+use Rattle.core_state.specs.Steps.{is_named, with_called}
+use Rattle.level_core.proofs.Called.{entry_slot, still_slot, one_more, none_called, take_one, none_past}
+use Rattle.level_core.proofs.calling.call_named.Goals as goal
+
+pub loop-place-init : goal.loop-place-init
+loop-place-init g c = none_called (is_named c.args.step.now c.args.stage) c.args.slots.now
+
+pub call_one-requires : goal.call_one-requires
+call_one-requires g c = rw c.loop-place.invariant (still_slot (is_named c.args.step.now c.args.stage) (take c.loop-place.place c.args.table.now) c.in-Some.entry.now.id c.args.slots.now ∙ entry_slot c.args.table.now c.args.slots.now c.loop-place.place c.in-Some.entry.now c.requires (sym c.in-Some.ensures))
+
+pub loop-place-preserved : goal.loop-place-preserved
+loop-place-preserved g c = rw (c.call_one.ensures, c.loop-place.invariant) (one_more (is_named c.args.step.now c.args.stage) c.in-Some.entry.now (take c.loop-place.place c.args.table.now) c.args.slots.now ∙ ap (λ es. with_called (is_named c.args.step.now c.args.stage) es c.args.slots.now) (sym (take_one c.args.table.now c.loop-place.place c.in-Some.entry.now (sym c.in-Some.ensures))))
+
+pub returns-in_default : goal.returns-in_default
+returns-in_default g c =
+    let within : c.loop-place.place < length c.args.table.now = omega arith in
+    none_past c.args.table.now c.loop-place.place within (sym c.in_default.ensures)

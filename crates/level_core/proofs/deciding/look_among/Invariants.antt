@@ -1,6 +1,0 @@
-use Rattle.std.proofs.Common.{◌≡◌, drop}
-use Rattle.level_core.specs.Decide.{look_among}
-use Rattle.level_core.proofs.deciding.look_among.Given as goal
-
-abbrev pub invariant-loop-slot : goal.invariant-loop-slot
-invariant-loop-slot l = look_among l.slots ≡ look_among (drop l.slot-index l.slots)

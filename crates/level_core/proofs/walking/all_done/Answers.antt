@@ -1,0 +1,18 @@
+use Rattle.std.proofs.Common.{sym, ◌∙◌}
+use Rattle.init_words.specs.declared.entries.Entry.{Entry}
+use Rattle.child_table.specs.State.{SlotState}
+use Rattle.core_state.specs.Decide.{is_done_slot}
+use Rattle.level_core.proofs.Pairs.{all_none, all_past, all_fault, all_pass}
+use Rattle.level_core.proofs.walking.all_done.Goals as goal
+
+pub returns-in_default : goal.returns-in_default
+returns-in_default g c = all_none (λ (p : Entry × SlotState). is_done_slot c.args.stage p.0 p.1) c.args.table.now c.args.slots.now c.loop-place.place c.loop-place.invariant (sym c.in_default.ensures)
+
+pub returns-then-not-is_done : goal.returns-then-not-is_done
+returns-then-not-is_done g c = all_fault (λ (p : Entry × SlotState). is_done_slot c.args.stage p.0 p.1) c.args.table.now c.args.slots.now c.loop-place.place c.loop-place.invariant c.in-Some.entry.now c.index-slots-place.result (sym c.in-Some.ensures) c.loop-place-test.true c.index-slots-place.is (sym c.is_done.ensures ∙ c.if-not-is_done.true)
+
+pub loop-place-preserved : goal.loop-place-preserved
+loop-place-preserved g c = all_pass (λ (p : Entry × SlotState). is_done_slot c.args.stage p.0 p.1) c.args.table.now c.args.slots.now c.loop-place.place c.loop-place.invariant c.in-Some.entry.now c.index-slots-place.result (sym c.in-Some.ensures) c.loop-place-test.true c.index-slots-place.is (sym c.is_done.ensures ∙ c.if-not-is_done.false)
+
+pub returns : goal.returns
+returns g c = all_past (λ (p : Entry × SlotState). is_done_slot c.args.stage p.0 p.1) c.args.table.now c.args.slots.now c.loop-place.place c.loop-place.invariant c.loop-place-test.false

@@ -1,0 +1,13 @@
+//! Where the trace of a run goes, as a trait: a log takes the happenings of a run one at a time, until it fails. One
+//! log keeps them in a list; the other writes the text of each.
+#![tactic(auto)]
+
+mod faults;
+mod list_logs;
+mod logs;
+mod stream_logs;
+
+pub use faults::LogFault;
+pub use list_logs::ListLog;
+pub use logs::Log;
+pub use stream_logs::StreamLog;

@@ -1,0 +1,406 @@
+-- The stopping of a child: it is excluded while its signal is open, and its Hits are of a TERM and then of a KILL.
+-- With it: what is so of a child whose birth is not told, what a Told leaves, and that no id has two records.
+use Rattle.std.proofs.Common.{◌≡◌, ◌≤◌, refl, sym, ◌∙◌, ap, inl, inr, ℕ, Bool, true, false, not, ◌&&◌, ◌||◌, cond, List, [], ◌∷◌, ◌++◌, map, filter, find, length, Option, Some, None, is_some, arith}
+use Rattle.std.specs.List.{list_any}
+use Rattle.std.specs.Option.{option_map, option_map_or}
+use Rattle.std.proofs.lemmas.Bool.{false≢true, and_parts, and_from, and_right, or_left, or_right, or_from, not_from_true, not-true}
+use Rattle.std.proofs.lemmas.List.{nil_from_length}
+use Rattle.std.proofs.lemmas.List.Folds.{list_any-append}
+use Rattle.std.proofs.lemmas.Option.{none-some, same_Some}
+use Rattle.init_words.specs.declared.entries.Entry.{Entry}
+use Rattle.init_words.specs.declared.orders.Ask.{Ask}
+use Rattle.init_words.specs.declared.orders.Ask.TheVariants.{Start, Look, Term, Kill}
+use Rattle.init_words.specs.declared.orders.Answer.{Answer}
+use Rattle.init_words.specs.declared.orders.Answer.TheVariants as answer
+use Rattle.init_words.specs.Ids.{same_id}
+use Rattle.init_words.specs.Orders.{same_ask, answers, is_hit}
+use Rattle.inittab_text.specs.Tables.{ids_of, has_id, is_distinct}
+use Rattle.init_trace.specs.declared.happenings.Happening.TheVariants.{NewTable, Enter, Asked, Birth, NoBirth, Reaped, Still, NoLook, Hit, Miss, Told, Nudge}
+use Rattle.init_trace.specs.declared.steps.Goal.{Goal}
+use Rattle.init_trace.specs.declared.steps.Step.TheVariants as step
+use Rattle.init_trace.specs.Event.{Event}
+use Rattle.init_trace.specs.Past.{table_of, stage_of, grace_of, time_of, Child, is_of, has_child, open_of, undone_of, is_untold, is_quiet, newborn, unreaped_children, kept_children, known_children}
+use Rattle.init_trace.specs.Wanted.{is_order, is_excluded}
+use Rattle.init_trace.specs.Answered.{answered_of, child_after}
+use Rattle.init_trace.specs.Spells.{Signal, untold_hits, told_at, is_ripe, stop_by, stop_due, is_missed, spell_hits}
+use Rattle.init_trace.specs.Lawful.{is_placed}
+use Rattle.init_trace.specs.Due.{is_due, left_ids, record_ids, wants_look}
+use Rattle.init_trace.specs.Sound.{may_come, is_sound}
+use Rattle.init_words.proofs.Same.{same_id-is, same_id-self}
+use Rattle.init_words.proofs.Tests.{both_ways, falsely, or_either, not_from, any_less, any_filtered, any_without, any_none, found_any}
+use Rattle.trace_laws.proofs.Tests.{is_order-is}
+use Rattle.trace_laws.proofs.Orders.{cleared, undone_is_open, quiet_looks, told_other, known_kept, same_has}
+use Rattle.trace_laws.proofs.Lone.{only_one}
+use Rattle.trace_laws.proofs.Dues.{is_signal, MayStop, due_facts}
+use Rattle.trace_laws.proofs.Keeps.{start_undone, sound_holds, sound_ind, placed_spared, not_placed, run_placed, start_stays, stop_excluded}
+use Rattle.trace_laws.proofs.Told.{answered_untold, answers_open, same_find, told_child}
+use Rattle.trace_laws.proofs.Known.{known_single}
+use Rattle.trace_laws.proofs.Records.{order_known, ids_listed}
+use Rattle.trace_laws.proofs.Signals.{OneRipe, kill_ripe}
+use Rattle.trace_laws.proofs.Spells.{spell_none, missed_none, spell_still, spell_nudge, spell_enter, spell_table, spell_birth, spell_told, answered_tells}
+
+-- a birth that is not told is of an open Start
+pub born_open : (goal : Goal) (past : List Event) → is_sound goal past ≡ true → (id : List ℕ) (n : ℕ) → answered_of id past ≡ Some (answer.Born n) → open_of id past ≡ Some Start
+born_open goal past sound id n is = read (open_of id past) (answers_open goal past sound id (answer.Born n) is) where
+  read : (o : Option Ask) → option_map_or (answers (answer.Born n)) o false ≡ true → o ≡ Some Start
+  read None h = absurd (false≢true h)
+  read (Some Start) h = refl
+  read (Some Look) h = absurd (false≢true h)
+  read (Some Term) h = absurd (false≢true h)
+  read (Some Kill) h = absurd (false≢true h)
+
+-- while a Start is open, its entry starts in the stage
+pub start_placed : (goal : Goal) (past : List Event) → is_sound goal past ≡ true → (id : List ℕ) → open_of id past ≡ Some Start → is_placed id past ≡ true
+start_placed goal past h = sound_ind goal (λ before. (id : List ℕ) → open_of id before ≡ Some Start → is_placed id before ≡ true) (λ table distinct id is. absurd (none-some Start is)) next past h where
+  next : (happening : Event) (before : List Event) → may_come goal happening before ≡ true → is_sound goal before ≡ true → ((id : List ℕ) → open_of id before ≡ Some Start → is_placed id before ≡ true) → (id : List ℕ) → open_of id (happening ∷ before) ≡ Some Start → is_placed id (happening ∷ before) ≡ true
+  next (NewTable table) before may sound rest id is = absurd (false≢true (quiet_looks id Start before (and_parts (is_quiet before) (is_distinct table) may).0 is))
+  next (Enter stage grace) before may sound rest id is = elim (due_facts goal before (step.Enter stage grace) may) [ inl quiet ↦ absurd (false≢true (quiet_looks id Start before quiet is)) | inr dawn ↦ not_placed id before dawn (rest id is) ]
+  next (Asked i Start) before may sound rest id is = at_id (same_id id i) refl is where
+    at_id : (b : Bool) → same_id id i ≡ b → cond b (Some Start) (open_of id before) ≡ Some Start → is_placed id before ≡ true
+    at_id true same is = ap (λ x. is_placed x before) (same_id-is id i same) ∙ run_placed i before (due_facts goal before (step.Order i Start) may).run (sound_holds goal before sound).distinct
+    at_id false differ is = rest id is
+  next (Asked i ask) before may sound rest id is = rest id (start_stays (same_id id i) ask (open_of id before) refl is)
+  next (Told i) before may sound rest id is = cleared (same_id id i) (open_of id before) Start (λ differ was. rest id was) is
+  next _ before may sound rest id is = rest id is
+
+-- so a child whose birth is not told is not excluded, and has no spell
+pub newborn_spared : (goal : Goal) (past : List Event) → is_sound goal past ≡ true → (id : List ℕ) (n : ℕ) → answered_of id past ≡ Some (answer.Born n) → is_excluded past (newborn id n past) ≡ false
+newborn_spared goal past sound id n is = placed_spared id n past (start_placed goal past sound id (born_open goal past sound id n is))
+
+pub newborn_unhit : (goal : Goal) (past : List Event) → is_sound goal past ≡ true → (id : List ℕ) (n : ℕ) → answered_of id past ≡ Some (answer.Born n) → spell_hits (newborn id n past) past ≡ []
+newborn_unhit goal past sound id n is = spell_none (newborn id n past) past (newborn_spared goal past sound id n is)
+
+pub newborn_unmissed : (goal : Goal) (past : List Event) → is_sound goal past ≡ true → (id : List ℕ) (n : ℕ) → answered_of id past ≡ Some (answer.Born n) → is_missed (newborn id n past) past ≡ false
+newborn_unmissed goal past sound id n is = missed_none (newborn id n past) past (newborn_spared goal past sound id n is)
+
+-- at a quiet point no signal is open
+quiet_signal : {P : Type 0} (id : List ℕ) (ask : Ask) (past : List Event) → is_quiet past ≡ true → open_of id past ≡ Some ask → is_signal ask ≡ true → P
+quiet_signal id ask past quiet is signal = read ask (quiet_looks id ask past quiet is) signal where
+  read : {P : Type 0} (a : Ask) → same_ask Look a ≡ true → is_signal a ≡ true → P
+  read Look look signal = absurd (false≢true signal)
+  read _ look signal = absurd (false≢true look)
+
+-- the known child of an id has the id; where the id has no other, what holds of one holds of it
+found_has : (id : List ℕ) (xs : List Child) (child : Child) → find (is_of id) xs ≡ Some child → has_child id xs ≡ true
+found_has id xs child there = sym (found_any (λ (x : Child). x) (is_of id) xs) ∙ ap (λ o. is_some (option_map (λ (x : Child). x) o)) there
+
+found_own : (id : List ℕ) (xs : List Child) (child : Child) → find (is_of id) xs ≡ Some child → id ≡ child.id
+found_own id [] child there = absurd (none-some child there)
+found_own id (x ∷ xs) child there = split (same_id id x.id) refl there (found_own id xs child) where
+  split : (b : Bool) → same_id id x.id ≡ b → cond b (Some x) (find (is_of id) xs) ≡ Some child → (find (is_of id) xs ≡ Some child → id ≡ child.id) → id ≡ child.id
+  split true same there rest = same_id-is id x.id same ∙ ap (λ (y : Child). y.id) (same_Some x child there)
+  split false differ there rest = rest there
+
+found_holds : (p q : Child → Bool) (xs : List Child) (child : Child) → length (filter p xs) ≤ 1 → find p xs ≡ Some child → list_any (λ x. p x && q x) xs ≡ true → q child ≡ true
+found_holds p q [] child one there any = absurd (none-some child there)
+found_holds p q (x ∷ xs) child one there any = split (p x) one there any (found_holds p q xs child) where
+  split : (b : Bool) → length (cond b (x ∷ filter p xs) (filter p xs)) ≤ 1 → cond b (Some x) (find p xs) ≡ Some child → (b && q x || list_any (λ y. p y && q y) xs) ≡ true → (length (filter p xs) ≤ 1 → find p xs ≡ Some child → list_any (λ y. p y && q y) xs ≡ true → q child ≡ true) → q child ≡ true
+  split true one there any rest = ap q (sym (same_Some x child there)) ∙ or_either (q x) (list_any (λ y. p y && q y) xs) any (λ here. here) (λ more. both_ways (list_any p xs) (any_less (λ y. p y && q y) p (λ y both. (and_parts (p y) (q y) both).0) xs more) (only_one p x xs one))
+  split false one there any rest = rest one there any
+
+-- what holds of the child that a signal is due to holds of the known child of its id
+pub stop_holds : (goal : Goal) (past : List Event) → is_sound goal past ≡ true → (id : List ℕ) (ask : Ask) (may : MayStop id ask past) (q : Child → Bool) → q may.child ≡ true → (child : Child) → find (is_of id) (known_children past) ≡ Some child → q child ≡ true
+stop_holds goal past sound id ask may q holds child there = found_holds (is_of id) q (known_children past) child (known_single goal past sound id) there (may.within (λ x. is_of id x && q x) (and_from (is_of id may.child) (q may.child) may.own holds))
+
+asked_stop : (goal : Goal) (i : List ℕ) (ask : Ask) (past : List Event) → is_due goal (step.Order i ask) past ≡ true → is_signal ask ≡ true → MayStop i ask past
+asked_stop goal i Term past may signal = due_facts goal past (step.Order i Term) may
+asked_stop goal i Kill past may signal = due_facts goal past (step.Order i Kill) may
+asked_stop goal i _ past may signal = absurd (false≢true signal)
+
+-- before the first stage no child is known
+dawn_known : {P : Type 0} (goal : Goal) (past : List Event) → is_sound goal past ≡ true → stage_of past ≡ None → (id : List ℕ) → has_child id (known_children past) ≡ true → P
+dawn_known goal past sound dawn id there = both_ways (list_any (λ (x : Child). true) (kept_children past)) (any_less (is_of id) (λ x. true) (λ x _. refl) (kept_children past) (known_kept (is_of id) past there)) ((sound_holds goal past sound).dawn dawn)
+
+-- a Told of another id leaves the known child of an id
+other_found : (id i : List ℕ) (past : List Event) (o : Option Child) → same_id id i ≡ false → find (is_of id) (known_children (Told i ∷ past)) ≡ o → find (is_of id) (known_children past) ≡ o
+other_found id i past o differ there = sym (same_find (is_of id) (known_children (Told i ∷ past)) (known_children past) (told_other id i (unreaped_children past) (known_children past) differ)) ∙ there
+
+-- while a signal is open, the known child of its id is excluded
+pub signal_excluded : (goal : Goal) (past : List Event) → is_sound goal past ≡ true → (id : List ℕ) (ask : Ask) → open_of id past ≡ Some ask → is_signal ask ≡ true → (child : Child) → find (is_of id) (known_children past) ≡ Some child → is_excluded past child ≡ true
+signal_excluded goal past h = sound_ind goal (λ before. (id : List ℕ) (ask : Ask) → open_of id before ≡ Some ask → is_signal ask ≡ true → (child : Child) → find (is_of id) (known_children before) ≡ Some child → is_excluded before child ≡ true) (λ table distinct id ask is signal child there. absurd (none-some ask is)) next past h where
+  next : (happening : Event) (before : List Event) → may_come goal happening before ≡ true → is_sound goal before ≡ true → ((id : List ℕ) (ask : Ask) → open_of id before ≡ Some ask → is_signal ask ≡ true → (child : Child) → find (is_of id) (known_children before) ≡ Some child → is_excluded before child ≡ true) → (id : List ℕ) (ask : Ask) → open_of id (happening ∷ before) ≡ Some ask → is_signal ask ≡ true → (child : Child) → find (is_of id) (known_children (happening ∷ before)) ≡ Some child → is_excluded (happening ∷ before) child ≡ true
+  next (NewTable table) before may sound rest id ask is signal child there = quiet_signal id ask before (and_parts (is_quiet before) (is_distinct table) may).0 is signal
+  next (Enter stage grace) before may sound rest id ask is signal child there = elim (due_facts goal before (step.Enter stage grace) may) [ inl quiet ↦ quiet_signal id ask before quiet is signal | inr dawn ↦ dawn_known goal before sound dawn id (found_has id (known_children before) child there) ]
+  next (Asked i given) before may sound rest id ask is signal child there = at_id (same_id id i) refl is where
+    order : given ≡ ask → MayStop i given before
+    order same = asked_stop goal i given before may (ap is_signal same ∙ signal)
+
+    at_id : (b : Bool) → same_id id i ≡ b → cond b (Some given) (open_of id before) ≡ Some ask → is_excluded before child ≡ true
+    at_id true same is =
+        let stop : MayStop i given before = order (same_Some given ask is) in
+        stop_holds goal before sound i given stop (is_excluded before) (stop_excluded stop.child given before stop.due) child (ap (λ x. find (is_of x) (known_children before)) (sym (same_id-is id i same)) ∙ there)
+    at_id false differ is = rest id ask is signal child there
+  next (Told i) before may sound rest id ask is signal child there = cleared (same_id id i) (open_of id before) ask (λ differ was. rest id ask was signal child (other_found id i before (Some child) differ there)) is
+  next _ before may sound rest id ask is signal child there = rest id ask is signal child there
+
+-- while a Start is open, its id has no known child
+pub start_childless : (goal : Goal) (past : List Event) → is_sound goal past ≡ true → (id : List ℕ) → open_of id past ≡ Some Start → has_child id (known_children past) ≡ false
+start_childless goal past h = sound_ind goal (λ before. (id : List ℕ) → open_of id before ≡ Some Start → has_child id (known_children before) ≡ false) (λ table distinct id is. absurd (none-some Start is)) next past h where
+  next : (happening : Event) (before : List Event) → may_come goal happening before ≡ true → is_sound goal before ≡ true → ((id : List ℕ) → open_of id before ≡ Some Start → has_child id (known_children before) ≡ false) → (id : List ℕ) → open_of id (happening ∷ before) ≡ Some Start → has_child id (known_children (happening ∷ before)) ≡ false
+  next (Asked i Start) before may sound rest id is = at_id (same_id id i) refl is where
+    at_id : (b : Bool) → same_id id i ≡ b → cond b (Some Start) (open_of id before) ≡ Some Start → has_child id (known_children before) ≡ false
+    at_id true same is = ap (λ x. has_child x (known_children before)) (same_id-is id i same) ∙ falsely (has_child i (known_children before)) (has_child i (kept_children before)) (known_kept (is_of i) before) (due_facts goal before (step.Order i Start) may).run.childless
+    at_id false differ is = rest id is
+  next (Asked i ask) before may sound rest id is = rest id (start_stays (same_id id i) ask (open_of id before) refl is)
+  next (Told i) before may sound rest id is = cleared (same_id id i) (open_of id before) Start (λ differ was. same_has id (known_children (Told i ∷ before)) (known_children before) (told_other id i (unreaped_children before) (known_children before) differ) ∙ rest id was) is
+  next _ before may sound rest id is = rest id is
+
+-- while a birth is not told, its id has no known child, and none is to be looked at
+pub unborn_childless : (goal : Goal) (past : List Event) → is_sound goal past ≡ true → (id : List ℕ) (n : ℕ) → answered_of id past ≡ Some (answer.Born n) → has_child id (known_children past) ≡ false
+unborn_childless goal past sound id n is = start_childless goal past sound id (born_open goal past sound id n is)
+
+abbrev is_born : Answer → Bool
+is_born (answer.Born n) = true
+is_born _ = false
+
+born_stays : (b : Bool) (given : Answer) (o : Option Answer) (n : ℕ) → is_born given ≡ false → cond b (Some given) o ≡ Some (answer.Born n) → o ≡ Some (answer.Born n)
+born_stays true given o n other h = both_ways (is_born given) (ap is_born (same_Some given (answer.Born n) h)) other
+born_stays false given o n other h = h
+
+pub unborn_unlooked : (goal : Goal) (past : List Event) → is_sound goal past ≡ true → (id : List ℕ) (n : ℕ) → answered_of id past ≡ Some (answer.Born n) → wants_look id past ≡ false
+unborn_unlooked goal past h = sound_ind goal (λ before. (id : List ℕ) (n : ℕ) → answered_of id before ≡ Some (answer.Born n) → wants_look id before ≡ false) (λ table distinct id n is. refl) next past h where
+  next : (happening : Event) (before : List Event) → may_come goal happening before ≡ true → is_sound goal before ≡ true → ((id : List ℕ) (n : ℕ) → answered_of id before ≡ Some (answer.Born n) → wants_look id before ≡ false) → (id : List ℕ) (n : ℕ) → answered_of id (happening ∷ before) ≡ Some (answer.Born n) → wants_look id (happening ∷ before) ≡ false
+  next (Birth i m) before may sound rest id n is = at_id (same_id id i) is where
+    at_id : (b : Bool) → cond b (Some (answer.Born m)) (answered_of id before) ≡ Some (answer.Born n) → (not b && wants_look id before) ≡ false
+    at_id true is = refl
+    at_id false is = rest id n is
+  next (NoBirth i) before may sound rest id n is = rest id n (born_stays (same_id id i) answer.NotBorn (answered_of id before) n refl is)
+  next (Reaped i m status) before may sound rest id n is = rest id n (born_stays (same_id id i) (answer.Ended status) (answered_of id before) n refl is)
+  next (Still i) before may sound rest id n is = rest id n (born_stays (same_id id i) answer.Alive (answered_of id before) n refl is)
+  next (NoLook i) before may sound rest id n is = rest id n (born_stays (same_id id i) answer.NoLook (answered_of id before) n refl is)
+  next (Hit i) before may sound rest id n is = rest id n (born_stays (same_id id i) answer.Hit (answered_of id before) n refl is)
+  next (Miss i) before may sound rest id n is = rest id n (born_stays (same_id id i) answer.Miss (answered_of id before) n refl is)
+  next (Told i) before may sound rest id n is = cleared (same_id id i) (answered_of id before) (answer.Born n) (λ differ was. rest id n was) is
+  next (Asked i Look) before may sound rest id n is = and_right (not (same_id id i)) (wants_look id before) (rest id n is)
+  next Nudge before may sound rest id n is = unborn_childless goal before sound id n is
+  next _ before may sound rest id n is = rest id n is
+
+-- an id of the table in force is not among those that left
+pub left_apart : (goal : Goal) (past : List Event) → is_sound goal past ≡ true → (id : List ℕ) → list_any (has_id id) (table_of past) ≡ true → list_any (same_id id) (left_ids past) ≡ false
+left_apart goal past sound id there = apart past there where
+  apart : (before : List Event) → list_any (has_id id) (table_of before) ≡ true → list_any (same_id id) (left_ids before) ≡ false
+  apart [] there = refl
+  apart (NewTable table ∷ before) there = any_without (same_id id) (λ x. not (list_any (has_id x) table)) (λ x same. not_from_true (list_any (has_id x) table) (ap (λ y. list_any (has_id y) table) (sym (same_id-is id x same)) ∙ there)) (ids_of (table_of before) ++ left_ids before)
+  apart (_ ∷ before) there = apart before there
+
+-- no id stands twice
+abbrev pub are_apart : List (List ℕ) → Bool
+are_apart [] = true
+are_apart (id ∷ ids) = not (list_any (same_id id) ids) && are_apart ids
+
+apart_append : (xs ys : List (List ℕ)) → are_apart xs ≡ true → are_apart ys ≡ true → ((id : List ℕ) → list_any (same_id id) xs ≡ true → list_any (same_id id) ys ≡ false) → are_apart (xs ++ ys) ≡ true
+apart_append [] ys first second other = second
+apart_append (x ∷ xs) ys first second other =
+    let parts = and_parts (not (list_any (same_id x) xs)) (are_apart xs) first in
+    and_from (not (list_any (same_id x) (xs ++ ys))) (are_apart (xs ++ ys)) (not_from (list_any (same_id x) (xs ++ ys)) (list_any-append (same_id x) xs ys ∙ or_from (list_any (same_id x) xs) (list_any (same_id x) ys) (not-true (list_any (same_id x) xs) parts.0) (other x (or_left (same_id x x) (list_any (same_id x) xs) (same_id-self x))))) (apart_append xs ys parts.1 second (λ id there. other id (or_right (same_id id x) (list_any (same_id id) xs) there)))
+
+apart_filter : (p : List ℕ → Bool) (xs : List (List ℕ)) → are_apart xs ≡ true → are_apart (filter p xs) ≡ true
+apart_filter p [] h = refl
+apart_filter p (x ∷ xs) h = split (p x) (apart_filter p xs parts.1) where
+  parts : (not (list_any (same_id x) xs) ≡ true) × (are_apart xs ≡ true)
+  parts = and_parts (not (list_any (same_id x) xs)) (are_apart xs) h
+
+  split : (b : Bool) → are_apart (filter p xs) ≡ true → are_apart (cond b (x ∷ filter p xs) (filter p xs)) ≡ true
+  split true rest = and_from (not (list_any (same_id x) (filter p xs))) (are_apart (filter p xs)) (not_from (list_any (same_id x) (filter p xs)) (falsely (list_any (same_id x) (filter p xs)) (list_any (same_id x) xs) (any_filtered (same_id x) p xs) (not-true (list_any (same_id x) xs) parts.0))) rest
+  split false rest = rest
+
+table_apart : (es : List Entry) → is_distinct es ≡ true → are_apart (ids_of es) ≡ true
+table_apart [] h = refl
+table_apart (e ∷ es) h =
+    let parts = and_parts (not (list_any (has_id e.id) es)) (is_distinct es) h in
+    and_from (not (list_any (same_id e.id) (ids_of es))) (are_apart (ids_of es)) (ap not (ids_listed e.id es) ∙ parts.0) (table_apart es parts.1)
+
+-- ids of the table in force, and then some of those that left it
+records_apart : (goal : Goal) (past : List Event) → is_sound goal past ≡ true → (ids : List (List ℕ)) → are_apart ids ≡ true → ((id : List ℕ) → list_any (same_id id) ids ≡ true → list_any (same_id id) (left_ids past) ≡ true) → are_apart (ids_of (table_of past) ++ ids) ≡ true
+records_apart goal past sound ids apart left = apart_append (ids_of (table_of past)) ids (table_apart (table_of past) (sound_holds goal past sound).distinct) apart (λ id there. falsely (list_any (same_id id) ids) (list_any (same_id id) (left_ids past)) (left id) (left_apart goal past sound id (sym (ids_listed id (table_of past)) ∙ there)))
+
+-- no id left twice
+pub left_distinct : (goal : Goal) (past : List Event) → is_sound goal past ≡ true → are_apart (left_ids past) ≡ true
+left_distinct goal past h = sound_ind goal (λ before. are_apart (left_ids before) ≡ true) (λ table distinct. refl) next past h where
+  next : (happening : Event) (before : List Event) → may_come goal happening before ≡ true → is_sound goal before ≡ true → are_apart (left_ids before) ≡ true → are_apart (left_ids (happening ∷ before)) ≡ true
+  next (NewTable table) before may sound rest = apart_filter (λ id. not (list_any (has_id id) table)) (ids_of (table_of before) ++ left_ids before) (records_apart goal before sound (left_ids before) rest (λ id there. there))
+  next _ before may sound rest = rest
+
+-- no id has two records
+pub ids_distinct : (goal : Goal) (past : List Event) → is_sound goal past ≡ true → are_apart (record_ids past) ≡ true
+ids_distinct goal past sound = records_apart goal past sound (filter kept (left_ids past)) (apart_filter kept (left_ids past) (left_distinct goal past sound)) (λ id. any_filtered (same_id id) kept (left_ids past)) where
+  kept : List ℕ → Bool
+  kept id = has_child id (known_children past)
+
+-- whether an id has a known child after an answer, by whether it had one before
+abbrev pub has_after : Answer → Bool → Bool
+has_after (answer.Born n) before = true
+has_after (answer.Ended status) before = false
+has_after _ before = before
+
+has_found : (id : List ℕ) (xs : List Child) → has_child id xs ≡ is_some (find (is_of id) xs)
+has_found id [] = refl
+has_found id (x ∷ xs) = split (is_of id x) (has_found id xs) where
+  split : (b : Bool) → has_child id xs ≡ is_some (find (is_of id) xs) → (b || has_child id xs) ≡ is_some (cond b (Some x) (find (is_of id) xs))
+  split true same = refl
+  split false same = same
+
+-- which ids have a known child after a Told
+pub told_leaves : (goal : Goal) (past : List Event) → is_sound goal past ≡ true → (id : List ℕ) (given : Answer) → answered_of id past ≡ Some given → has_child id (known_children (Told id ∷ past)) ≡ has_after given (has_child id (known_children past))
+told_leaves goal past sound id given is = has_found id (known_children (Told id ∷ past)) ∙ ap is_some (told_child goal past sound id given is) ∙ after given where
+  after : (x : Answer) → is_some (child_after id past x (find (is_of id) (known_children past))) ≡ has_after x (has_child id (known_children past))
+  after (answer.Born n) = refl
+  after (answer.Ended status) = refl
+  after _ = sym (has_found id (known_children past))
+
+-- an answer to a Look or a signal is of an id with a known child
+pub answered_known : (goal : Goal) (past : List Event) → is_sound goal past ≡ true → (id : List ℕ) (given : Answer) → answered_of id past ≡ Some given → answers given Start ≡ false → has_child id (known_children past) ≡ true
+answered_known goal past sound id given is other = read (open_of id past) refl (answers_open goal past sound id given is) where
+  read : (o : Option Ask) → open_of id past ≡ o → option_map_or (answers given) o false ≡ true → has_child id (known_children past) ≡ true
+  read None order h = absurd (false≢true h)
+  read (Some Start) order h = both_ways (answers given Start) h other
+  read (Some Look) order h = order_known goal past sound id Look order refl
+  read (Some Term) order h = order_known goal past sound id Term order refl
+  read (Some Kill) order h = order_known goal past sound id Kill order refl
+
+-- one Hit, of a TERM
+abbrev pub is_one_term : List Signal → Bool
+is_one_term (signal ∷ []) = is_order Term signal.order
+is_one_term _ = false
+
+-- no Hit
+abbrev pub are_none : List Signal → Bool
+are_none [] = true
+are_none _ = false
+
+-- no Hit, one of a TERM, or one of a KILL after one of a TERM
+abbrev pub hits_are : List Signal → Bool
+hits_are [] = true
+hits_are (signal ∷ []) = is_order Term signal.order
+hits_are (signal ∷ first ∷ []) = is_order Kill signal.order && is_order Term first.order
+hits_are _ = false
+
+-- the Hits that fit the open order: none at a TERM, one of a TERM at a KILL
+abbrev pub hits_fit : Option Ask → List Signal → Bool
+hits_fit (Some Term) hits = are_none hits
+hits_fit (Some Kill) hits = is_one_term hits
+hits_fit _ hits = hits_are hits
+
+fit_are : (o : Option Ask) (hits : List Signal) → hits_fit o hits ≡ true → hits_are hits ≡ true
+fit_are None hits h = h
+fit_are (Some Start) hits h = h
+fit_are (Some Look) hits h = h
+fit_are (Some Term) [] h = refl
+fit_are (Some Term) (signal ∷ more) h = absurd (false≢true h)
+fit_are (Some Kill) [] h = refl
+fit_are (Some Kill) (signal ∷ []) h = h
+fit_are (Some Kill) (signal ∷ first ∷ more) h = absurd (false≢true h)
+
+quiet_fit : (id : List ℕ) (past : List Event) (hits : List Signal) → is_quiet past ≡ true → hits_are hits ≡ true → hits_fit (open_of id past) hits ≡ true
+quiet_fit id past hits quiet are = read (open_of id past) refl where
+  read : (o : Option Ask) → open_of id past ≡ o → hits_fit o hits ≡ true
+  read None is = are
+  read (Some Start) is = are
+  read (Some Look) is = are
+  read (Some Term) is = quiet_signal id Term past quiet is refl
+  read (Some Kill) is = quiet_signal id Kill past quiet is refl
+
+cut_are : (b : Bool) (hits : List Signal) → hits_are hits ≡ true → hits_are (cond b hits []) ≡ true
+cut_are true hits are = are
+cut_are false hits are = refl
+
+-- a TERM is due after none, a KILL after one of a TERM
+pub term_first : (child : Child) (past : List Event) → stop_due child past ≡ Some Term → are_none (spell_hits child past) ≡ true
+term_first child past h = due (is_excluded past child && not (is_missed child past)) (grace_of past) (time_of past) (spell_hits child past) h where
+  due : (b : Bool) (grace now : ℕ) (hits : List Signal) → cond b (stop_by grace now hits) None ≡ Some Term → are_none hits ≡ true
+  due false grace now hits h = absurd (none-some Term h)
+  due true grace now [] h = refl
+  due true grace now (signal ∷ []) h = over (is_ripe grace now signal) h where
+    over : {P : Type 0} (b : Bool) → cond b (Some Kill) None ≡ Some Term → P
+    over true h = absurd (false≢true (ap (same_ask Term) (same_Some Kill Term h)))
+    over false h = absurd (none-some Term h)
+  due true grace now (signal ∷ more ∷ rest) h = absurd (none-some Term h)
+
+pub kill_second : (child : Child) (past : List Event) → stop_due child past ≡ Some Kill → is_one_term (spell_hits child past) ≡ true
+kill_second child past h = ap is_one_term one.only ∙ (and_parts (is_order Term one.signal.order) _ one.ripe).0 where
+  one : OneRipe (grace_of past) (time_of past) (spell_hits child past)
+  one = kill_ripe child past h
+
+asked_fit : (goal : Goal) (i : List ℕ) (given : Ask) (past : List Event) → is_due goal (step.Order i given) past ≡ true → is_sound goal past ≡ true → (child : Child) → find (is_of i) (known_children past) ≡ Some child → hits_are (spell_hits child past) ≡ true → hits_fit (Some given) (spell_hits child past) ≡ true
+asked_fit goal i Start past may sound child there are = are
+asked_fit goal i Look past may sound child there are = are
+asked_fit goal i Term past may sound child there are =
+    let stop : MayStop i Term past = due_facts goal past (step.Order i Term) may in
+    stop_holds goal past sound i Term stop (λ x. are_none (spell_hits x past)) (term_first stop.child past stop.due) child there
+asked_fit goal i Kill past may sound child there are =
+    let stop : MayStop i Kill past = due_facts goal past (step.Order i Kill) may in
+    stop_holds goal past sound i Kill stop (λ x. is_one_term (spell_hits x past)) (kill_second stop.child past stop.due) child there
+
+-- only a signal is answered by a Hit; what fits the open order and the Hit that answers it are as said
+hit_signal : (given : Answer) (o : Option Ask) → option_map_or (answers given) o false ≡ true → is_hit given ≡ true → option_map_or is_signal o false ≡ true
+hit_signal answer.Hit None h hit = h
+hit_signal answer.Hit (Some Start) h hit = h
+hit_signal answer.Hit (Some Look) h hit = h
+hit_signal answer.Hit (Some Term) h hit = refl
+hit_signal answer.Hit (Some Kill) h hit = refl
+hit_signal _ o h hit = absurd (false≢true hit)
+
+told_fit : (b hit : Bool) (now : ℕ) (o : Option Ask) (hits : List Signal) → (hit ≡ true → option_map_or is_signal o false ≡ true) → hits_fit o hits ≡ true → hits_are (cond b (map (told_at now) (cond hit (o ∷ []) []) ++ hits) hits) ≡ true
+told_fit false hit now o hits signal fit = fit_are o hits fit
+told_fit true false now o hits signal fit = fit_are o hits fit
+told_fit true true now None hits signal fit = absurd (false≢true (signal refl))
+told_fit true true now (Some Start) hits signal fit = absurd (false≢true (signal refl))
+told_fit true true now (Some Look) hits signal fit = absurd (false≢true (signal refl))
+told_fit true true now (Some Term) [] signal fit = refl
+told_fit true true now (Some Term) (first ∷ more) signal fit = absurd (false≢true fit)
+told_fit true true now (Some Kill) [] signal fit = absurd (false≢true fit)
+told_fit true true now (Some Kill) (first ∷ []) signal fit = fit
+told_fit true true now (Some Kill) (first ∷ second ∷ more) signal fit = absurd (false≢true fit)
+
+told_hits : (goal : Goal) (past : List Event) → is_sound goal past ≡ true → (id : List ℕ) (given : Answer) → answered_of id past ≡ Some given → ((child : Child) → find (is_of id) (known_children past) ≡ Some child → hits_fit (open_of id past) (spell_hits child past) ≡ true) → (child : Child) → find (is_of id) (known_children (Told id ∷ past)) ≡ Some child → hits_are (spell_hits child (Told id ∷ past)) ≡ true
+told_hits goal past sound id given is rest child there = after given is (sym (told_child goal past sound id given is) ∙ there) where
+  stays : (x : Answer) → answered_of id past ≡ Some x → find (is_of id) (known_children past) ≡ Some child → hits_are (spell_hits child (Told id ∷ past)) ≡ true
+  stays x is was = ap hits_are (spell_told child id past ∙ ap (λ hits. cond (same_id child.id id && is_excluded past child) (map (told_at (time_of past)) hits ++ spell_hits child past) (spell_hits child past)) untold) ∙ told_fit (same_id child.id id && is_excluded past child) (is_hit x) (time_of past) (open_of id past) (spell_hits child past) (hit_signal x (open_of id past) (answers_open goal past sound id x is)) (rest child was) where
+    untold : untold_hits child.id past ≡ cond (is_hit x) (open_of id past ∷ []) []
+    untold = ap (λ y. untold_hits y past) (sym (found_own id (known_children past) child was)) ∙ (answered_tells goal past sound id x is).hits
+
+  after : (x : Answer) → answered_of id past ≡ Some x → child_after id past x (find (is_of id) (known_children past)) ≡ Some child → hits_are (spell_hits child (Told id ∷ past)) ≡ true
+  after (answer.Born n) is here = ap (λ x. hits_are (spell_hits x (Told id ∷ past))) (sym (same_Some (newborn id n past) child here)) ∙ ap hits_are (spell_none (newborn id n past) (Told id ∷ past) (newborn_spared goal past sound id n is))
+  after (answer.Ended status) is here = absurd (none-some child here)
+  after answer.NotBorn is here = stays answer.NotBorn is here
+  after answer.Alive is here = stays answer.Alive is here
+  after answer.NoLook is here = stays answer.NoLook is here
+  after answer.Hit is here = stays answer.Hit is here
+  after answer.Miss is here = stays answer.Miss is here
+
+-- the Hits told in the spell of a known child fit the open order of its id
+pub hits_fitting : (goal : Goal) (past : List Event) → is_sound goal past ≡ true → (id : List ℕ) (child : Child) → find (is_of id) (known_children past) ≡ Some child → hits_fit (open_of id past) (spell_hits child past) ≡ true
+hits_fitting goal past h = sound_ind goal (λ before. (id : List ℕ) (child : Child) → find (is_of id) (known_children before) ≡ Some child → hits_fit (open_of id before) (spell_hits child before) ≡ true) (λ table distinct id child there. absurd (none-some child there)) next past h where
+  next : (happening : Event) (before : List Event) → may_come goal happening before ≡ true → is_sound goal before ≡ true → ((id : List ℕ) (child : Child) → find (is_of id) (known_children before) ≡ Some child → hits_fit (open_of id before) (spell_hits child before) ≡ true) → (id : List ℕ) (child : Child) → find (is_of id) (known_children (happening ∷ before)) ≡ Some child → hits_fit (open_of id (happening ∷ before)) (spell_hits child (happening ∷ before)) ≡ true
+  next (NewTable table) before may sound rest id child there = quiet_fit id before (spell_hits child (NewTable table ∷ before)) (and_parts (is_quiet before) (is_distinct table) may).0 (ap hits_are (spell_table child table before) ∙ cut_are (is_excluded (NewTable table ∷ before) child) (spell_hits child before) (fit_are (open_of id before) (spell_hits child before) (rest id child there)))
+  next (Enter stage grace) before may sound rest id child there = elim (due_facts goal before (step.Enter stage grace) may) [ inl quiet ↦ quiet_fit id before (spell_hits child (Enter stage grace ∷ before)) quiet (ap hits_are (spell_enter child stage grace before) ∙ cut_are (is_excluded (Enter stage grace ∷ before) child) (spell_hits child before) (fit_are (open_of id before) (spell_hits child before) (rest id child there))) | inr dawn ↦ dawn_known goal before sound dawn id (found_has id (known_children before) child there) ]
+  next (Asked i given) before may sound rest id child there = ap (hits_fit (open_of id (Asked i given ∷ before))) (spell_still child (Asked i given) before refl) ∙ at_id (same_id id i) refl where
+    at_id : (b : Bool) → same_id id i ≡ b → hits_fit (cond b (Some given) (open_of id before)) (spell_hits child before) ≡ true
+    at_id true same = asked_fit goal i given before may sound child (ap (λ x. find (is_of x) (known_children before)) (sym (same_id-is id i same)) ∙ there) (fit_are (open_of id before) (spell_hits child before) (rest id child there))
+    at_id false differ = rest id child there
+  next (Birth i n) before may sound rest id child there = ap (hits_fit (open_of id before)) (spell_birth child i n before) ∙ at_id (same_id child.id i) refl where
+    started : open_of i before ≡ Some Start
+    started = undone_is_open i Start before (is_order-is Start (undone_of i before) (start_undone goal i n before may))
+
+    at_id : (b : Bool) → same_id child.id i ≡ b → hits_fit (open_of id before) (cond b [] (spell_hits child before)) ≡ true
+    at_id true same = both_ways (has_child i (known_children before)) (ap (λ x. has_child x (known_children before)) (sym (found_own id (known_children before) child there ∙ same_id-is child.id i same)) ∙ found_has id (known_children before) child there) (start_childless goal before sound i started)
+    at_id false differ = rest id child there
+  next (Told i) before may sound rest id child there = at_id (same_id id i) refl where
+    own : id ≡ i → (o : Option Answer) → answered_of id before ≡ o → is_some o ≡ true → hits_are (spell_hits child (Told i ∷ before)) ≡ true
+    own same None is h = absurd (false≢true h)
+    own same (Some given) is h = ap (λ x. hits_are (spell_hits child (Told x ∷ before))) (sym same) ∙ told_hits goal before sound id given is (rest id) child (ap (λ x. find (is_of id) (known_children (Told x ∷ before))) same ∙ there)
+
+    at_id : (b : Bool) → same_id id i ≡ b → hits_fit (cond b None (open_of id before)) (spell_hits child (Told i ∷ before)) ≡ true
+    at_id true same =
+        let one : id ≡ i = same_id-is id i same in
+        own one (answered_of id before) refl (answered_untold id before ∙ ap (λ x. is_untold x before) one ∙ may)
+    at_id false differ =
+        let was : find (is_of id) (known_children before) ≡ Some child = other_found id i before (Some child) differ there in
+        let apart : same_id child.id i ≡ false = ap (λ x. same_id x i) (sym (found_own id (known_children before) child was)) ∙ differ in
+        ap (hits_fit (open_of id before)) (spell_told child i before ∙ ap (λ b. cond (b && is_excluded before child) (map (told_at (time_of before)) (untold_hits child.id before) ++ spell_hits child before) (spell_hits child before)) apart) ∙ rest id child was
+  next Nudge before may sound rest id child there = ap (hits_fit (open_of id before)) (spell_nudge child before) ∙ rest id child there
+  next happening before may sound rest id child there = ap (hits_fit (open_of id before)) (spell_still child happening before refl) ∙ rest id child there
+
+-- so they are none, one of a TERM, or one of a KILL after one of a TERM
+pub hits_shape : (goal : Goal) (past : List Event) → is_sound goal past ≡ true → (id : List ℕ) (child : Child) → find (is_of id) (known_children past) ≡ Some child → hits_are (spell_hits child past) ≡ true
+hits_shape goal past sound id child there = fit_are (open_of id past) (spell_hits child past) (hits_fitting goal past sound id child there)
