@@ -24,8 +24,11 @@ returns-in-Err g c =
     let s = scenario c.args.level c.args.inittab.now c.args.script.now in (
       stopped c.args.script.now c.in-Err.fault,
       c.report_fault-in-Err.ensures.status,
-      (refl, ends_kept s c.in-Err.fault (g.W.Write.contents c.args.out.now) (g.W.Write.contents c.simulate-ended.new.out) (g.W.Write.contents c.flush.new.self)
-          c.in-Err.ensures.ended c.flush.ensures.bytes),
+      (
+        refl,
+        ends_kept s c.in-Err.fault (g.W.Write.contents c.args.out.now) (g.W.Write.contents c.simulate-ended.new.out) (g.W.Write.contents c.flush.new.self)
+            c.in-Err.ensures.ended c.flush.ensures.bytes,
+      ),
       c.report_fault-in-Err.ensures.reported,
     )
 

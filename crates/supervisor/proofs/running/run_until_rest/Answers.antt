@@ -11,9 +11,14 @@ use Rattle.supervisor.proofs.running.run_until_rest.Goals as goal
 pub returns-in_default-clause-ok : goal.returns-in_default-clause-ok
 returns-in_default-clause-ok g c goal past before =
     let (next, more, moment, goes, written) = c.steps.invariant.all goal past before in
-    let sound = run_sound goal next moment.runs in
-    (next, more, at_rest goal next c.next-step.result c.is_reread-rereads.result c.steps.core c.next-step.new.self c.steps.side moment
-        (c.next-step.ensures.due goal next sound moment.fits) c.in_default.ensures.none c.is_reread-rereads.ensures (c.next-step.ensures.fits goal next sound moment.fits), goes, written)
+    let sound = run_sound goal next moment.runs in (
+      next,
+      more,
+      at_rest goal next c.next-step.result c.is_reread-rereads.result c.steps.core c.next-step.new.self c.steps.side moment
+          (c.next-step.ensures.due goal next sound moment.fits) c.in_default.ensures.none c.is_reread-rereads.ensures (c.next-step.ensures.fits goal next sound moment.fits),
+      goes,
+      written,
+    )
 
 -- a step was not written, or not whole
 pub returns-in_err-write_happening-clause-err : goal.returns-in_err-write_happening-clause-err
