@@ -1,0 +1,171 @@
+-- The core fits the trace with what each call comes to, where that was possible.
+use Rattle.std.proofs.Common.{◌≡◌, refl, sym, ◌∙◌, ap, subst, ℕ, Bool, true, false, ◌||◌, cond, List, [], ◌∷◌, Option, Some, None, Result, Ok, Err}
+use Rattle.std.specs.List.{list_any}
+use Rattle.std.specs.Option.{option_map_or}
+use Rattle.std.specs.Result.{OnOk, OnErr}
+use Rattle.std.proofs.lemmas.Bool.{false≢true, and_from}
+use Rattle.init_words.specs.declared.entries.Entry.{Entry}
+use Rattle.init_words.specs.declared.orders.Answer.{Answer}
+use Rattle.init_words.specs.declared.orders.Answer.TheVariants as answer
+use Rattle.init_words.specs.declared.orders.Ask.{Ask}
+use Rattle.init_words.specs.declared.refusals.Refusal.{Refusal}
+use Rattle.init_words.specs.declared.refusals.Refusal.TheVariants.{WrongAnswer}
+use Rattle.init_words.specs.Ids.{same_id}
+use Rattle.init_words.specs.Orders.{answers}
+use Rattle.init_words.proofs.Same.{same_id-self}
+use Rattle.inittab_text.specs.Tables.{is_distinct}
+use Rattle.init_trace.specs.declared.happenings.Happening.TheVariants as past
+use Rattle.init_trace.specs.declared.steps.Goal.{Goal}
+use Rattle.init_trace.specs.declared.steps.Step.{Step}
+use Rattle.init_trace.specs.declared.steps.Step.TheVariants as step
+use Rattle.init_trace.specs.Event.{Event}
+use Rattle.init_trace.specs.Past.{open_of, is_quiet}
+use Rattle.init_trace.specs.Answered.{answered_of}
+use Rattle.init_trace.specs.Due.{due, first, record_ids}
+use Rattle.init_trace.specs.Sound.{is_sound, may_come}
+use Rattle.trace_laws.proofs.Records.{open_in_records}
+use Rattle.trace_laws.proofs.Runs.{first_due}
+use Rattle.child_table.specs.Lists as lists
+use Rattle.core_state.specs.State.{CoreState}
+use Rattle.core_state.specs.Steps.{after_told}
+use Rattle.core_state.specs.Fit.{Fits, OnEachTrace, with_step, records_of}
+use Rattle.core_state.proofs.Acts.{found_record, no_record}
+use Rattle.core_state.proofs.Fitted.{fit_records}
+use Rattle.core_state.proofs.Hearing.{fits_act, fits_told}
+use Rattle.core_state.proofs.Reading.{quiet_same}
+use Rattle.run_log.specs.Logs.{LogState}
+use Rattle.host_trace.specs.Point.{last_birth, acted, is_asked_for, answered}
+use Rattle.host_trace.specs.Leads.{is_own, is_allowed, Took, Gave, Heard, Hears}
+use Rattle.host_trace.proofs.Leading.{allowed_rest, allowed_first}
+
+-- a trace stays sound with what may come
+pub sound_more : (goal : Goal) (happening : Event) (so_far : List Event) → may_come goal happening so_far ≡ true → is_sound goal so_far ≡ true → is_sound goal (happening ∷ so_far) ≡ true
+sound_more goal (past.NewTable table) [] may sound = absurd (false≢true sound)
+sound_more goal (past.NewTable table) (before ∷ so_far) may sound = and_from (may_come goal (past.NewTable table) (before ∷ so_far)) (is_sound goal (before ∷ so_far)) may sound
+sound_more goal happening so_far may sound = and_from (may_come goal happening so_far) (is_sound goal so_far) may sound
+
+-- what is not init's own and was possible may come
+may_met : (goal : Goal) (happening : Event) (so_far : List Event) → is_own happening ≡ false → is_allowed goal (happening ∷ so_far) ≡ true → may_come goal happening so_far ≡ true
+may_met goal happening so_far other allowed = ap (λ b. b || may_come goal happening so_far) (sym other) ∙ allowed_first goal happening so_far allowed
+
+pub sound_met : (goal : Goal) (happening : Event) (so_far : List Event) → is_own happening ≡ false → is_allowed goal (happening ∷ so_far) ≡ true → is_sound goal so_far ≡ true → is_sound goal (happening ∷ so_far) ≡ true
+sound_met goal happening so_far other allowed sound = sound_more goal happening so_far (may_met goal happening so_far other allowed) sound
+
+-- a happening that is not init's own: an act, a reading of the clock, a request, a round, that inittab was not read
+pub Hears-edge : (fitted fit : Goal → List Event → Type 0) (old new : LogState) (happening : Event) → is_own happening ≡ false → ((goal : Goal) (so_far : List Event) → is_sound goal so_far ≡ true → fitted goal so_far → is_sound goal (happening ∷ so_far) ≡ true → fit goal (happening ∷ so_far)) → ((so_far : List Event) → Took old new so_far (happening ∷ so_far)) → Hears fitted fit old new (λ so_far. happening ∷ so_far)
+Hears-edge fitted fit old new happening other fits took goal so_far sound before allowed =
+    let more : is_sound goal (happening ∷ so_far) ≡ true = sound_met goal happening so_far other allowed sound in
+    record { sound = more; fits = fits goal so_far sound before more; log = took so_far }
+
+-- the same where the core says so itself
+pub Hears-told : (c new : CoreState) (l₀ l₁ : LogState) (happening : Event) → is_own happening ≡ false → OnEachTrace c (λ goal so_far. Fits new goal (happening ∷ so_far)) → ((so_far : List Event) → Took l₀ l₁ so_far (happening ∷ so_far)) → Hears (Fits c) (Fits new) l₀ l₁ (λ so_far. happening ∷ so_far)
+Hears-told c new l₀ l₁ happening other fits took = Hears-edge (Fits c) (Fits new) l₀ l₁ happening other (λ goal so_far sound before more. fits goal so_far sound before) took
+
+-- a step that init gave: it was due, so the trace with its happening is sound
+pub step_sound : (goal : Goal) (so_far : List Event) (made : Step) → first (due goal so_far) ≡ made → is_sound goal so_far ≡ true → is_sound goal (with_step made so_far) ≡ true
+step_sound goal so_far (step.Enter stage grace) is sound = sound_more goal (past.Enter stage grace) so_far (first_due goal so_far (step.Enter stage grace) is refl) sound
+step_sound goal so_far (step.Call letter) is sound = sound_more goal (past.Call letter) so_far (first_due goal so_far (step.Call letter) is refl) sound
+step_sound goal so_far (step.Power kind) is sound = sound_more goal (past.Power kind) so_far (first_due goal so_far (step.Power kind) is refl) sound
+step_sound goal so_far (step.Order id ask) is sound = sound_more goal (past.Asked id ask) so_far (first_due goal so_far (step.Order id ask) is refl) sound
+step_sound goal so_far (step.Hold id) is sound = sound_more goal (past.Hold id) so_far (first_due goal so_far (step.Hold id) is refl) sound
+step_sound goal so_far (step.Settle level) is sound = sound_more goal (past.Settle level) so_far (first_due goal so_far (step.Settle level) is refl) sound
+step_sound goal so_far step.Reread is sound = sound
+step_sound goal so_far step.Reexec is sound = sound
+step_sound goal so_far step.Idle is sound = sound
+
+pub Hears-step : (c : CoreState) (l₀ l₁ : LogState) (made : Step) → ((so_far : List Event) → Took l₀ l₁ so_far (with_step made so_far)) → Hears (Gave (Fits c) made) (Fits c) l₀ l₁ (with_step made)
+Hears-step c l₀ l₁ made took goal so_far sound gave allowed = record { sound = step_sound goal so_far made gave.0 sound; fits = gave.1; log = took so_far }
+
+-- ---- answers
+
+-- the core has the order of an id that the trace has
+order_same : (goal : Goal) (so_far : List Event) (c : CoreState) → is_sound goal so_far ≡ true → Fits c goal so_far → (id : List ℕ) → lists.order_in id c.slots ≡ open_of id so_far
+order_same goal so_far c sound fits id = ap (lists.order_in id) (fit_records c goal so_far fits) ∙ by (list_any (same_id id) (record_ids so_far)) refl
+  where
+    by : (b : Bool) → list_any (same_id id) (record_ids so_far) ≡ b → lists.order_in id (records_of so_far) ≡ open_of id so_far
+    by true there = ap lists.order_of (found_record so_far id (record_ids so_far) there)
+    by false none = ap lists.order_of (no_record so_far id (record_ids so_far) none) ∙ sym (unopened (open_of id so_far) refl)
+      where
+        unopened : (o : Option Ask) → open_of id so_far ≡ o → open_of id so_far ≡ None
+        unopened None is = is
+        unopened (Some ask) is = absurd (false≢true (sym none ∙ open_in_records goal so_far sound id ask is))
+
+-- the core takes exactly the answers that were asked for
+abbrev taken : Result (Unit {0}) Refusal
+taken = Ok tt
+
+abbrev verdict : Bool → Result (Unit {0}) Refusal
+verdict b = cond b taken (Err WrongAnswer)
+
+taken_asked : (o : Option Ask) (given : Answer) → taken ≡ lists.refusal_of o given → option_map_or (answers given) o false ≡ true
+taken_asked None given h = cc
+taken_asked (Some ask) given h = by (answers given ask) h
+  where
+    by : (b : Bool) → taken ≡ verdict b → b ≡ true
+    by true h = refl
+    by false h = cc
+
+refused_unasked : (o : Option Ask) (given : Answer) (why : Refusal) → Err why ≡ lists.refusal_of o given → option_map_or (answers given) o false ≡ false
+refused_unasked None given why h = refl
+refused_unasked (Some ask) given why h = by (answers given ask) h
+  where
+    by : (b : Bool) → Err why ≡ verdict b → b ≡ false
+    by true h = cc
+    by false h = refl
+
+-- the act of an answer: the trace with it is sound, the core fits it, and the answer is under way
+record Acted (goal : Goal) (c : CoreState) (id : List ℕ) (given : Answer) (now : List Event) : Type 0 where
+  sound : is_sound goal now ≡ true
+  fits : Fits c goal now
+  under_way : answered_of id now ≡ Some given
+
+acted_by : (goal : Goal) (c : CoreState) (so_far : List Event) → is_sound goal so_far ≡ true → Fits c goal so_far → (id : List ℕ) (given : Answer) → is_allowed goal (acted id given so_far) ≡ true → Acted goal c id given (acted id given so_far)
+acted_by goal c so_far sound fits id (answer.Born n) allowed =
+    let more = sound_met goal (past.Birth id n) so_far refl allowed sound in
+    record { sound = more; fits = fits_act goal so_far c sound fits (past.Birth id n) refl more; under_way = rw (same_id-self id) refl }
+acted_by goal c so_far sound fits id answer.NotBorn allowed =
+    let more = sound_met goal (past.NoBirth id) so_far refl allowed sound in
+    record { sound = more; fits = fits_act goal so_far c sound fits (past.NoBirth id) refl more; under_way = rw (same_id-self id) refl }
+acted_by goal c so_far sound fits id (answer.Ended status) allowed =
+    let n = last_birth id so_far in
+    let dead = sound_met goal (past.Death n) so_far refl (allowed_rest goal (past.Reaped id n status) (past.Death n ∷ so_far) allowed) sound in
+    let fits_dead = fits_act goal so_far c sound fits (past.Death n) refl dead in
+    let more = sound_met goal (past.Reaped id n status) (past.Death n ∷ so_far) refl allowed dead in
+    record { sound = more; fits = fits_act goal (past.Death n ∷ so_far) c dead fits_dead (past.Reaped id n status) refl more; under_way = rw (same_id-self id) refl }
+acted_by goal c so_far sound fits id answer.Alive allowed =
+    let more = sound_met goal (past.Still id) so_far refl allowed sound in
+    record { sound = more; fits = fits_act goal so_far c sound fits (past.Still id) refl more; under_way = rw (same_id-self id) refl }
+acted_by goal c so_far sound fits id answer.NoLook allowed =
+    let more = sound_met goal (past.NoLook id) so_far refl allowed sound in
+    record { sound = more; fits = fits_act goal so_far c sound fits (past.NoLook id) refl more; under_way = rw (same_id-self id) refl }
+acted_by goal c so_far sound fits id answer.Hit allowed =
+    let more = sound_met goal (past.Hit id) so_far refl allowed sound in
+    record { sound = more; fits = fits_act goal so_far c sound fits (past.Hit id) refl more; under_way = rw (same_id-self id) refl }
+acted_by goal c so_far sound fits id answer.Miss allowed =
+    let more = sound_met goal (past.Miss id) so_far refl allowed sound in
+    record { sound = more; fits = fits_act goal so_far c sound fits (past.Miss id) refl more; under_way = rw (same_id-self id) refl }
+
+-- An answer: one that the core takes is its act and that it was told; one that it refuses is nothing.
+pub Hears-answer : (c new : CoreState) (l₀ l₁ : LogState) (id : List ℕ) (given : Answer) (result : Result (Unit {0}) Refusal) → result ≡ lists.refusal_of (lists.order_in id c.slots) given → OnOk result (new ≡ after_told id given c) → OnErr result (new ≡ c) → OnOk result ((so_far : List Event) → Took l₀ l₁ so_far (past.Told id ∷ acted id given so_far)) → OnErr result ((so_far : List Event) → Took l₀ l₁ so_far so_far) → Hears (Fits c) (Fits new) l₀ l₁ (answered id given)
+Hears-answer c new l₀ l₁ id given (Ok tt) is told same took left goal so_far sound fits allowed = by (is_asked_for id given so_far) refl (taken_asked (open_of id so_far) given (is ∙ ap (λ o. lists.refusal_of o given) (order_same goal so_far c sound fits id)))
+  where
+    by : (b : Bool) → is_asked_for id given so_far ≡ b → b ≡ true → Heard (Fits new) l₀ l₁ goal so_far (answered id given so_far)
+    by b is so =
+        let asked : answered id given so_far ≡ past.Told id ∷ acted id given so_far = ap (λ b. cond b (past.Told id ∷ acted id given so_far) so_far) (is ∙ so) in
+        let possible : is_allowed goal (past.Told id ∷ acted id given so_far) ≡ true = ap (is_allowed goal) (sym asked) ∙ allowed in
+        let done : Acted goal c id given (acted id given so_far) = acted_by goal c so_far sound fits id given (allowed_rest goal (past.Told id) (acted id given so_far) possible) in
+        subst (Heard (Fits new) l₀ l₁ goal so_far) (sym asked) (record {
+          sound = sound_met goal (past.Told id) (acted id given so_far) refl possible done.sound;
+          fits = subst (λ s. Fits s goal (past.Told id ∷ acted id given so_far)) (sym told) (fits_told goal (acted id given so_far) c done.sound done.fits id given done.under_way);
+          log = took so_far;
+        })
+Hears-answer c new l₀ l₁ id given (Err why) is told same took left goal so_far sound fits allowed =
+    let unasked : is_asked_for id given so_far ≡ false = refused_unasked (open_of id so_far) given why (is ∙ ap (λ o. lists.refusal_of o given) (order_same goal so_far c sound fits id)) in
+    let nothing : answered id given so_far ≡ so_far = ap (λ b. cond b (past.Told id ∷ acted id given so_far) so_far) unasked in
+    subst (Heard (Fits new) l₀ l₁ goal so_far) (sym nothing) (record { sound = sound; fits = subst (λ s. Fits s goal so_far) (sym same) fits; log = left so_far })
+
+-- ---- a table that was read
+
+-- a table comes at a quiet point, with no id twice
+pub table_sound : (goal : Goal) (so_far : List Event) (c : CoreState) (table : List Entry) → is_sound goal so_far ≡ true → Fits c goal so_far → lists.is_quiet c.slots ≡ true → is_distinct table ≡ true → is_sound goal (past.NewTable table ∷ so_far) ≡ true
+table_sound goal so_far c table sound fits quiet distinct = sound_more goal (past.NewTable table) so_far (and_from (is_quiet so_far) (is_distinct table) (quiet_same goal so_far sound ∙ ap lists.is_quiet (sym (fit_records c goal so_far fits)) ∙ quiet) distinct) sound

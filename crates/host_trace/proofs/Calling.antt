@@ -1,0 +1,130 @@
+-- What each call leads to: its core fits the trace with it, where the call was in its place and its answer was possible.
+use Rattle.std.proofs.Common.{◌≡◌, refl, sym, ◌∙◌, ap, subst, ℕ, ◌+◌, ◌≤◌, Bool, true, false, cond, List, [], ◌∷◌, length, nat_lt, Option, Some, None, Ok, Err, Result}
+use Rattle.std.specs.Option.{option_map_or}
+use Rattle.std.proofs.lemmas.Bool.{and_from, le-ltb}
+use Rattle.std.proofs.lemmas.Option.{none-some}
+use Rattle.init_words.specs.declared.entries.Entry.{Entry}
+use Rattle.init_words.specs.declared.orders.Answer.{Answer}
+use Rattle.init_words.specs.declared.orders.Ask.{Ask}
+use Rattle.init_words.specs.declared.orders.Ask.TheVariants as ask
+use Rattle.init_words.specs.Entries.{command_of}
+use Rattle.init_words.proofs.Same.{same_id-self}
+use Rattle.inittab_text.specs.declared.reading.TheConstants.{TEXT_LIMIT}
+use Rattle.inittab_text.specs.Reading.{table_of_text}
+use Rattle.inittab_text.specs.Tables.{entry_of}
+use Rattle.inittab_text.proofs.Distinct.{distinct_text}
+use Rattle.init_trace.specs.declared.happenings.Handed.TheVariants as handed
+use Rattle.init_trace.specs.declared.happenings.Happening.TheVariants as past
+use Rattle.init_trace.specs.declared.steps.Goal.{Goal}
+use Rattle.init_trace.specs.declared.steps.Step.TheVariants as step
+use Rattle.init_trace.specs.Event.{Event}
+use Rattle.init_trace.specs.Past.{table_of}
+use Rattle.init_trace.specs.Due.{is_due}
+use Rattle.init_trace.specs.Sound.{is_sound}
+use Rattle.trace_laws.proofs.Dues.{MayStart, due_facts}
+use Rattle.trace_laws.proofs.Keeps.{sound_holds}
+use Rattle.trace_laws.proofs.Runs.{first_due}
+use Rattle.child_table.specs.Lists as lists
+use Rattle.core_state.specs.State.{CoreState}
+use Rattle.core_state.specs.Fit.{Fits, OnEachTrace, with_step}
+use Rattle.run_log.specs.Logs.{LogState}
+use Rattle.child_host.specs.declared.calls.Call.TheVariants.{Start, Late, Clock, ReadTable, Announce}
+use Rattle.child_host.specs.declared.calls.HostFault.{HostFault}
+use Rattle.child_host.specs.declared.calls.Reply.{Reply}
+use Rattle.child_host.specs.declared.calls.Reply.TheVariants.{Now, Later}
+use Rattle.child_host.specs.Calls.{TextRead}
+use Rattle.host_trace.specs.Point.{replied, ordered, come, is_last, nudged_if, clocked, reading, before_reading, same_text, is_command}
+use Rattle.host_trace.specs.Leads.{is_allowed, Took, On, Gave, Counted, Leads, Heard, Hears}
+use Rattle.host_trace.proofs.Leading.{answered_allowed, nudged_allowed, Leads-heard, Hears-then}
+use Rattle.host_trace.proofs.Acting.{sound_met, Hears-step, table_sound}
+
+-- ---- orders
+
+replied_allowed : (goal : Goal) (id : List ℕ) (reply : Reply) (so_far : List Event) → is_allowed goal (replied id reply so_far) ≡ true → is_allowed goal so_far ≡ true
+replied_allowed goal id (Now given) so_far h = answered_allowed goal id given so_far h
+replied_allowed goal id Later so_far h = h
+
+-- init asked, and heard the reply
+pub Hears-order : (c new : CoreState) (l₀ l₁ l₂ : LogState) (id : List ℕ) (order : Ask) (reply : Reply) → ((so_far : List Event) → Took l₀ l₁ so_far (past.Asked id order ∷ so_far)) → Hears (Fits c) (Fits new) l₁ l₂ (replied id reply) → Hears (Gave (Fits c) (step.Order id order)) (Fits new) l₀ l₂ (ordered id order reply)
+Hears-order c new l₀ l₁ l₂ id order reply took heard = Hears-then (Gave (Fits c) (step.Order id order)) (Fits c) (Fits new) l₀ l₁ l₂ (with_step (step.Order id order)) (replied id reply) (λ goal so_far h. replied_allowed goal id reply so_far h) (Hears-step c l₀ l₁ (step.Order id order) took) heard
+
+-- the command of the id's entry in the core's table is that of the entry in force
+pub command_placed : (goal : Goal) (so_far : List Event) (c : CoreState) (id command : List ℕ) (e : Entry) → Fits c goal (with_step (step.Order id ask.Start) so_far) → entry_of id c.table ≡ Some e → command ≡ command_of e → is_command id command so_far ≡ true
+command_placed goal so_far c id command e fits own is =
+    ap (λ table. option_map_or (λ e. same_text command (command_of e)) (entry_of id table) false) (sym fits.table.table)
+    ∙ ap (λ o. option_map_or (λ e. same_text command (command_of e)) o false) own
+    ∙ ap (λ text. same_text text (command_of e)) is ∙ same_id-self (command_of e)
+
+-- a start that is due has an entry
+pub start_listed : (goal : Goal) (so_far : List Event) (c : CoreState) (id : List ℕ) → is_sound goal so_far ≡ true → Gave (Fits c) (step.Order id ask.Start) goal so_far → entry_of id c.table ≡ None → ⊥
+start_listed goal so_far c id sound gave none =
+    let may : MayStart id (table_of so_far) so_far = due_facts goal so_far (step.Order id ask.Start) (first_due goal so_far (step.Order id ask.Start) gave.0 refl) in
+    none-some may.run.entry (sym none ∙ ap (entry_of id) gave.1.table.table ∙ may.run.found (sound_holds goal so_far sound).distinct)
+
+pub Leads-start : (c new : CoreState) (l₀ l₁ : LogState) (id command : List ℕ) (reply : Reply) (e : Entry) → entry_of id c.table ≡ Some e → command ≡ command_of e → Hears (Gave (Fits c) (step.Order id ask.Start)) (Fits new) l₀ l₁ (ordered id ask.Start reply) → Leads (On (Gave (Fits c) (step.Order id ask.Start))) (On (Fits new)) l₀ l₁ (Start id command reply ∷ [])
+Leads-start c new l₀ l₁ id command reply e own is hears = Leads-heard (Gave (Fits c) (step.Order id ask.Start)) (Fits new) l₀ l₁ (Start id command reply) (ordered id ask.Start reply) hears (λ p. refl) (λ goal p sound gave. command_placed goal p.past c id command e gave.1 own is)
+
+-- ---- what is heard at the beginning of a turn
+
+-- the clock was read, and no late answers were asked for since
+pub Leads-clock : (f₀ f₁ : Goal → List Event → Type 0) (l₀ l₁ : LogState) (time : Result ℕ HostFault) → Hears f₀ f₁ l₀ l₁ (clocked time) → Leads (On f₀) (λ goal p. On f₁ goal p × Counted 0 goal p) l₀ l₁ (Clock time ∷ [])
+Leads-clock f₀ f₁ l₀ l₁ time hears goal p sound fits allowed =
+    let heard : Heard f₁ l₀ l₁ goal p.past (clocked time p.past) = hears goal p.past sound fits allowed in
+    record { in_place = refl; sound = heard.sound; fits = (heard.fits, refl); log = heard.log }
+
+-- a late answer was asked for: behind the last the round begins
+pub Leads-late : (f₀ f₁ : Goal → List Event → Type 0) (l₀ l₁ : LogState) (late : Option (List ℕ × Answer)) (count : ℕ) → Hears f₀ f₁ l₀ l₁ (λ so_far. nudged_if (is_last late count) (come late so_far)) → Leads (λ goal p. On f₀ goal p × Counted count goal p) (λ goal p. On f₁ goal p × Counted (count + 1) goal p) l₀ l₁ (Late late ∷ [])
+Leads-late f₀ f₁ l₀ l₁ late count hears goal p sound fits allowed =
+    let comes : nudged_if (is_last late p.lates) (come late p.past) ≡ nudged_if (is_last late count) (come late p.past) = ap (λ n. nudged_if (is_last late n) (come late p.past)) fits.1 in
+    let heard : Heard f₁ l₀ l₁ goal p.past (nudged_if (is_last late count) (come late p.past)) = hears goal p.past sound fits.0 (ap (is_allowed goal) (sym comes) ∙ allowed) in
+    record {
+      in_place = refl;
+      sound = ap (is_sound goal) comes ∙ heard.sound;
+      fits = (subst (f₁ goal) (sym comes) heard.fits, ap (λ n. n + 1) fits.1);
+      log = subst (Took l₀ l₁ p.past) (sym comes) heard.log;
+    }
+
+-- it was not the last, or it was, and the round began
+pub Hears-more : (f₀ f₁ : Goal → List Event → Type 0) (l₀ l₁ : LogState) (late : Option (List ℕ × Answer)) (count : ℕ) → is_last late count ≡ false → Hears f₀ f₁ l₀ l₁ (come late) → Hears f₀ f₁ l₀ l₁ (λ so_far. nudged_if (is_last late count) (come late so_far))
+Hears-more f₀ f₁ l₀ l₁ late count more hears = subst (λ b. Hears f₀ f₁ l₀ l₁ (λ so_far. nudged_if b (come late so_far))) (sym more) hears
+
+pub Hears-last : (f₀ f₁ f₂ : Goal → List Event → Type 0) (l₀ l₁ l₂ : LogState) (late : Option (List ℕ × Answer)) (count : ℕ) → is_last late count ≡ true → Hears f₀ f₁ l₀ l₁ (come late) → Hears f₁ f₂ l₁ l₂ (λ so_far. past.Nudge ∷ so_far) → Hears f₀ f₂ l₀ l₂ (λ so_far. nudged_if (is_last late count) (come late so_far))
+Hears-last f₀ f₁ f₂ l₀ l₁ l₂ late count last hears round = subst (λ b. Hears f₀ f₂ l₀ l₂ (λ so_far. nudged_if b (come late so_far))) (sym last) (Hears-then f₀ f₁ f₂ l₀ l₁ l₂ (come late) (λ so_far. past.Nudge ∷ so_far) (λ goal so_far h. nudged_allowed goal true so_far h) hears round)
+
+-- ---- inittab is read again
+
+-- the table that was read is in force
+pub Leads-used : (c new : CoreState) (l₀ l₁ : LogState) (text : List ℕ) → length text ≤ TEXT_LIMIT → lists.is_quiet c.slots ≡ true → OnEachTrace c (λ goal so_far. Fits new goal (past.NewTable (table_of_text text) ∷ so_far)) → ((so_far : List Event) → Took l₀ l₁ so_far (past.NewTable (table_of_text text) ∷ so_far)) → Leads (On (Gave (Fits c) step.Reread)) (On (Fits new)) l₀ l₁ (ReadTable (Ok text) ∷ [])
+Leads-used c new l₀ l₁ text short quiet fits took = Leads-heard (Gave (Fits c) step.Reread) (Fits new) l₀ l₁ (ReadTable (Ok text)) (λ so_far. past.NewTable (table_of_text text) ∷ so_far) heard (λ p. ap (λ b. cond b past.NotRead (past.NewTable (table_of_text text)) ∷ p.past) (le-ltb TEXT_LIMIT (length text) short)) (λ goal p sound gave. first_due goal p.past step.Reread gave.0 refl)
+  where
+    heard : Hears (Gave (Fits c) step.Reread) (Fits new) l₀ l₁ (λ so_far. past.NewTable (table_of_text text) ∷ so_far)
+    heard goal so_far sound gave allowed = record { sound = table_sound goal so_far c (table_of_text text) sound gave.1 quiet (distinct_text text); fits = fits goal so_far sound gave.1; log = took so_far }
+
+-- it could not be read, or its table not be taken
+reading_goes : (text : TextRead) (so_far : List Event) → before_reading (reading text ∷ so_far) ≡ so_far
+reading_goes (Err fault) so_far = refl
+reading_goes (Ok text) so_far = by (nat_lt TEXT_LIMIT (length text))
+  where
+    by : (b : Bool) → before_reading (cond b past.NotRead (past.NewTable (table_of_text text)) ∷ so_far) ≡ so_far
+    by true = refl
+    by false = refl
+
+pub Leads-not_read : (c new : CoreState) (l₀ l₁ : LogState) (text : TextRead) → OnEachTrace c (λ goal so_far. Fits new goal (past.NotRead ∷ so_far)) → ((so_far : List Event) → Took l₀ l₁ so_far (past.NotRead ∷ so_far)) → Leads (On (Gave (Fits c) step.Reread)) (On (Fits new)) l₀ l₁ (Announce past.NotRead ∷ ReadTable text ∷ [])
+Leads-not_read c new l₀ l₁ text fits took goal p sound gave allowed =
+    let goes : past.NotRead ∷ before_reading (reading text ∷ p.past) ≡ past.NotRead ∷ p.past = ap (λ (so_far : List Event). past.NotRead ∷ so_far) (reading_goes text p.past) in
+    let more : is_sound goal (past.NotRead ∷ p.past) ≡ true = sound_met goal past.NotRead p.past refl (ap (is_allowed goal) (sym goes) ∙ allowed) sound in
+    record {
+      in_place = and_from (is_due goal step.Reread p.past) true (first_due goal p.past step.Reread gave.0 refl) refl;
+      sound = ap (is_sound goal) goes ∙ more;
+      fits = subst (Fits new goal) (sym goes) (fits goal p.past sound gave.1);
+      log = subst (Took l₀ l₁ p.past) (sym goes) (took p.past);
+    }
+
+-- init was not executed anew
+pub Leads-not_handed : (c new : CoreState) (l₀ l₁ : LogState) → OnEachTrace c (λ goal so_far. Fits new goal (past.Handed handed.Failed ∷ so_far)) → ((so_far : List Event) → Took l₀ l₁ so_far (past.Handed handed.Failed ∷ so_far)) → Leads (On (Gave (Fits c) step.Reexec)) (On (Fits new)) l₀ l₁ (Announce (past.Handed handed.Failed) ∷ [])
+Leads-not_handed c new l₀ l₁ fits took goal p sound gave allowed = record {
+  in_place = and_from (is_due goal step.Reexec p.past) true (first_due goal p.past step.Reexec gave.0 refl) refl;
+  sound = sound_met goal (past.Handed handed.Failed) p.past refl allowed sound;
+  fits = fits goal p.past sound gave.1;
+  log = took p.past;
+}

@@ -1,0 +1,70 @@
+-- The child that an end is of: the core's record of the id has the number of the id's last birth.
+use Rattle.std.proofs.Common.{◌≡◌, refl, sym, ◌∙◌, ap, ℕ, ◌==◌, Bool, true, false, ◌&&◌, List, ◌∷◌, Option, Some, None, is_some, filter}
+use Rattle.std.specs.Option.{option_map, option_map_or}
+use Rattle.std.specs.List.{list_any}
+use Rattle.std.proofs.lemmas.Bool.{false≢true, and_parts, eqb-true}
+use Rattle.init_words.specs.declared.children.Status.{Status}
+use Rattle.init_words.specs.declared.orders.Answer.TheVariants as answer
+use Rattle.init_words.specs.declared.orders.Ask.TheVariants.{Look}
+use Rattle.init_trace.specs.declared.happenings.Happening.TheVariants as past
+use Rattle.init_trace.specs.declared.steps.Goal.{Goal}
+use Rattle.init_trace.specs.Event.{Event}
+use Rattle.init_trace.specs.Past.{Child, is_of, is_child, is_dead, has_child, undone_of, unreaped_children, known_children}
+use Rattle.init_trace.specs.Wanted.{is_order}
+use Rattle.init_trace.specs.Due.{record_ids}
+use Rattle.init_trace.specs.Sound.{is_sound, may_come}
+use Rattle.trace_laws.proofs.Keeps.{sound_holds}
+use Rattle.trace_laws.proofs.Known.{known_single}
+use Rattle.trace_laws.proofs.Orders.{same_of, told_known}
+use Rattle.trace_laws.proofs.Records.{child_in_records}
+use Rattle.trace_laws.proofs.Tests.{is_order-is}
+use Rattle.child_table.specs.State.{SlotState, child_number}
+use Rattle.child_table.specs.Lists as lists
+use Rattle.core_state.specs.State.{CoreState}
+use Rattle.core_state.specs.Fit.{Fits, child_known, living, record_of}
+use Rattle.core_state.proofs.Acts.{found_record}
+use Rattle.core_state.proofs.Fitted.{fit_records}
+use Rattle.core_state.proofs.Reading.{any_found, child_some}
+use Rattle.host_trace.specs.Point.{last_birth, acted}
+use Rattle.host_trace.specs.Leads.{is_allowed}
+use Rattle.host_trace.proofs.Leading.{allowed_first}
+
+-- the core's record of the id, and the number of its child
+pub record HasNumber (c : CoreState) (id : List ℕ) (number : ℕ) : Type 0 where
+  pub slot : SlotState
+  pub found : lists.slot_of id c.slots ≡ Some slot
+  pub number_is : child_number slot ≡ Some number
+
+pub end_number : (goal : Goal) (so_far : List Event) (c : CoreState) (id : List ℕ) (status : Status) → is_sound goal so_far ≡ true → Fits c goal so_far → is_allowed goal (acted id (answer.Ended status) so_far) ≡ true → HasNumber c id (last_birth id so_far)
+end_number goal so_far c id status sound fits allowed = by (child_known id so_far) refl known
+  where
+    n : ℕ
+    n = last_birth id so_far
+
+    numbered : Child → Bool
+    numbered child = n == child.number
+
+    may : may_come goal (past.Reaped id n status) (past.Death n ∷ so_far) ≡ true
+    may = allowed_first goal (past.Reaped id n status) (past.Death n ∷ so_far) allowed
+
+    parts : ((is_order Look (undone_of id so_far) && list_any (is_child id n) (unreaped_children so_far)) ≡ true) × (is_dead id n (past.Death n ∷ so_far) ≡ true)
+    parts = and_parts (is_order Look (undone_of id so_far) && list_any (is_child id n) (unreaped_children so_far)) (is_dead id n (past.Death n ∷ so_far)) may
+
+    two : (is_order Look (undone_of id so_far) ≡ true) × (list_any (is_child id n) (unreaped_children so_far) ≡ true)
+    two = and_parts (is_order Look (undone_of id so_far)) (list_any (is_child id n) (unreaped_children so_far)) parts.0
+
+    same : filter (is_of id) (known_children so_far) ≡ filter (is_of id) (unreaped_children so_far)
+    same = told_known id so_far ((sound_holds goal so_far sound).done id Look (is_order-is Look (undone_of id so_far) two.0))
+
+    known : option_map_or numbered (child_known id so_far) false ≡ true
+    known = sym (any_found (is_of id) numbered (known_children so_far) (known_single goal so_far sound id)) ∙ same_of id numbered (known_children so_far) (unreaped_children so_far) same ∙ two.1
+
+    by : (o : Option Child) → child_known id so_far ≡ o → option_map_or numbered o false ≡ true → HasNumber c id n
+    by None is h = absurd (false≢true h)
+    by (Some child) is h =
+        let there : has_child id (known_children so_far) ≡ true = sym (child_some id so_far) ∙ ap (λ o. is_some (option_map living o)) is in
+        record {
+          slot = record_of so_far id;
+          found = ap (lists.slot_of id) (fit_records c goal so_far fits) ∙ found_record so_far id (record_ids so_far) (child_in_records goal so_far sound id there);
+          number_is = ap (λ o. option_map (λ child. child.number) (option_map living o)) is ∙ ap Some (sym (eqb-true n child.number h));
+        }

@@ -1,0 +1,199 @@
+-- A part of init's work: of one call, of none, and of two parts; and that of what was possible the earlier part was.
+use Rattle.std.proofs.Common.{◌≡◌, refl, sym, ◌∙◌, ap, subst, ℕ, Bool, true, false, ◌==◌, cond, List, [], ◌∷◌, ◌++◌, length, Option, Some, None, Ok, Err}
+use Rattle.std.specs.List.{list_all}
+use Rattle.std.proofs.lemmas.Bool.{false≢true, and_parts, and_from}
+use Rattle.init_words.specs.declared.orders.Answer.{Answer}
+use Rattle.init_words.specs.declared.orders.Answer.TheVariants as answer
+use Rattle.init_words.specs.declared.orders.Ask.{Ask}
+use Rattle.init_words.specs.declared.orders.Ask.TheVariants as ask
+use Rattle.initctl_frame.specs.Frames.{got_of}
+use Rattle.init_trace.specs.declared.happenings.Happening.TheVariants as past
+use Rattle.init_trace.specs.declared.steps.Goal.{Goal}
+use Rattle.init_trace.specs.Event.{Event}
+use Rattle.init_trace.specs.Sound.{is_sound}
+use Rattle.child_host.specs.declared.calls.Call.TheVariants.{Start, Look, Signal, Late, Clock, TakeBytes, ReadTable, Carry, Announce, Pause}
+use Rattle.child_host.specs.declared.calls.Reply.{Reply}
+use Rattle.child_host.specs.declared.calls.Reply.TheVariants.{Now, Later}
+use Rattle.child_host.specs.Calls.{HostCall, TextRead}
+use Rattle.run_log.specs.Logs.{LogState}
+use Rattle.host_trace.specs.Point.{Point, last_birth, acted, is_asked_for, answered, ordered, order_for, come, is_last, nudged_if, byte_after, bytes_after, reading, before_reading, announced, is_said, after, point_after, is_in_place}
+use Rattle.host_trace.specs.Leads.{Counted, meets, is_allowed, Took, On, Went, Leads, Heard, Hears}
+use Rattle.host_trace.specs.Turns.{takes_none}
+use Rattle.host_trace.proofs.Point.{point_after-append, has_trace-append}
+use Rattle.host_trace.proofs.Taking.{Took-none, Took-then}
+
+module _ (goal : Goal) where
+  -- what came before something that was possible was possible
+  pub allowed_rest : (happening : Event) (so_far : List Event) → is_allowed goal (happening ∷ so_far) ≡ true → is_allowed goal so_far ≡ true
+  allowed_rest happening so_far h = (and_parts (meets goal happening so_far) (is_allowed goal so_far) h).1
+
+  pub allowed_first : (happening : Event) (so_far : List Event) → is_allowed goal (happening ∷ so_far) ≡ true → meets goal happening so_far ≡ true
+  allowed_first happening so_far h = (and_parts (meets goal happening so_far) (is_allowed goal so_far) h).0
+
+  acted_allowed : (id : List ℕ) (given : Answer) (so_far : List Event) → is_allowed goal (acted id given so_far) ≡ true → is_allowed goal so_far ≡ true
+  acted_allowed id (answer.Born n) so_far h = allowed_rest (past.Birth id n) so_far h
+  acted_allowed id answer.NotBorn so_far h = allowed_rest (past.NoBirth id) so_far h
+  acted_allowed id (answer.Ended status) so_far h = allowed_rest (past.Death (last_birth id so_far)) so_far (allowed_rest (past.Reaped id (last_birth id so_far) status) (past.Death (last_birth id so_far) ∷ so_far) h)
+  acted_allowed id answer.Alive so_far h = allowed_rest (past.Still id) so_far h
+  acted_allowed id answer.NoLook so_far h = allowed_rest (past.NoLook id) so_far h
+  acted_allowed id answer.Hit so_far h = allowed_rest (past.Hit id) so_far h
+  acted_allowed id answer.Miss so_far h = allowed_rest (past.Miss id) so_far h
+
+  pub answered_allowed : (id : List ℕ) (given : Answer) (so_far : List Event) → is_allowed goal (answered id given so_far) ≡ true → is_allowed goal so_far ≡ true
+  answered_allowed id given so_far = by (is_asked_for id given so_far)
+    where
+      by : (b : Bool) → is_allowed goal (cond b (past.Told id ∷ acted id given so_far) so_far) ≡ true → is_allowed goal so_far ≡ true
+      by true h = acted_allowed id given so_far (allowed_rest (past.Told id) (acted id given so_far) h)
+      by false h = h
+
+  pub ordered_allowed : (id : List ℕ) (ask : Ask) (reply : Reply) (so_far : List Event) → is_allowed goal (ordered id ask reply so_far) ≡ true → is_allowed goal so_far ≡ true
+  ordered_allowed id ask (Now given) so_far h = allowed_rest (past.Asked id ask) so_far (answered_allowed id given (past.Asked id ask ∷ so_far) h)
+  ordered_allowed id ask Later so_far h = allowed_rest (past.Asked id ask) so_far h
+
+  pub nudged_allowed : (b : Bool) (so_far : List Event) → is_allowed goal (nudged_if b so_far) ≡ true → is_allowed goal so_far ≡ true
+  nudged_allowed true so_far h = allowed_rest past.Nudge so_far h
+  nudged_allowed false so_far h = h
+
+  pub come_allowed : (late : Option (List ℕ × Answer)) (so_far : List Event) → is_allowed goal (come late so_far) ≡ true → is_allowed goal so_far ≡ true
+  come_allowed (Some late) so_far h = answered_allowed late.0 late.1 so_far h
+  come_allowed None so_far h = h
+
+  byte_allowed : (byte : ℕ) (p : Point) → is_allowed goal (byte_after byte p).past ≡ true → is_allowed goal p.past ≡ true
+  byte_allowed byte p h = by (length (p.over ++ byte ∷ []) == 384) h
+    where
+      by : (b : Bool) → is_allowed goal (cond b (record p { over = []; past = past.Got (got_of (p.over ++ byte ∷ [])) ∷ p.past }) (record p { over = p.over ++ byte ∷ [] })).past ≡ true → is_allowed goal p.past ≡ true
+      by true h = allowed_rest (past.Got (got_of (p.over ++ byte ∷ []))) p.past h
+      by false h = h
+
+  pub bytes_allowed : (bytes : List ℕ) (p : Point) → is_allowed goal (bytes_after bytes p).past ≡ true → is_allowed goal p.past ≡ true
+  bytes_allowed [] p h = h
+  bytes_allowed (byte ∷ bytes) p h = byte_allowed byte p (bytes_allowed bytes (byte_after byte p) h)
+
+  before_allowed : (so_far : List Event) → is_allowed goal (before_reading so_far) ≡ true → is_allowed goal so_far ≡ true
+  before_allowed (past.NewTable table ∷ so_far) h = h
+  before_allowed (past.NotRead ∷ so_far) h = h
+  before_allowed [] h = h
+  before_allowed (_ ∷ so_far) h = h
+
+  said_allowed : (happening : Event) (b : Bool) (so_far : List Event) → is_allowed goal (cond b (happening ∷ so_far) so_far) ≡ true → is_allowed goal so_far ≡ true
+  said_allowed happening true so_far h = allowed_rest happening so_far h
+  said_allowed happening false so_far h = h
+
+  announced_allowed : (happening : Event) (so_far : List Event) → is_allowed goal (announced happening so_far) ≡ true → is_allowed goal so_far ≡ true
+  announced_allowed past.NotRead so_far h = before_allowed so_far (allowed_rest past.NotRead (before_reading so_far) h)
+  announced_allowed happening so_far h = said_allowed happening (is_said happening) so_far h
+
+  pub after_allowed : (call : HostCall) (p : Point) → is_allowed goal (after call p).past ≡ true → is_allowed goal p.past ≡ true
+  after_allowed (Start id command reply) p h = ordered_allowed id ask.Start reply p.past h
+  after_allowed (Look id reply) p h = ordered_allowed id ask.Look reply p.past h
+  after_allowed (Signal id sent reply) p h = ordered_allowed id (order_for sent) reply p.past h
+  after_allowed (Late late) p h = come_allowed late p.past (nudged_allowed (is_last late p.lates) (come late p.past) h)
+  after_allowed (Clock (Ok reading)) p h = allowed_rest (past.Clock reading) p.past h
+  after_allowed (Clock (Err fault)) p h = h
+  after_allowed (TakeBytes room (Ok bytes)) p h = bytes_allowed bytes p h
+  after_allowed (TakeBytes room (Err fault)) p h = h
+  after_allowed (ReadTable text) p h = allowed_rest (reading text) p.past h
+  after_allowed (Carry text back) p h = h
+  after_allowed (Announce happening) p h = announced_allowed happening p.past h
+  after_allowed Pause p h = h
+
+  pub calls_allowed : (calls : List HostCall) (p : Point) → is_allowed goal (point_after calls p).past ≡ true → is_allowed goal p.past ≡ true
+  calls_allowed [] p h = h
+  calls_allowed (call ∷ calls) p h = calls_allowed calls p (after_allowed call (point_after calls p) h)
+
+pub Leads-one : (fitted fit : Goal → Point → Type 0) (old new : LogState) (call : HostCall) → ((goal : Goal) (p : Point) → is_sound goal p.past ≡ true → fitted goal p → is_allowed goal (after call p).past ≡ true → Went fit old new goal p (call ∷ [])) → Leads fitted fit old new (call ∷ [])
+Leads-one fitted fit old new call went = went
+
+-- a call that comes to what was heard, in its place
+pub Leads-heard : (fitted fit : Goal → List Event → Type 0) (old new : LogState) (call : HostCall) (more : List Event → List Event) → Hears fitted fit old new more → ((p : Point) → (after call p).past ≡ more p.past) → ((goal : Goal) (p : Point) → is_sound goal p.past ≡ true → fitted goal p.past → is_in_place goal call [] p.past ≡ true) → Leads (On fitted) (On fit) old new (call ∷ [])
+Leads-heard fitted fit old new call more hears comes place goal p sound fits allowed =
+    let heard : Heard fit old new goal p.past (more p.past) = hears goal p.past sound fits (ap (is_allowed goal) (sym (comes p)) ∙ allowed) in
+    record {
+      in_place = and_from (is_in_place goal call [] p.past) true (place goal p sound fits) refl;
+      sound = ap (is_sound goal) (comes p) ∙ heard.sound;
+      fits = subst (fit goal) (sym (comes p)) heard.fits;
+      log = subst (Took old new p.past) (sym (comes p)) heard.log;
+    }
+
+pub Leads-none : (fit : Goal → Point → Type 0) (log : LogState) → Leads fit fit log log []
+Leads-none fit log goal p sound fits allowed = record { in_place = refl; sound = sound; fits = fits; log = Took-none log p.past }
+
+-- ys behind xs
+pub Leads-then : (f₀ f₁ f₂ : Goal → Point → Type 0) (l₀ l₁ l₂ : LogState) (xs ys : List HostCall) → Leads f₀ f₁ l₀ l₁ xs → Leads f₁ f₂ l₁ l₂ ys → Leads f₀ f₂ l₀ l₂ (ys ++ xs)
+Leads-then f₀ f₁ f₂ l₀ l₁ l₂ xs ys one two goal p sound fits allowed =
+    let joined : point_after (ys ++ xs) p ≡ point_after ys (point_after xs p) = point_after-append ys xs p in
+    let later : is_allowed goal (point_after ys (point_after xs p)).past ≡ true = ap (λ (q : Point). is_allowed goal q.past) (sym joined) ∙ allowed in
+    let first : Went f₁ l₀ l₁ goal p xs = one goal p sound fits (calls_allowed goal ys (point_after xs p) later) in
+    let second : Went f₂ l₁ l₂ goal (point_after xs p) ys = two goal (point_after xs p) first.sound first.fits later in
+    record {
+      in_place = has_trace-append goal ys xs p second.in_place first.in_place;
+      sound = ap (λ (q : Point). is_sound goal q.past) joined ∙ second.sound;
+      fits = subst (f₂ goal) (sym joined) second.fits;
+      log = subst (λ (q : Point). Took l₀ l₂ p.past q.past) (sym joined) (Took-then l₀ l₁ l₂ p.past (point_after xs p).past (point_after ys (point_after xs p)).past first.log second.log);
+    }
+
+pub Leads-weaken : (fitted fitted' fit fit' : Goal → Point → Type 0) (old new : LogState) (calls : List HostCall) → ((goal : Goal) (p : Point) → fitted' goal p → fitted goal p) → ((goal : Goal) (p : Point) → fit goal p → fit' goal p) → Leads fitted fit old new calls → Leads fitted' fit' old new calls
+Leads-weaken fitted fitted' fit fit' old new calls before behind leads goal p sound fits allowed =
+    let went : Went fit old new goal p calls = leads goal p sound (before goal p fits) allowed in
+    record { in_place = went.in_place; sound = went.sound; fits = behind goal (point_after calls p) went.fits; log = went.log }
+
+-- calls that take no bytes leave the bytes of the block under way
+after_over : (call : HostCall) (p : Point) → takes_none call ≡ true → (after call p).over ≡ p.over
+after_over (TakeBytes room taken) p h = absurd (false≢true h)
+after_over (Start id command reply) p h = refl
+after_over (Look id reply) p h = refl
+after_over (Signal id sent reply) p h = refl
+after_over (Late late) p h = refl
+after_over (Clock time) p h = refl
+after_over (ReadTable text) p h = refl
+after_over (Carry text back) p h = refl
+after_over (Announce happening) p h = refl
+after_over Pause p h = refl
+
+pub over_left : (calls : List HostCall) (p : Point) → list_all takes_none calls ≡ true → (point_after calls p).over ≡ p.over
+over_left [] p h = refl
+over_left (call ∷ calls) p h =
+    let both = and_parts (takes_none call) (list_all takes_none calls) h in
+    after_over call (point_after calls p) both.0 ∙ over_left calls p both.1
+
+-- calls that neither read the clock nor ask for late answers leave their count
+bytes_lates : (bytes : List ℕ) (p : Point) → (bytes_after bytes p).lates ≡ p.lates
+bytes_lates [] p = refl
+bytes_lates (byte ∷ bytes) p = bytes_lates bytes (byte_after byte p) ∙ by (length (p.over ++ byte ∷ []) == 384)
+  where
+    by : (b : Bool) → (cond b (record p { over = []; past = past.Got (got_of (p.over ++ byte ∷ [])) ∷ p.past }) (record p { over = p.over ++ byte ∷ [] })).lates ≡ p.lates
+    by true = refl
+    by false = refl
+
+pub bytes_counted : (room : ℕ) (taken : TextRead) (count : ℕ) (goal : Goal) (p : Point) → Counted count goal p → Counted count goal (point_after (TakeBytes room taken ∷ []) p)
+bytes_counted room (Ok bytes) count goal p is = bytes_lates bytes p ∙ is
+bytes_counted room (Err fault) count goal p is = is
+
+-- what the calls leave as it is stays beside what they make fit
+pub Leads-beside : (f₀ f₁ K : Goal → Point → Type 0) (old new : LogState) (calls : List HostCall) → ((goal : Goal) (p : Point) → K goal p → K goal (point_after calls p)) → Leads f₀ f₁ old new calls → Leads (λ goal p. f₀ goal p × K goal p) (λ goal p. f₁ goal p × K goal p) old new calls
+Leads-beside f₀ f₁ K old new calls kept leads goal p sound fits allowed =
+    let went : Went f₁ old new goal p calls = leads goal p sound fits.0 allowed in
+    record { in_place = went.in_place; sound = went.sound; fits = (went.fits, kept goal p fits.1); log = went.log }
+
+pub Leads-frame : (f₀ f₁ : Goal → Point → Type 0) (K : List ℕ → Type 0) (old new : LogState) (calls : List HostCall) → list_all takes_none calls ≡ true → Leads f₀ f₁ old new calls → Leads (λ goal p. f₀ goal p × K p.over) (λ goal p. f₁ goal p × K p.over) old new calls
+Leads-frame f₀ f₁ K old new calls none leads = Leads-beside f₀ f₁ (λ goal p. K p.over) old new calls (λ goal p kept. subst K (sym (over_left calls p none)) kept) leads
+
+-- a call that comes to nothing
+pub Leads-still : (fit : Goal → Point → Type 0) (log : LogState) (call : HostCall) → ((p : Point) → after call p ≡ p) → ((goal : Goal) (so_far : List Event) → is_in_place goal call [] so_far ≡ true) → Leads fit fit log log (call ∷ [])
+Leads-still fit log call still place goal p sound fits allowed = record {
+  in_place = and_from (is_in_place goal call [] p.past) true (place goal p.past) refl;
+  sound = ap (λ (q : Point). is_sound goal q.past) (still p) ∙ sound;
+  fits = subst (fit goal) (sym (still p)) fits;
+  log = subst (λ (q : Point). Took log log p.past q.past) (sym (still p)) (Took-none log p.past);
+}
+
+-- the same of what needs no call
+pub Hears-none : (fit : Goal → List Event → Type 0) (log : LogState) → Hears fit fit log log (λ so_far. so_far)
+Hears-none fit log goal so_far sound fits allowed = record { sound = sound; fits = fits; log = Took-none log so_far }
+
+-- later behind earlier, where what was possible behind the later was so behind the earlier
+pub Hears-then : (f₀ f₁ f₂ : Goal → List Event → Type 0) (l₀ l₁ l₂ : LogState) (earlier later : List Event → List Event) → ((goal : Goal) (so_far : List Event) → is_allowed goal (later so_far) ≡ true → is_allowed goal so_far ≡ true) → Hears f₀ f₁ l₀ l₁ earlier → Hears f₁ f₂ l₁ l₂ later → Hears f₀ f₂ l₀ l₂ (λ so_far. later (earlier so_far))
+Hears-then f₀ f₁ f₂ l₀ l₁ l₂ earlier later rest one two goal so_far sound fits allowed =
+    let first : Heard f₁ l₀ l₁ goal so_far (earlier so_far) = one goal so_far sound fits (rest goal (earlier so_far) allowed) in
+    let second : Heard f₂ l₁ l₂ goal (earlier so_far) (later (earlier so_far)) = two goal (earlier so_far) first.sound first.fits allowed in
+    record { sound = second.sound; fits = second.fits; log = Took-then l₀ l₁ l₂ so_far (earlier so_far) (later (earlier so_far)) first.log second.log }

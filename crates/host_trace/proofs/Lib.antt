@@ -1,0 +1,10 @@
+pub mod Acting
+pub mod Bytes
+pub mod Calling
+pub mod Ending
+pub mod Leading
+pub mod Point
+pub mod Record
+pub mod Requests
+pub mod Rows
+pub mod Taking

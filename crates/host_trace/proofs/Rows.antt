@@ -1,0 +1,140 @@
+-- Worked calls, each with the trace that they have: `refl` computes them.
+use Rattle.std.proofs.Common.{◌≡◌, refl, ℕ, true, false, List, [], ◌∷◌, ◌++◌, take, drop, codes, Some, None, Ok, inl, arith}
+use Rattle.init_words.specs.declared.entries.Entry.{Entry}
+use Rattle.init_words.specs.declared.actions.Act.{Act}
+use Rattle.init_words.specs.declared.actions.Act.TheVariants as act
+use Rattle.init_words.specs.declared.levels.Level.TheVariants as level
+use Rattle.init_words.specs.declared.levels.Mark.{Mark}
+use Rattle.init_words.specs.declared.levels.Mark.TheVariants.{At}
+use Rattle.init_words.specs.declared.stages.Stage.TheVariants as stage
+use Rattle.init_words.specs.declared.orders.Answer.TheVariants.{Born, NotBorn, Alive}
+use Rattle.init_words.specs.declared.orders.Ask.TheVariants as ask
+use Rattle.initctl_frame.specs.declared.requests.Got.TheVariants as got
+use Rattle.initctl_frame.specs.Frames.{block_of_ints}
+use Rattle.init_trace.specs.declared.happenings.Happening.TheVariants as past
+use Rattle.init_trace.specs.declared.steps.Goal.{Goal}
+use Rattle.init_trace.specs.declared.steps.Step.TheVariants as step
+use Rattle.init_trace.specs.Due.{due, first}
+use Rattle.init_trace.specs.Sound.{is_sound}
+use Rattle.child_host.specs.declared.calls.Call.TheVariants.{Start, Look, Late, Clock, TakeBytes, ReadTable, Announce, Pause}
+use Rattle.child_host.specs.declared.calls.Reply.TheVariants.{Now, Later}
+use Rattle.child_host.specs.Calls.{HostCall}
+use Rattle.host_trace.specs.Point.{Point, point_after, has_trace}
+use Rattle.host_trace.specs.Leads.{is_allowed}
+use Rattle.host_trace.specs.Turns.{IsTurn}
+
+abbrev entry : List ℕ → List Mark → Act → List ℕ → Entry
+entry id levels action process = record { id = id; levels = record { items = levels }; act = action; process = record { items = process } }
+
+abbrev goal : Goal
+goal = record { level = level.L3; grace = 5 }
+
+abbrev opening : Point
+opening = record { over = []; lates = 0; past = past.NewTable (entry (codes "id") (At level.L3 ∷ []) act.Initdefault [] ∷ entry (codes "w") (At level.L3 ∷ []) act.Wait (codes "prep") ∷ entry (codes "r") (At level.L3 ∷ []) act.Respawn (codes "serv") ∷ []) ∷ [] }
+
+-- two turns: the first start fails, the second is answered in the next turn
+abbrev first_steps : List HostCall
+first_steps = Start (codes "r") (codes "serv") Later ∷ Start (codes "w") (codes "prep") (Now NotBorn) ∷ Announce (past.Enter (stage.Run level.L3) 5) ∷ Announce (past.Enter stage.Boot 5) ∷ Announce (past.Enter stage.Sysinit 5) ∷ []
+
+abbrev heard : List HostCall
+heard = Late None ∷ TakeBytes 256 (Ok []) ∷ Clock (Ok 0) ∷ []
+
+abbrev late_heard : List HostCall
+late_heard = Late None ∷ Late (Some (codes "r", Born 11)) ∷ TakeBytes 256 (Ok []) ∷ Clock (Ok 0) ∷ []
+
+abbrev last_steps : List HostCall
+last_steps = Look (codes "r") (Now Alive) ∷ Announce (past.Settle level.L3) ∷ []
+
+abbrev two_turns : List HostCall
+two_turns = Pause ∷ (last_steps ++ (late_heard ++ Pause ∷ (first_steps ++ heard)))
+
+two_turns-are : (point_after two_turns opening).past ≡ past.Told (codes "r") ∷ past.Still (codes "r") ∷ past.Asked (codes "r") ask.Look ∷ past.Settle level.L3 ∷ past.Nudge ∷ past.Told (codes "r") ∷ past.Birth (codes "r") 11 ∷ past.Clock 0 ∷ past.Asked (codes "r") ask.Start ∷ past.Told (codes "w") ∷ past.NoBirth (codes "w") ∷ past.Asked (codes "w") ask.Start ∷ past.Enter (stage.Run level.L3) 5 ∷ past.Enter stage.Boot 5 ∷ past.Enter stage.Sysinit 5 ∷ past.Nudge ∷ past.Clock 0 ∷ opening.past
+two_turns-are = refl
+
+two_turns-in_place : has_trace goal two_turns opening ≡ true
+two_turns-in_place = refl
+
+two_turns-allowed : is_allowed goal (point_after two_turns opening).past ≡ true
+two_turns-allowed = refl
+
+two_turns-sound : is_sound goal (point_after two_turns opening).past ≡ true
+two_turns-sound = refl
+
+-- each turn is one, and ends with nothing due
+first_turn : IsTurn true (first_steps ++ heard)
+first_turn = record { time = Ok 0; takes = TakeBytes 256 (Ok []) ∷ []; lates = Late None ∷ []; steps = first_steps; whole = refl; byte_calls = refl; late_calls = refl; step_calls = refl; most = omega arith; ended = inl refl }
+
+last_turn : IsTurn true (last_steps ++ late_heard)
+last_turn = record { time = Ok 0; takes = TakeBytes 256 (Ok []) ∷ []; lates = Late None ∷ Late (Some (codes "r", Born 11)) ∷ []; steps = last_steps; whole = refl; byte_calls = refl; late_calls = refl; step_calls = refl; most = omega arith; ended = inl refl }
+
+two_turns-rest : first (due goal (point_after two_turns opening).past) ≡ step.Idle
+two_turns-rest = refl
+
+-- another command was started
+abbrev other_command : List HostCall
+other_command = Start (codes "w") (codes "serv") (Now NotBorn) ∷ Announce (past.Enter (stage.Run level.L3) 5) ∷ Announce (past.Enter stage.Boot 5) ∷ Announce (past.Enter stage.Sysinit 5) ∷ heard
+
+other_command-is_not : has_trace goal other_command opening ≡ false
+other_command-is_not = refl
+
+-- a late answer of an id that was asked nothing is nothing, and the look at the other is not due
+abbrev other_late : List HostCall
+other_late = Late None ∷ Late (Some (codes "w", Born 11)) ∷ TakeBytes 256 (Ok []) ∷ Clock (Ok 0) ∷ []
+
+other_late-is_nothing : (point_after (other_late ++ Pause ∷ (first_steps ++ heard)) opening).past ≡ past.Nudge ∷ past.Clock 0 ∷ (point_after (first_steps ++ heard) opening).past
+other_late-is_nothing = refl
+
+other_late-is_not : is_sound goal (point_after (last_steps ++ (other_late ++ Pause ∷ (first_steps ++ heard))) opening).past ≡ false
+other_late-is_not = refl
+
+-- a number that an unreaped child has was given again
+abbrev number_again : List HostCall
+number_again = Start (codes "b") (codes "y") (Now (Born 11)) ∷ Start (codes "a") (codes "x") (Now (Born 11)) ∷ Announce (past.Enter (stage.Run level.L3) 5) ∷ Announce (past.Enter stage.Boot 5) ∷ Announce (past.Enter stage.Sysinit 5) ∷ heard
+
+abbrev two_at_once : Point
+two_at_once = record { over = []; lates = 0; past = past.NewTable (entry (codes "a") (At level.L3 ∷ []) act.Once (codes "x") ∷ entry (codes "b") (At level.L3 ∷ []) act.Once (codes "+y") ∷ []) ∷ [] }
+
+number_again-in_place : has_trace goal number_again two_at_once ≡ true
+number_again-in_place = refl
+
+number_again-is_not_allowed : is_allowed goal (point_after number_again two_at_once).past ≡ false
+number_again-is_not_allowed = refl
+
+-- inittab is to be read again: the request came in two pieces
+abbrev reload : List ℕ
+reload = block_of_ints 1 113 5
+
+abbrev asked_to_read : List HostCall
+asked_to_read = Announce (past.Enter stage.Sysinit 5) ∷ Late None ∷ TakeBytes 256 (Ok []) ∷ TakeBytes 256 (Ok (drop 256 reload)) ∷ TakeBytes 256 (Ok (take 256 reload)) ∷ Clock (Ok 0) ∷ []
+
+asked_to_read-is : (point_after asked_to_read opening).past ≡ past.Enter stage.Sysinit 5 ∷ past.Nudge ∷ past.Got got.Reload ∷ past.Clock 0 ∷ opening.past
+asked_to_read-is = refl
+
+asked_to_read-over : (point_after asked_to_read opening).over ≡ []
+asked_to_read-over = refl
+
+-- its table is used, or it is said not to have been read
+abbrev is_used : List HostCall
+is_used = ReadTable (Ok []) ∷ asked_to_read
+
+is_used-in_place : has_trace goal is_used opening ≡ true
+is_used-in_place = refl
+
+is_used-sound : is_sound goal (point_after is_used opening).past ≡ true
+is_used-sound = refl
+
+is_used-is : (point_after is_used opening).past ≡ past.NewTable [] ∷ (point_after asked_to_read opening).past
+is_used-is = refl
+
+not_used-in_place : has_trace goal (Announce past.NotRead ∷ is_used) opening ≡ true
+not_used-in_place = refl
+
+not_used-is : (point_after (Announce past.NotRead ∷ is_used) opening).past ≡ past.NotRead ∷ (point_after asked_to_read opening).past
+not_used-is = refl
+
+-- but not where it was not read, nor is it read where that is not due
+not_read-is_not : has_trace goal (Announce past.NotRead ∷ asked_to_read) opening ≡ false
+not_read-is_not = refl
+
+read_again-is_not : has_trace goal (ReadTable (Ok []) ∷ is_used) opening ≡ false
+read_again-is_not = refl

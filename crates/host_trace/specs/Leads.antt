@@ -1,0 +1,94 @@
+-- What a part of init's work makes of its core and its log, as far as its host's answers were possible (init(8)).
+use Rattle.std.specs.Prelude.{◌≡◌, ℕ, Bool, true, false, ◌&&◌, ◌||◌, IsTrue, List, [], ◌∷◌, ◌++◌, length, take, reverse, Some, IfSome, is_some}
+use Rattle.initctl_frame.specs.Blocks.{Begun}
+use Rattle.init_trace.specs.declared.happenings.Happening.TheVariants.{NewTable}
+use Rattle.init_trace.specs.declared.steps.Goal.{Goal}
+use Rattle.init_trace.specs.declared.steps.Step.{Step}
+use Rattle.init_trace.specs.Event.{Event}
+use Rattle.init_trace.specs.Due.{due, first}
+use Rattle.init_trace.specs.Range.{are_in_range}
+use Rattle.init_trace.specs.Run.{step_in}
+use Rattle.init_trace.specs.Sound.{is_sound, may_come}
+use Rattle.core_state.specs.State.{CoreState}
+use Rattle.core_state.specs.Fit.{Fits, with_step}
+use Rattle.run_log.specs.Logs.{LogState}
+use Rattle.child_host.specs.Calls.{HostCall}
+use Rattle.host_trace.specs.Point.{Point, point_after, has_trace}
+
+-- the happening is a step of init's own
+abbrev pub is_own : Event → Bool
+is_own (NewTable table) = true
+is_own happening = is_some (step_in happening)
+
+-- The system and the edge did what they may do: each happening that is not a step of init's own may come where it
+-- stands.
+abbrev pub meets : Goal → Event → List Event → Bool
+meets goal happening so_far = is_own happening || may_come goal happening so_far
+
+abbrev pub is_allowed : Goal → List Event → Bool
+is_allowed goal [] = true
+is_allowed goal (happening ∷ so_far) = meets goal happening so_far && is_allowed goal so_far
+
+-- What a log took of the happenings that came, the newest first: those that came before it failed, and all as long as
+-- it has not. After it failed it takes nothing.
+pub record Takes (old new : LogState) (before came : List Event) : Type 0 where
+  pub took : List Event
+  pub missed : List Event
+  pub parts : came ≡ missed ++ took
+  pub told : new.taken ≡ Some (before ++ reverse took)
+  pub whole : new.failed ≡ false → missed ≡ []
+  pub nothing : old.failed ≡ true → took ≡ []
+  pub stays : old.failed ≡ true → new.failed ≡ true
+
+-- the trace has grown, and the log, where it told what it took, has taken of what came, if that can stand in a trace
+pub record Took (old new : LogState) (past now : List Event) : Type 0 where
+  pub came : List Event
+  pub grown : now ≡ came ++ past
+  pub log : IfSome old.taken (λ before. are_in_range came ≡ true → Takes old new before came)
+
+-- what fits the trace of a point fits the point
+abbrev pub On : (Goal → List Event → Type 0) → Goal → Point → Type 0
+On fit goal p = fit goal p.past
+
+-- init gave the step: it was the first due, and what fits now fits the trace with the step's happening
+abbrev pub Gave : (Goal → List Event → Type 0) → Step → Goal → List Event → Type 0
+Gave fit step goal past = (first (due goal past) ≡ step) × fit goal (with_step step past)
+
+-- the reader of requests stands after these bytes of the block under way
+pub record IsOver (blocks : Begun) (over : List ℕ) : Type 0 where
+  pub count : blocks.count ≡ length over
+  pub front : blocks.front ≡ take 16 over
+
+-- the core fits the trace, and the reader of requests stands where the trace does
+abbrev pub At : CoreState → Begun → Goal → Point → Type 0
+At core blocks goal p = On (Fits core) goal p × IsOver blocks p.over
+
+-- so many late answers were asked for since the clock was read
+abbrev pub Counted : ℕ → Goal → Point → Type 0
+Counted lates goal p = p.lates ≡ lates
+
+-- from a point on these calls were made: each in its place, and with them the trace is sound, fits, and went to the log
+pub record Went (fit : Goal → Point → Type 0) (old new : LogState) (goal : Goal) (p : Point) (calls : List HostCall)
+    : Type 0 where
+  pub in_place : IsTrue (has_trace goal calls p)
+  pub sound : IsTrue (is_sound goal (point_after calls p).past)
+  pub fits : fit goal (point_after calls p)
+  pub log : Took old new p.past (point_after calls p).past
+
+-- so it went from each point whose trace is sound and fitted, where the answers to the calls were possible
+abbrev pub Leads : (Goal → Point → Type 0) → (Goal → Point → Type 0) → LogState → LogState → List HostCall
+    → Type 0
+Leads fitted fit old new calls = (goal : Goal) (p : Point) → IsTrue (is_sound goal p.past) → fitted goal p
+    → IsTrue (is_allowed goal (point_after calls p).past) → Went fit old new goal p calls
+
+-- the same of what needs no call: an answer, a round, a request
+pub record Heard (fit : Goal → List Event → Type 0) (old new : LogState) (goal : Goal) (past now : List Event)
+    : Type 0 where
+  pub sound : IsTrue (is_sound goal now)
+  pub fits : fit goal now
+  pub log : Took old new past now
+
+abbrev pub Hears : (Goal → List Event → Type 0) → (Goal → List Event → Type 0) → LogState → LogState
+    → (List Event → List Event) → Type 0
+Hears fitted fit old new more = (goal : Goal) (past : List Event) → IsTrue (is_sound goal past) → fitted goal past
+    → IsTrue (is_allowed goal (more past)) → Heard fit old new goal past (more past)

@@ -1,0 +1,193 @@
+-- Which trace the calls of a host are (init(8)). Calls, like happenings, stand THE NEWEST FIRST.
+use Rattle.std.specs.Prelude.{ℕ, Bool, true, false, ◌&&◌, ◌||◌, ◌+◌, ◌==◌, nat_lt, if◌then◌else◌, List, [], ◌∷◌, ◌++◌, length, Option, Some, None, is_none, Result, Ok, Err}
+use Rattle.std.specs.Option.{option_map_or}
+use Rattle.std.specs.Cmp.Lexicographic.{pointwise}
+use Rattle.init_words.specs.declared.orders.Answer.{Answer}
+use Rattle.init_words.specs.declared.orders.Answer.TheVariants as answer
+use Rattle.init_words.specs.declared.orders.Ask.{Ask}
+use Rattle.init_words.specs.declared.orders.Ask.TheVariants as ask
+use Rattle.init_words.specs.declared.orders.Sig.{Sig}
+use Rattle.init_words.specs.declared.orders.Sig.TheVariants as signal
+use Rattle.init_words.specs.Entries.{command_of}
+use Rattle.init_words.specs.Ids.{same_id}
+use Rattle.init_words.specs.Orders.{answers}
+use Rattle.inittab_text.specs.declared.reading.TheConstants.{TEXT_LIMIT}
+use Rattle.inittab_text.specs.Reading.{table_of_text}
+use Rattle.inittab_text.specs.Tables.{entry_of}
+use Rattle.initctl_frame.specs.Frames.{got_of}
+use Rattle.init_trace.specs.declared.happenings.Handed.TheVariants as handed
+use Rattle.init_trace.specs.declared.happenings.Happening.TheVariants as past
+use Rattle.init_trace.specs.declared.steps.Goal.{Goal}
+use Rattle.init_trace.specs.declared.steps.Step.TheVariants as step
+use Rattle.init_trace.specs.Event.{Event}
+use Rattle.init_trace.specs.Past.{open_of, table_of}
+use Rattle.init_trace.specs.Due.{is_due}
+use Rattle.child_host.specs.declared.calls.Call.TheVariants.{Start, Look, Signal, Late, Clock, TakeBytes, ReadTable, Carry, Announce, Pause}
+use Rattle.child_host.specs.declared.calls.HostFault.{HostFault}
+use Rattle.child_host.specs.declared.calls.Reply.{Reply}
+use Rattle.child_host.specs.declared.calls.Reply.TheVariants.{Now, Later}
+use Rattle.child_host.specs.Calls.{HostCall, TextRead}
+use Rattle.host_trace.specs.declared.TheConstants.{LATE_LIMIT}
+
+-- where a record stands: the bytes of a block under way, how many late answers were asked for since the clock was read,
+-- and the trace
+pub record Point : Type 0 where
+  pub over : List ℕ
+  pub lates : ℕ
+  pub past : List Event
+
+-- the number of the id's last birth; 0 before the first
+abbrev pub last_birth : List ℕ → List Event → ℕ
+last_birth id [] = 0
+last_birth id (past.Birth i number ∷ so_far) = if same_id id i then number else last_birth id so_far
+last_birth id (_ ∷ so_far) = last_birth id so_far
+
+-- the act that an answer is; an end is a death and a reaping, of the child that was born last
+abbrev pub acted : List ℕ → Answer → List Event → List Event
+acted id (answer.Born number) so_far = past.Birth id number ∷ so_far
+acted id answer.NotBorn so_far = past.NoBirth id ∷ so_far
+acted id (answer.Ended status) so_far =
+    past.Reaped id (last_birth id so_far) status ∷ past.Death (last_birth id so_far) ∷ so_far
+acted id answer.Alive so_far = past.Still id ∷ so_far
+acted id answer.NoLook so_far = past.NoLook id ∷ so_far
+acted id answer.Hit so_far = past.Hit id ∷ so_far
+acted id answer.Miss so_far = past.Miss id ∷ so_far
+
+-- the id has an open order of the answer's kind: init takes no other answer
+abbrev pub is_asked_for : List ℕ → Answer → List Event → Bool
+is_asked_for id given so_far = option_map_or (answers given) (open_of id so_far) false
+
+-- an answer that was asked for is its act, and that it was told; any other is nothing
+abbrev pub answered : List ℕ → Answer → List Event → List Event
+answered id given so_far =
+    if is_asked_for id given so_far then past.Told id ∷ acted id given so_far else so_far
+
+-- an order and its reply; one that comes later counts as done when it is given
+abbrev pub replied : List ℕ → Reply → List Event → List Event
+replied id (Now given) so_far = answered id given so_far
+replied id Later so_far = so_far
+
+abbrev pub ordered : List ℕ → Ask → Reply → List Event → List Event
+ordered id ask reply so_far = replied id reply (past.Asked id ask ∷ so_far)
+
+abbrev pub order_for : Sig → Ask
+order_for signal.Term = ask.Term
+order_for signal.Kill = ask.Kill
+
+-- what came late; the round begins behind the call that gave nothing, or the last that a turn may make
+abbrev pub come : Option (List ℕ × Answer) → List Event → List Event
+come (Some late) so_far = answered late.0 late.1 so_far
+come None so_far = so_far
+
+abbrev pub is_last : Option (List ℕ × Answer) → ℕ → Bool
+is_last late lates = is_none late || lates + 1 == LATE_LIMIT
+
+abbrev pub nudged_if : Bool → List Event → List Event
+nudged_if true so_far = past.Nudge ∷ so_far
+nudged_if false so_far = so_far
+
+-- a reading of the clock; one that failed is none
+abbrev pub clocked : Result ℕ HostFault → List Event → List Event
+clocked (Ok reading) so_far = past.Clock reading ∷ so_far
+clocked (Err fault) so_far = so_far
+
+-- a byte more: the block that it fills is a request
+abbrev pub filled : List ℕ → Point → Point
+filled over p =
+    if length over == 384 then record p { over = []; past = past.Got (got_of over) ∷ p.past }
+    else record p { over = over }
+
+abbrev pub byte_after : ℕ → Point → Point
+byte_after byte p = filled (p.over ++ byte ∷ []) p
+
+-- the bytes in their order, the first first
+abbrev pub bytes_after : List ℕ → Point → Point
+bytes_after [] p = p
+bytes_after (byte ∷ bytes) p = bytes_after bytes (byte_after byte p)
+
+abbrev pub taken_after : TextRead → Point → Point
+taken_after (Ok bytes) p = bytes_after bytes p
+taken_after (Err fault) p = p
+
+-- a reading of inittab is the use of its table, or that it could not be read: that it failed, or is too long
+abbrev pub reading : TextRead → Event
+reading (Ok text) = if nat_lt TEXT_LIMIT (length text) then past.NotRead else past.NewTable (table_of_text text)
+reading (Err fault) = past.NotRead
+
+-- the past before the reading of inittab that stands newest
+abbrev pub before_reading : List Event → List Event
+before_reading (past.NewTable table ∷ so_far) = so_far
+before_reading (past.NotRead ∷ so_far) = so_far
+before_reading so_far = so_far
+
+-- these are announced as they happen
+abbrev pub is_said : Event → Bool
+is_said (past.Enter stage grace) = true
+is_said (past.Call letter) = true
+is_said (past.Power kind) = true
+is_said (past.Hold id) = true
+is_said (past.Settle level) = true
+is_said (past.Handed handed.Failed) = true
+is_said _ = false
+
+-- What is announced stands in the trace: steps of init, and that it was not executed anew. That inittab could not be
+-- read stands for the reading, whose table was not taken.
+abbrev pub announced : Event → List Event → List Event
+announced past.NotRead so_far = past.NotRead ∷ before_reading so_far
+announced happening so_far = if is_said happening then happening ∷ so_far else so_far
+
+-- What a call makes of the trace. Nothing comes of a carried text yet: init is not executed anew, and says so.
+abbrev pub after : HostCall → Point → Point
+after (Start id command reply) p = record p { past = ordered id ask.Start reply p.past }
+after (Look id reply) p = record p { past = ordered id ask.Look reply p.past }
+after (Signal id sent reply) p = record p { past = ordered id (order_for sent) reply p.past }
+after (Late late) p =
+    record p { lates = p.lates + 1; past = nudged_if (is_last late p.lates) (come late p.past) }
+after (Clock time) p = record p { lates = 0; past = clocked time p.past }
+after (TakeBytes room taken) p = taken_after taken p
+after (ReadTable text) p = record p { past = reading text ∷ p.past }
+after (Carry text back) p = p
+after (Announce happening) p = record p { past = announced happening p.past }
+after Pause p = p
+
+-- what calls make of it, the newest first
+abbrev pub point_after : List HostCall → Point → Point
+point_after [] p = p
+point_after (call ∷ calls) p = after call (point_after calls p)
+
+-- two texts are one
+abbrev pub same_text : List ℕ → List ℕ → Bool
+same_text = pointwise ◌==◌
+
+-- the text is the command of the id's entry in the table in force
+abbrev pub is_command : List ℕ → List ℕ → List Event → Bool
+is_command id text so_far =
+    option_map_or (λ e. same_text text (command_of e)) (entry_of id (table_of so_far)) false
+
+-- inittab was read in the call before
+abbrev pub was_reading : List HostCall → Bool
+was_reading (ReadTable text ∷ calls) = true
+was_reading _ = false
+
+-- What is announced is one of init's steps, or a step that was due and came to nothing: inittab was read in the call
+-- before, or init was to be executed anew.
+abbrev pub may_announce : Goal → Event → List HostCall → List Event → Bool
+may_announce goal past.NotRead earlier so_far = was_reading earlier
+may_announce goal (past.Handed how) earlier so_far =
+    is_said (past.Handed how) && is_due goal step.Reexec so_far
+may_announce goal happening earlier so_far = is_said happening
+
+-- The call may be made there: a start is of the id's command in the table in force, and inittab is read where that is
+-- due. A text is not carried yet.
+abbrev pub is_in_place : Goal → HostCall → List HostCall → List Event → Bool
+is_in_place goal (Start id command reply) earlier so_far = is_command id command so_far
+is_in_place goal (ReadTable text) earlier so_far = is_due goal step.Reread so_far
+is_in_place goal (Carry text back) earlier so_far = false
+is_in_place goal (Announce happening) earlier so_far = may_announce goal happening earlier so_far
+is_in_place goal _ earlier so_far = true
+
+-- the calls have a trace: each was made in its place
+abbrev pub has_trace : Goal → List HostCall → Point → Bool
+has_trace goal [] p = true
+has_trace goal (call ∷ calls) p =
+    is_in_place goal call calls (point_after calls p).past && has_trace goal calls p

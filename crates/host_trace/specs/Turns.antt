@@ -1,0 +1,97 @@
+-- What calls a turn of init makes of its host, and what calls many turns make (init(8)). The newest stand first.
+use Rattle.std.specs.Prelude.{◌≡◌, ◌≤◌, ◌⊎◌, ◌+◌, ℕ, zero, suc, Bool, true, false, ◌&&◌, ◌||◌, ◌==◌, nat_le, nat_lt, IsTrue, List, [], ◌∷◌, ◌++◌, length, Some, None, Result, Ok, Err}
+use Rattle.std.specs.List.{list_all}
+use Rattle.init_trace.specs.declared.happenings.Happening.TheVariants.{NotRead}
+use Rattle.init_trace.specs.declared.steps.Goal.{Goal}
+use Rattle.init_trace.specs.declared.steps.Step.TheVariants.{Idle}
+use Rattle.init_trace.specs.Due.{due, first}
+use Rattle.init_trace.specs.Sound.{is_sound}
+use Rattle.child_host.specs.declared.calls.Call.TheVariants.{Start, Look, Signal, Late, Clock, TakeBytes, ReadTable, Carry, Announce, Pause}
+use Rattle.child_host.specs.declared.calls.HostFault.{HostFault}
+use Rattle.child_host.specs.Calls.{HostCall, TextRead}
+use Rattle.host_trace.specs.declared.TheConstants.{BYTE_LIMIT, PIECE, LATE_LIMIT, STEP_LIMIT}
+use Rattle.host_trace.specs.Point.{Point, point_after}
+use Rattle.host_trace.specs.Leads.{is_allowed}
+
+-- a call that takes no bytes
+abbrev pub takes_none : HostCall → Bool
+takes_none (TakeBytes room taken) = false
+takes_none _ = true
+
+-- how many bytes the calls took
+abbrev pub bytes_in : TextRead → ℕ
+bytes_in (Ok bytes) = length bytes
+bytes_in (Err fault) = 0
+
+abbrev pub bytes_taken : List HostCall → ℕ
+bytes_taken [] = 0
+bytes_taken (TakeBytes room taken ∷ calls) = bytes_taken calls + bytes_in taken
+bytes_taken (_ ∷ calls) = bytes_taken calls
+
+-- room for at least one byte, no more than a piece, and no more than what is left of the turn's
+abbrev pub is_room : ℕ → ℕ → Bool
+is_room room before = nat_le 1 room && nat_le room PIECE && nat_le (before + room) BYTE_LIMIT
+
+-- bytes were asked for, and each call gave some
+abbrev pub are_full : List HostCall → Bool
+are_full [] = true
+are_full (TakeBytes room taken ∷ calls) =
+    is_room room (bytes_taken calls) && nat_le 1 (bytes_in taken) && are_full calls
+are_full _ = false
+
+-- so until a call gave none, or failed, or all were taken that a turn may take
+abbrev pub are_takes : List HostCall → Bool
+are_takes (TakeBytes room taken ∷ calls) =
+    is_room room (bytes_taken calls) && are_full calls
+    && (bytes_in taken == 0 || bytes_taken calls + bytes_in taken == BYTE_LIMIT)
+are_takes _ = false
+
+-- late answers were asked for until there was none, or as often as a turn may ask
+abbrev pub has_come : HostCall → Bool
+has_come (Late (Some late)) = true
+has_come _ = false
+
+abbrev pub are_lates : List HostCall → Bool
+are_lates (Late None ∷ calls) = list_all has_come calls && nat_lt (length calls) LATE_LIMIT
+are_lates calls = list_all has_come calls && length calls == LATE_LIMIT
+
+-- a call that carries out a step, or ends one
+abbrev pub is_step_call : HostCall → Bool
+is_step_call (Start id command reply) = true
+is_step_call (Look id reply) = true
+is_step_call (Signal id sent reply) = true
+is_step_call (ReadTable text) = true
+is_step_call (Carry text back) = true
+is_step_call (Announce happening) = true
+is_step_call _ = false
+
+-- how many steps they carry out: that inittab could not be read ends a step that began with the reading
+abbrev pub steps_in : List HostCall → ℕ
+steps_in [] = 0
+steps_in (Announce NotRead ∷ calls) = steps_in calls
+steps_in (call ∷ calls) = steps_in calls + 1
+
+-- A turn: it reads the clock, takes bytes, takes late answers, and takes steps until it is done, or has taken as many
+-- as a turn may.
+pub record IsTurn (done : Bool) (calls : List HostCall) : Type 0 where
+  pub time : Result ℕ HostFault
+  pub takes : List HostCall
+  pub lates : List HostCall
+  pub steps : List HostCall
+  pub whole : calls ≡ steps ++ (lates ++ (takes ++ Clock time ∷ []))
+  pub byte_calls : are_takes takes ≡ true
+  pub late_calls : are_lates lates ≡ true
+  pub step_calls : list_all is_step_call steps ≡ true
+  pub most : steps_in steps ≤ STEP_LIMIT
+  pub ended : IsTrue done ⊎ (steps_in steps ≡ STEP_LIMIT)
+
+-- nothing is due behind the calls: from each point whose trace is sound and fitted, where the answers were possible
+abbrev pub Rests : (Goal → Point → Type 0) → List HostCall → Type 0
+Rests fitted calls = (goal : Goal) (p : Point) → IsTrue (is_sound goal p.past) → fitted goal p
+    → IsTrue (is_allowed goal (point_after calls p).past) → first (due goal (point_after calls p).past) ≡ Idle
+
+-- so many turns, with a pause behind each; behind each that is done nothing is due
+abbrev pub AreTurns : (Goal → Point → Type 0) → ℕ → List HostCall → Type 0
+AreTurns fitted zero calls = calls ≡ []
+AreTurns fitted (suc n) calls = (done : Bool) × (last before : List HostCall) × (calls ≡ Pause ∷ (last ++ before))
+    × IsTurn done last × (IsTrue done → Rests fitted (last ++ before)) × AreTurns fitted n before

@@ -1,0 +1,27 @@
+ghost use Rattle.std.specs.Prelude.{◌≡◌, ◌++◌, ℕ, IsTrue, List};
+ghost use Rattle.initctl_frame.specs.Blocks.{over_of};
+ghost use Rattle.init_trace.specs.declared.steps.Goal.{Goal};
+ghost use Rattle.child_host.specs.Calls.{HostCall};
+ghost use Rattle.host_trace.specs.Point.{Point, point_after, has_trace};
+ghost use Rattle.host_trace.specs.Leads.{is_allowed};
+ghost use Rattle.host_trace.specs.Requests.{Brings};
+
+/// The requests that the calls bring into the trace are those of the blocks that the bytes taken fill, behind bytes
+/// that came before: all of them, in their order, and no others; and the bytes over are those of the whole list. It
+/// does nothing: its contract is the law.
+pub fn law_of_requests()
+    ensures { (calls : List HostCall) (before : List ℕ) (p : Point) → p.over ≡ over_of before
+        → Brings before calls p }
+{}
+
+/// The trace of calls in two parts is that of the later, from where the earlier ones stand; and as far as the answers
+/// to all were possible, those to the earlier ones were. It does nothing: its contract is the law.
+pub fn law_of_parts()
+    ensures point { (later earlier : List HostCall) (p : Point)
+        → point_after (later ++ earlier) p ≡ point_after later (point_after earlier p) }
+    ensures in_place { (goal : Goal) (later earlier : List HostCall) (p : Point)
+        → IsTrue (has_trace goal later (point_after earlier p)) → IsTrue (has_trace goal earlier p)
+        → IsTrue (has_trace goal (later ++ earlier) p) }
+    ensures possible { (goal : Goal) (calls : List HostCall) (p : Point)
+        → IsTrue (is_allowed goal (point_after calls p).past) → IsTrue (is_allowed goal p.past) }
+{}
