@@ -22,9 +22,9 @@ use Rattle.child_table.specs.State.{SlotState, child_number}
 use Rattle.child_table.specs.Lists as lists
 use Rattle.core_state.specs.State.{CoreState}
 use Rattle.core_state.specs.Fit.{Fits, child_known, living, record_of}
-use Rattle.core_state.proofs.Acts.{found_record}
+use Rattle.core_state.proofs.Acts.{found_record, child_some}
 use Rattle.core_state.proofs.Fitted.{fit_records}
-use Rattle.core_state.proofs.Reading.{any_found, child_some}
+use Rattle.core_state.proofs.Reading.{any_found}
 use Rattle.host_trace.specs.Point.{last_birth, acted}
 use Rattle.host_trace.specs.Leads.{is_allowed}
 use Rattle.host_trace.proofs.Leading.{allowed_first}
