@@ -146,18 +146,19 @@ acted_by goal c so_far sound fits id answer.Miss allowed =
     record { sound = more; fits = fits_act goal so_far c sound fits (past.Miss id) refl more; under_way = rw (same_id-self id) refl }
 
 -- An answer: one that the core takes is its act and that it was told; one that it refuses is nothing.
-pub Hears-answer : (c new : CoreState) (l₀ l₁ : LogState) (id : List ℕ) (given : Answer) (result : Result (Unit {0}) Refusal) → result ≡ lists.refusal_of (lists.order_in id c.slots) given → OnOk result (new ≡ after_told id given c) → OnErr result (new ≡ c) → OnOk result ((so_far : List Event) → Took l₀ l₁ so_far (past.Told id ∷ acted id given so_far)) → OnErr result ((so_far : List Event) → Took l₀ l₁ so_far so_far) → Hears (Fits c) (Fits new) l₀ l₁ (answered id given)
+pub Hears-answer : (c new : CoreState) (l₀ l₁ : LogState) (id : List ℕ) (given : Answer) (result : Result (Unit {0}) Refusal) → result ≡ lists.refusal_of (lists.order_in id c.slots) given → OnOk result (new ≡ after_told id given c) → OnErr result (new ≡ c) → OnOk result ((goal : Goal) (so_far : List Event) → is_sound goal so_far ≡ true → Fits c goal so_far → is_allowed goal (acted id given so_far) ≡ true → Took l₀ l₁ so_far (past.Told id ∷ acted id given so_far)) → OnErr result ((so_far : List Event) → Took l₀ l₁ so_far so_far) → Hears (Fits c) (Fits new) l₀ l₁ (answered id given)
 Hears-answer c new l₀ l₁ id given (Ok tt) is told same took left goal so_far sound fits allowed = by (is_asked_for id given so_far) refl (taken_asked (open_of id so_far) given (is ∙ ap (λ o. lists.refusal_of o given) (order_same goal so_far c sound fits id)))
   where
     by : (b : Bool) → is_asked_for id given so_far ≡ b → b ≡ true → Heard (Fits new) l₀ l₁ goal so_far (answered id given so_far)
     by b is so =
         let asked : answered id given so_far ≡ past.Told id ∷ acted id given so_far = ap (λ b. cond b (past.Told id ∷ acted id given so_far) so_far) (is ∙ so) in
         let possible : is_allowed goal (past.Told id ∷ acted id given so_far) ≡ true = ap (is_allowed goal) (sym asked) ∙ allowed in
-        let done : Acted goal c id given (acted id given so_far) = acted_by goal c so_far sound fits id given (allowed_rest goal (past.Told id) (acted id given so_far) possible) in
+        let was : is_allowed goal (acted id given so_far) ≡ true = allowed_rest goal (past.Told id) (acted id given so_far) possible in
+        let done : Acted goal c id given (acted id given so_far) = acted_by goal c so_far sound fits id given was in
         subst (Heard (Fits new) l₀ l₁ goal so_far) (sym asked) (record {
           sound = sound_met goal (past.Told id) (acted id given so_far) refl possible done.sound;
           fits = subst (λ s. Fits s goal (past.Told id ∷ acted id given so_far)) (sym told) (fits_told goal (acted id given so_far) c done.sound done.fits id given done.under_way);
-          log = took so_far;
+          log = took goal so_far sound fits was;
         })
 Hears-answer c new l₀ l₁ id given (Err why) is told same took left goal so_far sound fits allowed =
     let unasked : is_asked_for id given so_far ≡ false = refused_unasked (open_of id so_far) given why (is ∙ ap (λ o. lists.refusal_of o given) (order_same goal so_far c sound fits id)) in

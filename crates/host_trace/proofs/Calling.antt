@@ -1,8 +1,7 @@
 -- What each call leads to: its core fits the trace with it, where the call was in its place and its answer was possible.
-use Rattle.std.proofs.Common.{◌≡◌, refl, sym, ◌∙◌, ap, subst, ℕ, ◌+◌, ◌≤◌, Bool, true, false, cond, List, [], ◌∷◌, length, nat_lt, Option, Some, None, Ok, Err, Result}
+use Rattle.std.proofs.Common.{◌≡◌, refl, sym, ◌∙◌, ap, subst, ℕ, ◌+◌, ◌≤◌, Bool, true, false, cond, List, [], ◌∷◌, length, nat_lt, Option, Some, Ok, Err, Result}
 use Rattle.std.specs.Option.{option_map_or}
 use Rattle.std.proofs.lemmas.Bool.{and_from, le-ltb}
-use Rattle.std.proofs.lemmas.Option.{none-some}
 use Rattle.init_words.specs.declared.entries.Entry.{Entry}
 use Rattle.init_words.specs.declared.orders.Answer.{Answer}
 use Rattle.init_words.specs.declared.orders.Ask.{Ask}
@@ -18,11 +17,8 @@ use Rattle.init_trace.specs.declared.happenings.Happening.TheVariants as past
 use Rattle.init_trace.specs.declared.steps.Goal.{Goal}
 use Rattle.init_trace.specs.declared.steps.Step.TheVariants as step
 use Rattle.init_trace.specs.Event.{Event}
-use Rattle.init_trace.specs.Past.{table_of}
 use Rattle.init_trace.specs.Due.{is_due}
 use Rattle.init_trace.specs.Sound.{is_sound}
-use Rattle.trace_laws.proofs.Dues.{MayStart, due_facts}
-use Rattle.trace_laws.proofs.Keeps.{sound_holds}
 use Rattle.trace_laws.proofs.Runs.{first_due}
 use Rattle.child_table.specs.Lists as lists
 use Rattle.core_state.specs.State.{CoreState}
@@ -54,12 +50,6 @@ command_placed goal so_far c id command e fits own is =
     ap (λ table. option_map_or (λ e. same_text command (command_of e)) (entry_of id table) false) (sym fits.table.table)
     ∙ ap (λ o. option_map_or (λ e. same_text command (command_of e)) o false) own
     ∙ ap (λ text. same_text text (command_of e)) is ∙ same_id-self (command_of e)
-
--- a start that is due has an entry
-pub start_listed : (goal : Goal) (so_far : List Event) (c : CoreState) (id : List ℕ) → is_sound goal so_far ≡ true → Gave (Fits c) (step.Order id ask.Start) goal so_far → entry_of id c.table ≡ None → ⊥
-start_listed goal so_far c id sound gave none =
-    let may : MayStart id (table_of so_far) so_far = due_facts goal so_far (step.Order id ask.Start) (first_due goal so_far (step.Order id ask.Start) gave.0 refl) in
-    none-some may.run.entry (sym none ∙ ap (entry_of id) gave.1.table.table ∙ may.run.found (sound_holds goal so_far sound).distinct)
 
 pub Leads-start : (c new : CoreState) (l₀ l₁ : LogState) (id command : List ℕ) (reply : Reply) (e : Entry) → entry_of id c.table ≡ Some e → command ≡ command_of e → Hears (Gave (Fits c) (step.Order id ask.Start)) (Fits new) l₀ l₁ (ordered id ask.Start reply) → Leads (On (Gave (Fits c) (step.Order id ask.Start))) (On (Fits new)) l₀ l₁ (Start id command reply ∷ [])
 Leads-start c new l₀ l₁ id command reply e own is hears = Leads-heard (Gave (Fits c) (step.Order id ask.Start)) (Fits new) l₀ l₁ (Start id command reply) (ordered id ask.Start reply) hears (λ p. refl) (λ goal p sound gave. command_placed goal p.past c id command e gave.1 own is)

@@ -6,6 +6,9 @@ use Rattle.init_trace.specs.declared.steps.Goal.{Goal}
 use Rattle.init_trace.specs.declared.steps.Step.TheVariants.{Idle}
 use Rattle.init_trace.specs.Due.{due, first}
 use Rattle.init_trace.specs.Sound.{is_sound}
+use Rattle.core_state.specs.State.{CoreState}
+use Rattle.core_state.specs.Decide.{is_drained}
+use Rattle.core_state.specs.Fit.{Fits}
 use Rattle.child_host.specs.declared.calls.Call.TheVariants.{Start, Look, Signal, Late, Clock, TakeBytes, ReadTable, Carry, Announce, Pause}
 use Rattle.child_host.specs.declared.calls.HostFault.{HostFault}
 use Rattle.child_host.specs.Calls.{HostCall, TextRead}
@@ -90,8 +93,16 @@ abbrev pub Rests : (Goal → Point → Type 0) → List HostCall → Type 0
 Rests fitted calls = (goal : Goal) (p : Point) → IsTrue (is_sound goal p.past) → fitted goal p
     → IsTrue (is_allowed goal (point_after calls p).past) → first (due goal (point_after calls p).past) ≡ Idle
 
--- so many turns, with a pause behind each; behind each that is done nothing is due
-abbrev pub AreTurns : (Goal → Point → Type 0) → ℕ → List HostCall → Type 0
-AreTurns fitted zero calls = calls ≡ []
-AreTurns fitted (suc n) calls = (done : Bool) × (last before : List HostCall) × (calls ≡ Pause ∷ (last ++ before))
-    × IsTurn done last × (IsTrue done → Rests fitted (last ++ before)) × AreTurns fitted n before
+-- behind the calls there is something left to do, or something runs: a core that fits there is not drained
+abbrev pub Undrained : (Goal → Point → Type 0) → List HostCall → Type 0
+Undrained fitted calls = (goal : Goal) (p : Point) → IsTrue (is_sound goal p.past) → fitted goal p
+    → IsTrue (is_allowed goal (point_after calls p).past)
+    → (core : CoreState) × Fits core goal (point_after calls p).past × (is_drained core ≡ false)
+
+-- So many turns, with a pause behind each. Behind each that is done nothing is due; and where they end when init is
+-- drained, none but the last left it so.
+abbrev pub AreTurns : Bool → (Goal → Point → Type 0) → ℕ → List HostCall → Type 0
+AreTurns drain fitted zero calls = calls ≡ []
+AreTurns drain fitted (suc n) calls = (done : Bool) × (last before : List HostCall) × (calls ≡ Pause ∷ (last ++ before))
+    × IsTurn done last × (IsTrue done → Rests fitted (last ++ before)) × (IsTrue drain → (n ≡ 0) ⊎ Undrained fitted before)
+    × AreTurns drain fitted n before

@@ -1,0 +1,5 @@
+pub mod Carried
+pub mod Listed
+pub mod Parts
+pub mod Taken
+pub mod Turning

@@ -1,0 +1,25 @@
+use Rattle.std.proofs.Common.{rules, ◌≡◌, refl, subst, ◌∷◌, false}
+use Rattle.init_trace.specs.declared.happenings.Happening.TheVariants as past
+use Rattle.init_trace.specs.declared.steps.Step.TheVariants as step
+use Rattle.core_state.specs.Fit.{Fits}
+use Rattle.child_host.specs.declared.calls.Call.TheVariants.{Announce, ReadTable}
+use Rattle.core_state.specs.Fit.{OnEachTrace}
+use Rattle.host_trace.specs.Leads.{Gave, On, Took}
+use Rattle.host_trace.proofs.Calling.{Leads-not_read}
+use Rattle.host_turns.specs.Parts.{AreSteps}
+use Rattle.host_turns.proofs.Parts.{Makes-two}
+use Rattle.host_turns.proofs.rereading.reread.Goals as goal
+
+pub returns : goal.returns
+returns g c =
+    let core = c.args.core.now in
+    let new = c.not_read.new.self in
+    let log = g.L.Log.state c.args.log.now in
+    let now_log = g.L.Log.state c.write.new.log in
+    let failed : c.use_table.result ≡ false = search rules in
+    let read = c.use_table.ensures.read failed in
+    Makes-two (g.H.Host.told c.args.host.now) (g.H.Host.told c.use_table.new.host) (g.H.Host.told c.announce.new.self) log now_log (ReadTable read.0) (Announce past.NotRead) (AreSteps 1) (On (Gave (Fits core) step.Reread)) (On (Fits new))
+    read.1 c.announce.ensures.adds (refl, refl)
+    (Leads-not_read core new log now_log read.0
+    (subst (λ s. OnEachTrace s (λ goal so_far. Fits new goal (past.NotRead ∷ so_far))) (c.use_table.ensures.core failed) c.not_read.ensures.fits)
+    (subst (λ l. (so_far : _) → Took l now_log so_far (past.NotRead ∷ so_far)) (c.use_table.ensures.log failed) c.write.ensures))

@@ -1,0 +1,89 @@
+ghost use Rattle.std.specs.Prelude.{◌≡◌, true, is_some};
+ghost use Rattle.inittab_text.specs.Tables.{entry_of};
+ghost use Rattle.init_trace.specs.declared.steps.Step.TheVariants as step;
+ghost use Rattle.core_state.specs.Fit.{Fits};
+ghost use Rattle.host_trace.specs.Leads.{Gave, On};
+ghost use Rattle.host_trace.specs.Point.{order_for};
+ghost use Rattle.host_turns.specs.Parts.{AreSteps, Makes, is_listed};
+
+use crate::answering::{hear_reply, note};
+use child_host::Host;
+use init_trace::Happening;
+use init_words::{Ask, Id, Sig};
+use level_core::Core;
+use run_log::Log;
+use std::alloc::Allocator;
+
+/// The order by which a signal is sent.
+fn order_for(sent: &Sig) -> Ask
+    ensures { result ≡ order_for sent.now }
+{
+    match sent {
+        Sig::Term => Ask::Term,
+        Sig::Kill => Ask::Kill,
+    }
+}
+
+fn start<A: Allocator + Copy, H: Host, L: Log>(
+    alloc: A,
+    core: &mut Core<A>,
+    host: &mut H,
+    log: &mut L,
+    id: Id,
+)
+    requires { is_some (entry_of id core.old.table) ≡ true }
+    ensures { Makes (H.told host.old) (H.told host.new) (L.state log.old) (L.state log.new)
+        (AreSteps 1) (On (Gave (Fits core.old) (step.Order id Ask.Start))) (On (Fits core.new)) }
+{
+    let Some(entry) = core.table().get(&id) else {
+        unreachable!()
+    };
+    note(log, Happening::Asked(id, Ask::Start));
+    let reply = host.start(alloc, id, entry.command());
+    hear_reply(core, log, id, &reply);
+}
+
+fn look<A: Allocator, H: Host, L: Log>(core: &mut Core<A>, host: &mut H, log: &mut L, id: Id)
+    ensures { Makes (H.told host.old) (H.told host.new) (L.state log.old) (L.state log.new)
+        (AreSteps 1) (On (Gave (Fits core.old) (step.Order id Ask.Look))) (On (Fits core.new)) }
+{
+    note(log, Happening::Asked(id, Ask::Look));
+    let reply = host.look(id);
+    hear_reply(core, log, id, &reply);
+}
+
+fn signal<A: Allocator, H: Host, L: Log>(
+    core: &mut Core<A>,
+    host: &mut H,
+    log: &mut L,
+    id: Id,
+    sent: Sig,
+)
+    ensures { Makes (H.told host.old) (H.told host.new) (L.state log.old) (L.state log.new)
+        (AreSteps 1) (On (Gave (Fits core.old) (step.Order id (order_for sent)))) (On (Fits core.new)) }
+{
+    note(log, Happening::Asked(id, order_for(&sent)));
+    let reply = host.signal(id, sent);
+    hear_reply(core, log, id, &reply);
+}
+
+/// Gives the host an order about the id, and hears what it replies.
+pub(crate) fn order<A: Allocator + Copy, H: Host, L: Log>(
+    alloc: A,
+    core: &mut Core<A>,
+    host: &mut H,
+    log: &mut L,
+    id: Id,
+    ask: &Ask,
+)
+    requires { is_listed core.old.table (step.Order id ask.now) ≡ true }
+    ensures { Makes (H.told host.old) (H.told host.new) (L.state log.old) (L.state log.new)
+        (AreSteps 1) (On (Gave (Fits core.old) (step.Order id ask.now))) (On (Fits core.new)) }
+{
+    match *ask {
+        Ask::Start => start(alloc, core, host, log, id),
+        Ask::Look => look(core, host, log, id),
+        Ask::Term => signal(core, host, log, id, Sig::Term),
+        Ask::Kill => signal(core, host, log, id, Sig::Kill),
+    }
+}
