@@ -43,6 +43,17 @@ id-after_judge table stage slot = child slot.child
     child None = refl
     child (Some living) = by (is_excluded stage living.act (entry_of slot.id table))
 
+pub order-after_judge : (table : List Entry) (stage : Stage) (slot : SlotState) → (after_judge table stage slot).order ≡ slot.order
+order-after_judge table stage slot = child slot.child
+  where
+    by : (b : Bool) → (judged b slot).order ≡ slot.order
+    by true = refl
+    by false = refl
+
+    child : (child : Option Living) → (judged_child stage table child slot).order ≡ slot.order
+    child None = refl
+    child (Some living) = by (is_excluded stage living.act (entry_of slot.id table))
+
 due_timely : (now : ℕ) (stop : Option Stop) → is_stop_timely now stop ≡ true → is_stop_timely now (option_or stop (Some Due)) ≡ true
 due_timely now None h = refl
 due_timely now (Some stop) h = h

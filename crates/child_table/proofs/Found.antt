@@ -45,14 +45,14 @@ pub distinct_in : {S : Type 0} (m : IndexMap (List ℕ) SlotState S) (slots : Li
 distinct_in m slots own unique is = rw (← is) (distinct_kept m.entries own unique)
 
 -- none behind the record of an id has that id
-others : (id : List ℕ) (slot : SlotState) (slots : List SlotState) → are_distinct (slot ∷ slots) ≡ true → is_slot_of id slot ≡ true → is_listed id slots ≡ false
+pub others : (id : List ℕ) (slot : SlotState) (slots : List SlotState) → are_distinct (slot ∷ slots) ≡ true → is_slot_of id slot ≡ true → is_listed id slots ≡ false
 others id slot slots distinct is = subst (λ k. is_listed k slots ≡ false) (sym (same_id-is id slot.id is)) (not-true (is_listed slot.id slots) (and_parts (not (is_listed slot.id slots)) (are_distinct slots) distinct).0)
 
-rest_distinct : (slot : SlotState) (slots : List SlotState) → are_distinct (slot ∷ slots) ≡ true → are_distinct slots ≡ true
+pub rest_distinct : (slot : SlotState) (slots : List SlotState) → are_distinct (slot ∷ slots) ≡ true → are_distinct slots ≡ true
 rest_distinct slot slots distinct = (and_parts (not (is_listed slot.id slots)) (are_distinct slots) distinct).1
 
 -- no record of the id, nothing changed
-unchanged : (id : List ℕ) (change : SlotState → SlotState) (slots : List SlotState) → is_listed id slots ≡ false → with_changed id change slots ≡ slots
+pub unchanged : (id : List ℕ) (change : SlotState → SlotState) (slots : List SlotState) → is_listed id slots ≡ false → with_changed id change slots ≡ slots
 unchanged id change [] h = refl
 unchanged id change (slot ∷ slots) h =
     let parts = or_parts (is_slot_of id slot) (is_listed id slots) h in

@@ -1,5 +1,6 @@
 pub mod Adopted
 pub mod Changed
+pub mod Counted
 pub mod Found
 pub mod Ordered
 pub mod Timely

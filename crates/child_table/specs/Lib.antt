@@ -1,5 +1,6 @@
 pub mod Adopting
 pub mod Changes
+pub mod Counting
 pub mod Judging
 pub mod Lists
 pub mod Order

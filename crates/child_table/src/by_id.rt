@@ -1,7 +1,8 @@
-ghost use Rattle.std.specs.Prelude.{◌≡◌, ◌≤◌, ◌++◌, [], ◌∷◌, map, length, slice_get, option_copied, IfOk, IfSome, OnOk, OnErr, None, true};
+ghost use Rattle.std.specs.Prelude.{◌≡◌, ◌≤◌, ◌++◌, [], ◌∷◌, not, is_some, map, length, slice_get, option_copied, IfOk, IfSome, OnOk, OnErr, None, true};
 ghost use Rattle.init_words.specs.declared.orders.Ask.{Ask};
 ghost use Rattle.respawn_limit.specs.declared.TheConstants.{CLOCK_LIMIT};
 
+use crate::counts::{Counts, count_excluded};
 use crate::records::Slot;
 use indexmap::IndexMap;
 use init_words::{Answer, Ask, ChildNo, Id, Memory, Refusal, Stage};
@@ -17,6 +18,7 @@ use std::marker::Model;
 #[derive(Drop)]
 pub struct Slots<A: Allocator = Global> {
     records: IndexMap<Id, Slot, BuildHasherDefault<FoldHasher>, A>,
+    counts: Counts,
 }
 
 impl<A: Allocator> Model for Slots<A> {
@@ -26,13 +28,15 @@ impl<A: Allocator> Model for Slots<A> {
     ghost use Rattle.child_table.specs.State.{SlotState};
     ghost use Rattle.child_table.specs.Lists.{slot_ids};
     ghost use Rattle.child_table.specs.Times.{are_timely};
+    ghost use Rattle.child_table.specs.Counting.{counts_of};
 
     ghost Value = { List SlotState };
 
     ghost view = { λ slots. values slots.records };
 
     ghost invariant = { λ slots. (keys slots.records ≡ slot_ids (values slots.records))
-        × (are_timely CLOCK_LIMIT (values slots.records) ≡ true) };
+        × (are_timely CLOCK_LIMIT (values slots.records) ≡ true)
+        × (slots.counts ≡ counts_of (values slots.records)) };
 }
 
 impl<A: Allocator + Copy> Slots<A> {
@@ -42,6 +46,7 @@ impl<A: Allocator + Copy> Slots<A> {
     {
         Slots {
             records: IndexMap::new(alloc),
+            counts: Counts::none(),
         }
     }
 
@@ -51,6 +56,7 @@ impl<A: Allocator + Copy> Slots<A> {
     {
         Ok(Slots {
             records: IndexMap::with_capacity(alloc, room)?,
+            counts: Counts::none(),
         })
     }
 
@@ -119,13 +125,21 @@ impl<A: Allocator> Slots<A> {
     pub fn quiet(&self) -> bool
         ensures { result ≡ is_quiet self.now }
     {
-        !self.is_busy()
+        self.counts.busy == 0
     }
 
-    fn is_busy(&self) -> bool
-        ensures { result ≡ list_any (λ (slot : SlotState). is_busy slot.order) self.now }
+    /// No order at all is open.
+    pub fn is_idle(&self) -> bool
+        ensures { result ≡ not (list_any (λ (slot : SlotState). is_some slot.order) self.now) }
     {
-        self.records.values().any(|slot| slot.is_busy())
+        self.counts.orders == 0
+    }
+
+    /// A child is to be stopped.
+    pub fn has_excluded(&self) -> bool
+        ensures { result ≡ list_any (λ (slot : SlotState). is_some slot.stop) self.now }
+    {
+        self.counts.excluded != 0
     }
 
     /// The order may be given about the id now: none is open, and a start is that of an entry without child, which the
@@ -147,10 +161,14 @@ impl<A: Allocator> Slots<A> {
         requires timely { are_timely now self.old ≡ true }
         ensures { self.new ≡ with_changed id (after_order ask now) self.old }
     {
+        // Fewer records than a count can hold.
+        let _ = self.records.len();
         let Some(slot) = self.records.get_mut(&id) else {
             unreachable!()
         };
+        self.counts.subtract(Counts::of(slot));
         slot.note_order(ask, now);
+        self.counts.add(Counts::of(slot));
     }
 
     /// An answer about an id came, at this time: refused where no order is open for the id (`NotAsked`), or where its
@@ -211,16 +229,22 @@ impl<A: Allocator> Slots<A> {
         requires limit { now ≤ CLOCK_LIMIT }
         ensures { self.new ≡ with_changed id (after_answer answer now) self.old }
     {
+        // Fewer records than a count can hold.
+        let _ = self.records.len();
         let Some(slot) = self.records.get_mut(&id) else {
             unreachable!()
         };
+        self.counts.subtract(Counts::of(slot));
         slot.note_answer(answer, now);
+        self.counts.add(Counts::of(slot));
     }
 
     fn remove(&mut self, id: Id)
         ensures { self.new ≡ without id self.old }
     {
-        self.records.shift_remove(&id);
+        if let Some(slot) = self.records.shift_remove(&id) {
+            self.counts.subtract(Counts::of(&slot));
+        }
     }
 
     /// A respawning entry, of which there is a record, is held from now on (init(8)).
@@ -287,6 +311,7 @@ impl<A: Allocator> Slots<A> {
                 true
             },
         );
+        self.counts.excluded = count_excluded(self.records.values().as_slice());
     }
 
     /// Adds the record of an id that has none behind the others.
@@ -297,7 +322,11 @@ impl<A: Allocator> Slots<A> {
         ensures unchanged { OnErr result (self.new ≡ self.old) }
     {
         let id = slot.id();
+        let counts = Counts::of(&slot);
         self.records.insert(id, slot)?;
+        // Fewer records than a count can hold.
+        let _ = self.records.len();
+        self.counts.add(counts);
         Ok(())
     }
 }

@@ -8,6 +8,7 @@
 mod adopting;
 mod by_id;
 mod children;
+mod counts;
 mod records;
 
 pub use by_id::Slots;

@@ -1,4 +1,5 @@
 pub mod Called
+pub mod Excluded
 pub mod Kept
 pub mod Pairs
 pub mod Starts

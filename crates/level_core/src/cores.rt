@@ -2,9 +2,7 @@ ghost use Rattle.std.specs.Prelude.{◌≡◌, IfOk, OnOk, OnErr};
 
 use crate::calling::{call_named, judge_in};
 use crate::deciding::{level_step, next_stage};
-use crate::walking::{
-    all_done, all_served, any_busy, has_excluded, is_idle, look_among, start_among, stop_among,
-};
+use crate::walking::{all_done, all_served, any_busy, look_among, start_among, stop_among};
 use child_table::Slots;
 use core_state::News;
 use init_trace::{Goal, Step};
@@ -291,8 +289,9 @@ impl<A: Allocator> Core<A> {
         let Stage::Run(level) = stage else {
             return None;
         };
-        let slots = self.slots.as_slice();
-        if !self.announced && is_idle(slots) && all_served(level, self.time, &self.table, slots) {
+        let slots = &self.slots;
+        let idle = !self.announced && slots.is_idle();
+        if idle && all_served(level, self.time, &self.table, slots.as_slice()) {
             Some(Step::Settle(level))
         } else {
             None
@@ -319,14 +318,10 @@ impl<A: Allocator> Core<A> {
         if self.stands(stage) {
             return None;
         }
-        let slots = self.slots.as_slice();
-        if let Some(step) = stop_among(self.grace, self.time, slots) {
-            return Some(step);
+        if !self.slots.has_excluded() {
+            return self.calm_step(stage);
         }
-        if has_excluded(slots) {
-            return None;
-        }
-        self.calm_step(stage)
+        stop_among(self.grace, self.time, self.slots.as_slice())
     }
 
     fn due_step(&self) -> Step

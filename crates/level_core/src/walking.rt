@@ -1,7 +1,6 @@
-ghost use Rattle.std.specs.Prelude.{◌≡◌, ◌≤◌, is_some};
+ghost use Rattle.std.specs.Prelude.{◌≡◌, ◌≤◌};
 ghost use Rattle.std.specs.List.{list_any};
-ghost use Rattle.child_table.specs.State.{SlotState};
-ghost use Rattle.core_state.specs.Decide.{stop_among, has_excluded, start_among, all_done, is_idle, all_served, look_among, is_busy_slot};
+ghost use Rattle.core_state.specs.Decide.{stop_among, start_among, all_done, all_served, look_among, is_busy_slot};
 ghost use Rattle.respawn_limit.specs.declared.TheConstants.{CLOCK_LIMIT};
 
 use crate::deciding::{can_look, is_done, is_owed, is_served, start_step, stop_step};
@@ -21,13 +20,6 @@ pub(crate) fn stop_among(grace: u16, now: u64, slots: &[Slot]) -> Option<Step>
         }
     }
     None
-}
-
-/// A child is to be stopped.
-pub(crate) fn has_excluded(slots: &[Slot]) -> bool
-    ensures { result ≡ has_excluded slots.now }
-{
-    slots.iter().any(|slot| slot.stop().is_some())
 }
 
 /// The first start or hold in the order of the table, up to the first entry that init waits for.
@@ -67,19 +59,6 @@ pub(crate) fn all_done<A: Allocator>(stage: Stage, table: &Table<A>, slots: &[Sl
         }
     }
     true
-}
-
-/// No order at all is open.
-pub(crate) fn is_idle(slots: &[Slot]) -> bool
-    ensures { result ≡ is_idle slots.now }
-{
-    !any_asked(slots)
-}
-
-fn any_asked(slots: &[Slot]) -> bool
-    ensures { result ≡ list_any (λ (slot : SlotState). is_some slot.order) slots.now }
-{
-    slots.iter().any(|slot| slot.order().is_some())
 }
 
 /// No entry keeps the level from being settled.

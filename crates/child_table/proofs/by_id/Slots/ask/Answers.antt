@@ -1,10 +1,12 @@
-use Rattle.std.proofs.Common.{◌≡◌, ap, subst, true}
+use Rattle.std.proofs.Common.{◌≡◌, ap, subst, true, sym, ◌∙◌}
 use Rattle.std.specs.Option.{option_copied_mut}
 use Rattle.init_words.proofs.Tests.{both_ways}
 use Rattle.respawn_limit.specs.declared.TheConstants.{CLOCK_LIMIT}
 use Rattle.child_table.specs.Lists.{can_ask, can_ask_of}
 use Rattle.child_table.specs.Changes.{after_order}
 use Rattle.child_table.proofs.Changed.{id-after_order}
+use Rattle.child_table.specs.Counting.{counts_of}
+use Rattle.child_table.proofs.Counted.{found_within, recount}
 use Rattle.child_table.proofs.Found.{absent_in, found_in, written}
 use Rattle.child_table.proofs.Timely.{timely_found, timely_order}
 use Rattle.child_table.proofs.by_id.Slots.ask.Goals as goal
@@ -22,10 +24,19 @@ pub note_order-requires-clause-timely : goal.note_order-requires-clause-timely
 note_order-requires-clause-timely g c =
     timely_found c.args.now c.args.id c.in-Some.slot.now c.args.self.now c.requires.timely (found_in c.args.id c.in-Some.slot.now c.self.inside.records.entries c.args.self.now c.self.invariant.0 c.self.view_is c.in-Some.ensures.value)
 
+pub subtract-requires : goal.subtract-requires
+subtract-requires g c = rw (c.of.ensures, c.self.invariant.2, c.self.view_is) (found_within c.args.id c.in-Some.slot.now c.args.self.now (found_in c.args.id c.in-Some.slot.now c.self.inside.records.entries c.args.self.now c.self.invariant.0 c.self.view_is c.in-Some.ensures.value))
+
+pub add-requires : goal.add-requires
+add-requires g c = (recount c.self.inside.records c.args.id (after_order c.args.ask c.args.now) c.in-Some.slot.now c.note_order.new.self c.args.self.now c.self.inside.counts c.of.result c.subtract.new.self c.of-2.result c.self.invariant.0 c.get_mut.ensures.unique (rw c.len.ensures.len at c.len.ensures.small) c.self.view_is c.in-Some.ensures.value c.self.invariant.2 c.of.ensures c.subtract.ensures c.note_order.ensures c.of-2.ensures).small
+
 pub invariant_of-self : goal.invariant_of-self
 invariant_of-self g c =
-    let left = written c.args.id (after_order c.args.ask c.args.now) c.in-Some.slot.now c.note_order.new.self c.self.inside.records (c.get_mut.follows.lender c.note_order.new.self) c.args.self.now (λ s. id-after_order c.args.ask c.args.now s) c.self.invariant.0 c.get_mut.ensures.unique c.self.view_is c.in-Some.ensures.value c.note_order.ensures (c.get_mut.follows.holds c.note_order.new.self) in
-    (left.own, left.timely CLOCK_LIMIT (λ s kept. timely_order c.args.ask c.args.now CLOCK_LIMIT c.requires.limit s kept) (rw c.self.view_is at c.self.invariant.1))
+    let left = written c.args.id (after_order c.args.ask c.args.now) c.in-Some.slot.now c.note_order.new.self c.self.inside.records (c.get_mut.follows.lender c.note_order.new.self) c.args.self.now (λ s. id-after_order c.args.ask c.args.now s) c.self.invariant.0 c.get_mut.ensures.unique c.self.view_is c.in-Some.ensures.value c.note_order.ensures (c.get_mut.follows.holds c.note_order.new.self) in (
+      left.own,
+      left.timely CLOCK_LIMIT (λ s kept. timely_order c.args.ask c.args.now CLOCK_LIMIT c.requires.limit s kept) (rw c.self.view_is at c.self.invariant.1),
+      c.add.ensures ∙ (recount c.self.inside.records c.args.id (after_order c.args.ask c.args.now) c.in-Some.slot.now c.note_order.new.self c.args.self.now c.self.inside.counts c.of.result c.subtract.new.self c.of-2.result c.self.invariant.0 c.get_mut.ensures.unique (rw c.len.ensures.len at c.len.ensures.small) c.self.view_is c.in-Some.ensures.value c.self.invariant.2 c.of.ensures c.subtract.ensures c.note_order.ensures c.of-2.ensures).exact ∙ sym (ap counts_of left.values),
+    )
 
 pub returns : goal.returns
 returns g c = (written c.args.id (after_order c.args.ask c.args.now) _ _ _ _ _ (λ s. id-after_order c.args.ask c.args.now s) c.self.invariant.0 c.get_mut.ensures.unique c.self.view_is c.in-Some.ensures.value c.note_order.ensures (c.get_mut.follows.holds c.note_order.new.self)).values

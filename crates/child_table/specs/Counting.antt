@@ -1,0 +1,35 @@
+-- How many records have an open order, an open start or signal, and a child that is to be stopped.
+use Rattle.std.specs.Prelude.{◌≤◌, ◌<◌, ◌+◌, ◌-◌, ◌^◌, List, is_some}
+use Rattle.std.specs.List.{count_by}
+use Rattle.child_table.specs.declared.counts.Counts.{Counts}
+use Rattle.child_table.specs.State.{SlotState}
+use Rattle.child_table.specs.Lists.{is_busy}
+
+abbrev pub counts_of : List SlotState → Counts
+counts_of slots = record {
+  orders = count_by (λ (slot : SlotState). is_some slot.order) slots;
+  busy = count_by (λ (slot : SlotState). is_busy slot.order) slots;
+  excluded = count_by (λ (slot : SlotState). is_some slot.stop) slots;
+}
+
+-- some more, and some fewer
+abbrev pub plus : Counts → Counts → Counts
+plus counts more = record {
+  orders = counts.orders + more.orders;
+  busy = counts.busy + more.busy;
+  excluded = counts.excluded + more.excluded;
+}
+
+abbrev pub minus : Counts → Counts → Counts
+minus counts less = record {
+  orders = counts.orders - less.orders;
+  busy = counts.busy - less.busy;
+  excluded = counts.excluded - less.excluded;
+}
+
+-- each of the ones is at most that of the others, and each fits a machine's word
+abbrev pub IsWithin : Counts → Counts → Type 0
+IsWithin less counts = (less.orders ≤ counts.orders) × (less.busy ≤ counts.busy) × (less.excluded ≤ counts.excluded)
+
+abbrev pub AreSmall : Counts → Type 0
+AreSmall counts = (counts.orders < 2 ^ 64) × (counts.busy < 2 ^ 64) × (counts.excluded < 2 ^ 64)
