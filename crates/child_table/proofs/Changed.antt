@@ -1,6 +1,7 @@
 -- What the changes of a record leave: its id, and that its times are no later than now.
 use Rattle.std.proofs.Common.{◌≡◌, refl, ℕ, Bool, true, false, List, Option, Some, None}
 use Rattle.std.specs.Option.{option_or}
+use Rattle.std.proofs.lemmas.Bool.{true≢false}
 use Rattle.init_words.specs.declared.entries.Entry.{Entry}
 use Rattle.init_words.specs.declared.stages.Stage.{Stage}
 use Rattle.inittab_text.specs.Tables.{entry_of}
@@ -12,6 +13,7 @@ use Rattle.child_table.specs.State.{SlotState}
 use Rattle.child_table.specs.declared.children.Living.{Living}
 use Rattle.child_table.specs.declared.children.Stop.{Stop}
 use Rattle.child_table.specs.declared.children.Stop.TheVariants.{Due}
+use Rattle.child_table.specs.Numbering.{child_of, moves_child}
 use Rattle.child_table.specs.Times.{is_timely, is_stop_timely}
 use Rattle.child_table.specs.Changes.{after_order, after_answer, after_enter}
 use Rattle.child_table.specs.Judging.{is_excluded, judged, judged_child, after_judge}
@@ -51,6 +53,33 @@ order-after_judge table stage slot = child slot.child
     by false = refl
 
     child : (child : Option Living) → (judged_child stage table child slot).order ≡ slot.order
+    child None = refl
+    child (Some living) = by (is_excluded stage living.act (entry_of slot.id table))
+
+pub child-after_order : (ask : Ask) (now : ℕ) (slot : SlotState) → child_of (after_order ask now slot) ≡ child_of slot
+child-after_order Start now slot = refl
+child-after_order Look now slot = refl
+child-after_order Term now slot = refl
+child-after_order Kill now slot = refl
+
+-- an answer that moves no child
+pub child-after_answer : (answer : Answer) (now : ℕ) (slot : SlotState) → moves_child answer ≡ false → child_of (after_answer answer now slot) ≡ child_of slot
+child-after_answer (Born n) now slot h = absurd (true≢false h)
+child-after_answer NotBorn now slot h = refl
+child-after_answer (Ended status) now slot h = absurd (true≢false h)
+child-after_answer Alive now slot h = refl
+child-after_answer NoLook now slot h = refl
+child-after_answer Hit now slot h = refl
+child-after_answer Miss now slot h = refl
+
+pub child-after_judge : (table : List Entry) (stage : Stage) (slot : SlotState) → child_of (after_judge table stage slot) ≡ child_of slot
+child-after_judge table stage slot = child slot.child
+  where
+    by : (b : Bool) → child_of (judged b slot) ≡ child_of slot
+    by true = refl
+    by false = refl
+
+    child : (child : Option Living) → child_of (judged_child stage table child slot) ≡ child_of slot
     child None = refl
     child (Some living) = by (is_excluded stage living.act (entry_of slot.id table))
 

@@ -157,7 +157,7 @@ taken_has None answer is = absurd (cc)
 taken_has (Some slot) answer is = refl
 
 -- without the record of an id: the records, and the ids
-without_none : (id : List ℕ) (slots : List SlotState) → is_listed id slots ≡ false → without id slots ≡ slots
+pub without_none : (id : List ℕ) (slots : List SlotState) → is_listed id slots ≡ false → without id slots ≡ slots
 without_none id [] h = refl
 without_none id (slot ∷ slots) h =
     let parts = or_parts (is_slot_of id slot) (is_listed id slots) h in

@@ -2,5 +2,6 @@ pub mod Adopted
 pub mod Changed
 pub mod Counted
 pub mod Found
+pub mod Numbers
 pub mod Ordered
 pub mod Timely

@@ -3,6 +3,7 @@ pub mod Changes
 pub mod Counting
 pub mod Judging
 pub mod Lists
+pub mod Numbering
 pub mod Order
 pub mod State
 pub mod Times

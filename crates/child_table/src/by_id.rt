@@ -3,6 +3,7 @@ ghost use Rattle.init_words.specs.declared.orders.Ask.{Ask};
 ghost use Rattle.respawn_limit.specs.declared.TheConstants.{CLOCK_LIMIT};
 
 use crate::counts::{Counts, count_excluded};
+use crate::numbered::{Found, Numbered, child_of, forget, note, put, with_number};
 use crate::records::Slot;
 use indexmap::IndexMap;
 use init_words::{Answer, Ask, ChildNo, Id, Memory, Refusal, Stage};
@@ -19,16 +20,20 @@ use std::marker::Model;
 pub struct Slots<A: Allocator = Global> {
     records: IndexMap<Id, Slot, BuildHasherDefault<FoldHasher>, A>,
     counts: Counts,
+    // Sorted by number, with room for one child a record.
+    children: Vec<Numbered, A>,
 }
 
 impl<A: Allocator> Model for Slots<A> {
-    ghost use Rattle.std.specs.Prelude.{◌≡◌, List, true};
+    ghost use Rattle.std.specs.Prelude.{◌≡◌, ◌≤◌, List, length, true};
     ghost use Rattle.indexmap.specs.IndexMap.{keys, values};
     ghost use Rattle.respawn_limit.specs.declared.TheConstants.{CLOCK_LIMIT};
     ghost use Rattle.child_table.specs.State.{SlotState};
     ghost use Rattle.child_table.specs.Lists.{slot_ids};
     ghost use Rattle.child_table.specs.Times.{are_timely};
     ghost use Rattle.child_table.specs.Counting.{counts_of};
+    ghost use Rattle.child_table.specs.Numbering.{are_sorted, AreChildrenOf};
+    ghost use Rattle.std.specs.Vec.{vec_capacity};
 
     ghost Value = { List SlotState };
 
@@ -36,7 +41,10 @@ impl<A: Allocator> Model for Slots<A> {
 
     ghost invariant = { λ slots. (keys slots.records ≡ slot_ids (values slots.records))
         × (are_timely CLOCK_LIMIT (values slots.records) ≡ true)
-        × (slots.counts ≡ counts_of (values slots.records)) };
+        × (slots.counts ≡ counts_of (values slots.records))
+        × (are_sorted slots.children.items ≡ true)
+        × AreChildrenOf (values slots.records) slots.children.items
+        × (length (values slots.records) ≤ vec_capacity slots.children) };
 }
 
 impl<A: Allocator + Copy> Slots<A> {
@@ -47,6 +55,7 @@ impl<A: Allocator + Copy> Slots<A> {
         Slots {
             records: IndexMap::new(alloc),
             counts: Counts::none(),
+            children: Vec::new(alloc),
         }
     }
 
@@ -57,6 +66,7 @@ impl<A: Allocator + Copy> Slots<A> {
         Ok(Slots {
             records: IndexMap::with_capacity(alloc, room)?,
             counts: Counts::none(),
+            children: Vec::with_capacity(alloc, room)?,
         })
     }
 
@@ -114,6 +124,17 @@ impl<A: Allocator> Slots<A> {
     pub fn by_child(&self, number: ChildNo) -> Option<Id>
         ensures { result ≡ id_of_child number self.now }
     {
+        match with_number(self.children.as_slice(), number) {
+            Found::None => None,
+            Found::One(id) => Some(id),
+            // The system gave the number anew, and the end of the child that had it before isn't told yet.
+            Found::Several => self.first_with(number),
+        }
+    }
+
+    fn first_with(&self, number: ChildNo) -> Option<Id>
+        ensures { result ≡ id_of_child number self.now }
+    {
         let slot = self
             .records
             .values()
@@ -161,7 +182,7 @@ impl<A: Allocator> Slots<A> {
         requires timely { are_timely now self.old ≡ true }
         ensures { self.new ≡ with_changed id (after_order ask now) self.old }
     {
-        // Fewer records than a count can hold.
+        // `len` says that the records are few enough to count, as `get_mut` doesn't.
         let _ = self.records.len();
         let Some(slot) = self.records.get_mut(&id) else {
             unreachable!()
@@ -229,7 +250,7 @@ impl<A: Allocator> Slots<A> {
         requires limit { now ≤ CLOCK_LIMIT }
         ensures { self.new ≡ with_changed id (after_answer answer now) self.old }
     {
-        // Fewer records than a count can hold.
+        // `len` says that the records are few enough to count, as `get_mut` doesn't.
         let _ = self.records.len();
         let Some(slot) = self.records.get_mut(&id) else {
             unreachable!()
@@ -237,6 +258,8 @@ impl<A: Allocator> Slots<A> {
         self.counts.subtract(Counts::of(slot));
         slot.note_answer(answer, now);
         self.counts.add(Counts::of(slot));
+        let child = child_of(slot);
+        note(&mut self.children, &id, &answer, child);
     }
 
     fn remove(&mut self, id: Id)
@@ -244,6 +267,7 @@ impl<A: Allocator> Slots<A> {
     {
         if let Some(slot) = self.records.shift_remove(&id) {
             self.counts.subtract(Counts::of(&slot));
+            forget(&mut self.children, id);
         }
     }
 
@@ -323,10 +347,15 @@ impl<A: Allocator> Slots<A> {
     {
         let id = slot.id();
         let counts = Counts::of(&slot);
+        let child = child_of(&slot);
+        // Room for one child a record.
+        let missing = self.records.len() + 1 - self.children.len();
+        self.children.reserve(missing)?;
         self.records.insert(id, slot)?;
-        // Fewer records than a count can hold.
+        // `len` says that the records are few enough to count, as `insert` doesn't.
         let _ = self.records.len();
         self.counts.add(counts);
+        put(&mut self.children, child);
         Ok(())
     }
 }

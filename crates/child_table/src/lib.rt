@@ -9,6 +9,7 @@ mod adopting;
 mod by_id;
 mod children;
 mod counts;
+mod numbered;
 mod records;
 
 pub use by_id::Slots;

@@ -1,4 +1,4 @@
-//! `initd simulate [--level L] TABLE SCRIPT`: the trace of init over an inittab(5) and a script of what the system did.
+//! `initd`: init(8) over the operating system, or over a script of what a system did, and the judge of their traces.
 #![tactic(auto)]
 
 use initd_command::{USAGE, run_words};

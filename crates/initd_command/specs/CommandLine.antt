@@ -1,18 +1,14 @@
--- The command lines `initd simulate [--level L] TABLE SCRIPT` and `initd check TRACE`. What they take is said by clap's own words; they are
--- opaque, since a goal that sees them sees the whole parser.
-use Rattle.std.specs.Prelude.{true, if◌then◌else◌, List, [], codes, Option, Some, None, unwrap_or, option_and_then, option_map, length, ◌==◌, string_bytes}
+-- The command lines `initd simulate [--level L] TABLE SCRIPT`, `initd check TRACE` and `initd run ..`. What they take is
+-- said by clap's own words; they are opaque, since a goal that sees them sees the whole parser.
+use Rattle.std.specs.Prelude.{true, if◌then◌else◌, List, codes, Option, Some, None, option_map, length, ◌==◌, string_bytes}
 use Rattle.std.specs.Str.{bytes_eq}
-use Rattle.clap.specs.Words.{App, Row, Rule, Text, fault_of, first_of, new_app, new_rule, subcommand_of, with_rule, with_subcommand}
+use Rattle.clap.specs.Words.{App, Row, Rule, Text, fault_of, new_app, new_rule, subcommand_of, with_rule, with_subcommand}
 use Rattle.init_words.specs.declared.levels.Level.{Level}
-use Rattle.init_words.specs.Levels.{level_read}
-use Rattle.program_edge.specs.Arguments.{only_byte}
+use Rattle.initd_command.specs.Options.{Service, run_line, service_of, service_said}
+use Rattle.initd_command.specs.Values.{level_rule, level_said, value_said}
 use Rattle.initd_command.specs.declared.command.Simulation.{Simulation}
 use Rattle.initd_command.specs.declared.command.Words.{Words}
-use Rattle.initd_command.specs.declared.command.Words.TheVariants.{Simulate, Check}
-
--- `--level L`, which may be left out
-unfoldable pub level_rule : Rule
-level_rule = record (new_rule (codes "level")) { long = Some (codes "level") }
+use Rattle.initd_command.specs.declared.command.Words.TheVariants.{Simulate, Check, Run as Serve}
 
 -- TABLE and SCRIPT, which have to be there
 unfoldable pub table_rule : Rule
@@ -35,11 +31,11 @@ check_line = with_rule (new_app (codes "check")) trace_rule
 
 -- the words have no program's name in front, and name a subcommand
 unfoldable pub command_line : App
-unfolding simulate_line check_line
+unfolding simulate_line check_line run_line
 command_line =
     let named = new_app (codes "initd") in
     let unnamed = record named { top = record named.top { no_binary_name = true; subcommand_required = true } } in
-    with_subcommand (with_subcommand unnamed simulate_line.top) check_line.top
+    with_subcommand (with_subcommand (with_subcommand unnamed simulate_line.top) check_line.top) run_line.top
 
 -- the level to go to, if one is given, and the paths of the inittab and the script
 pub record Run : Type 0 where
@@ -47,10 +43,11 @@ pub record Run : Type 0 where
   pub table : Text
   pub script : Text
 
--- a run of init, or the path of a trace that is judged
+-- a simulated run of init, the path of a trace that is judged, or a run over the operating system
 pub data Said : Type 0 where
   runs : Run → Said
   judges : Text → Said
+  serves : Service → Said
 
 abbrev pub run_of : Simulation → Run
 run_of words = record { level = words.level; table = string_bytes words.table; script = string_bytes words.script }
@@ -58,21 +55,7 @@ run_of words = record { level = words.level; table = string_bytes words.table; s
 abbrev pub said_of : Words → Said
 said_of (Simulate words) = runs (run_of words)
 said_of (Check trace) = judges (string_bytes trace)
-
--- the level of a word of one character
-abbrev pub level_word_read : Text → Option Level
-level_word_read word = option_and_then level_read (only_byte word)
-
--- the level that is given, if one is; nothing where it is none
-abbrev pub level_in : Option Text → Option (Option Level)
-level_in None = Some None
-level_in (Some word) = option_map Some (level_word_read word)
-
-abbrev pub level_said : List Row → Option (Option Level)
-level_said rows = level_in (first_of (codes "level") rows)
-
-abbrev pub value_said : Text → List Row → Text
-value_said id rows = unwrap_or (first_of id rows) []
+said_of (Serve said) = serves (service_of said)
 
 -- what the words behind `simulate` say
 abbrev pub words_said : List Row → Option Run
@@ -88,9 +71,14 @@ words_said rows =
 abbrev pub trace_said : List Row → Said
 trace_said rows = judges (value_said (codes "trace") rows)
 
+abbrev pub served_by : Option (Text × List Row) → Option Said
+served_by None = None
+served_by (Some entered) = if bytes_eq entered.0 (codes "run") then option_map serves (service_said entered.1) else None
+
 abbrev pub judged_by : Option (Text × List Row) → Option Said
 judged_by None = None
-judged_by (Some entered) = if bytes_eq entered.0 (codes "check") then Some (trace_said entered.1) else None
+judged_by (Some entered) =
+    if bytes_eq entered.0 (codes "check") then Some (trace_said entered.1) else served_by (Some entered)
 
 abbrev pub said_by : Option (Text × List Row) → Option Said
 said_by None = None

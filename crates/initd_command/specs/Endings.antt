@@ -2,7 +2,7 @@
 use Rattle.std.specs.Prelude.{◌⊎◌, ℕ, List, [], ◌++◌, codes, decimal, Option}
 use Rattle.std.specs.Io.KnownBytes.{Keeps}
 use Rattle.program_edge.specs.Writing.{AppendsPrefix}
-use Rattle.program_edge.specs.declared.statuses.TheConstants.{DONE, REFUSED, UNLAWFUL, DEVICE_FAULT}
+use Rattle.program_edge.specs.declared.statuses.TheConstants.{DONE, REFUSED, UNLAWFUL, LIMIT_REACHED, DEVICE_FAULT}
 use Rattle.supervisor.specs.declared.running.SimFault.{SimFault}
 use Rattle.supervisor.specs.declared.running.SimFault.TheVariants as fault
 use Rattle.supervisor.specs.Faults.{fault_text}
@@ -12,10 +12,13 @@ use Rattle.initd_command.specs.Lines.{line_at, line_told}
 use Rattle.initd_command.specs.declared.checking.TheConstants.{UNWRITTEN}
 use Rattle.initd_command.specs.declared.reports.TheConstants.{NO_MEMORY}
 use Rattle.initd_command.specs.declared.running.TheConstants.{USAGE}
+use Rattle.initd_command.specs.declared.serving.TheConstants.{LIMITED, UNLOGGED, UNTOLD}
 
 -- done; the words are no command line, or want memory; the file of a path was not read, and why; the run over this
--- script ended before its end; the writer could not be flushed; a trace is lawful, or unlawful, of which this is told; its line of this
--- number is none; the verdict could not be written
+-- script ended before its end; the writer could not be flushed; a trace is lawful, or unlawful, of which this is told;
+-- its line of this number is none; the verdict could not be written; a run over the operating system is drained, or
+-- made all its turns; its trace was not written whole, or the file of its path not created, and why; the faults of its
+-- inittab could not be written
 pub data Ending : Type 0 where
   done : Ending
   usage : Ending
@@ -27,6 +30,11 @@ pub data Ending : Type 0 where
   unlawful : List ℕ → Ending
   torn : ℕ → Ending
   unwritten : Ending
+  drained : Ending
+  limited : Ending
+  unlogged : Ending
+  uncreated : List ℕ → List ℕ → Ending
+  untold : Ending
 
 abbrev pub fault_status : SimFault → ℕ
 fault_status fault.Table = REFUSED
@@ -46,6 +54,11 @@ status_of lawful = DONE
 status_of (unlawful message) = UNLAWFUL
 status_of (torn line) = REFUSED
 status_of unwritten = DEVICE_FAULT
+status_of drained = DONE
+status_of limited = LIMIT_REACHED
+status_of unlogged = DEVICE_FAULT
+status_of (uncreated path why) = DEVICE_FAULT
+status_of untold = DEVICE_FAULT
 
 -- a line of a script that may not come there, and why
 abbrev pub reason_message : List ℕ → Objection → List ℕ
@@ -62,6 +75,9 @@ fault_message script f = codes "initd: " ++ fault_text f ++ codes "\n" ++ reason
 
 abbrev pub file_message : List ℕ → List ℕ → List ℕ
 file_message path why = codes "initd: cannot read " ++ path ++ codes ": " ++ why ++ codes "\n"
+
+abbrev pub created_message : List ℕ → List ℕ → List ℕ
+created_message path why = codes "initd: cannot create " ++ path ++ codes ": " ++ why ++ codes "\n"
 
 abbrev pub torn_message : ℕ → List ℕ
 torn_message line = codes "initd: trace line " ++ decimal line ++ codes " is not a line\n"
@@ -82,3 +98,8 @@ Reports lawful old new = Keeps old new
 Reports (unlawful message) old new = AppendsPrefix old new message
 Reports (torn line) old new = ReportsText (torn_message line) old new
 Reports unwritten old new = AppendsPrefix old new UNWRITTEN.now
+Reports drained old new = Keeps old new
+Reports limited old new = AppendsPrefix old new LIMITED.now
+Reports unlogged old new = AppendsPrefix old new UNLOGGED.now
+Reports (uncreated path why) old new = ReportsText (created_message path why) old new
+Reports untold old new = AppendsPrefix old new UNTOLD.now

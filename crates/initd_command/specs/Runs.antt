@@ -1,10 +1,12 @@
--- How a command line of initd ends, by what it says: a run of init, or a judged trace.
+-- How a command line of initd ends, by what it says: a simulated run of init, a judged trace, or a run over the
+-- operating system.
 use Rattle.std.specs.Prelude.{◌≡◌, ◌⊎◌, ℕ, List, Option, Some, None}
 use Rattle.std.specs.Io.KnownBytes.{Keeps}
 use Rattle.supervisor.specs.declared.running.SimFault.{SimFault}
 use Rattle.supervisor.specs.Simulation.{Done, Ends, Scenario, scenario}
-use Rattle.initd_command.specs.CommandLine.{Run, Said, judges, read_of, runs}
+use Rattle.initd_command.specs.CommandLine.{Run, Said, judges, read_of, runs, serves}
 use Rattle.initd_command.specs.Endings.{Ending, done, usage, no_memory, unread, stopped, unflushed}
+use Rattle.initd_command.specs.Services.{EndsService}
 use Rattle.initd_command.specs.Verdicts.{EndsCheck}
 
 -- how a run may end
@@ -24,6 +26,7 @@ EndsFiles run ending old new =
 abbrev pub EndsSaid : Said → Ending → Option (List ℕ) → Option (List ℕ) → Type 0
 EndsSaid (runs run) ending old new = EndsFiles run ending old new
 EndsSaid (judges path) ending old new = EndsCheck path ending old new
+EndsSaid (serves service) ending old new = EndsService service ending old new
 
 -- how words end: they are no command line or want memory, and nothing is written, or they end by what they say
 abbrev pub EndsBy : List (List ℕ) → Ending → Option (List ℕ) → Option (List ℕ) → Type 0

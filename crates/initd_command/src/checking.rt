@@ -1,4 +1,4 @@
-ghost use Rattle.std.specs.Prelude.{◌≡◌, ◌<◌, ℕ, List, Some, true, length, slice_get, take, string_bytes, codes, IfOk};
+ghost use Rattle.std.specs.Prelude.{◌≡◌, ◌<◌, ℕ, List, Some, length, slice_get, take, string_bytes, codes, IfOk};
 ghost use Rattle.std.specs.Io.KnownBytes.{Appends};
 ghost use Rattle.program_edge.specs.Writing.{AppendsPrefix};
 ghost use Rattle.init_trace.specs.Lawful.{Fault};
@@ -6,11 +6,11 @@ ghost use Rattle.initd_command.specs.Endings.{Ending, Reports, ReportsText, stat
 ghost use Rattle.initd_command.specs.Verdicts.{EndsBreach, EndsCheck, EndsLawful, EndsTrace, EndsVerdict, breach_message, fault_at, law_text, message_of, unlawful_text};
 
 use crate::lines::first_line;
-use crate::reports::{NO_MEMORY, report, report_bytes, report_made, report_unread};
+use crate::reports::{report, report_bytes, report_made, report_memory, report_unread, tell};
 use init_trace::{HappeningIn, ReadFault, print, print_one, read};
 use init_words::Memory;
 use itoa::Buffer;
-use program_edge::{DEVICE_FAULT, DONE, REFUSED, UNLAWFUL, read_file, write_text};
+use program_edge::{DEVICE_FAULT, DONE, REFUSED, UNLAWFUL, read_file};
 use std::alloc::{AllocError, Global};
 use std::io::Write;
 use std::rt::Files;
@@ -68,14 +68,6 @@ fn check_trace<W: Write, E: Write>(
 
 /// What is reported where the verdict could not be written.
 const UNWRITTEN: &str = "initd: the verdict could not be written\n";
-
-/// Writes a verdict and sees that it is out.
-fn tell<W: Write>(verdict: &[u8], out: &mut W) -> bool
-    ensures whole { result ≡ true → Appends (W.contents out.old) (W.contents out.new) verdict.now }
-    ensures part { AppendsPrefix (W.contents out.old) (W.contents out.new) verdict.now }
-{
-    write_text(out, verdict).is_ok() && out.flush().is_ok()
-}
 
 /// Writes that the trace is lawful.
 fn tell_lawful<W: Write, E: Write>(out: &mut W, err: &mut E) -> u8
@@ -188,13 +180,4 @@ fn torn_text(alloc: Global, number: u64) -> Result<String, AllocError>
     ensures { IfOk result (λ text. string_bytes text ≡ torn_message number) }
 {
     format!(in alloc; "initd: trace line {number} is not a line\n")
-}
-
-/// Reports that memory ran out, and gives the exit status.
-fn report_memory<E: Write>(err: &mut E) -> u8
-    ensures status { result ≡ DEVICE_FAULT }
-    ensures reported { AppendsPrefix (E.contents err.old) (E.contents err.new) NO_MEMORY.now }
-{
-    report(NO_MEMORY, err);
-    DEVICE_FAULT
 }

@@ -1,8 +1,10 @@
 ghost use Rattle.std.specs.Prelude.{◌≡◌, false, map, option_map, string_bytes, IfOk, IsErrOf};
 ghost use Rattle.clap.specs.declared.builder.command.Command.{out-Command};
 ghost use Rattle.clap.specs.Words.{FailsBy, app_of, fault_of, found_of, rows_of, subcommand_of, subcommand_rows_of};
-ghost use Rattle.initd_command.specs.CommandLine.{check_line, command_line, judged_by, level_word_read, level_said, read_of, runs, said_by, said_of, simulate_line, trace_said, words_said};
+ghost use Rattle.initd_command.specs.CommandLine.{check_line, command_line, judged_by, read_of, runs, said_by, said_of, served_by, simulate_line, trace_said, words_said};
+ghost use Rattle.initd_command.specs.Values.{level_said, level_word_read};
 
+use crate::options::{Serving, read_run, run_line};
 use clap::{Arg, ArgMatches, Command, Error};
 use command_words::{WordFault, value_of, word_fault};
 use init_words::Level;
@@ -27,6 +29,8 @@ pub enum Words {
     Simulate(Simulation),
     /// Judge the trace of this path.
     Check(String),
+    /// Run init over the operating system.
+    Run(Serving),
 }
 
 /// Reads a command line, without the program's name in front.
@@ -73,11 +77,13 @@ fn command<'a>(alloc: Global) -> Result<Command<'a>, AllocError>
 {
     let simulate = simulate_line(alloc)?;
     let check = check_line(alloc)?;
+    let serving = run_line(alloc)?;
     Command::new(alloc, "initd")
         .no_binary_name(true)
         .subcommand_required(true)
         .subcommand(simulate)?
-        .subcommand(check)
+        .subcommand(check)?
+        .subcommand(serving)
 }
 
 fn parse<'a>(alloc: Global, words: &'a [String]) -> Result<ArgMatches<'a>, Error>
@@ -88,7 +94,7 @@ fn parse<'a>(alloc: Global, words: &'a [String]) -> Result<ArgMatches<'a>, Error
     command(alloc)?.try_get_matches_from(words)
 }
 
-/// What matches say; None where a level is none.
+/// What matches say; None where a value is none of its kind.
 fn read_matches(alloc: Global, matches: &ArgMatches) -> Result<Option<Words>, AllocError>
     ensures { IfOk result (λ said. option_map said_of said ≡ said_by (subcommand_rows_of matches.now)) }
 {
@@ -104,6 +110,16 @@ fn read_check(alloc: Global, matches: &ArgMatches) -> Result<Option<Words>, Allo
 {
     match matches.subcommand_matches("check") {
         Some(check) => Ok(Some(read_trace(alloc, check)?)),
+        None => read_serving(alloc, matches),
+    }
+}
+
+/// The same, where `check` was not entered either.
+fn read_serving(alloc: Global, matches: &ArgMatches) -> Result<Option<Words>, AllocError>
+    ensures { IfOk result (λ said. option_map said_of said ≡ served_by (subcommand_rows_of matches.now)) }
+{
+    match matches.subcommand_matches("run") {
+        Some(run) => Ok(read_run(alloc, run)?.map(Words::Run)),
         None => Ok(None),
     }
 }
@@ -129,7 +145,7 @@ fn read_simulate(alloc: Global, matches: &ArgMatches) -> Result<Option<Words>, A
 }
 
 /// The level that matches give, if they give one; None where it is none.
-fn read_level_option(matches: &ArgMatches) -> Option<Option<Level>>
+pub(crate) fn read_level_option(matches: &ArgMatches) -> Option<Option<Level>>
     ensures { result ≡ level_said (rows_of (found_of matches.now)) }
 {
     let Some(word) = matches.get_str("level") else {

@@ -5,9 +5,12 @@
 mod checking;
 mod command;
 mod lines;
+mod options;
 mod reports;
 mod running;
+mod serving;
 
 pub use command::{Simulation, Words, read_words};
 pub use command_words::WordFault;
+pub use options::Serving;
 pub use running::{USAGE, run_words};

@@ -1,6 +1,7 @@
-ghost use Rattle.std.specs.Prelude.{◌≡◌, ℕ, List, OnOk, OnErr, string_bytes, IfOk, ◌++◌};
+ghost use Rattle.std.specs.Prelude.{◌≡◌, true, ℕ, List, OnOk, OnErr, string_bytes, IfOk, ◌++◌};
+ghost use Rattle.std.specs.Io.KnownBytes.{Appends};
 ghost use Rattle.program_edge.specs.Writing.{AppendsPrefix};
-ghost use Rattle.initd_command.specs.Endings.{ReportsText, fault_message, fault_status, file_message, reason_message};
+ghost use Rattle.initd_command.specs.Endings.{ReportsText, created_message, fault_message, fault_status, file_message, reason_message};
 
 use crate::lines::{line_at, line_told};
 use program_edge::{DEVICE_FAULT, REFUSED, write_text};
@@ -89,6 +90,34 @@ fn message_with(alloc: Global, path: &str, why: &str) -> Result<String, AllocErr
     format!(in alloc; "initd: cannot read {path}: {why}\n")
 }
 
+/// Reports that a file was not created, and gives the exit status.
+pub(crate) fn report_uncreated<E: Write>(
+    alloc: Global,
+    path: &str,
+    error: &io::Error,
+    err: &mut E,
+) -> u8
+    ensures status { result ≡ DEVICE_FAULT }
+    ensures reported { (why : List ℕ)
+        × ReportsText (created_message path.now why) (E.contents err.old) (E.contents err.new) }
+{
+    report_made(uncreated_message(alloc, path, error), err);
+    DEVICE_FAULT
+}
+
+fn uncreated_message(alloc: Global, path: &str, error: &io::Error) -> Result<String, AllocError>
+    ensures { IfOk result (λ text. (why : List ℕ) × (string_bytes text ≡ created_message path.now why)) }
+{
+    let why = format!(in alloc; "{error}")?;
+    created_message_with(alloc, path, why.as_str())
+}
+
+fn created_message_with(alloc: Global, path: &str, why: &str) -> Result<String, AllocError>
+    ensures { IfOk result (λ text. string_bytes text ≡ created_message path.now why.now) }
+{
+    format!(in alloc; "initd: cannot create {path}: {why}\n")
+}
+
 /// Reports a message that was made, or that there was no memory to make it.
 pub(crate) fn report_made<E: Write>(message: Result<String, AllocError>, err: &mut E)
     ensures made { IfOk message (λ text. AppendsPrefix (E.contents err.old) (E.contents err.new) (string_bytes text)) }
@@ -123,4 +152,21 @@ pub(crate) fn report_bytes<E: Write>(text: &[u8], err: &mut E)
     ensures { AppendsPrefix (E.contents err.old) (E.contents err.new) text.now }
 {
     let _ = write_text(err, text);
+}
+
+/// Reports that memory ran out, and gives the exit status.
+pub(crate) fn report_memory<E: Write>(err: &mut E) -> u8
+    ensures status { result ≡ DEVICE_FAULT }
+    ensures reported { AppendsPrefix (E.contents err.old) (E.contents err.new) NO_MEMORY.now }
+{
+    report(NO_MEMORY, err);
+    DEVICE_FAULT
+}
+
+/// Writes a text and sees that it is out.
+pub(crate) fn tell<W: Write>(text: &[u8], out: &mut W) -> bool
+    ensures whole { result ≡ true → Appends (W.contents out.old) (W.contents out.new) text.now }
+    ensures part { AppendsPrefix (W.contents out.old) (W.contents out.new) text.now }
+{
+    write_text(out, text).is_ok() && out.flush().is_ok()
 }

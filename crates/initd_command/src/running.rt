@@ -7,17 +7,27 @@ ghost use Rattle.supervisor.specs.Simulation.{scenario};
 use crate::checking::check_file;
 use crate::command::{Simulation, Words, read_words};
 use crate::reports::{NO_MEMORY, report, report_fault, report_unread};
+use crate::serving::serve_files;
 use command_words::WordFault;
 use init_words::Level;
 use program_edge::{DEVICE_FAULT, DONE, REFUSED, read_file};
 use std::alloc::Global;
 use std::io::Write;
-use std::rt::Files;
+use std::process::Processes;
+use std::rt::{Clock, Files};
 use supervisor::{SimFault, simulate};
 
 /// What is reported of words that are no command line.
-pub const USAGE: &str = "usage: initd simulate [--level L] TABLE SCRIPT
+pub const USAGE: &str =
+    "usage: initd run [--inittab P] [--initctl P] [--trace P] [--level L] [--turns N] [--drain] [--pause SEC]
+       initd simulate [--level L] TABLE SCRIPT
        initd check TRACE
+  --inittab  the inittab(5); inittab where it is left out
+  --initctl  the file to which telinit appends requests; initctl where it is left out
+  --trace    the file that the trace of the run is written to; none where it is left out
+  --turns    the greatest number of turns, 1 to 1000000000; 1000000 where it is left out
+  --drain    end where nothing is left to do and nothing runs
+  --pause    the seconds between two turns, 0.01 to 60, with at most two digits behind the point; 1 where it is left out
   L       the runlevel to go to, 0 to 9, S or s; the table's initdefault where it is left out
   TABLE   an inittab(5)
   SCRIPT  what the system did, one happening a line
@@ -25,16 +35,19 @@ pub const USAGE: &str = "usage: initd simulate [--level L] TABLE SCRIPT
 ";
 
 /// Runs initd on a command line without the program's name, and gives its exit status: 0 where it was carried out, 1
-/// where the words, the inittab, the script or the lines of a trace are refused, 2 where a trace is unlawful, 4 where a
-/// file can't be read, the output fails or memory runs out. The trace of the run, or the verdict on a trace, is written
-/// on `out`, and a fault is reported on `err`.
-pub fn run_words<R: Files, W: Write, E: Write>(
+/// where the words, the inittab, the script or the lines of a trace are refused, 2 where a trace is unlawful, 3 where a
+/// run used up its turns, 4 where a file can't be read, the trace or the output fails or memory runs out. The trace of
+/// a simulated run, the verdict on a trace, or the faults of the inittab of a run are written on `out`, and a fault is
+/// reported on `err`.
+pub fn run_words<R, W: Write, E: Write>(
     rt: &R,
     alloc: Global,
     words: Vec<String>,
     out: &mut W,
     err: &mut E,
 ) -> u8
+where
+    R: Processes + Files + Clock + Print + Eprint + Clone + Drop,
     ensures { (ending : Ending) × (result ≡ status_of ending)
         × EndsBy (map string_bytes words.items) ending (W.contents out.old) (W.contents out.new)
         × Reports ending (E.contents err.old) (E.contents err.new) }
@@ -42,6 +55,7 @@ pub fn run_words<R: Files, W: Write, E: Write>(
     match read_words(alloc, words.as_slice()) {
         Ok(Words::Simulate(said)) => simulate_files(rt, alloc, &said, out, err),
         Ok(Words::Check(path)) => check_file(rt, alloc, path.as_str(), out, err),
+        Ok(Words::Run(said)) => serve_files(rt, alloc, &said, out, err),
         Err(WordFault::Usage) => {
             report(USAGE, err);
             REFUSED

@@ -2,8 +2,8 @@ use crate::word_tests::answers;
 use std::alloc::Global;
 use std::fmt::Write;
 use std::fs;
-use std::process::Abort;
-use std::rt::Files;
+use std::process::{Abort, Processes};
+use std::rt::{Clock, Files};
 use std::test::Fail;
 
 /// The entries behind the first, which names the default level: 512 in all.
@@ -86,7 +86,10 @@ fn write_script<R: Files>(rt: &R, text: &mut String) -> Result<(), Fail> {
 }
 
 /// The run over the two files is done, and its trace written.
-fn is_run<R: Files + Abort>(rt: &R, alloc: Global, text: &mut String) -> Result<(), Fail> {
+fn is_run<R>(rt: &R, alloc: Global, text: &mut String) -> Result<(), Fail>
+where
+    R: Processes + Files + Clock + Print + Eprint + Clone + Drop + Abort,
+{
     text.clear();
     add_trace(text)?;
     answers(
@@ -98,7 +101,10 @@ fn is_run<R: Files + Abort>(rt: &R, alloc: Global, text: &mut String) -> Result<
     )
 }
 
-fn run_large<R: Files + Abort>(rt: &R, alloc: Global, text: &mut String) -> Result<(), Fail> {
+fn run_large<R>(rt: &R, alloc: Global, text: &mut String) -> Result<(), Fail>
+where
+    R: Processes + Files + Clock + Print + Eprint + Clone + Drop + Abort,
+{
     write_table(rt, text)?;
     assert!(rt; text.len() > 40_000);
     write_script(rt, text)?;

@@ -3,8 +3,8 @@ use slow_writer::Slow;
 use std::alloc::{AllocError, Global};
 use std::fs;
 use std::io::Write;
-use std::process::Abort;
-use std::rt::Files;
+use std::process::{Abort, Processes};
+use std::rt::{Clock, Files};
 use std::test::Fail;
 
 /// The words of a line, parted by single blanks.
@@ -24,24 +24,25 @@ fn add_words(alloc: Global, words: &mut Vec<String>, line: &str) -> Result<(), A
 }
 
 /// The exit status of a line.
-fn status_of<R: Files, W: Write>(
+fn status_of<R, W: Write>(
     rt: &R,
     alloc: Global,
     line: &str,
     out: &mut W,
     err: &mut Vec<u8>,
-) -> Result<u8, AllocError> {
+) -> Result<u8, AllocError>
+where
+    R: Processes + Files + Clock + Print + Eprint + Clone + Drop,
+{
     let words = words_of(alloc, line)?;
     Ok(run_words(rt, alloc, words, out, err))
 }
 
 /// The same, with a line `--` and what is reported added to what is written.
-fn answer<R: Files>(
-    rt: &R,
-    alloc: Global,
-    line: &str,
-    out: &mut Vec<u8>,
-) -> Result<u8, AllocError> {
+fn answer<R>(rt: &R, alloc: Global, line: &str, out: &mut Vec<u8>) -> Result<u8, AllocError>
+where
+    R: Processes + Files + Clock + Print + Eprint + Clone + Drop,
+{
     let mut err: Vec<u8> = Vec::new(alloc);
     let status = status_of(rt, alloc, line, out, &mut err)?;
     out.extend_from_slice(b"--\n")?;
@@ -50,13 +51,16 @@ fn answer<R: Files>(
 }
 
 /// The words of a line end with this status, and write and report this.
-pub(crate) fn answers<R: Files + Abort>(
+pub(crate) fn answers<R>(
     rt: &R,
     alloc: Global,
     line: &str,
     status: u8,
     want: &str,
-) -> Result<(), Fail> {
+) -> Result<(), Fail>
+where
+    R: Processes + Files + Clock + Print + Eprint + Clone + Drop + Abort,
+{
     let mut out: Vec<u8> = Vec::new(alloc);
     let ended = answer(rt, alloc, line, &mut out)?;
     assert!(rt;
@@ -67,7 +71,7 @@ pub(crate) fn answers<R: Files + Abort>(
 }
 
 /// The same over an inittab in the file `row-table` and a script in `row-script`.
-fn answers_over<R: Files + Abort>(
+fn answers_over<R>(
     rt: &R,
     alloc: Global,
     inittab: &[u8],
@@ -75,7 +79,10 @@ fn answers_over<R: Files + Abort>(
     line: &str,
     status: u8,
     want: &str,
-) -> Result<(), Fail> {
+) -> Result<(), Fail>
+where
+    R: Processes + Files + Clock + Print + Eprint + Clone + Drop + Abort,
+{
     fs::write(rt, "row-table", inittab)?;
     fs::write(rt, "row-script", script)?;
     answers(rt, alloc, line, status, want)?;
@@ -220,6 +227,49 @@ const OVER_FILES: &[(&[u8], &[u8], &str, u8, &str)] = &[
         4,
         "--\ninitd: cannot read .: Is a directory (os error 21)\n",
     ),
+    // Runs over the operating system, without a child. The last of them is one whose trace is judged.
+    (
+        b"a:S:off:\nb:S:once\nc:S:once:\n",
+        b"",
+        "run --inittab row-table --initctl row-absent --turns 9 --drain --pause 0.01 --trace row-script",
+        0,
+        "initd: inittab line 2: too few fields\ninitd: inittab line 3: no process\n--\n",
+    ),
+    (
+        b"",
+        b"",
+        "run --inittab row-table --initctl row-absent --level 2 --turns 2 --pause 0.01",
+        3,
+        "--\ninitd: the limit of turns is reached\n",
+    ),
+    (
+        b"",
+        b"",
+        "run --inittab row-table --initctl row-absent --drain --pause 0.01 --trace /dev/full",
+        4,
+        "--\ninitd: the trace could not be written\n",
+    ),
+    (
+        TOO_LONG,
+        b"",
+        "run --inittab row-table --trace row-absent/trace",
+        1,
+        "--\ninitd: the inittab is longer than 65,536 bytes\n",
+    ),
+    (
+        b"a:S:once\n",
+        b"",
+        "run --inittab row-table --trace row-absent/trace",
+        4,
+        "--\ninitd: cannot create row-absent/trace: No such file or directory (os error 2)\n",
+    ),
+    (
+        b"",
+        b"",
+        "run --inittab row-absent --turns 1000000000 --pause 60.00 --level s",
+        4,
+        "--\ninitd: cannot read row-absent: No such file or directory (os error 2)\n",
+    ),
     // An unread script comes before a long inittab.
     (
         TOO_LONG,
@@ -251,6 +301,23 @@ const FAULTY: &[&str] = &[
     "simulate --level 33 one two",
     "simulate --level",
     "stimulate one two",
+    "run one",
+    "run --level x",
+    "run --turns 0",
+    "run --turns 1000000001",
+    "run --turns -1",
+    "run --turns",
+    "run --drain=true",
+    "run --pause 0",
+    "run --pause 0.00",
+    "run --pause 0.001",
+    "run --pause 60.01",
+    "run --pause 61",
+    "run --pause 1.",
+    "run --pause .5",
+    "run --pause 0.x",
+    "run --pause -1",
+    "run --state s",
     "--help",
     "help",
     "simulate --help",
@@ -258,8 +325,15 @@ const FAULTY: &[&str] = &[
 ];
 
 const USAGE_REPORTED: &str = "--
-usage: initd simulate [--level L] TABLE SCRIPT
+usage: initd run [--inittab P] [--initctl P] [--trace P] [--level L] [--turns N] [--drain] [--pause SEC]
+       initd simulate [--level L] TABLE SCRIPT
        initd check TRACE
+  --inittab  the inittab(5); inittab where it is left out
+  --initctl  the file to which telinit appends requests; initctl where it is left out
+  --trace    the file that the trace of the run is written to; none where it is left out
+  --turns    the greatest number of turns, 1 to 1000000000; 1000000 where it is left out
+  --drain    end where nothing is left to do and nothing runs
+  --pause    the seconds between two turns, 0.01 to 60, with at most two digits behind the point; 1 where it is left out
   L       the runlevel to go to, 0 to 9, S or s; the table's initdefault where it is left out
   TABLE   an inittab(5)
   SCRIPT  what the system did, one happening a line
@@ -281,7 +355,10 @@ const SETTLED: &[u8] = b"use 0\nenter sysinit 5\nenter S 5\nsettle S\n";
 const STUCK: &[(usize, bool)] = &[(1000, true), (40, false), (40, true)];
 
 /// A failed write is reported, and what is written stays.
-fn is_reported<R: Files + Abort>(rt: &R, alloc: Global, out: &mut Slow) -> Result<(), Fail> {
+fn is_reported<R>(rt: &R, alloc: Global, out: &mut Slow) -> Result<(), Fail>
+where
+    R: Processes + Files + Clock + Print + Eprint + Clone + Drop + Abort,
+{
     let mut err: Vec<u8> = Vec::new(alloc);
     let status = status_of(rt, alloc, "simulate empty empty", out, &mut err)?;
     let taken = out.room.min(SETTLED.len());
@@ -290,12 +367,10 @@ fn is_reported<R: Files + Abort>(rt: &R, alloc: Global, out: &mut Slow) -> Resul
     Ok(())
 }
 
-fn is_stuck<R: Files + Abort>(
-    rt: &R,
-    alloc: Global,
-    room: usize,
-    is_stuck: bool,
-) -> Result<(), Fail> {
+fn is_stuck<R>(rt: &R, alloc: Global, room: usize, is_stuck: bool) -> Result<(), Fail>
+where
+    R: Processes + Files + Clock + Print + Eprint + Clone + Drop + Abort,
+{
     let mut out = Slow::new(alloc, room, true, is_stuck);
     is_reported(rt, alloc, &mut out)
 }

@@ -1,9 +1,11 @@
-//! The tests of a host over the operating system: real children, real files.
+//! The tests of a host over the operating system, and of init over it: real children, real files.
 #![tactic(auto)]
 
 #[cfg(test)]
 mod children_tests;
 #[cfg(test)]
 mod files_tests;
+#[cfg(test)]
+mod run_tests;
 #[cfg(test)]
 mod said_tests;

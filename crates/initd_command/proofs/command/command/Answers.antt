@@ -3,6 +3,7 @@ use Rattle.std.proofs.lemmas.Result.{IfOk-weaker}
 use Rattle.clap.specs.Words.{App, app_of, new_app, with_subcommand}
 use Rattle.clap.specs.Simple.{app_of_fields}
 use Rattle.initd_command.specs.CommandLine.{check_line, command_line, simulate_line}
+use Rattle.initd_command.specs.Options.{run_line}
 use Rattle.initd_command.proofs.command.command.Goals as goal
 
 abbrev unnamed : App → App
@@ -20,6 +21,8 @@ returns c =
     ap app_of_fields c.subcommand_required.ensures ∙ ap required bare in
     let simulate_is : app_of c.in_ok-simulate.simulate ≡ simulate_line = c.in_ok-simulate.ensures.line in
     let check_is : app_of c.in_ok-check.check ≡ check_line = c.in_ok-check.ensures.line in
+    let run_is : app_of c.in_ok-serving.serving ≡ run_line = c.in_ok-serving.ensures.line in
     let one = c.in_ok-subcommand.ensures.shape c.in_ok-simulate.ensures.plain ∙ ap₂ with_subcommand named (ap (λ (app : App). app.top) simulate_is) in
-    IfOk-weaker c.subcommand-2.result _ _
-    (λ made adds. adds.shape c.in_ok-check.ensures.plain ∙ ap₂ with_subcommand one (ap (λ (app : App). app.top) check_is)) c.subcommand-2.ensures
+    let two = c.in_ok-subcommand-2.ensures.shape c.in_ok-check.ensures.plain ∙ ap₂ with_subcommand one (ap (λ (app : App). app.top) check_is) in
+    IfOk-weaker c.subcommand-3.result _ _
+    (λ made adds. adds.shape c.in_ok-serving.ensures.plain ∙ ap₂ with_subcommand two (ap (λ (app : App). app.top) run_is)) c.subcommand-3.ensures

@@ -3,7 +3,7 @@ use Rattle.std.specs.Prelude.{option_map}
 use Rattle.clap.proofs.WalkLemmas.{first_value-rows}
 use Rattle.clap.specs.Words.{found_of}
 use Rattle.init_words.specs.declared.levels.Level.{Level}
-use Rattle.initd_command.specs.CommandLine.{level_in}
+use Rattle.initd_command.specs.Values.{level_in}
 use Rattle.initd_command.proofs.command.read_level_option.Goals as goal
 
 abbrev given : Option Level → Option (Option Level)

@@ -1,7 +1,8 @@
 use Rattle.std.proofs.Common.{rules, ◌≡◌, ◌∙◌, ap₂}
 use Rattle.std.proofs.lemmas.Result.{IfOk-weaker}
 use Rattle.clap.specs.Words.{rule_of, with_rule}
-use Rattle.initd_command.specs.CommandLine.{level_rule, script_rule, simulate_line, table_rule}
+use Rattle.initd_command.specs.CommandLine.{script_rule, simulate_line, table_rule}
+use Rattle.initd_command.specs.Values.{level_rule}
 use Rattle.initd_command.proofs.command.simulate_line.Goals as goal
 
 pub returns-clause-line : goal.returns-clause-line

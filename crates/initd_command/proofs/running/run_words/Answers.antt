@@ -1,7 +1,10 @@
-use Rattle.std.proofs.Common.{◌≡◌, rules, List, ℕ, Option, Some, None, map, string_bytes, refl, reverse}
+use Rattle.std.proofs.Common.{◌≡◌, rules, Bool, true, false, List, ℕ, Option, Some, None, map, string_bytes, refl, reverse}
+use Rattle.std.specs.Prelude.{◌&&◌}
 use Rattle.std.proofs.KnownBytes.{Keeps-refl}
-use Rattle.initd_command.specs.CommandLine.{Said, judges, read_of, run_of, runs}
-use Rattle.initd_command.specs.Endings.{Ending, done, lawful, no_memory, stopped, torn, unflushed, unlawful, unread, unwritten, usage}
+use Rattle.initd_command.specs.CommandLine.{Said, judges, read_of, run_of, runs, serves}
+use Rattle.initd_command.specs.Endings.{Ending, done, drained, lawful, limited, no_memory, stopped, torn, uncreated, unflushed, unlawful, unlogged, unread, untold, unwritten, usage}
+use Rattle.initd_command.specs.Options.{service_of}
+use Rattle.initd_command.specs.Services.{end_at}
 use Rattle.init_trace.specs.Event.{Event}
 use Rattle.init_trace.specs.Lawful.{Fault, first_breach}
 use Rattle.initd_command.specs.Verdicts.{EndsBreached}
@@ -13,12 +16,21 @@ no_usage : (trace : List Event) (breach : Option Fault) (old new : Option (List 
 no_usage trace None old new none = none
 no_usage trace (Some fault) old new none = none
 
+-- nor is the end of turns
+no_turns : (logged drains : Bool) → usage ≡ end_at logged drains → ⊥
+no_turns false drains is = cc
+no_turns true true is = cc
+no_turns true false is = cc
+
 -- an ending of what was read
 ends_by : (words : List (List ℕ)) (said : Said) → read_of words ≡ Some said → (ending : Ending) (old new : Option (List ℕ))
     → EndsSaid said ending old new → EndsBy words ending old new
 ends_by words said is done old new ends = (said, is, ends)
 ends_by words (runs run) is usage old new ends = absurd ends.2
 ends_by words (judges path) is usage old new ends = absurd (no_usage ends.1.0 (first_breach (reverse ends.1.0)) old new ends.1.3)
+ends_by words (serves service) is usage old new ends =
+    let turned = ends.1.1 in absurd (no_turns turned.0.logged (service.drain && turned.0.drained) turned.1)
+ends_by words (serves service) is no_memory old new ends = ends.1.1
 ends_by words (runs run) is no_memory old new ends = absurd ends.2
 ends_by words (judges path) is no_memory old new ends = ends.1
 ends_by words said is (unread path why) old new ends = (said, is, ends)
@@ -28,6 +40,11 @@ ends_by words said is lawful old new ends = (said, is, ends)
 ends_by words said is (unlawful message) old new ends = (said, is, ends)
 ends_by words said is (torn line) old new ends = (said, is, ends)
 ends_by words said is unwritten old new ends = (said, is, ends)
+ends_by words said is drained old new ends = (said, is, ends)
+ends_by words said is limited old new ends = (said, is, ends)
+ends_by words said is unlogged old new ends = (said, is, ends)
+ends_by words said is (uncreated path why) old new ends = (said, is, ends)
+ends_by words said is untold old new ends = (said, is, ends)
 
 pub returns-in-Ok-Simulate : goal.returns-in-Ok-Simulate
 returns-in-Ok-Simulate g c =
@@ -40,6 +57,12 @@ returns-in-Ok-Check g c =
     let (ending, status, ends, reported) = c.check_file.ensures in
     let is : read_of (map string_bytes c.args.words.items) ≡ Some (judges c.as_str.result.now) = search rules in
     (ending, status, ends_by _ (judges c.as_str.result.now) is ending (g.W.Write.contents c.args.out.now) (g.W.Write.contents c.check_file.new.out) ends, reported)
+
+pub returns-in-Ok-Run : goal.returns-in-Ok-Run
+returns-in-Ok-Run g c =
+    let (ending, status, ends, reported) = c.serve_files.ensures in
+    let is : read_of (map string_bytes c.args.words.items) ≡ Some (serves (service_of c.in-Ok-Run.said)) = search rules in
+    (ending, status, ends_by _ (serves (service_of c.in-Ok-Run.said)) is ending (g.W.Write.contents c.args.out.now) (g.W.Write.contents c.serve_files.new.out) ends, reported)
 
 pub returns-in-Err-Usage : goal.returns-in-Err-Usage
 returns-in-Err-Usage g c =

@@ -1,0 +1,176 @@
+//! Runs of `initd run` with real children, whose traces `initd check` judges.
+
+use initctl_frame::{Request, Sign, encode};
+use initd_command::run_words;
+use std::alloc::{AllocError, Global};
+use std::fs;
+use std::process::{Abort, Processes};
+use std::rt::{Clock, Files};
+use std::test::Fail;
+
+/// The words of a line, parted by single blanks.
+fn words_of(alloc: Global, line: &str) -> Result<Vec<String>, AllocError> {
+    let mut words = Vec::new(alloc);
+    for word in line.split(' ') {
+        words.push(String::from_str(alloc, word)?)?;
+    }
+    Ok(words)
+}
+
+/// The exit status of a command line; what it writes and reports is added to `out`.
+fn status_of<R>(rt: &R, alloc: Global, line: &str, out: &mut Vec<u8>) -> Result<u8, AllocError>
+where
+    R: Processes + Files + Clock + Print + Eprint + Clone + Drop,
+{
+    let words = words_of(alloc, line)?;
+    let mut err = Vec::new(alloc);
+    let status = run_words(rt, alloc, words, out, &mut err);
+    out.extend_from_slice(&err)?;
+    Ok(status)
+}
+
+/// A command line ends with 0, and writes this.
+fn is_done<R>(rt: &R, alloc: Global, line: &str, want: &str) -> Result<(), Fail>
+where
+    R: Processes + Files + Clock + Print + Eprint + Clone + Drop + Abort,
+{
+    let mut out = Vec::new(alloc);
+    let status = status_of(rt, alloc, line, &mut out)?;
+    assert!(rt;
+        status == 0 && out.as_slice() == want.as_bytes(),
+        "{line}: {status}"
+    );
+    Ok(())
+}
+
+/// Writes a request to go to a runlevel, or of another character.
+fn write_request(rt: &impl Files, path: &str, code: u8, secs: u16) -> Result<(), Fail> {
+    let sign = Sign::read(code).ok_or("no sign")?;
+    fs::write(rt, path, encode(&Request::Runlvl(sign, secs)).as_slice())?;
+    Ok(())
+}
+
+fn write_all(rt: &impl Files, files: &[(&str, &str)]) -> Result<(), Fail> {
+    for (path, text) in files {
+        fs::write(rt, *path, *text)?;
+    }
+    Ok(())
+}
+
+/// The lines stand in the trace, one behind another.
+fn is_in_order(trace: &str, lines: &[&str]) -> bool {
+    let mut rest = trace.lines();
+    lines.iter().all(|line| rest.any(|other| other == *line))
+}
+
+/// Two scripts that each wait for the other's file.
+const PAIR: &[(&str, &str)] = &[
+    ("pair.tab", "a:3:once:sh a.sh\nb:3:once:sh b.sh\n"),
+    (
+        "a.sh",
+        "echo $$ > a.up\nfor t in 1 2 3; do for i in 1 2 3 4 5 6 7 8 9 10; do\nif test -e b.up; then exit 3; fi; sleep 1\ndone; done\nexit 4\n",
+    ),
+    (
+        "b.sh",
+        "echo $$ > b.up\nfor t in 1 2 3; do for i in 1 2 3 4 5 6 7 8 9 10; do\nif test -e a.up; then exit 3; fi; sleep 1\ndone; done\nexit 4\n",
+    ),
+];
+
+/// The line of a child's end, by the number that it wrote.
+fn end_line<R: Files + Alloc>(rt: &R, alloc: Global, id: &str, path: &str) -> Result<String, Fail> {
+    let number = fs::read_to_string(rt, path)?;
+    let number = number.as_str().trim_ascii();
+    Ok(format!(in alloc; "reaped {id} {number} exit 3")?)
+}
+
+fn has_ends<R: Files + Alloc + Abort>(
+    rt: &R,
+    alloc: Global,
+    trace: &str,
+    id: &str,
+    path: &str,
+) -> Result<(), Fail> {
+    let line = end_line(rt, alloc, id, path)?;
+    assert!(rt; is_in_order(trace, &[line.as_str()]), "{trace}");
+    Ok(())
+}
+
+#[test]
+fn children_run_beside_each_other(rt: HostRuntime) -> Result<(), Fail> {
+    write_all(&rt, PAIR)?;
+    write_request(&rt, "pair.ctl", b'q', 5)?;
+    is_done(
+        &rt,
+        rt.alloc(),
+        "run --inittab pair.tab --initctl pair.ctl --trace pair.trace --level 3 --turns 60 --drain --pause 0.5",
+        "",
+    )?;
+    is_done(&rt, rt.alloc(), "check pair.trace", "lawful\n")?;
+    let trace = fs::read_to_string(&rt, "pair.trace")?;
+    assert!(rt;
+        is_in_order(
+            trace.as_str(),
+            &["use 2", "got reload", "use 2", "settle 3"]
+        )
+    );
+    has_ends(&rt, rt.alloc(), trace.as_str(), "a", "a.up")?;
+    has_ends(&rt, rt.alloc(), trace.as_str(), "b", "b.up")
+}
+
+/// A child that stays where it is sent TERM, one that asks for runlevel 1 by a block of two seconds, and that level's.
+const STAYS: &[(&str, &str)] = &[
+    (
+        "stays.tab",
+        "r:3:respawn:sh r.sh\nt:3:once:sh t.sh\nn:1:once:sh n.sh\nx:3:once\n",
+    ),
+    (
+        "r.sh",
+        "trap ': > r.term' TERM\n: > r.up\nfor t in 1 2 3 4 5 6; do for i in 1 2 3 4 5 6 7 8 9 10; do\nfor k in 1 2 3 4 5 6 7 8 9 10; do sleep 0.1; done; done; done\n",
+    ),
+    (
+        "t.sh",
+        "for i in 1 2 3 4 5 6 7 8 9 10; do if test -e r.up; then cat one >> stays.ctl; exit 0; fi; sleep 1; done\n",
+    ),
+    ("n.sh", "test -e r.term && exit 6\n"),
+];
+
+#[test]
+fn a_child_that_stays_is_killed(rt: HostRuntime) -> Result<(), Fail> {
+    write_all(&rt, STAYS)?;
+    write_request(&rt, "one", b'1', 2)?;
+    is_done(
+        &rt,
+        rt.alloc(),
+        "run --inittab stays.tab --initctl stays.ctl --trace stays.trace --level 3 --turns 100 --drain --pause 0.2",
+        "initd: inittab line 4: too few fields\n",
+    )?;
+    is_done(&rt, rt.alloc(), "check stays.trace", "lawful\n")?;
+    let trace = fs::read_to_string(&rt, "stays.trace")?;
+    is_stopped(&rt, trace.as_str());
+    Ok(())
+}
+
+/// Its signals, its end and the next level's entry stand in the trace.
+fn is_stopped(rt: &impl Abort, trace: &str) {
+    let signals = [
+        "settle 3",
+        "got level 1 2",
+        "enter 1 2",
+        "ask r term",
+        "hit r",
+        "ask r kill",
+        "hit r",
+    ];
+    assert!(rt; is_in_order(trace, &signals), "{trace}");
+    let ends = |line: &str, id: &str, end: &str| line.starts_with(id) && line.ends_with(end);
+    let mut rest = trace.lines();
+    assert!(rt;
+        rest.any(|line| ends(line, "reaped r ", " killed")),
+        "{trace}"
+    );
+    assert!(rt; rest.any(|line| line == "ask n start"), "{trace}");
+    assert!(rt;
+        rest.any(|line| ends(line, "reaped n ", " exit 6")),
+        "{trace}"
+    );
+}

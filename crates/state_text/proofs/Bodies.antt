@@ -1,0 +1,278 @@
+-- The lines before the last: what is read of them, and that nothing else is; and a text split at its last line.
+use Rattle.std.proofs.Common.{◌≡◌, ◌≢◌, ℕ, zero, suc, ◌-◌, ◌<◌, ◌^◌, Bool, true, false, cond, not, ◌&&◌, ◌==◌, List, [], ◌∷◌, ◌++◌, length, take, map, append-nil, codes, Option, Some, None, Result, Ok, Err, refl, sym, ap, ◌∙◌, subst, arith, lit<}
+use Rattle.std.specs.List.{list_all, starts_with}
+use Rattle.std.specs.Option.{option_map}
+use Rattle.std.specs.Result.{IfErr, IsErrAnd, MatchResult}
+use Rattle.std.proofs.lemmas.Bool.{and_parts, and_from, lt-ltb, not-true}
+use Rattle.std.proofs.lemmas.List.{append_assoc}
+use Rattle.std.proofs.lemmas.List.Folds.{list_all-append}
+use Rattle.std.proofs.lemmas.Option.{option_and_then_some, same_Some, some_pair_parts}
+use Rattle.text_lines.specs.Lines.{after_lines, cut, has_byte, newlines}
+use Rattle.text_lines.proofs.CutLemmas.{cut-append, cut-parts}
+use Rattle.text_lines.proofs.PieceLemmas.{newlines-append, newlines-line, take-front}
+use Rattle.init_words.specs.declared.entries.Entry.{Entry}
+use Rattle.init_words.specs.Ids.{same_id}
+use Rattle.init_words.proofs.Same.{same_id-is}
+use Rattle.inittab_text.proofs.Entries.{table_parts}
+use Rattle.inittab_text.proofs.ReadLemmas.{option_map_some}
+use Rattle.inittab_text.proofs.WriteLemmas.{one_line, parts}
+use Rattle.inittab_text.specs.Written.{fields_written, is_empty, is_table, is_written}
+use Rattle.state_text.specs.declared.parts.Heads.{Heads}
+use Rattle.state_text.specs.declared.parts.Over.{Over}
+use Rattle.state_text.specs.declared.parts.Over.TheVariants.{Cut, Version, Line, Generation, Unfit, Worn, Memory}
+use Rattle.state_text.specs.declared.parts.Record.{Record}
+use Rattle.state_text.specs.Lines.{State, body_lines, head_lines, slot_line, table_line, text_of_lines, version_line}
+use Rattle.state_text.specs.Range.{are_heads, is_record, is_state}
+use Rattle.state_text.specs.Reading.{OnLine, end_split, heads_read, last_line, table_read, version_read}
+use Rattle.state_text.specs.Refused.{AreRecords, IsBody, NoBody, NoRecords, RefusedBody, is_line}
+use Rattle.state_text.proofs.LineForms.{head_lines_are, heads_front, more_lines_are, slot_line_lacks}
+use Rattle.state_text.proofs.Whole.{records_text, table_back, table_own, table_text}
+use Rattle.state_text.proofs.WordForms.{time_lacks}
+use Rattle.state_text.proofs.Written.{text_of_lines-append}
+
+-- a refusal that is handed on, and one that means more
+pub err_kept : {T E : Type 0} (r : Result T E) (e : E) (Q : E → Type 0) → IsErrAnd r (λ x. x ≡ e) → Q e → IfErr r Q
+err_kept (Ok t) e Q is q = tt
+err_kept (Err x) e Q is q = subst Q (sym is) q
+
+pub match_kept : {T E : Type 0} (r : Result T E) (e : E) (P : T → Type 0) (Q : E → Type 0) → IsErrAnd r (λ x. x ≡ e) → Q e → MatchResult r P Q
+match_kept (Ok t) e P Q is q = absurd is
+match_kept (Err x) e P Q is q = subst Q (sym is) q
+
+pub on_line : {P Q : Type 0} → (P → Q) → (why : Over) → OnLine P why → OnLine Q why
+on_line f (Line n) p = f p
+on_line f Memory p = tt
+on_line f Cut p = p
+on_line f Version p = p
+on_line f Generation p = p
+on_line f Unfit p = p
+on_line f Worn p = p
+
+pub on_body : {P : Type 0} (text : List ℕ) → (P → (version_read text ≢ None) × NoBody text) → (why : Over) → OnLine P why → RefusedBody text why
+on_body text f (Line n) p = f p
+on_body text f Memory p = tt
+on_body text f Cut p = p
+on_body text f Version p = absurd p
+on_body text f Generation p = p
+on_body text f Unfit p = p
+on_body text f Worn p = p
+
+-- THE BODY
+
+unfoldable pub body_text : State → List ℕ
+body_text state = text_of_lines (body_lines state)
+
+unfoldable pub heads_text : Heads → List ℕ
+heads_text heads = text_of_lines (head_lines heads)
+
+body_parts : (state : State) → body_text state ≡ version_line ++ 10 ∷ (heads_text state.heads ++ (table_text state.table ++ records_text state.records))
+unfolding body_text heads_text table_text records_text
+body_parts state =
+    ap (λ t. version_line ++ 10 ∷ t) (text_of_lines-append (head_lines state.heads) (table_line (length state.table) ∷ (map fields_written state.table ++ map slot_line state.records))
+    ∙ ap (λ t. text_of_lines (head_lines state.heads) ++ t) (text_of_lines-append (table_line (length state.table) ∷ map fields_written state.table) (map slot_line state.records)))
+
+pub version_own : (text rest : List ℕ) → version_read text ≡ Some rest → version_line ++ 10 ∷ rest ≡ text
+version_own text rest is = option_and_then_some (λ (parts : List ℕ × List ℕ). cond (same_id parts.0 version_line) (Some parts.1) None) (cut 10 text) rest is (λ parts at found. by parts at (same_id parts.0 version_line) refl found)
+  where
+    by : (parts : List ℕ × List ℕ) → cut 10 text ≡ Some parts → (b : Bool) → same_id parts.0 version_line ≡ b → cond b (Some parts.1) None ≡ Some rest → version_line ++ 10 ∷ rest ≡ text
+    by parts at true same found =
+        let this : parts.1 ≡ rest = same_Some parts.1 rest found in
+        ap (λ r. version_line ++ 10 ∷ r) (sym this) ∙ ap (λ l. l ++ 10 ∷ parts.1) (sym (same_id-is parts.0 version_line same)) ∙ sym (cut-parts 10 text parts.0 parts.1 at).0
+    by parts at false same found = absurd (cc)
+
+pub version_back : (rest : List ℕ) → version_read (version_line ++ 10 ∷ rest) ≡ Some rest
+version_back rest = refl
+
+pub state_parts : (state : State) → is_state state ≡ true → (are_heads state.heads ≡ true) × (is_table state.table ≡ true) × (list_all is_record state.records ≡ true)
+state_parts state is =
+    let both = and_parts (are_heads state.heads && is_table state.table) (list_all is_record state.records) is in
+    let first = and_parts (are_heads state.heads) (is_table state.table) both.0 in
+    (first.0, first.1, both.1)
+
+-- what is read of the text of a state, and of more behind it
+pub record Steps (state : State) (text more : List ℕ) : Type 0 where
+  pub version : version_read text ≡ Some (heads_text state.heads ++ (table_text state.table ++ (records_text state.records ++ more)))
+  pub heads : heads_read (heads_text state.heads ++ (table_text state.table ++ (records_text state.records ++ more))) ≡ Some (state.heads, table_text state.table ++ (records_text state.records ++ more))
+  pub table : table_read (table_text state.table ++ (records_text state.records ++ more)) ≡ Some (state.table, records_text state.records ++ more)
+
+pub steps : (state : State) (text more : List ℕ) → is_state state ≡ true → body_text state ++ more ≡ text → Steps state text more
+unfolding heads_text
+steps state text more is same =
+    let parts = state_parts state is in
+    let behind = heads_text state.heads ++ (table_text state.table ++ (records_text state.records ++ more)) in
+    let whole : text ≡ version_line ++ 10 ∷ behind =
+    sym same ∙ ap (λ t. t ++ more) (body_parts state) ∙ append_assoc version_line (10 ∷ (heads_text state.heads ++ (table_text state.table ++ records_text state.records))) more
+    ∙ ap (λ t. version_line ++ 10 ∷ t) (append_assoc (heads_text state.heads) (table_text state.table ++ records_text state.records) more ∙ ap (λ t. heads_text state.heads ++ t) (append_assoc (table_text state.table) (records_text state.records) more)) in
+    record {
+      version = ap version_read whole ∙ version_back behind;
+      heads = heads_front.back state.heads (table_text state.table ++ (records_text state.records ++ more)) parts.0;
+      table = table_back state.table (records_text state.records ++ more) parts.1;
+    }
+
+pub lost : {X : Type 0} (x : X) → ◌≡◌ {A = Option X} None (Some x) → ⊥
+lost x e = cc
+
+pub steps_of : (state : State) (text : List ℕ) → is_state state ≡ true → text_of_lines (body_lines state) ≡ text → Steps state text []
+unfolding body_text
+steps_of state text is same = steps state text [] is (append-nil (text_of_lines (body_lines state)) ∙ same)
+
+known_version : (text first : List ℕ) → version_read text ≡ Some first → version_read text ≢ None
+known_version text first at none = lost first (sym none ∙ at)
+
+pub no_heads : (text first : List ℕ) → version_read text ≡ Some first → heads_read first ≡ None → (version_read text ≢ None) × NoBody text
+no_heads text first at none = (
+  known_version text first at,
+  λ state is same.
+      let read = steps_of state text is same in
+      let here = same_Some _ first (sym read.version ∙ at) in
+      lost _ (sym none ∙ ap heads_read (sym here) ∙ read.heads),
+)
+
+-- behind the heads
+pub to_heads : (state : State) (text first second : List ℕ) (heads : Heads) → version_read text ≡ Some first → heads_read first ≡ Some (heads, second) → Steps state text []
+    → (heads ≡ state.heads) × (second ≡ table_text state.table ++ (records_text state.records ++ []))
+to_heads state text first second heads at found read =
+    let here = same_Some _ first (sym read.version ∙ at) in
+    some_pair_parts heads state.heads second (table_text state.table ++ (records_text state.records ++ [])) (sym found ∙ ap heads_read (sym here) ∙ read.heads)
+
+pub no_table : (text first second : List ℕ) (heads : Heads) → version_read text ≡ Some first → heads_read first ≡ Some (heads, second) → table_read second ≡ None → (version_read text ≢ None) × NoBody text
+no_table text first second heads at found none = (
+  known_version text first at,
+  λ state is same.
+      let read = steps_of state text is same in
+      let here = to_heads state text first second heads at found read in
+      lost _ (sym none ∙ ap table_read here.1 ∙ read.table),
+)
+
+pub no_body : (text first second third : List ℕ) (heads : Heads) (table : List Entry) → version_read text ≡ Some first → heads_read first ≡ Some (heads, second) → table_read second ≡ Some (table, third) → NoRecords third → (version_read text ≢ None) × NoBody text
+unfolding records_text
+no_body text first second third heads table at found then never = (
+  known_version text first at,
+  λ state is same.
+      let read = steps_of state text is same in
+      let here = to_heads state text first second heads at found read in
+      let there = some_pair_parts table state.table third (records_text state.records ++ []) (sym then ∙ ap table_read here.1 ∙ read.table) in
+      never state.records (state_parts state is).2 (sym (append-nil (records_text state.records)) ∙ sym there.1),
+)
+
+pub is_body : (text first second third : List ℕ) (heads : Heads) (table : List Entry) (records : List Record) → version_read text ≡ Some first → heads_read first ≡ Some (heads, second) → table_read second ≡ Some (table, third) → AreRecords third records
+    → IsBody text (record { heads = heads; table = table; records = records })
+unfolding body_text heads_text records_text
+is_body text first second third heads table records at found then are =
+    let state : State = record { heads = heads; table = table; records = records } in
+    let one = heads_front.own first heads second found in
+    let two = table_own second third table then in (
+      and_from (are_heads heads && is_table table) (list_all is_record records) (and_from (are_heads heads) (is_table table) one.1 two.1) are.0,
+      body_parts state ∙ ap (λ t. version_line ++ 10 ∷ (heads_text heads ++ (table_text table ++ t))) are.1 ∙ ap (λ t. version_line ++ 10 ∷ (heads_text heads ++ t)) two.0 ∙ ap (λ t. version_line ++ 10 ∷ t) one.0 ∙ version_own text first at,
+    )
+
+-- THE LAST LINE
+
+-- lines without newlines
+pub newlines_are : (lines : List (List ℕ)) → list_all is_line lines ≡ true → newlines (text_of_lines lines) ≡ length lines
+newlines_are [] are = refl
+newlines_are (line ∷ lines) are =
+    let both = and_parts (is_line line) (list_all is_line lines) are in
+    newlines-append (line ++ 10 ∷ []) (text_of_lines lines) ∙ omega (arith, newlines-line line (not-true (has_byte 10 line) both.0), newlines_are lines both.1)
+
+after_these : (lines : List (List ℕ)) (rest : List ℕ) → list_all is_line lines ≡ true → after_lines (length lines) (text_of_lines lines ++ rest) ≡ Some rest
+after_these [] rest are = refl
+after_these (line ∷ lines) rest are =
+    let both = and_parts (is_line line) (list_all is_line lines) are in
+    let regrouped : ((line ++ 10 ∷ []) ++ text_of_lines lines) ++ rest ≡ line ++ 10 ∷ (text_of_lines lines ++ rest) =
+    append_assoc (line ++ 10 ∷ []) (text_of_lines lines) rest ∙ append_assoc line (10 ∷ []) (text_of_lines lines ++ rest) in
+    rw (regrouped, cut-append 10 line (text_of_lines lines ++ rest) (not-true (has_byte 10 line) both.0)) (after_these lines rest both.1)
+
+-- the lines that stand before the rest
+record Lined (text rest : List ℕ) : Type 0 where
+  pub lines : List (List ℕ)
+  pub whole : text_of_lines lines ++ rest ≡ text
+  pub are : list_all is_line lines ≡ true
+
+lined : (n : ℕ) (text rest : List ℕ) → after_lines n text ≡ Some rest → Lined text rest
+lined zero text rest is = record { lines = []; whole = sym (same_Some text rest is); are = refl }
+lined (suc n) text rest is =
+    option_and_then_some (λ (parts : List ℕ × List ℕ). after_lines n parts.1) (cut 10 text) rest is (λ parts at more.
+    let first = cut-parts 10 text parts.0 parts.1 at in
+    let behind = lined n parts.1 rest more in
+    record {
+      lines = parts.0 ∷ behind.lines;
+      whole = append_assoc (parts.0 ++ 10 ∷ []) (text_of_lines behind.lines) rest ∙ ap (λ t. (parts.0 ++ 10 ∷ []) ++ t) behind.whole ∙ append_assoc parts.0 (10 ∷ []) parts.1 ∙ sym first.0;
+      are = more_lines_are parts.0 behind.lines first.1 behind.are;
+    })
+
+-- the split of a whole text
+pub split_back : (lines : List (List ℕ)) (last text : List ℕ) → list_all is_line lines ≡ true → is_line last ≡ true → starts_with ◌==◌ last (codes "end ") ≡ true → text_of_lines lines ++ (last ++ 10 ∷ []) ≡ text
+    → end_split text ≡ Some (text_of_lines lines, last)
+split_back lines last text are is begins whole =
+    let lacks = not-true (has_byte 10 last) is in
+    let rest = last ++ 10 ∷ [] in
+    let some : newlines (text_of_lines lines ++ rest) - 1 ≡ length lines = omega (arith, newlines-append (text_of_lines lines) rest, newlines_are lines are, newlines-line last lacks) in
+    rw (← whole, some, after_these lines rest are, cut-append 10 last [] lacks, begins, take-front (text_of_lines lines) rest) refl
+
+pub record Split (text body last : List ℕ) : Type 0 where
+  pub lines : List (List ℕ)
+  pub are : list_all is_line lines ≡ true
+  pub is : is_line last ≡ true
+  pub begins : starts_with ◌==◌ last (codes "end ") ≡ true
+  pub body_is : text_of_lines lines ≡ body
+  pub whole : text_of_lines lines ++ (last ++ 10 ∷ []) ≡ text
+
+last_own : (rest last : List ℕ) → last_line rest ≡ Some last → (last ++ 10 ∷ [] ≡ rest) × (is_line last ≡ true) × (starts_with ◌==◌ last (codes "end ") ≡ true)
+last_own rest last found =
+    option_and_then_some (λ (parts : List ℕ × List ℕ). cond (is_empty parts.1 && starts_with ◌==◌ parts.0 (codes "end ")) (Some parts.0) None) (cut 10 rest) last found (λ parts at chosen. by parts at (is_empty parts.1 && starts_with ◌==◌ parts.0 (codes "end ")) refl chosen)
+  where
+    empty : (xs : List ℕ) → is_empty xs ≡ true → xs ≡ []
+    empty [] e = refl
+    empty (x ∷ xs) e = absurd (cc)
+
+    by : (parts : List ℕ × List ℕ) → cut 10 rest ≡ Some parts → (b : Bool) → is_empty parts.1 && starts_with ◌==◌ parts.0 (codes "end ") ≡ b → cond b (Some parts.0) None ≡ Some last
+        → (last ++ 10 ∷ [] ≡ rest) × (is_line last ≡ true) × (starts_with ◌==◌ last (codes "end ") ≡ true)
+    by parts at true holds chosen =
+        let this : parts.0 ≡ last = same_Some parts.0 last chosen in
+        let tests = and_parts (is_empty parts.1) (starts_with ◌==◌ parts.0 (codes "end ")) holds in
+        let cutted = cut-parts 10 rest parts.0 parts.1 at in
+        subst (λ l. (l ++ 10 ∷ [] ≡ rest) × (is_line l ≡ true) × (starts_with ◌==◌ l (codes "end ") ≡ true)) this
+        (ap (λ m. parts.0 ++ 10 ∷ m) (sym (empty parts.1 tests.0)) ∙ sym cutted.0, ap not cutted.1, tests.1)
+    by parts at false holds chosen = absurd (cc)
+
+pub split_own : (text body last : List ℕ) → end_split text ≡ Some (body, last) → Split text body last
+split_own text body last found =
+    option_and_then_some (λ rest. option_map {U = List ℕ × List ℕ} (λ l. (take (length text - length rest) text, l)) (last_line rest)) (after_lines (newlines text - 1) text) (body, last) found (λ rest at chosen.
+    option_map_some {Y = List ℕ × List ℕ} (λ l. (take (length text - length rest) text, l)) (last_line rest) (body, last) chosen (λ l was same.
+    let pair = some_pair_parts (take (length text - length rest) text) body l last (ap Some same) in
+    let front = lined (newlines text - 1) text rest at in
+    let own = last_own rest last (was ∙ ap Some pair.1) in
+    let taken : take (length text - length rest) text ≡ text_of_lines front.lines = ap (λ t. take (length t - length rest) t) (sym front.whole) ∙ take-front (text_of_lines front.lines) rest in
+    record {
+      lines = front.lines;
+      are = front.are;
+      is = own.1;
+      begins = own.2;
+      body_is = sym taken ∙ pair.0;
+      whole = ap (λ r. text_of_lines front.lines ++ r) own.0 ∙ front.whole;
+    }))
+
+-- THE LINES OF A STATE
+
+entries_are : (table : List Entry) → list_all is_written table ≡ true → list_all is_line (map fields_written table) ≡ true
+entries_are [] are = refl
+entries_are (e ∷ table) are =
+    let both = and_parts (is_written e) (list_all is_written table) are in
+    more_lines_are (fields_written e) (map fields_written table) (one_line e (parts e both.0)) (entries_are table both.1)
+
+slots_are : (records : List Record) → list_all is_record records ≡ true → list_all is_line (map slot_line records) ≡ true
+slots_are [] are = refl
+slots_are (r ∷ records) are =
+    let both = and_parts (is_record r) (list_all is_record records) are in
+    more_lines_are (slot_line r) (map slot_line records) (slot_line_lacks r both.0) (slots_are records both.1)
+
+pub body_lines_are : (state : State) → is_state state ≡ true → list_all is_line (body_lines state) ≡ true
+body_lines_are state is =
+    let known = state_parts state is in
+    let table = table_parts state.table known.1 in
+    let counts : length state.table < 2 ^ 64 = omega (arith, table.0) in
+    let end = list_all-append is_line (map fields_written state.table) (map slot_line state.records) ∙ and_from _ _ (entries_are state.table table.2) (slots_are state.records known.2) in
+    let tail = more_lines_are (table_line (length state.table)) (map fields_written state.table ++ map slot_line state.records) (time_lacks 10 (lit< tt) (length state.table) (lt-ltb (length state.table) (2 ^ 64) counts)) end in
+    more_lines_are version_line (head_lines state.heads ++ (table_line (length state.table) ∷ (map fields_written state.table ++ map slot_line state.records))) refl
+    (list_all-append is_line (head_lines state.heads) (table_line (length state.table) ∷ (map fields_written state.table ++ map slot_line state.records)) ∙ and_from _ _ (head_lines_are state.heads known.0) tail)

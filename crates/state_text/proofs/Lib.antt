@@ -1,0 +1,10 @@
+mod Forms
+mod Rows
+mod Starts
+mod WordForms
+mod LineForms
+mod Whole
+mod Bodies
+mod Taken
+mod Prefixes
+mod Written

@@ -1,0 +1,129 @@
+-- A whole text, part by part: what is read of the text of a state, and that nothing else is.
+use Rattle.std.proofs.Common.{◌≡◌, ◌≢◌, ℕ, ◌-◌, ◌<◌, ◌^◌, true, ◌&&◌, List, [], ◌∷◌, ◌++◌, length, take, map, append-nil, Option, Some, None, refl, sym, ap, ◌∙◌, arith, lit<, length-append}
+use Rattle.std.specs.List.{list_all}
+use Rattle.std.specs.Option.{option_map}
+use Rattle.std.proofs.lemmas.Bool.{and_parts, and_from, lt-ltb}
+use Rattle.std.proofs.lemmas.List.{append_assoc}
+use Rattle.std.proofs.lemmas.List.Folds.{list_all-append}
+use Rattle.std.proofs.lemmas.Option.{option_and_then_some, some_pair_parts}
+use Rattle.text_lines.specs.Lines.{after_lines, newlines}
+use Rattle.text_lines.proofs.PieceLemmas.{after_lines-front, take-front}
+use Rattle.init_words.specs.declared.entries.Entry.{Entry}
+use Rattle.inittab_text.proofs.Entries.{table_parts}
+use Rattle.inittab_text.proofs.LineLemmas.{after_lines-text, is_table-written, newlines-text}
+use Rattle.inittab_text.proofs.ReadLemmas.{option_map_some}
+use Rattle.inittab_text.proofs.WriteLemmas.{table_written-text, text_of-table_written}
+use Rattle.inittab_text.specs.Written.{fields_written, is_table, table_written, text_of}
+use Rattle.state_text.specs.declared.parts.Record.{Record}
+use Rattle.state_text.specs.Lines.{slot_line, table_line, text_of_lines}
+use Rattle.state_text.specs.Range.{is_record}
+use Rattle.state_text.specs.Reading.{line_read, slot_line_read, table_begun, table_line_read, table_read}
+use Rattle.state_text.proofs.Forms.{line_front}
+use Rattle.state_text.proofs.LineForms.{slot_front, table_line_form}
+use Rattle.state_text.proofs.WordForms.{time_lacks}
+use Rattle.state_text.proofs.Written.{table_lines}
+
+-- THE TABLE
+
+unfoldable pub table_text : List Entry → List ℕ
+table_text table = text_of_lines (table_line (length table) ∷ map fields_written table)
+
+count_fits : (table : List Entry) → is_table table ≡ true → length table < 2 ^ 64
+count_fits table is = omega (arith, (table_parts table is).0)
+
+counted : (table : List Entry) (rest : List ℕ) → is_table table ≡ true → line_read table_line_read (table_text table ++ rest) ≡ Some (length table, text_of table ++ rest)
+unfolding table_text
+counted table rest is =
+    let front = line_front _ _ _ table_line_form (time_lacks 10 (lit< tt)) in
+    let regrouped : table_text table ++ rest ≡ (table_line (length table) ++ 10 ∷ []) ++ (text_of table ++ rest) =
+    append_assoc (table_line (length table) ++ 10 ∷ []) (text_of_lines (map fields_written table)) rest ∙ ap (λ t. (table_line (length table) ++ 10 ∷ []) ++ (t ++ rest)) (sym (table_lines table)) in
+    ap (line_read table_line_read) regrouped ∙ front.back (length table) (text_of table ++ rest) (lt-ltb (length table) (2 ^ 64) (count_fits table is))
+
+table_found : (table : List Entry) (rest : List ℕ) → is_table table ≡ true → table_begun (length table) (text_of table ++ rest) ≡ Some (table, rest)
+table_found table rest is = rw (after_lines-text table rest is, take-front (text_of table) rest, table_written-text table is) refl
+
+pub table_back : (table : List Entry) (rest : List ℕ) → is_table table ≡ true → table_read (table_text table ++ rest) ≡ Some (table, rest)
+table_back table rest is = rw (counted table rest is) (table_found table rest is)
+
+begun_own : (count : ℕ) (text rest : List ℕ) (table : List Entry) → table_begun count text ≡ Some (table, rest) → (text_of table ++ rest ≡ text) × (is_table table ≡ true) × (count ≡ length table)
+begun_own count text rest table is =
+    option_and_then_some (λ more. option_map {U = List Entry × List ℕ} (λ t. (t, more)) (table_written (take (length text - length more) text))) (after_lines count text) (table, rest) is (λ more at found.
+    let front = after_lines-front count text more at in
+    let taken : take (length text - length more) text ≡ front.front = ap (λ t. take (length t - length more) t) front.whole ∙ take-front front.front more in
+    option_map_some {Y = List Entry × List ℕ} (λ t. (t, more)) (table_written (take (length text - length more) text)) (table, rest) found (λ t was same.
+    let both = some_pair_parts t table more rest (ap Some same) in
+    let written : table_written front.front ≡ Some table = ap table_written (sym taken) ∙ was ∙ ap Some both.0 in
+    let is_one : is_table table ≡ true = is_table-written front.front table written in
+    let spelled : text_of table ≡ front.front = text_of-table_written front.front table written in
+    (rw (spelled, ← both.1) (sym front.whole), is_one, sym front.counted ∙ ap newlines (sym spelled) ∙ newlines-text table is_one)))
+
+pub table_own : (text rest : List ℕ) (table : List Entry) → table_read text ≡ Some (table, rest) → (table_text table ++ rest ≡ text) × (is_table table ≡ true)
+unfolding table_text
+table_own text rest table is =
+    option_and_then_some (λ (p : ℕ × List ℕ). table_begun p.0 p.1) (line_read table_line_read text) (table, rest) is (λ p at found.
+    let front = line_front _ _ _ table_line_form (time_lacks 10 (lit< tt)) in
+    let head = front.own text p.0 p.1 at in
+    let tail = begun_own p.0 p.1 rest table found in (
+      append_assoc (table_line (length table) ++ 10 ∷ []) (text_of_lines (map fields_written table)) rest
+          ∙ ap (λ t. (table_line (length table) ++ 10 ∷ []) ++ (t ++ rest)) (sym (table_lines table))
+          ∙ ap (λ t. (table_line (length table) ++ 10 ∷ []) ++ t) tail.0
+          ∙ ap (λ n. (table_line n ++ 10 ∷ []) ++ p.1) (sym tail.2) ∙ head.0,
+      tail.1,
+    ))
+
+-- THE RECORDS
+
+unfoldable pub records_text : List Record → List ℕ
+records_text records = text_of_lines (map slot_line records)
+
+pub push_text : (records : List Record) (slot : Record) → records_text (records ++ slot ∷ []) ≡ records_text records ++ (slot_line slot ++ 10 ∷ [])
+unfolding records_text
+push_text [] slot = append-nil (slot_line slot ++ 10 ∷ [])
+push_text (r ∷ records) slot = ap (λ t. (slot_line r ++ 10 ∷ []) ++ t) (push_text records slot) ∙ sym (append_assoc (slot_line r ++ 10 ∷ []) (records_text records) (slot_line slot ++ 10 ∷ []))
+
+pub push_records : (records : List Record) (slot : Record) → list_all is_record records ≡ true → is_record slot ≡ true → list_all is_record (records ++ slot ∷ []) ≡ true
+push_records records slot are is = list_all-append is_record records (slot ∷ []) ∙ and_from (list_all is_record records) (is_record slot && true) are (and_from (is_record slot) true is refl)
+
+-- a line more is read
+pub one_record : (text rest more : List ℕ) (records : List Record) (slot : Record) → list_all is_record records ≡ true → records_text records ++ rest ≡ text → line_read slot_line_read rest ≡ Some (slot, more)
+    → (list_all is_record (records ++ slot ∷ []) ≡ true) × (records_text (records ++ slot ∷ []) ++ more ≡ text) × (length more < length rest)
+one_record text rest more records slot are whole read =
+    let own = slot_front.own rest slot more read in (
+      push_records records slot are own.1,
+      ap (λ t. t ++ more) (push_text records slot) ∙ append_assoc (records_text records) (slot_line slot ++ 10 ∷ []) more ∙ ap (λ t. records_text records ++ t) own.0 ∙ whole,
+      omega (arith, ap length own.0, length-append (slot_line slot ++ 10 ∷ []) more, length-append (slot_line slot) (10 ∷ [])),
+    )
+
+-- a text that no line more is read of is that of no records
+pub no_records : (before records : List Record) (rest : List ℕ) → list_all is_record before ≡ true → list_all is_record records ≡ true → rest ≢ [] → line_read slot_line_read rest ≡ None → records_text records ≡ records_text before ++ rest → ⊥
+unfolding records_text
+no_records [] [] rest one two some none same = some (sym same)
+no_records [] (r ∷ records) rest one two some none same =
+    let read = slot_front.back r (records_text records) (and_parts (is_record r) (list_all is_record records) two).0 in
+    lost (sym none ∙ ap (line_read slot_line_read) (sym same) ∙ read)
+  where
+    lost : ◌≡◌ {A = Option (Record × List ℕ)} None (Some (r, records_text records)) → ⊥
+    lost e = cc
+no_records (b ∷ before) [] rest one two some none same =
+    omega (arith, ap length same, length-append ((slot_line b ++ 10 ∷ []) ++ records_text before) rest, length-append (slot_line b ++ 10 ∷ []) (records_text before), length-append (slot_line b) (10 ∷ []))
+no_records (b ∷ before) (r ∷ records) rest one two some none same =
+    let left = and_parts (is_record b) (list_all is_record before) one in
+    let right = and_parts (is_record r) (list_all is_record records) two in
+    let first = slot_front.back b (records_text before ++ rest) left.0 in
+    let second = slot_front.back r (records_text records) right.0 in
+    let begins : Some (r, records_text records) ≡ Some (b, records_text before ++ rest) =
+    sym second ∙ ap (line_read slot_line_read) (same ∙ append_assoc (slot_line b ++ 10 ∷ []) (records_text before) rest) ∙ first in
+    no_records before records rest left.1 right.1 some none (some_pair_parts r b (records_text records) (records_text before ++ rest) begins).1
+
+-- no record yet, and nothing left
+pub start : (text : List ℕ) → record { are : list_all is_record [] ≡ true; whole : records_text [] ++ text ≡ text }
+unfolding records_text
+start text = record { are = refl; whole = refl }
+
+pub none_left : (text rest : List ℕ) (records : List Record) → records_text records ++ rest ≡ text → rest ≡ [] → text_of_lines (map slot_line records) ≡ text
+unfolding records_text
+none_left text rest records whole empty = sym (append-nil (text_of_lines (map slot_line records))) ∙ ap (λ r. text_of_lines (map slot_line records) ++ r) (sym empty) ∙ whole
+
+pub records_are : (records : List Record) → records_text records ≡ text_of_lines (map slot_line records)
+unfolding records_text
+records_are records = refl

@@ -1,0 +1,80 @@
+use Rattle.std.proofs.Common.{rules, ◌≡◌, ◌≢◌, ◌<◌, ◌^◌, Some, None, length, subst, sym, ap, ◌∙◌, arith}
+use Rattle.std.proofs.lemmas.Grind.{common_steps}
+use Rattle.text_lines.specs.Lines.{newlines}
+use Rattle.state_text.specs.declared.parts.Over.TheVariants.{Cut}
+use Rattle.state_text.specs.Reading.{end_line_read, end_split}
+use Rattle.state_text.specs.Lines.{State}
+use Rattle.state_text.specs.Refused.{Refused}
+use Rattle.state_text.proofs.Bodies.{err_kept, lost, match_kept}
+use Rattle.state_text.proofs.Taken.{body_never, body_of, body_refused, cut_refused, end_refused, only_one, says_of, split_state}
+use Rattle.state_text.proofs.reading.read_state.Goals as goal
+
+pub returns-in_err-body-clause-only : goal.returns-in_err-body-clause-only
+returns-in_err-body-clause-only g c =
+    let fits : length c.args.text.now < 2 ^ 64 = grind (arith, common_steps) in
+    let none : end_split c.args.text.now ≡ None = search rules in
+    λ state says same. absurd (lost _ (sym none ∙ split_state state c.args.text.now says.0 says.1 fits))
+
+pub returns-in_err-body-clause-refused : goal.returns-in_err-body-clause-refused
+returns-in_err-body-clause-refused g c =
+    let none : end_split c.args.text.now ≡ None = search rules in
+    let cut : c.in_err-body.field-0.0 ≡ Cut = search rules in
+    err_kept c.from_residual.result c.in_err-body.field-0.0 _ c.from_residual.ensures.1 (subst (λ why. Refused c.args.text.now c.args.generation why) (sym cut) (cut_refused c.args.text.now none))
+
+pub returns-in_err-parts-clause-only : goal.returns-in_err-parts-clause-only
+returns-in_err-parts-clause-only g c =
+    let fits : length c.args.text.now < 2 ^ 64 = grind (arith, common_steps) in
+    let at : end_split c.args.text.now ≡ Some (c.in_ok-body.body.now, c.in_ok-body.last.now) = search rules in
+    λ state says same. match_kept c.from_residual-in_err-parts.result c.in_err-parts.field-0.0 _ _ c.from_residual-in_err-parts.ensures.1
+    (body_never c.args.text.now c.in_ok-body.body.now c.in_ok-body.last.now state c.in_err-parts.field-0.0 fits at says c.in_err-parts.ensures.err)
+
+pub returns-in_err-parts-clause-refused : goal.returns-in_err-parts-clause-refused
+returns-in_err-parts-clause-refused g c =
+    let fits : length c.args.text.now < 2 ^ 64 = grind (arith, common_steps) in
+    let at : end_split c.args.text.now ≡ Some (c.in_ok-body.body.now, c.in_ok-body.last.now) = search rules in
+    err_kept c.from_residual-in_err-parts.result c.in_err-parts.field-0.0 _ c.from_residual-in_err-parts.ensures.1
+    (body_refused c.args.text.now c.in_ok-body.body.now c.in_ok-body.last.now c.args.generation c.in_err-parts.field-0.0 fits at c.in_err-parts.ensures.err)
+
+pub returns-then-not-counts-clause-only : goal.returns-then-not-counts-clause-only
+returns-then-not-counts-clause-only g c =
+    let fits : length c.args.text.now < 2 ^ 64 = grind (arith, common_steps) in
+    let at : end_split c.args.text.now ≡ Some (c.in_ok-body.body.now, c.in_ok-body.last.now) = search rules in
+    let other : end_line_read c.in_ok-body.last.now ≢ Some (newlines c.in_ok-body.body.now) = search rules in
+    λ state says same. absurd (other (body_of state c.args.text.now c.in_ok-body.body.now c.in_ok-body.last.now says fits at).1)
+
+pub returns-then-not-counts-clause-refused : goal.returns-then-not-counts-clause-refused
+returns-then-not-counts-clause-refused g c =
+    let fits : length c.args.text.now < 2 ^ 64 = grind (arith, common_steps) in
+    let at : end_split c.args.text.now ≡ Some (c.in_ok-body.body.now, c.in_ok-body.last.now) = search rules in
+    let other : end_line_read c.in_ok-body.last.now ≢ Some (newlines c.in_ok-body.body.now) = search rules in
+    end_refused c.args.text.now c.in_ok-body.body.now c.in_ok-body.last.now c.in_ok-parts.parts fits at c.in_ok-parts.ensures.ok other
+
+pub returns-then-parts-generation-clause-only : goal.returns-then-parts-generation-clause-only
+returns-then-parts-generation-clause-only g c =
+    let fits : length c.args.text.now < 2 ^ 64 = grind (arith, common_steps) in
+    let at : end_split c.args.text.now ≡ Some (c.in_ok-body.body.now, c.in_ok-body.last.now) = search rules in
+    let other : c.in_ok-parts.parts.heads.generation ≢ c.args.generation = search rules in
+    λ state says same. absurd (other (ap (λ (s : State). s.heads.generation) (only_one c.args.text.now c.in_ok-body.body.now c.in_ok-body.last.now c.in_ok-parts.parts state fits at c.in_ok-parts.ensures.ok says) ∙ same))
+
+pub returns-then-parts-generation-clause-refused : goal.returns-then-parts-generation-clause-refused
+returns-then-parts-generation-clause-refused g c =
+    let at : end_split c.args.text.now ≡ Some (c.in_ok-body.body.now, c.in_ok-body.last.now) = search rules in
+    let end : end_line_read c.in_ok-body.last.now ≡ Some (newlines c.in_ok-body.body.now) = search rules in
+    let other : c.in_ok-parts.parts.heads.generation ≢ c.args.generation = search rules in
+    record {
+      state = c.in_ok-parts.parts;
+      says = says_of c.in_ok-parts.parts c.args.text.now c.in_ok-body.body.now c.in_ok-body.last.now at c.in_ok-parts.ensures.ok end;
+      other = other;
+    }
+
+pub returns-clause-read : goal.returns-clause-read
+returns-clause-read g c =
+    let at : end_split c.args.text.now ≡ Some (c.in_ok-body.body.now, c.in_ok-body.last.now) = search rules in
+    let end : end_line_read c.in_ok-body.last.now ≡ Some (newlines c.in_ok-body.body.now) = search rules in
+    says_of c.in_ok-parts.parts c.args.text.now c.in_ok-body.body.now c.in_ok-body.last.now at c.in_ok-parts.ensures.ok end
+
+pub returns-clause-only : goal.returns-clause-only
+returns-clause-only g c =
+    let fits : length c.args.text.now < 2 ^ 64 = grind (arith, common_steps) in
+    let at : end_split c.args.text.now ≡ Some (c.in_ok-body.body.now, c.in_ok-body.last.now) = search rules in
+    λ state says same. only_one c.args.text.now c.in_ok-body.body.now c.in_ok-body.last.now c.in_ok-parts.parts state fits at c.in_ok-parts.ensures.ok says

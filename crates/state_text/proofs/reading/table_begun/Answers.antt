@@ -1,0 +1,10 @@
+use Rattle.std.proofs.Common.{rules, ◌≡◌, Some, arith, length, length-append, ap}
+use Rattle.text_lines.specs.Lines.{after_lines}
+use Rattle.text_lines.proofs.PieceLemmas.{after_lines-front}
+use Rattle.state_text.proofs.reading.table_begun.Goals as goal
+
+pub slice_bounds-read_written-count : goal.slice_bounds-read_written-count
+slice_bounds-read_written-count g c =
+    let behind : after_lines c.args.count c.args.text.now ≡ Some c.in-Some.rest.now = search rules in
+    let front = after_lines-front c.args.count c.args.text.now c.in-Some.rest.now behind in
+    omega (arith, ap length front.whole, length-append front.front c.in-Some.rest.now)

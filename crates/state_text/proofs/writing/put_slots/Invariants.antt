@@ -1,0 +1,7 @@
+use Rattle.std.proofs.Common.{◌≡◌, ◌++◌, map, drop}
+use Rattle.state_text.specs.Lines.{slot_line, record_of, text_of_lines}
+use Rattle.state_text.proofs.writing.put_slots.Given as goal
+
+-- what is there, and the records that are left, make the whole
+abbrev pub invariant-loop-slot : goal.invariant-loop-slot
+invariant-loop-slot g l = l.text.items ++ text_of_lines (map slot_line (map record_of (drop l.slot-index l.slots))) ≡ l.fn.text.items ++ text_of_lines (map slot_line (map record_of l.slots))

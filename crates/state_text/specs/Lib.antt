@@ -1,0 +1,4 @@
+pub mod Lines
+pub mod Range
+pub mod Reading
+pub mod Refused

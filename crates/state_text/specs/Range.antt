@@ -1,0 +1,60 @@
+-- The states that a text can say: their numbers and their table are in range, a generation is one at least, no grace
+-- stands before the first stage, and no wish for another re-execution.
+use Rattle.std.specs.Prelude.{ℕ, Bool, true, not, ◌==◌, ◌^◌, ◌+◌, ◌&&◌, nat_le, nat_lt, List, length, Option, Some, None}
+use Rattle.std.specs.List.{list_all}
+use Rattle.init_words.specs.declared.limits.TheConstants.{GRACE_LIMIT}
+use Rattle.init_words.specs.declared.stages.Stage.{Stage}
+use Rattle.init_words.specs.Ids.{is_id}
+use Rattle.inittab_text.specs.Written.{is_table}
+use Rattle.init_trace.specs.declared.steps.Goal.{Goal}
+use Rattle.respawn_limit.specs.declared.TheConstants.{STARTS}
+use Rattle.child_table.specs.declared.children.Stop.{Stop}
+use Rattle.child_table.specs.declared.children.Stop.TheVariants.{Due, Termed, Killed}
+use Rattle.state_text.specs.declared.parts.Heads.{Heads}
+use Rattle.state_text.specs.declared.parts.Record.{Record}
+use Rattle.state_text.specs.Lines.{State}
+
+abbrev pub is_time : ℕ → Bool
+is_time time = nat_lt time (2 ^ 64)
+
+abbrev pub is_child : ℕ → Bool
+is_child number = nat_lt number (2 ^ 32)
+
+abbrev pub is_seconds : ℕ → Bool
+is_seconds seconds = nat_lt seconds (GRACE_LIMIT + 1)
+
+-- where there is one it passes
+abbrev pub passes : {X : Type 0} → (X → Bool) → Option X → Bool
+passes test None = true
+passes test (Some x) = test x
+
+abbrev pub is_generation : ℕ → Bool
+is_generation generation = is_time generation && nat_le 1 generation
+
+abbrev pub is_stage : Option Stage → ℕ → Bool
+is_stage None grace = grace == 0
+is_stage (Some stage) grace = is_seconds grace
+
+abbrev pub is_goal : Goal → Bool
+is_goal goal = is_seconds goal.grace
+
+abbrev pub is_stop : Stop → Bool
+is_stop Due = true
+is_stop (Termed time) = is_time time
+is_stop (Killed time) = is_time time
+
+abbrev pub are_starts : List ℕ → Bool
+are_starts times = nat_le (length times) STARTS && list_all is_time times
+
+abbrev pub are_heads : Heads → Bool
+are_heads heads =
+    is_generation heads.generation && is_time heads.time && is_stage heads.stage heads.grace && is_goal heads.goal
+    && not heads.reexec && passes is_goal heads.level_wish
+
+abbrev pub is_record : Record → Bool
+is_record kept =
+    is_id kept.id && passes is_child kept.child && passes is_stop kept.stop && passes is_time kept.held_until
+    && are_starts kept.starts.items
+
+abbrev pub is_state : State → Bool
+is_state state = are_heads state.heads && is_table state.table && list_all is_record state.records

@@ -1,0 +1,175 @@
+ghost use Rattle.std.specs.Prelude.{◌≡◌, codes};
+ghost use Rattle.std.specs.Option.{option_map};
+ghost use Rattle.state_text.specs.Reading.{limits_read, marks_read, slot_words_read, generation_line_read, clock_line_read, stage_line_read, goal_line_read, flags_line_read, wish_line_read, wishes_read, stage_pair_read, table_line_read, end_line_read, slot_line_read, reread_read, pair_read, three_bits, slot_made, record_made, behind};
+
+use crate::parts::Record;
+use crate::words::{
+    is, read_act_or_dash, read_child_or_dash, read_four_bits, read_generation, read_goal,
+    read_goal_or_dash, read_order_or_dash, read_seconds, read_stage_or_none, read_starts,
+    read_stop_or_dash, read_three_bits, read_time_or_dash, read_two_bits,
+};
+use arrayvec::ArrayVec;
+use child_table::Stop;
+use init_trace::Goal;
+use init_words::{Act, Ask, ChildNo, Id, Stage};
+use respawn_limit::STARTS;
+use text_lines::{cut, read_number};
+
+/// What stands behind the name and a blank.
+fn behind<'a>(name: &[u8], line: &'a [u8]) -> Option<&'a [u8]>
+    ensures { option_map (λ rest. rest.now) result ≡ behind name.now 32 line.now }
+{
+    let (word, rest) = cut(b' ', line)?;
+    if is(word, name) { Some(rest) } else { None }
+}
+
+pub(crate) fn read_generation_line(line: &[u8]) -> Option<u64>
+    ensures { result ≡ generation_line_read line.now }
+{
+    read_generation(behind(b"generation", line)?)
+}
+
+pub(crate) fn read_clock_line(line: &[u8]) -> Option<u64>
+    ensures { result ≡ clock_line_read line.now }
+{
+    read_number(behind(b"clock", line)?)
+}
+
+fn read_stage_pair(words: &[u8]) -> Option<(Option<Stage>, u16)>
+    ensures { result ≡ stage_pair_read words.now }
+{
+    let (stage, grace) = cut(b' ', words)?;
+    let stage = read_stage_or_none(stage)?;
+    let grace = read_seconds(grace)?;
+    if stage.is_none() && grace != 0 {
+        return None;
+    }
+    Some((stage, grace))
+}
+
+pub(crate) fn read_stage_line(line: &[u8]) -> Option<(Option<Stage>, u16)>
+    ensures { result ≡ stage_line_read line.now }
+{
+    read_stage_pair(behind(b"stage", line)?)
+}
+
+pub(crate) fn read_goal_line(line: &[u8]) -> Option<Goal>
+    ensures { result ≡ goal_line_read line.now }
+{
+    read_goal(b' ', behind(b"goal", line)?)
+}
+
+pub(crate) fn read_flags_line(line: &[u8]) -> Option<(bool, bool)>
+    ensures { result ≡ flags_line_read line.now }
+{
+    read_two_bits(behind(b"flags", line)?)
+}
+
+/// Whether inittab is to be read again; the bit behind it is 0, as a re-execution that goes on is wished no more.
+fn read_reread(word: &[u8]) -> Option<(bool, bool)>
+    ensures { result ≡ reread_read word.now }
+{
+    let (reread, reexec) = read_two_bits(word)?;
+    if reexec {
+        return None;
+    }
+    Some((reread, reexec))
+}
+
+/// What is kept of the power, and of the letters.
+type Bits = (bool, (bool, bool));
+
+/// Whether inittab is to be read again and init to be executed anew, the level that is wished for, and the news.
+pub(crate) type Wishes = ((bool, bool), (Option<Goal>, (Bits, Bits)));
+
+fn read_news(words: &[u8]) -> Option<(Bits, Bits)>
+    ensures { result ≡ pair_read 32 three_bits three_bits words.now }
+{
+    let (powers, letters) = cut(b' ', words)?;
+    Some((read_three_bits(powers)?, read_three_bits(letters)?))
+}
+
+fn read_wishes(words: &[u8]) -> Option<Wishes>
+    ensures { result ≡ wishes_read words.now }
+{
+    let (bits, words) = cut(b' ', words)?;
+    let bits = read_reread(bits)?;
+    let (level, words) = cut(b' ', words)?;
+    Some((bits, (read_goal_or_dash(level)?, read_news(words)?)))
+}
+
+pub(crate) fn read_wish_line(line: &[u8]) -> Option<Wishes>
+    ensures { result ≡ wish_line_read line.now }
+{
+    read_wishes(behind(b"wish", line)?)
+}
+
+pub(crate) fn read_table_line(line: &[u8]) -> Option<u64>
+    ensures { result ≡ table_line_read line.now }
+{
+    read_number(behind(b"table", line)?)
+}
+
+pub(crate) fn read_end_line(line: &[u8]) -> Option<u64>
+    ensures { result ≡ end_line_read line.now }
+{
+    read_number(behind(b"end", line)?)
+}
+
+/// The end of the last hold, and the last starts.
+fn read_limits(words: &[u8]) -> Option<(Option<u64>, ArrayVec<u64, STARTS>)>
+    ensures { option_map (λ p. (p.0, p.1.items)) result ≡ limits_read words.now }
+{
+    let (held, starts) = cut(b' ', words)?;
+    Some((read_time_or_dash(held)?, read_starts(starts)?))
+}
+
+/// The end of a slot line, from its stop on.
+fn read_marks(
+    id: Id,
+    child: Option<ChildNo>,
+    act: Option<Act>,
+    order: Option<Ask>,
+    words: &[u8],
+) -> Option<Record>
+    ensures { result ≡ option_map (record_made id child act order) (marks_read words.now) }
+{
+    let (stop, words) = cut(b' ', words)?;
+    let stop = read_stop_or_dash(stop)?;
+    let (flags, words) = cut(b' ', words)?;
+    let (asked, (called, (look, missed))) = read_four_bits(flags)?;
+    let (held_until, starts) = read_limits(words)?;
+    Some(Record {
+        id,
+        child,
+        act,
+        order,
+        stop,
+        asked,
+        called,
+        look,
+        missed,
+        held_until,
+        starts,
+    })
+}
+
+fn read_slot(words: &[u8]) -> Option<Record>
+    ensures { result ≡ option_map slot_made (slot_words_read words.now) }
+{
+    let (id, words) = cut(b' ', words)?;
+    let id = Id::read(id)?;
+    let (child, words) = cut(b' ', words)?;
+    let child = read_child_or_dash(child)?;
+    let (act, words) = cut(b' ', words)?;
+    let act = read_act_or_dash(act)?;
+    let (order, words) = cut(b' ', words)?;
+    let order = read_order_or_dash(order)?;
+    read_marks(id, child, act, order, words)
+}
+
+pub(crate) fn read_slot_line(line: &[u8]) -> Option<Record>
+    ensures { result ≡ slot_line_read line.now }
+{
+    read_slot(behind(b"slot", line)?)
+}

@@ -1,0 +1,16 @@
+//! The text of init's state, by which init executes itself anew without losing a child (telinit(8), `u`): one line for
+//! each thing that it keeps, one for each entry of its table and one for each of its records, and a last line that
+//! counts them. A state has one text, and a text that is cut short is told from a whole one.
+#![tactic(auto)]
+
+mod fields;
+mod laws;
+mod parts;
+mod reading;
+mod words;
+mod writing;
+
+pub use laws::{law_of_prefixes, law_of_texts};
+pub use parts::{Heads, Over, Parts, Record};
+pub use reading::{generation_of, read_state};
+pub use writing::write_state;

@@ -1,0 +1,277 @@
+ghost use Rattle.std.specs.Prelude.{◌≡◌, ◌≢◌, ◌∷◌, List, true, false, None, Some, IfOk, IfErr, IfSome, IfNone, OnOk, ◌++◌, []};
+ghost use Rattle.std.specs.Option.{option_map};
+ghost use Rattle.std.specs.Result.{MatchResult};
+ghost use Rattle.text_lines.specs.Lines.{cut};
+ghost use Rattle.state_text.specs.Lines.{State, state_text};
+ghost use Rattle.state_text.specs.Reading.{end_split, Unread, times_read, places_read, flags_read, heads_made, heads_read, table_begun, table_read, version_read, generation_of, line_read, slot_line_read, end_line_read, OnLine};
+ghost use Rattle.state_text.specs.Refused.{AreRecords, NoRecords, IsBody, RefusedBody, Says, Refused};
+
+use crate::fields::{
+    Wishes, read_clock_line, read_end_line, read_flags_line, read_generation_line, read_goal_line,
+    read_slot_line, read_stage_line, read_table_line, read_wish_line,
+};
+use crate::parts::{Heads, Over, Parts, Record};
+use crate::words::is;
+use core_state::News;
+use init_trace::Goal;
+use init_words::{Memory, Stage};
+use inittab_text::{Table, read_written};
+use std::alloc::{AllocError, Allocator};
+use text_lines::{after_lines, cut, newlines};
+
+/// The text without its last line, and that line without its newline; None where the text doesn't end with a newline
+/// or the line doesn't begin with `end `.
+fn split_end(text: &[u8]) -> Option<(&[u8], &[u8])>
+    ensures { option_map (λ parts. (parts.0.now, parts.1.now)) result ≡ end_split text.now }
+{
+    let rest = after_lines(newlines(text).saturating_sub(1), text)?;
+    let (last, more) = cut(b'\n', rest)?;
+    if !more.is_empty() || !last.starts_with(b"end ") {
+        return None;
+    }
+    Some((&text[..text.len() - rest.len()], last))
+}
+
+/// The first line of a text, whose number is given, and the text behind it.
+fn take_line(text: &[u8], number: u64) -> Result<(&[u8], &[u8]), Over>
+    ensures ok { IfOk result (λ parts. cut 10 text.now ≡ Some (parts.0.now, parts.1.now)) }
+    ensures err { IfErr result (λ why. Unread (cut 10 text.now) why) }
+{
+    match cut(b'\n', text) {
+        Some(parts) => Ok(parts),
+        None => Err(Over::Line(number)),
+    }
+}
+
+fn take_times(text: &[u8]) -> Result<((u64, u64), &[u8]), Over>
+    ensures ok { IfOk result (λ found. times_read text.now ≡ Some (found.0, found.1.now)) }
+    ensures err { IfErr result (λ why. Unread (times_read text.now) why) }
+{
+    let (line, rest) = take_line(text, 2)?;
+    let generation = read_generation_line(line).ok_or(Over::Line(2))?;
+    let (line, rest) = take_line(rest, 3)?;
+    let time = read_clock_line(line).ok_or(Over::Line(3))?;
+    Ok(((generation, time), rest))
+}
+
+fn take_places(text: &[u8]) -> Result<(((Option<Stage>, u16), Goal), &[u8]), Over>
+    ensures ok { IfOk result (λ found. places_read text.now ≡ Some (found.0, found.1.now)) }
+    ensures err { IfErr result (λ why. Unread (places_read text.now) why) }
+{
+    let (line, rest) = take_line(text, 4)?;
+    let stage = read_stage_line(line).ok_or(Over::Line(4))?;
+    let (line, rest) = take_line(rest, 5)?;
+    let goal = read_goal_line(line).ok_or(Over::Line(5))?;
+    Ok(((stage, goal), rest))
+}
+
+fn take_wishes(text: &[u8]) -> Result<(((bool, bool), Wishes), &[u8]), Over>
+    ensures ok { IfOk result (λ found. flags_read text.now ≡ Some (found.0, found.1.now)) }
+    ensures err { IfErr result (λ why. Unread (flags_read text.now) why) }
+{
+    let (line, rest) = take_line(text, 6)?;
+    let flags = read_flags_line(line).ok_or(Over::Line(6))?;
+    let (line, rest) = take_line(rest, 7)?;
+    let wishes = read_wish_line(line).ok_or(Over::Line(7))?;
+    Ok(((flags, wishes), rest))
+}
+
+fn heads_of(
+    times: (u64, u64),
+    places: ((Option<Stage>, u16), Goal),
+    wishes: ((bool, bool), Wishes),
+) -> Heads
+    ensures { result ≡ heads_made (times, (places, wishes)) }
+{
+    let ((stage, grace), goal) = places;
+    let ((booted, announced), ((reread, reexec), (level_wish, (powers, letters)))) = wishes;
+    Heads {
+        generation: times.0,
+        time: times.1,
+        stage,
+        grace,
+        goal,
+        booted,
+        announced,
+        reread,
+        reexec,
+        level_wish,
+        news: News {
+            fail: powers.0,
+            fail_now: powers.1.0,
+            ok: powers.1.1,
+            a: letters.0,
+            b: letters.1.0,
+            c: letters.1.1,
+        },
+    }
+}
+
+/// The heads that a text begins with, and the text behind them.
+fn take_heads(text: &[u8]) -> Result<(Heads, &[u8]), Over>
+    ensures ok { IfOk result (λ found. heads_read text.now ≡ Some (found.0, found.1.now)) }
+    ensures err { IfErr result (λ why. Unread (heads_read text.now) why) }
+{
+    let (times, rest) = take_times(text)?;
+    let (places, rest) = take_places(rest)?;
+    let (wishes, rest) = take_wishes(rest)?;
+    Ok((heads_of(times, places, wishes), rest))
+}
+
+/// The table of the next so many lines of a text, and the text behind it.
+fn table_begun<A: Allocator + Copy>(
+    alloc: A,
+    count: usize,
+    text: &[u8],
+) -> Result<Option<(Table<A>, &[u8])>, Memory>
+    ensures { IfOk result (λ found.
+        option_map (λ parts. (parts.0, parts.1.now)) found ≡ table_begun count text.now) }
+{
+    let Some(rest) = after_lines(count, text) else {
+        return Ok(None);
+    };
+    let Some(table) = read_written(alloc, &text[..text.len() - rest.len()])? else {
+        return Ok(None);
+    };
+    Ok(Some((table, rest)))
+}
+
+/// How many of the next lines are those of a table, up to so many.
+fn table_lines<A: Allocator + Copy>(alloc: A, count: usize, text: &[u8]) -> Result<u64, Memory> {
+    for lines in 1..count {
+        if table_begun(alloc, lines, text)?.is_none() {
+            return Ok(lines as u64 - 1);
+        }
+    }
+    Ok((count as u64).saturating_sub(1))
+}
+
+/// The table that a text begins with, behind the number of its entries, and the text behind it.
+fn take_table<A: Allocator + Copy>(alloc: A, text: &[u8]) -> Result<(Table<A>, &[u8]), Over>
+    ensures ok { IfOk result (λ found. table_read text.now ≡ Some (found.0, found.1.now)) }
+    ensures err { IfErr result (λ why. Unread (table_read text.now) why) }
+{
+    let (line, rest) = take_line(text, 8)?;
+    let count = read_table_line(line).ok_or(Over::Line(8))? as usize;
+    match table_begun(alloc, count, rest)? {
+        Some(found) => Ok(found),
+        None => Err(Over::Line(table_lines(alloc, count, rest)?.saturating_add(9))),
+    }
+}
+
+fn keep<A: Allocator>(records: &mut Vec<Record, A>, slot: Record) -> Result<(), AllocError>
+    ensures { OnOk result (records.new.items ≡ records.old.items ++ slot ∷ []) }
+{
+    records.push(slot)?;
+    Ok(())
+}
+
+/// The record that a text begins with, on the line of this number, and the text behind it.
+fn take_record(text: &[u8], number: u64) -> Result<(Record, &[u8]), Over>
+    ensures ok { IfOk result (λ found.
+        line_read slot_line_read text.now ≡ Some (found.0, found.1.now)) }
+    ensures err { IfErr result (λ why. Unread (line_read slot_line_read text.now) why) }
+{
+    let (line, rest) = take_line(text, number)?;
+    let slot = read_slot_line(line).ok_or(Over::Line(number))?;
+    Ok((slot, rest))
+}
+
+/// The records whose lines make the text; the first line has this number.
+fn take_records<A: Allocator>(alloc: A, text: &[u8], first: u64) -> Result<Vec<Record, A>, Over>
+    ensures ok { IfOk result (λ records. AreRecords text.now records.items) }
+    ensures err { IfErr result (λ why. OnLine (NoRecords text.now) why) }
+{
+    let mut records = Vec::new(alloc);
+    let mut rest = text;
+    while !rest.is_empty() {
+        let number = first.saturating_add(records.len() as u64);
+        let (slot, more) = take_record(rest, number)?;
+        keep(&mut records, slot)?;
+        rest = more;
+    }
+    Ok(records)
+}
+
+/// What stands behind the first line, if that is the version's.
+fn behind_version(text: &[u8]) -> Option<&[u8]>
+    ensures { option_map (λ rest. rest.now) result ≡ version_read text.now }
+{
+    let (line, rest) = cut(b'\n', text)?;
+    if is(line, b"initd-state 1") {
+        Some(rest)
+    } else {
+        None
+    }
+}
+
+/// What the lines before the last say.
+fn read_body<A: Allocator + Copy>(alloc: A, text: &[u8]) -> Result<Parts<A>, Over>
+    ensures ok { IfOk result (λ parts. IsBody text.now parts) }
+    ensures err { IfErr result (λ why. RefusedBody text.now why) }
+{
+    let rest = behind_version(text).ok_or(Over::Version)?;
+    let (heads, rest) = take_heads(rest)?;
+    let (table, rest) = take_table(alloc, rest)?;
+    let first = 9 + table.len() as u64;
+    let records = take_records(alloc, rest, first)?;
+    Ok(Parts {
+        heads,
+        table,
+        records,
+    })
+}
+
+/// The last line says that so many lines stand before it.
+fn counts(last: &[u8], lines: u64) -> bool
+    ensures right { result ≡ true → end_line_read last.now ≡ Some lines }
+    ensures wrong { result ≡ false → end_line_read last.now ≢ Some lines }
+{
+    match read_end_line(last) {
+        Some(count) => count == lines,
+        None => false,
+    }
+}
+
+/// Reads the text of the state of an init of this generation. What is refused is named by the first check that fails:
+/// that the text is whole (`Cut`), its first line (`Version`), the other lines (`Line`), the generation (`Generation`).
+pub fn read_state<A: Allocator + Copy>(
+    alloc: A,
+    text: &[u8],
+    generation: u64,
+) -> Result<Parts<A>, Over>
+    ensures read { IfOk result (λ parts. Says text.now parts) }
+    ensures generation { IfOk result (λ parts. parts.heads.generation ≡ generation) }
+    // No other state has the text, and one that has it is read.
+    ensures only { (state : State) → Says text.now state → state.heads.generation ≡ generation
+        → MatchResult result (λ parts. parts ≡ state) (λ why. why ≡ Over.Memory) }
+    ensures refused { IfErr result (λ why. Refused text.now generation why) }
+{
+    let (body, last) = split_end(text).ok_or(Over::Cut)?;
+    let parts = read_body(alloc, body)?;
+    let lines = newlines(body) as u64;
+    if !counts(last, lines) {
+        return Err(Over::Line(lines.saturating_add(1)));
+    }
+    if parts.heads.generation != generation {
+        return Err(Over::Generation);
+    }
+    Ok(parts)
+}
+
+fn second_line(text: &[u8]) -> Option<u64>
+    ensures { result ≡ generation_of text.now }
+{
+    let (_, rest) = cut(b'\n', text)?;
+    let (line, _) = cut(b'\n', rest)?;
+    read_generation_line(line)
+}
+
+/// The generation that the second line of a text names, where it is a line and names one. In the text of a state that
+/// is the state's.
+pub fn generation_of(text: &[u8]) -> Option<u64>
+    ensures value { result ≡ generation_of text.now }
+    ensures said { (state : State) → Says text.now state → result ≡ Some state.heads.generation }
+{
+    second_line(text)
+}

@@ -1,0 +1,262 @@
+ghost use Rattle.std.specs.Prelude.{◌≡◌, ◌≤◌, ◌++◌, ◌∷◌, [], ◌^◌, codes, length};
+ghost use Rattle.std.specs.Option.{option_map};
+ghost use Rattle.arrayvec.specs.ArrayVec.{array_vec_len};
+ghost use Rattle.init_words.specs.Ids.{same_id};
+ghost use Rattle.init_trace.specs.Reading.{level_of_word, stage_of_word, order_of_word, seconds_of_word, child_of_word};
+ghost use Rattle.init_words.specs.Actions.{act_read};
+ghost use Rattle.state_text.specs.Reading.{dash_read, or_read, time_read, generation_read, bit_read, one_bit, two_bits, three_bits, four_bits, goal_read, signal_read, stop_read, starts_read};
+
+use arrayvec::ArrayVec;
+use child_table::Stop;
+use init_trace::Goal;
+use init_words::{Act, Ask, ChildNo, GRACE_LIMIT, Level, Stage};
+use respawn_limit::STARTS;
+use text_lines::{cut, read_below, read_number};
+
+/// The word is this one.
+pub(crate) fn is(word: &[u8], name: &[u8]) -> bool
+    ensures { result ≡ same_id word.now name.now }
+{
+    word == name
+}
+
+fn is_dash(word: &[u8]) -> bool
+    ensures { result ≡ same_id word.now (codes "-") }
+{
+    is(word, b"-")
+}
+
+pub(crate) fn read_level(word: &[u8]) -> Option<Level>
+    ensures { result ≡ level_of_word word.now }
+{
+    let [code] = word else {
+        return None;
+    };
+    let level = Level::read(*code)?;
+    if level.code() == *code {
+        Some(level)
+    } else {
+        None
+    }
+}
+
+fn read_stage(word: &[u8]) -> Option<Stage>
+    ensures { result ≡ stage_of_word word.now }
+{
+    if is(word, b"sysinit") {
+        return Some(Stage::Sysinit);
+    }
+    if is(word, b"boot") {
+        return Some(Stage::Boot);
+    }
+    Some(Stage::Run(read_level(word)?))
+}
+
+/// The stage, or the word for none.
+pub(crate) fn read_stage_or_none(word: &[u8]) -> Option<Option<Stage>>
+    ensures { result ≡ or_read (codes "none") stage_of_word word.now }
+{
+    if is(word, b"none") {
+        return Some(None);
+    }
+    Some(Some(read_stage(word)?))
+}
+
+pub(crate) fn read_seconds(word: &[u8]) -> Option<u16>
+    ensures { result ≡ seconds_of_word word.now }
+{
+    let seconds = read_below(word, u64::from(GRACE_LIMIT) + 1)?;
+    Some(seconds as u16)
+}
+
+pub(crate) fn read_generation(word: &[u8]) -> Option<u64>
+    ensures { result ≡ generation_read word.now }
+{
+    let generation = read_number(word)?;
+    if generation >= 1 {
+        Some(generation)
+    } else {
+        None
+    }
+}
+
+/// A level and its seconds, with this byte between them.
+pub(crate) fn read_goal(mark: u8, words: &[u8]) -> Option<Goal>
+    ensures { result ≡ goal_read mark words.now }
+{
+    let (level, grace) = cut(mark, words)?;
+    Some(Goal {
+        level: read_level(level)?,
+        grace: read_seconds(grace)?,
+    })
+}
+
+pub(crate) fn read_goal_or_dash(word: &[u8]) -> Option<Option<Goal>>
+    ensures { result ≡ dash_read (goal_read 58) word.now }
+{
+    if is_dash(word) {
+        return Some(None);
+    }
+    Some(Some(read_goal(b':', word)?))
+}
+
+fn read_bit(byte: u8) -> Option<bool>
+    ensures { result ≡ bit_read byte }
+{
+    match byte {
+        b'0' => Some(false),
+        b'1' => Some(true),
+        _ => None,
+    }
+}
+
+fn read_one_bit(word: &[u8]) -> Option<bool>
+    ensures { result ≡ one_bit word.now }
+{
+    let [byte] = word else {
+        return None;
+    };
+    read_bit(*byte)
+}
+
+pub(crate) fn read_two_bits(word: &[u8]) -> Option<(bool, bool)>
+    ensures { result ≡ two_bits word.now }
+{
+    let [byte, rest @ ..] = word else {
+        return None;
+    };
+    Some((read_bit(*byte)?, read_one_bit(rest)?))
+}
+
+pub(crate) fn read_three_bits(word: &[u8]) -> Option<(bool, (bool, bool))>
+    ensures { result ≡ three_bits word.now }
+{
+    let [byte, rest @ ..] = word else {
+        return None;
+    };
+    Some((read_bit(*byte)?, read_two_bits(rest)?))
+}
+
+pub(crate) fn read_four_bits(word: &[u8]) -> Option<(bool, (bool, (bool, bool)))>
+    ensures { result ≡ four_bits word.now }
+{
+    let [byte, rest @ ..] = word else {
+        return None;
+    };
+    Some((read_bit(*byte)?, read_three_bits(rest)?))
+}
+
+pub(crate) fn read_child_or_dash(word: &[u8]) -> Option<Option<ChildNo>>
+    ensures { result ≡ dash_read child_of_word word.now }
+{
+    if is_dash(word) {
+        return Some(None);
+    }
+    let number = read_below(word, 1 << 32)?;
+    Some(Some(ChildNo(number as u32)))
+}
+
+pub(crate) fn read_act_or_dash(word: &[u8]) -> Option<Option<Act>>
+    ensures { result ≡ dash_read act_read word.now }
+{
+    if is_dash(word) {
+        return Some(None);
+    }
+    Some(Some(Act::read(word)?))
+}
+
+fn read_order(word: &[u8]) -> Option<Ask>
+    ensures { result ≡ order_of_word word.now }
+{
+    if is(word, b"start") {
+        return Some(Ask::Start);
+    }
+    if is(word, b"look") {
+        return Some(Ask::Look);
+    }
+    if is(word, b"term") {
+        return Some(Ask::Term);
+    }
+    if is(word, b"kill") {
+        return Some(Ask::Kill);
+    }
+    None
+}
+
+pub(crate) fn read_order_or_dash(word: &[u8]) -> Option<Option<Ask>>
+    ensures { result ≡ dash_read order_of_word word.now }
+{
+    if is_dash(word) {
+        return Some(None);
+    }
+    Some(Some(read_order(word)?))
+}
+
+fn read_signal(name: &[u8], time: &[u8]) -> Option<Stop>
+    ensures { result ≡ signal_read (name.now, time.now) }
+{
+    if is(name, b"term") {
+        return Some(Stop::Termed(read_number(time)?));
+    }
+    if is(name, b"kill") {
+        return Some(Stop::Killed(read_number(time)?));
+    }
+    None
+}
+
+fn read_stop(word: &[u8]) -> Option<Stop>
+    ensures { result ≡ stop_read word.now }
+{
+    if is(word, b"due") {
+        return Some(Stop::Due);
+    }
+    let (name, time) = cut(b':', word)?;
+    read_signal(name, time)
+}
+
+pub(crate) fn read_stop_or_dash(word: &[u8]) -> Option<Option<Stop>>
+    ensures { result ≡ dash_read stop_read word.now }
+{
+    if is_dash(word) {
+        return Some(None);
+    }
+    Some(Some(read_stop(word)?))
+}
+
+pub(crate) fn read_time_or_dash(word: &[u8]) -> Option<Option<u64>>
+    ensures { result ≡ dash_read time_read word.now }
+{
+    if is_dash(word) {
+        return Some(None);
+    }
+    Some(Some(read_number(word)?))
+}
+
+/// The times of starts, with commas between them, or a dash.
+pub(crate) fn read_starts(word: &[u8]) -> Option<ArrayVec<u64, STARTS>>
+    ensures { option_map (λ starts. starts.items) result ≡ starts_read word.now }
+{
+    let mut starts = ArrayVec::new();
+    if is_dash(word) {
+        return Some(starts);
+    }
+    let mut rest = word;
+    while let Some((first, more)) = cut(b',', rest) {
+        let Some(time) = read_number(first) else {
+            return None;
+        };
+        if starts.is_full() {
+            return None;
+        }
+        starts.push(time);
+        rest = more;
+    }
+    let Some(time) = read_number(rest) else {
+        return None;
+    };
+    if starts.is_full() {
+        return None;
+    }
+    starts.push(time);
+    Some(starts)
+}

@@ -1,0 +1,15 @@
+//! Tests of init's turns over a scripted host: worked runs, requests in pieces, late answers, and each call that fails.
+#![tactic(auto)]
+
+#[cfg(test)]
+mod gifts;
+#[cfg(test)]
+mod log_tests;
+#[cfg(test)]
+mod request_tests;
+#[cfg(test)]
+mod room_tests;
+#[cfg(test)]
+mod run_tests;
+#[cfg(test)]
+mod runs;
