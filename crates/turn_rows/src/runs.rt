@@ -49,6 +49,9 @@ pub(crate) fn core_of<A: Allocator + Copy>(
 /// Hands the log the table in force.
 pub(crate) fn log_table<L: Log>(alloc: Global, core: &Core, log: &mut L) -> Result<(), Fail> {
     let table: Happening = Happening::NewTable(core.table().copy(alloc)?);
+    if log.failed() {
+        return Err(Fail::from("not logged"));
+    }
     log.take(&table).map_err(|_| "not logged")?;
     Ok(())
 }
