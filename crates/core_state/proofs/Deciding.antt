@@ -24,7 +24,7 @@ use Rattle.core_state.specs.Decide as core
 use Rattle.core_state.specs.Decide.{or_else, or_idle, level_step, wish_step, stands, has_excluded, all_done, all_served, look_among, work_step, decide_in, decide}
 use Rattle.core_state.specs.Fit.{Fits, news_of, records_of}
 use Rattle.core_state.proofs.Fitted.{fit_records}
-use Rattle.core_state.proofs.Heads.{head, first_by_head, head_step_if, head_steps_if}
+use Rattle.core_state.proofs.Firsts.{head, first_by_head, head_step_if, head_steps_if}
 use Rattle.core_state.proofs.Reading.{quiet_same, idle_same, excluded_same, kept_excluded_same}
 use Rattle.core_state.proofs.Ranks.{starts_same, all_done_same, all_served_same, looks_same}
 use Rattle.core_state.proofs.Stops.{stops_same}

@@ -2,7 +2,7 @@ pub mod Acts
 pub mod Allowed
 pub mod Deciding
 pub mod Fitted
-pub mod Heads
+pub mod Firsts
 pub mod Hearing
 pub mod Moments
 pub mod Ordering

@@ -28,7 +28,7 @@ use Rattle.child_table.specs.Changes.{allows}
 use Rattle.core_state.specs.Decide as core
 use Rattle.core_state.specs.Decide.{or_else, signal_step, stop_step, stop_among, has_excluded, is_wanted_slot, is_owed_slot, limited_step, can_start_slot, start_step, start_along, is_done_slot, all_done, is_served_slot, all_served, look_among}
 use Rattle.core_state.specs.Fit.{known_child, limiter_by, limiter_of, record_of, records_of}
-use Rattle.core_state.proofs.Heads.{head, head_append, head_step_if}
+use Rattle.core_state.proofs.Firsts.{head, head_append, head_step_if}
 use Rattle.core_state.proofs.Windows.{full_fits, held_fits, allows_by}
 use Rattle.core_state.proofs.Acts.{child_some}
 use Rattle.core_state.proofs.Reading.{Each, IsOwn, table_own, table_pairs, pairs_all, child_none, asked_own, called_own, limits_own}

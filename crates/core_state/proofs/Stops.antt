@@ -21,7 +21,7 @@ use Rattle.trace_laws.proofs.Stopping.{hits_are, hits_shape}
 use Rattle.child_table.specs.declared.children.Stop.TheVariants.{Termed, Killed}
 use Rattle.core_state.specs.Decide.{or_else, signal_step, stop_step, stop_among}
 use Rattle.core_state.specs.Fit.{living, stop_after, stop_known, record_of, records_of}
-use Rattle.core_state.proofs.Heads.{head, head_append, head_steps_if}
+use Rattle.core_state.proofs.Firsts.{head, head_append, head_steps_if}
 use Rattle.core_state.proofs.Reading.{none_left}
 
 -- the signal after these, by how far the stop has come

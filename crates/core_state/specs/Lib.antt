@@ -2,6 +2,8 @@ pub mod Decide
 pub mod Fit
 pub mod Headline
 pub mod News
+pub mod Parts
+pub mod Rules
 pub mod State
 pub mod Steps
 pub mod Work

@@ -7,6 +7,8 @@
 
 mod laws;
 mod news;
+mod parts;
 
 pub use laws::{law_of_acts, law_of_records};
 pub use news::News;
+pub use parts::{Heads, Parts, Record};

@@ -17,11 +17,12 @@ use Rattle.inittab_text.proofs.Entries.{table_parts}
 use Rattle.inittab_text.proofs.ReadLemmas.{option_map_some}
 use Rattle.inittab_text.proofs.WriteLemmas.{one_line, parts}
 use Rattle.inittab_text.specs.Written.{fields_written, is_empty, is_table, is_written}
-use Rattle.state_text.specs.declared.parts.Heads.{Heads}
-use Rattle.state_text.specs.declared.parts.Over.{Over}
-use Rattle.state_text.specs.declared.parts.Over.TheVariants.{Cut, Version, Line, Generation, Unfit, Worn, Memory}
-use Rattle.state_text.specs.declared.parts.Record.{Record}
-use Rattle.state_text.specs.Lines.{State, body_lines, head_lines, slot_line, table_line, text_of_lines, version_line}
+use Rattle.core_state.specs.declared.parts.Heads.{Heads}
+use Rattle.state_text.specs.declared.over.Over.{Over}
+use Rattle.state_text.specs.declared.over.Over.TheVariants.{Cut, Version, Line, Generation, Unfit, Worn, Memory}
+use Rattle.core_state.specs.declared.parts.Record.{Record}
+use Rattle.core_state.specs.Parts.{State}
+use Rattle.state_text.specs.Lines.{body_lines, head_lines, slot_line, table_line, text_of_lines, version_line}
 use Rattle.state_text.specs.Range.{are_heads, is_record, is_state}
 use Rattle.state_text.specs.Reading.{OnLine, end_split, heads_read, last_line, table_read, version_read}
 use Rattle.state_text.specs.Refused.{AreRecords, IsBody, NoBody, NoRecords, RefusedBody, is_line}

@@ -6,9 +6,10 @@ use Rattle.std.proofs.lemmas.List.{append_assoc, nil_from_length}
 use Rattle.std.proofs.lemmas.Option.{same_Some, some_pair_parts}
 use Rattle.text_lines.specs.Lines.{cut, has_byte}
 use Rattle.text_lines.proofs.CutLemmas.{cut-append}
-use Rattle.state_text.specs.declared.parts.Heads.{Heads}
-use Rattle.state_text.specs.declared.parts.Record.{Record}
-use Rattle.state_text.specs.Lines.{State, body_lines, end_line, generation_line, slot_line, state_lines, state_text, text_of_lines, version_line}
+use Rattle.core_state.specs.declared.parts.Heads.{Heads}
+use Rattle.core_state.specs.declared.parts.Record.{Record}
+use Rattle.core_state.specs.Parts.{State}
+use Rattle.state_text.specs.Lines.{body_lines, end_line, generation_line, slot_line, state_lines, state_text, text_of_lines, version_line}
 use Rattle.state_text.specs.Range.{are_heads, is_generation, is_goal, is_record, is_stage, is_state, is_time, passes}
 use Rattle.state_text.specs.Reading.{generation_line_read, generation_of, heads_read, line_read, slot_line_read, table_read}
 use Rattle.state_text.proofs.Bodies.{Steps, body_text, state_parts, steps}

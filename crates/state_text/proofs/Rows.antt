@@ -7,9 +7,10 @@ use Rattle.init_words.specs.declared.orders.Ask.TheVariants.{Term}
 use Rattle.init_words.specs.declared.stages.Stage.TheVariants as stage
 use Rattle.child_table.specs.declared.children.Stop.TheVariants.{Due}
 use Rattle.core_state.specs.News.{no_news}
-use Rattle.state_text.specs.declared.parts.Heads.{Heads}
-use Rattle.state_text.specs.declared.parts.Record.{Record}
-use Rattle.state_text.specs.Lines.{State, state_text}
+use Rattle.core_state.specs.declared.parts.Heads.{Heads}
+use Rattle.core_state.specs.declared.parts.Record.{Record}
+use Rattle.core_state.specs.Parts.{State}
+use Rattle.state_text.specs.Lines.{state_text}
 
 abbrev left : Record
 left = record {

@@ -7,10 +7,11 @@ use Rattle.std.proofs.lemmas.Option.{some_pair_parts}
 use Rattle.text_lines.specs.Lines.{cut, has_byte, newlines}
 use Rattle.text_lines.proofs.CutLemmas.{cut-append}
 use Rattle.init_trace.proofs.ReadTexts.{newlines-few}
-use Rattle.state_text.specs.declared.parts.Over.{Over}
-use Rattle.state_text.specs.declared.parts.Over.TheVariants.{Cut, Version, Line, Generation, Unfit, Worn, Memory}
-use Rattle.state_text.specs.declared.parts.Record.{Record}
-use Rattle.state_text.specs.Lines.{State, body_lines, end_line, slot_line, state_text, text_of_lines, version_line}
+use Rattle.state_text.specs.declared.over.Over.{Over}
+use Rattle.state_text.specs.declared.over.Over.TheVariants.{Cut, Version, Line, Generation, Unfit, Worn, Memory}
+use Rattle.core_state.specs.declared.parts.Record.{Record}
+use Rattle.core_state.specs.Parts.{State}
+use Rattle.state_text.specs.Lines.{body_lines, end_line, slot_line, state_text, text_of_lines, version_line}
 use Rattle.state_text.specs.Range.{is_record, is_state, is_time}
 use Rattle.state_text.specs.Reading.{end_line_read, end_split, line_read, slot_line_read, table_read, version_read}
 use Rattle.state_text.specs.Refused.{BeginsAsKnown, IsBody, Refused, RefusedBody, Says, SaysNone, Whole, is_line}

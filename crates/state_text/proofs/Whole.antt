@@ -14,7 +14,7 @@ use Rattle.inittab_text.proofs.LineLemmas.{after_lines-text, is_table-written, n
 use Rattle.inittab_text.proofs.ReadLemmas.{option_map_some}
 use Rattle.inittab_text.proofs.WriteLemmas.{table_written-text, text_of-table_written}
 use Rattle.inittab_text.specs.Written.{fields_written, is_table, table_written, text_of}
-use Rattle.state_text.specs.declared.parts.Record.{Record}
+use Rattle.core_state.specs.declared.parts.Record.{Record}
 use Rattle.state_text.specs.Lines.{slot_line, table_line, text_of_lines}
 use Rattle.state_text.specs.Range.{is_record}
 use Rattle.state_text.specs.Reading.{line_read, slot_line_read, table_begun, table_line_read, table_read}

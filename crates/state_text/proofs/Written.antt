@@ -5,7 +5,8 @@ use Rattle.std.proofs.lemmas.Grind.{flat_map-append}
 use Rattle.std.proofs.lemmas.List.{append_assoc, length-map}
 use Rattle.init_words.specs.declared.entries.Entry.{Entry}
 use Rattle.inittab_text.specs.Written.{fields_written, text_of}
-use Rattle.state_text.specs.Lines.{State, body_lines, slot_line, starts_word, table_line, text_of_lines}
+use Rattle.core_state.specs.Parts.{State}
+use Rattle.state_text.specs.Lines.{body_lines, slot_line, starts_word, table_line, text_of_lines}
 
 -- times with commas between them
 pub starts_joined : (time : ℕ) (times : List ℕ) → starts_word (time ∷ times) ≡ decimal time ++ flat_map (λ t. 44 ∷ decimal t) times

@@ -9,17 +9,10 @@ use Rattle.init_trace.specs.declared.steps.Goal.{Goal}
 use Rattle.init_trace.specs.Lines.{level_word, stage_word, order_word}
 use Rattle.child_table.specs.declared.children.Stop.{Stop}
 use Rattle.child_table.specs.declared.children.Stop.TheVariants.{Due, Termed, Killed}
-use Rattle.child_table.specs.State.{SlotState, child_number, birth_act}
 use Rattle.core_state.specs.declared.news.News.{News}
-use Rattle.core_state.specs.State.{CoreState}
-use Rattle.state_text.specs.declared.parts.Heads.{Heads}
-use Rattle.state_text.specs.declared.parts.Record.{Record}
-
--- what init keeps, as plain values: the heads, the table, and a record for each id in record order
-pub record State : Type 0 where
-  pub heads : Heads
-  pub table : List Entry
-  pub records : List Record
+use Rattle.core_state.specs.declared.parts.Heads.{Heads}
+use Rattle.core_state.specs.declared.parts.Record.{Record}
+use Rattle.core_state.specs.Parts.{State}
 
 -- a yes or no; some of them in a row
 abbrev pub bit : Bool → ℕ
@@ -129,39 +122,3 @@ text_of_lines lines = flat_map (λ line. line ++ 10 ∷ []) lines
 
 abbrev pub state_text : State → List ℕ
 state_text state = text_of_lines (state_lines state)
-
--- what a record of init's keeps
-abbrev pub record_of : SlotState → Record
-record_of slot = record {
-  id = slot.id;
-  child = child_number slot;
-  act = birth_act slot;
-  order = slot.order;
-  stop = slot.stop;
-  asked = slot.asked;
-  called = slot.called;
-  look = slot.look;
-  missed = slot.missed;
-  held_until = slot.limiter.held;
-  starts = record { items = slot.limiter.starts };
-}
-
--- what init keeps, but for its table and its records
-abbrev pub heads_of : CoreState → Heads
-heads_of core = record {
-  generation = core.generation;
-  time = core.time;
-  stage = core.stage;
-  grace = core.grace;
-  goal = core.goal;
-  booted = core.booted;
-  announced = core.announced;
-  reread = core.reread;
-  reexec = core.reexec;
-  level_wish = core.level_wish;
-  news = core.news;
-}
-
--- what a core keeps, as plain values
-abbrev pub state_of : CoreState → State
-state_of core = record { heads = heads_of core; table = core.table; records = map record_of core.slots }

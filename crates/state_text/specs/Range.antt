@@ -10,9 +10,9 @@ use Rattle.init_trace.specs.declared.steps.Goal.{Goal}
 use Rattle.respawn_limit.specs.declared.TheConstants.{STARTS}
 use Rattle.child_table.specs.declared.children.Stop.{Stop}
 use Rattle.child_table.specs.declared.children.Stop.TheVariants.{Due, Termed, Killed}
-use Rattle.state_text.specs.declared.parts.Heads.{Heads}
-use Rattle.state_text.specs.declared.parts.Record.{Record}
-use Rattle.state_text.specs.Lines.{State}
+use Rattle.core_state.specs.declared.parts.Heads.{Heads}
+use Rattle.core_state.specs.declared.parts.Record.{Record}
+use Rattle.core_state.specs.Parts.{State}
 
 abbrev pub is_time : ℕ → Bool
 is_time time = nat_lt time (2 ^ 64)

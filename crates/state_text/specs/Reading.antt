@@ -19,10 +19,10 @@ use Rattle.respawn_limit.specs.declared.TheConstants.{STARTS}
 use Rattle.child_table.specs.declared.children.Stop.{Stop}
 use Rattle.child_table.specs.declared.children.Stop.TheVariants.{Due, Termed, Killed}
 use Rattle.core_state.specs.declared.news.News.{News}
-use Rattle.state_text.specs.declared.parts.Heads.{Heads}
-use Rattle.state_text.specs.declared.parts.Over.{Over}
-use Rattle.state_text.specs.declared.parts.Over.TheVariants.{Line, Memory}
-use Rattle.state_text.specs.declared.parts.Record.{Record}
+use Rattle.core_state.specs.declared.parts.Heads.{Heads}
+use Rattle.state_text.specs.declared.over.Over.{Over}
+use Rattle.state_text.specs.declared.over.Over.TheVariants.{Line, Memory}
+use Rattle.core_state.specs.declared.parts.Record.{Record}
 use Rattle.state_text.specs.Lines.{version_line}
 use Rattle.state_text.specs.Range.{is_stage}
 

@@ -2,10 +2,11 @@
 use Rattle.std.specs.Prelude.{◌≡◌, ◌≢◌, ◌==◌, ℕ, Bool, true, not, List, [], ◌∷◌, ◌++◌, map, codes, None}
 use Rattle.std.specs.List.{list_all, starts_with}
 use Rattle.text_lines.specs.Lines.{has_byte}
-use Rattle.state_text.specs.declared.parts.Over.{Over}
-use Rattle.state_text.specs.declared.parts.Over.TheVariants.{Cut, Version, Line, Generation, Memory}
-use Rattle.state_text.specs.declared.parts.Record.{Record}
-use Rattle.state_text.specs.Lines.{State, body_lines, slot_line, state_text, text_of_lines, version_line}
+use Rattle.state_text.specs.declared.over.Over.{Over}
+use Rattle.state_text.specs.declared.over.Over.TheVariants.{Cut, Version, Line, Generation, Memory}
+use Rattle.core_state.specs.declared.parts.Record.{Record}
+use Rattle.core_state.specs.Parts.{State}
+use Rattle.state_text.specs.Lines.{body_lines, slot_line, state_text, text_of_lines, version_line}
 use Rattle.state_text.specs.Range.{is_record, is_state}
 use Rattle.state_text.specs.Reading.{OnLine, version_read}
 

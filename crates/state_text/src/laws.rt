@@ -1,5 +1,6 @@
 ghost use Rattle.std.specs.Prelude.{◌≡◌, ◌++◌, ℕ, IsTrue, List, []};
-ghost use Rattle.state_text.specs.Lines.{State, state_text};
+ghost use Rattle.core_state.specs.Parts.{State};
+ghost use Rattle.state_text.specs.Lines.{state_text};
 ghost use Rattle.state_text.specs.Range.{is_state};
 
 /// No proper prefix of the text of a state is the text of a state: a text that was cut short is never taken for a whole

@@ -5,12 +5,12 @@
 
 mod fields;
 mod laws;
-mod parts;
+mod over;
 mod reading;
 mod words;
 mod writing;
 
 pub use laws::{law_of_prefixes, law_of_texts};
-pub use parts::{Heads, Over, Parts, Record};
+pub use over::Over;
 pub use reading::{generation_of, read_state};
 pub use writing::write_state;

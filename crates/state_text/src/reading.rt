@@ -2,7 +2,8 @@ ghost use Rattle.std.specs.Prelude.{◌≡◌, ◌≢◌, ◌∷◌, List, true,
 ghost use Rattle.std.specs.Option.{option_map};
 ghost use Rattle.std.specs.Result.{MatchResult};
 ghost use Rattle.text_lines.specs.Lines.{cut};
-ghost use Rattle.state_text.specs.Lines.{State, state_text};
+ghost use Rattle.core_state.specs.Parts.{State};
+ghost use Rattle.state_text.specs.Lines.{state_text};
 ghost use Rattle.state_text.specs.Reading.{end_split, Unread, times_read, places_read, flags_read, heads_made, heads_read, table_begun, table_read, version_read, generation_of, line_read, slot_line_read, end_line_read, OnLine};
 ghost use Rattle.state_text.specs.Refused.{AreRecords, NoRecords, IsBody, RefusedBody, Says, Refused};
 
@@ -10,9 +11,9 @@ use crate::fields::{
     Wishes, read_clock_line, read_end_line, read_flags_line, read_generation_line, read_goal_line,
     read_slot_line, read_stage_line, read_table_line, read_wish_line,
 };
-use crate::parts::{Heads, Over, Parts, Record};
+use crate::over::Over;
 use crate::words::is;
-use core_state::News;
+use core_state::{Heads, News, Parts, Record};
 use init_trace::Goal;
 use init_words::{Memory, Stage};
 use inittab_text::{Table, read_written};

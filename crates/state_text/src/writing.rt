@@ -3,11 +3,11 @@ ghost use Rattle.std.specs.List.{flat_map};
 ghost use Rattle.init_words.specs.Actions.{word_of};
 ghost use Rattle.inittab_text.specs.Written.{text_of};
 ghost use Rattle.init_trace.specs.Lines.{level_word, order_word};
-ghost use Rattle.state_text.specs.Lines.{bits, spaced, or_dash, goal_word, stop_word, stage_or_none, starts_word, generation_line, clock_line, stage_line, goal_line, flags_line, wish_line, head_lines, table_line, slot_line, slot_flags, powers, letters, end_line, text_of_lines, record_of, state_text};
+ghost use Rattle.core_state.specs.Parts.{record_of};
+ghost use Rattle.state_text.specs.Lines.{bits, spaced, or_dash, goal_word, stop_word, stage_or_none, starts_word, generation_line, clock_line, stage_line, goal_line, flags_line, wish_line, head_lines, table_line, slot_line, slot_flags, powers, letters, end_line, text_of_lines, state_text};
 
-use crate::parts::{Heads, Record};
 use child_table::{Slot, Stop};
-use core_state::News;
+use core_state::{Heads, News, Record};
 use init_trace::Goal;
 use init_words::{Act, Ask, ChildNo, Memory, Stage};
 use inittab_text::{Table, write};

@@ -1,9 +1,9 @@
 use Rattle.std.proofs.Common.{rules, ◌≡◌, ◌≢◌, ◌<◌, ◌^◌, Some, None, length, subst, sym, ap, ◌∙◌, arith}
 use Rattle.std.proofs.lemmas.Grind.{common_steps}
 use Rattle.text_lines.specs.Lines.{newlines}
-use Rattle.state_text.specs.declared.parts.Over.TheVariants.{Cut}
+use Rattle.state_text.specs.declared.over.Over.TheVariants.{Cut}
 use Rattle.state_text.specs.Reading.{end_line_read, end_split}
-use Rattle.state_text.specs.Lines.{State}
+use Rattle.core_state.specs.Parts.{State}
 use Rattle.state_text.specs.Refused.{Refused}
 use Rattle.state_text.proofs.Bodies.{err_kept, lost, match_kept}
 use Rattle.state_text.proofs.Taken.{body_never, body_of, body_refused, cut_refused, end_refused, only_one, says_of, split_state}

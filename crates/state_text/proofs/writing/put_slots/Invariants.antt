@@ -1,5 +1,6 @@
 use Rattle.std.proofs.Common.{◌≡◌, ◌++◌, map, drop}
-use Rattle.state_text.specs.Lines.{slot_line, record_of, text_of_lines}
+use Rattle.core_state.specs.Parts.{record_of}
+use Rattle.state_text.specs.Lines.{slot_line, text_of_lines}
 use Rattle.state_text.proofs.writing.put_slots.Given as goal
 
 -- what is there, and the records that are left, make the whole

@@ -1,7 +1,8 @@
 use Rattle.std.proofs.Common.{◌≡◌, ◌+◌, ◌++◌, [], ◌∷◌, map, length, ap, ◌∙◌, arith}
 use Rattle.std.proofs.lemmas.List.{length-map}
 use Rattle.inittab_text.specs.Written.{fields_written}
-use Rattle.state_text.specs.Lines.{State, body_lines, end_line, head_lines, record_of, slot_line, table_line, text_of_lines, version_line}
+use Rattle.core_state.specs.Parts.{State, record_of}
+use Rattle.state_text.specs.Lines.{body_lines, end_line, head_lines, slot_line, table_line, text_of_lines, version_line}
 use Rattle.state_text.proofs.Written.{body_length, more_lines, table_part}
 use Rattle.state_text.proofs.writing.write_state.Goals as goal
 

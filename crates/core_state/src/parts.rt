@@ -1,14 +1,14 @@
 ghost use Rattle.std.specs.Prelude.{◌≡◌};
-ghost use Rattle.state_text.specs.Lines.{record_of};
+ghost use Rattle.core_state.specs.Parts.{record_of};
 
+use crate::news::News;
 use arrayvec::ArrayVec;
 use child_table::{Slot, Stop};
-use core_state::News;
 use init_trace::Goal;
-use init_words::{Act, Ask, ChildNo, Id, Memory, Stage};
+use init_words::{Act, Ask, ChildNo, Id, Stage};
 use inittab_text::Table;
 use respawn_limit::STARTS;
-use std::alloc::{AllocError, Allocator, Global};
+use std::alloc::{Allocator, Global};
 use std::marker::Model;
 
 /// What init keeps, but for its table and its records.
@@ -83,7 +83,7 @@ impl Record {
     }
 }
 
-/// What a state text says.
+/// What init keeps, as plain values: what its state text says, and what it is rebuilt from.
 #[derive(Drop)]
 pub struct Parts<A: Allocator = Global> {
     pub heads: Heads,
@@ -93,7 +93,7 @@ pub struct Parts<A: Allocator = Global> {
 }
 
 impl<A: Allocator> Model for Parts<A> {
-    ghost use Rattle.state_text.specs.Lines.{State};
+    ghost use Rattle.core_state.specs.Parts.{State};
 
     ghost Value = { State };
 
@@ -102,45 +102,4 @@ impl<A: Allocator> Model for Parts<A> {
       table = parts.table;
       records = parts.records.items;
     } };
-}
-
-/// Why init's state is not handed over or not taken over.
-#[derive(Clone, Copy, Debug, PartialEq, Eq)]
-pub enum Over {
-    /// The text doesn't end with a newline, or its last line doesn't begin with `end `.
-    Cut,
-    /// The first line is that of no version that is known.
-    Version,
-    /// The line of this number, counted from 1, is not as it should be or stands in the wrong place.
-    Line(u64),
-    /// The text is that of another generation.
-    Generation,
-    /// No init comes to such a state.
-    Unfit,
-    /// There is no greater generation.
-    Worn,
-    /// Want of memory.
-    Memory,
-}
-
-impl From<Memory> for Over {
-    ghost use Rattle.std.specs.Prelude.{◌≡◌};
-    ghost use Rattle.state_text.specs.declared.parts.Over.TheVariants.{Memory};
-
-    ghost from_gives = { λ _ over. over ≡ Memory };
-
-    fn from(_error: Memory) -> Over {
-        Over::Memory
-    }
-}
-
-impl From<AllocError> for Over {
-    ghost use Rattle.std.specs.Prelude.{◌≡◌};
-    ghost use Rattle.state_text.specs.declared.parts.Over.TheVariants.{Memory};
-
-    ghost from_gives = { λ _ over. over ≡ Memory };
-
-    fn from(_error: AllocError) -> Over {
-        Over::Memory
-    }
 }

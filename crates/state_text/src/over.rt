@@ -1,0 +1,43 @@
+use init_words::Memory;
+use std::alloc::AllocError;
+
+/// Why init's state is not handed over or not taken over.
+#[derive(Clone, Copy, Debug, PartialEq, Eq)]
+pub enum Over {
+    /// The text doesn't end with a newline, or its last line doesn't begin with `end `.
+    Cut,
+    /// The first line is that of no version that is known.
+    Version,
+    /// The line of this number, counted from 1, is not as it should be or stands in the wrong place.
+    Line(u64),
+    /// The text is that of another generation.
+    Generation,
+    /// No init comes to such a state.
+    Unfit,
+    /// There is no greater generation.
+    Worn,
+    /// Want of memory.
+    Memory,
+}
+
+impl From<Memory> for Over {
+    ghost use Rattle.std.specs.Prelude.{◌≡◌};
+    ghost use Rattle.state_text.specs.declared.over.Over.TheVariants.{Memory};
+
+    ghost from_gives = { λ _ over. over ≡ Memory };
+
+    fn from(_error: Memory) -> Over {
+        Over::Memory
+    }
+}
+
+impl From<AllocError> for Over {
+    ghost use Rattle.std.specs.Prelude.{◌≡◌};
+    ghost use Rattle.state_text.specs.declared.over.Over.TheVariants.{Memory};
+
+    ghost from_gives = { λ _ over. over ≡ Memory };
+
+    fn from(_error: AllocError) -> Over {
+        Over::Memory
+    }
+}
