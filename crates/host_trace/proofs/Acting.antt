@@ -35,7 +35,7 @@ use Rattle.core_state.proofs.Hearing.{fits_act, fits_told}
 use Rattle.core_state.proofs.Reading.{quiet_same}
 use Rattle.run_log.specs.Logs.{LogState}
 use Rattle.host_trace.specs.Point.{last_birth, acted, is_asked_for, answered}
-use Rattle.host_trace.specs.Leads.{is_own, is_allowed, Took, Gave, Heard, Hears}
+use Rattle.host_trace.specs.Leads.{is_own, is_allowed, Logs, Gave, Heard, Hears}
 use Rattle.host_trace.proofs.Leading.{allowed_rest, allowed_first}
 
 -- a trace stays sound with what may come
@@ -52,13 +52,13 @@ pub sound_met : (goal : Goal) (happening : Event) (so_far : List Event) → is_o
 sound_met goal happening so_far other allowed sound = sound_more goal happening so_far (may_met goal happening so_far other allowed) sound
 
 -- a happening that is not init's own: an act, a reading of the clock, a request, a round, that inittab was not read
-pub Hears-edge : (fitted fit : Goal → List Event → Type 0) (old new : LogState) (happening : Event) → is_own happening ≡ false → ((goal : Goal) (so_far : List Event) → is_sound goal so_far ≡ true → fitted goal so_far → is_sound goal (happening ∷ so_far) ≡ true → fit goal (happening ∷ so_far)) → ((so_far : List Event) → Took old new so_far (happening ∷ so_far)) → Hears fitted fit old new (λ so_far. happening ∷ so_far)
+pub Hears-edge : (fitted fit : Goal → List Event → Type 0) (old new : LogState) (happening : Event) → is_own happening ≡ false → ((goal : Goal) (so_far : List Event) → is_sound goal so_far ≡ true → fitted goal so_far → is_sound goal (happening ∷ so_far) ≡ true → fit goal (happening ∷ so_far)) → ((so_far : List Event) → Logs old new so_far (happening ∷ so_far)) → Hears fitted fit old new (λ so_far. happening ∷ so_far)
 Hears-edge fitted fit old new happening other fits took goal so_far sound before allowed =
     let more : is_sound goal (happening ∷ so_far) ≡ true = sound_met goal happening so_far other allowed sound in
     record { sound = more; fits = fits goal so_far sound before more; log = took so_far }
 
 -- the same where the core says so itself
-pub Hears-told : (c new : CoreState) (l₀ l₁ : LogState) (happening : Event) → is_own happening ≡ false → OnEachTrace c (λ goal so_far. Fits new goal (happening ∷ so_far)) → ((so_far : List Event) → Took l₀ l₁ so_far (happening ∷ so_far)) → Hears (Fits c) (Fits new) l₀ l₁ (λ so_far. happening ∷ so_far)
+pub Hears-told : (c new : CoreState) (l₀ l₁ : LogState) (happening : Event) → is_own happening ≡ false → OnEachTrace c (λ goal so_far. Fits new goal (happening ∷ so_far)) → ((so_far : List Event) → Logs l₀ l₁ so_far (happening ∷ so_far)) → Hears (Fits c) (Fits new) l₀ l₁ (λ so_far. happening ∷ so_far)
 Hears-told c new l₀ l₁ happening other fits took = Hears-edge (Fits c) (Fits new) l₀ l₁ happening other (λ goal so_far sound before more. fits goal so_far sound before) took
 
 -- a step that init gave: it was due, so the trace with its happening is sound
@@ -73,7 +73,7 @@ step_sound goal so_far step.Reread is sound = sound
 step_sound goal so_far step.Reexec is sound = sound
 step_sound goal so_far step.Idle is sound = sound
 
-pub Hears-step : (c : CoreState) (l₀ l₁ : LogState) (made : Step) → ((so_far : List Event) → Took l₀ l₁ so_far (with_step made so_far)) → Hears (Gave (Fits c) made) (Fits c) l₀ l₁ (with_step made)
+pub Hears-step : (c : CoreState) (l₀ l₁ : LogState) (made : Step) → ((so_far : List Event) → Logs l₀ l₁ so_far (with_step made so_far)) → Hears (Gave (Fits c) made) (Fits c) l₀ l₁ (with_step made)
 Hears-step c l₀ l₁ made took goal so_far sound gave allowed = record { sound = step_sound goal so_far made gave.0 sound; fits = gave.1; log = took so_far }
 
 -- ---- answers
@@ -146,7 +146,7 @@ acted_by goal c so_far sound fits id answer.Miss allowed =
     record { sound = more; fits = fits_act goal so_far c sound fits (past.Miss id) refl more; under_way = rw (same_id-self id) refl }
 
 -- An answer: one that the core takes is its act and that it was told; one that it refuses is nothing.
-pub Hears-answer : (c new : CoreState) (l₀ l₁ : LogState) (id : List ℕ) (given : Answer) (result : Result (Unit {0}) Refusal) → result ≡ lists.refusal_of (lists.order_in id c.slots) given → OnOk result (new ≡ after_told id given c) → OnErr result (new ≡ c) → OnOk result ((goal : Goal) (so_far : List Event) → is_sound goal so_far ≡ true → Fits c goal so_far → is_allowed goal (acted id given so_far) ≡ true → Took l₀ l₁ so_far (past.Told id ∷ acted id given so_far)) → OnErr result ((so_far : List Event) → Took l₀ l₁ so_far so_far) → Hears (Fits c) (Fits new) l₀ l₁ (answered id given)
+pub Hears-answer : (c new : CoreState) (l₀ l₁ : LogState) (id : List ℕ) (given : Answer) (result : Result (Unit {0}) Refusal) → result ≡ lists.refusal_of (lists.order_in id c.slots) given → OnOk result (new ≡ after_told id given c) → OnErr result (new ≡ c) → OnOk result ((goal : Goal) (so_far : List Event) → is_sound goal so_far ≡ true → Fits c goal so_far → is_allowed goal (acted id given so_far) ≡ true → Logs l₀ l₁ so_far (past.Told id ∷ acted id given so_far)) → OnErr result ((so_far : List Event) → Logs l₀ l₁ so_far so_far) → Hears (Fits c) (Fits new) l₀ l₁ (answered id given)
 Hears-answer c new l₀ l₁ id given (Ok tt) is told same took left goal so_far sound fits allowed = by (is_asked_for id given so_far) refl (taken_asked (open_of id so_far) given (is ∙ ap (λ o. lists.refusal_of o given) (order_same goal so_far c sound fits id)))
   where
     by : (b : Bool) → is_asked_for id given so_far ≡ b → b ≡ true → Heard (Fits new) l₀ l₁ goal so_far (answered id given so_far)

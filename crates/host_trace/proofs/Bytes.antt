@@ -17,9 +17,10 @@ use Rattle.core_state.specs.Fit.{Fits}
 use Rattle.run_log.specs.Logs.{LogState}
 use Rattle.host_trace.specs.Point.{Point, byte_after, bytes_after}
 use Rattle.host_trace.specs.Requests.{requested, Continues}
-use Rattle.host_trace.specs.Leads.{is_allowed, Took, At, IsOver, Went, Leads, Heard, Hears}
+use Rattle.host_trace.specs.Leads.{is_allowed, Logs, Took, At, IsOver, Went, Leads, Heard, Hears}
 use Rattle.host_trace.proofs.Point.{bytes_after-append}
 use Rattle.host_trace.proofs.Leading.{bytes_allowed}
+use Rattle.host_trace.proofs.Seconds.{logged, short_then}
 use Rattle.host_trace.proofs.Taking.{Took-none, Took-then}
 
 requested-append : (xs ys : List Got) (so_far : List Event) → requested (xs ++ ys) so_far ≡ requested ys (requested xs so_far)
@@ -95,11 +96,12 @@ pub Leads-fed : (c now : CoreState) (old new : Begun) (l₀ l₁ : LogState) (ro
 Leads-fed c now old new l₀ l₁ room part given short fed gots hears goal p sound fits allowed =
     let read = piece_fed old new part given p short fits.1 fed gots in
     let heard : Heard (Fits now) l₀ l₁ goal p.past (requested (option_to_list given) p.past) = hears goal p.past sound fits.0 (ap (is_allowed goal) (sym read.1) ∙ allowed) in
+    let more : is_sound goal (bytes_after part p).past ≡ true = ap (is_sound goal) read.1 ∙ heard.sound in
     record {
       in_place = refl;
-      sound = ap (is_sound goal) read.1 ∙ heard.sound;
+      sound = more;
       fits = (subst (Fits now goal) (sym read.1) heard.fits, read.0);
-      log = subst (Took l₀ l₁ p.past) (sym read.1) heard.log;
+      log = logged goal (TakeBytes room (Ok part) ∷ []) p l₀ l₁ more (subst (Logs l₀ l₁ p.past) (sym read.1) heard.log);
     }
 
 -- two pieces of what a call took
@@ -113,9 +115,9 @@ Leads-pieces f₀ f₁ f₂ l₀ l₁ l₂ room xs ys one two goal p sound fits 
       in_place = refl;
       sound = ap (λ (q : Point). is_sound goal q.past) joined ∙ second.sound;
       fits = subst (f₂ goal) (sym joined) second.fits;
-      log = subst (λ (q : Point). Took l₀ l₂ p.past q.past) (sym joined) (Took-then l₀ l₁ l₂ p.past (bytes_after xs p).past (bytes_after ys (bytes_after xs p)).past first.log second.log);
+      log = λ short. subst (λ (q : Point). Took l₀ l₂ p.past q.past) (sym joined) (Took-then l₀ l₁ l₂ p.past (bytes_after xs p).past (bytes_after ys (bytes_after xs p)).past (first.log short) (second.log (short_then goal (TakeBytes room (Ok xs) ∷ []) p first.sound short)));
     }
 
 -- a call that took no bytes
 pub Leads-no_bytes : (fit : Goal → Point → Type 0) (log : LogState) (room : ℕ) → Leads fit fit log log (TakeBytes room (Ok []) ∷ [])
-Leads-no_bytes fit log room goal p sound fits allowed = record { in_place = refl; sound = sound; fits = fits; log = Took-none log p.past }
+Leads-no_bytes fit log room goal p sound fits allowed = record { in_place = refl; sound = sound; fits = fits; log = λ short. Took-none log p.past }

@@ -30,8 +30,9 @@ use Rattle.child_host.specs.declared.calls.Reply.{Reply}
 use Rattle.child_host.specs.declared.calls.Reply.TheVariants.{Now, Later}
 use Rattle.child_host.specs.Calls.{TextRead}
 use Rattle.host_trace.specs.Point.{replied, ordered, come, is_last, nudged_if, clocked, reading, before_reading, same_text, is_command}
-use Rattle.host_trace.specs.Leads.{is_allowed, Took, On, Gave, Counted, Leads, Heard, Hears}
+use Rattle.host_trace.specs.Leads.{is_allowed, Logs, On, Gave, Counted, Leads, Heard, Hears}
 use Rattle.host_trace.proofs.Leading.{answered_allowed, nudged_allowed, Leads-heard, Hears-then}
+use Rattle.host_trace.proofs.Seconds.{logged}
 use Rattle.host_trace.proofs.Acting.{sound_met, Hears-step, table_sound}
 
 -- ---- orders
@@ -41,7 +42,7 @@ replied_allowed goal id (Now given) so_far h = answered_allowed goal id given so
 replied_allowed goal id Later so_far h = h
 
 -- init asked, and heard the reply
-pub Hears-order : (c new : CoreState) (l₀ l₁ l₂ : LogState) (id : List ℕ) (order : Ask) (reply : Reply) → ((so_far : List Event) → Took l₀ l₁ so_far (past.Asked id order ∷ so_far)) → Hears (Fits c) (Fits new) l₁ l₂ (replied id reply) → Hears (Gave (Fits c) (step.Order id order)) (Fits new) l₀ l₂ (ordered id order reply)
+pub Hears-order : (c new : CoreState) (l₀ l₁ l₂ : LogState) (id : List ℕ) (order : Ask) (reply : Reply) → ((so_far : List Event) → Logs l₀ l₁ so_far (past.Asked id order ∷ so_far)) → Hears (Fits c) (Fits new) l₁ l₂ (replied id reply) → Hears (Gave (Fits c) (step.Order id order)) (Fits new) l₀ l₂ (ordered id order reply)
 Hears-order c new l₀ l₁ l₂ id order reply took heard = Hears-then (Gave (Fits c) (step.Order id order)) (Fits c) (Fits new) l₀ l₁ l₂ (with_step (step.Order id order)) (replied id reply) (λ goal so_far h. replied_allowed goal id reply so_far h) (Hears-step c l₀ l₁ (step.Order id order) took) heard
 
 -- the command of the id's entry in the core's table is that of the entry in force
@@ -60,18 +61,19 @@ Leads-start c new l₀ l₁ id command reply e own is hears = Leads-heard (Gave 
 pub Leads-clock : (f₀ f₁ : Goal → List Event → Type 0) (l₀ l₁ : LogState) (time : Result ℕ HostFault) → Hears f₀ f₁ l₀ l₁ (clocked time) → Leads (On f₀) (λ goal p. On f₁ goal p × Counted 0 goal p) l₀ l₁ (Clock time ∷ [])
 Leads-clock f₀ f₁ l₀ l₁ time hears goal p sound fits allowed =
     let heard : Heard f₁ l₀ l₁ goal p.past (clocked time p.past) = hears goal p.past sound fits allowed in
-    record { in_place = refl; sound = heard.sound; fits = (heard.fits, refl); log = heard.log }
+    record { in_place = refl; sound = heard.sound; fits = (heard.fits, refl); log = logged goal (Clock time ∷ []) p l₀ l₁ heard.sound heard.log }
 
 -- a late answer was asked for: behind the last the round begins
 pub Leads-late : (f₀ f₁ : Goal → List Event → Type 0) (l₀ l₁ : LogState) (late : Option (List ℕ × Answer)) (count : ℕ) → Hears f₀ f₁ l₀ l₁ (λ so_far. nudged_if (is_last late count) (come late so_far)) → Leads (λ goal p. On f₀ goal p × Counted count goal p) (λ goal p. On f₁ goal p × Counted (count + 1) goal p) l₀ l₁ (Late late ∷ [])
 Leads-late f₀ f₁ l₀ l₁ late count hears goal p sound fits allowed =
     let comes : nudged_if (is_last late p.lates) (come late p.past) ≡ nudged_if (is_last late count) (come late p.past) = ap (λ n. nudged_if (is_last late n) (come late p.past)) fits.1 in
     let heard : Heard f₁ l₀ l₁ goal p.past (nudged_if (is_last late count) (come late p.past)) = hears goal p.past sound fits.0 (ap (is_allowed goal) (sym comes) ∙ allowed) in
+    let more : is_sound goal (nudged_if (is_last late p.lates) (come late p.past)) ≡ true = ap (is_sound goal) comes ∙ heard.sound in
     record {
       in_place = refl;
-      sound = ap (is_sound goal) comes ∙ heard.sound;
+      sound = more;
       fits = (subst (f₁ goal) (sym comes) heard.fits, ap (λ n. n + 1) fits.1);
-      log = subst (Took l₀ l₁ p.past) (sym comes) heard.log;
+      log = logged goal (Late late ∷ []) p l₀ l₁ more (subst (Logs l₀ l₁ p.past) (sym comes) heard.log);
     }
 
 -- it was not the last, or it was, and the round began
@@ -84,7 +86,7 @@ Hears-last f₀ f₁ f₂ l₀ l₁ l₂ late count last hears round = subst (λ
 -- ---- inittab is read again
 
 -- the table that was read is in force
-pub Leads-used : (c new : CoreState) (l₀ l₁ : LogState) (text : List ℕ) → length text ≤ TEXT_LIMIT → lists.is_quiet c.slots ≡ true → OnEachTrace c (λ goal so_far. Fits new goal (past.NewTable (table_of_text text) ∷ so_far)) → ((so_far : List Event) → Took l₀ l₁ so_far (past.NewTable (table_of_text text) ∷ so_far)) → Leads (On (Gave (Fits c) step.Reread)) (On (Fits new)) l₀ l₁ (ReadTable (Ok text) ∷ [])
+pub Leads-used : (c new : CoreState) (l₀ l₁ : LogState) (text : List ℕ) → length text ≤ TEXT_LIMIT → lists.is_quiet c.slots ≡ true → OnEachTrace c (λ goal so_far. Fits new goal (past.NewTable (table_of_text text) ∷ so_far)) → ((so_far : List Event) → Logs l₀ l₁ so_far (past.NewTable (table_of_text text) ∷ so_far)) → Leads (On (Gave (Fits c) step.Reread)) (On (Fits new)) l₀ l₁ (ReadTable (Ok text) ∷ [])
 Leads-used c new l₀ l₁ text short quiet fits took = Leads-heard (Gave (Fits c) step.Reread) (Fits new) l₀ l₁ (ReadTable (Ok text)) (λ so_far. past.NewTable (table_of_text text) ∷ so_far) heard (λ p. ap (λ b. cond b past.NotRead (past.NewTable (table_of_text text)) ∷ p.past) (le-ltb TEXT_LIMIT (length text) short)) (λ goal p sound gave. first_due goal p.past step.Reread gave.0 refl)
   where
     heard : Hears (Gave (Fits c) step.Reread) (Fits new) l₀ l₁ (λ so_far. past.NewTable (table_of_text text) ∷ so_far)
@@ -99,7 +101,7 @@ reading_goes (Ok text) so_far = by (nat_lt TEXT_LIMIT (length text))
     by true = refl
     by false = refl
 
-pub Leads-not_read : (c new : CoreState) (l₀ l₁ : LogState) (text : TextRead) → OnEachTrace c (λ goal so_far. Fits new goal (past.NotRead ∷ so_far)) → ((so_far : List Event) → Took l₀ l₁ so_far (past.NotRead ∷ so_far)) → Leads (On (Gave (Fits c) step.Reread)) (On (Fits new)) l₀ l₁ (Announce past.NotRead ∷ ReadTable text ∷ [])
+pub Leads-not_read : (c new : CoreState) (l₀ l₁ : LogState) (text : TextRead) → OnEachTrace c (λ goal so_far. Fits new goal (past.NotRead ∷ so_far)) → ((so_far : List Event) → Logs l₀ l₁ so_far (past.NotRead ∷ so_far)) → Leads (On (Gave (Fits c) step.Reread)) (On (Fits new)) l₀ l₁ (Announce past.NotRead ∷ ReadTable text ∷ [])
 Leads-not_read c new l₀ l₁ text fits took goal p sound gave allowed =
     let goes : past.NotRead ∷ before_reading (reading text ∷ p.past) ≡ past.NotRead ∷ p.past = ap (λ (so_far : List Event). past.NotRead ∷ so_far) (reading_goes text p.past) in
     let more : is_sound goal (past.NotRead ∷ p.past) ≡ true = sound_met goal past.NotRead p.past refl (ap (is_allowed goal) (sym goes) ∙ allowed) sound in
@@ -107,14 +109,14 @@ Leads-not_read c new l₀ l₁ text fits took goal p sound gave allowed =
       in_place = and_from (is_due goal step.Reread p.past) true (first_due goal p.past step.Reread gave.0 refl) refl;
       sound = ap (is_sound goal) goes ∙ more;
       fits = subst (Fits new goal) (sym goes) (fits goal p.past sound gave.1);
-      log = subst (Took l₀ l₁ p.past) (sym goes) (took p.past);
+      log = logged goal (Announce past.NotRead ∷ ReadTable text ∷ []) p l₀ l₁ (ap (is_sound goal) goes ∙ more) (subst (Logs l₀ l₁ p.past) (sym goes) (took p.past));
     }
 
 -- init was not executed anew
-pub Leads-not_handed : (c new : CoreState) (l₀ l₁ : LogState) → OnEachTrace c (λ goal so_far. Fits new goal (past.Handed handed.Failed ∷ so_far)) → ((so_far : List Event) → Took l₀ l₁ so_far (past.Handed handed.Failed ∷ so_far)) → Leads (On (Gave (Fits c) step.Reexec)) (On (Fits new)) l₀ l₁ (Announce (past.Handed handed.Failed) ∷ [])
+pub Leads-not_handed : (c new : CoreState) (l₀ l₁ : LogState) → OnEachTrace c (λ goal so_far. Fits new goal (past.Handed handed.Failed ∷ so_far)) → ((so_far : List Event) → Logs l₀ l₁ so_far (past.Handed handed.Failed ∷ so_far)) → Leads (On (Gave (Fits c) step.Reexec)) (On (Fits new)) l₀ l₁ (Announce (past.Handed handed.Failed) ∷ [])
 Leads-not_handed c new l₀ l₁ fits took goal p sound gave allowed = record {
   in_place = and_from (is_due goal step.Reexec p.past) true (first_due goal p.past step.Reexec gave.0 refl) refl;
   sound = sound_met goal (past.Handed handed.Failed) p.past refl allowed sound;
   fits = fits goal p.past sound gave.1;
-  log = took p.past;
+  log = logged goal (Announce (past.Handed handed.Failed) ∷ []) p l₀ l₁ (sound_met goal (past.Handed handed.Failed) p.past refl allowed sound) (took p.past);
 }

@@ -17,10 +17,11 @@ use Rattle.child_host.specs.declared.calls.Reply.TheVariants.{Now, Later}
 use Rattle.child_host.specs.Calls.{HostCall, TextRead}
 use Rattle.run_log.specs.Logs.{LogState}
 use Rattle.host_trace.specs.Point.{Point, last_birth, acted, is_asked_for, answered, ordered, order_for, come, is_last, nudged_if, byte_after, bytes_after, reading, before_reading, announced, is_said, after, point_after, is_in_place}
-use Rattle.host_trace.specs.Leads.{Counted, meets, is_allowed, Took, On, Went, Leads, Heard, Hears}
+use Rattle.host_trace.specs.Leads.{Counted, Logs, meets, is_allowed, Took, On, Went, Leads, Heard, Hears}
 use Rattle.host_trace.specs.Turns.{takes_none}
 use Rattle.host_trace.proofs.Point.{point_after-append, has_trace-append}
-use Rattle.host_trace.proofs.Taking.{Took-none, Took-then}
+use Rattle.host_trace.proofs.Seconds.{logged, short_then}
+use Rattle.host_trace.proofs.Taking.{Logs-none, Logs-then, Took-none, Took-then}
 
 module _ (goal : Goal) where
   -- what came before something that was possible was possible
@@ -108,15 +109,16 @@ Leads-one fitted fit old new call went = went
 pub Leads-heard : (fitted fit : Goal → List Event → Type 0) (old new : LogState) (call : HostCall) (more : List Event → List Event) → Hears fitted fit old new more → ((p : Point) → (after call p).past ≡ more p.past) → ((goal : Goal) (p : Point) → is_sound goal p.past ≡ true → fitted goal p.past → is_in_place goal call [] p.past ≡ true) → Leads (On fitted) (On fit) old new (call ∷ [])
 Leads-heard fitted fit old new call more hears comes place goal p sound fits allowed =
     let heard : Heard fit old new goal p.past (more p.past) = hears goal p.past sound fits (ap (is_allowed goal) (sym (comes p)) ∙ allowed) in
+    let more : is_sound goal (after call p).past ≡ true = ap (is_sound goal) (comes p) ∙ heard.sound in
     record {
       in_place = and_from (is_in_place goal call [] p.past) true (place goal p sound fits) refl;
-      sound = ap (is_sound goal) (comes p) ∙ heard.sound;
+      sound = more;
       fits = subst (fit goal) (sym (comes p)) heard.fits;
-      log = subst (Took old new p.past) (sym (comes p)) heard.log;
+      log = logged goal (call ∷ []) p old new more (subst (Logs old new p.past) (sym (comes p)) heard.log);
     }
 
 pub Leads-none : (fit : Goal → Point → Type 0) (log : LogState) → Leads fit fit log log []
-Leads-none fit log goal p sound fits allowed = record { in_place = refl; sound = sound; fits = fits; log = Took-none log p.past }
+Leads-none fit log goal p sound fits allowed = record { in_place = refl; sound = sound; fits = fits; log = λ short. Took-none log p.past }
 
 -- ys behind xs
 pub Leads-then : (f₀ f₁ f₂ : Goal → Point → Type 0) (l₀ l₁ l₂ : LogState) (xs ys : List HostCall) → Leads f₀ f₁ l₀ l₁ xs → Leads f₁ f₂ l₁ l₂ ys → Leads f₀ f₂ l₀ l₂ (ys ++ xs)
@@ -129,7 +131,7 @@ Leads-then f₀ f₁ f₂ l₀ l₁ l₂ xs ys one two goal p sound fits allowed
       in_place = has_trace-append goal ys xs p second.in_place first.in_place;
       sound = ap (λ (q : Point). is_sound goal q.past) joined ∙ second.sound;
       fits = subst (f₂ goal) (sym joined) second.fits;
-      log = subst (λ (q : Point). Took l₀ l₂ p.past q.past) (sym joined) (Took-then l₀ l₁ l₂ p.past (point_after xs p).past (point_after ys (point_after xs p)).past first.log second.log);
+      log = λ short. subst (λ (q : Point). Took l₀ l₂ p.past q.past) (sym joined) (Took-then l₀ l₁ l₂ p.past (point_after xs p).past (point_after ys (point_after xs p)).past (first.log short) (second.log (short_then goal xs p first.sound short)));
     }
 
 pub Leads-weaken : (fitted fitted' fit fit' : Goal → Point → Type 0) (old new : LogState) (calls : List HostCall) → ((goal : Goal) (p : Point) → fitted' goal p → fitted goal p) → ((goal : Goal) (p : Point) → fit goal p → fit' goal p) → Leads fitted fit old new calls → Leads fitted' fit' old new calls
@@ -184,16 +186,16 @@ Leads-still fit log call still place goal p sound fits allowed = record {
   in_place = and_from (is_in_place goal call [] p.past) true (place goal p.past) refl;
   sound = ap (λ (q : Point). is_sound goal q.past) (still p) ∙ sound;
   fits = subst (fit goal) (sym (still p)) fits;
-  log = subst (λ (q : Point). Took log log p.past q.past) (sym (still p)) (Took-none log p.past);
+  log = λ short. subst (λ (q : Point). Took log log p.past q.past) (sym (still p)) (Took-none log p.past);
 }
 
 -- the same of what needs no call
 pub Hears-none : (fit : Goal → List Event → Type 0) (log : LogState) → Hears fit fit log log (λ so_far. so_far)
-Hears-none fit log goal so_far sound fits allowed = record { sound = sound; fits = fits; log = Took-none log so_far }
+Hears-none fit log goal so_far sound fits allowed = record { sound = sound; fits = fits; log = Logs-none log so_far }
 
 -- later behind earlier, where what was possible behind the later was so behind the earlier
 pub Hears-then : (f₀ f₁ f₂ : Goal → List Event → Type 0) (l₀ l₁ l₂ : LogState) (earlier later : List Event → List Event) → ((goal : Goal) (so_far : List Event) → is_allowed goal (later so_far) ≡ true → is_allowed goal so_far ≡ true) → Hears f₀ f₁ l₀ l₁ earlier → Hears f₁ f₂ l₁ l₂ later → Hears f₀ f₂ l₀ l₂ (λ so_far. later (earlier so_far))
 Hears-then f₀ f₁ f₂ l₀ l₁ l₂ earlier later rest one two goal so_far sound fits allowed =
     let first : Heard f₁ l₀ l₁ goal so_far (earlier so_far) = one goal so_far sound fits (rest goal (earlier so_far) allowed) in
     let second : Heard f₂ l₁ l₂ goal (earlier so_far) (later (earlier so_far)) = two goal (earlier so_far) first.sound first.fits allowed in
-    record { sound = second.sound; fits = second.fits; log = Took-then l₀ l₁ l₂ so_far (earlier so_far) (later (earlier so_far)) first.log second.log }
+    record { sound = second.sound; fits = second.fits; log = Logs-then l₀ l₁ l₂ so_far (earlier so_far) (later (earlier so_far)) first.log second.log }

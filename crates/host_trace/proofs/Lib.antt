@@ -6,5 +6,6 @@ pub mod Leading
 pub mod Point
 pub mod Record
 pub mod Requests
+pub mod Seconds
 pub mod Rows
 pub mod Taking

@@ -6,33 +6,36 @@ use Rattle.std.proofs.lemmas.List.{reverse-append}
 use Rattle.std.proofs.lemmas.List.Folds.{list_all-append}
 use Rattle.std.proofs.lemmas.Option.{none-some, same_Some}
 use Rattle.init_trace.specs.Event.{Event}
-use Rattle.init_trace.specs.Range.{is_in_range, are_in_range}
+use Rattle.init_trace.specs.Range.{is_in_range, is_short, are_short}
 use Rattle.run_log.specs.declared.faults.LogFault.{LogFault}
 use Rattle.run_log.specs.Logs.{LogState, Gains, Stays}
-use Rattle.host_trace.specs.Leads.{Takes, Took}
+use Rattle.host_trace.specs.Leads.{Logs, Takes, Took}
 
 -- where nothing came, the log is as it was
-takes-none : (o : Option (List Event)) (log : LogState) → log.taken ≡ o → IfSome o (λ before. are_in_range [] ≡ true → Takes log log before [])
+takes-none : (o : Option (List Event)) (log : LogState) → log.taken ≡ o → IfSome o (λ before. Takes log log before [])
 takes-none None log is = tt
-takes-none (Some before) log is = λ ranged. record { took = []; missed = []; parts = refl; told = is ∙ ap Some (sym (append-nil before)); whole = λ h. refl; nothing = λ h. refl; stays = λ h. h }
+takes-none (Some before) log is = record { took = []; missed = []; parts = refl; told = is ∙ ap Some (sym (append-nil before)); whole = λ h. refl; nothing = λ h. refl; stays = λ h. h }
 
 pub Took-none : (log : LogState) (past : List Event) → Took log log past past
 Took-none log past = record { came = []; grown = refl; log = takes-none log.taken log refl }
 
--- the log took the happening
-takes-one : (o : Option (List Event)) (old new : LogState) (happening : Event) → old.failed ≡ false → (is_in_range happening ≡ true → Gains o new.taken happening) → IfSome o (λ before. are_in_range (happening ∷ []) ≡ true → Takes old new before (happening ∷ []))
-takes-one None old new happening open_log gains = tt
-takes-one (Some before) old new happening open_log gains = λ ranged. record { took = happening ∷ []; missed = []; parts = refl; told = gains (and_parts (is_in_range happening) true ranged).0; whole = λ h. refl; nothing = λ h. absurd (false≢true (sym open_log ∙ h)); stays = λ h. absurd (false≢true (sym open_log ∙ h)) }
+pub Logs-none : (log : LogState) (past : List Event) → Logs log log past past
+Logs-none log past short = Took-none log past
 
-pub Took-one : (old new : LogState) (past : List Event) (happening : Event) → old.failed ≡ false → (is_in_range happening ≡ true → Gains old.taken new.taken happening) → Took old new past (happening ∷ past)
+-- the log took the happening
+takes-one : (o : Option (List Event)) (old new : LogState) (happening : Event) → old.failed ≡ false → Gains o new.taken happening → IfSome o (λ before. Takes old new before (happening ∷ []))
+takes-one None old new happening open_log gains = tt
+takes-one (Some before) old new happening open_log gains = record { took = happening ∷ []; missed = []; parts = refl; told = gains; whole = λ h. refl; nothing = λ h. absurd (false≢true (sym open_log ∙ h)); stays = λ h. absurd (false≢true (sym open_log ∙ h)) }
+
+Took-one : (old new : LogState) (past : List Event) (happening : Event) → old.failed ≡ false → Gains old.taken new.taken happening → Took old new past (happening ∷ past)
 Took-one old new past happening open_log gains = record { came = happening ∷ []; grown = refl; log = takes-one old.taken old new happening open_log gains }
 
 -- the log did not take it: it has failed, or fails now
-takes-missed : (o : Option (List Event)) (old new : LogState) (happening : Event) → new.failed ≡ true → (is_in_range happening ≡ true → Stays o new.taken) → IfSome o (λ before. are_in_range (happening ∷ []) ≡ true → Takes old new before (happening ∷ []))
+takes-missed : (o : Option (List Event)) (old new : LogState) (happening : Event) → new.failed ≡ true → Stays o new.taken → IfSome o (λ before. Takes old new before (happening ∷ []))
 takes-missed None old new happening failed stays = tt
-takes-missed (Some before) old new happening failed stays = λ ranged. record { took = []; missed = happening ∷ []; parts = refl; told = stays (and_parts (is_in_range happening) true ranged).0 ∙ ap Some (sym (append-nil before)); whole = λ h. absurd (false≢true (sym h ∙ failed)); nothing = λ h. refl; stays = λ h. failed }
+takes-missed (Some before) old new happening failed stays = record { took = []; missed = happening ∷ []; parts = refl; told = stays ∙ ap Some (sym (append-nil before)); whole = λ h. absurd (false≢true (sym h ∙ failed)); nothing = λ h. refl; stays = λ h. failed }
 
-pub Took-missed : (old new : LogState) (past : List Event) (happening : Event) → new.failed ≡ true → (is_in_range happening ≡ true → Stays old.taken new.taken) → Took old new past (happening ∷ past)
+Took-missed : (old new : LogState) (past : List Event) (happening : Event) → new.failed ≡ true → Stays old.taken new.taken → Took old new past (happening ∷ past)
 Took-missed old new past happening failed stays = record { came = happening ∷ []; grown = refl; log = takes-missed old.taken old new happening failed stays }
 
 -- a log that has failed before is handed nothing, and is as it was
@@ -40,18 +43,15 @@ same-stays : (o : Option (List Event)) → Stays o o
 same-stays None = tt
 same-stays (Some before) = refl
 
-pub Took-same : (log : LogState) (past : List Event) (happening : Event) → log.failed ≡ true → Took log log past (happening ∷ past)
-Took-same log past happening failed = Took-missed log log past happening failed (λ ranged. same-stays log.taken)
+pub Logs-same : (log : LogState) (past : List Event) (happening : Event) → log.failed ≡ true → Logs log log past (happening ∷ past)
+Logs-same log past happening failed short = Took-missed log log past happening failed (same-stays log.taken)
 
 -- a log that had not failed was handed the happening
-pub Took-handed : (old new : LogState) (past : List Event) (happening : Event) (result : Result (Unit {0}) LogFault) → old.failed ≡ false → new.failed ≡ is_err result → OnOk result (is_in_range happening ≡ true → Gains old.taken new.taken happening) → OnErr result (is_in_range happening ≡ true → Stays old.taken new.taken) → Took old new past (happening ∷ past)
-Took-handed old new past happening (Ok tt) works flag gains stays = Took-one old new past happening works gains
-Took-handed old new past happening (Err fault) works flag gains stays = Took-missed old new past happening flag stays
+pub Logs-handed : (old new : LogState) (past : List Event) (happening : Event) (result : Result (Unit {0}) LogFault) → old.failed ≡ false → (is_short happening ≡ true → is_in_range happening ≡ true) → new.failed ≡ is_err result → OnOk result (is_in_range happening ≡ true → Gains old.taken new.taken happening) → OnErr result (is_in_range happening ≡ true → Stays old.taken new.taken) → Logs old new past (happening ∷ past)
+Logs-handed old new past happening (Ok tt) works ranged flag gains stays short = Took-one old new past happening works (gains (ranged (and_parts (is_short happening) (are_short past) short).0))
+Logs-handed old new past happening (Err fault) works ranged flag gains stays short = Took-missed old new past happening flag (stays (ranged (and_parts (is_short happening) (are_short past) short).0))
 
 -- two parts: ys came behind xs
-ranges : (ys xs : List Event) → are_in_range (ys ++ xs) ≡ true → (are_in_range ys ≡ true) × (are_in_range xs ≡ true)
-ranges ys xs h = and_parts (are_in_range ys) (are_in_range xs) (sym (list_all-append is_in_range ys xs) ∙ h)
-
 takes-then : (old mid new : LogState) (before xs ys : List Event) (first : Takes old mid before xs) → Takes mid new (before ++ reverse first.took) ys → Takes old new before (ys ++ xs)
 takes-then old mid new before xs ys first second = by mid.failed refl
   where
@@ -80,14 +80,12 @@ takes-then old mid new before xs ys first second = by mid.failed refl
           stays = λ h. absurd (false≢true (sym works ∙ first.stays h));
         }
 
-log-then : (o m : Option (List Event)) (old mid new : LogState) (xs ys : List Event) → mid.taken ≡ m → IfSome o (λ before. are_in_range xs ≡ true → Takes old mid before xs) → IfSome m (λ before. are_in_range ys ≡ true → Takes mid new before ys) → IfSome o (λ before. are_in_range (ys ++ xs) ≡ true → Takes old new before (ys ++ xs))
+log-then : (o m : Option (List Event)) (old mid new : LogState) (xs ys : List Event) → mid.taken ≡ m → IfSome o (λ before. Takes old mid before xs) → IfSome m (λ before. Takes mid new before ys) → IfSome o (λ before. Takes old new before (ys ++ xs))
 log-then None m old mid new xs ys is first second = tt
-log-then (Some before) None old mid new xs ys is first second = λ ranged. absurd (none-some (before ++ reverse (first (ranges ys xs ranged).1).took) (sym is ∙ (first (ranges ys xs ranged).1).told))
-log-then (Some before) (Some more) old mid new xs ys is first second = λ ranged.
-    let both = ranges ys xs ranged in
-    let one = first both.1 in
-    let same : more ≡ before ++ reverse one.took = same_Some more (before ++ reverse one.took) (sym is ∙ one.told) in
-    takes-then old mid new before xs ys one (subst (λ l. Takes mid new l ys) same (second both.0))
+log-then (Some before) None old mid new xs ys is first second = absurd (none-some (before ++ reverse first.took) (sym is ∙ first.told))
+log-then (Some before) (Some more) old mid new xs ys is first second =
+    let same : more ≡ before ++ reverse first.took = same_Some more (before ++ reverse first.took) (sym is ∙ first.told) in
+    takes-then old mid new before xs ys first (subst (λ l. Takes mid new l ys) same second)
 
 pub Took-then : (old mid new : LogState) (past between now : List Event) → Took old mid past between → Took mid new between now → Took old new past now
 Took-then old mid new past between now first second = record {
@@ -95,3 +93,12 @@ Took-then old mid new past between now first second = record {
   grown = second.grown ∙ ap (λ l. second.came ++ l) first.grown ∙ sym (append_assoc second.came first.came past);
   log = log-then old.taken mid.taken old mid new first.came second.came refl first.log second.log;
 }
+
+-- what came before names no other seconds
+short_before : (came before now : List Event) → now ≡ came ++ before → are_short now ≡ true → are_short before ≡ true
+short_before came before now is short = (and_parts (are_short came) (are_short before) (sym (list_all-append is_short came before) ∙ ap are_short (sym is) ∙ short)).1
+
+pub Logs-then : (old mid new : LogState) (past between now : List Event) → Logs old mid past between → Logs mid new between now → Logs old new past now
+Logs-then old mid new past between now first second short =
+    let behind : Took mid new between now = second short in
+    Took-then old mid new past between now (first (short_before behind.came between now behind.grown short)) behind

@@ -6,7 +6,7 @@ use Rattle.init_trace.specs.declared.steps.Goal.{Goal}
 use Rattle.init_trace.specs.declared.steps.Step.{Step}
 use Rattle.init_trace.specs.Event.{Event}
 use Rattle.init_trace.specs.Due.{due, first}
-use Rattle.init_trace.specs.Range.{are_in_range}
+use Rattle.init_trace.specs.Range.{are_short, is_seconds}
 use Rattle.init_trace.specs.Run.{step_in}
 use Rattle.init_trace.specs.Sound.{is_sound, may_come}
 use Rattle.core_state.specs.State.{CoreState}
@@ -40,11 +40,19 @@ pub record Takes (old new : LogState) (before came : List Event) : Type 0 where
   pub nothing : old.failed ≡ true → took ≡ []
   pub stays : old.failed ≡ true → new.failed ≡ true
 
--- the trace has grown, and the log, where it told what it took, has taken of what came, if that can stand in a trace
+-- the trace has grown, and the log, where it told what it took, has taken of what came
 pub record Took (old new : LogState) (past now : List Event) : Type 0 where
   pub came : List Event
   pub grown : now ≡ came ++ past
-  pub log : IfSome old.taken (λ before. are_in_range came ≡ true → Takes old new before came)
+  pub log : IfSome old.taken (λ before. Takes old new before came)
+
+-- so it is where the seconds that the trace names are at most an hour: a log tells no others
+abbrev pub Logs : LogState → LogState → List Event → List Event → Type 0
+Logs old new past now = IsTrue (are_short now) → Took old new past now
+
+-- the seconds that the trace and its opening goal name are at most an hour
+abbrev pub has_short_seconds : Goal → List Event → Bool
+has_short_seconds goal past = is_seconds goal.grace && are_short past
 
 -- what fits the trace of a point fits the point
 abbrev pub On : (Goal → List Event → Type 0) → Goal → Point → Type 0
@@ -67,13 +75,14 @@ At core blocks goal p = On (Fits core) goal p × IsOver blocks p.over
 abbrev pub Counted : ℕ → Goal → Point → Type 0
 Counted lates goal p = p.lates ≡ lates
 
--- from a point on these calls were made: each in its place, and with them the trace is sound, fits, and went to the log
+-- from a point on these calls were made: each in its place, and with them the trace is sound, fits, and went to the log,
+-- where the seconds named before are at most an hour, as are those of each request
 pub record Went (fit : Goal → Point → Type 0) (old new : LogState) (goal : Goal) (p : Point) (calls : List HostCall)
     : Type 0 where
   pub in_place : IsTrue (has_trace goal calls p)
   pub sound : IsTrue (is_sound goal (point_after calls p).past)
   pub fits : fit goal (point_after calls p)
-  pub log : Took old new p.past (point_after calls p).past
+  pub log : IsTrue (has_short_seconds goal p.past) → Took old new p.past (point_after calls p).past
 
 -- so it went from each point whose trace is sound and fitted, where the answers to the calls were possible
 abbrev pub Leads : (Goal → Point → Type 0) → (Goal → Point → Type 0) → LogState → LogState → List HostCall
@@ -86,7 +95,7 @@ pub record Heard (fit : Goal → List Event → Type 0) (old new : LogState) (go
     : Type 0 where
   pub sound : IsTrue (is_sound goal now)
   pub fits : fit goal now
-  pub log : Took old new past now
+  pub log : Logs old new past now
 
 abbrev pub Hears : (Goal → List Event → Type 0) → (Goal → List Event → Type 0) → LogState → LogState
     → (List Event → List Event) → Type 0

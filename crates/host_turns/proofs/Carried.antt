@@ -23,10 +23,10 @@ use Rattle.run_log.specs.Logs.{LogState}
 use Rattle.child_host.specs.declared.calls.Call.TheVariants.{Announce}
 use Rattle.child_host.specs.Calls.{HostCall}
 use Rattle.host_trace.specs.Point.{Point, point_after, last_birth, acted, answered, announced, is_said}
-use Rattle.host_trace.specs.Leads.{At, Gave, Hears, Leads, On, Took, Went, is_allowed}
+use Rattle.host_trace.specs.Leads.{At, Gave, Hears, Leads, Logs, On, Went, is_allowed}
 use Rattle.host_trace.specs.Turns.{steps_in}
 use Rattle.host_trace.proofs.Leading.{Leads-heard, Leads-weaken}
-use Rattle.host_trace.proofs.Taking.{Took-none}
+use Rattle.host_trace.proofs.Taking.{Logs-none}
 use Rattle.host_trace.proofs.Acting.{Hears-answer, Hears-step}
 use Rattle.host_trace.proofs.Ending.{HasNumber, end_number}
 use Rattle.host_turns.specs.Parts.{AndRests, AreSteps, IsStepUnless, Left, Makes, Says, is_end, is_idle}
@@ -40,20 +40,20 @@ pub said_step : (happening : Event) → is_said happening ≡ true → steps_in 
 said_step past.NotRead said = absurd (false≢true said)
 said_step _ said = refl
 
-pub Leads-said : (c : CoreState) (l₀ l₁ : LogState) (made : Step) (happening : Event) → Says made happening → ((so_far : List Event) → Took l₀ l₁ so_far (happening ∷ so_far)) → Leads (On (Gave (Fits c) made)) (On (Fits c)) l₀ l₁ (Announce happening ∷ [])
-Leads-said c l₀ l₁ made happening says took = Leads-heard (Gave (Fits c) made) (Fits c) l₀ l₁ (Announce happening) (with_step made) (Hears-step c l₀ l₁ made (λ so_far. subst (Took l₀ l₁ so_far) (sym (says.step so_far)) (took so_far))) (λ p. announced_said happening p.past says.said ∙ sym (says.step p.past)) (λ goal p sound gave. says.place goal [] p.past)
+pub Leads-said : (c : CoreState) (l₀ l₁ : LogState) (made : Step) (happening : Event) → Says made happening → ((so_far : List Event) → Logs l₀ l₁ so_far (happening ∷ so_far)) → Leads (On (Gave (Fits c) made)) (On (Fits c)) l₀ l₁ (Announce happening ∷ [])
+Leads-said c l₀ l₁ made happening says took = Leads-heard (Gave (Fits c) made) (Fits c) l₀ l₁ (Announce happening) (with_step made) (Hears-step c l₀ l₁ made (λ so_far. subst (Logs l₀ l₁ so_far) (sym (says.step so_far)) (took so_far))) (λ p. announced_said happening p.past says.said ∙ sym (says.step p.past)) (λ goal p sound gave. says.place goal [] p.past)
 
 -- ---- answers
 
 -- the core takes the answer, and it is written
-pub Hears-taken : (c new : CoreState) (l₀ l₁ : LogState) (id : List ℕ) (given : Answer) (result : Result (Unit {0}) Refusal) → is_ok result ≡ true → result ≡ refusal_of (order_in id c.slots) given → OnOk result (new ≡ after_told id given c) → ((goal : Goal) (so_far : List Event) → is_sound goal so_far ≡ true → Fits c goal so_far → is_allowed goal (acted id given so_far) ≡ true → Took l₀ l₁ so_far (past.Told id ∷ acted id given so_far)) → Hears (Fits c) (Fits new) l₀ l₁ (answered id given)
+pub Hears-taken : (c new : CoreState) (l₀ l₁ : LogState) (id : List ℕ) (given : Answer) (result : Result (Unit {0}) Refusal) → is_ok result ≡ true → result ≡ refusal_of (order_in id c.slots) given → OnOk result (new ≡ after_told id given c) → ((goal : Goal) (so_far : List Event) → is_sound goal so_far ≡ true → Fits c goal so_far → is_allowed goal (acted id given so_far) ≡ true → Logs l₀ l₁ so_far (past.Told id ∷ acted id given so_far)) → Hears (Fits c) (Fits new) l₀ l₁ (answered id given)
 Hears-taken c new l₀ l₁ id given (Ok tt) ok is told took = Hears-answer c new l₀ l₁ id given (Ok tt) is told tt took tt
 Hears-taken c new l₀ l₁ id given (Err why) ok is told took = absurd (false≢true ok)
 
 -- it refuses the answer
 pub Hears-refused : (c new : CoreState) (log : LogState) (id : List ℕ) (given : Answer) (result : Result (Unit {0}) Refusal) → is_ok result ≡ false → result ≡ refusal_of (order_in id c.slots) given → OnErr result (new ≡ c) → Hears (Fits c) (Fits new) log log (answered id given)
 Hears-refused c new log id given (Ok tt) ok is same = absurd (false≢true (sym ok))
-Hears-refused c new log id given (Err why) ok is same = Hears-answer c new log log id given (Err why) is tt same tt (λ so_far. Took-none log so_far)
+Hears-refused c new log id given (Err why) ok is same = Hears-answer c new log log id given (Err why) is tt same tt (λ so_far. Logs-none log so_far)
 
 -- the number of the child that an end is of
 pub end_known : (goal : Goal) (so_far : List Event) (c : CoreState) (id : List ℕ) (given : Answer) → is_sound goal so_far ≡ true → Fits c goal so_far → is_allowed goal (acted id given so_far) ≡ true → is_end given ≡ true → option_and_then child_number (slot_of id c.slots) ≡ Some (last_birth id so_far)

@@ -7,11 +7,11 @@ ghost use Rattle.child_table.specs.Lists.{slot_of};
 ghost use Rattle.child_table.specs.State.{child_number};
 ghost use Rattle.core_state.specs.Fit.{Fits};
 ghost use Rattle.host_trace.specs.Point.{last_birth, acted, answered, replied};
-ghost use Rattle.host_trace.specs.Leads.{Took, Hears};
+ghost use Rattle.host_trace.specs.Leads.{Hears, Logs};
 ghost use Rattle.host_turns.specs.Parts.{is_end};
 
 use child_host::Reply;
-use init_trace::{Happening, HappeningIn};
+use init_trace::{Happening, HappeningIn, law_of_ranges};
 use init_words::{Answer, ChildNo, Id, Status};
 use level_core::Core;
 use run_log::Log;
@@ -20,16 +20,17 @@ use std::alloc::Allocator;
 /// Hands a happening to the log, unless the log has failed.
 pub(crate) fn write<A: Allocator, L: Log>(log: &mut L, happening: &HappeningIn<A>)
     ensures { (past : List Event)
-        → Took (L.state log.old) (L.state log.new) past (happening.now ∷ past) }
+        → Logs (L.state log.old) (L.state log.new) past (happening.now ∷ past) }
 {
     if !log.failed() {
+        law_of_ranges(happening);
         let _ = log.take(happening);
     }
 }
 
 /// Writes a happening that is no table.
 pub(crate) fn note<L: Log>(log: &mut L, happening: Happening)
-    ensures { (past : List Event) → Took (L.state log.old) (L.state log.new) past (happening ∷ past) }
+    ensures { (past : List Event) → Logs (L.state log.old) (L.state log.new) past (happening ∷ past) }
 {
     write(log, &happening);
 }
@@ -37,7 +38,7 @@ pub(crate) fn note<L: Log>(log: &mut L, happening: Happening)
 /// Writes that a child ended: it died, and was reaped.
 fn write_end<L: Log>(log: &mut L, id: Id, number: Option<ChildNo>, status: Status)
     ensures { (past : List Event) → number ≡ Some (last_birth id past)
-        → Took (L.state log.old) (L.state log.new) past (acted id (Ended status) past) }
+        → Logs (L.state log.old) (L.state log.new) past (acted id (Ended status) past) }
 {
     let Some(number) = number else {
         return;
@@ -50,7 +51,7 @@ fn write_end<L: Log>(log: &mut L, id: Id, number: Option<ChildNo>, status: Statu
 fn write_act<L: Log>(log: &mut L, id: Id, answer: Answer, number: Option<ChildNo>)
     ensures { (past : List Event)
         → (is_end answer ≡ true → number ≡ Some (last_birth id past))
-        → Took (L.state log.old) (L.state log.new) past (acted id answer past) }
+        → Logs (L.state log.old) (L.state log.new) past (acted id answer past) }
 {
     match answer {
         Answer::Born(born) => note(log, Happening::Birth(id, born)),
@@ -67,7 +68,7 @@ fn write_act<L: Log>(log: &mut L, id: Id, answer: Answer, number: Option<ChildNo
 fn write_answer<L: Log>(log: &mut L, id: Id, answer: Answer, number: Option<ChildNo>)
     ensures { (past : List Event)
         → (is_end answer ≡ true → number ≡ Some (last_birth id past))
-        → Took (L.state log.old) (L.state log.new) past (Told id ∷ acted id answer past) }
+        → Logs (L.state log.old) (L.state log.new) past (Told id ∷ acted id answer past) }
 {
     write_act(log, id, answer, number);
     note(log, Happening::Told(id));

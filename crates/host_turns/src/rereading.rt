@@ -8,7 +8,7 @@ ghost use Rattle.child_table.specs.Lists.{is_quiet};
 ghost use Rattle.child_host.specs.declared.calls.Call.TheVariants.{ReadTable};
 ghost use Rattle.child_host.specs.Calls.{Adds, TextRead};
 ghost use Rattle.core_state.specs.Fit.{Fits, OnEachTrace};
-ghost use Rattle.host_trace.specs.Leads.{Gave, On, Took};
+ghost use Rattle.host_trace.specs.Leads.{Gave, Logs, On};
 ghost use Rattle.host_turns.specs.Parts.{AreSteps, Makes};
 
 use crate::answering::write;
@@ -30,7 +30,7 @@ fn use_text<A: Allocator + Copy, L: Log>(
     ensures quiet { result ≡ true → is_quiet core.old.slots ≡ true }
     ensures fits { result ≡ true → OnEachTrace core.old (λ goal past.
         Fits core.new goal (NewTable (table_of_text text.now) ∷ past)) }
-    ensures took { result ≡ true → (past : List Event) → Took (L.state log.old) (L.state log.new) past
+    ensures took { result ≡ true → (past : List Event) → Logs (L.state log.old) (L.state log.new) past
         (NewTable (table_of_text text.now) ∷ past) }
     ensures core { result ≡ false → core.new ≡ core.old }
     ensures log { result ≡ false → L.state log.new ≡ L.state log.old }

@@ -63,6 +63,15 @@ is_in_range _ = true
 abbrev pub are_in_range : List Event → Bool
 are_in_range trace = list_all is_in_range trace
 
+-- the seconds that it names are at most an hour
+abbrev pub is_short : Event → Bool
+is_short (Enter stage seconds) = is_seconds seconds
+is_short (Got request) = is_request request
+is_short _ = true
+
+abbrev pub are_short : List Event → Bool
+are_short trace = list_all is_short trace
+
 -- a happening and the text behind it
 abbrev pub Begun : Type 0
 Begun = Event × List ℕ

@@ -5,6 +5,7 @@
 mod copies;
 mod happenings;
 mod printing;
+mod ranges;
 mod reading;
 mod steps;
 mod words;
@@ -12,5 +13,6 @@ mod words;
 pub use copies::happening_copy;
 pub use happenings::{Handed, Happening, HappeningIn};
 pub use printing::{print, print_one, print_table};
+pub use ranges::law_of_ranges;
 pub use reading::{ReadFault, first_happening, line_count, read};
 pub use steps::{Goal, Step};

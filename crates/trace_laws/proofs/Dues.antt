@@ -94,15 +94,15 @@ abbrev pub Each : (Step → Type 0) → List Step → Type 0
 Each P [] = Unit {0}
 Each P (step ∷ steps) = P step × Each P steps
 
-each_append : (P : Step → Type 0) (xs ys : List Step) → Each P xs → Each P ys → Each P (xs ++ ys)
+pub each_append : (P : Step → Type 0) (xs ys : List Step) → Each P xs → Each P ys → Each P (xs ++ ys)
 each_append P [] ys f g = g
 each_append P (x ∷ xs) ys f g = (f.0, each_append P xs ys f.1 g)
 
-each_step_if : (P : Step → Type 0) (b : Bool) (step : Step) → (b ≡ true → P step) → Each P (step_if b step)
+pub each_step_if : (P : Step → Type 0) (b : Bool) (step : Step) → (b ≡ true → P step) → Each P (step_if b step)
 each_step_if P true step f = (f refl, tt)
 each_step_if P false step f = tt
 
-each_steps_if : (P : Step → Type 0) (b : Bool) (steps : List Step) → (b ≡ true → Each P steps) → Each P (steps_if b steps)
+pub each_steps_if : (P : Step → Type 0) (b : Bool) (steps : List Step) → (b ≡ true → Each P steps) → Each P (steps_if b steps)
 each_steps_if P true steps f = f refl
 each_steps_if P false steps f = tt
 

@@ -2,7 +2,6 @@
 use Rattle.std.proofs.Common.{◌≡◌, ◌≤◌, ◌+◌, refl, sym, ◌∙◌, ap, subst, ℕ, Bool, true, false, not, ◌&&◌, ◌||◌, cond, nat_le, List, [], ◌∷◌, ◌++◌, filter, map, length, Option, Some, None, arith, le_trans, le_refl, lit≤, length-append, suc}
 use Rattle.std.specs.List.{list_any, list_all}
 use Rattle.std.proofs.lemmas.Bool.{false≢true, and_parts, and_from, or_left, or_parts, le-leb, leb-true}
-use Rattle.std.proofs.lemmas.List.{nil_from_length}
 use Rattle.std.proofs.lemmas.List.Elements.{filter-append}
 use Rattle.init_words.specs.declared.orders.Ask.{Ask}
 use Rattle.init_words.specs.declared.orders.Ask.TheVariants.{Start, Look, Term, Kill}
@@ -18,7 +17,7 @@ use Rattle.init_trace.specs.Due.{is_due}
 use Rattle.init_trace.specs.Sound.{may_come, is_sound}
 use Rattle.init_trace.specs.Bounds.{kills_once}
 use Rattle.init_words.proofs.Same.{same_id-is, same_id-self, same_id-sym}
-use Rattle.init_words.proofs.Tests.{both_ways, or_either, any_less, all_less, all_fail, any_none}
+use Rattle.init_words.proofs.Tests.{both_ways, or_either, any_less, all_less, all_fail}
 use Rattle.trace_laws.proofs.Tests.{is_order-is}
 use Rattle.trace_laws.proofs.Orders.{undone_is_open}
 use Rattle.trace_laws.proofs.Lone.{only_one}

@@ -20,3 +20,4 @@ pub mod Spells
 pub mod Runs
 pub mod Stopping
 pub mod Lone
+pub mod Seconds

@@ -1,10 +1,9 @@
 -- The stopping of a child: it is excluded while its signal is open, and its Hits are of a TERM and then of a KILL.
 -- With it: what is so of a child whose birth is not told, what a Told leaves, and that no id has two records.
-use Rattle.std.proofs.Common.{◌≡◌, ◌≤◌, refl, sym, ◌∙◌, ap, inl, inr, ℕ, Bool, true, false, not, ◌&&◌, ◌||◌, cond, List, [], ◌∷◌, ◌++◌, map, filter, find, length, Option, Some, None, is_some, arith}
+use Rattle.std.proofs.Common.{◌≡◌, ◌≤◌, refl, sym, ◌∙◌, ap, inl, inr, ℕ, Bool, true, false, not, ◌&&◌, ◌||◌, cond, List, [], ◌∷◌, ◌++◌, map, filter, find, length, Option, Some, None, is_some}
 use Rattle.std.specs.List.{list_any}
 use Rattle.std.specs.Option.{option_map, option_map_or}
 use Rattle.std.proofs.lemmas.Bool.{false≢true, and_parts, and_from, and_right, or_left, or_right, or_from, not_from_true, not-true}
-use Rattle.std.proofs.lemmas.List.{nil_from_length}
 use Rattle.std.proofs.lemmas.List.Folds.{list_any-append}
 use Rattle.std.proofs.lemmas.Option.{none-some, same_Some}
 use Rattle.init_words.specs.declared.entries.Entry.{Entry}
@@ -27,7 +26,7 @@ use Rattle.init_trace.specs.Lawful.{is_placed}
 use Rattle.init_trace.specs.Due.{is_due, left_ids, record_ids, wants_look}
 use Rattle.init_trace.specs.Sound.{may_come, is_sound}
 use Rattle.init_words.proofs.Same.{same_id-is, same_id-self}
-use Rattle.init_words.proofs.Tests.{both_ways, falsely, or_either, not_from, any_less, any_filtered, any_without, any_none, found_any}
+use Rattle.init_words.proofs.Tests.{both_ways, falsely, or_either, not_from, any_less, any_filtered, any_without, found_any}
 use Rattle.trace_laws.proofs.Tests.{is_order-is}
 use Rattle.trace_laws.proofs.Orders.{cleared, undone_is_open, quiet_looks, told_other, known_kept, same_has}
 use Rattle.trace_laws.proofs.Lone.{only_one}

@@ -4,7 +4,7 @@ use Rattle.init_trace.specs.declared.happenings.Happening.TheVariants.{Asked}
 use Rattle.init_trace.specs.Event.{Event}
 use Rattle.core_state.specs.Fit.{Fits}
 use Rattle.child_host.specs.declared.calls.Call.TheVariants.{Signal}
-use Rattle.host_trace.specs.Leads.{Gave, On, Took}
+use Rattle.host_trace.specs.Leads.{Gave, Logs, On}
 use Rattle.host_trace.specs.Point.{order_for, ordered}
 use Rattle.host_trace.proofs.Calling.{Hears-order}
 use Rattle.host_trace.proofs.Leading.{Leads-heard}
@@ -23,5 +23,5 @@ returns g c =
     c.signal-reply.ensures.adds (refl, refl)
     (Leads-heard (Gave (Fits core) (step.Order id (order_for c.args.sent))) (Fits c.hear_reply.new.core) old new (Signal id c.args.sent reply) (ordered id (order_for c.args.sent) reply)
     (Hears-order core c.hear_reply.new.core old (g.L.Log.state c.note.new.log) new id (order_for c.args.sent) reply
-    (subst (λ order. (so_far : List Event) → Took old (g.L.Log.state c.note.new.log) so_far (Asked id order ∷ so_far)) c.order_for.ensures c.note.ensures) c.hear_reply.ensures)
+    (subst (λ order. (so_far : List Event) → Logs old (g.L.Log.state c.note.new.log) so_far (Asked id order ∷ so_far)) c.order_for.ensures c.note.ensures) c.hear_reply.ensures)
     (λ p. refl) (λ goal p sound gave. refl))

@@ -4,7 +4,7 @@ use Rattle.init_trace.specs.declared.steps.Step.TheVariants as step
 use Rattle.core_state.specs.Fit.{Fits}
 use Rattle.child_host.specs.declared.calls.Call.TheVariants.{Announce, ReadTable}
 use Rattle.core_state.specs.Fit.{OnEachTrace}
-use Rattle.host_trace.specs.Leads.{Gave, On, Took}
+use Rattle.host_trace.specs.Leads.{Gave, Logs, On}
 use Rattle.host_trace.proofs.Calling.{Leads-not_read}
 use Rattle.host_turns.specs.Parts.{AreSteps}
 use Rattle.host_turns.proofs.Parts.{Makes-two}
@@ -22,4 +22,4 @@ returns g c =
     read.1 c.announce.ensures.adds (refl, refl)
     (Leads-not_read core new log now_log read.0
     (subst (λ s. OnEachTrace s (λ goal so_far. Fits new goal (past.NotRead ∷ so_far))) (c.use_table.ensures.core failed) c.not_read.ensures.fits)
-    (subst (λ l. (so_far : _) → Took l now_log so_far (past.NotRead ∷ so_far)) (c.use_table.ensures.log failed) c.write.ensures))
+    (subst (λ l. (so_far : _) → Logs l now_log so_far (past.NotRead ∷ so_far)) (c.use_table.ensures.log failed) c.write.ensures))

@@ -1,0 +1,189 @@
+-- The seconds that a record of calls names: those of requests are at most an hour, and so, where its trace is sound and
+-- the seconds named before are, are all.
+use Rattle.std.proofs.Common.{◌≡◌, refl, ℕ, ℤ, pos, negsuc, ◌+◌, ◌==◌, min, Bool, true, false, ◌||◌, cond, List, [], ◌∷◌, ◌++◌, length, Option, Some, None, Ok, Err, nat_lt, arith, int_eq}
+use Rattle.std.specs.List.{list_all}
+use Rattle.std.proofs.lemmas.Bool.{false≢true, and_parts, and_from, lt-ltb}
+use Rattle.init_words.specs.declared.levels.Letter.{Letter}
+use Rattle.init_words.specs.declared.levels.Level.{Level}
+use Rattle.init_words.specs.declared.limits.TheConstants.{GRACE_LIMIT}
+use Rattle.init_words.specs.declared.orders.Answer.{Answer}
+use Rattle.init_words.specs.declared.orders.Answer.TheVariants as answer
+use Rattle.init_words.specs.declared.orders.Ask.{Ask}
+use Rattle.init_words.specs.declared.orders.Ask.TheVariants as ask
+use Rattle.init_words.specs.declared.orders.PowerKind.TheVariants as power
+use Rattle.init_words.specs.Levels.{level_read, letter_read}
+use Rattle.initctl_frame.specs.declared.requests.Cause.TheVariants.{Magic, Unknown, LeftOut, Character}
+use Rattle.initctl_frame.specs.declared.requests.Got.{Got}
+use Rattle.initctl_frame.specs.declared.requests.Got.TheVariants as got
+use Rattle.initctl_frame.specs.Frames.{got_of, got_of_command, got_of_ints, got_of_runlevel, int_at, is_left_out, seconds_of}
+use Rattle.initctl_frame.specs.Signs.{got_of_letter, got_of_level}
+use Rattle.inittab_text.specs.declared.reading.TheConstants.{TEXT_LIMIT}
+use Rattle.inittab_text.specs.Reading.{table_of_text}
+use Rattle.init_trace.specs.declared.happenings.Happening.TheVariants as past
+use Rattle.init_trace.specs.declared.steps.Goal.{Goal}
+use Rattle.init_trace.specs.Event.{Event}
+use Rattle.init_trace.specs.Range.{are_short, is_request, is_seconds, is_short}
+use Rattle.init_trace.specs.Sound.{is_sound}
+use Rattle.trace_laws.proofs.Seconds.{is_short_request, sound_short}
+use Rattle.child_host.specs.declared.calls.Call.TheVariants.{Start, Look, Signal, Late, Clock, TakeBytes, ReadTable, Carry, Announce, Pause}
+use Rattle.child_host.specs.declared.calls.Reply.{Reply}
+use Rattle.child_host.specs.declared.calls.Reply.TheVariants.{Now, Later}
+use Rattle.child_host.specs.Calls.{HostCall, TextRead}
+use Rattle.run_log.specs.Logs.{LogState}
+use Rattle.host_trace.specs.Leads.{Logs, Took, has_short_seconds}
+use Rattle.host_trace.specs.Point.{Point, after, acted, announced, answered, before_reading, byte_after, bytes_after, come, is_asked_for, is_last, is_said, nudged_if, order_for, ordered, point_after, reading}
+
+-- ---- a request
+
+level_request : (level : Option Level) (letter : Option Letter) (code seconds : ℕ) → is_seconds seconds ≡ true → is_request (got_of_level level code seconds) ≡ true
+level_request (Some level) letter code seconds short = short
+level_request None letter code seconds short = of_letter (letter_read code)
+  where
+    last : (reload reexec : Bool) → is_request (cond reload got.Reload (cond reexec got.Reexec (got.Nothing Character))) ≡ true
+    last true reexec = refl
+    last false true = refl
+    last false false = refl
+
+    of_letter : (o : Option Letter) → is_request (got_of_letter o code) ≡ true
+    of_letter (Some called) = refl
+    of_letter None = last (code == 81 || code == 113) (code == 85 || code == 117)
+
+seconds_short : (sleeptime : ℤ) → is_seconds (seconds_of sleeptime) ≡ true
+seconds_short (pos seconds) = lt-ltb (min seconds GRACE_LIMIT) (GRACE_LIMIT + 1) (omega arith)
+seconds_short (negsuc below) = refl
+
+runlevel_request : (runlevel : ℤ) (seconds : ℕ) → is_seconds seconds ≡ true → is_request (got_of_runlevel runlevel seconds) ≡ true
+runlevel_request (pos code) seconds short = level_request (level_read code) (letter_read code) code seconds short
+runlevel_request (negsuc below) seconds short = refl
+
+command_request : (runlevel fail fail_now ok left : Bool) (asked : Got) → is_request asked ≡ true → is_request (cond runlevel asked (cond fail (got.Power power.Fail) (cond fail_now (got.Power power.FailNow) (cond ok (got.Power power.Ok) (cond left (got.Nothing LeftOut) (got.Nothing Unknown)))))) ≡ true
+command_request true fail fail_now ok left asked short = short
+command_request false true fail_now ok left asked short = refl
+command_request false false true ok left asked short = refl
+command_request false false false true left asked short = refl
+command_request false false false false true asked short = refl
+command_request false false false false false asked short = refl
+
+ints_request : (magic command runlevel sleeptime : ℤ) → is_request (got_of_ints magic command runlevel sleeptime) ≡ true
+ints_request magic command runlevel sleeptime = by (int_eq magic (pos 0x03091969))
+  where
+    by : (b : Bool) → is_request (cond b (got_of_command command runlevel sleeptime) (got.Nothing Magic)) ≡ true
+    by true = command_request (int_eq command (pos 1)) (int_eq command (pos 2)) (int_eq command (pos 3)) (int_eq command (pos 4)) (is_left_out command)
+        (got_of_runlevel runlevel (seconds_of sleeptime)) (runlevel_request runlevel (seconds_of sleeptime) (seconds_short sleeptime))
+    by false = refl
+
+request_short : (block : List ℕ) → is_request (got_of block) ≡ true
+request_short block = ints_request (int_at 0 block) (int_at 4 block) (int_at 8 block) (int_at 12 block)
+
+-- ---- what a call comes to
+
+abbrev Requests : List Event → Type 0
+Requests so_far = list_all is_short_request so_far ≡ true
+
+acted_requests : (id : List ℕ) (given : Answer) (so_far : List Event) → Requests so_far → Requests (acted id given so_far)
+acted_requests id (answer.Born n) so_far all = all
+acted_requests id answer.NotBorn so_far all = all
+acted_requests id (answer.Ended status) so_far all = all
+acted_requests id answer.Alive so_far all = all
+acted_requests id answer.NoLook so_far all = all
+acted_requests id answer.Hit so_far all = all
+acted_requests id answer.Miss so_far all = all
+
+answered_requests : (id : List ℕ) (given : Answer) (so_far : List Event) → Requests so_far → Requests (answered id given so_far)
+answered_requests id given so_far all = by (is_asked_for id given so_far)
+  where
+    by : (b : Bool) → Requests (cond b (past.Told id ∷ acted id given so_far) so_far)
+    by true = acted_requests id given so_far all
+    by false = all
+
+ordered_requests : (id : List ℕ) (order : Ask) (reply : Reply) (so_far : List Event) → Requests so_far → Requests (ordered id order reply so_far)
+ordered_requests id order (Now given) so_far all = answered_requests id given (past.Asked id order ∷ so_far) all
+ordered_requests id order Later so_far all = all
+
+nudged_requests : (b : Bool) (so_far : List Event) → Requests so_far → Requests (nudged_if b so_far)
+nudged_requests true so_far all = all
+nudged_requests false so_far all = all
+
+come_requests : (late : Option (List ℕ × Answer)) (so_far : List Event) → Requests so_far → Requests (come late so_far)
+come_requests (Some late) so_far all = answered_requests late.0 late.1 so_far all
+come_requests None so_far all = all
+
+byte_requests : (byte : ℕ) (p : Point) → Requests p.past → Requests (byte_after byte p).past
+byte_requests byte p all = by (length (p.over ++ byte ∷ []) == 384)
+  where
+    by : (b : Bool) → Requests (cond b (record p { over = []; past = past.Got (got_of (p.over ++ byte ∷ [])) ∷ p.past }) (record p { over = p.over ++ byte ∷ [] })).past
+    by true = and_from (is_request (got_of (p.over ++ byte ∷ []))) (list_all is_short_request p.past) (request_short (p.over ++ byte ∷ [])) all
+    by false = all
+
+bytes_requests : (bytes : List ℕ) (p : Point) → Requests p.past → Requests (bytes_after bytes p).past
+bytes_requests [] p all = all
+bytes_requests (byte ∷ bytes) p all = bytes_requests bytes (byte_after byte p) (byte_requests byte p all)
+
+reading_requests : (text : TextRead) (so_far : List Event) → Requests so_far → Requests (reading text ∷ so_far)
+reading_requests text so_far all = and_from (is_short_request (reading text)) (list_all is_short_request so_far) (by text) all
+  where
+    of_length : (b : Bool) (used : Event) → is_short_request used ≡ true → is_short_request (cond b past.NotRead used) ≡ true
+    of_length true used short = refl
+    of_length false used short = short
+
+    by : (t : TextRead) → is_short_request (reading t) ≡ true
+    by (Ok bytes) = of_length (nat_lt TEXT_LIMIT (length bytes)) (past.NewTable (table_of_text bytes)) refl
+    by (Err fault) = refl
+
+before_requests : (so_far : List Event) → Requests so_far → Requests (before_reading so_far)
+before_requests (past.NewTable table ∷ so_far) all = all
+before_requests (past.NotRead ∷ so_far) all = all
+before_requests [] all = all
+before_requests (_ ∷ so_far) all = all
+
+said_request : (happening : Event) → is_said happening ≡ true → is_short_request happening ≡ true
+said_request (past.Got request) said = absurd (false≢true said)
+said_request _ said = refl
+
+announced_requests : (happening : Event) (so_far : List Event) → Requests so_far → Requests (announced happening so_far)
+announced_requests past.NotRead so_far all = before_requests so_far all
+announced_requests happening so_far all = by (is_said happening) refl
+  where
+    by : (b : Bool) → is_said happening ≡ b → Requests (cond b (happening ∷ so_far) so_far)
+    by true said = and_from (is_short_request happening) (list_all is_short_request so_far) (said_request happening said) all
+    by false said = all
+
+after_requests : (call : HostCall) (p : Point) → Requests p.past → Requests (after call p).past
+after_requests (Start id command reply) p all = ordered_requests id ask.Start reply p.past all
+after_requests (Look id reply) p all = ordered_requests id ask.Look reply p.past all
+after_requests (Signal id sent reply) p all = ordered_requests id (order_for sent) reply p.past all
+after_requests (Late late) p all = nudged_requests (is_last late p.lates) (come late p.past) (come_requests late p.past all)
+after_requests (Clock (Ok reading)) p all = all
+after_requests (Clock (Err fault)) p all = all
+after_requests (TakeBytes room (Ok bytes)) p all = bytes_requests bytes p all
+after_requests (TakeBytes room (Err fault)) p all = all
+after_requests (ReadTable text) p all = reading_requests text p.past all
+after_requests (Carry text back) p all = all
+after_requests (Announce happening) p all = announced_requests happening p.past all
+after_requests Pause p all = all
+
+calls_requests : (calls : List HostCall) (p : Point) → Requests p.past → Requests (point_after calls p).past
+calls_requests [] p all = all
+calls_requests (call ∷ calls) p all = after_requests call (point_after calls p) (calls_requests calls p all)
+
+requests_of : (trace : List Event) → are_short trace ≡ true → Requests trace
+requests_of [] short = refl
+requests_of (past.Got request ∷ so_far) short =
+    let parts = and_parts (is_request request) (are_short so_far) short in
+    and_from (is_request request) (list_all is_short_request so_far) parts.0 (requests_of so_far parts.1)
+requests_of (happening ∷ so_far) short = requests_of so_far (and_parts (is_short happening) (are_short so_far) short).1
+
+-- ---- the trace of a record
+
+short_after : (goal : Goal) (calls : List HostCall) (p : Point) → is_sound goal (point_after calls p).past ≡ true → has_short_seconds goal p.past ≡ true → are_short (point_after calls p).past ≡ true
+short_after goal calls p sound short =
+    let parts = and_parts (is_seconds goal.grace) (are_short p.past) short in
+    sound_short goal (point_after calls p).past parts.0 sound (calls_requests calls p (requests_of p.past parts.1))
+
+-- what is logged of a sound trace with short seconds is logged
+pub logged : (goal : Goal) (calls : List HostCall) (p : Point) (old new : LogState) → is_sound goal (point_after calls p).past ≡ true → Logs old new p.past (point_after calls p).past → has_short_seconds goal p.past ≡ true → Took old new p.past (point_after calls p).past
+logged goal calls p old new sound logs short = logs (short_after goal calls p sound short)
+
+-- so the next calls are made where it is so too
+pub short_then : (goal : Goal) (calls : List HostCall) (p : Point) → is_sound goal (point_after calls p).past ≡ true → has_short_seconds goal p.past ≡ true → has_short_seconds goal (point_after calls p).past ≡ true
+short_then goal calls p sound short = and_from (is_seconds goal.grace) (are_short (point_after calls p).past) (and_parts (is_seconds goal.grace) (are_short p.past) short).0 (short_after goal calls p sound short)

@@ -1,0 +1,180 @@
+-- The seconds between the two signals: a sound trace names those of its opening goal and of its requests alone.
+use Rattle.std.proofs.Common.{◌≡◌, refl, ◌∙◌, ap, ℕ, Bool, true, false, not, ◌&&◌, ◌==◌, cond, List, [], ◌∷◌, ◌++◌, Option, Some, None, is_none}
+use Rattle.std.specs.List.{list_any, list_all}
+use Rattle.std.proofs.lemmas.Bool.{false≢true, and_parts, and_from, eqb-true}
+use Rattle.init_words.specs.declared.entries.Entry.{Entry}
+use Rattle.init_words.specs.declared.levels.Letter.{Letter}
+use Rattle.init_words.specs.declared.stages.Stage.{Stage}
+use Rattle.init_words.specs.declared.stages.Stage.TheVariants as stage
+use Rattle.init_words.specs.declared.orders.Ask.{Ask}
+use Rattle.init_words.specs.declared.orders.Ask.TheVariants.{Start, Look}
+use Rattle.init_words.specs.declared.orders.PowerKind.{PowerKind}
+use Rattle.init_words.specs.Actions.{is_limited}
+use Rattle.init_words.specs.Levels.{same_level}
+use Rattle.init_words.specs.Orders.{same_stage}
+use Rattle.init_words.proofs.Tests.{or_either}
+use Rattle.initctl_frame.specs.declared.requests.Got.TheVariants as got
+use Rattle.init_trace.specs.declared.happenings.Happening.TheVariants as past
+use Rattle.init_trace.specs.declared.steps.Step.{Step}
+use Rattle.init_trace.specs.declared.steps.Step.TheVariants.{Enter, Call, Power, Reread, Order, Hold, Settle, Reexec}
+use Rattle.init_trace.specs.declared.steps.Goal.{Goal}
+use Rattle.init_trace.specs.Event.{Event}
+use Rattle.init_trace.specs.Past.{table_of, stage_of, Child, is_of, open_of, is_quiet, is_idle, known_children}
+use Rattle.init_trace.specs.Range.{is_seconds, is_request, are_short}
+use Rattle.init_trace.specs.Spells.{stop_due}
+use Rattle.init_trace.specs.Sound.{is_sound, may_come}
+use Rattle.init_trace.specs.Timing.{is_held, is_full}
+use Rattle.init_trace.specs.Wanted.{is_owed}
+use Rattle.init_trace.specs.Wishes.{goal_of, heard_level, other_than, level_wish, wants_reexec, wants_reread, keeps_power, keeps_letter, powers, letters, wish_stands, in_run}
+use Rattle.init_trace.specs.Due.{step_if, steps_if, none_excluded, due_first, due_reexec, enter_level, power_steps, letter_steps, record_ids, stop_step, stops_of, stops_among, can_start, start_steps, starts_among, is_over, next_stage, is_announced, is_settled, settle_step, can_look, looks_among, due, same_step}
+use Rattle.trace_laws.proofs.Dues.{Each, each_append, each_step_if, each_steps_if}
+
+-- the requests of a trace name an hour at most
+abbrev pub is_short_request : Event → Bool
+is_short_request (past.Got request) = is_request request
+is_short_request _ = true
+
+-- a step names an hour at most
+abbrev Short : Step → Type 0
+Short (Enter stage grace) = is_seconds grace ≡ true
+Short _ = Unit {0}
+
+abbrev ShortGoal : Option Goal → Type 0
+ShortGoal None = Unit {0}
+ShortGoal (Some goal) = is_seconds goal.grace ≡ true
+
+-- ---- the goal and the wish for a level are of the opening or of a request
+
+goal_short : (goal : Goal) (so_far : List Event) → is_seconds goal.grace ≡ true → list_all is_short_request so_far ≡ true → is_seconds (goal_of goal so_far).grace ≡ true
+goal_short goal [] opening all = opening
+goal_short goal (past.Got (got.Level level seconds) ∷ so_far) opening all = (and_parts (is_seconds seconds) (list_all is_short_request so_far) all).0
+goal_short goal (past.Got (got.Call letter) ∷ so_far) opening all = goal_short goal so_far opening all
+goal_short goal (past.Got got.Reload ∷ so_far) opening all = goal_short goal so_far opening all
+goal_short goal (past.Got got.Reexec ∷ so_far) opening all = goal_short goal so_far opening all
+goal_short goal (past.Got (got.Power kind) ∷ so_far) opening all = goal_short goal so_far opening all
+goal_short goal (past.Got (got.Nothing cause) ∷ so_far) opening all = goal_short goal so_far opening all
+goal_short goal (_ ∷ so_far) opening all = goal_short goal so_far opening all
+
+heard_short : (so_far : List Event) → list_all is_short_request so_far ≡ true → ShortGoal (heard_level so_far)
+heard_short [] all = tt
+heard_short (past.Enter stage grace ∷ so_far) all = tt
+heard_short (past.Got (got.Level level seconds) ∷ so_far) all = (and_parts (is_seconds seconds) (list_all is_short_request so_far) all).0
+heard_short (past.Got (got.Call letter) ∷ so_far) all = heard_short so_far all
+heard_short (past.Got got.Reload ∷ so_far) all = heard_short so_far all
+heard_short (past.Got got.Reexec ∷ so_far) all = heard_short so_far all
+heard_short (past.Got (got.Power kind) ∷ so_far) all = heard_short so_far all
+heard_short (past.Got (got.Nothing cause) ∷ so_far) all = heard_short so_far all
+heard_short (_ ∷ so_far) all = heard_short so_far all
+
+other_short : (o : Option Stage) (heard : Option Goal) → ShortGoal heard → ShortGoal (other_than o heard)
+other_short None heard short = tt
+other_short (Some stage.Sysinit) heard short = tt
+other_short (Some stage.Boot) heard short = tt
+other_short (Some (stage.Run level)) None short = tt
+other_short (Some (stage.Run level)) (Some heard) short = by (same_level heard.level level)
+  where
+    by : (b : Bool) → ShortGoal (cond b None (Some heard))
+    by true = tt
+    by false = short
+
+-- ---- the steps that are due
+
+firsts : (goal : Goal) (so_far : List Event) (o : Option Stage) → is_seconds (goal_of goal so_far).grace ≡ true → Each Short (due_first goal o so_far)
+firsts goal so_far None short = (short, tt)
+firsts goal so_far (Some stage) short = tt
+
+levels : (so_far : List Event) (o : Option Goal) → ShortGoal o → Each Short (enter_level o so_far)
+levels so_far None short = tt
+levels so_far (Some wish) short = (short, tt)
+
+news : (so_far : List Event) (kinds : List PowerKind) → Each Short (power_steps kinds so_far)
+news so_far [] = tt
+news so_far (kind ∷ kinds) = each_append Short (step_if (keeps_power kind so_far) (Power kind)) (power_steps kinds so_far) (each_step_if Short (keeps_power kind so_far) (Power kind) (λ _. tt)) (news so_far kinds)
+
+calls : (so_far : List Event) (called : List Letter) → Each Short (letter_steps called so_far)
+calls so_far [] = tt
+calls so_far (letter ∷ rest) = each_append Short (step_if (keeps_letter letter so_far) (Call letter)) (letter_steps rest so_far) (each_step_if Short (keeps_letter letter so_far) (Call letter) (λ _. tt)) (calls so_far rest)
+
+stops : (id : List ℕ) (so_far : List Event) (children : List Child) → Each Short (stops_of id children so_far)
+stops id so_far [] = tt
+stops id so_far (child ∷ children) = each_append Short (steps_if (is_of id child) (stop_step id (stop_due child so_far))) (stops_of id children so_far) (each_steps_if Short (is_of id child) (stop_step id (stop_due child so_far)) (λ _. by (stop_due child so_far))) (stops id so_far children)
+  where
+    by : (o : Option Ask) → Each Short (stop_step id o)
+    by None = tt
+    by (Some ask) = (tt, tt)
+
+stops_all : (ids : List (List ℕ)) (so_far : List Event) → Each Short (stops_among ids so_far)
+stops_all [] so_far = tt
+stops_all (id ∷ ids) so_far = each_append Short (steps_if (is_none (open_of id so_far)) (stops_of id (known_children so_far) so_far)) (stops_among ids so_far) (each_steps_if Short (is_none (open_of id so_far)) (stops_of id (known_children so_far) so_far) (λ _. stops id so_far (known_children so_far))) (stops_all ids so_far)
+
+starts : (so_far : List Event) (es : List Entry) → Each Short (starts_among es so_far)
+starts so_far [] = tt
+starts so_far (e ∷ es) = each_append Short (steps_if (can_start e so_far) (start_steps e so_far)) (cond (is_owed e so_far) [] (starts_among es so_far)) (each_steps_if Short (can_start e so_far) (start_steps e so_far) (λ _. by_act (is_limited e.act))) (later (is_owed e so_far) (starts so_far es))
+  where
+    window : (full : Bool) → Each Short (cond full (Hold e.id) (Order e.id Start) ∷ [])
+    window true = (tt, tt)
+    window false = (tt, tt)
+
+    by_act : (limited : Bool) → Each Short (cond limited (steps_if (not (is_held e.id so_far)) (cond (is_full e.id so_far) (Hold e.id) (Order e.id Start) ∷ [])) (Order e.id Start ∷ []))
+    by_act true = each_steps_if Short (not (is_held e.id so_far)) (cond (is_full e.id so_far) (Hold e.id) (Order e.id Start) ∷ []) (λ _. window (is_full e.id so_far))
+    by_act false = (tt, tt)
+
+    later : (owed : Bool) → Each Short (starts_among es so_far) → Each Short (cond owed [] (starts_among es so_far))
+    later true rest = tt
+    later false rest = rest
+
+stages : (goal : Goal) (o : Option Stage) → is_seconds goal.grace ≡ true → Each Short (next_stage goal o)
+stages goal None short = tt
+stages goal (Some stage.Sysinit) short = (short, tt)
+stages goal (Some stage.Boot) short = (short, tt)
+stages goal (Some (stage.Run level)) short = tt
+
+settles : (so_far : List Event) (o : Option Stage) → Each Short (settle_step o so_far)
+settles so_far None = tt
+settles so_far (Some stage.Sysinit) = tt
+settles so_far (Some stage.Boot) = tt
+settles so_far (Some (stage.Run level)) = each_step_if Short (is_settled level (known_children so_far) so_far) (Settle level) (λ _. tt)
+
+looks : (so_far : List Event) (ids : List (List ℕ)) → Each Short (looks_among ids so_far)
+looks so_far [] = tt
+looks so_far (id ∷ ids) = each_append Short (step_if (can_look id so_far) (Order id Look)) (looks_among ids so_far) (each_step_if Short (can_look id so_far) (Order id Look) (λ _. tt)) (looks so_far ids)
+
+join : (xs ys : List Step) → Each Short xs → Each Short ys → Each Short (xs ++ ys)
+join xs ys = each_append Short xs ys
+
+dues : (goal : Goal) (so_far : List Event) → is_seconds (goal_of goal so_far).grace ≡ true → ShortGoal (level_wish so_far) → Each Short (due goal so_far)
+dues goal so_far short wish =
+    join _ _ (join _ _ (join _ _ (join _ _ (join _ _ (join _ _ (join _ _ (join _ _ (join (due_first goal (stage_of so_far) so_far) (due_reexec so_far)
+    (firsts goal so_far (stage_of so_far) short)
+    (each_step_if Short (is_quiet so_far && wants_reexec so_far) Reexec (λ _. tt)))
+    (each_step_if Short (is_quiet so_far && wants_reread so_far) Reread (λ _. tt)))
+    (each_steps_if Short (is_quiet so_far) (enter_level (level_wish so_far) so_far) (λ _. levels so_far (level_wish so_far) wish)))
+    (each_steps_if Short (is_quiet so_far && in_run (stage_of so_far)) (power_steps powers so_far ++ letter_steps letters so_far) (λ _. join (power_steps powers so_far) (letter_steps letters so_far) (news so_far powers) (calls so_far letters))))
+    (each_steps_if Short (not (wish_stands so_far)) (stops_among (record_ids so_far) so_far) (λ _. stops_all (record_ids so_far) so_far)))
+    (each_steps_if Short (not (wish_stands so_far) && none_excluded so_far) (starts_among (table_of so_far) so_far) (λ _. starts so_far (table_of so_far))))
+    (each_steps_if Short (is_over so_far) (next_stage (goal_of goal so_far) (stage_of so_far)) (λ _. stages (goal_of goal so_far) (stage_of so_far) short)))
+    (each_steps_if Short (not (wish_stands so_far) && is_idle so_far && not (is_announced so_far)) (settle_step (stage_of so_far) so_far) (λ _. settles so_far (stage_of so_far))))
+    (looks so_far (record_ids so_far))
+
+at_enter : (now : Stage) (grace : ℕ) (steps : List Step) → Each Short steps → list_any (same_step (Enter now grace)) steps ≡ true → is_seconds grace ≡ true
+at_enter now grace [] all h = absurd (false≢true h)
+at_enter now grace (step ∷ steps) all h = or_either (same_step (Enter now grace) step) (list_any (same_step (Enter now grace)) steps) h (by step all.0) (at_enter now grace steps all.1)
+  where
+    by : (s : Step) → Short s → same_step (Enter now grace) s ≡ true → is_seconds grace ≡ true
+    by (Enter other seconds) short same = ap is_seconds (eqb-true grace seconds (and_parts (same_stage now other) (grace == seconds) same).1) ∙ short
+    by _ short same = absurd (false≢true same)
+
+-- where the opening goal and the requests name an hour at most, so does each happening of a sound trace
+pub sound_short : (goal : Goal) (trace : List Event) → is_seconds goal.grace ≡ true → is_sound goal trace ≡ true → list_all is_short_request trace ≡ true → are_short trace ≡ true
+sound_short goal [] opening sound all = refl
+sound_short goal (past.Enter now grace ∷ so_far) opening sound all =
+    let parts = and_parts (may_come goal (past.Enter now grace) so_far) (is_sound goal so_far) sound in
+    and_from (is_seconds grace) (are_short so_far)
+    (at_enter now grace (due goal so_far) (dues goal so_far (goal_short goal so_far opening all) (other_short (stage_of so_far) (heard_level so_far) (heard_short so_far all))) parts.0)
+    (sound_short goal so_far opening parts.1 all)
+sound_short goal (past.Got request ∷ so_far) opening sound all =
+    let parts = and_parts (is_request request) (list_all is_short_request so_far) all in
+    and_from (is_request request) (are_short so_far) parts.0 (sound_short goal so_far opening sound parts.1)
+sound_short goal (past.NewTable table ∷ []) opening sound all = refl
+sound_short goal (past.NewTable table ∷ before ∷ so_far) opening sound all = sound_short goal (before ∷ so_far) opening (and_parts (may_come goal (past.NewTable table) (before ∷ so_far)) (is_sound goal (before ∷ so_far)) sound).1 all
+sound_short goal (happening ∷ so_far) opening sound all = sound_short goal so_far opening (and_parts (may_come goal happening so_far) (is_sound goal so_far) sound).1 all
