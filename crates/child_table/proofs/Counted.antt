@@ -1,7 +1,7 @@
 -- The counts of the records: what each change of the records makes of them.
 use Rattle.std.proofs.Common.{◌≡◌, refl, sym, ◌∙◌, ap, subst, cond, Bool, true, false, not, ◌||◌, ℕ, ◌+◌, ◌-◌, ◌≤◌, ◌<◌, List, [], ◌∷◌, ◌++◌, map, length, Some, is_some, ◌==◌, ◌^◌, arith}
 use Rattle.std.specs.List.{list_any, count_by}
-use Rattle.std.proofs.lemmas.Bool.{eqb-true}
+use Rattle.std.proofs.lemmas.Bool.{false_from_ne_true, eqb-true}
 use Rattle.std.proofs.lemmas.List.{length-map}
 use Rattle.std.proofs.lemmas.List.Sums.{sum_by-cons, sum_by_push, count_by-le-length}
 use Rattle.std.specs.Map.{values_of, lookup, remove_entry}
@@ -12,13 +12,6 @@ use Rattle.child_table.specs.State.{SlotState}
 use Rattle.child_table.specs.Lists.{is_slot_of, are_distinct, slot_of, is_busy, changed, with_changed}
 use Rattle.child_table.specs.Counting.{counts_of, plus, minus, IsWithin, AreSmall}
 use Rattle.child_table.proofs.Found.{Kept, IsOwn, distinct_in, found_in, others, rest_distinct, unchanged}
-
-not_zero : (n : ℕ) → 0 < n → (n == 0) ≡ false
-not_zero n more = at (n == 0) refl
-  where
-    at : (b : Bool) → (n == 0) ≡ b → b ≡ false
-    at true is = let none : n ≡ 0 = eqb-true n 0 is in absurd (omega arith)
-    at false is = refl
 
 -- the records of one kind
 module _ (p : SlotState → Bool) where
@@ -71,7 +64,7 @@ module _ (p : SlotState → Bool) where
       here : (b : Bool) → p slot ≡ b → (count_by p slots == 0) ≡ not (list_any p slots) → (count_by p (slot ∷ slots) == 0) ≡ not (b || list_any p slots)
       here true is later =
           let one : count_by p (slot ∷ slots) ≡ 1 + count_by p slots = count-cons slot slots ∙ ap (λ (c : Bool). cond c 1 0 + count_by p slots) is in
-          not_zero (count_by p (slot ∷ slots)) (omega arith)
+          false_from_ne_true (count_by p (slot ∷ slots) == 0) (λ none. let is_none : count_by p (slot ∷ slots) ≡ 0 = eqb-true (count_by p (slot ∷ slots)) 0 none in omega arith)
       here false is later =
           let same : count_by p (slot ∷ slots) ≡ count_by p slots = count-cons slot slots ∙ ap (λ (c : Bool). cond c 1 0 + count_by p slots) is ∙ omega arith in
           ap (λ n. n == 0) same ∙ later

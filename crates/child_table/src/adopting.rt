@@ -79,7 +79,8 @@ impl<A: Allocator> Slots<A> {
 fn adopted_slot<A: Allocator>(table: &Table<A>, place: usize, before: &Slots<A>) -> Slot
     requires { place < length table.now }
     ensures value { Some result
-        ≡ option_map (λ (e : Entry). adopted e (slot_of e.id before.now)) (slice_get table.now place) }
+        ≡ option_map (λ (e : Entry). adopted e (slot_of e.id before.now))
+        (slice_get table.now place) }
     ensures timely { is_timely CLOCK_LIMIT result ≡ true }
 {
     let Some(entry) = table.at(place) else {

@@ -329,7 +329,8 @@ impl<A: Allocator> Slots<A> {
     {
         self.records.retain(
             |_id: &Id, slot: &mut Slot| -> bool
-                ensures { (result ≡ true) × (slot.new ≡ after_judge table.entry.now stage slot.old) }
+                ensures { (result ≡ true)
+                    × (slot.new ≡ after_judge table.entry.now stage slot.old) }
             {
                 slot.judge(table, stage);
                 true

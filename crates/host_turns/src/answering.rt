@@ -30,7 +30,8 @@ pub(crate) fn write<A: Allocator, L: Log>(log: &mut L, happening: &HappeningIn<A
 
 /// Writes a happening that is no table.
 pub(crate) fn note<L: Log>(log: &mut L, happening: Happening)
-    ensures { (past : List Event) → Logs (L.state log.old) (L.state log.new) past (happening ∷ past) }
+    ensures { (past : List Event)
+        → Logs (L.state log.old) (L.state log.new) past (happening ∷ past) }
 {
     write(log, &happening);
 }

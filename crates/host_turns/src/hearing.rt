@@ -24,7 +24,8 @@ pub(crate) fn hear_clock<A: Allocator, H: Host, L: Log>(
     host: &mut H,
     log: &mut L,
 )
-    ensures { Makes (H.told host.old) (H.told host.new) (L.state log.old) (L.state log.new) IsReading
+    ensures { Makes (H.told host.old) (H.told host.new) (L.state log.old)
+        (L.state log.new) IsReading
         (On (Fits core.old)) (λ goal p. On (Fits core.new) goal p × Counted 0 goal p) }
 {
     if let Ok(reading) = host.clock() {
@@ -155,7 +156,8 @@ fn begin_round<A: Allocator, L: Log>(core: &mut Core<A>, log: &mut L)
 }
 
 fn hear_come<A: Allocator, L: Log>(core: &mut Core<A>, log: &mut L, late: &Option<(Id, Answer)>)
-    ensures { Hears (Fits core.old) (Fits core.new) (L.state log.old) (L.state log.new) (come late.now) }
+    ensures { Hears (Fits core.old) (Fits core.new) (L.state log.old) (L.state log.new)
+        (come late.now) }
 {
     if let Some(late) = late {
         hear_answer(core, log, late.0, late.1);

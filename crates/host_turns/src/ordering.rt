@@ -60,7 +60,8 @@ fn signal<A: Allocator, H: Host, L: Log>(
     sent: Sig,
 )
     ensures { Makes (H.told host.old) (H.told host.new) (L.state log.old) (L.state log.new)
-        (AreSteps 1) (On (Gave (Fits core.old) (step.Order id (order_for sent)))) (On (Fits core.new)) }
+        (AreSteps 1) (On (Gave (Fits core.old) (step.Order id (order_for sent))))
+        (On (Fits core.new)) }
 {
     note(log, Happening::Asked(id, order_for(&sent)));
     let reply = host.signal(id, sent);

@@ -30,7 +30,8 @@ fn use_text<A: Allocator + Copy, L: Log>(
     ensures quiet { result ≡ true → is_quiet core.old.slots ≡ true }
     ensures fits { result ≡ true → OnEachTrace core.old (λ goal past.
         Fits core.new goal (NewTable (table_of_text text.now) ∷ past)) }
-    ensures took { result ≡ true → (past : List Event) → Logs (L.state log.old) (L.state log.new) past
+    ensures took { result ≡ true → (past : List Event)
+        → Logs (L.state log.old) (L.state log.new) past
         (NewTable (table_of_text text.now) ∷ past) }
     ensures core { result ≡ false → core.new ≡ core.old }
     ensures log { result ≡ false → L.state log.new ≡ L.state log.old }

@@ -41,7 +41,8 @@ fn carry_out<A: Allocator + Copy, H: Host, L: Log>(
 )
     requires { is_listed core.old.table step.now ≡ true }
     ensures { Makes (H.told host.old) (H.told host.new) (L.state log.old) (L.state log.new)
-        (IsStepUnless (is_idle step.now)) (On (Gave (Fits core.old) step.now)) (On (Fits core.new)) }
+        (IsStepUnless (is_idle step.now)) (On (Gave (Fits core.old) step.now))
+        (On (Fits core.new)) }
 {
     match *step {
         Step::Enter(stage, grace) => say(host, log, Happening::Enter(stage, grace)),

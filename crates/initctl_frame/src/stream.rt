@@ -52,7 +52,8 @@ impl Blocks {
         ensures stands { (bytes : List ℕ) → Stands self.old bytes
             → Stands self.new (bytes ++ take result.0 piece.now) }
         ensures got { (bytes : List ℕ) → Stands self.old bytes
-            → gots_of (bytes ++ take result.0 piece.now) ≡ gots_of bytes ++ option_to_list result.1 }
+            → gots_of (bytes ++ take result.0 piece.now)
+            ≡ gots_of bytes ++ option_to_list result.1 }
     {
         let taken = piece.len().min(BLOCK - self.count);
         let kept = taken.min(FRONT - self.front.len());

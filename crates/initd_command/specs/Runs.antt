@@ -4,7 +4,7 @@ use Rattle.std.specs.Prelude.{◌≡◌, ◌⊎◌, ℕ, List, Option, Some, Non
 use Rattle.std.specs.Io.KnownBytes.{Keeps}
 use Rattle.supervisor.specs.declared.running.SimFault.{SimFault}
 use Rattle.supervisor.specs.Simulation.{Done, Ends, Scenario, scenario}
-use Rattle.initd_command.specs.CommandLine.{Run, Said, judges, read_of, runs, serves}
+use Rattle.initd_options.specs.CommandLine.{Run, Said, judges, read_of, runs, serves}
 use Rattle.initd_command.specs.Endings.{Ending, done, usage, no_memory, unread, stopped, unflushed}
 use Rattle.initd_command.specs.Services.{EndsService}
 use Rattle.initd_command.specs.Verdicts.{EndsCheck}

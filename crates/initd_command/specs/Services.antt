@@ -10,7 +10,7 @@ use Rattle.inittab_text.specs.Reading.{faults_of_text}
 use Rattle.supervisor.specs.declared.running.SimFault.TheVariants as fault
 use Rattle.host_turns.specs.declared.serving.Served.{Served}
 use Rattle.initd_command.specs.Endings.{Ending, no_memory, unread, stopped, drained, limited, unlogged, uncreated, untold}
-use Rattle.initd_command.specs.Options.{Service}
+use Rattle.initd_options.specs.Options.{Service}
 
 -- the line that tells of a line that was left out
 abbrev pub fault_line : LineFault → List ℕ

@@ -22,7 +22,8 @@ pub(crate) fn report_fault<E: Write>(
     err: &mut E,
 ) -> u8
     ensures status { result ≡ fault_status fault.now }
-    ensures reported { ReportsText (fault_message script.now fault.now) (E.contents err.old) (E.contents err.new) }
+    ensures reported { ReportsText (fault_message script.now fault.now) (E.contents err.old)
+        (E.contents err.new) }
 {
     report_lines(fault_message(alloc, script, fault), err);
     match fault {
@@ -78,7 +79,8 @@ pub(crate) fn report_unread<E: Write>(
 }
 
 fn unread_message(alloc: Global, path: &str, error: &io::Error) -> Result<String, AllocError>
-    ensures { IfOk result (λ text. (why : List ℕ) × (string_bytes text ≡ file_message path.now why)) }
+    ensures { IfOk result (λ text.
+        (why : List ℕ) × (string_bytes text ≡ file_message path.now why)) }
 {
     let why = format!(in alloc; "{error}")?;
     message_with(alloc, path, why.as_str())
@@ -106,7 +108,8 @@ pub(crate) fn report_uncreated<E: Write>(
 }
 
 fn uncreated_message(alloc: Global, path: &str, error: &io::Error) -> Result<String, AllocError>
-    ensures { IfOk result (λ text. (why : List ℕ) × (string_bytes text ≡ created_message path.now why)) }
+    ensures { IfOk result (λ text.
+        (why : List ℕ) × (string_bytes text ≡ created_message path.now why)) }
 {
     let why = format!(in alloc; "{error}")?;
     created_message_with(alloc, path, why.as_str())
@@ -120,8 +123,10 @@ fn created_message_with(alloc: Global, path: &str, why: &str) -> Result<String, 
 
 /// Reports a message that was made, or that there was no memory to make it.
 pub(crate) fn report_made<E: Write>(message: Result<String, AllocError>, err: &mut E)
-    ensures made { IfOk message (λ text. AppendsPrefix (E.contents err.old) (E.contents err.new) (string_bytes text)) }
-    ensures unmade { OnErr message (AppendsPrefix (E.contents err.old) (E.contents err.new) NO_MEMORY.now) }
+    ensures made { IfOk message (λ text.
+        AppendsPrefix (E.contents err.old) (E.contents err.new) (string_bytes text)) }
+    ensures unmade { OnErr message
+        (AppendsPrefix (E.contents err.old) (E.contents err.new) NO_MEMORY.now) }
 {
     match &message {
         Ok(text) => report(text.as_str(), err),
@@ -131,8 +136,10 @@ pub(crate) fn report_made<E: Write>(message: Result<String, AllocError>, err: &m
 
 /// The same of lines that may not be text.
 fn report_lines<E: Write>(message: Result<Vec<u8>, AllocError>, err: &mut E)
-    ensures made { IfOk message (λ text. AppendsPrefix (E.contents err.old) (E.contents err.new) text.items) }
-    ensures unmade { OnErr message (AppendsPrefix (E.contents err.old) (E.contents err.new) NO_MEMORY.now) }
+    ensures made { IfOk message (λ text.
+        AppendsPrefix (E.contents err.old) (E.contents err.new) text.items) }
+    ensures unmade { OnErr message
+        (AppendsPrefix (E.contents err.old) (E.contents err.new) NO_MEMORY.now) }
 {
     match &message {
         Ok(text) => report_bytes(text, err),

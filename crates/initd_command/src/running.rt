@@ -1,15 +1,14 @@
 ghost use Rattle.std.specs.Prelude.{◌≡◌, map, string_bytes};
-ghost use Rattle.initd_command.specs.CommandLine.{run_of};
+ghost use Rattle.initd_options.specs.CommandLine.{run_of};
 ghost use Rattle.initd_command.specs.Endings.{Ending, Reports, status_of};
 ghost use Rattle.initd_command.specs.Runs.{EndsBy, EndsFiles, EndsRun};
 ghost use Rattle.supervisor.specs.Simulation.{scenario};
 
 use crate::checking::check_file;
-use crate::command::{Simulation, Words, read_words};
 use crate::reports::{NO_MEMORY, report, report_fault, report_unread};
 use crate::serving::serve_files;
-use command_words::WordFault;
 use init_words::Level;
+use initd_options::{Simulation, WordFault, Words, read_words};
 use program_edge::{DEVICE_FAULT, DONE, REFUSED, read_file};
 use std::alloc::Global;
 use std::io::Write;
@@ -101,7 +100,8 @@ fn run<W: Write, E: Write>(
     err: &mut E,
 ) -> u8
     ensures { (ending : Ending) × (result ≡ status_of ending)
-        × EndsRun (scenario level inittab.now script.now) ending (W.contents out.old) (W.contents out.new)
+        × EndsRun (scenario level inittab.now script.now) ending (W.contents out.old)
+        (W.contents out.new)
         × Reports ending (E.contents err.old) (E.contents err.new) }
 {
     let ended = simulate(alloc, inittab, level, script, out);

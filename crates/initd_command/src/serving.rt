@@ -1,14 +1,14 @@
 ghost use Rattle.std.specs.Prelude.{◌≡◌, ◌++◌, IfOk, OnOk};
 ghost use Rattle.initd_command.specs.Endings.{Ending, Reports, status_of};
-ghost use Rattle.initd_command.specs.Options.{service_of};
+ghost use Rattle.initd_options.specs.Options.{service_of};
 ghost use Rattle.initd_command.specs.Services.{EndsOver, EndsService, EndsTold, IsServed, end_of, fault_line, faults_text};
 
-use crate::options::Serving;
 use crate::reports::{report, report_fault, report_memory, report_uncreated, report_unread, tell};
 use child_host::OsHost;
 use host_turns::{Served, serve};
 use init_trace::{Happening, HappeningIn};
 use init_words::Memory;
+use initd_options::Serving;
 use inittab_text::{LineFault, Table, TableFault, read};
 use level_core::Core;
 use program_edge::{DEVICE_FAULT, DONE, LIMIT_REACHED, read_file};
@@ -124,7 +124,8 @@ fn open_table<R, W: Write, E: Write>(
 where
     R: Processes + Files + Clock + Print + Eprint + Clone + Drop,
     ensures { (ending : Ending) × (result ≡ status_of ending)
-        × EndsTold (service_of said.now) (faults_text faults.now) ending (W.contents out.old) (W.contents out.new)
+        × EndsTold (service_of said.now) (faults_text faults.now) ending (W.contents out.old)
+        (W.contents out.new)
         × Reports ending (E.contents err.old) (E.contents err.new) }
 {
     let Ok(text) = faults_text(alloc, faults) else {

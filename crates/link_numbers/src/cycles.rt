@@ -90,9 +90,11 @@ fn meet<A: Allocator>(
     requires { place < length steps.old }
     ensures size { length steps.new ≡ length steps.old }
     ensures steps { OnOk result (steps.new ≡
-        (if is_some (get_or steps.old place None) then steps.old else set steps.old place (Some need))) }
+        (if is_some (get_or steps.old place None) then steps.old
+        else set steps.old place (Some need))) }
     ensures met { OnOk result (met.new.items ≡
-        (if is_some (get_or steps.old place None) then met.old.items else met.old.items ++ place ∷ [])) }
+        (if is_some (get_or steps.old place None) then met.old.items
+        else met.old.items ++ place ∷ [])) }
 {
     if steps[place].is_none() {
         met.push(place)?;
@@ -158,7 +160,8 @@ fn ring_along<A: Allocator>(
     requires range { (a b : ℕ) → get_or steps.now a None ≡ Some b → b < length steps.now }
     ensures ring { IfOk result (λ found. IfSome found
         (λ ring. (edges : List (ℕ × ℕ)) → AreSteps edges steps.now → IsRing edges ring.items)) }
-    ensures below { IfOk result (λ found. IfSome found (λ ring. AllBelow (length steps.now) ring.items)) }
+    ensures below { IfOk result (λ found.
+        IfSome found (λ ring. AllBelow (length steps.now) ring.items)) }
 {
     let mut ring = Vec::new(alloc);
     let mut at = place;
@@ -201,7 +204,8 @@ fn earliest_ring<A: Allocator + Copy>(
 ) -> Result<Option<Vec<usize, A>>, Memory>
     requires { InRange (length numbers.now) edges.now }
     ensures ring { IfOk result (λ found. IfSome found (λ ring. IsRing edges.now ring.items)) }
-    ensures below { IfOk result (λ found. IfSome found (λ ring. AllBelow (length numbers.now) ring.items)) }
+    ensures below { IfOk result (λ found.
+        IfSome found (λ ring. AllBelow (length numbers.now) ring.items)) }
 {
     let needs = by_need(alloc, edges)?;
     for place in 0..numbers.len() {
@@ -239,7 +243,8 @@ fn told_ring<A: Allocator + Copy>(
 fn least_at(places: &[usize]) -> usize
     requires { 0 < length places.now }
     ensures within { result < length places.now }
-    ensures least { (k : ℕ) → k < length places.now → get_or places.now result 0 ≤ get_or places.now k 0 }
+    ensures least { (k : ℕ) → k < length places.now
+        → get_or places.now result 0 ≤ get_or places.now k 0 }
 {
     let mut best = 0;
     for place in 0..places.len() {

@@ -8,8 +8,10 @@ use std::alloc::Allocator;
 
 /// The first place without a number.
 fn first_without(numbers: &[usize]) -> Option<usize>
-    ensures some { IfSome result (λ place. (place < length numbers.now) × (get_or numbers.now place 0 ≡ 0)) }
-    ensures all { IfNone result ((place : ℕ) → place < length numbers.now → 0 < get_or numbers.now place 0) }
+    ensures some { IfSome result (λ place.
+        (place < length numbers.now) × (get_or numbers.now place 0 ≡ 0)) }
+    ensures all { IfNone result
+        ((place : ℕ) → place < length numbers.now → 0 < get_or numbers.now place 0) }
 {
     for place in 0..numbers.len() {
         if numbers[place] == 0 {

@@ -24,7 +24,8 @@ fn is_end(line: &[u8]) -> bool
 
 /// The text behind the line that begins the header, and the number of that line.
 pub(crate) fn begun(text: &[u8]) -> Option<(usize, &[u8])>
-    ensures value { option_map (λ parts. (parts.0, lines_of parts.1.now)) result ≡ begun 1 (lines_of text.now) }
+    ensures value { option_map (λ parts. (parts.0, lines_of parts.1.now)) result
+        ≡ begun 1 (lines_of text.now) }
     ensures counted { IfSome result (λ parts. parts.0 + length parts.1.now ≤ length text.now) }
 {
     let mut rest = text;

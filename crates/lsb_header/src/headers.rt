@@ -119,7 +119,8 @@ fn names_of<A: Allocator + Copy>(
     body: &[u8],
 ) -> Result<Vec<String<A>, A>, Memory>
     requires { AllByRecursion IsUtf8 (block_in body.now) }
-    ensures { IfOk result (λ words. map string_bytes words.items ≡ words_of (text_at keyword (block_in body.now))) }
+    ensures { IfOk result (λ words.
+        map string_bytes words.items ≡ words_of (text_at keyword (block_in body.now))) }
 {
     words_of(alloc, args_of(keyword, body))
 }

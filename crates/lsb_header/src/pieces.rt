@@ -111,7 +111,8 @@ fn continue_text<A: Allocator>(text: &mut Vec<u8, A>, body: &[u8]) -> Result<(),
 /// The short description.
 pub(crate) fn short_description_of<A: Allocator>(alloc: A, body: &[u8]) -> Result<String<A>, Memory>
     requires { AllByRecursion IsUtf8 (block_in body.now) }
-    ensures { IfOk result (λ text. string_bytes text ≡ trim (text_at Keyword.ShortDescription (block_in body.now))) }
+    ensures { IfOk result (λ text.
+        string_bytes text ≡ trim (text_at Keyword.ShortDescription (block_in body.now))) }
 {
     let text = trimmed(args_of(Keyword::ShortDescription, body));
     Ok(string_of(Vec::from_slice(alloc, text)?))

@@ -36,7 +36,8 @@ fn add_name<A: Allocator>(
     name: &[u8],
 ) -> Result<(), Memory>
     ensures { OnOk result (edges.new.items ≡
-        edges.old.items ++ cons_option (option_map (need phase place) (place_in table.now name.now)) []) }
+        edges.old.items ++ cons_option
+        (option_map (need phase place) (place_in table.now name.now)) []) }
 {
     if let Some(other) = place_at(table, name) {
         edges.push(need(phase, place, other))?;

@@ -55,7 +55,8 @@ fn names_at<A: Allocator + Copy>(
     places: &[usize],
 ) -> Result<Vec<String<A>, A>, Memory>
     requires { AllBelow (length scripts.now) places.now }
-    ensures { IfOk result (λ names. map string_bytes names.items ≡ names_at scripts.now places.now) }
+    ensures { IfOk result (λ names.
+        map string_bytes names.items ≡ names_at scripts.now places.now) }
 {
     let mut names = Vec::new(alloc);
     add_names(alloc, &mut names, scripts, places)?;
@@ -86,9 +87,12 @@ fn order_of<A: Allocator + Copy>(
 ) -> Result<Result<Vec<usize, A>, Vec<usize, A>>, Memory>
     requires { HasPlaces scripts.now table.now }
     ensures least { IfOk result (λ order. IfOk order (λ ns. AreLeast phase scripts.now ns.items)) }
-    ensures below { IfOk result (λ order. IfErr order (λ cycle. AllBelow (length scripts.now) cycle.items)) }
-    ensures cycle { IfOk result (λ order. IfErr order (λ cycle. IsCycle (needs_of phase scripts.now) cycle.items)) }
-    ensures none { IfOk result (λ order. IfErr order (λ _. HasNoNumbering (needs_of phase scripts.now))) }
+    ensures below { IfOk result (λ order.
+        IfErr order (λ cycle. AllBelow (length scripts.now) cycle.items)) }
+    ensures cycle { IfOk result (λ order.
+        IfErr order (λ cycle. IsCycle (needs_of phase scripts.now) cycle.items)) }
+    ensures none { IfOk result (λ order.
+        IfErr order (λ _. HasNoNumbering (needs_of phase scripts.now))) }
 {
     let edges = needs(alloc, phase, scripts, table)?;
     ordered(alloc, scripts.len(), edges.as_slice())
@@ -164,7 +168,8 @@ fn planned_all<A: Allocator + Copy>(
 ) -> Result<Vec<Planned<A>, A>, PlanFault<A>>
     requires starts { length starts.now ≡ length scripts.now }
     requires stops { length stops.now ≡ length scripts.now }
-    ensures planned { IfOk result (λ plan. plan.items ≡ planned_all scripts.now starts.now stops.now) }
+    ensures planned { IfOk result (λ plan.
+        plan.items ≡ planned_all scripts.now starts.now stops.now) }
     ensures short { IfOk result (λ plan. AllByRecursion IsShort plan.items) }
     ensures deep { IfErr result (Says (IsAnyDeep starts.now stops.now)) }
 {

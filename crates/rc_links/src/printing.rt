@@ -51,7 +51,8 @@ fn add_stop_link<A: Allocator + Copy>(
     script: &Planned<A>,
     level: Level,
 ) -> Result<(), Memory>
-    ensures { OnOk result (AddsLinks links.old.items links.new.items (stop_links level (script.now ∷ []))) }
+    ensures { OnOk result
+        (AddsLinks links.old.items links.new.items (stop_links level (script.now ∷ []))) }
 {
     if has_level(script.stops(), level) {
         links.push(link_of(alloc, b'K', script.stop(), script.name().as_bytes())?)?;
@@ -66,7 +67,8 @@ fn add_start_link<A: Allocator + Copy>(
     script: &Planned<A>,
     level: Level,
 ) -> Result<(), Memory>
-    ensures { OnOk result (AddsLinks links.old.items links.new.items (start_links level (script.now ∷ []))) }
+    ensures { OnOk result
+        (AddsLinks links.old.items links.new.items (start_links level (script.now ∷ []))) }
 {
     if has_level(script.starts(), level) {
         links.push(link_of(alloc, b'S', script.start(), script.name().as_bytes())?)?;
@@ -81,7 +83,8 @@ fn add_stop_links<A: Allocator + Copy>(
     scripts: &[Planned<A>],
     level: Level,
 ) -> Result<(), Memory>
-    ensures { OnOk result (AddsLinks links.old.items links.new.items (stop_links level scripts.now)) }
+    ensures { OnOk result
+        (AddsLinks links.old.items links.new.items (stop_links level scripts.now)) }
 {
     for script in scripts {
         add_stop_link(alloc, links, script, level)?;
@@ -95,7 +98,8 @@ fn stop_links<A: Allocator + Copy>(
     scripts: &[Planned<A>],
     level: Level,
 ) -> Result<Vec<Vec<u8, A>, A>, Memory>
-    ensures { IfOk result (λ links. map (λ link. link.items) links.items ≡ stop_links level scripts.now) }
+    ensures { IfOk result (λ links.
+        map (λ link. link.items) links.items ≡ stop_links level scripts.now) }
 {
     let mut links = Vec::new(alloc);
     add_stop_links(alloc, &mut links, scripts, level)?;
@@ -109,7 +113,8 @@ fn add_start_links<A: Allocator + Copy>(
     scripts: &[Planned<A>],
     level: Level,
 ) -> Result<(), Memory>
-    ensures { OnOk result (AddsLinks links.old.items links.new.items (start_links level scripts.now)) }
+    ensures { OnOk result
+        (AddsLinks links.old.items links.new.items (start_links level scripts.now)) }
 {
     for script in scripts {
         add_start_link(alloc, links, script, level)?;
@@ -123,7 +128,8 @@ fn start_links<A: Allocator + Copy>(
     scripts: &[Planned<A>],
     level: Level,
 ) -> Result<Vec<Vec<u8, A>, A>, Memory>
-    ensures { IfOk result (λ links. map (λ link. link.items) links.items ≡ start_links level scripts.now) }
+    ensures { IfOk result (λ links.
+        map (λ link. link.items) links.items ≡ start_links level scripts.now) }
 {
     let mut links = Vec::new(alloc);
     add_start_links(alloc, &mut links, scripts, level)?;
@@ -153,7 +159,8 @@ fn add_line<A: Allocator>(text: &mut Vec<u8, A>, level: Level, link: &[u8]) -> R
 
 /// Puts links into byte order.
 fn sort_links<A: Allocator>(links: &mut Vec<Vec<u8, A>, A>)
-    ensures { map (λ link. link.items) links.new.items ≡ in_byte_order (map (λ link. link.items) links.old.items) }
+    ensures { map (λ link. link.items) links.new.items
+        ≡ in_byte_order (map (λ link. link.items) links.old.items) }
 {
     links.sort_unstable();
 }
@@ -165,7 +172,8 @@ fn add_lines<A: Allocator>(
     mut links: Vec<Vec<u8, A>, A>,
 ) -> Result<(), Memory>
     ensures { OnOk result (text.new.items ≡
-        text.old.items ++ flat_map (link_line level) (in_byte_order (map (λ link. link.items) links.items))) }
+        text.old.items ++ flat_map (link_line level)
+        (in_byte_order (map (λ link. link.items) links.items))) }
 {
     sort_links(&mut links);
     for link in &links {

@@ -89,9 +89,11 @@ fn add_script<'a, A: Allocator + Copy>(
     place: usize,
 ) -> Result<(), PlanFault<A>>
     ensures single { OnOk result (known_again provided.old names.old script.now ≡ None) }
-    ensures provided { OnOk result (GivesPlaces provided.old provided.new script.now.header.provides place) }
+    ensures provided { OnOk result
+        (GivesPlaces provided.old provided.new script.now.header.provides place) }
     ensures named { OnOk result (GivesPlace names.old names.new script.now.name place) }
-    ensures double { IfErr result (Says (IsDouble (known_again provided.old names.old script.now))) }
+    ensures double { IfErr result
+        (Says (IsDouble (known_again provided.old names.old script.now))) }
 {
     if let Some(name) = doubled(script, provided, names) {
         return Err(double_told(alloc, name));

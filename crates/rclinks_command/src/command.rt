@@ -45,8 +45,10 @@ fn scripts_of<'w, R: Files>(
     alloc: Global,
     words: &'w [String],
 ) -> Result<Vec<Script>, Refusal<'w>>
-    ensures scripts { IfOk result (λ scripts. AreScripts (map string_bytes words.now) scripts.items) }
-    ensures path { IfErr result (λ refusal. Contains (map string_bytes words.now) refusal.path.now) }
+    ensures scripts { IfOk result (λ scripts.
+        AreScripts (map string_bytes words.now) scripts.items) }
+    ensures path { IfErr result (λ refusal.
+        Contains (map string_bytes words.now) refusal.path.now) }
     ensures fault { IfErr result (λ refusal. IsNoScriptAt refusal.path.now refusal.fault) }
 {
     let mut scripts = Vec::new(alloc);
@@ -120,8 +122,10 @@ fn write_links<W: Write, E: Write>(text: &[u8], out: &mut W, err: &mut E) -> u8
 /// Prints a plan's links, and gives the exit status.
 fn print_links<W: Write, E: Write>(alloc: Global, plan: &Plan, out: &mut W, err: &mut E) -> u8
     ensures statuses { (result ≡ DONE) ⊎ (result ≡ DEVICE_FAULT) }
-    ensures done { result ≡ DONE → Appends (W.contents out.old) (W.contents out.new) (plan_text plan.now) }
-    ensures part { (out.new ≡ out.old) ⊎ AppendsPrefix (W.contents out.old) (W.contents out.new) (plan_text plan.now) }
+    ensures done { result ≡ DONE
+        → Appends (W.contents out.old) (W.contents out.new) (plan_text plan.now) }
+    ensures part { (out.new ≡ out.old) ⊎ AppendsPrefix (W.contents out.old) (W.contents out.new)
+        (plan_text plan.now) }
     ensures silent { result ≡ DONE → err.new ≡ err.old }
 {
     match plan.print(alloc) {
@@ -133,10 +137,12 @@ fn print_links<W: Write, E: Write>(alloc: Global, plan: &Plan, out: &mut W, err:
 /// Prints the plan of some scripts, and gives the exit status.
 fn print_plan<W: Write, E: Write>(alloc: Global, scripts: &[Script], out: &mut W, err: &mut E) -> u8
     ensures statuses { (result ≡ DONE) ⊎ (result ≡ REFUSED) ⊎ (result ≡ DEVICE_FAULT) }
-    ensures done { result ≡ DONE → PrintsPlan scripts.now (W.contents out.old) (W.contents out.new) }
+    ensures done { result ≡ DONE
+        → PrintsPlan scripts.now (W.contents out.old) (W.contents out.new) }
     ensures refused { result ≡ REFUSED → HasNoPlan scripts.now }
     ensures quiet { result ≡ REFUSED → out.new ≡ out.old }
-    ensures part { (out.new ≡ out.old) ⊎ PrintsPlanPart scripts.now (W.contents out.old) (W.contents out.new) }
+    ensures part { (out.new ≡ out.old) ⊎ PrintsPlanPart scripts.now (W.contents out.old)
+        (W.contents out.new) }
     ensures silent { result ≡ DONE → err.new ≡ err.old }
 {
     match plan(alloc, scripts) {

@@ -81,7 +81,8 @@ impl Limiter {
         requires ordered { IsNonDecreasing starts.now }
         ensures state { result ≡ record { starts = starts.now; held = held_until } }
         ensures past { (past : List Event) → IsNonDecreasing (times_noted past)
-            → starts.now ≡ last_ten (times_noted past) → held_until ≡ hold_end past → StandsAfter result past }
+            → starts.now ≡ last_ten (times_noted past) → held_until ≡ hold_end past
+            → StandsAfter result past }
     {
         let mut kept = ArrayVec::new();
         if kept.try_extend_from_slice(starts).is_err() {

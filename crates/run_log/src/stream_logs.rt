@@ -74,7 +74,8 @@ impl<W: Write, A: Allocator + Copy> Log for StreamLog<W, A> {
         requires { self.old.failed ≡ false }
         ensures flag { self.new.failed ≡ is_err result }
         ensures ok { OnOk result (is_in_range happening.now ≡ true
-            → Gains (stream_state W.contents self.old).taken (stream_state W.contents self.new).taken
+            → Gains (stream_state W.contents self.old).taken
+            (stream_state W.contents self.new).taken
             happening.now) }
         ensures err { OnErr result (is_in_range happening.now ≡ true
             → Stays (stream_state W.contents self.old).taken

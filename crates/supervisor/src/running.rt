@@ -127,7 +127,8 @@ fn write_happening<A: Allocator + Copy, W: Write>(
     out: &mut W,
     happening: &HappeningIn<A>,
 ) -> Result<(), SimFault>
-    ensures ok { OnOk result (Appends (W.contents out.old) (W.contents out.new) (event_text happening.now)) }
+    ensures ok { OnOk result
+        (Appends (W.contents out.old) (W.contents out.new) (event_text happening.now)) }
     ensures err { IfErr result (λ fault.
         Leaves fault (W.contents out.old) (W.contents out.new) (event_text happening.now)) }
 {
@@ -145,7 +146,8 @@ fn run_until_rest<A: Allocator + Copy, W: Write>(
 ) -> Result<bool, SimFault>
     requires { SomeMoment core.old side.old }
     ensures ok { IfOk result (λ rereads. FromMoment core.old side.old (λ goal past.
-        ComesToRest goal past rereads core.new side.new (W.contents out.old) (W.contents out.new))) }
+        ComesToRest goal past rereads core.new side.new (W.contents out.old)
+        (W.contents out.new))) }
     ensures err { IfErr result (λ fault. FromMoment core.old side.old (λ goal past.
         Breaks goal past fault (W.contents out.old) (W.contents out.new))) }
 {
@@ -236,7 +238,8 @@ fn hear<A: Allocator + Copy, W: Write>(
     happening: &HappeningIn<A>,
 ) -> Result<(), SimFault>
     requires { IsReadyFor happening.now core.old }
-    ensures text { OnOk result (Appends (W.contents out.old) (W.contents out.new) (event_text happening.now)) }
+    ensures text { OnOk result
+        (Appends (W.contents out.old) (W.contents out.new) (event_text happening.now)) }
     ensures ok { OnOk result (FromMoment core.old side.old (λ goal past.
         may_be_said goal happening.now past ≡ true
         → Moment goal (happening.now ∷ past) core.new side.new)) }
@@ -263,7 +266,8 @@ fn hear_next<A: Allocator + Copy, W: Write>(
     requires rests { SomeRest rereads core.old side.old }
     requires ranged { is_in_range happening.now ≡ true }
     ensures ok { IfOk result (λ next. FromRest rereads core.old side.old (λ goal past.
-        HeardOne goal past happening.now next core.new side.new (W.contents out.old) (W.contents out.new))) }
+        HeardOne goal past happening.now next core.new side.new (W.contents out.old)
+        (W.contents out.new))) }
     ensures err { IfErr result (λ fault. FromRest rereads core.old side.old (λ goal past.
         HeardEnds goal past happening.now number fault (W.contents out.old) (W.contents out.new))) }
 {
@@ -296,9 +300,11 @@ fn open_run<A: Allocator + Copy, W: Write>(
 ) -> Result<Core<A>, SimFault>
     ensures fits { IfOk result (λ core. Fits core (opening_goal level (table_of_text inittab.now))
         (NewTable (table_of_text inittab.now) ∷ [])) }
-    ensures text { OnOk result (Appends (W.contents out.old) (W.contents out.new) (opening_text inittab.now)) }
+    ensures text { OnOk result
+        (Appends (W.contents out.old) (W.contents out.new) (opening_text inittab.now)) }
     ensures limit { IsTooLong inittab.now → result ≡ Err SimFault.Table }
-    ensures err { IfErr result (λ fault. OpeningEnds inittab.now fault (W.contents out.old) (W.contents out.new)) }
+    ensures err { IfErr result (λ fault.
+        OpeningEnds inittab.now fault (W.contents out.old) (W.contents out.new)) }
 {
     let table = read_table(alloc, inittab)?;
     let core = Core::new(alloc, table, level)?;

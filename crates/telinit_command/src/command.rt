@@ -22,7 +22,11 @@ pub struct Words {
 pub fn read_words(alloc: Global, words: Vec<String>) -> Result<Words, WordFault>
     // What it reads is what the words say, with the defaults for what they leave out.
     ensures ok { IfOk result (λ said. read_of (map string_bytes words.items)
-        ≡ Some (record { secs = said.secs; path = string_bytes said.path; sign = string_bytes said.sign })) }
+        ≡ Some (record {
+          secs = said.secs;
+          path = string_bytes said.path;
+          sign = string_bytes said.sign;
+        })) }
     ensures usage { IsErrOf result WordFault.Usage → read_of (map string_bytes words.items) ≡ None }
 {
     let matches = match parsed(alloc, words.as_slice()) {

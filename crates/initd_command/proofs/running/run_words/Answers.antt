@@ -1,9 +1,9 @@
 use Rattle.std.proofs.Common.{◌≡◌, rules, Bool, true, false, List, ℕ, Option, Some, None, map, string_bytes, refl, reverse}
 use Rattle.std.specs.Prelude.{◌&&◌}
 use Rattle.std.proofs.KnownBytes.{Keeps-refl}
-use Rattle.initd_command.specs.CommandLine.{Said, judges, read_of, run_of, runs, serves}
+use Rattle.initd_options.specs.CommandLine.{Said, judges, read_of, run_of, runs, serves}
 use Rattle.initd_command.specs.Endings.{Ending, done, drained, lawful, limited, no_memory, stopped, torn, uncreated, unflushed, unlawful, unlogged, unread, untold, unwritten, usage}
-use Rattle.initd_command.specs.Options.{service_of}
+use Rattle.initd_options.specs.Options.{service_of}
 use Rattle.initd_command.specs.Services.{end_at}
 use Rattle.init_trace.specs.Event.{Event}
 use Rattle.init_trace.specs.Lawful.{Fault, first_breach}

@@ -1,7 +1,7 @@
 use Rattle.std.proofs.Common.{◌≡◌, rules, Some}
 use Rattle.std.proofs.KnownBytes.{Keeps-refl}
 use Rattle.initd_command.specs.Endings.{uncreated}
-use Rattle.initd_command.specs.Options.{service_of}
+use Rattle.initd_options.specs.Options.{service_of}
 use Rattle.initd_command.proofs.serving.open_trace.Goals as goal
 
 -- the file was not created

@@ -1,0 +1,12 @@
+use Rattle.std.proofs.Common.{◌≡◌, ◌∙◌}
+use Rattle.std.specs.Prelude.{option_map}
+use Rattle.clap.specs.Words.{subcommand_name_of, subcommand_rows_of}
+use Rattle.initd_options.proofs.Entered.{map_first, served_by_other}
+use Rattle.initd_options.proofs.command.read_serving.Goals as goal
+
+-- another subcommand was entered, or none
+pub returns-in-None : goal.returns-in-None
+returns-in-None c =
+    let entered = subcommand_rows_of c.args.matches.now in
+    let name : subcommand_name_of c.args.matches.now ≡ option_map (λ e. e.0) entered = map_first _ _ _ in
+    served_by_other entered (λ named. let wrong = c.in-None.ensures.found.1 (name ∙ named) in cc)

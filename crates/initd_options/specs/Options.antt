@@ -1,0 +1,122 @@
+-- The command line `initd run [--inittab P] [--initctl P] [--trace P] [--level L] [--turns N] [--drain] [--pause SEC]`,
+-- by clap's own words, and what it says.
+use Rattle.std.specs.Prelude.{ℕ, Bool, false, ◌+◌, ◌-◌, ◌*◌, ◌&&◌, if◌then◌else◌, nat_lt, nat_le, List, [], ◌∷◌, codes, Option, Some, None, option_and_then, option_map, string_bytes}
+use Rattle.std.specs.Char.{is_ascii_digit}
+use Rattle.std.specs.Str.{bytes_eq}
+use Rattle.clap.specs.Words.{App, Row, Rule, Text, first_of, new_app, new_rule, with_rule}
+use Rattle.clap.specs.declared.builder.action.ArgAction.TheVariants.{SetTrue}
+use Rattle.init_words.specs.declared.levels.Level.{Level}
+use Rattle.text_lines.specs.Lines.{cut}
+use Rattle.text_lines.specs.Numbers.{number_read}
+use Rattle.initd_options.specs.declared.options.Serving.{Serving}
+use Rattle.initd_options.specs.Values.{level_rule, level_said, value_said}
+
+-- the paths of the inittab and of the channel of requests, each under its own name where it is left out
+unfoldable pub inittab_rule : Rule
+inittab_rule = record (new_rule (codes "inittab")) { long = Some (codes "inittab"); defaults = codes "inittab" ∷ [] }
+
+unfoldable pub initctl_rule : Rule
+initctl_rule = record (new_rule (codes "initctl")) { long = Some (codes "initctl"); defaults = codes "initctl" ∷ [] }
+
+-- the path of the trace, which may be left out
+unfoldable pub trace_path_rule : Rule
+trace_path_rule = record (new_rule (codes "trace")) { long = Some (codes "trace") }
+
+-- the greatest number of turns, a million where it is left out
+unfoldable pub turns_rule : Rule
+turns_rule = record (new_rule (codes "turns")) { long = Some (codes "turns"); defaults = codes "1000000" ∷ [] }
+
+-- `--drain`, without a value
+unfoldable pub drain_rule : Rule
+drain_rule = record (new_rule (codes "drain")) { long = Some (codes "drain"); action = Some SetTrue }
+
+-- the seconds of a pause, one where they are left out
+unfoldable pub pause_rule : Rule
+pause_rule = record (new_rule (codes "pause")) { long = Some (codes "pause"); defaults = codes "1" ∷ [] }
+
+unfoldable pub paths_line : App
+unfolding inittab_rule initctl_rule trace_path_rule
+paths_line = with_rule (with_rule (with_rule (new_app (codes "run")) inittab_rule) initctl_rule) trace_path_rule
+
+unfoldable pub turns_line : App
+unfolding paths_line level_rule turns_rule
+turns_line = with_rule (with_rule paths_line level_rule) turns_rule
+
+unfoldable pub run_line : App
+unfolding turns_line drain_rule pause_rule
+run_line = with_rule (with_rule turns_line drain_rule) pause_rule
+
+-- a number of turns: 1 to 1,000,000,000
+abbrev pub turns_read : Text → Option ℕ
+turns_read word = option_and_then (λ turns. if nat_lt 0 turns then Some turns else None) (number_read 1000000001 word)
+
+-- the number of a digit
+abbrev pub digit_read : ℕ → Option ℕ
+digit_read byte = if is_ascii_digit byte then Some (byte - 48) else None
+
+-- the hundredths of one or two digits behind a point
+abbrev pub part_read : List ℕ → Option ℕ
+part_read (tenth ∷ []) = option_map (λ t. t * 10) (digit_read tenth)
+part_read (tenth ∷ hundredth ∷ []) =
+    option_and_then (λ t. option_map (λ h. t * 10 + h) (digit_read hundredth)) (digit_read tenth)
+part_read _ = None
+
+-- the hundredths of a decimal number below 61
+abbrev pub hundredths_in : List ℕ → Option (List ℕ × List ℕ) → Option ℕ
+hundredths_in word None = option_map (λ whole. whole * 100) (number_read 61 word)
+hundredths_in word (Some parts) =
+    option_and_then (λ whole. option_map (λ part. whole * 100 + part) (part_read parts.1)) (number_read 61 parts.0)
+
+abbrev pub hundredths_read : List ℕ → Option ℕ
+hundredths_read word = hundredths_in word (cut 46 word)
+
+-- a length of 0.01 to 60
+abbrev pub is_length : Option ℕ → Bool
+is_length None = false
+is_length (Some hundredths) = nat_lt 0 hundredths && nat_le hundredths 6000
+
+-- a decimal number of seconds, 0.01 to 60
+abbrev pub is_pause : Text → Bool
+is_pause word = is_length (hundredths_read word)
+
+-- the paths, that of the trace if one is given, the level to go to if one is, the greatest number of turns, whether the
+-- run ends where it is drained, and the seconds of a pause
+pub record Service : Type 0 where
+  pub inittab : Text
+  pub initctl : Text
+  pub trace : Option Text
+  pub level : Option Level
+  pub turns : ℕ
+  pub drain : Bool
+  pub pause : Text
+
+abbrev pub service_of : Serving → Service
+service_of said = record {
+  inittab = string_bytes said.inittab;
+  initctl = string_bytes said.initctl;
+  trace = option_map (λ (path : _). string_bytes path) said.trace;
+  level = said.level;
+  turns = said.turns;
+  drain = said.drain;
+  pause = string_bytes said.pause;
+}
+
+abbrev pub service_with : List Row → Option Level → ℕ → Service
+service_with rows level turns = record {
+  inittab = value_said (codes "inittab") rows;
+  initctl = value_said (codes "initctl") rows;
+  trace = first_of (codes "trace") rows;
+  level = level;
+  turns = turns;
+  drain = bytes_eq (value_said (codes "drain") rows) (codes "true");
+  pause = value_said (codes "pause") rows;
+}
+
+-- what the words behind `run` say; nothing where the level, the turns or the pause are none
+abbrev pub service_said : List Row → Option Service
+service_said rows =
+    option_and_then
+    (λ level. option_and_then
+    (λ turns. if is_pause (value_said (codes "pause") rows) then Some (service_with rows level turns) else None)
+    (turns_read (value_said (codes "turns") rows)))
+    (level_said rows)

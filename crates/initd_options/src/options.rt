@@ -1,0 +1,167 @@
+ghost use Rattle.std.specs.Prelude.{◌≡◌, ◌<◌, false, codes, option_map, string_bytes, IfOk, IfSome};
+ghost use Rattle.clap.specs.declared.builder.command.Command.{out-Command};
+ghost use Rattle.clap.specs.Words.{app_of, first_of, found_of, rows_of};
+ghost use Rattle.initd_options.specs.Options.{digit_read, hundredths_read, is_pause, part_read, paths_line, run_line, service_of, service_said, turns_line, turns_read};
+
+use crate::command::read_level_option;
+use clap::{Arg, ArgAction, ArgMatches, Command};
+use command_words::value_of;
+use init_words::Level;
+use std::alloc::{AllocError, Global};
+use text_lines::{cut, read_below};
+
+/// What a command line of `initd run` says.
+#[derive(Debug, Drop)]
+pub struct Serving {
+    /// The path of the inittab(5).
+    pub inittab: String,
+    /// The path of the channel of requests (initreq.h).
+    pub initctl: String,
+    /// The path of the trace, where one is to be written.
+    pub trace: Option<String>,
+    /// The runlevel to go to, where one is given.
+    pub level: Option<Level>,
+    /// The greatest number of turns.
+    pub turns: u64,
+    /// It ends where nothing is left to do and nothing runs.
+    pub drain: bool,
+    /// The seconds of a pause, as sleep(1) takes them.
+    pub pause: String,
+}
+
+/// The greatest number of turns that may be asked for.
+const TURNS_LIMIT: u64 = 1_000_000_000;
+
+/// The longest pause, in hundredths of a second.
+const PAUSE_LIMIT: u64 = 6_000;
+
+/// The command line behind `initd run`, as far as it names paths.
+fn paths_line<'a>(alloc: Global) -> Result<Command<'a>, AllocError>
+    ensures line { IfOk result (λ made. app_of made ≡ paths_line) }
+    ensures plain { IfOk result (λ made. (out-Command made).has_globals ≡ false) }
+{
+    let inittab = Arg::new(alloc, "inittab")
+        .long("inittab")
+        .default_value("inittab");
+    let initctl = Arg::new(alloc, "initctl")
+        .long("initctl")
+        .default_value("initctl");
+    let trace = Arg::new(alloc, "trace").long("trace");
+    Command::new(alloc, "run")
+        .arg(inittab)?
+        .arg(initctl)?
+        .arg(trace)
+}
+
+/// The same, with the level and the turns.
+fn turns_line<'a>(alloc: Global) -> Result<Command<'a>, AllocError>
+    ensures line { IfOk result (λ made. app_of made ≡ turns_line) }
+    ensures plain { IfOk result (λ made. (out-Command made).has_globals ≡ false) }
+{
+    let level = Arg::new(alloc, "level").long("level");
+    let turns = Arg::new(alloc, "turns")
+        .long("turns")
+        .default_value("1000000");
+    paths_line(alloc)?.arg(level)?.arg(turns)
+}
+
+/// The command line behind `initd run`.
+pub(crate) fn run_line<'a>(alloc: Global) -> Result<Command<'a>, AllocError>
+    ensures line { IfOk result (λ made. app_of made ≡ run_line) }
+    ensures plain { IfOk result (λ made. (out-Command made).has_globals ≡ false) }
+{
+    let drain = Arg::new(alloc, "drain")
+        .long("drain")
+        .action(ArgAction::SetTrue);
+    let pause = Arg::new(alloc, "pause").long("pause").default_value("1");
+    turns_line(alloc)?.arg(drain)?.arg(pause)
+}
+
+/// What the words behind `run` say; None where a value is none of its kind.
+pub(crate) fn read_run(alloc: Global, matches: &ArgMatches) -> Result<Option<Serving>, AllocError>
+    ensures { IfOk result (λ said.
+        option_map service_of said ≡ service_said (rows_of (found_of matches.now))) }
+{
+    let Some(level) = read_level_option(matches) else {
+        return Ok(None);
+    };
+    let Some(turns) = read_turns(value_of(matches, "turns")) else {
+        return Ok(None);
+    };
+    if !is_pause(value_of(matches, "pause")) {
+        return Ok(None);
+    }
+    Ok(Some(Serving {
+        inittab: String::from_str(alloc, value_of(matches, "inittab"))?,
+        initctl: String::from_str(alloc, value_of(matches, "initctl"))?,
+        trace: read_path(alloc, matches)?,
+        level,
+        turns,
+        drain: value_of(matches, "drain") == "true",
+        pause: String::from_str(alloc, value_of(matches, "pause"))?,
+    }))
+}
+
+/// The path of the trace, where one is given.
+fn read_path(alloc: Global, matches: &ArgMatches) -> Result<Option<String>, AllocError>
+    ensures { IfOk result (λ path. option_map (λ (text : _). string_bytes text) path
+        ≡ first_of (codes "trace") (rows_of (found_of matches.now))) }
+{
+    match matches.get_str("trace") {
+        Some(path) => Ok(Some(String::from_str(alloc, path)?)),
+        None => Ok(None),
+    }
+}
+
+/// The number of turns of a word, 1 to 1,000,000,000.
+fn read_turns(word: &str) -> Option<u64>
+    ensures { result ≡ turns_read word.now }
+{
+    let turns = read_below(word.as_bytes(), TURNS_LIMIT + 1)?;
+    if turns > 0 { Some(turns) } else { None }
+}
+
+/// The word is a decimal number of seconds, 0.01 to 60, with at most two digits behind a point.
+fn is_pause(word: &str) -> bool
+    ensures { result ≡ is_pause word.now }
+{
+    match read_hundredths(word.as_bytes()) {
+        Some(length) => 0 < length && length <= PAUSE_LIMIT,
+        None => false,
+    }
+}
+
+/// The hundredths of a second of a word.
+fn read_hundredths(word: &[u8]) -> Option<u64>
+    ensures { result ≡ hundredths_read word.now }
+{
+    let Some((whole, part)) = cut(b'.', word) else {
+        return Some(read_below(word, 61)? * 100);
+    };
+    let seconds = read_below(whole, 61)?;
+    Some(seconds * 100 + read_part(part)?)
+}
+
+/// The hundredths of one or two digits behind a point.
+fn read_part(digits: &[u8]) -> Option<u64>
+    ensures bound { IfSome result (λ part. part < 100) }
+    ensures value { result ≡ part_read digits.now }
+{
+    match digits {
+        [tenth] => Some(read_digit(*tenth)? * 10),
+        [tenth, hundredth] => Some(read_digit(*tenth)? * 10 + read_digit(*hundredth)?),
+        _ => None,
+    }
+}
+
+/// The number of a digit.
+fn read_digit(byte: u8) -> Option<u64>
+    ensures bound { IfSome result (λ number. number < 10) }
+    ensures value { result ≡ digit_read byte }
+{
+    if byte.is_ascii_digit() {
+        Some((byte - b'0') as u64)
+    } else {
+        None
+    }
+}
