@@ -8,3 +8,4 @@ mod Bodies
 mod Taken
 mod Prefixes
 mod Written
+pub mod Ranged

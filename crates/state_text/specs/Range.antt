@@ -12,7 +12,9 @@ use Rattle.child_table.specs.declared.children.Stop.{Stop}
 use Rattle.child_table.specs.declared.children.Stop.TheVariants.{Due, Termed, Killed}
 use Rattle.core_state.specs.declared.parts.Heads.{Heads}
 use Rattle.core_state.specs.declared.parts.Record.{Record}
+use Rattle.child_table.specs.State.{SlotState, child_number}
 use Rattle.core_state.specs.Parts.{State}
+use Rattle.core_state.specs.State.{CoreState}
 
 abbrev pub is_time : ℕ → Bool
 is_time time = nat_lt time (2 ^ 64)
@@ -58,3 +60,11 @@ is_record kept =
 
 abbrev pub is_state : State → Bool
 is_state state = are_heads state.heads && is_table state.table && list_all is_record state.records
+
+-- the seconds that a core keeps are at most an hour, and none before the first stage
+abbrev pub has_short_seconds : CoreState → Bool
+has_short_seconds c = is_stage c.stage c.grace && is_goal c.goal && passes is_goal c.level_wish
+
+-- the id of a record is an id, and the number of its child fits its word
+abbrev pub has_ranged_ids : SlotState → Bool
+has_ranged_ids slot = is_id slot.id && passes is_child (child_number slot)

@@ -1,0 +1,83 @@
+-- A state that keeps the rules can be said in a text, where its seconds are in range.
+use Rattle.std.proofs.Common.{◌≡◌, refl, sym, ◌∙◌, ap, ℕ, ◌+◌, ◌^◌, ◌<◌, ◌≤◌, ◌==◌, Bool, true, false, not, ◌&&◌, cond, List, [], ◌∷◌, map, length, nat_le, nat_lt, Option, Some, None, is_none, arith}
+use Rattle.std.specs.List.{list_all}
+use Rattle.std.proofs.lemmas.Bool.{false≢true, and_parts, and_from, lt-ltb, le-leb, leb-true, eqb-true}
+use Rattle.init_words.specs.Ids.{is_id}
+use Rattle.inittab_text.specs.Written.{is_table}
+use Rattle.respawn_limit.specs.declared.TheConstants.{CLOCK_LIMIT, HOLD, STARTS}
+use Rattle.respawn_limit.specs.State.{LimiterState}
+use Rattle.child_table.specs.declared.children.Stop.{Stop}
+use Rattle.child_table.specs.declared.children.Stop.TheVariants.{Due, Termed, Killed}
+use Rattle.child_table.specs.State.{SlotState, child_number, is_limited_slot}
+use Rattle.child_table.specs.Times.{is_timely, is_stop_timely}
+use Rattle.core_state.specs.Parts.{record_of, state_of}
+use Rattle.core_state.specs.Rules.{KeepsRules, is_hold_of, is_limit_kept, is_limiter_kept, is_unused, never_fall}
+use Rattle.core_state.specs.State.{CoreState}
+use Rattle.state_text.specs.Range.{are_starts, has_ranged_ids, has_short_seconds, is_child, is_goal, is_record, is_stage, is_state, is_stop, is_time, passes}
+
+-- a time up to the clock's limit, and a hold's end
+time_fits : (now time : ℕ) → now ≤ CLOCK_LIMIT → time ≤ now + HOLD → is_time time ≡ true
+time_fits now time clock within = lt-ltb time (2 ^ 64) (omega (arith, clock, within))
+
+past_fits : (now : ℕ) → now ≤ CLOCK_LIMIT → (time : ℕ) → nat_le time now ≡ true → is_time time ≡ true
+past_fits now clock time within = time_fits now time clock (let h : time ≤ now = leb-true time now within in omega (arith, h))
+
+times_fit : (now : ℕ) → now ≤ CLOCK_LIMIT → (times : List ℕ) → list_all (λ time. nat_le time now) times ≡ true → list_all is_time times ≡ true
+times_fit now clock [] within = refl
+times_fit now clock (time ∷ times) within =
+    let parts = and_parts (nat_le time now) (list_all (λ t. nat_le t now) times) within in
+    and_from (is_time time) (list_all is_time times) (past_fits now clock time parts.0) (times_fit now clock times parts.1)
+
+stop_fits : (now : ℕ) → now ≤ CLOCK_LIMIT → (stop : Option Stop) → is_stop_timely now stop ≡ true → passes is_stop stop ≡ true
+stop_fits now clock None timely = refl
+stop_fits now clock (Some Due) timely = refl
+stop_fits now clock (Some (Termed time)) timely = past_fits now clock time timely
+stop_fits now clock (Some (Killed time)) timely = past_fits now clock time timely
+
+record LimiterFits (limiter : LimiterState) : Type 0 where
+  held : passes is_time limiter.held ≡ true
+  few : nat_le (length limiter.starts) STARTS ≡ true
+
+limiter_fits : (now : ℕ) → now ≤ CLOCK_LIMIT → (limited : Bool) (limiter : LimiterState) → cond limited (is_limit_kept now limiter) (is_unused limiter) ≡ true → LimiterFits limiter
+limiter_fits now clock true limiter kept =
+    let outer = and_parts (nat_le (length limiter.starts) STARTS && never_fall limiter.starts) (is_hold_of now limiter limiter.held) kept in
+    record { held = by limiter.held outer.1; few = (and_parts (nat_le (length limiter.starts) STARTS) (never_fall limiter.starts) outer.0).0 }
+  where
+    by : (held : Option ℕ) → is_hold_of now limiter held ≡ true → passes is_time held ≡ true
+    by None h = refl
+    by (Some end) h = let within : end ≤ now + HOLD = leb-true end (now + HOLD) (and_parts (length limiter.starts == STARTS) (nat_le end (now + HOLD)) h).1 in time_fits now end clock within
+limiter_fits now clock false limiter kept =
+    let parts = and_parts (length limiter.starts == 0) (is_none limiter.held) kept in
+    record { held = by limiter.held parts.1; few = le-leb (length limiter.starts) STARTS (let none : length limiter.starts ≡ 0 = eqb-true (length limiter.starts) 0 parts.0 in omega (arith, none)) }
+  where
+    by : (held : Option ℕ) → is_none held ≡ true → passes is_time held ≡ true
+    by None h = refl
+    by (Some end) h = absurd (false≢true h)
+
+record_ranged : (now : ℕ) → now ≤ CLOCK_LIMIT → (slot : SlotState) → is_limiter_kept now slot ≡ true → is_timely now slot ≡ true → has_ranged_ids slot ≡ true → is_record (record_of slot) ≡ true
+record_ranged now clock slot limiter timely ids =
+    let fits = limiter_fits now clock (is_limited_slot slot) slot.limiter limiter in
+    let times = and_parts (list_all (λ start. nat_le start now) slot.limiter.starts) (is_stop_timely now slot.stop) timely in
+    let known = and_parts (is_id slot.id) (passes is_child (child_number slot)) ids in
+    and_from (is_id slot.id && passes is_child (child_number slot) && passes is_stop slot.stop && passes is_time slot.limiter.held) (are_starts slot.limiter.starts)
+    (and_from (is_id slot.id && passes is_child (child_number slot) && passes is_stop slot.stop) (passes is_time slot.limiter.held)
+    (and_from (is_id slot.id && passes is_child (child_number slot)) (passes is_stop slot.stop) ids (stop_fits now clock slot.stop times.1)) fits.held)
+    (and_from (nat_le (length slot.limiter.starts) STARTS) (list_all is_time slot.limiter.starts) fits.few (times_fit now clock slot.limiter.starts times.0))
+
+records_ranged : (now : ℕ) → now ≤ CLOCK_LIMIT → (slots : List SlotState) → list_all (is_limiter_kept now) slots ≡ true → list_all (is_timely now) slots ≡ true → list_all has_ranged_ids slots ≡ true → list_all is_record (map record_of slots) ≡ true
+records_ranged now clock [] limiters timely ids = refl
+records_ranged now clock (slot ∷ slots) limiters timely ids =
+    let kept = and_parts (is_limiter_kept now slot) (list_all (is_limiter_kept now) slots) limiters in
+    let past = and_parts (is_timely now slot) (list_all (is_timely now) slots) timely in
+    let own = and_parts (has_ranged_ids slot) (list_all has_ranged_ids slots) ids in
+    and_from (is_record (record_of slot)) (list_all is_record (map record_of slots)) (record_ranged now clock slot kept.0 past.0 own.0) (records_ranged now clock slots kept.1 past.1 own.1)
+
+pub state_ranged : (c : CoreState) → KeepsRules c → 1 ≤ c.generation → c.generation < 2 ^ 64 → c.reexec ≡ false → has_short_seconds c ≡ true → is_table c.table ≡ true → list_all has_ranged_ids c.slots ≡ true → is_state (state_of c) ≡ true
+state_ranged c rules some small reexec seconds table ids =
+    let outer = and_parts (is_stage c.stage c.grace && is_goal c.goal) (passes is_goal c.level_wish) seconds in
+    let inner = and_parts (is_stage c.stage c.grace) (is_goal c.goal) outer.0 in
+    let generation : (is_time c.generation && nat_le 1 c.generation) ≡ true = and_from (is_time c.generation) (nat_le 1 c.generation) (lt-ltb c.generation (2 ^ 64) small) (le-leb 1 c.generation some) in
+    let time : is_time c.time ≡ true = time_fits c.time c.time rules.clock (omega arith) in
+    let heads = and_from _ (passes is_goal c.level_wish) (and_from _ (not c.reexec) (and_from _ (is_goal c.goal) (and_from _ (is_stage c.stage c.grace) (and_from _ (is_time c.time) generation time) inner.0) inner.1) (ap not reexec)) outer.1 in
+    and_from _ (list_all is_record (map record_of c.slots)) (and_from _ (is_table c.table) heads table)
+    (records_ranged c.time rules.clock c.slots rules.limiters rules.timely ids)
