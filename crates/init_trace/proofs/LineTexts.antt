@@ -60,7 +60,7 @@ clean_from : (word : List ℕ) → has_byte 32 word ≡ false → has_byte 10 wo
 unfolding clean
 clean_from word blank newline = rw (blank, newline) refl
 
-lacks_low : (byte : ℕ) (bytes : List ℕ) → byte < 33 → list_all is_id_byte bytes ≡ true → has_byte byte bytes ≡ false
+pub lacks_low : (byte : ℕ) (bytes : List ℕ) → byte < 33 → list_all is_id_byte bytes ≡ true → has_byte byte bytes ≡ false
 lacks_low byte [] low are = refl
 lacks_low byte (b ∷ bytes) low are =
     let parts = and_parts (is_id_byte b) (list_all is_id_byte bytes) are in
@@ -188,58 +188,58 @@ clean_words (Handed how) is = one_more (codes "handed") _ refl (clean_handed how
 
 -- AND THEY ARE READ
 
-level_is : (level : Level) → level_of_word (level_word level) ≡ Some level
-level_is L0 = refl
-level_is L1 = refl
-level_is L2 = refl
-level_is L3 = refl
-level_is L4 = refl
-level_is L5 = refl
-level_is L6 = refl
-level_is L7 = refl
-level_is L8 = refl
-level_is L9 = refl
-level_is S = refl
+pub level_back : (level : Level) → level_of_word (level_word level) ≡ Some level
+level_back L0 = refl
+level_back L1 = refl
+level_back L2 = refl
+level_back L3 = refl
+level_back L4 = refl
+level_back L5 = refl
+level_back L6 = refl
+level_back L7 = refl
+level_back L8 = refl
+level_back L9 = refl
+level_back S = refl
 
-letter_is : (letter : Letter) → letter_of_word (letter_word letter) ≡ Some letter
-letter_is A = refl
-letter_is B = refl
-letter_is C = refl
+letter_back : (letter : Letter) → letter_of_word (letter_word letter) ≡ Some letter
+letter_back A = refl
+letter_back B = refl
+letter_back C = refl
 
-run_is : (level : Level) → stage_of_word (level_word level) ≡ Some (stage.Run level)
-run_is L0 = refl
-run_is L1 = refl
-run_is L2 = refl
-run_is L3 = refl
-run_is L4 = refl
-run_is L5 = refl
-run_is L6 = refl
-run_is L7 = refl
-run_is L8 = refl
-run_is L9 = refl
-run_is S = refl
+run_back : (level : Level) → stage_of_word (level_word level) ≡ Some (stage.Run level)
+run_back L0 = refl
+run_back L1 = refl
+run_back L2 = refl
+run_back L3 = refl
+run_back L4 = refl
+run_back L5 = refl
+run_back L6 = refl
+run_back L7 = refl
+run_back L8 = refl
+run_back L9 = refl
+run_back S = refl
 
-stage_is : (now : Stage) → stage_of_word (stage_word now) ≡ Some now
-stage_is stage.Sysinit = refl
-stage_is stage.Boot = refl
-stage_is (stage.Run level) = run_is level
+pub stage_back : (now : Stage) → stage_of_word (stage_word now) ≡ Some now
+stage_back stage.Sysinit = refl
+stage_back stage.Boot = refl
+stage_back (stage.Run level) = run_back level
 
-order_is : (order : Ask) → order_of_word (order_word order) ≡ Some order
-order_is Start = refl
-order_is Look = refl
-order_is Term = refl
-order_is Kill = refl
+pub order_back : (order : Ask) → order_of_word (order_word order) ≡ Some order
+order_back Start = refl
+order_back Look = refl
+order_back Term = refl
+order_back Kill = refl
 
-power_is : (kind : PowerKind) → power_of_word (power_word kind) ≡ Some kind
-power_is power.Fail = refl
-power_is power.FailNow = refl
-power_is power.Ok = refl
+power_back : (kind : PowerKind) → power_of_word (power_word kind) ≡ Some kind
+power_back power.Fail = refl
+power_back power.FailNow = refl
+power_back power.Ok = refl
 
-cause_is : (why : Cause) → cause_of_word (decimal (cause_number why)) ≡ Some why
-cause_is cause.Magic = rw (decimal_digit 1 (lit< tt)) refl
-cause_is cause.Unknown = rw (decimal_digit 2 (lit< tt)) refl
-cause_is cause.LeftOut = rw (decimal_digit 3 (lit< tt)) refl
-cause_is cause.Character = rw (decimal_digit 4 (lit< tt)) refl
+cause_back : (why : Cause) → cause_of_word (decimal (cause_number why)) ≡ Some why
+cause_back cause.Magic = rw (decimal_digit 1 (lit< tt)) refl
+cause_back cause.Unknown = rw (decimal_digit 2 (lit< tt)) refl
+cause_back cause.LeftOut = rw (decimal_digit 3 (lit< tt)) refl
+cause_back cause.Character = rw (decimal_digit 4 (lit< tt)) refl
 
 -- how the words of a happening are read: a table's by its count, all others as the happening
 abbrev Said : Event → Type 0
@@ -247,12 +247,12 @@ Said (NewTable table) = entries_brought (words_of (NewTable table)) ≡ Some (le
 Said h = (entries_brought (words_of h) ≡ None) × (words_read (words_of h) ≡ Some h)
 
 got_said : (request : Request) → is_request request ≡ true → Said (Got request)
-got_said (got.Level level seconds) is = (refl, rw (level_is level, number_read-decimal (GRACE_LIMIT + 1) seconds (below seconds (GRACE_LIMIT + 1) is (omega arith)) is) refl)
-got_said (got.Call letter) is = (refl, rw (letter_is letter) refl)
+got_said (got.Level level seconds) is = (refl, rw (level_back level, number_read-decimal (GRACE_LIMIT + 1) seconds (below seconds (GRACE_LIMIT + 1) is (omega arith)) is) refl)
+got_said (got.Call letter) is = (refl, rw (letter_back letter) refl)
 got_said got.Reload is = (refl, refl)
 got_said got.Reexec is = (refl, refl)
-got_said (got.Power kind) is = (refl, rw (power_is kind) refl)
-got_said (got.Nothing why) is = (refl, rw (cause_is why) refl)
+got_said (got.Power kind) is = (refl, rw (power_back kind) refl)
+got_said (got.Nothing why) is = (refl, rw (cause_back why) refl)
 
 handed_said : (how : HandOver) → is_hand_over how ≡ true → Said (Handed how)
 handed_said handed.Whole is = (refl, refl)
@@ -269,12 +269,12 @@ said (NewTable table) is =
     let few : nat_lt (length table) (ENTRY_LIMIT + 1) ≡ true = lt-ltb (length table) (ENTRY_LIMIT + 1) (omega (arith, (table_parts table is).0)) in
     number_read-decimal (ENTRY_LIMIT + 1) (length table) (below (length table) (ENTRY_LIMIT + 1) few (omega arith)) few
 said NotRead is = (refl, refl)
-said (Enter now seconds) is = (refl, rw (stage_is now, number_read-decimal (GRACE_LIMIT + 1) seconds (below seconds (GRACE_LIMIT + 1) is (omega arith)) is) refl)
-said (Call letter) is = (refl, rw (letter_is letter) refl)
-said (Power kind) is = (refl, rw (power_is kind) refl)
-said (Asked id order) is = (refl, rw (is, order_is order) refl)
+said (Enter now seconds) is = (refl, rw (stage_back now, number_read-decimal (GRACE_LIMIT + 1) seconds (below seconds (GRACE_LIMIT + 1) is (omega arith)) is) refl)
+said (Call letter) is = (refl, rw (letter_back letter) refl)
+said (Power kind) is = (refl, rw (power_back kind) refl)
+said (Asked id order) is = (refl, rw (is, order_back order) refl)
 said (Hold id) is = (refl, rw is refl)
-said (Settle level) is = (refl, rw (level_is level) refl)
+said (Settle level) is = (refl, rw (level_back level) refl)
 said (Birth id number) is =
     let parts = and_parts (is_id id) (is_number number) is in
     (refl, rw (parts.0, number_read-decimal (2 ^ 32) number (below number (2 ^ 32) parts.1 (omega arith)) parts.1) refl)

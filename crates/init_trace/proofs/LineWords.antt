@@ -37,69 +37,69 @@ use Rattle.init_trace.specs.Reading.{both, all_three, own_level, level_of_word, 
 -- FROM WHAT IS READ TO ITS WORDS
 
 -- a choice of two readings: where the test holds the first was read, else the second
-choice : {X P : Type 0} (b : Bool) (one other : Option X) (x : X) → cond b one other ≡ Some x → (b ≡ true → one ≡ Some x → P) → (other ≡ Some x → P) → P
+pub choice : {X P : Type 0} (b : Bool) (one other : Option X) (x : X) → cond b one other ≡ Some x → (b ≡ true → one ≡ Some x → P) → (other ≡ Some x → P) → P
 choice true one other x is here there = here refl is
 choice false one other x is here there = there is
 
 -- the same, where the test is that the word is a name
-named : {X P : Type 0} (word name : List ℕ) (one other : Option X) (x : X) → cond (same_id word name) one other ≡ Some x → (word ≡ name → one ≡ Some x → P) → (other ≡ Some x → P) → P
+pub named : {X P : Type 0} (word name : List ℕ) (one other : Option X) (x : X) → cond (same_id word name) one other ≡ Some x → (word ≡ name → one ≡ Some x → P) → (other ≡ Some x → P) → P
 named word name one other x is here there = choice (same_id word name) one other x is (λ same at. here (same_id-is word name same) at) there
 
-nothing : {X P : Type 0} (x : X) → ◌≡◌ {A = Option X} None (Some x) → P
+pub nothing : {X P : Type 0} (x : X) → ◌≡◌ {A = Option X} None (Some x) → P
 nothing x is = absurd (cc)
 
-paired : {X Y Z P : Type 0} (f : X → Y → Z) (o : Option X) (p : Option Y) (z : Z) → both f o p ≡ Some z → ((x : X) (y : Y) → o ≡ Some x → p ≡ Some y → f x y ≡ z → P) → P
-paired f None p z is next = absurd (cc)
-paired f (Some x) None z is next = absurd (cc)
-paired f (Some x) (Some y) z is next = next x y refl refl (cc)
+pub both_some : {X Y Z P : Type 0} (f : X → Y → Z) (o : Option X) (p : Option Y) (z : Z) → both f o p ≡ Some z → ((x : X) (y : Y) → o ≡ Some x → p ≡ Some y → f x y ≡ z → P) → P
+both_some f None p z is next = absurd (cc)
+both_some f (Some x) None z is next = absurd (cc)
+both_some f (Some x) (Some y) z is next = next x y refl refl (cc)
 
-tripled : {W X Y Z P : Type 0} (f : W → X → Y → Z) (o : Option W) (p : Option X) (q : Option Y) (z : Z) → all_three f o p q ≡ Some z → ((w : W) (x : X) (y : Y) → o ≡ Some w → p ≡ Some x → q ≡ Some y → f w x y ≡ z → P) → P
-tripled f None p q z is next = absurd (cc)
-tripled f (Some w) None q z is next = absurd (cc)
-tripled f (Some w) (Some x) None z is next = absurd (cc)
-tripled f (Some w) (Some x) (Some y) z is next = next w x y refl refl refl (cc)
+all_three_some : {W X Y Z P : Type 0} (f : W → X → Y → Z) (o : Option W) (p : Option X) (q : Option Y) (z : Z) → all_three f o p q ≡ Some z → ((w : W) (x : X) (y : Y) → o ≡ Some w → p ≡ Some x → q ≡ Some y → f w x y ≡ z → P) → P
+all_three_some f None p q z is next = absurd (cc)
+all_three_some f (Some w) None q z is next = absurd (cc)
+all_three_some f (Some w) (Some x) None z is next = absurd (cc)
+all_three_some f (Some w) (Some x) (Some y) z is next = next w x y refl refl refl (cc)
 
 -- an id that was read
-id_of : (word id : List ℕ) → id_read word ≡ Some id → (id ≡ word) × (is_id id ≡ true)
-id_of word id is = choice (is_id word) (Some word) None id is (λ holds at. let same : word ≡ id = same_Some word id at in (sym same, subst (λ w. is_id w ≡ true) same holds)) (nothing id)
+pub id_own : (word id : List ℕ) → id_read word ≡ Some id → (id ≡ word) × (is_id id ≡ true)
+id_own word id is = choice (is_id word) (Some word) None id is (λ holds at. let same : word ≡ id = same_Some word id at in (sym same, subst (λ w. is_id w ≡ true) same holds)) (nothing id)
 
 own_level_is : (code : ℕ) (o : Option Level) (level : Level) → own_level code o ≡ Some level → level_code level ≡ code
 own_level_is code None level is = nothing level is
 own_level_is code (Some k) level is = choice (level_code k == code) (Some k) None level is (λ holds at. let same : k ≡ level = same_Some k level at in subst (λ l. level_code l ≡ code) same (eqb-true (level_code k) code holds)) (nothing level)
 
-level_of : (word : List ℕ) (level : Level) → level_of_word word ≡ Some level → level_word level ≡ word
-level_of [] level is = nothing level is
-level_of (code ∷ []) level is = ap (λ c. c ∷ []) (own_level_is code (level_read code) level is)
-level_of (code ∷ b ∷ word) level is = nothing level is
+pub level_own : (word : List ℕ) (level : Level) → level_of_word word ≡ Some level → level_word level ≡ word
+level_own [] level is = nothing level is
+level_own (code ∷ []) level is = ap (λ c. c ∷ []) (own_level_is code (level_read code) level is)
+level_own (code ∷ b ∷ word) level is = nothing level is
 
 own_letter_is : (code : ℕ) (o : Option Letter) (letter : Letter) → own_letter code o ≡ Some letter → letter_code letter ≡ code
 own_letter_is code None letter is = nothing letter is
 own_letter_is code (Some k) letter is = choice (letter_code k == code) (Some k) None letter is (λ holds at. let same : k ≡ letter = same_Some k letter at in subst (λ l. letter_code l ≡ code) same (eqb-true (letter_code k) code holds)) (nothing letter)
 
-letter_of : (word : List ℕ) (letter : Letter) → letter_of_word word ≡ Some letter → letter_word letter ≡ word
-letter_of [] letter is = nothing letter is
-letter_of (code ∷ []) letter is = ap (λ c. c ∷ []) (own_letter_is code (letter_read code) letter is)
-letter_of (code ∷ b ∷ word) letter is = nothing letter is
+letter_own : (word : List ℕ) (letter : Letter) → letter_of_word word ≡ Some letter → letter_word letter ≡ word
+letter_own [] letter is = nothing letter is
+letter_own (code ∷ []) letter is = ap (λ c. c ∷ []) (own_letter_is code (letter_read code) letter is)
+letter_own (code ∷ b ∷ word) letter is = nothing letter is
 
 -- a constant that was read at a name
-at_name : {X : Type 0} (write : X → List ℕ) (word name : List ℕ) (k x : X) → write k ≡ name → word ≡ name → Some k ≡ Some x → write x ≡ word
+pub at_name : {X : Type 0} (write : X → List ℕ) (word name : List ℕ) (k x : X) → write k ≡ name → word ≡ name → Some k ≡ Some x → write x ≡ word
 at_name write word name k x own same is = let at : k ≡ x = same_Some k x is in subst (λ y. write y ≡ word) at (own ∙ sym same)
 
-stage_of_is : (word : List ℕ) (now : Stage) → stage_of_word word ≡ Some now → stage_word now ≡ word
-stage_of_is word now is =
+pub stage_own : (word : List ℕ) (now : Stage) → stage_of_word word ≡ Some now → stage_word now ≡ word
+stage_own word now is =
     named word (codes "sysinit") _ _ now is (λ same at. at_name stage_word word (codes "sysinit") stage.Sysinit now refl same at) (λ is.
     named word (codes "boot") _ _ now is (λ same at. at_name stage_word word (codes "boot") stage.Boot now refl same at) (λ is.
-    option_map_some stage.Run (level_of_word word) now is (λ level at same. subst (λ s. stage_word s ≡ word) same (level_of word level at))))
+    option_map_some stage.Run (level_of_word word) now is (λ level at same. subst (λ s. stage_word s ≡ word) same (level_own word level at))))
 
-order_of_is : (word : List ℕ) (order : Ask) → order_of_word word ≡ Some order → order_word order ≡ word
-order_of_is word order is =
+pub order_own : (word : List ℕ) (order : Ask) → order_of_word word ≡ Some order → order_word order ≡ word
+order_own word order is =
     named word (codes "start") _ _ order is (λ same at. at_name order_word word (codes "start") Start order refl same at) (λ is.
     named word (codes "look") _ _ order is (λ same at. at_name order_word word (codes "look") Look order refl same at) (λ is.
     named word (codes "term") _ _ order is (λ same at. at_name order_word word (codes "term") Term order refl same at) (λ is.
     named word (codes "kill") _ _ order is (λ same at. at_name order_word word (codes "kill") Kill order refl same at) (nothing order))))
 
-power_of_is : (word : List ℕ) (kind : PowerKind) → power_of_word word ≡ Some kind → power_word kind ≡ word
-power_of_is word kind is =
+power_own : (word : List ℕ) (kind : PowerKind) → power_of_word word ≡ Some kind → power_word kind ≡ word
+power_own word kind is =
     named word (codes "fail") _ _ kind is (λ same at. at_name power_word word (codes "fail") power.Fail kind refl same at) (λ is.
     named word (codes "failnow") _ _ kind is (λ same at. at_name power_word word (codes "failnow") power.FailNow kind refl same at) (λ is.
     named word (codes "ok") _ _ kind is (λ same at. at_name power_word word (codes "ok") power.Ok kind refl same at) (nothing kind)))
@@ -107,9 +107,9 @@ power_of_is word kind is =
 cause_word : Cause → List ℕ
 cause_word why = decimal (cause_number why)
 
-cause_of_is : (word : List ℕ) (why : Cause) → cause_of_word word ≡ Some why → decimal (cause_number why) ≡ word
+cause_own : (word : List ℕ) (why : Cause) → cause_of_word word ≡ Some why → decimal (cause_number why) ≡ word
 unfolding cause_word
-cause_of_is word why is =
+cause_own word why is =
     named word (codes "1") _ _ why is (λ same at. at_name cause_word word (codes "1") cause.Magic why (decimal_digit 1 (lit< tt)) same at) (λ is.
     named word (codes "2") _ _ why is (λ same at. at_name cause_word word (codes "2") cause.Unknown why (decimal_digit 2 (lit< tt)) same at) (λ is.
     named word (codes "3") _ _ why is (λ same at. at_name cause_word word (codes "3") cause.LeftOut why (decimal_digit 3 (lit< tt)) same at) (λ is.
@@ -123,7 +123,7 @@ Read happening words = (words_of happening ≡ words) × (is_in_range happening 
 about : (word id : List ℕ) (given : List ℕ) (make : List ℕ → Event) (name : List ℕ) (h : Event) → ((i : List ℕ) → words_of (make i) ≡ name ∷ i ∷ []) → ((i : List ℕ) → is_in_range (make i) ≡ is_id i) → word ≡ name → id_read given ≡ Some id → Some (make id) ≡ Some h → Read h (word ∷ given ∷ [])
 about word id given make name h spoken ranged same at is =
     let this : make id ≡ h = same_Some (make id) h is in
-    let own = id_of given id at in
+    let own = id_own given id at in
     subst (λ e. Read e (word ∷ given ∷ [])) this (spoken id ∙ rw (same, own.0) refl, ranged id ∙ own.1)
 
 about_is : (word given id : List ℕ) (h : Event) → id_read given ≡ Some id → about_read word id ≡ Some h → Read h (word ∷ given ∷ [])
@@ -148,9 +148,9 @@ request_is word request is =
 
 request_pair_is : (word given : List ℕ) (request : Request) → request_pair_read word given ≡ Some request → (got_words request ≡ word ∷ given ∷ []) × (is_request request ≡ true)
 request_pair_is word given request is =
-    named word (codes "call") _ _ request is (λ same made. option_map_some got.Call (letter_of_word given) request made (λ letter at this. made_of (got.Call letter) this (rw (same, letter_of given letter at) refl, refl))) (λ is.
-    named word (codes "power") _ _ request is (λ same made. option_map_some got.Power (power_of_word given) request made (λ kind at this. made_of (got.Power kind) this (rw (same, power_of_is given kind at) refl, refl))) (λ is.
-    named word (codes "nothing") _ _ request is (λ same made. option_map_some got.Nothing (cause_of_word given) request made (λ why at this. made_of (got.Nothing why) this (rw (same, cause_of_is given why at) refl, refl))) (nothing request)))
+    named word (codes "call") _ _ request is (λ same made. option_map_some got.Call (letter_of_word given) request made (λ letter at this. made_of (got.Call letter) this (rw (same, letter_own given letter at) refl, refl))) (λ is.
+    named word (codes "power") _ _ request is (λ same made. option_map_some got.Power (power_of_word given) request made (λ kind at this. made_of (got.Power kind) this (rw (same, power_own given kind at) refl, refl))) (λ is.
+    named word (codes "nothing") _ _ request is (λ same made. option_map_some got.Nothing (cause_of_word given) request made (λ why at this. made_of (got.Nothing why) this (rw (same, cause_own given why at) refl, refl))) (nothing request)))
   where
     made_of : (k : Request) → k ≡ request → (got_words k ≡ word ∷ given ∷ []) × (is_request k ≡ true) → (got_words request ≡ word ∷ given ∷ []) × (is_request request ≡ true)
     made_of k this own = subst (λ r. (got_words r ≡ word ∷ given ∷ []) × (is_request r ≡ true)) this own
@@ -186,18 +186,18 @@ two_is : (word given : List ℕ) (h : Event) → two_read word given ≡ Some h 
 two_is word given h is =
     named word (codes "clock") _ _ h is (λ same is. option_map_some Clock (number_read (2 ^ 64) given) h is (λ n at this. made (Clock n) h _ this (rw (same, (decimal-number_read (2 ^ 64) given n at).0) refl, (decimal-number_read (2 ^ 64) given n at).1))) (λ is.
     named word (codes "death") _ _ h is (λ same is. option_map_some Death (child_of_word given) h is (λ n at this. made (Death n) h _ this (rw (same, (decimal-number_read (2 ^ 32) given n at).0) refl, (decimal-number_read (2 ^ 32) given n at).1))) (λ is.
-    named word (codes "settle") _ _ h is (λ same is. option_map_some Settle (level_of_word given) h is (λ level at this. made (Settle level) h _ this (rw (same, level_of given level at) refl, refl))) (λ is.
-    named word (codes "call") _ _ h is (λ same is. option_map_some Call (letter_of_word given) h is (λ letter at this. made (Call letter) h _ this (rw (same, letter_of given letter at) refl, refl))) (λ is.
-    named word (codes "power") _ _ h is (λ same is. option_map_some Power (power_of_word given) h is (λ kind at this. made (Power kind) h _ this (rw (same, power_of_is given kind at) refl, refl))) (λ is.
+    named word (codes "settle") _ _ h is (λ same is. option_map_some Settle (level_of_word given) h is (λ level at this. made (Settle level) h _ this (rw (same, level_own given level at) refl, refl))) (λ is.
+    named word (codes "call") _ _ h is (λ same is. option_map_some Call (letter_of_word given) h is (λ letter at this. made (Call letter) h _ this (rw (same, letter_own given letter at) refl, refl))) (λ is.
+    named word (codes "power") _ _ h is (λ same is. option_map_some Power (power_of_word given) h is (λ kind at this. made (Power kind) h _ this (rw (same, power_own given kind at) refl, refl))) (λ is.
     named word (codes "got") _ _ h is (λ same is. option_map_some Got (request_read given) h is (λ request at this. made (Got request) h _ this (rw (same, (request_is given request at).0) refl, (request_is given request at).1))) (λ is.
     named word (codes "handed") _ _ h is (λ same is. option_map_some Handed (handed_read given) h is (λ how at this. made (Handed how) h _ this (rw (same, (handed_is given how at).0) refl, (handed_is given how at).1))) (λ is.
     option_and_then_some (about_read word) (id_read given) h is (λ id at more. about_is word given id h at more))))))))
 
 three_is : (word first second : List ℕ) (h : Event) → three_read word first second ≡ Some h → Read h (word ∷ first ∷ second ∷ [])
 three_is word first second h is =
-    named word (codes "ask") _ _ h is (λ same is. paired Asked (id_read first) (order_of_word second) h is (λ id order at of this. made (Asked id order) h _ this (rw (same, (id_of first id at).0, order_of_is second order of) refl, (id_of first id at).1))) (λ is.
-    named word (codes "birth") _ _ h is (λ same is. paired Birth (id_read first) (child_of_word second) h is (λ id n at of this. made (Birth id n) h _ this (rw (same, (id_of first id at).0, (decimal-number_read (2 ^ 32) second n of).0) refl, and_from _ _ (id_of first id at).1 (decimal-number_read (2 ^ 32) second n of).1))) (λ is.
-    named word (codes "enter") _ _ h is (λ same is. paired Enter (stage_of_word first) (seconds_of_word second) h is (λ now seconds at of this. made (Enter now seconds) h _ this (rw (same, stage_of_is first now at, (decimal-number_read (GRACE_LIMIT + 1) second seconds of).0) refl, (decimal-number_read (GRACE_LIMIT + 1) second seconds of).1))) (λ is.
+    named word (codes "ask") _ _ h is (λ same is. both_some Asked (id_read first) (order_of_word second) h is (λ id order at of this. made (Asked id order) h _ this (rw (same, (id_own first id at).0, order_own second order of) refl, (id_own first id at).1))) (λ is.
+    named word (codes "birth") _ _ h is (λ same is. both_some Birth (id_read first) (child_of_word second) h is (λ id n at of this. made (Birth id n) h _ this (rw (same, (id_own first id at).0, (decimal-number_read (2 ^ 32) second n of).0) refl, and_from _ _ (id_own first id at).1 (decimal-number_read (2 ^ 32) second n of).1))) (λ is.
+    named word (codes "enter") _ _ h is (λ same is. both_some Enter (stage_of_word first) (seconds_of_word second) h is (λ now seconds at of this. made (Enter now seconds) h _ this (rw (same, stage_own first now at, (decimal-number_read (GRACE_LIMIT + 1) second seconds of).0) refl, (decimal-number_read (GRACE_LIMIT + 1) second seconds of).1))) (λ is.
     named word (codes "got") _ _ h is (λ same is. option_map_some Got (request_pair_read first second) h is (λ request at this. made (Got request) h _ this (rw (same, (request_pair_is first second request at).0) refl, (request_pair_is first second request at).1))) (λ is.
     named word (codes "handed") _ _ h is (λ same is. option_map_some Handed (handed_pair_read first second) h is (λ how at this. made (Handed how) h _ this (rw (same, (handed_pair_is first second how at).0) refl, (handed_pair_is first second how at).1))) (nothing h)))))
 
@@ -207,14 +207,14 @@ two_named word name other second one rest x is here there = choice (same_id word
 
 reaped_is : (word first second : List ℕ) (o : Option Status) (status : Status) (more : List (List ℕ)) (id : List ℕ) (n : ℕ) → word ≡ codes "reaped" → id_read first ≡ Some id → child_of_word second ≡ Some n → status_words status ≡ more → is_status status ≡ true → Read (Reaped id n status) (word ∷ first ∷ second ∷ more)
 reaped_is word first second o status more id n same at of spoken ranged =
-    let own = id_of first id at in
+    let own = id_own first id at in
     let number = decimal-number_read (2 ^ 32) second n of in
     (rw (same, own.0, number.0, spoken) refl, and_from (is_id id && is_number n) (is_status status) (and_from (is_id id) (is_number n) own.1 number.1) ranged)
 
 four_is : (word first second third : List ℕ) (h : Event) → four_read word first second third ≡ Some h → Read h (word ∷ first ∷ second ∷ third ∷ [])
 four_is word first second third h is =
-    two_named word (codes "reaped") third (codes "killed") _ _ h is (λ same how is. tripled Reaped (id_read first) (child_of_word second) (Some Killed) h is (λ id n status at of was this. made (Reaped id n status) h _ this (killed status id n same how at of was))) (λ is.
-    two_named word (codes "got") first (codes "level") _ _ h is (λ same what is. paired level_wanted (level_of_word second) (seconds_of_word third) h is (λ level seconds at of this. made (Got (got.Level level seconds)) h _ this (rw (same, what, level_of second level at, (decimal-number_read (GRACE_LIMIT + 1) third seconds of).0) refl, (decimal-number_read (GRACE_LIMIT + 1) third seconds of).1))) (nothing h))
+    two_named word (codes "reaped") third (codes "killed") _ _ h is (λ same how is. all_three_some Reaped (id_read first) (child_of_word second) (Some Killed) h is (λ id n status at of was this. made (Reaped id n status) h _ this (killed status id n same how at of was))) (λ is.
+    two_named word (codes "got") first (codes "level") _ _ h is (λ same what is. both_some level_wanted (level_of_word second) (seconds_of_word third) h is (λ level seconds at of this. made (Got (got.Level level seconds)) h _ this (rw (same, what, level_own second level at, (decimal-number_read (GRACE_LIMIT + 1) third seconds of).0) refl, (decimal-number_read (GRACE_LIMIT + 1) third seconds of).1))) (nothing h))
   where
     killed : (status : Status) (id : List ℕ) (n : ℕ) → word ≡ codes "reaped" → third ≡ codes "killed" → id_read first ≡ Some id → child_of_word second ≡ Some n → Some Killed ≡ Some status → Read (Reaped id n status) (word ∷ first ∷ second ∷ third ∷ [])
     killed status id n same how at of was =
@@ -223,7 +223,7 @@ four_is word first second third h is =
 
 five_is : (word first second third fourth : List ℕ) (h : Event) → five_read word first second third fourth ≡ Some h → Read h (word ∷ first ∷ second ∷ third ∷ fourth ∷ [])
 five_is word first second third fourth h is =
-    two_named word (codes "reaped") third (codes "exit") _ _ h is (λ same how is. tripled Reaped (id_read first) (child_of_word second) (code_of_word fourth) h is (λ id n status at of was this. made (Reaped id n status) h _ this (ended status id n same how at of was))) (nothing h)
+    two_named word (codes "reaped") third (codes "exit") _ _ h is (λ same how is. all_three_some Reaped (id_read first) (child_of_word second) (code_of_word fourth) h is (λ id n status at of was this. made (Reaped id n status) h _ this (ended status id n same how at of was))) (nothing h)
   where
     ended : (status : Status) (id : List ℕ) (n : ℕ) → word ≡ codes "reaped" → third ≡ codes "exit" → id_read first ≡ Some id → child_of_word second ≡ Some n → code_of_word fourth ≡ Some status → Read (Reaped id n status) (word ∷ first ∷ second ∷ third ∷ fourth ∷ [])
     ended status id n same how at of was =

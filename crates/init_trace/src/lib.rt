@@ -8,7 +8,8 @@ mod printing;
 mod ranges;
 mod reading;
 mod steps;
-mod words;
+/// The words that a line is made of.
+pub mod words;
 
 pub use copies::happening_copy;
 pub use happenings::{Handed, Happening, HappeningIn};

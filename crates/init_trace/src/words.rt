@@ -11,13 +11,14 @@ use std::alloc::Allocator;
 use text_lines::{cut, read_below, read_number};
 
 /// The word is this one.
-fn is(word: &[u8], name: &[u8]) -> bool
+pub fn is(word: &[u8], name: &[u8]) -> bool
     ensures { result ≡ same_id word.now name.now }
 {
     word == name
 }
 
-fn read_level(word: &[u8]) -> Option<Level>
+/// The runlevel whose one character the word is, `0` to `9` or `S` (init(8)).
+pub fn read_level(word: &[u8]) -> Option<Level>
     ensures { result ≡ level_of_word word.now }
 {
     let [code] = word else {
@@ -45,7 +46,8 @@ fn read_letter(word: &[u8]) -> Option<Letter>
     }
 }
 
-fn read_stage(word: &[u8]) -> Option<Stage>
+/// The stage of a word: `sysinit`, `boot`, or the character of a runlevel (init(8)).
+pub fn read_stage(word: &[u8]) -> Option<Stage>
     ensures { result ≡ stage_of_word word.now }
 {
     if is(word, b"sysinit") {
@@ -57,7 +59,8 @@ fn read_stage(word: &[u8]) -> Option<Stage>
     Some(Stage::Run(read_level(word)?))
 }
 
-fn read_order(word: &[u8]) -> Option<Ask>
+/// The order of a word: `start` or `look`, or a signal that stops a child (init(8)), `term` or `kill`.
+pub fn read_order(word: &[u8]) -> Option<Ask>
     ensures { result ≡ order_of_word word.now }
 {
     if is(word, b"start") {
@@ -108,14 +111,16 @@ fn read_cause(word: &[u8]) -> Option<Cause>
     None
 }
 
-fn read_seconds(word: &[u8]) -> Option<u16>
+/// The seconds between the two signals that stop a child (init(8)): a number of 0 to 3600.
+pub fn read_seconds(word: &[u8]) -> Option<u16>
     ensures { result ≡ seconds_of_word word.now }
 {
     let seconds = read_below(word, u64::from(GRACE_LIMIT) + 1)?;
     Some(seconds as u16)
 }
 
-fn read_child(word: &[u8]) -> Option<ChildNo>
+/// The number that a system gave a child: below 2^32.
+pub fn read_child(word: &[u8]) -> Option<ChildNo>
     ensures { result ≡ child_of_word word.now }
 {
     let number = read_below(word, 1 << 32)?;

@@ -276,23 +276,23 @@ length-levels_written a [] few = by_test (ignores_levels a)
 length-levels_written a (m ∷ ms) few = omega (arith, length-map ms mark_code)
 
 -- the word of an action is read as the action
-read_is : (a : Act) → act_read (word_of a) ≡ Some a
+pub act_back : (a : Act) → act_read (word_of a) ≡ Some a
 unfolding act_read
-read_is act.Sysinit = refl
-read_is act.Boot = refl
-read_is act.Bootwait = refl
-read_is act.Wait = refl
-read_is act.Once = refl
-read_is act.Respawn = refl
-read_is act.Ondemand = refl
-read_is act.Powerwait = refl
-read_is act.Powerfail = refl
-read_is act.Powerokwait = refl
-read_is act.Powerfailnow = refl
-read_is act.Off = refl
-read_is act.Initdefault = refl
-read_is act.Ctrlaltdel = refl
-read_is act.Kbrequest = refl
+act_back act.Sysinit = refl
+act_back act.Boot = refl
+act_back act.Bootwait = refl
+act_back act.Wait = refl
+act_back act.Once = refl
+act_back act.Respawn = refl
+act_back act.Ondemand = refl
+act_back act.Powerwait = refl
+act_back act.Powerfail = refl
+act_back act.Powerokwait = refl
+act_back act.Powerfailnow = refl
+act_back act.Off = refl
+act_back act.Initdefault = refl
+act_back act.Ctrlaltdel = refl
+act_back act.Kbrequest = refl
 
 kept_is : (e : Entry) → Parts e → kept_of e.act (written e) ≡ e
 unfolding written
@@ -306,7 +306,7 @@ checked_as-written before e h new room =
 checked-written : (before : List Entry) (e : Entry) → Parts e → entry_of e.id before ≡ None → length before < ENTRY_LIMIT → checked before (fields_written e) (Some (written e)) ≡ Ok (Some e)
 unfolding written
 checked-written before e h new room =
-    rw (h.id, le-ltb MARK_LIMIT (length (levels_written e.act e.levels.items)) (length-levels_written e.act e.levels.items h.few), read_is e.act) (checked_as-written before e h new room)
+    rw (h.id, le-ltb MARK_LIMIT (length (levels_written e.act e.levels.items)) (length-levels_written e.act e.levels.items h.few), act_back e.act) (checked_as-written before e h new room)
 
 -- a written line is read as its entry
 pub verdict_of-written : (before : List Entry) (e : Entry) → is_written e ≡ true → entry_of e.id before ≡ None → length before < ENTRY_LIMIT → verdict_of before (fields_written e) ≡ Ok (Some e)

@@ -10,6 +10,7 @@ use Rattle.init_words.specs.Ids.{same_id}
 use Rattle.init_words.proofs.Same.{same_id-is, same_id-self}
 use Rattle.inittab_text.proofs.ReadLemmas.{option_map_some}
 use Rattle.init_trace.specs.Reading.{both}
+use Rattle.init_trace.proofs.LineWords.{both_some}
 use Rattle.state_text.specs.Lines.{bit, or_word}
 use Rattle.state_text.specs.Range.{passes}
 use Rattle.state_text.specs.Reading.{checked_by, pair, pair_read, behind, named_read, or_read, bit_read, first_bit, line_read, then_read, made_read}
@@ -43,12 +44,6 @@ checked_form test ok write read form = record {
   back = λ x is. let parts = and_parts (ok x) (test x) is in rw (form.back x parts.0, parts.1) refl;
   own = λ word x is. checked_some test (read word) x is (λ found passed. let own = form.own word x found in (own.0, and_from (ok x) (test x) own.1 passed));
 }
-
--- two readings that both gave something
-pub both_some : {X Y Z P : Type 0} (f : X → Y → Z) (o : Option X) (p : Option Y) (z : Z) → both f o p ≡ Some z → ((x : X) (y : Y) → o ≡ Some x → p ≡ Some y → f x y ≡ z → P) → P
-both_some f None p z is next = absurd (cc)
-both_some f (Some x) None z is next = absurd (cc)
-both_some f (Some x) (Some y) z is next = next x y refl refl (same_Some (f x y) z is)
 
 -- two texts and a byte between them
 pub pair_form : {X Y : Type 0} (mark : ℕ) (okx : X → Bool) (wx : X → List ℕ) (rx : List ℕ → Option X) (oky : Y → Bool) (wy : Y → List ℕ) (ry : List ℕ → Option Y)

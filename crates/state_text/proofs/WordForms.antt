@@ -1,8 +1,8 @@
 -- Each word of a state text is read exactly, and no blank and no newline stands in it.
-use Rattle.std.proofs.Common.{◌≡◌, ◌⊎◌, inl, inr, ℕ, ◌+◌, ◌<◌, ◌≤◌, ◌^◌, Bool, true, false, cond, not, ◌&&◌, ◌==◌, nat_lt, nat_le, List, [], ◌∷◌, ◌++◌, length, map, find, slice_index, codes, decimal, Option, Some, None, refl, sym, ap, ◌∙◌, subst, arith, lit<}
+use Rattle.std.proofs.Common.{◌≡◌, ◌⊎◌, inl, inr, ℕ, ◌+◌, ◌<◌, ◌≤◌, ◌^◌, Bool, true, false, not, ◌&&◌, ◌==◌, nat_lt, nat_le, List, [], ◌∷◌, ◌++◌, length, map, find, slice_index, codes, decimal, Option, Some, None, refl, sym, ap, ◌∙◌, subst, arith, lit<}
 use Rattle.std.specs.List.{list_all, join_with_byte}
 use Rattle.std.specs.Str.{bytes_eq}
-use Rattle.std.proofs.lemmas.Bool.{and_parts, and_from, or_from, eqb-true, leb-true, ltb-true, ne_eqb}
+use Rattle.std.proofs.lemmas.Bool.{and_parts, and_from, or_from, ltb-true, ne_eqb}
 use Rattle.std.proofs.lemmas.List.Splits.{join_with_byte-slice_split}
 use Rattle.std.proofs.lemmas.Slice.Eq.{bytes_eq-Decides}
 use Rattle.std.proofs.lemmas.Option.{option_and_then_some, same_Some}
@@ -23,18 +23,20 @@ use Rattle.init_words.specs.declared.stages.Stage.{Stage}
 use Rattle.init_words.specs.declared.stages.Stage.TheVariants as stage
 use Rattle.init_words.specs.Actions.{act_read, acts, word_of}
 use Rattle.init_words.specs.Ids.{id_read, is_id, is_id_byte, same_id}
-use Rattle.init_words.specs.Levels.{level_code, level_read}
 use Rattle.init_words.proofs.Same.{same_id-is}
 use Rattle.inittab_text.proofs.ReadLemmas.{option_map_some}
+use Rattle.inittab_text.proofs.WriteLemmas.{act_back}
 use Rattle.init_trace.specs.Lines.{level_word, order_word, stage_word}
-use Rattle.init_trace.specs.Reading.{level_of_word, order_of_word, own_level, seconds_of_word, stage_of_word, child_of_word}
+use Rattle.init_trace.specs.Reading.{level_of_word, order_of_word, seconds_of_word, stage_of_word, child_of_word}
+use Rattle.init_trace.proofs.LineTexts.{lacks_low, level_back, order_back, stage_back}
+use Rattle.init_trace.proofs.LineWords.{both_some, choice, id_own, level_own, named, nothing, order_own, stage_own}
 use Rattle.respawn_limit.specs.declared.TheConstants.{STARTS}
 use Rattle.child_table.specs.declared.children.Stop.{Stop}
 use Rattle.child_table.specs.declared.children.Stop.TheVariants.{Due, Termed, Killed}
 use Rattle.state_text.specs.Lines.{bit, starts_word, stop_word}
 use Rattle.state_text.specs.Range.{are_starts, is_child, is_generation, is_seconds, is_stop, is_time}
 use Rattle.state_text.specs.Reading.{all_read, generation_read, one_bit, signal_read, starts_read, stop_read, time_read}
-use Rattle.state_text.proofs.Forms.{Form, Lacks, both_some, bit_lacks, bit_own, checked_form, checked_some}
+use Rattle.state_text.proofs.Forms.{Form, Lacks, bit_lacks, bit_own, checked_form, checked_some}
 
 -- numbers
 below : (limit n : ℕ) → limit ≤ 2 ^ 64 → nat_lt n limit ≡ true → n < 2 ^ 64
@@ -94,43 +96,7 @@ no_time = no_number (2 ^ 64) (omega arith)
 pub no_child : child_of_word (codes "-") ≡ None
 no_child = no_number (2 ^ 32) (lit< tt)
 
--- choices of two readings
-choice : {X P : Type 0} (b : Bool) (one other : Option X) (x : X) → cond b one other ≡ Some x → (b ≡ true → one ≡ Some x → P) → (other ≡ Some x → P) → P
-choice true one other x is here there = here refl is
-choice false one other x is here there = there is
-
-named : {X P : Type 0} (word name : List ℕ) (one other : Option X) (x : X) → cond (same_id word name) one other ≡ Some x → (word ≡ name → one ≡ Some x → P) → (other ≡ Some x → P) → P
-named word name one other x is here there = choice (same_id word name) one other x is (λ same at. here (same_id-is word name same) at) there
-
-nothing : {X P : Type 0} (x : X) → ◌≡◌ {A = Option X} None (Some x) → P
-nothing x is = absurd (cc)
-
-at_name : {X : Type 0} (write : X → List ℕ) (word name : List ℕ) (k x : X) → write k ≡ name → word ≡ name → Some k ≡ Some x → write x ≡ word
-at_name write word name k x own same is = let at : k ≡ x = same_Some k x is in subst (λ y. write y ≡ word) at (own ∙ sym same)
-
 -- levels
-level_back : (level : Level) → level_of_word (level_word level) ≡ Some level
-level_back L0 = refl
-level_back L1 = refl
-level_back L2 = refl
-level_back L3 = refl
-level_back L4 = refl
-level_back L5 = refl
-level_back L6 = refl
-level_back L7 = refl
-level_back L8 = refl
-level_back L9 = refl
-level_back S = refl
-
-own_level_is : (code : ℕ) (o : Option Level) (level : Level) → own_level code o ≡ Some level → level_code level ≡ code
-own_level_is code None level is = nothing level is
-own_level_is code (Some k) level is = choice (level_code k == code) (Some k) None level is (λ holds at. let same : k ≡ level = same_Some k level at in subst (λ l. level_code l ≡ code) same (eqb-true (level_code k) code holds)) (nothing level)
-
-level_own : (word : List ℕ) (level : Level) → level_of_word word ≡ Some level → level_word level ≡ word
-level_own [] level is = nothing level is
-level_own (code ∷ []) level is = ap (λ c. c ∷ []) (own_level_is code (level_read code) level is)
-level_own (code ∷ b ∷ word) level is = nothing level is
-
 abbrev pub always : {X : Type 0} → X → Bool
 always x = true
 
@@ -170,27 +136,6 @@ pub level_lacks_colon : Lacks 58 always level_word
 level_lacks_colon = λ level is. no_colon level
 
 -- stages
-stage_back : (now : Stage) → stage_of_word (stage_word now) ≡ Some now
-stage_back stage.Sysinit = refl
-stage_back stage.Boot = refl
-stage_back (stage.Run L0) = refl
-stage_back (stage.Run L1) = refl
-stage_back (stage.Run L2) = refl
-stage_back (stage.Run L3) = refl
-stage_back (stage.Run L4) = refl
-stage_back (stage.Run L5) = refl
-stage_back (stage.Run L6) = refl
-stage_back (stage.Run L7) = refl
-stage_back (stage.Run L8) = refl
-stage_back (stage.Run L9) = refl
-stage_back (stage.Run S) = refl
-
-stage_own : (word : List ℕ) (now : Stage) → stage_of_word word ≡ Some now → stage_word now ≡ word
-stage_own word now is =
-    named word (codes "sysinit") _ _ now is (λ same at. at_name stage_word word (codes "sysinit") stage.Sysinit now refl same at) (λ is.
-    named word (codes "boot") _ _ now is (λ same at. at_name stage_word word (codes "boot") stage.Boot now refl same at) (λ is.
-    option_map_some stage.Run (level_of_word word) now is (λ level at same. subst (λ s. stage_word s ≡ word) same (level_own word level at))))
-
 pub stage_form : Form always stage_word stage_of_word
 stage_form = record { back = λ now is. stage_back now; own = λ word now is. (stage_own word now is, refl) }
 
@@ -206,19 +151,6 @@ pub stage_lacks : (byte : ℕ) → (byte ≡ 10) ⊎ (byte ≡ 32) → Lacks byt
 stage_lacks byte is = λ now good. stage_plain byte is now
 
 -- orders
-order_back : (order : Ask) → order_of_word (order_word order) ≡ Some order
-order_back Start = refl
-order_back Look = refl
-order_back Term = refl
-order_back Kill = refl
-
-order_own : (word : List ℕ) (order : Ask) → order_of_word word ≡ Some order → order_word order ≡ word
-order_own word order is =
-    named word (codes "start") _ _ order is (λ same at. at_name order_word word (codes "start") Start order refl same at) (λ is.
-    named word (codes "look") _ _ order is (λ same at. at_name order_word word (codes "look") Look order refl same at) (λ is.
-    named word (codes "term") _ _ order is (λ same at. at_name order_word word (codes "term") Term order refl same at) (λ is.
-    named word (codes "kill") _ _ order is (λ same at. at_name order_word word (codes "kill") Kill order refl same at) (nothing order))))
-
 pub order_form : Form always order_word order_of_word
 order_form = record { back = λ order is. order_back order; own = λ word order is. (order_own word order is, refl) }
 
@@ -235,19 +167,8 @@ pub order_lacks : (byte : ℕ) → (byte ≡ 10) ⊎ (byte ≡ 32) → Lacks byt
 order_lacks byte is = λ order good. order_plain byte is order
 
 -- ids
-id_own : (word id : List ℕ) → id_read word ≡ Some id → (id ≡ word) × (is_id id ≡ true)
-id_own word id is = choice (is_id word) (Some word) None id is (λ holds at. let same : word ≡ id = same_Some word id at in (sym same, subst (λ w. is_id w ≡ true) same holds)) (nothing id)
-
 pub id_form : Form is_id (λ id. id) id_read
 id_form = record { back = λ id is. rw is refl; own = id_own }
-
-lacks_low : (byte : ℕ) (bytes : List ℕ) → byte < 33 → list_all is_id_byte bytes ≡ true → has_byte byte bytes ≡ false
-lacks_low byte [] low are = refl
-lacks_low byte (b ∷ bytes) low are =
-    let parts = and_parts (is_id_byte b) (list_all is_id_byte bytes) are in
-    let range = and_parts (nat_le 33 b) (nat_le b 126) (and_parts (nat_le 33 b && nat_le b 126) (not (b == 58)) parts.0).0 in
-    let above : 33 ≤ b = leb-true 33 b range.0 in
-    or_from (b == byte) (has_byte byte bytes) (ne_eqb b byte (λ same. omega (arith, low, above))) (lacks_low byte bytes low parts.1)
 
 pub id_lacks : (byte : ℕ) → byte < 33 → Lacks byte is_id (λ id. id)
 id_lacks byte low = λ id is. lacks_low byte id low (and_parts (nat_le 1 (length id) && nat_le (length id) ID_LIMIT && not (slice_index id 0 == 35)) (list_all is_id_byte id) is).1
@@ -309,24 +230,6 @@ pub stop_lacks : (byte : ℕ) → (byte ≡ 10) ⊎ (byte ≡ 32) → Lacks byte
 stop_lacks byte is = λ stop good. stop_plain byte is stop good
 
 -- actions
-act_back : (a : Act) → act_read (word_of a) ≡ Some a
-unfolding act_read
-act_back act.Sysinit = refl
-act_back act.Boot = refl
-act_back act.Bootwait = refl
-act_back act.Wait = refl
-act_back act.Once = refl
-act_back act.Respawn = refl
-act_back act.Ondemand = refl
-act_back act.Powerwait = refl
-act_back act.Powerfail = refl
-act_back act.Powerokwait = refl
-act_back act.Powerfailnow = refl
-act_back act.Off = refl
-act_back act.Initdefault = refl
-act_back act.Ctrlaltdel = refl
-act_back act.Kbrequest = refl
-
 found_word : (word : List ℕ) (among : List Act) (a : Act) → find (λ b. bytes_eq (word_of b) word) among ≡ Some a → word_of a ≡ word
 found_word word [] a is = nothing a is
 found_word word (b ∷ among) a is = choice (bytes_eq (word_of b) word) (Some b) (find (λ b. bytes_eq (word_of b) word) among) a is (λ holds at. let same : b ≡ a = same_Some b a at in subst (λ c. word_of c ≡ word) same ((bytes_eq-Decides (word_of b) word).0 holds)) (found_word word among a)

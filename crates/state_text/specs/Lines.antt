@@ -1,7 +1,6 @@
 -- The text of a state (telinit(8)): its lines, and the words of each line, set apart by single blanks.
 use Rattle.std.specs.Prelude.{ℕ, Bool, if◌then◌else◌, List, [], ◌∷◌, ◌++◌, map, length, codes, decimal, Option, Some, None}
 use Rattle.std.specs.List.{flat_map, join_with_byte}
-use Rattle.init_words.specs.declared.entries.Entry.{Entry}
 use Rattle.init_words.specs.declared.stages.Stage.{Stage}
 use Rattle.init_words.specs.Actions.{word_of}
 use Rattle.inittab_text.specs.Written.{fields_written}

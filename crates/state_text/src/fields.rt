@@ -3,14 +3,15 @@ ghost use Rattle.std.specs.Option.{option_map};
 ghost use Rattle.state_text.specs.Reading.{limits_read, marks_read, slot_words_read, generation_line_read, clock_line_read, stage_line_read, goal_line_read, flags_line_read, wish_line_read, wishes_read, stage_pair_read, table_line_read, end_line_read, slot_line_read, reread_read, pair_read, three_bits, slot_made, record_made, behind};
 
 use crate::words::{
-    is, read_act_or_dash, read_child_or_dash, read_four_bits, read_generation, read_goal,
-    read_goal_or_dash, read_order_or_dash, read_seconds, read_stage_or_none, read_starts,
-    read_stop_or_dash, read_three_bits, read_time_or_dash, read_two_bits,
+    read_act_or_dash, read_child_or_dash, read_four_bits, read_generation, read_goal,
+    read_goal_or_dash, read_order_or_dash, read_stage_or_none, read_starts, read_stop_or_dash,
+    read_three_bits, read_time_or_dash, read_two_bits,
 };
 use arrayvec::ArrayVec;
 use child_table::Stop;
 use core_state::Record;
 use init_trace::Goal;
+use init_trace::words::{is, read_seconds};
 use init_words::{Act, Ask, ChildNo, Id, Stage};
 use respawn_limit::STARTS;
 use text_lines::{cut, read_number};

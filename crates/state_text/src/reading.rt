@@ -12,9 +12,9 @@ use crate::fields::{
     read_slot_line, read_stage_line, read_table_line, read_wish_line,
 };
 use crate::over::Over;
-use crate::words::is;
 use core_state::{Heads, News, Parts, Record};
 use init_trace::Goal;
+use init_trace::words::is;
 use init_words::{Memory, Stage};
 use inittab_text::{Table, read_written};
 use std::alloc::{AllocError, Allocator};
@@ -131,10 +131,8 @@ fn table_begun<A: Allocator + Copy>(
     let Some(rest) = after_lines(count, text) else {
         return Ok(None);
     };
-    let Some(table) = read_written(alloc, &text[..text.len() - rest.len()])? else {
-        return Ok(None);
-    };
-    Ok(Some((table, rest)))
+    let table = read_written(alloc, &text[..text.len() - rest.len()])?;
+    Ok(table.map(|table| (table, rest)))
 }
 
 /// How many of the next lines are those of a table, up to so many.

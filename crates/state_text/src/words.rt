@@ -2,54 +2,22 @@ ghost use Rattle.std.specs.Prelude.{◌≡◌, ◌≤◌, ◌++◌, ◌∷◌, [
 ghost use Rattle.std.specs.Option.{option_map};
 ghost use Rattle.arrayvec.specs.ArrayVec.{array_vec_len};
 ghost use Rattle.init_words.specs.Ids.{same_id};
-ghost use Rattle.init_trace.specs.Reading.{level_of_word, stage_of_word, order_of_word, seconds_of_word, child_of_word};
+ghost use Rattle.init_trace.specs.Reading.{stage_of_word, order_of_word, child_of_word};
 ghost use Rattle.init_words.specs.Actions.{act_read};
 ghost use Rattle.state_text.specs.Reading.{dash_read, or_read, time_read, generation_read, bit_read, one_bit, two_bits, three_bits, four_bits, goal_read, signal_read, stop_read, starts_read};
 
 use arrayvec::ArrayVec;
 use child_table::Stop;
 use init_trace::Goal;
-use init_words::{Act, Ask, ChildNo, GRACE_LIMIT, Level, Stage};
+use init_trace::words::{is, read_child, read_level, read_order, read_seconds, read_stage};
+use init_words::{Act, Ask, ChildNo, Stage};
 use respawn_limit::STARTS;
-use text_lines::{cut, read_below, read_number};
-
-/// The word is this one.
-pub(crate) fn is(word: &[u8], name: &[u8]) -> bool
-    ensures { result ≡ same_id word.now name.now }
-{
-    word == name
-}
+use text_lines::{cut, read_number};
 
 fn is_dash(word: &[u8]) -> bool
     ensures { result ≡ same_id word.now (codes "-") }
 {
     is(word, b"-")
-}
-
-pub(crate) fn read_level(word: &[u8]) -> Option<Level>
-    ensures { result ≡ level_of_word word.now }
-{
-    let [code] = word else {
-        return None;
-    };
-    let level = Level::read(*code)?;
-    if level.code() == *code {
-        Some(level)
-    } else {
-        None
-    }
-}
-
-fn read_stage(word: &[u8]) -> Option<Stage>
-    ensures { result ≡ stage_of_word word.now }
-{
-    if is(word, b"sysinit") {
-        return Some(Stage::Sysinit);
-    }
-    if is(word, b"boot") {
-        return Some(Stage::Boot);
-    }
-    Some(Stage::Run(read_level(word)?))
 }
 
 /// The stage, or the word for none.
@@ -60,13 +28,6 @@ pub(crate) fn read_stage_or_none(word: &[u8]) -> Option<Option<Stage>>
         return Some(None);
     }
     Some(Some(read_stage(word)?))
-}
-
-pub(crate) fn read_seconds(word: &[u8]) -> Option<u16>
-    ensures { result ≡ seconds_of_word word.now }
-{
-    let seconds = read_below(word, u64::from(GRACE_LIMIT) + 1)?;
-    Some(seconds as u16)
 }
 
 pub(crate) fn read_generation(word: &[u8]) -> Option<u64>
@@ -152,8 +113,7 @@ pub(crate) fn read_child_or_dash(word: &[u8]) -> Option<Option<ChildNo>>
     if is_dash(word) {
         return Some(None);
     }
-    let number = read_below(word, 1 << 32)?;
-    Some(Some(ChildNo(number as u32)))
+    Some(Some(read_child(word)?))
 }
 
 pub(crate) fn read_act_or_dash(word: &[u8]) -> Option<Option<Act>>
@@ -163,24 +123,6 @@ pub(crate) fn read_act_or_dash(word: &[u8]) -> Option<Option<Act>>
         return Some(None);
     }
     Some(Some(Act::read(word)?))
-}
-
-fn read_order(word: &[u8]) -> Option<Ask>
-    ensures { result ≡ order_of_word word.now }
-{
-    if is(word, b"start") {
-        return Some(Ask::Start);
-    }
-    if is(word, b"look") {
-        return Some(Ask::Look);
-    }
-    if is(word, b"term") {
-        return Some(Ask::Term);
-    }
-    if is(word, b"kill") {
-        return Some(Ask::Kill);
-    }
-    None
 }
 
 pub(crate) fn read_order_or_dash(word: &[u8]) -> Option<Option<Ask>>
