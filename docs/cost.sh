@@ -1,0 +1,22 @@
+#!/bin/bash
+# What a line of a script costs `initd simulate` over tables of 16, 128 and 512 respawn entries, in processor time.
+# usage: docs/cost.sh INITD     (the program, as `rt run` leaves it in crates/initd/out/initd)
+set -eu
+initd=$1
+folder=$(mktemp -d)
+trap 'rm -r "$folder"' EXIT
+for entries in 16 128 512; do
+    awk -v n="$entries" 'BEGIN { for (i = 0; i < n; i++) printf "%03x:3:respawn:x\n", i }' > "$folder/table"
+    awk -v n="$entries" 'BEGIN {
+        print "clock 0"
+        for (i = 0; i < n; i++) printf "birth %03x %d\ntold %03x\n", i, 1000 + i, i
+        for (lines = 2 * n; lines < 200000; lines += 2 * n + 1) {
+            print "nudge"
+            for (i = 0; i < n; i++) printf "still %03x\ntold %03x\n", i, i
+        }
+    }' > "$folder/script"
+    echo "$entries entries, $(wc -l < "$folder/script") lines"
+    ( time "$initd" simulate --level 3 "$folder/table" "$folder/script" > "$folder/trace" ) 2>&1 | grep user
+    echo "the trace, $(wc -l < "$folder/trace") lines, is judged"
+    ( time "$initd" check "$folder/trace" ) 2>&1 | grep -e user -e lawful
+done
