@@ -34,9 +34,10 @@ use Rattle.initctl_frame.specs.declared.requests.Got.TheVariants as got
 use Rattle.initctl_frame.specs.declared.requests.Cause.{Cause}
 use Rattle.initctl_frame.specs.declared.requests.Cause.TheVariants as cause
 use Rattle.inittab_text.specs.declared.tables.TheConstants.{ENTRY_LIMIT}
-use Rattle.inittab_text.specs.Written.{is_table, text_of, table_written}
+use Rattle.inittab_text.specs.Written.{is_table, table_begun, text_of}
 use Rattle.inittab_text.proofs.Entries.{table_parts}
-use Rattle.inittab_text.proofs.LineLemmas.{newlines-text, after_lines-text, is_table-written}
+use Rattle.inittab_text.proofs.ReadLemmas.{option_map_some}
+use Rattle.inittab_text.proofs.LineLemmas.{begun_back, begun_own, newlines-text}
 use Rattle.inittab_text.proofs.WriteLemmas.{table_written-text, text_of-table_written}
 use Rattle.init_trace.specs.declared.happenings.Happening.TheVariants.{NewTable, NotRead, Enter, Call, Power, Asked, Hold, Settle, Birth, NoBirth, Death, Reaped, Still, NoLook, Hit, Miss, Told, Clock, Nudge, Got, Handed}
 use Rattle.init_trace.specs.declared.happenings.Handed.{Handed as HandOver}
@@ -44,7 +45,7 @@ use Rattle.init_trace.specs.declared.happenings.Handed.TheVariants as handed
 use Rattle.init_trace.specs.Event.{Event}
 use Rattle.init_trace.specs.Lines.{words_of, words_behind, line_of_words, table_lines, event_text, level_word, letter_word, stage_word, order_word, power_word, cause_number, status_words, got_words, handed_words}
 use Rattle.init_trace.specs.Range.{Begun, line_count, is_in_range, is_number, is_status, is_request, is_hand_over}
-use Rattle.init_trace.specs.Reading.{level_of_word, letter_of_word, stage_of_word, order_of_word, power_of_word, cause_of_word, words_read, words_in, entries_brought, table_before, table_begun, begun_by, begun}
+use Rattle.init_trace.specs.Reading.{level_of_word, letter_of_word, stage_of_word, order_of_word, power_of_word, cause_of_word, words_read, words_in, entries_brought, use_begun, begun_by, begun}
 use Rattle.init_trace.proofs.LineWords.{words_read-of}
 
 -- THE WORDS OF A HAPPENING ARE WORDS
@@ -379,8 +380,8 @@ first_line : (h : Event) (more : List ℕ) → is_in_range h ≡ true → cut 10
 first_line h more is = ap (cut 10) (text_begins h more) ∙ cut-append 10 (line (words_of h)) (table_lines h ++ more) (line_lacks h is)
 
 -- what begins a text is found
-table_found : (table : List Entry) (more : List ℕ) → is_table table ≡ true → table_begun (length table) (text_of table ++ more) ≡ Some (NewTable table, more)
-table_found table more is = rw (after_lines-text table more is, take-front (text_of table) more, table_written-text table is) refl
+table_found : (table : List Entry) (more : List ℕ) → is_table table ≡ true → use_begun (length table) (text_of table ++ more) ≡ Some (NewTable table, more)
+table_found table more is = ap (option_map {U = Begun} (λ (parts : List Entry × List ℕ). (NewTable parts.0, parts.1))) (begun_back table more is)
 
 by_words : (h : Event) (more : List ℕ) → (entries_brought (words_of h) ≡ None) × (words_read (words_of h) ≡ Some h) → is_in_range h ≡ true → begun_by (entries_brought (words_in (line (words_of h)))) (line (words_of h)) more ≡ Some (h, more)
 by_words h more own is = rw (line_pieces h is, own.0, line_pieces h is, own.1) refl
@@ -456,29 +457,18 @@ use_words (word ∷ given ∷ []) count is = by (same_id word (codes "use")) ref
     by false same read = absurd (cc)
 use_words (word ∷ given ∷ more ∷ words) count is = absurd (cc)
 
-table_begins : (first rest : List ℕ) (count : ℕ) (h : Event) (more : List ℕ) → entries_brought (words_in first) ≡ Some count → table_begun count rest ≡ Some (h, more) → Begins h more (first ++ 10 ∷ rest)
+table_begins : (first rest : List ℕ) (count : ℕ) (h : Event) (more : List ℕ) → entries_brought (words_in first) ≡ Some count → use_begun count rest ≡ Some (h, more) → Begins h more (first ++ 10 ∷ rest)
 table_begins first rest count h more brought is =
-    option_and_then_some (table_before rest) (after_lines count rest) (h, more) is (λ behind at found.
-    let front = after_lines-front count rest behind at in
-    let taken : take (length rest - length behind) rest ≡ front.front = ap (λ t. take (length t - length behind) t) front.whole ∙ take-front front.front behind in
-    written behind front.front front.whole front.counted (subst (λ t. option_map {U = Begun} (λ table. (NewTable table, behind)) (table_written t) ≡ Some (h, more)) taken found))
-  where
-    written : (behind front : List ℕ) → rest ≡ front ++ behind → newlines front ≡ count → option_map {U = Begun} (λ table. (NewTable table, behind)) (table_written front) ≡ Some (h, more) → Begins h more (first ++ 10 ∷ rest)
-    written behind front whole counted found = by (table_written front) refl found
-      where
-        by : (o : Option (List Entry)) → table_written front ≡ o → option_map {U = Begun} (λ table. (NewTable table, behind)) o ≡ Some (h, more) → Begins h more (first ++ 10 ∷ rest)
-        by None was made = absurd (cc)
-        by (Some table) was made =
-            let same = some_pair_parts (NewTable table) h behind more made in
-            let is_one : is_table table ≡ true = is_table-written front table was in
-            let text : text_of table ≡ front = text_of-table_written front table was in
-            let as_many : count ≡ length table = sym counted ∙ ap newlines (sym text) ∙ newlines-text table is_one in
-            let spelled : words_of (NewTable table) ≡ words_in first = ap (λ n. codes "use" ∷ decimal n ∷ []) (sym as_many) ∙ sym (use_words (words_in first) count brought) in
-            let begins : event_text (NewTable table) ++ behind ≡ first ++ 10 ∷ rest =
-            text_begins (NewTable table) behind
-            ∙ ap (λ t. t ++ 10 ∷ (text_of table ++ behind)) (rejoined first (words_of (NewTable table)) (sym spelled))
-            ∙ ap (λ t. first ++ 10 ∷ (t ++ behind)) text ∙ ap (λ t. first ++ 10 ∷ t) (sym whole) in
-            rw (← same.0, ← same.1) (is_one, begins)
+    option_map_some {Y = Begun} (λ (parts : List Entry × List ℕ). (NewTable parts.0, parts.1)) (table_begun count rest) (h, more) is (λ parts at made.
+    let table : List Entry = parts.0 in
+    let same = some_pair_parts (NewTable table) h parts.1 more (ap Some made) in
+    let own = begun_own count rest parts.1 table at in
+    let spelled : words_of (NewTable table) ≡ words_in first = ap (λ n. codes "use" ∷ decimal n ∷ []) (sym own.2) ∙ sym (use_words (words_in first) count brought) in
+    let begins : event_text (NewTable table) ++ parts.1 ≡ first ++ 10 ∷ rest =
+    text_begins (NewTable table) parts.1
+    ∙ ap (λ t. t ++ 10 ∷ (text_of table ++ parts.1)) (rejoined first (words_of (NewTable table)) (sym spelled))
+    ∙ ap (λ t. first ++ 10 ∷ t) own.0 in
+    rw (← same.0, ← same.1) (own.1, begins))
 
 begins_by : (first rest : List ℕ) (o : Option ℕ) (h : Event) (more : List ℕ) → entries_brought (words_in first) ≡ o → begun_by o first rest ≡ Some (h, more) → Begins h more (first ++ 10 ∷ rest)
 begins_by first rest (Some count) h more brought is = table_begins first rest count h more brought is

@@ -22,7 +22,7 @@ use Rattle.initctl_frame.specs.declared.requests.Got.TheVariants as got
 use Rattle.initctl_frame.specs.declared.requests.Cause.{Cause}
 use Rattle.initctl_frame.specs.declared.requests.Cause.TheVariants as cause
 use Rattle.inittab_text.specs.declared.tables.TheConstants.{ENTRY_LIMIT}
-use Rattle.inittab_text.specs.Written.{table_written}
+use Rattle.inittab_text.specs.Written.{table_begun}
 use Rattle.init_trace.specs.declared.happenings.Happening.TheVariants.{NewTable, NotRead, Enter, Call, Power, Asked, Hold, Settle, Birth, NoBirth, Death, Reaped, Still, NoLook, Hit, Miss, Told, Clock, Nudge, Got, Handed}
 use Rattle.init_trace.specs.declared.happenings.Handed.{Handed as HandOver}
 use Rattle.init_trace.specs.declared.happenings.Handed.TheVariants as handed
@@ -198,18 +198,13 @@ entries_brought _ = None
 abbrev pub words_in : List ℕ → List (List ℕ)
 words_in line = pieces_of 32 line
 
--- the table of the text before an end of it
-abbrev pub table_before : List ℕ → List ℕ → Option Begun
-table_before text rest =
-    option_map (λ table. (NewTable table, rest)) (table_written (take (length text - length rest) text))
-
--- the table of the next so many lines
-abbrev pub table_begun : ℕ → List ℕ → Option Begun
-table_begun count text = option_and_then (table_before text) (after_lines count text)
+-- the use of the table of the next so many lines
+abbrev pub use_begun : ℕ → List ℕ → Option Begun
+use_begun count text = option_map (λ parts. (NewTable parts.0, parts.1)) (table_begun count text)
 
 abbrev pub begun_by : Option ℕ → List ℕ → List ℕ → Option Begun
 begun_by None line text = option_map (λ happening. (happening, text)) (words_read (words_in line))
-begun_by (Some count) line text = table_begun count text
+begun_by (Some count) line text = use_begun count text
 
 -- the first happening of a text, and the text behind it
 abbrev pub begun : List ℕ → Option Begun

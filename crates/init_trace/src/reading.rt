@@ -3,14 +3,14 @@ ghost use Rattle.std.specs.Result.{MatchResult};
 ghost use Rattle.init_trace.specs.Event.{Event};
 ghost use Rattle.init_trace.specs.Lines.{event_text, trace_text};
 ghost use Rattle.init_trace.specs.Range.{Begun, line_count, is_in_range, are_in_range, BeginsNone, Unread};
-ghost use Rattle.init_trace.specs.Reading.{begun, table_begun};
+ghost use Rattle.init_trace.specs.Reading.{begun, use_begun};
 
 use crate::happenings::{Happening, HappeningIn};
 use crate::words::{read_line, read_use};
 use init_words::Memory;
-use inittab_text::read_written;
+use inittab_text::table_begun;
 use std::alloc::{AllocError, Allocator};
-use text_lines::{after_lines, cut};
+use text_lines::cut;
 
 /// Why the text of a trace is not read.
 #[derive(Clone, Copy, Debug, PartialEq, Eq)]
@@ -53,15 +53,10 @@ fn first_table<A: Allocator + Copy>(
     text: &[u8],
 ) -> Result<Found<'_, A>, Memory>
     ensures { IfOk result (λ found.
-        option_map (λ parts. (parts.0, parts.1.now)) found ≡ table_begun count text.now) }
+        option_map (λ parts. (parts.0, parts.1.now)) found ≡ use_begun count text.now) }
 {
-    let Some(rest) = after_lines(count, text) else {
-        return Ok(None);
-    };
-    let Some(table) = read_written(alloc, &text[..text.len() - rest.len()])? else {
-        return Ok(None);
-    };
-    Ok(Some((Happening::NewTable(table), rest)))
+    let found = table_begun(alloc, count, text)?;
+    Ok(found.map(|(table, rest)| (Happening::NewTable(table), rest)))
 }
 
 fn first_by_words<A: Allocator + Copy>(alloc: A, text: &[u8]) -> Result<Found<'_, A>, Memory>

@@ -1,20 +1,22 @@
 -- The lines of a written table: one an entry; and what is read is a table.
-use Rattle.std.proofs.Common.{◌≡◌, ℕ, Bool, true, false, cond, not, ◌==◌, List, [], ◌∷◌, ◌++◌, length, Option, Some, None, Result, Ok, Err, refl, ◌∙◌, arith}
+use Rattle.std.proofs.Common.{◌≡◌, ℕ, Bool, true, false, cond, not, ◌==◌, ◌-◌, List, [], ◌∷◌, ◌++◌, length, take, Option, Some, None, Result, Ok, Err, refl, sym, ap, ◌∙◌, arith}
 use Rattle.std.specs.List.{list_all}
 use Rattle.std.specs.Str.{bytes_eq}
 use Rattle.std.proofs.lemmas.Bool.{and_parts, and_from, not-true, not_from_false, or_parts, or_from}
 use Rattle.std.proofs.lemmas.List.{append_assoc}
+use Rattle.std.proofs.lemmas.Option.{option_and_then_some, some_pair_parts}
+use Rattle.std.specs.Option.{option_map}
 use Rattle.init_words.specs.declared.entries.Entry.{Entry}
 use Rattle.inittab_text.specs.declared.faults.LineKind.{LineKind}
 use Rattle.text_lines.specs.Lines.{has_byte, newlines, after_lines, lines_of, onto_first_line}
 use Rattle.text_lines.proofs.CutLemmas.{cut-append}
-use Rattle.text_lines.proofs.PieceLemmas.{newlines-append, newlines-line}
+use Rattle.text_lines.proofs.PieceLemmas.{after_lines-front, newlines-append, newlines-line, take-front}
 use Rattle.inittab_text.specs.Checks.{verdict_of}
 use Rattle.inittab_text.specs.Reading.{entries_after, entries_from, table_of_text}
-use Rattle.inittab_text.specs.Written.{fields_written, text_of, is_written, is_table, table_written}
+use Rattle.inittab_text.specs.Written.{fields_written, text_of, is_written, is_table, table_begun, table_written}
 use Rattle.inittab_text.proofs.Entries.{table_parts, is_table-push}
-use Rattle.inittab_text.proofs.ReadLemmas.{kept_entry}
-use Rattle.inittab_text.proofs.WriteLemmas.{one_line, parts}
+use Rattle.inittab_text.proofs.ReadLemmas.{kept_entry, option_map_some}
+use Rattle.inittab_text.proofs.WriteLemmas.{one_line, parts, table_written-text, text_of-table_written}
 
 -- a line an entry
 newlines-written : (table : List Entry) → list_all is_written table ≡ true → newlines (text_of table) ≡ length table
@@ -89,3 +91,19 @@ written_by text false table is = absurd (cc)
 
 pub is_table-written : (text : List ℕ) (table : List Entry) → table_written text ≡ Some table → is_table table ≡ true
 is_table-written text table is = written_by text (bytes_eq (text_of (table_of_text text)) text) table is
+
+-- the table that a text begins with
+pub begun_back : (table : List Entry) (rest : List ℕ) → is_table table ≡ true → table_begun (length table) (text_of table ++ rest) ≡ Some (table, rest)
+begun_back table rest is = rw (after_lines-text table rest is, take-front (text_of table) rest, table_written-text table is) refl
+
+pub begun_own : (count : ℕ) (text rest : List ℕ) (table : List Entry) → table_begun count text ≡ Some (table, rest) → (text_of table ++ rest ≡ text) × (is_table table ≡ true) × (count ≡ length table)
+begun_own count text rest table is =
+    option_and_then_some (λ more. option_map {U = List Entry × List ℕ} (λ t. (t, more)) (table_written (take (length text - length more) text))) (after_lines count text) (table, rest) is (λ more at found.
+    let front = after_lines-front count text more at in
+    let taken : take (length text - length more) text ≡ front.front = ap (λ t. take (length t - length more) t) front.whole ∙ take-front front.front more in
+    option_map_some {Y = List Entry × List ℕ} (λ t. (t, more)) (table_written (take (length text - length more) text)) (table, rest) found (λ t was same.
+    let both = some_pair_parts t table more rest (ap Some same) in
+    let written : table_written front.front ≡ Some table = ap table_written (sym taken) ∙ was ∙ ap Some both.0 in
+    let is_one : is_table table ≡ true = is_table-written front.front table written in
+    let spelled : text_of table ≡ front.front = text_of-table_written front.front table written in
+    (rw (spelled, ← both.1) (sym front.whole), is_one, sym front.counted ∙ ap newlines (sym spelled) ∙ newlines-text table is_one)))

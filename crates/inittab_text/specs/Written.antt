@@ -1,6 +1,7 @@
 -- The written form of entries, and what each entry of a table is known to be (inittab(5)).
-use Rattle.std.specs.Prelude.{ℕ, Bool, true, false, not, ◌&&◌, nat_le, if◌then◌else◌, List, [], ◌∷◌, ◌++◌, map, length, Option, Some, None, codes}
+use Rattle.std.specs.Prelude.{ℕ, Bool, true, false, not, ◌&&◌, nat_le, if◌then◌else◌, List, [], ◌∷◌, ◌++◌, ◌-◌, map, length, take, Option, Some, None, codes}
 use Rattle.std.specs.List.{flat_map, list_all}
+use Rattle.std.specs.Option.{option_and_then, option_map}
 use Rattle.std.specs.Str.{bytes_eq}
 use Rattle.inittab_text.specs.declared.tables.TheConstants.{ENTRY_LIMIT}
 use Rattle.init_words.specs.declared.entries.TheConstants.{MARK_LIMIT}
@@ -10,7 +11,7 @@ use Rattle.init_words.specs.declared.levels.Mark.{Mark}
 use Rattle.init_words.specs.Actions.{word_of, ignores_levels, has_process}
 use Rattle.init_words.specs.Ids.{is_id}
 use Rattle.init_words.specs.Levels.{mark_code, names}
-use Rattle.text_lines.specs.Lines.{has_byte}
+use Rattle.text_lines.specs.Lines.{after_lines, has_byte}
 use Rattle.inittab_text.specs.Checks.{is_too_long, is_missing, is_text}
 use Rattle.inittab_text.specs.Tables.{is_distinct}
 use Rattle.inittab_text.specs.Reading.{table_of_text}
@@ -35,6 +36,13 @@ text_of table = flat_map line_of table
 -- the table whose written text this is, where there is one: the table that the text is read as, if it is written so
 abbrev pub table_written : List ℕ → Option (List Entry)
 table_written text = if bytes_eq (text_of (table_of_text text)) text then Some (table_of_text text) else None
+
+-- the table of the next so many lines, and the text behind them
+abbrev pub table_begun : ℕ → List ℕ → Option (List Entry × List ℕ)
+table_begun count text =
+    option_and_then
+    (λ rest. option_map (λ table. (table, rest)) (table_written (take (length text - length rest) text)))
+    (after_lines count text)
 
 -- nothing is there
 abbrev pub is_empty : {X : Type 0} → List X → Bool

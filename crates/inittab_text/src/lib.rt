@@ -16,4 +16,4 @@ pub use faults::{LineFault, LineKind, TableFault};
 pub use reading::{TEXT_LIMIT, read};
 pub use tables::{ENTRY_LIMIT, Table};
 pub use writing::{write, write_line};
-pub use written::read_written;
+pub use written::{read_written, table_begun};

@@ -1,16 +1,16 @@
-ghost use Rattle.std.specs.Prelude.{◌≡◌, ◌≢◌, List, Some, false, true, IfOk, IfSome, IfNone, OnOk};
+ghost use Rattle.std.specs.Prelude.{◌≡◌, ◌≢◌, List, option_map, Some, false, true, IfOk, IfSome, IfNone, OnOk};
 ghost use Rattle.init_words.specs.declared.entries.Entry.{Entry};
 ghost use Rattle.text_lines.specs.Lines.{has_byte};
 ghost use Rattle.inittab_text.specs.Checks.{verdict_of};
 ghost use Rattle.inittab_text.specs.Reading.{entries_after, table_of_text};
-ghost use Rattle.inittab_text.specs.Written.{is_table, text_of, table_written};
+ghost use Rattle.inittab_text.specs.Written.{is_table, table_begun, text_of, table_written};
 
 use crate::checks::verdict_of;
 use crate::tables::Table;
 use crate::writing::write;
 use init_words::Memory;
 use std::alloc::Allocator;
-use text_lines::first_line;
+use text_lines::{after_lines, first_line};
 
 /// Adds a line's entry to the table, if it is kept.
 fn keep_line<A: Allocator>(table: &mut Table<A>, line: &[u8]) -> Result<(), Memory>
@@ -60,4 +60,20 @@ pub fn read_written<A: Allocator + Copy>(alloc: A, text: &[u8]) -> Result<Option
         → text_of table ≢ text.now)) }
 {
     table_written(alloc, text)
+}
+
+/// The table of the next so many lines of a text, and the text behind them; `None` where they are none of a table.
+pub fn table_begun<A: Allocator + Copy>(
+    alloc: A,
+    count: usize,
+    text: &[u8],
+) -> Result<Option<(Table<A>, &[u8])>, Memory>
+    ensures { IfOk result (λ found.
+        option_map (λ parts. (parts.0, parts.1.now)) found ≡ table_begun count text.now) }
+{
+    let Some(rest) = after_lines(count, text) else {
+        return Ok(None);
+    };
+    let table = read_written(alloc, &text[..text.len() - rest.len()])?;
+    Ok(table.map(|table| (table, rest)))
 }

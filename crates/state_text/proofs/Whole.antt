@@ -10,14 +10,14 @@ use Rattle.text_lines.specs.Lines.{after_lines, newlines}
 use Rattle.text_lines.proofs.PieceLemmas.{after_lines-front, take-front}
 use Rattle.init_words.specs.declared.entries.Entry.{Entry}
 use Rattle.inittab_text.proofs.Entries.{table_parts}
-use Rattle.inittab_text.proofs.LineLemmas.{after_lines-text, is_table-written, newlines-text}
+use Rattle.inittab_text.proofs.LineLemmas.{begun_back, begun_own}
 use Rattle.inittab_text.proofs.ReadLemmas.{option_map_some}
 use Rattle.inittab_text.proofs.WriteLemmas.{table_written-text, text_of-table_written}
-use Rattle.inittab_text.specs.Written.{fields_written, is_table, table_written, text_of}
+use Rattle.inittab_text.specs.Written.{table_begun, fields_written, is_table, table_written, text_of}
 use Rattle.core_state.specs.declared.parts.Record.{Record}
 use Rattle.state_text.specs.Lines.{slot_line, table_line, text_of_lines}
 use Rattle.state_text.specs.Range.{is_record}
-use Rattle.state_text.specs.Reading.{line_read, slot_line_read, table_begun, table_line_read, table_read}
+use Rattle.state_text.specs.Reading.{line_read, slot_line_read, table_line_read, table_read}
 use Rattle.state_text.proofs.Forms.{line_front}
 use Rattle.state_text.proofs.LineForms.{slot_front, table_line_form}
 use Rattle.state_text.proofs.WordForms.{time_lacks}
@@ -39,23 +39,8 @@ counted table rest is =
     append_assoc (table_line (length table) ++ 10 ∷ []) (text_of_lines (map fields_written table)) rest ∙ ap (λ t. (table_line (length table) ++ 10 ∷ []) ++ (t ++ rest)) (sym (table_lines table)) in
     ap (line_read table_line_read) regrouped ∙ front.back (length table) (text_of table ++ rest) (lt-ltb (length table) (2 ^ 64) (count_fits table is))
 
-table_found : (table : List Entry) (rest : List ℕ) → is_table table ≡ true → table_begun (length table) (text_of table ++ rest) ≡ Some (table, rest)
-table_found table rest is = rw (after_lines-text table rest is, take-front (text_of table) rest, table_written-text table is) refl
-
 pub table_back : (table : List Entry) (rest : List ℕ) → is_table table ≡ true → table_read (table_text table ++ rest) ≡ Some (table, rest)
-table_back table rest is = rw (counted table rest is) (table_found table rest is)
-
-begun_own : (count : ℕ) (text rest : List ℕ) (table : List Entry) → table_begun count text ≡ Some (table, rest) → (text_of table ++ rest ≡ text) × (is_table table ≡ true) × (count ≡ length table)
-begun_own count text rest table is =
-    option_and_then_some (λ more. option_map {U = List Entry × List ℕ} (λ t. (t, more)) (table_written (take (length text - length more) text))) (after_lines count text) (table, rest) is (λ more at found.
-    let front = after_lines-front count text more at in
-    let taken : take (length text - length more) text ≡ front.front = ap (λ t. take (length t - length more) t) front.whole ∙ take-front front.front more in
-    option_map_some {Y = List Entry × List ℕ} (λ t. (t, more)) (table_written (take (length text - length more) text)) (table, rest) found (λ t was same.
-    let both = some_pair_parts t table more rest (ap Some same) in
-    let written : table_written front.front ≡ Some table = ap table_written (sym taken) ∙ was ∙ ap Some both.0 in
-    let is_one : is_table table ≡ true = is_table-written front.front table written in
-    let spelled : text_of table ≡ front.front = text_of-table_written front.front table written in
-    (rw (spelled, ← both.1) (sym front.whole), is_one, sym front.counted ∙ ap newlines (sym spelled) ∙ newlines-text table is_one)))
+table_back table rest is = rw (counted table rest is) (begun_back table rest is)
 
 pub table_own : (text rest : List ℕ) (table : List Entry) → table_read text ≡ Some (table, rest) → (table_text table ++ rest ≡ text) × (is_table table ≡ true)
 unfolding table_text

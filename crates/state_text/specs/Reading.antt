@@ -12,7 +12,7 @@ use Rattle.init_words.specs.declared.orders.Ask.{Ask}
 use Rattle.init_words.specs.declared.stages.Stage.{Stage}
 use Rattle.init_words.specs.Actions.{act_read}
 use Rattle.init_words.specs.Ids.{id_read, same_id}
-use Rattle.inittab_text.specs.Written.{is_empty, table_written}
+use Rattle.inittab_text.specs.Written.{is_empty, table_begun}
 use Rattle.init_trace.specs.declared.steps.Goal.{Goal}
 use Rattle.init_trace.specs.Reading.{both, level_of_word, stage_of_word, order_of_word, seconds_of_word, child_of_word}
 use Rattle.respawn_limit.specs.declared.TheConstants.{STARTS}
@@ -256,13 +256,7 @@ made_read make found = option_map (λ p. (make p.0, p.1)) found
 abbrev pub heads_read : List ℕ → Option (Heads × List ℕ)
 heads_read text = made_read heads_made (then_read times_read (then_read places_read flags_read) text)
 
--- the table of the next so many lines, and what stands behind them
-abbrev pub table_begun : ℕ → List ℕ → Option (List Entry × List ℕ)
-table_begun count text =
-    option_and_then
-    (λ rest. option_map (λ table. (table, rest)) (table_written (take (length text - length rest) text)))
-    (after_lines count text)
-
+-- the table that the text begins with, and what stands behind it
 abbrev pub table_read : List ℕ → Option (List Entry × List ℕ)
 table_read text = option_and_then (λ p. table_begun p.0 p.1) (line_read table_line_read text)
 

@@ -4,7 +4,7 @@ ghost use Rattle.std.specs.Result.{MatchResult};
 ghost use Rattle.text_lines.specs.Lines.{cut};
 ghost use Rattle.core_state.specs.Parts.{State};
 ghost use Rattle.state_text.specs.Lines.{state_text};
-ghost use Rattle.state_text.specs.Reading.{end_split, Unread, times_read, places_read, flags_read, heads_made, heads_read, table_begun, table_read, version_read, generation_of, line_read, slot_line_read, end_line_read, OnLine};
+ghost use Rattle.state_text.specs.Reading.{end_split, Unread, times_read, places_read, flags_read, heads_made, heads_read, table_read, version_read, generation_of, line_read, slot_line_read, end_line_read, OnLine};
 ghost use Rattle.state_text.specs.Refused.{AreRecords, NoRecords, IsBody, RefusedBody, Says, Refused};
 
 use crate::fields::{
@@ -16,7 +16,7 @@ use core_state::{Heads, News, Parts, Record};
 use init_trace::Goal;
 use init_trace::words::is;
 use init_words::{Memory, Stage};
-use inittab_text::{Table, read_written};
+use inittab_text::{Table, table_begun};
 use std::alloc::{AllocError, Allocator};
 use text_lines::{after_lines, cut, newlines};
 
@@ -117,22 +117,6 @@ fn take_heads(text: &[u8]) -> Result<(Heads, &[u8]), Over>
     let (places, rest) = take_places(rest)?;
     let (wishes, rest) = take_wishes(rest)?;
     Ok((heads_of(times, places, wishes), rest))
-}
-
-/// The table of the next so many lines of a text, and the text behind it.
-fn table_begun<A: Allocator + Copy>(
-    alloc: A,
-    count: usize,
-    text: &[u8],
-) -> Result<Option<(Table<A>, &[u8])>, Memory>
-    ensures { IfOk result (λ found.
-        option_map (λ parts. (parts.0, parts.1.now)) found ≡ table_begun count text.now) }
-{
-    let Some(rest) = after_lines(count, text) else {
-        return Ok(None);
-    };
-    let table = read_written(alloc, &text[..text.len() - rest.len()])?;
-    Ok(table.map(|table| (table, rest)))
 }
 
 /// How many of the next lines are those of a table, up to so many.

@@ -1,7 +1,7 @@
 use Rattle.std.proofs.Common.{rules, ◌≡◌, Some, arith, length, length-append, ap}
 use Rattle.text_lines.specs.Lines.{after_lines}
 use Rattle.text_lines.proofs.PieceLemmas.{after_lines-front}
-use Rattle.init_trace.proofs.reading.first_table.Goals as goal
+use Rattle.inittab_text.proofs.written.table_begun.Goals as goal
 
 pub slice_bounds-read_written-count : goal.slice_bounds-read_written-count
 slice_bounds-read_written-count g c =
