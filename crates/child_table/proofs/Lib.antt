@@ -4,4 +4,5 @@ pub mod Counted
 pub mod Found
 pub mod Numbers
 pub mod Ordered
+pub mod Rebuilt
 pub mod Timely

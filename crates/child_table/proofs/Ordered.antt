@@ -33,7 +33,7 @@ order_map change ids acts (e ∷ table) [] h = absurd h
 order_map change ids acts (e ∷ table) (slot ∷ slots) h = (ids slot ∙ h.0, acts slot ∙ h.1, order_map change ids acts table slots h.2)
 
 -- what a change of any record keeps, a change of one keeps
-kept_by_one : {X : Type 0} (field : SlotState → X) (id : List ℕ) (change : SlotState → SlotState) → ((s : SlotState) → field (change s) ≡ field s) → (s : SlotState) → field (changed id change s) ≡ field s
+pub kept_by_one : {X : Type 0} (field : SlotState → X) (id : List ℕ) (change : SlotState → SlotState) → ((s : SlotState) → field (change s) ≡ field s) → (s : SlotState) → field (changed id change s) ≡ field s
 kept_by_one field id change keeps s = by (is_slot_of id s)
   where
     by : (b : Bool) → field (cond b (change s) s) ≡ field s
@@ -92,7 +92,7 @@ order_without id found (e ∷ table) (slot ∷ slots) is none h = here (is_slot_
         absurd (cc)
     here false is later = (h.0, h.1, later is)
 
-over_none : (answer : Answer) (slot : SlotState) → is_over answer slot ≡ true → is_none slot.act ≡ true
+pub over_none : (answer : Answer) (slot : SlotState) → is_over answer slot ≡ true → is_none slot.act ≡ true
 over_none (Ended status) slot h = h
 over_none (Born n) slot h = absurd (cc)
 over_none NotBorn slot h = absurd (cc)

@@ -73,7 +73,7 @@ after_answer (Ended status) now slot = record slot {
   look = false;
   missed = false;
 }
-after_answer Hit now slot = record slot { order = None; stop = after_hit slot.order now slot.stop }
+after_answer Hit now slot = record slot { order = None; stop = after_hit slot.order now slot.stop; missed = false }
 after_answer Miss now slot = record slot { order = None; missed = true }
 after_answer _ now slot = record slot { order = None }
 

@@ -10,8 +10,9 @@ mod by_id;
 mod children;
 mod counts;
 mod numbered;
+mod rebuilding;
 mod records;
 
 pub use by_id::Slots;
 pub use children::{Living, Stop};
-pub use records::Slot;
+pub use records::{Slot, is_excluded};

@@ -49,6 +49,49 @@ impl Model for Slot {
 impl Slot {
     ghost use Rattle.child_table.specs.State.{child_number, birth_act, is_limited_slot};
 
+    /// The record that keeps these: what its readers give makes it anew. It takes no memory.
+    pub fn of(
+        id: Id,
+        table_act: Option<Act>,
+        child: Option<Living>,
+        order: Option<Ask>,
+        stop: Option<Stop>,
+        asked: bool,
+        called: bool,
+        look: bool,
+        missed: bool,
+        starts: &[u64],
+        held_until: Option<u64>,
+    ) -> Slot
+        requires few { length starts.now ≤ STARTS }
+        requires ordered { IsNonDecreasing starts.now }
+        ensures { result ≡ record {
+          id = id;
+          act = table_act;
+          child = child;
+          order = order;
+          stop = stop;
+          asked = asked;
+          called = called;
+          look = look;
+          missed = missed;
+          limiter = record { starts = starts.now; held = held_until };
+        } }
+    {
+        Slot {
+            id,
+            act: table_act,
+            child,
+            order,
+            stop,
+            asked,
+            called,
+            look,
+            missed,
+            limiter: Limiter::of(starts, held_until),
+        }
+    }
+
     /// The id of inittab(5) that the record is of.
     pub fn id(&self) -> Id
         ensures { result ≡ self.now.id }
@@ -284,7 +327,10 @@ impl Slot {
                 self.look = false;
                 self.missed = false;
             }
-            Answer::Hit => self.stop = after_hit(order, now, self.stop),
+            Answer::Hit => {
+                self.stop = after_hit(order, now, self.stop);
+                self.missed = false;
+            }
             Answer::Miss => self.missed = true,
             Answer::NotBorn | Answer::Alive | Answer::NoLook => {}
         }
@@ -384,7 +430,7 @@ fn after_hit(order: Option<Ask>, now: u64, stop: Option<Stop>) -> Option<Stop>
 
 /// A child that was born with this action is to be stopped: its id has no entry, or one with another action, or one
 /// whose child may not live in the stage.
-fn is_excluded(born: Option<Act>, found: Option<&Entry>, stage: Stage) -> bool
+pub fn is_excluded(born: Option<Act>, found: Option<&Entry>, stage: Stage) -> bool
     ensures { result ≡ is_excluded stage born (option_copied found.entry) }
 {
     match found {

@@ -2,7 +2,7 @@
 -- step leaves something less to do.
 use Rattle.std.proofs.Common.{◌≡◌, refl, sym, ◌∙◌, ap, cond, ℕ, ◌+◌, Bool, true, false, not, ◌&&◌, ◌||◌, List, [], ◌∷◌, zip, nat_le, nat_lt, Option, Some, None, is_some, is_none, arith}
 use Rattle.std.specs.List.{list_any}
-use Rattle.std.proofs.lemmas.Bool.{false≢true, and_parts, or_right, not-true}
+use Rattle.std.proofs.lemmas.Bool.{false≢true, and_parts, and_from, or_right, not-true}
 use Rattle.std.proofs.lemmas.Bool.Decides.{nat_tests}
 use Rattle.init_words.specs.declared.entries.Entry.{Entry}
 use Rattle.init_words.specs.declared.levels.Level.TheVariants.{S}
@@ -23,11 +23,12 @@ use Rattle.init_trace.specs.declared.steps.Step.TheVariants.{Enter, Call, Power,
 use Rattle.init_trace.specs.Wishes.{in_run}
 use Rattle.child_table.specs.declared.children.Stop.{Stop}
 use Rattle.child_table.specs.declared.children.Stop.TheVariants.{Due, Termed, Killed}
-use Rattle.child_table.specs.State.{SlotState}
+use Rattle.child_table.specs.State.{SlotState, is_limited_slot}
 use Rattle.child_table.specs.Order.{IsInOrder}
 use Rattle.child_table.specs.Changes.{allows, can_be_asked}
 use Rattle.child_table.specs.Lists.{is_slot_of, are_distinct, slot_of, can_ask_of, can_ask, has_slot, is_quiet}
 use Rattle.core_state.specs.News.{keeps_kind, keeps_call, first_news}
+use Rattle.core_state.specs.Rules.{may_follow}
 use Rattle.core_state.specs.State.{CoreState}
 use Rattle.core_state.specs.Work.{stages_left, enters_left, unheld}
 use Rattle.core_state.specs.Decide.{or_else, or_idle, level_step, news_step, wished_step, wish_step, stands, signal_step, stop_step, stop_among, has_excluded, is_wanted_slot, is_owed_slot, limited_step, start_step, start_along, is_over_among, next_stage, enter_step, stage_step, is_idle, all_served, settle_step, look_among, calm_step, work_step, decide_in, decide}
@@ -36,12 +37,25 @@ use Rattle.core_state.specs.Decide.{or_else, or_idle, level_step, news_step, wis
 abbrev pub has_with : List ℕ → (SlotState → Bool) → List SlotState → Bool
 has_with id p slots = list_any (λ (slot : SlotState). is_slot_of id slot && p slot) slots
 
+-- an order may be asked of the record now, and a signal is the one that its stop has come to
+abbrev pub is_next : Ask → Option Stop → Bool
+is_next Term stop = may_follow Term stop
+is_next Kill stop = may_follow Kill stop
+is_next _ stop = true
+
+abbrev pub is_askable : Ask → ℕ → SlotState → Bool
+is_askable ask now slot = can_be_asked ask now slot && is_next ask slot.stop
+
+-- it isn't held, and the respawn limit allows no start of it
+abbrev pub is_holdable : ℕ → SlotState → Bool
+is_holdable now slot = unheld now slot && is_limited_slot slot && not (allows (may_of slot.limiter now))
+
 module _ (c : CoreState) where
-  -- an order has a record of which it may be asked, and a hold one that isn't held; a stage that is entered is a later
+  -- an order has a record of which it may be asked, and a hold one that may be held; a stage that is entered is a later
   -- one, a level is announced once, and news is carried out that is kept
   abbrev pub is_backed : List SlotState → Option Step → Bool
-  is_backed slots (Some (Order id ask)) = has_with id (can_be_asked ask c.time) slots
-  is_backed slots (Some (Hold id)) = has_with id (unheld c.time) slots
+  is_backed slots (Some (Order id ask)) = has_with id (is_askable ask c.time) slots
+  is_backed slots (Some (Hold id)) = has_with id (is_holdable c.time) slots
   is_backed slots (Some (Enter next grace)) = nat_lt (stages_left (Some next)) (enters_left c)
   is_backed slots (Some (Settle level)) = not c.announced
   is_backed slots (Some (Power kind)) = keeps_kind kind c.news
@@ -54,8 +68,8 @@ module _ (c : CoreState) where
 
   -- what the records behind a first one back, all back
   backed_behind : (slot : SlotState) (slots : List SlotState) (o : Option Step) → is_backed slots o ≡ true → is_backed (slot ∷ slots) o ≡ true
-  backed_behind slot slots (Some (Order id ask)) h = or_right (is_slot_of id slot && can_be_asked ask c.time slot) (has_with id (can_be_asked ask c.time) slots) h
-  backed_behind slot slots (Some (Hold id)) h = or_right (is_slot_of id slot && unheld c.time slot) (has_with id (unheld c.time) slots) h
+  backed_behind slot slots (Some (Order id ask)) h = or_right (is_slot_of id slot && is_askable ask c.time slot) (has_with id (is_askable ask c.time) slots) h
+  backed_behind slot slots (Some (Hold id)) h = or_right (is_slot_of id slot && is_holdable c.time slot) (has_with id (is_holdable c.time) slots) h
   backed_behind slot slots (Some (Enter next grace)) h = h
   backed_behind slot slots (Some (Settle level)) h = h
   backed_behind slot slots (Some (Power kind)) h = h
@@ -125,17 +139,17 @@ module _ (c : CoreState) where
   stop_backed : (slot : SlotState) (slots : List SlotState) → is_backed (slot ∷ slots) (stop_step c.grace c.time slot) ≡ true
   stop_backed slot slots = at (is_some slot.child) (is_none slot.order) slot.missed refl refl
     where
-      here : (ask : Ask) → (is_none slot.order && is_some slot.child) ≡ true → (same_id slot.id slot.id && (is_none slot.order && is_some slot.child) || has_with slot.id (can_be_asked ask c.time) slots) ≡ true
-      here ask may = rw (same_id-self slot.id, may) refl
+      here : (ask : Ask) (next : Bool) → (is_none slot.order && is_some slot.child) ≡ true → next ≡ true → (same_id slot.id slot.id && (is_none slot.order && is_some slot.child && next) || has_with slot.id (is_askable ask c.time) slots) ≡ true
+      here ask next may follows = rw (same_id-self slot.id, may, follows) refl
 
-      signal : (stop : Option Stop) → (is_none slot.order && is_some slot.child) ≡ true → is_backed (slot ∷ slots) (signal_step c.grace c.time slot.id stop) ≡ true
-      signal None may = refl
-      signal (Some Due) may = here Term may
-      signal (Some (Termed time)) may = backed_if (slot ∷ slots) (nat_le (time + c.grace) c.time) (Some (Order slot.id Kill)) (here Kill may)
-      signal (Some (Killed time)) may = refl
+      signal : (stop : Option Stop) → slot.stop ≡ stop → (is_none slot.order && is_some slot.child) ≡ true → is_backed (slot ∷ slots) (signal_step c.grace c.time slot.id stop) ≡ true
+      signal None is may = refl
+      signal (Some Due) is may = here Term (may_follow Term slot.stop) may (ap (may_follow Term) is)
+      signal (Some (Termed time)) is may = backed_if (slot ∷ slots) (nat_le (time + c.grace) c.time) (Some (Order slot.id Kill)) (here Kill (may_follow Kill slot.stop) may (ap (may_follow Kill) is))
+      signal (Some (Killed time)) is may = refl
 
       at : (there free m : Bool) → is_some slot.child ≡ there → is_none slot.order ≡ free → is_backed (slot ∷ slots) (cond (there && free && not m) (signal_step c.grace c.time slot.id slot.stop) None) ≡ true
-      at true true false hc ho = signal slot.stop (rw (ho, hc) refl)
+      at true true false hc ho = signal slot.stop refl (rw (ho, hc) refl)
       at true true true hc ho = refl
       at true false m hc ho = refl
       at false free m hc ho = refl
@@ -158,7 +172,7 @@ module _ (c : CoreState) where
           → is_backed (slot ∷ slots) (cond b (cond h None (Some (cond a (Order e.id Start) (Hold e.id)))) (Some (Order e.id Start))) ≡ true
       chosen true true a hb hh ha hc ho = refl
       chosen true false true hb hh ha hc ho = asked true true hb ha refl hc ho
-      chosen true false false hb hh ha hc ho = rw (here, hh) refl
+      chosen true false false hb hh ha hc ho = rw (here, hh, act, hb, ha) refl
       chosen false h a hb hh ha hc ho = asked false a hb ha refl hc ho
 
       can : (w none free : Bool) → is_none slot.child ≡ none → is_none slot.order ≡ free → is_backed (slot ∷ slots) (cond (w && none && free) (limited_step c.time e slot) None) ≡ true
@@ -233,9 +247,20 @@ found_asked id ask now (slot ∷ slots) distinct h = at (is_slot_of id slot) ref
     at true own h later = or_either (can_be_asked ask now slot) (has_with id (can_be_asked ask now) slots) h (λ here. here) (none own)
     at false other h later = later h
 
+-- a record of which an order may be asked, or that may be held, is one of the id
+pub has_asked : (id : List ℕ) (ask : Ask) (now : ℕ) (slots : List SlotState) → has_with id (is_askable ask now) slots ≡ true → has_with id (can_be_asked ask now) slots ≡ true
+has_asked id ask now slots h = any_less (λ (s : SlotState). is_slot_of id s && is_askable ask now s) (λ (s : SlotState). is_slot_of id s && can_be_asked ask now s) (λ s both. let parts = and_parts (is_slot_of id s) (is_askable ask now s) both in and_from (is_slot_of id s) (can_be_asked ask now s) parts.0 (and_parts (can_be_asked ask now s) (is_next ask s.stop) parts.1).0) slots h
+
+pub has_unheld : (id : List ℕ) (now : ℕ) (slots : List SlotState) → has_with id (is_holdable now) slots ≡ true → has_with id (unheld now) slots ≡ true
+has_unheld id now slots h = any_less (λ (s : SlotState). is_slot_of id s && is_holdable now s) (λ (s : SlotState). is_slot_of id s && unheld now s) (λ s both. let parts = and_parts (is_slot_of id s) (is_holdable now s) both in and_from (is_slot_of id s) (unheld now s) parts.0 (first (unheld now s) (is_limited_slot s) (not (allows (may_of s.limiter now))) parts.1)) slots h
+  where
+    first : (x y z : Bool) → (x && y && z) ≡ true → x ≡ true
+    first true y z h = refl
+    first false y z h = absurd (false≢true h)
+
 -- an order that is decided may be asked, and a hold that is decided has its record
 pub decide_allowed : (c : CoreState) → IsInOrder c.table c.slots → are_distinct c.slots ≡ true → (id : List ℕ) (ask : Ask) → decide c ≡ Order id ask → can_ask id ask c.time c.slots ≡ true
-decide_allowed c order distinct id ask is = found_asked id ask c.time c.slots distinct (decided c order (Order id ask) is)
+decide_allowed c order distinct id ask is = found_asked id ask c.time c.slots distinct (has_asked id ask c.time c.slots (decided c order (Order id ask) is))
 
 pub decide_holds : (c : CoreState) → IsInOrder c.table c.slots → (id : List ℕ) → decide c ≡ Hold id → has_slot id c.slots ≡ true
-decide_holds c order id is = found_has id (unheld c.time) c.slots (decided c order (Hold id) is)
+decide_holds c order id is = found_has id (is_holdable c.time) c.slots (decided c order (Hold id) is)

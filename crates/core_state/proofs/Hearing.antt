@@ -27,7 +27,7 @@ use Rattle.child_table.specs.Changes.{after_nudge}
 use Rattle.child_table.specs.Lists as lists
 use Rattle.child_table.specs.Adopting as adopting
 use Rattle.core_state.specs.State.{CoreState, opening_state}
-use Rattle.core_state.specs.Steps.{after_told, after_round, after_clock, after_got, after_adopt, after_not_read, after_handed, heard_in, judged_in}
+use Rattle.core_state.specs.Steps.{after_told, after_round, after_clock, after_got, after_adopt, after_not_read, after_handed, after_handed_on, heard_in, judged_in}
 use Rattle.core_state.specs.Fit.{Fits, record_of, records_of, child_known, is_act}
 use Rattle.core_state.proofs.Fitted.{fit_records, fits_by}
 use Rattle.core_state.proofs.Ordering.{stop_still, missed_known, nudged}
@@ -140,6 +140,9 @@ module _ (goal : Goal) (past : List Event) (c : CoreState) (sound : is_sound goa
 
   pub fits_handed : (how : Handed) → Fits (after_handed c) goal (event.Handed how ∷ past)
   fits_handed how = fits_by (after_handed c) goal (event.Handed how ∷ past) fits.table.table (slots ∙ handed_records past how) (record { stage = fits.now.stage; grace = fits.now.grace; time = fits.now.time; goal = fits.now.goal; booted = fits.now.booted; announced = fits.now.announced }) (record { reexec = refl; reread = fits.wishes.reread; level = fits.wishes.level; news = fits.wishes.news })
+
+  pub fits_handed_on : (how : Handed) → Fits (after_handed_on c) goal (event.Handed how ∷ past)
+  fits_handed_on how = fits_by (after_handed_on c) goal (event.Handed how ∷ past) fits.table.table (slots ∙ handed_records past how) (record { stage = fits.now.stage; grace = fits.now.grace; time = fits.now.time; goal = fits.now.goal; booted = fits.now.booted; announced = fits.now.announced }) (record { reexec = refl; reread = fits.wishes.reread; level = fits.wishes.level; news = fits.wishes.news })
 
 -- the records of an opening
 opening_record : (table : List Entry) (e : Entry) → entry_of e.id table ≡ Some e → new_slot e ≡ record_of (event.NewTable table ∷ []) e.id

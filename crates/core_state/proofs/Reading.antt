@@ -9,7 +9,7 @@ use Rattle.init_words.specs.declared.orders.Ask.TheVariants.{Look}
 use Rattle.init_words.specs.Ids.{same_id}
 use Rattle.init_words.specs.Orders.{same_ask}
 use Rattle.init_words.proofs.Same.{same_id-is, same_id-self, same_id-sym}
-use Rattle.init_words.proofs.Tests.{found_any, same_tests, passing, any_less, any_same, any_filter}
+use Rattle.init_words.proofs.Tests.{same_tests, passing, any_less, any_same, any_filter}
 use Rattle.inittab_text.specs.Tables.{ids_of, has_id, entry_of, is_distinct}
 use Rattle.init_trace.specs.declared.steps.Goal.{Goal}
 use Rattle.init_trace.specs.Event.{Event}
@@ -27,7 +27,7 @@ use Rattle.child_table.specs.Lists.{is_busy}
 use Rattle.child_table.specs.Lists as lists
 use Rattle.core_state.specs.Decide as core
 use Rattle.core_state.specs.Decide.{or_else, signal_step, stop_step, stop_among, has_excluded, is_wanted_slot, is_owed_slot, limited_step, can_start_slot, start_step, start_along, is_done_slot, all_done, is_served_slot, all_served, look_among}
-use Rattle.core_state.specs.Fit.{living, known_child, stop_after, stop_known, stop_of, asked_of, called_of, limiter_of, limits_of, record_of, records_of}
+use Rattle.core_state.specs.Fit.{known_child, stop_after, stop_known, stop_of, asked_of, called_of, limiter_of, limits_of, record_of, records_of}
 use Rattle.core_state.proofs.Acts.{child_some}
 
 -- a fact of each entry

@@ -2,7 +2,7 @@
 use Rattle.std.proofs.Common.{◌≡◌, refl, sym, ◌∙◌, ap, ℕ, Bool, true, false, not, ◌&&◌, ◌||◌, cond, List, [], ◌∷◌, ◌++◌, map, filter, Option, Some, None, is_some, is_none, Ok, Err}
 use Rattle.std.specs.List.{list_any}
 use Rattle.std.specs.Option.{option_map, option_map_or}
-use Rattle.std.proofs.lemmas.Bool.{false≢true, or_parts, not-true}
+use Rattle.std.proofs.lemmas.Bool.{false≢true, and_right, or_parts, not-true}
 use Rattle.std.proofs.lemmas.List.Elements.{filter-append, filter_agree}
 use Rattle.init_words.specs.declared.entries.Entry.{Entry}
 use Rattle.init_words.specs.declared.children.Status.{Status}
@@ -30,7 +30,7 @@ use Rattle.trace_laws.proofs.Orders.{told_other, same_has}
 use Rattle.trace_laws.proofs.Told.{answers_open, same_find, told_child}
 use Rattle.trace_laws.proofs.Records.{open_in_records, start_in_table, ids_listed}
 use Rattle.trace_laws.proofs.Spells.{missed_none, spell_told, missed_told, Tells, answered_tells}
-use Rattle.trace_laws.proofs.Stopping.{born_open, newborn_spared, unborn_childless, unborn_unlooked, left_apart, signal_excluded, has_after, told_leaves, answered_known}
+use Rattle.trace_laws.proofs.Stopping.{born_open, newborn_spared, unborn_childless, unborn_unlooked, left_apart, signal_excluded, signal_unmissed, has_after, told_leaves, answered_known}
 use Rattle.child_table.specs.declared.children.Stop.{Stop}
 use Rattle.child_table.specs.State.{SlotState}
 use Rattle.child_table.specs.Changes.{after_hit, after_answer, is_over}
@@ -175,6 +175,26 @@ module _ (goal : Goal) (past : List Event) (sound : is_sound goal past ≡ true)
     by_child None known = both_ways (has_child id (known_children past)) there (sym (child_some id past) ∙ ap (λ o. is_some (option_map living o)) known)
     by_child (Some child) known = by_order (open_of id past) refl (answers_open goal past sound id answer.Hit is) child known
 
+  -- and none missed the child before it
+  hit_flag : answered_of id past ≡ Some answer.Hit → false ≡ option_map_or (λ child. is_missed child next) (child_known id past) false
+  hit_flag is = by_child (child_known id past) refl where
+    tells : Tells id past answer.Hit
+    tells = answered_tells goal past sound id answer.Hit is
+
+    sent : (ask : Ask) → open_of id past ≡ Some ask → is_signal ask ≡ true → (child : Child) → child_known id past ≡ Some child → false ≡ is_missed child next
+    sent ask order signal child known = sym (miss_next child known false tells.miss ∙ and_right (is_excluded past child) (is_missed child past) (signal_unmissed goal past sound id ask order signal child known))
+
+    by_order : (o : Option Ask) → open_of id past ≡ o → option_map_or (answers answer.Hit) o false ≡ true → (child : Child) → child_known id past ≡ Some child → false ≡ is_missed child next
+    by_order None order h child known = absurd (false≢true h)
+    by_order (Some Start) order h child known = absurd (false≢true h)
+    by_order (Some Look) order h child known = absurd (false≢true h)
+    by_order (Some Term) order h child known = sent Term order refl child known
+    by_order (Some Kill) order h child known = sent Kill order refl child known
+
+    by_child : (o : Option Child) → child_known id past ≡ o → false ≡ option_map_or (λ child. is_missed child next) o false
+    by_child None known = refl
+    by_child (Some child) known = by_order (open_of id past) refl (answers_open goal past sound id answer.Hit is) child known
+
   -- a signal could not be sent
   miss_flag : answered_of id past ≡ Some answer.Miss → true ≡ option_map_or (λ child. is_missed child next) (child_known id past) false
   miss_flag is = by_child (child_known id past) refl where
@@ -213,7 +233,7 @@ module _ (goal : Goal) (past : List Event) (sound : is_sound goal past ≡ true)
   told_own answer.NotBorn is = only_order answer.NotBorn is (λ o. refl) (λ b. refl) refl refl
   told_own answer.Alive is = only_order answer.Alive is (λ o. refl) (λ b. refl) refl refl
   told_own answer.NoLook is = only_order answer.NoLook is (λ o. refl) (λ b. refl) refl refl
-  told_own answer.Hit is = stays_with answer.Hit is (λ o. refl) (λ b. refl) (after_hit (open_of id past) (time_of past) (stop_of id past)) (was_missed id past) (hit_stop is) (no_miss answer.Hit is (λ o. refl) (λ b. refl) refl)
+  told_own answer.Hit is = stays_with answer.Hit is (λ o. refl) (λ b. refl) (after_hit (open_of id past) (time_of past) (stop_of id past)) false (hit_stop is) (hit_flag is)
   told_own answer.Miss is = stays_with answer.Miss is (λ o. refl) (λ b. refl) (stop_of id past) true (no_hit answer.Miss is (λ o. refl) (λ b. refl) refl) (miss_flag is)
 
 -- a filter that hides one id alone, where it isn't listed; and two filters that are one on the other ids

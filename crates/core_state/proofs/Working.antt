@@ -30,7 +30,7 @@ use Rattle.core_state.specs.State.{CoreState}
 use Rattle.core_state.specs.Steps.{called_if, with_called, is_named, after_step}
 use Rattle.core_state.specs.Decide.{decide}
 use Rattle.core_state.specs.Work.{stages_left, enters_left, unasked, unheld, work_left}
-use Rattle.core_state.proofs.Allowed.{has_with, is_backed, decided}
+use Rattle.core_state.proofs.Allowed.{has_with, has_asked, has_unheld, is_backed, decided}
 
 -- a change of an id's records that takes one out of those that count, and brings none in
 fewer : (p : SlotState → Bool) (id : List ℕ) (change : SlotState → SlotState) → ((slot : SlotState) → p (change slot) ≡ false) → (slots : List SlotState) → length (filter p (with_changed id change slots)) ≤ length (filter p slots)
@@ -178,8 +178,8 @@ pub decide_falls : (c : CoreState) → IsInOrder c.table c.slots → is_rest (de
 decide_falls c order busy = at (decide c) (decided c order (decide c) refl) busy
   where
     at : (s : Step) → is_backed c c.slots (Some s) ≡ true → is_rest s ≡ false → work_left (after_step s c) < work_left c
-    at (Order id ask) backed b = order_falls id ask c backed
-    at (Hold id) backed b = hold_falls id c backed
+    at (Order id ask) backed b = order_falls id ask c (has_asked id ask c.time c.slots backed)
+    at (Hold id) backed b = hold_falls id c (has_unheld id c.time c.slots backed)
     at (Enter next grace) backed b = enter_falls next grace c (ltb-true (stages_left (Some next)) (enters_left c) backed)
     at (Settle level) backed b = settle_falls level c (not-true c.announced backed)
     at (Power kind) backed b = called_falls (is_named (Power kind) c.stage) (with_kind kind false c.news) c (kind_falls kind c.news backed)

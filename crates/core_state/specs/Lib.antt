@@ -3,6 +3,7 @@ pub mod Fit
 pub mod Headline
 pub mod News
 pub mod Parts
+pub mod Rebuilding
 pub mod Rules
 pub mod State
 pub mod Steps

@@ -1,5 +1,5 @@
 -- What init keeps after each of its steps, and after each thing that it is told (init(8), telinit(8)).
-use Rattle.std.specs.Prelude.{ℕ, Bool, true, false, ◌&&◌, ◌||◌, if◌then◌else◌, List, map, max, min, Option, Some, None}
+use Rattle.std.specs.Prelude.{ℕ, Bool, true, false, ◌&&◌, ◌||◌, ◌+◌, if◌then◌else◌, List, map, max, min, Option, Some, None}
 use Rattle.std.specs.List.{list_any}
 use Rattle.init_words.specs.declared.entries.Entry.{Entry}
 use Rattle.init_words.specs.declared.levels.Mark.TheVariants.{OnCall}
@@ -119,3 +119,7 @@ after_not_read c = record c { reread = false }
 
 abbrev pub after_handed : CoreState → CoreState
 after_handed c = record c { reexec = false }
+
+-- after init's state was handed on to the next init
+abbrev pub after_handed_on : CoreState → CoreState
+after_handed_on c = record c { reexec = false; generation = c.generation + 1 }

@@ -1,5 +1,5 @@
 -- Each call keeps the records timely, and in the order of the table.
-use Rattle.std.proofs.Common.{◌≡◌, refl, sym, subst, ℕ, Bool, true, false, ◌&&◌, List, [], ◌∷◌, map, Option, Some, None, Result, Ok, Err, OnOk}
+use Rattle.std.proofs.Common.{◌≡◌, refl, sym, subst, ℕ, Bool, true, false, ◌&&◌, List, [], ◌∷◌, map, Option, Some, None, Result, Ok, Err, OnOk, OnErr}
 use Rattle.init_words.specs.declared.entries.Entry.{Entry}
 use Rattle.init_words.specs.declared.stages.Stage.{Stage}
 use Rattle.child_table.specs.State.{SlotState, new_slot}
@@ -22,8 +22,12 @@ use Rattle.core_state.proofs.Allowed.{decide_allowed, decide_holds}
 use Rattle.core_state.proofs.Hearing.{fits_adopt}
 use Rattle.init_trace.specs.declared.steps.Step.TheVariants.{Order, Hold}
 use Rattle.init_words.specs.declared.orders.Ask.{Ask}
-use Rattle.child_table.specs.Lists.{are_distinct, can_ask, has_slot}
+use Rattle.child_table.specs.Lists.{are_distinct, can_ask, has_slot, is_quiet, order_in, refusal_of}
+use Rattle.init_words.specs.declared.orders.Answer.{Answer}
 use Rattle.init_words.specs.declared.refusals.Refusal.{Refusal}
+use Rattle.init_words.specs.declared.refusals.Refusal.TheVariants.{NotQuiet}
+use Rattle.core_state.specs.Rules.{KeepsRules}
+use Rattle.core_state.proofs.RulesKept.{adopt_keeps, told_keeps}
 use Rattle.init_trace.specs.declared.happenings.Happening.TheVariants.{NewTable}
 use Rattle.inittab_text.specs.Tables.{has_id, is_distinct}
 use Rattle.std.specs.List.{list_any}
@@ -71,3 +75,16 @@ allowed_in c v is order distinct id ask decided = subst (λ (x : CoreState). can
 
 pub held_in : (c v : CoreState) → v ≡ c → IsInOrder v.table v.slots → (id : List ℕ) → decide c ≡ Hold id → has_slot id v.slots ≡ true
 held_in c v is order id decided = subst (λ (x : CoreState). has_slot id x.slots ≡ true) (sym is) (decide_holds c (subst (λ (x : CoreState). IsInOrder x.table x.slots) is order) id decided)
+
+-- an answer, taken or refused, leaves the rules kept, and so does a table that is adopted
+pub told_kept : (c new : CoreState) → KeepsRules c → (id : List ℕ) (answer : Answer) (result : Result (Unit {0}) Refusal) → result ≡ refusal_of (order_in id c.slots) answer → OnOk result (new ≡ core.after_told id answer c) → OnErr result (new ≡ c) → KeepsRules new
+told_kept c new keeps id answer (Ok tt) is told same = rw told (told_keeps c keeps id answer (sym is))
+told_kept c new keeps id answer (Err why) is told same = rw same keeps
+
+pub adopt_kept : (result : Result (Unit {0}) Refusal) (table : List Entry) (old new : CoreState) → OnOk result (new ≡ core.after_adopt table old) → OnOk result (is_distinct table ≡ true) → (is_quiet old.slots ≡ false → result ≡ Err NotQuiet) → OnOk result (KeepsRules old → KeepsRules new)
+adopt_kept (Err why) table old new is distinct busy = tt
+adopt_kept (Ok tt) table old new is distinct busy = λ keeps. rw is (by keeps (is_quiet old.slots) refl)
+  where
+    by : KeepsRules old → (b : Bool) → is_quiet old.slots ≡ b → KeepsRules (core.after_adopt table old)
+    by keeps true quiet = adopt_keeps old keeps quiet table distinct
+    by keeps false noisy = let clash : ◌≡◌ {A = Result (Unit {0}) Refusal} (Ok tt) (Err NotQuiet) = busy noisy in absurd (cc)

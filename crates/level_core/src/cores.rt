@@ -4,7 +4,7 @@ use crate::calling::{call_named, judge_in};
 use crate::deciding::{level_step, next_stage};
 use crate::walking::{all_done, all_served, any_busy, look_among, start_among, stop_among};
 use child_table::Slots;
-use core_state::News;
+use core_state::{Heads, News};
 use init_trace::{Goal, Step};
 use init_words::{Answer, GRACE, Id, Level, Memory, Refusal, Stage};
 use initctl_frame::Got;
@@ -69,6 +69,7 @@ impl<A: Allocator + Copy> Core<A> {
     ghost use Rattle.core_state.specs.State.{opening_goal, opening_state};
     ghost use Rattle.core_state.specs.Steps.{after_adopt};
     ghost use Rattle.core_state.specs.Fit.{Fits, OnEachTrace};
+    ghost use Rattle.core_state.specs.Rules.{KeepsRules};
 
     /// The core before its first stage, with the goal of the level that is given, else of the table's default level,
     /// else of S.
@@ -77,6 +78,7 @@ impl<A: Allocator + Copy> Core<A> {
             core ≡ opening_state table (opening_goal level table)) }
         ensures fits { IfOk result (λ core.
             Fits core (opening_goal level table) (NewTable table ∷ [])) }
+        ensures kept { IfOk result (λ core. KeepsRules core) }
     {
         Core::new_by_state(alloc, table, level)
     }
@@ -119,6 +121,7 @@ impl<A: Allocator + Copy> Core<A> {
         ensures unchanged { OnErr result (self.new ≡ self.old) }
         ensures fits { OnOk result (OnEachTrace self.old (λ goal past.
             Fits self.new goal (NewTable table ∷ past))) }
+        ensures kept { OnOk result (KeepsRules self.old → KeepsRules self.new) }
     {
         self.adopt_by_state(table)
     }
@@ -144,7 +147,7 @@ impl<A: Allocator + Copy> Core<A> {
 }
 
 impl<A: Allocator> Core<A> {
-    ghost use Rattle.std.specs.Prelude.{IsTrue, IsOk, List, ◌∷◌, ◌<◌, Some, true, false, ℕ};
+    ghost use Rattle.std.specs.Prelude.{◌≤◌, ◌^◌, ◌+◌, IsTrue, IsOk, List, ◌∷◌, ◌<◌, Some, true, false, ℕ};
     ghost use Rattle.init_words.specs.declared.stages.Stage.{Stage};
     ghost use Rattle.init_trace.specs.declared.happenings.Happening.TheVariants as happening;
     ghost use Rattle.init_trace.specs.Answered.{answered_of};
@@ -156,9 +159,57 @@ impl<A: Allocator> Core<A> {
     ghost use Rattle.core_state.specs.Decide as core;
     ghost use Rattle.core_state.specs.Steps as steps;
     ghost use Rattle.init_trace.specs.declared.happenings.Handed.{Handed};
-    ghost use Rattle.core_state.specs.Steps.{after_step, after_told, after_round, after_clock, after_got, after_not_read, after_handed};
+    ghost use Rattle.core_state.specs.Steps.{after_step, after_told, after_round, after_clock, after_got, after_not_read, after_handed, after_handed_on};
     ghost use Rattle.core_state.specs.Fit.{Fits, OnEachTrace, with_step};
+    ghost use Rattle.core_state.specs.Rules.{KeepsRules};
     ghost use Rattle.core_state.specs.Work.{work_left};
+    ghost use Rattle.core_state.specs.Parts.{heads_of};
+    ghost use Rattle.core_state.specs.Rebuilding.{core_with};
+    ghost use Rattle.child_table.specs.Times.{are_timely};
+    ghost use Rattle.respawn_limit.specs.declared.TheConstants.{CLOCK_LIMIT};
+
+    /// The core that keeps these, which stand in record order, and no time later than now.
+    pub(crate) fn of(heads: Heads, table: Table<A>, slots: Slots<A>) -> Core<A>
+        requires clock { heads.time ≤ CLOCK_LIMIT }
+        requires timely { are_timely heads.time slots ≡ true }
+        requires order { IsInOrder table slots }
+        ensures { result ≡ core_with heads table slots }
+    {
+        Core {
+            table,
+            slots,
+            stage: heads.stage,
+            grace: heads.grace,
+            goal: heads.goal,
+            booted: heads.booted,
+            announced: heads.announced,
+            time: heads.time,
+            reexec: heads.reexec,
+            reread: heads.reread,
+            level_wish: heads.level_wish,
+            news: heads.news,
+            generation: heads.generation,
+        }
+    }
+
+    /// What it keeps, but for its table and its records.
+    pub fn heads(&self) -> Heads
+        ensures { result ≡ heads_of self.now }
+    {
+        Heads {
+            generation: self.generation,
+            time: self.time,
+            stage: self.stage,
+            grace: self.grace,
+            goal: self.goal,
+            booted: self.booted,
+            announced: self.announced,
+            reread: self.reread,
+            reexec: self.reexec,
+            level_wish: self.level_wish,
+            news: self.news,
+        }
+    }
 
     /// The stage in force.
     pub fn stage(&self) -> Option<Stage>
@@ -402,6 +453,7 @@ impl<A: Allocator> Core<A> {
             Fits self.new goal (with_step result past)) }
         // its own steps end: each leaves less to do
         ensures falls { is_rest result ≡ false → work_left self.new < work_left self.old }
+        ensures kept { KeepsRules self.old → KeepsRules self.new }
     {
         self.next_by_state()
     }
@@ -416,6 +468,7 @@ impl<A: Allocator> Core<A> {
             answered_of id past ≡ Some answer → IsOk result) }
         ensures fits { OnEachTrace self.old (λ goal past.
             answered_of id past ≡ Some answer → Fits self.new goal (happening.Told id ∷ past)) }
+        ensures kept { KeepsRules self.old → KeepsRules self.new }
     {
         self.answer_by_state(id, answer)
     }
@@ -434,6 +487,7 @@ impl<A: Allocator> Core<A> {
         ensures state { self.new ≡ after_got request self.old }
         ensures fits { OnEachTrace self.old (λ goal past.
             Fits self.new goal (happening.Got request ∷ past)) }
+        ensures kept { KeepsRules self.old → KeepsRules self.new }
     {
         self.got_by_state(request);
     }
@@ -474,6 +528,7 @@ impl<A: Allocator> Core<A> {
         ensures state { self.new ≡ after_not_read self.old }
         ensures fits { OnEachTrace self.old (λ goal past.
             Fits self.new goal (happening.NotRead ∷ past)) }
+        ensures kept { KeepsRules self.old → KeepsRules self.new }
     {
         self.not_read_by_state();
     }
@@ -489,6 +544,7 @@ impl<A: Allocator> Core<A> {
         ensures state { self.new ≡ after_handed self.old }
         ensures fits { OnEachTrace self.old (λ goal past. (how : Handed)
             → Fits self.new goal (happening.Handed how ∷ past)) }
+        ensures kept { KeepsRules self.old → KeepsRules self.new }
     {
         self.not_handed_by_state();
     }
@@ -499,11 +555,32 @@ impl<A: Allocator> Core<A> {
         self.reexec = false;
     }
 
+    /// Its state was handed on to the next init, which is a generation more: the wish for it is over, whatever comes of
+    /// the hand-over.
+    pub fn handed_on(&mut self)
+        requires { self.old.generation + 1 < 2 ^ 64 }
+        ensures state { self.new ≡ after_handed_on self.old }
+        ensures fits { OnEachTrace self.old (λ goal past. (how : Handed)
+            → Fits self.new goal (happening.Handed how ∷ past)) }
+        ensures kept { KeepsRules self.old → KeepsRules self.new }
+    {
+        self.handed_on_by_state();
+    }
+
+    fn handed_on_by_state(&mut self)
+        requires { self.old.generation + 1 < 2 ^ 64 }
+        ensures { self.new ≡ after_handed_on self.old }
+    {
+        self.reexec = false;
+        self.generation += 1;
+    }
+
     /// A round begins: each child is to be looked at, and a signal that missed one may be sent again.
     pub fn nudge(&mut self)
         ensures state { self.new ≡ after_round self.old }
         ensures fits { OnEachTrace self.old (λ goal past.
             Fits self.new goal (happening.Nudge ∷ past)) }
+        ensures kept { KeepsRules self.old → KeepsRules self.new }
     {
         self.nudge_by_state();
     }
@@ -520,6 +597,7 @@ impl<A: Allocator> Core<A> {
         ensures state { self.new ≡ after_clock reading self.old }
         ensures fits { OnEachTrace self.old (λ goal past.
             Fits self.new goal (happening.Clock reading ∷ past)) }
+        ensures kept { KeepsRules self.old → KeepsRules self.new }
     {
         self.clock_by_state(reading);
     }

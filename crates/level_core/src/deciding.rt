@@ -55,7 +55,8 @@ pub(crate) fn stop_step(grace: u16, now: u64, slot: &Slot) -> Option<Step>
     }
 }
 
-fn is_starting(slot: &Slot) -> bool
+/// A start of its entry is open.
+pub(crate) fn is_starting(slot: &Slot) -> bool
     ensures { result ≡ is_order Ask.Start slot.now.order }
 {
     matches!(slot.order(), Some(Ask::Start))

@@ -7,10 +7,13 @@
 mod calling;
 mod cores;
 mod deciding;
+mod rebuilding;
+mod rules;
 mod walking;
 
 pub use child_table::{Living, Slot, Stop};
 pub use core_state::{News, law_of_acts, law_of_records};
 pub use cores::Core;
 pub use init_trace::{Goal, Step};
+pub use rebuilding::Rebuild;
 pub use trace_laws::law_agreement;

@@ -3,7 +3,7 @@
 use Rattle.std.proofs.Common.{◌≡◌, ◌≤◌, refl, sym, ◌∙◌, ap, inl, inr, ℕ, Bool, true, false, not, ◌&&◌, ◌||◌, cond, List, [], ◌∷◌, ◌++◌, map, filter, find, length, Option, Some, None, is_some}
 use Rattle.std.specs.List.{list_any}
 use Rattle.std.specs.Option.{option_map, option_map_or}
-use Rattle.std.proofs.lemmas.Bool.{false≢true, and_parts, and_from, and_right, or_left, or_right, or_from, not_from_true, not-true}
+use Rattle.std.proofs.lemmas.Bool.{false≢true, and_parts, and_from, and_right, or_left, or_right, or_from, not_from_true, not_from_false, not-true}
 use Rattle.std.proofs.lemmas.List.Folds.{list_any-append}
 use Rattle.std.proofs.lemmas.Option.{none-some, same_Some}
 use Rattle.init_words.specs.declared.entries.Entry.{Entry}
@@ -21,7 +21,7 @@ use Rattle.init_trace.specs.Event.{Event}
 use Rattle.init_trace.specs.Past.{table_of, stage_of, grace_of, time_of, Child, is_of, has_child, open_of, undone_of, is_untold, is_quiet, newborn, unreaped_children, kept_children, known_children}
 use Rattle.init_trace.specs.Wanted.{is_order, is_excluded}
 use Rattle.init_trace.specs.Answered.{answered_of, child_after}
-use Rattle.init_trace.specs.Spells.{Signal, untold_hits, told_at, is_ripe, stop_by, stop_due, is_missed, spell_hits}
+use Rattle.init_trace.specs.Spells.{Signal, untold_hits, told_at, is_ripe, stop_by, stop_due, has_untold_miss, in_spell, is_missed, spell_hits}
 use Rattle.init_trace.specs.Lawful.{is_placed}
 use Rattle.init_trace.specs.Due.{is_due, left_ids, record_ids, wants_look}
 use Rattle.init_trace.specs.Sound.{may_come, is_sound}
@@ -36,7 +36,7 @@ use Rattle.trace_laws.proofs.Told.{answered_untold, answers_open, same_find, tol
 use Rattle.trace_laws.proofs.Known.{known_single}
 use Rattle.trace_laws.proofs.Records.{order_known, ids_listed}
 use Rattle.trace_laws.proofs.Signals.{OneRipe, kill_ripe}
-use Rattle.trace_laws.proofs.Spells.{spell_none, missed_none, spell_still, spell_nudge, spell_enter, spell_table, spell_birth, spell_told, answered_tells}
+use Rattle.trace_laws.proofs.Spells.{spell_none, missed_none, missed_still, missed_told, spell_still, spell_nudge, spell_enter, spell_table, spell_birth, spell_told, answered_tells}
 
 -- a birth that is not told is of an open Start
 pub born_open : (goal : Goal) (past : List Event) → is_sound goal past ≡ true → (id : List ℕ) (n : ℕ) → answered_of id past ≡ Some (answer.Born n) → open_of id past ≡ Some Start
@@ -131,6 +131,40 @@ signal_excluded goal past h = sound_ind goal (λ before. (id : List ℕ) (ask : 
     at_id false differ is = rest id ask is signal child there
   next (Told i) before may sound rest id ask is signal child there = cleared (same_id id i) (open_of id before) ask (λ differ was. rest id ask was signal child (other_found id i before (Some child) differ there)) is
   next _ before may sound rest id ask is signal child there = rest id ask is signal child there
+
+-- and no signal missed it since the last round
+stop_unmissed : (child : Child) (ask : Ask) (past : List Event) → stop_due child past ≡ Some ask → is_missed child past ≡ false
+stop_unmissed child ask past h = at_child (is_excluded past child) (is_missed child past) (stop_by (grace_of past) (time_of past) (spell_hits child past)) h where
+  at_child : (b c : Bool) (o : Option Ask) → cond (b && not c) o None ≡ Some ask → c ≡ false
+  at_child b false o h = refl
+  at_child true true o h = absurd (none-some ask h)
+  at_child false true o h = absurd (none-some ask h)
+
+abbrev IsUnmissed : List Event → Type 0
+IsUnmissed past = (id : List ℕ) (ask : Ask) → open_of id past ≡ Some ask → is_signal ask ≡ true → (child : Child) → find (is_of id) (known_children past) ≡ Some child → is_missed child past ≡ false
+
+pub signal_unmissed : (goal : Goal) (past : List Event) → is_sound goal past ≡ true → (id : List ℕ) (ask : Ask) → open_of id past ≡ Some ask → is_signal ask ≡ true → (child : Child) → find (is_of id) (known_children past) ≡ Some child → is_missed child past ≡ false
+signal_unmissed goal past h = sound_ind goal IsUnmissed (λ table distinct id ask is signal child there. absurd (none-some ask is)) next past h where
+  next : (happening : Event) (before : List Event) → may_come goal happening before ≡ true → is_sound goal before ≡ true → IsUnmissed before → IsUnmissed (happening ∷ before)
+  next (NewTable table) before may sound rest id ask is signal child there = quiet_signal id ask before (and_parts (is_quiet before) (is_distinct table) may).0 is signal
+  next (Enter stage grace) before may sound rest id ask is signal child there = elim (due_facts goal before (step.Enter stage grace) may) [ inl quiet ↦ quiet_signal id ask before quiet is signal | inr dawn ↦ dawn_known goal before sound dawn id (found_has id (known_children before) child there) ]
+  next (Asked i given) before may sound rest id ask is signal child there = missed_still child (Asked i given) before refl ∙ at_id (same_id id i) refl is where
+    order : given ≡ ask → MayStop i given before
+    order same = asked_stop goal i given before may (ap is_signal same ∙ signal)
+
+    at_id : (b : Bool) → same_id id i ≡ b → cond b (Some given) (open_of id before) ≡ Some ask → is_missed child before ≡ false
+    at_id true same is =
+        let stop : MayStop i given before = order (same_Some given ask is) in
+        not-true (is_missed child before) (stop_holds goal before sound i given stop (λ (c : Child). not (is_missed c before)) (not_from_false (is_missed stop.child before) (stop_unmissed stop.child given before stop.due)) child (ap (λ x. find (is_of x) (known_children before)) (sym (same_id-is id i same)) ∙ there))
+    at_id false differ is = rest id ask is signal child there
+  next (Told i) before may sound rest id ask is signal child there = missed_told child i before ∙ cleared (same_id id i) (open_of id before) ask own is where
+    own : same_id id i ≡ false → open_of id before ≡ Some ask → (is_excluded before child && (same_id child.id i && has_untold_miss child.id before || is_missed child before)) ≡ false
+    own differ was =
+        let known : find (is_of id) (known_children before) ≡ Some child = other_found id i before (Some child) differ there in
+        let apart : same_id child.id i ≡ false = ap (λ x. same_id x i) (sym (found_own id (known_children before) child known)) ∙ differ in
+        ap (λ b. is_excluded before child && (b && has_untold_miss child.id before || is_missed child before)) apart ∙ and_right (is_excluded before child) (is_missed child before) (rest id ask was signal child known)
+  next Nudge before may sound rest id ask is signal child there = refl
+  next happening before may sound rest id ask is signal child there = and_right (in_spell child happening before) (is_missed child before) (rest id ask is signal child there)
 
 -- while a Start is open, its id has no known child
 pub start_childless : (goal : Goal) (past : List Event) → is_sound goal past ≡ true → (id : List ℕ) → open_of id past ≡ Some Start → has_child id (known_children past) ≡ false

@@ -1,0 +1,24 @@
+ghost use Rattle.std.specs.Prelude.{◌≡◌, true, IfOk};
+ghost use Rattle.respawn_limit.specs.declared.TheConstants.{CLOCK_LIMIT};
+ghost use Rattle.child_table.specs.Lists.{are_distinct};
+ghost use Rattle.child_table.specs.Times.{are_timely};
+
+use crate::by_id::Slots;
+use crate::records::Slot;
+use init_words::Memory;
+use std::alloc::Allocator;
+
+impl<A: Allocator + Copy> Slots<A> {
+    /// These records, in this order.
+    pub fn rebuilt(alloc: A, given: Vec<Slot, A>) -> Result<Slots<A>, Memory>
+        requires distinct { are_distinct given.items ≡ true }
+        requires timely { are_timely CLOCK_LIMIT given.items ≡ true }
+        ensures { IfOk result (λ slots. slots ≡ given.items) }
+    {
+        let mut slots = Slots::with_room(alloc, given.len())?;
+        for slot in given {
+            slots.push(slot)?;
+        }
+        Ok(slots)
+    }
+}

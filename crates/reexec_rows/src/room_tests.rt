@@ -1,0 +1,58 @@
+//! Growths are refused in turn, on heaps of more and more room. A refused hand-over leaves the core as it was.
+
+use crate::states::{INITTAB, SETTLED};
+use init_words::Level;
+use inittab_text::read;
+use level_core::Core;
+use linked_list_allocator::LocalHeap;
+use reexec_state::{Over, hand_over, take_over};
+use std::alloc::Global;
+use std::process::Abort;
+use std::test::Fail;
+
+/// Whether a core hands its state on over a heap of so many bytes; it is as it was where it doesn't.
+fn hands_on(rt: &impl Abort, alloc: Global, core: &mut Core, room: usize) -> Result<bool, Fail> {
+    let heap = LocalHeap::new(alloc, room)?;
+    let generation = core.generation();
+    match hand_over(&heap, core) {
+        Ok(_) => Ok(true),
+        Err(why) => {
+            assert!(rt; why == Over::Memory && core.generation() == generation);
+            Ok(false)
+        }
+    }
+}
+
+/// Whether a text is taken over on a heap of so many bytes.
+fn is_taken(rt: &impl Abort, alloc: Global, text: &str, room: usize) -> Result<bool, Fail> {
+    let heap = LocalHeap::new(alloc, room)?;
+    match take_over(&heap, text.as_bytes(), 1) {
+        Ok(_) => Ok(true),
+        Err(why) => {
+            assert!(rt; why == Over::Memory);
+            Ok(false)
+        }
+    }
+}
+
+#[test]
+fn refused_growths(rt: HostRuntime) -> Result<(), Fail> {
+    let (table, _) = read(rt.alloc(), INITTAB)?;
+    let mut core = Core::new(rt.alloc(), table, Some(Level::L3))?;
+    let text = format!(in rt.alloc(); "initd-state 1\ngeneration 1\n{SETTLED}")?;
+    let mut handed = 0usize;
+    let mut taken = 0usize;
+    for step in 1..200usize {
+        if hands_on(&rt, rt.alloc(), &mut core, 64 * step)? {
+            handed = handed.wrapping_add(1);
+        }
+        if is_taken(&rt, rt.alloc(), &text, 64 * step)? {
+            taken = taken.wrapping_add(1);
+        }
+    }
+    assert!(rt;
+        handed > 8 && handed < 196 && taken > 8 && taken < 180,
+        "{handed} {taken}"
+    );
+    Ok(())
+}

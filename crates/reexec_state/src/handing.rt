@@ -1,0 +1,96 @@
+ghost use Rattle.std.specs.List.{list_all};
+ghost use Rattle.std.specs.Prelude.{◌≡◌, true, map, ◌+◌, ◌^◌, ◌==◌, ◌∷◌, if◌then◌else◌, false, Err, IfOk, IfErr, OnOk, OnErr};
+ghost use Rattle.init_trace.specs.declared.happenings.Handed.{Handed};
+ghost use Rattle.init_trace.specs.declared.happenings.Happening.TheVariants as happening;
+ghost use Rattle.core_state.specs.Fit.{Fits, OnEachTrace};
+ghost use Rattle.core_state.specs.Parts.{record_of, state_of};
+ghost use Rattle.core_state.specs.Rules.{IsFit, KeepsRules};
+ghost use Rattle.core_state.specs.Steps.{after_handed_on};
+ghost use Rattle.state_text.specs.declared.over.Over.TheVariants as over;
+ghost use Rattle.state_text.specs.Lines.{state_text};
+ghost use Rattle.state_text.specs.Range.{has_ranged_ids, has_short_seconds};
+ghost use Rattle.state_text.specs.Refused.{Says};
+
+use child_table::Slot;
+use core_state::Heads;
+use init_words::Memory;
+use level_core::Core;
+use state_text::{Over, write_state};
+use std::alloc::Allocator;
+
+/// The heads that the next init begins with: it is a generation more, and its wish to be executed anew is over.
+fn next_heads(heads: Heads) -> Result<Heads, Over>
+    ensures next { IfOk result (λ next.
+        next ≡ record heads { generation = heads.generation + 1; reexec = false }) }
+    ensures worn { heads.generation + 1 ≡ 2 ^ 64 → result ≡ Err over.Worn }
+    ensures refused { IfErr result (λ why. (why ≡ over.Worn) × (heads.generation + 1 ≡ 2 ^ 64)) }
+{
+    let generation = heads.generation.checked_add(1).ok_or(Over::Worn)?;
+    Ok(Heads {
+        generation,
+        reexec: false,
+        ..heads
+    })
+}
+
+/// The id of a record is an id, and the number of its child fits its word.
+fn of_slot(slot: &Slot)
+    ensures { has_ranged_ids slot.now ≡ true }
+{
+    let _ = slot.id().as_bytes();
+    if let Some(number) = slot.child() {
+        let _number = number.0;
+    }
+}
+
+/// So it is of all records. It does nothing: its contract is the law.
+fn law_of_slots(slots: &[Slot])
+    ensures { list_all has_ranged_ids slots.now ≡ true }
+{
+    for slot in slots {
+        of_slot(slot);
+    }
+}
+
+/// The text of what the core keeps, with these heads.
+fn text_of<A: Allocator + Copy, B: Allocator>(
+    alloc: A,
+    heads: &Heads,
+    core: &Core<B>,
+) -> Result<Vec<u8, A>, Memory>
+    ensures { IfOk result (λ text. text.items ≡ state_text (record {
+      heads = heads.now;
+      table = core.now.table;
+      records = map record_of core.now.slots;
+    })) }
+{
+    write_state(alloc, heads, core.table(), core.slots().as_slice())
+}
+
+/// Hands init's state on: the text is that of the state that the next init begins with, which is a generation more and
+/// no longer wishes to be executed anew. Refused where there is no greater generation (`Worn`), and for want of memory;
+/// a refusal changes nothing.
+pub fn hand_over<A: Allocator + Copy, B: Allocator>(
+    alloc: A,
+    core: &mut Core<B>,
+) -> Result<Vec<u8, A>, Over>
+    ensures text { IfOk result (λ text. text.items ≡ state_text (state_of core.new)) }
+    ensures state { OnOk result (core.new ≡ after_handed_on core.old) }
+    ensures worn { core.old.generation + 1 ≡ 2 ^ 64 → result ≡ Err over.Worn }
+    ensures refused { IfErr result (λ why.
+        why ≡ (if core.old.generation + 1 == 2 ^ 64 then over.Worn else over.Memory)) }
+    ensures unchanged { OnErr result (core.new ≡ core.old) }
+    ensures fits { OnOk result (OnEachTrace core.old (λ goal past. (how : Handed)
+        → Fits core.new goal (happening.Handed how ∷ past))) }
+    ensures kept { OnOk result (KeepsRules core.old → KeepsRules core.new) }
+    // What was handed on can be taken over.
+    ensures said { IfOk result (λ text. KeepsRules core.old → has_short_seconds core.old ≡ true
+        → Says text.items (state_of core.new) × IsFit core.new) }
+{
+    let heads = next_heads(core.heads())?;
+    let _ = core.table().len();
+    law_of_slots(core.slots().as_slice());
+    let text = text_of(alloc, &heads, core)?;
+    core.handed_on();
+    Ok(text)
+}

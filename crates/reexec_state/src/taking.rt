@@ -1,0 +1,36 @@
+ghost use Rattle.std.specs.Prelude.{◌≡◌, IfOk, IfErr};
+ghost use Rattle.std.specs.Result.{MatchResult};
+ghost use Rattle.core_state.specs.Parts.{state_of};
+ghost use Rattle.core_state.specs.Rules.{IsFit};
+ghost use Rattle.core_state.specs.State.{CoreState};
+ghost use Rattle.state_text.specs.declared.over.Over.TheVariants as over;
+ghost use Rattle.state_text.specs.Refused.{Says};
+ghost use Rattle.reexec_state.specs.Taken.{NotTaken};
+
+use level_core::{Core, Rebuild};
+use state_text::{Over, read_state};
+use std::alloc::Allocator;
+
+/// Takes over the state that a text says, of an init of this generation. What is refused is named by the first check
+/// that fails: those of `read_state`, and then that the state keeps the rules that each init's does (`Unfit`).
+pub fn take_over<A: Allocator + Copy>(
+    alloc: A,
+    text: &[u8],
+    generation: u64,
+) -> Result<Core<A>, Over>
+    ensures taken { IfOk result (λ core. Says text.now (state_of core)) }
+    ensures kept { IfOk result (λ core. IsFit core) }
+    ensures generation { IfOk result (λ core. core.generation ≡ generation) }
+    // Where the text is that of a core that keeps the rules, that core is taken over.
+    ensures only { (core : CoreState) → IsFit core → Says text.now (state_of core)
+        → core.generation ≡ generation
+        → MatchResult result (λ taken. taken ≡ core) (λ why. why ≡ over.Memory) }
+    ensures refused { IfErr result (λ why. NotTaken text.now generation why) }
+{
+    let parts = read_state(alloc, text, generation)?;
+    match Core::rebuilt(alloc, parts) {
+        Ok(core) => Ok(core),
+        Err(Rebuild::Unfit) => Err(Over::Unfit),
+        Err(Rebuild::Memory) => Err(Over::Memory),
+    }
+}
