@@ -81,10 +81,14 @@ opening_ruled table distinct = quiet_ruled None table 0 (map new_slot table) (ea
     timely [] = refl
     timely (e ∷ es) = timely es
 
--- a call leaves each record its id
+-- a call leaves each record its id and its action
 pub called_id : (b : Bool) (slot : SlotState) → (called_if b slot).id ≡ slot.id
 called_id true slot = refl
 called_id false slot = refl
+
+pub called_act : (b : Bool) (slot : SlotState) → (called_if b slot).act ≡ slot.act
+called_act true slot = refl
+called_act false slot = refl
 
 -- a quiet point of a core that keeps the rules
 module _ (c : CoreState) (keeps : KeepsRules c) (quiet : is_quiet c.slots ≡ true) where
@@ -152,10 +156,6 @@ module _ (c : CoreState) (keeps : KeepsRules c) (quiet : is_quiet c.slots ≡ tr
           calm.1,
         )
     call_ruled false slot may calm = calm
-
-    called_act : (b : Bool) (slot : SlotState) → (called_if b slot).act ≡ slot.act
-    called_act true slot = refl
-    called_act false slot = refl
 
     called_timely : (b : Bool) (slot : SlotState) → is_timely c.time slot ≡ true → is_timely c.time (called_if b slot) ≡ true
     called_timely true slot h = h

@@ -344,7 +344,8 @@ fn read_behind_four<A: Allocator>(
     third: &[u8],
     rest: &[u8],
 ) -> Option<HappeningIn<A>>
-    ensures { result ≡ words_read (word.now ∷ first.now ∷ second.now ∷ third.now ∷ words_in rest.now) }
+    ensures { result
+        ≡ words_read (word.now ∷ first.now ∷ second.now ∷ third.now ∷ words_in rest.now) }
 {
     match cut(b' ', rest) {
         Some(_) => None,

@@ -41,7 +41,8 @@ impl Log for NoLog {
     ghost use Rattle.std.specs.Prelude.{false, None};
     ghost use Rattle.run_log.specs.Logs.{LogState};
 
-    ghost state = { λ _. let nothing : LogState = record { taken = None; failed = false } in nothing };
+    ghost state = { λ _.
+        let nothing : LogState = record { taken = None; failed = false } in nothing };
 
     fn take<B: Allocator>(&mut self, _happening: &HappeningIn<B>) -> Result<(), LogFault> {
         Ok(())

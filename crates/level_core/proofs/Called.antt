@@ -10,6 +10,7 @@ use Rattle.child_table.specs.Changes.{after_call}
 use Rattle.child_table.specs.Lists.{slot_of, has_slot, changed, with_changed}
 use Rattle.child_table.specs.Order.{IsInOrder}
 use Rattle.core_state.specs.Steps.{called_if, with_called}
+use Rattle.core_state.proofs.RuledMade.{called_id}
 
 -- an entry of the table has a record
 found : (id : List ℕ) (slot : SlotState) (slots : List SlotState) (b : Bool) → is_some (slot_of id slots) ≡ true → is_some (cond b (Some slot) (slot_of id slots)) ≡ true
@@ -22,11 +23,6 @@ entry_slot (x ∷ table) [] place e order at = absurd order
 entry_slot (x ∷ table) (slot ∷ slots) zero e order at = let same : x ≡ e = cc in ap (λ (b : Bool). is_some (cond b (Some slot) (slot_of e.id slots))) (ap (same_id e.id) (order.0 ∙ ap (λ (y : Entry). y.id) same) ∙ same_id-self e.id)
 entry_slot (x ∷ table) (slot ∷ slots) (suc place) e order at = found e.id slot slots (same_id e.id slot.id) (entry_slot table slots place e order.2 at)
 
--- calling leaves each record its id
-pub slot_called : (b : Bool) (slot : SlotState) → (called_if b slot).id ≡ slot.id
-slot_called true slot = refl
-slot_called false slot = refl
-
 still_one : (id : List ℕ) (slot next : SlotState) (slots more : List SlotState) (b : Bool) → has_slot id more ≡ has_slot id slots → is_some (cond b (Some next) (slot_of id more)) ≡ is_some (cond b (Some slot) (slot_of id slots))
 still_one id slot next slots more true h = refl
 still_one id slot next slots more false h = h
@@ -35,7 +31,7 @@ pub still_slot : (named : Entry → Bool) (table : List Entry) (id : List ℕ) (
 still_slot named table id [] = refl
 still_slot named table id (slot ∷ slots) =
     let next : SlotState = called_if (list_any (λ e. has_id slot.id e && named e) table) slot in
-    ap (λ x. is_some (cond (same_id id x) (Some next) (slot_of id (with_called named table slots)))) (slot_called (list_any (λ e. has_id slot.id e && named e) table) slot)
+    ap (λ x. is_some (cond (same_id id x) (Some next) (slot_of id (with_called named table slots)))) (called_id (list_any (λ e. has_id slot.id e && named e) table) slot)
     ∙ still_one id slot next slots (with_called named table slots) (same_id id slot.id) (still_slot named table id slots)
 
 -- one entry more: its record is called, where it is named
@@ -65,7 +61,7 @@ module _ (named : Entry → Bool) (e : Entry) (es : List Entry) where
 
   one_called : named e ≡ true → (slot : SlotState) → called_if (list_any (λ x. has_id slot.id x && named x) (es ++ e ∷ [])) slot ≡ changed e.id after_call (called_if (before slot) slot)
   one_called is slot = ap (λ b. called_if b slot) (any_more (λ x. has_id slot.id x && named x) e es) ∙ ap (λ n. called_if (same_id slot.id e.id && n || before slot) slot) is ∙ call_again (same_id slot.id e.id) (before slot) slot
-      ∙ ap (λ b. cond b (after_call (called_if (before slot) slot)) (called_if (before slot) slot)) (same_id-sym slot.id e.id ∙ ap (same_id e.id) (sym (slot_called (before slot) slot)))
+      ∙ ap (λ b. cond b (after_call (called_if (before slot) slot)) (called_if (before slot) slot)) (same_id-sym slot.id e.id ∙ ap (same_id e.id) (sym (called_id (before slot) slot)))
 
   one_left : named e ≡ false → (slot : SlotState) → called_if (list_any (λ x. has_id slot.id x && named x) (es ++ e ∷ [])) slot ≡ called_if (before slot) slot
   one_left is slot = ap (λ b. called_if b slot) (any_more (λ x. has_id slot.id x && named x) e es) ∙ ap (λ n. called_if (same_id slot.id e.id && n || before slot) slot) is ∙ not_again (same_id slot.id e.id) (before slot) slot

@@ -12,7 +12,7 @@ use Rattle.child_table.proofs.Changed.{timely_judge, timely_enter, id-after_judg
 use Rattle.child_table.proofs.Ordered.{order_map, order_adopt, act-after_judge}
 use Rattle.child_table.proofs.Adopted.{timely_adopt}
 use Rattle.child_table.proofs.Timely.{timely_map}
-use Rattle.level_core.proofs.Called.{slot_called}
+use Rattle.core_state.proofs.RuledMade.{called_act, called_id}
 use Rattle.core_state.specs.Steps.{judged_in, called_if, with_called}
 use Rattle.core_state.specs.Steps as core
 use Rattle.core_state.specs.State.{CoreState}
@@ -54,12 +54,8 @@ called_timely : (now : ℕ) (b : Bool) (slot : SlotState) → is_timely now slot
 called_timely now true slot h = h
 called_timely now false slot h = h
 
-called_act : (b : Bool) (slot : SlotState) → (called_if b slot).act ≡ slot.act
-called_act true slot = refl
-called_act false slot = refl
-
 pub kept_called : (now : ℕ) (table : List Entry) (named : Entry → Bool) (slots : List SlotState) → IsKept now table slots → IsKept now table (with_called named table slots)
-kept_called now table named slots kept = (timely_map now call (λ slot h. called_timely now (list_any (λ e. has_id slot.id e && named e) table) slot h) slots kept.0, order_map call (λ slot. slot_called (list_any (λ e. has_id slot.id e && named e) table) slot) (λ slot. called_act (list_any (λ e. has_id slot.id e && named e) table) slot) table slots kept.1)
+kept_called now table named slots kept = (timely_map now call (λ slot h. called_timely now (list_any (λ e. has_id slot.id e && named e) table) slot h) slots kept.0, order_map call (λ slot. called_id (list_any (λ e. has_id slot.id e && named e) table) slot) (λ slot. called_act (list_any (λ e. has_id slot.id e && named e) table) slot) table slots kept.1)
   where
     call : SlotState → SlotState
     call slot = called_if (list_any (λ e. has_id slot.id e && named e) table) slot
