@@ -6,6 +6,8 @@ use crate::happenings::{Handed, Happening, HappeningIn};
 use init_words::{ChildNo, Id, Status};
 use std::alloc::Allocator;
 
+// What each value is by its type.
+
 fn of_id(id: &Id)
     ensures { is_id id.now ≡ true }
 {
