@@ -127,25 +127,43 @@ fn states(rt: HostRuntime) -> Result<(), Fail> {
     Ok(())
 }
 
-#[test]
-fn handed_on(rt: HostRuntime) -> Result<(), Fail> {
-    let (table, _) = read(rt.alloc(), INITTAB)?;
-    let mut core = Core::new(rt.alloc(), table, Some(Level::L3))?;
+/// A core that init is to be executed anew with.
+fn settled(alloc: Global) -> Result<Core, Fail> {
+    let (table, _) = read(alloc, INITTAB)?;
+    let mut core = Core::new(alloc, table, Some(Level::L3))?;
     settle(&mut core)?;
     core.got(Got::Reexec);
-    assert!(rt; matches!(core.next(), Step::Reexec));
-    let text = hand_over(rt.alloc(), &mut core)?;
-    let want = format!(in rt.alloc(); "initd-state 1\ngeneration 1\n{SETTLED}")?;
-    assert!(rt; text.as_slice() == want.as_bytes());
-    assert!(rt; matches!(core.next(), Step::Idle));
+    Ok(core)
+}
 
-    // The next init goes on alike, and hands its state on.
-    let mut next = take_over(rt.alloc(), &text, 1)?;
-    assert!(rt; matches!(next.next(), Step::Idle));
-    let text = hand_over(rt.alloc(), &mut next)?;
-    let want = format!(in rt.alloc(); "initd-state 1\ngeneration 2\n{SETTLED}")?;
+/// The core hands the settled state on, with this generation; gives whether the text says that generation.
+fn hands_on(
+    rt: &impl Abort,
+    alloc: Global,
+    core: &mut Core,
+    generation: u64,
+) -> Result<bool, Fail> {
+    let text = hand_over(alloc, core)?;
+    let want = format!(in alloc; "initd-state 1\ngeneration {generation}\n{SETTLED}")?;
     assert!(rt; text.as_slice() == want.as_bytes());
-    assert!(rt; generation_of(&text) == Some(2));
+    Ok(generation_of(&text) == Some(generation))
+}
+
+#[test]
+fn handed_on(rt: HostRuntime) -> Result<(), Fail> {
+    let mut core = settled(rt.alloc())?;
+    assert!(rt; matches!(core.next(), Step::Reexec));
+    assert!(rt; hands_on(&rt, rt.alloc(), &mut core, 1)?);
+    assert!(rt; matches!(core.next(), Step::Idle));
+    Ok(())
+}
+
+#[test]
+fn taken_over(rt: HostRuntime) -> Result<(), Fail> {
+    let text = format!(in rt.alloc(); "initd-state 1\ngeneration 1\n{SETTLED}")?;
+    let mut core = take_over(rt.alloc(), text.as_bytes(), 1)?;
+    assert!(rt; matches!(core.next(), Step::Idle));
+    assert!(rt; hands_on(&rt, rt.alloc(), &mut core, 2)?);
     Ok(())
 }
 
