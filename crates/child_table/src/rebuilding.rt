@@ -9,7 +9,7 @@ use init_words::Memory;
 use std::alloc::Allocator;
 
 impl<A: Allocator + Copy> Slots<A> {
-    /// These records, in this order.
+    /// These records, in this order: no id has two, and no time that they keep is above the clock's limit.
     pub fn rebuilt(alloc: A, given: Vec<Slot, A>) -> Result<Slots<A>, Memory>
         requires distinct { are_distinct given.items ≡ true }
         requires timely { are_timely CLOCK_LIMIT given.items ≡ true }
