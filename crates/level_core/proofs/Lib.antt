@@ -1,7 +1,9 @@
 pub mod Called
 pub mod Excluded
 pub mod Kept
+pub mod Moved
 pub mod Pairs
+pub mod Places
 pub mod Remade
 pub mod Ruled
 pub mod Starts

@@ -1,12 +1,15 @@
 ghost use Rattle.std.specs.Prelude.{◌≡◌, IfOk, OnOk, OnErr};
 
 use crate::calling::{call_named, judge_in};
-use crate::deciding::{level_step, next_stage};
-use crate::walking::{all_done, all_served, any_busy, look_among, start_among, stop_among};
+use crate::deciding::{brings_nothing, level_step, next_stage};
+use crate::walking::{
+    all_done, all_served, any_busy, leaves_passed, look_among, passed_to, place_if, seen_to,
+    start_among, stop_among,
+};
 use child_table::Slots;
 use core_state::{Heads, News};
 use init_trace::{Goal, Step};
-use init_words::{Answer, GRACE, Id, Level, Memory, Refusal, Stage};
+use init_words::{Answer, Ask, GRACE, Id, Level, Memory, Refusal, Stage};
 use initctl_frame::Got;
 use inittab_text::Table;
 use respawn_limit::CLOCK_LIMIT;
@@ -29,6 +32,10 @@ pub struct Core<A: Allocator = Global> {
     level_wish: Option<Goal>,
     news: News,
     generation: u64,
+    // `next` walks the records from two places on. No record before this one has a child that is to be looked at.
+    looks_from: usize,
+    // No entry before this one is to be started or waited for.
+    starts_from: usize,
 }
 
 impl<A: Allocator> Model for Core<A> {
@@ -37,6 +44,7 @@ impl<A: Allocator> Model for Core<A> {
     ghost use Rattle.child_table.specs.Times.{are_timely};
     ghost use Rattle.child_table.specs.Order.{IsInOrder};
     ghost use Rattle.core_state.specs.State.{CoreState};
+    ghost use Rattle.level_core.specs.Places.{are_seen, are_passed};
 
     ghost Value = { CoreState };
 
@@ -57,7 +65,8 @@ impl<A: Allocator> Model for Core<A> {
     } };
 
     ghost invariant = { λ c. (c.time ≤ CLOCK_LIMIT) × (are_timely c.time c.slots ≡ true)
-        × IsInOrder c.table c.slots };
+        × IsInOrder c.table c.slots × (are_seen c.looks_from c.slots ≡ true)
+        × (are_passed c.stage c.starts_from c.table c.slots ≡ true) };
 }
 
 impl<A: Allocator + Copy> Core<A> {
@@ -107,6 +116,8 @@ impl<A: Allocator + Copy> Core<A> {
             level_wish: None,
             news: News::new(),
             generation: 0,
+            looks_from: 0,
+            starts_from: 0,
         })
     }
 
@@ -142,6 +153,8 @@ impl<A: Allocator + Copy> Core<A> {
         self.table = table;
         self.announced = false;
         self.reread = false;
+        self.looks_from = 0;
+        self.starts_from = 0;
         Ok(())
     }
 }
@@ -154,7 +167,7 @@ impl<A: Allocator> Core<A> {
     ghost use Rattle.init_trace.specs.Due.{due, first};
     ghost use Rattle.init_trace.specs.Run.{is_rest};
     ghost use Rattle.child_table.specs.Order.{IsInOrder};
-    ghost use Rattle.child_table.specs.Lists.{are_distinct, order_in, refusal_of};
+    ghost use Rattle.child_table.specs.Lists.{are_distinct, can_ask, order_in, refusal_of};
     ghost use Rattle.core_state.specs.Decide.{decide, wished_step, wish_step, stands, calm_step, work_step, is_drained};
     ghost use Rattle.core_state.specs.Decide as core;
     ghost use Rattle.core_state.specs.Steps as steps;
@@ -189,6 +202,8 @@ impl<A: Allocator> Core<A> {
             level_wish: heads.level_wish,
             news: heads.news,
             generation: heads.generation,
+            looks_from: 0,
+            starts_from: 0,
         }
     }
 
@@ -351,9 +366,11 @@ impl<A: Allocator> Core<A> {
 
     /// Where no child is excluded: a start or a hold, the next stage, or that the level is settled.
     fn calm_step(&self, stage: Stage) -> Option<Step>
+        requires { self.now.stage ≡ Some stage }
         ensures { result ≡ calm_step stage self.now }
     {
-        if let Some(step) = start_among(stage, self.time, &self.table, self.slots.as_slice()) {
+        let slots = self.slots.as_slice();
+        if let Some(step) = start_among(stage, self.time, &self.table, slots, self.starts_from) {
             return Some(step);
         }
         if let Some(step) = self.stage_step(stage) {
@@ -364,6 +381,7 @@ impl<A: Allocator> Core<A> {
 
     /// Where no wish stands: a signal, or one of those.
     fn work_step(&self, stage: Stage) -> Option<Step>
+        requires { self.now.stage ≡ Some stage }
         ensures { result ≡ work_step stage self.now }
     {
         if self.stands(stage) {
@@ -390,7 +408,18 @@ impl<A: Allocator> Core<A> {
         if let Some(step) = self.work_step(stage) {
             return step;
         }
-        look_among(slots).unwrap_or(Step::Idle)
+        look_among(slots, self.looks_from).unwrap_or(Step::Idle)
+    }
+
+    /// Both places go on behind all records that are seen, and all entries that are passed.
+    fn pass(&mut self)
+        ensures { self.new ≡ self.old }
+    {
+        let slots = self.slots.as_slice();
+        self.looks_from = seen_to(slots, self.looks_from);
+        if let Some(stage) = self.stage {
+            self.starts_from = passed_to(stage, &self.table, slots, self.starts_from);
+        }
     }
 
     fn enter(&mut self, stage: Stage, grace: u16)
@@ -404,12 +433,26 @@ impl<A: Allocator> Core<A> {
         self.level_wish = None;
         self.booted = stage == Stage::Boot || self.booted;
         self.announced = false;
+        self.looks_from = 0;
+        self.starts_from = 0;
+    }
+
+    /// An order is given about an id.
+    fn order(&mut self, id: Id, ask: Ask)
+        requires allowed { can_ask id ask self.old.time self.old.slots ≡ true }
+        requires distinct { are_distinct self.old.slots ≡ true }
+        ensures { self.new ≡ after_step (Step.Order id ask) self.old }
+    {
+        let kept = leaves_passed(&self.slots, self.starts_from, &id, ask);
+        self.slots.ask(id, ask, self.time);
+        self.starts_from = place_if(kept, self.starts_from);
     }
 
     /// The step is taken, as it was decided on.
     fn apply(&mut self, step: &Step)
         requires decided { decide self.old ≡ step.now }
         requires distinct { are_distinct self.old.slots ≡ true }
+        requires order { IsInOrder self.old.table self.old.slots }
         ensures { self.new ≡ after_step step.now self.old }
     {
         match *step {
@@ -417,12 +460,14 @@ impl<A: Allocator> Core<A> {
             Step::Power(kind) => {
                 call_named(&mut self.slots, &self.table, step, self.stage);
                 self.news.set_power(kind, false);
+                self.starts_from = 0;
             }
             Step::Call(letter) => {
                 call_named(&mut self.slots, &self.table, step, self.stage);
                 self.news.set_letter(letter, false);
+                self.starts_from = 0;
             }
-            Step::Order(id, ask) => self.slots.ask(id, ask, self.time),
+            Step::Order(id, ask) => self.order(id, ask),
             Step::Hold(id) => self.slots.hold(id, self.time),
             Step::Settle(_) => self.announced = true,
             Step::Reread | Step::Reexec | Step::Idle => {}
@@ -434,6 +479,7 @@ impl<A: Allocator> Core<A> {
         ensures state { self.new ≡ after_step result self.old }
         ensures falls { is_rest result ≡ false → work_left self.new < work_left self.old }
     {
+        self.pass();
         let step = self.due_step();
         self.apply(&step);
         step
@@ -478,7 +524,12 @@ impl<A: Allocator> Core<A> {
         ensures refused { result ≡ refusal_of (order_in id self.old.slots) answer }
         ensures unchanged { OnErr result (self.new ≡ self.old) }
     {
+        // `len` says that no id has two records, as `told` doesn't.
+        let _ = self.slots.len();
+        let kept = brings_nothing(&answer);
         self.slots.told(id, answer, self.time)?;
+        self.looks_from = place_if(kept, self.looks_from);
+        self.starts_from = place_if(kept, self.starts_from);
         Ok(())
     }
 
@@ -589,6 +640,7 @@ impl<A: Allocator> Core<A> {
         ensures { self.new ≡ after_round self.old }
     {
         self.slots.nudge();
+        self.looks_from = 0;
     }
 
     /// The clock shows this reading, in seconds. The time is the greatest reading; one above 1,000,000,000,000 counts

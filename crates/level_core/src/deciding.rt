@@ -1,11 +1,13 @@
 ghost use Rattle.std.specs.Prelude.{◌≡◌, ◌≤◌, ◌+◌, nat_le};
 ghost use Rattle.core_state.specs.Decide.{level_step, signal_step, stop_step, is_wanted_slot, is_owed_slot, limited_step, can_start_slot, start_step, is_done_slot, next_stage, is_served_slot, can_look_slot};
 ghost use Rattle.init_trace.specs.Wanted.{is_order};
+ghost use Rattle.init_words.specs.Orders.{same_ask};
 ghost use Rattle.respawn_limit.specs.declared.TheConstants.{CLOCK_LIMIT};
+ghost use Rattle.level_core.specs.Places.{is_seen_slot, is_passed_slot, brings_nothing};
 
 use child_table::{Slot, Stop};
 use init_trace::{Goal, Step};
-use init_words::{Ask, Entry, Id, Level, Stage, starts, waited};
+use init_words::{Answer, Ask, Entry, Id, Level, Stage, starts, waited};
 use respawn_limit::May;
 
 /// A wish for another level: through Boot on the first way to a level other than S.
@@ -110,6 +112,13 @@ pub(crate) fn start_step(stage: Stage, now: u64, entry: &Entry, slot: &Slot) -> 
     }
 }
 
+/// The entry is not to be started, whatever order is open, and init doesn't wait for it.
+pub(crate) fn is_passed(stage: Stage, entry: &Entry, slot: &Slot) -> bool
+    ensures { result ≡ is_passed_slot stage entry.now slot.now }
+{
+    !(is_wanted(stage, entry, slot) && !slot.has_child()) && !is_owed(stage, entry, slot)
+}
+
 /// Nothing is left to do for the entry in Sysinit or Boot.
 pub(crate) fn is_done(stage: Stage, entry: &Entry, slot: &Slot) -> bool
     ensures { result ≡ is_done_slot stage entry.now slot.now }
@@ -145,4 +154,25 @@ pub(crate) fn can_look(slot: &Slot) -> bool
     ensures { result ≡ can_look_slot slot.now }
 {
     slot.has_child() && slot.order().is_none() && slot.look()
+}
+
+/// The record has no child that is to be looked at, whatever order is open.
+pub(crate) fn is_seen(slot: &Slot) -> bool
+    ensures { result ≡ is_seen_slot slot.now }
+{
+    !(slot.has_child() && slot.look())
+}
+
+/// The order is a start.
+pub(crate) fn is_start(ask: Ask) -> bool
+    ensures { result ≡ same_ask Ask.Start ask }
+{
+    matches!(ask, Ask::Start)
+}
+
+/// After the answer the id has a child: it brings neither a start nor a look.
+pub(crate) fn brings_nothing(answer: &Answer) -> bool
+    ensures { result ≡ brings_nothing answer.now }
+{
+    matches!(answer, Answer::Born(_) | Answer::Alive | Answer::NoLook)
 }

@@ -1,12 +1,16 @@
-ghost use Rattle.std.specs.Prelude.{◌≡◌, ◌≤◌};
+ghost use Rattle.std.specs.Prelude.{◌≡◌, ◌≤◌, true, Some, if◌then◌else◌, not, ◌||◌};
 ghost use Rattle.std.specs.List.{list_any};
 ghost use Rattle.core_state.specs.Decide.{stop_among, start_among, all_done, all_served, look_among, is_busy_slot};
 ghost use Rattle.respawn_limit.specs.declared.TheConstants.{CLOCK_LIMIT};
+ghost use Rattle.init_words.specs.Orders.{same_ask};
+ghost use Rattle.level_core.specs.Places.{are_seen, are_passed, is_at};
 
-use crate::deciding::{can_look, is_done, is_owed, is_served, start_step, stop_step};
-use child_table::Slot;
+use crate::deciding::{
+    can_look, is_done, is_owed, is_passed, is_seen, is_served, is_start, start_step, stop_step,
+};
+use child_table::{Slot, Slots};
 use init_trace::Step;
-use init_words::{Ask, Level, Stage};
+use init_words::{Ask, Id, Level, Stage};
 use inittab_text::Table;
 use std::alloc::Allocator;
 
@@ -22,17 +26,68 @@ pub(crate) fn stop_among(grace: u16, now: u64, slots: &[Slot]) -> Option<Step>
     None
 }
 
-/// The first start or hold in the order of the table, up to the first entry that init waits for.
+/// The record at the place is that of the id.
+fn is_at<A: Allocator>(slots: &Slots<A>, place: usize, id: &Id) -> bool
+    ensures { result ≡ is_at id.now place slots.now }
+{
+    match slots.at(place) {
+        Some(slot) => *id == slot.id(),
+        None => false,
+    }
+}
+
+/// An order about the id leaves the entries before the place passed: it is no start, or the id's record stands there.
+pub(crate) fn leaves_passed<A: Allocator>(slots: &Slots<A>, place: usize, id: &Id, ask: Ask) -> bool
+    ensures { result ≡ (not (same_ask Ask.Start ask) || is_at id.now place slots.now) }
+{
+    !is_start(ask) || is_at(slots, place, id)
+}
+
+/// The place, if it is kept, else the first.
+pub(crate) fn place_if(kept: bool, place: usize) -> usize
+    ensures { result ≡ (if kept then place else 0) }
+{
+    if kept { place } else { 0 }
+}
+
+/// From a place on that entries were passed up to, how far they are passed now.
+pub(crate) fn passed_to<A: Allocator>(
+    stage: Stage,
+    table: &Table<A>,
+    slots: &[Slot],
+    from: usize,
+) -> usize
+    requires { are_passed (Some stage) from table.now slots.now ≡ true }
+    ensures { are_passed (Some stage) result table.now slots.now ≡ true }
+{
+    let mut passed = from;
+    for place in from..slots.len() {
+        let Some(entry) = table.at(place) else {
+            return passed;
+        };
+        if !is_passed(stage, entry, &slots[place]) {
+            return passed;
+        }
+        passed = place + 1;
+    }
+    passed
+}
+
+/// The first start or hold in the order of the table, up to the first entry that init waits for. The entries before
+/// the place are passed.
 pub(crate) fn start_among<A: Allocator>(
     stage: Stage,
     now: u64,
     table: &Table<A>,
     slots: &[Slot],
+    from: usize,
 ) -> Option<Step>
-    requires { now ≤ CLOCK_LIMIT }
+    requires limit { now ≤ CLOCK_LIMIT }
+    requires passed { are_passed (Some stage) from table.now slots.now ≡ true }
     ensures { result ≡ start_among stage now table.now slots.now }
 {
-    for (place, slot) in slots.iter().enumerate() {
+    for place in from..slots.len() {
+        let slot = &slots[place];
         let Some(entry) = table.at(place) else {
             return None;
         };
@@ -81,11 +136,28 @@ pub(crate) fn all_served<A: Allocator>(
     true
 }
 
-/// The first record whose child is to be looked at.
-pub(crate) fn look_among(slots: &[Slot]) -> Option<Step>
+/// From a place on that records were seen up to, how far they are seen now.
+pub(crate) fn seen_to(slots: &[Slot], from: usize) -> usize
+    requires { are_seen from slots.now ≡ true }
+    ensures { are_seen result slots.now ≡ true }
+{
+    let mut seen = from;
+    for place in from..slots.len() {
+        if !is_seen(&slots[place]) {
+            return seen;
+        }
+        seen = place + 1;
+    }
+    seen
+}
+
+/// The first record whose child is to be looked at. Those before the place are seen.
+pub(crate) fn look_among(slots: &[Slot], from: usize) -> Option<Step>
+    requires { are_seen from slots.now ≡ true }
     ensures { result ≡ look_among slots.now }
 {
-    for slot in slots {
+    for place in from..slots.len() {
+        let slot = &slots[place];
         if can_look(slot) {
             return Some(Step::Order(slot.id(), Ask::Look));
         }

@@ -1,6 +1,10 @@
 use Rattle.std.proofs.Common.{sym}
 use Rattle.level_core.proofs.Starts.{along_none, along_past, along_found, along_owed, along_pass}
+use Rattle.level_core.proofs.Places.{start_from}
 use Rattle.level_core.proofs.walking.start_among.Goals as goal
+
+pub loop-place-init : goal.loop-place-init
+loop-place-init g c = start_from c.args.stage c.args.now c.args.table.now c.args.slots.now c.args.from c.requires.passed
 
 pub returns-in_default : goal.returns-in_default
 returns-in_default g c = along_none c.args.stage c.args.now c.args.table.now c.args.slots.now c.loop-place.place c.loop-place.invariant (sym c.in_default.ensures)

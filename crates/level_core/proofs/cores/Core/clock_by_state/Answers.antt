@@ -8,4 +8,4 @@ invariant_of-self g c =
     let kept : c.self.inside.time ≤ CLOCK_LIMIT = c.self.invariant.0 in
     let later : c.self.inside.time ≤ c.max-self-inside.result = omega arith in
     let capped : c.max-self-inside.result ≤ CLOCK_LIMIT = omega arith in
-    (capped, timely_later c.self.inside.time c.max-self-inside.result later c.self.inside.slots c.self.invariant.1, c.self.invariant.2)
+    (capped, timely_later c.self.inside.time c.max-self-inside.result later c.self.inside.slots c.self.invariant.1, c.self.invariant.2, c.self.invariant.3, c.self.invariant.4)

@@ -9,7 +9,7 @@ use Rattle.level_core.proofs.Kept.{timely_opening}
 use Rattle.level_core.proofs.cores.Core.new_by_state.Goals as goal
 
 pub invariant_of-result : goal.invariant_of-result
-invariant_of-result g c = (omega arith, rw c.in_ok-slots.ensures.records (timely_opening 0 c.args.table), rw c.in_ok-slots.ensures.records (order_new c.args.table))
+invariant_of-result g c = (omega arith, rw c.in_ok-slots.ensures.records (timely_opening 0 c.args.table), rw c.in_ok-slots.ensures.records (order_new c.args.table), refl, refl)
 
 level_is : (given default : Option Level) → unwrap_or (option_or given default) S ≡ opening_level given default
 level_is (Some level) default = refl
