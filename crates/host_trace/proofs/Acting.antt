@@ -35,7 +35,7 @@ use Rattle.core_state.proofs.Hearing.{fits_act, fits_told}
 use Rattle.core_state.proofs.Reading.{quiet_same}
 use Rattle.run_log.specs.Logs.{LogState}
 use Rattle.host_trace.specs.Point.{last_birth, acted, is_asked_for, answered}
-use Rattle.host_trace.specs.Leads.{is_own, is_allowed, Logs, Gave, Heard, Hears}
+use Rattle.host_trace.specs.Leads.{is_own, is_allowed, Logs, Gave, Heard, Hears, Lasts, Tracks}
 use Rattle.host_trace.proofs.Leading.{allowed_rest, allowed_first}
 
 -- a trace stays sound with what may come
@@ -61,6 +61,12 @@ Hears-edge fitted fit old new happening other fits took goal so_far sound before
 pub Hears-told : (c new : CoreState) (l₀ l₁ : LogState) (happening : Event) → is_own happening ≡ false → OnEachTrace c (λ goal so_far. Fits new goal (happening ∷ so_far)) → ((so_far : List Event) → Logs l₀ l₁ so_far (happening ∷ so_far)) → Hears (Fits c) (Fits new) l₀ l₁ (λ so_far. happening ∷ so_far)
 Hears-told c new l₀ l₁ happening other fits took = Hears-edge (Fits c) (Fits new) l₀ l₁ happening other (λ goal so_far sound before more. fits goal so_far sound before) took
 
+-- what keeps the rules, and seconds of an hour at most, tracks the trace that it fits
+pub Hears-tracks : (c new : CoreState) (l₀ l₁ : LogState) (more : List Event → List Event) → Lasts c new → Hears (Fits c) (Fits new) l₀ l₁ more → Hears (Tracks c) (Tracks new) l₀ l₁ more
+Hears-tracks c new l₀ l₁ more lasts hears goal so_far sound tracks allowed =
+    let heard : Heard (Fits new) l₀ l₁ goal so_far (more so_far) = hears goal so_far sound tracks.fits allowed in
+    record { sound = heard.sound; fits = record { fits = heard.fits; kept = lasts.kept tracks.kept; short = lasts.short tracks.short }; log = heard.log }
+
 -- a step that init gave: it was due, so the trace with its happening is sound
 pub step_sound : (goal : Goal) (so_far : List Event) (made : Step) → first (due goal so_far) ≡ made → is_sound goal so_far ≡ true → is_sound goal (with_step made so_far) ≡ true
 step_sound goal so_far (step.Enter stage grace) is sound = sound_more goal (past.Enter stage grace) so_far (first_due goal so_far (step.Enter stage grace) is refl) sound
@@ -73,8 +79,8 @@ step_sound goal so_far step.Reread is sound = sound
 step_sound goal so_far step.Reexec is sound = sound
 step_sound goal so_far step.Idle is sound = sound
 
-pub Hears-step : (c : CoreState) (l₀ l₁ : LogState) (made : Step) → ((so_far : List Event) → Logs l₀ l₁ so_far (with_step made so_far)) → Hears (Gave (Fits c) made) (Fits c) l₀ l₁ (with_step made)
-Hears-step c l₀ l₁ made took goal so_far sound gave allowed = record { sound = step_sound goal so_far made gave.0 sound; fits = gave.1; log = took so_far }
+pub Hears-step : (fit : Goal → List Event → Type 0) (l₀ l₁ : LogState) (made : Step) → ((so_far : List Event) → Logs l₀ l₁ so_far (with_step made so_far)) → Hears (Gave fit made) fit l₀ l₁ (with_step made)
+Hears-step fit l₀ l₁ made took goal so_far sound gave allowed = record { sound = step_sound goal so_far made gave.0 sound; fits = gave.1; log = took so_far }
 
 -- ---- answers
 

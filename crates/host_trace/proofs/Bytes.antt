@@ -1,5 +1,7 @@
 -- Bytes taken one by one fill the blocks of the whole list; and what the reader of requests makes of a piece.
 use Rattle.std.proofs.Common.{◌≡◌, refl, sym, ◌∙◌, ap, subst, ℕ, ◌+◌, ◌*◌, ◌/◌, ◌<◌, ◌==◌, Bool, true, false, cond, List, [], ◌∷◌, ◌++◌, length, take, drop, append-nil, append_assoc, length-append, length-drop, Option, Ok, arith}
+use Rattle.std.specs.List.{list_all}
+use Rattle.init_trace.specs.Range.{is_request}
 use Rattle.std.specs.Option.{option_to_list}
 use Rattle.std.proofs.lemmas.Bool.{eqb-true, eqb-false}
 use Rattle.std.proofs.lemmas.List.{append_cancel_left}
@@ -13,14 +15,13 @@ use Rattle.init_trace.specs.Event.{Event}
 use Rattle.init_trace.specs.Sound.{is_sound}
 use Rattle.child_host.specs.declared.calls.Call.TheVariants.{TakeBytes}
 use Rattle.core_state.specs.State.{CoreState}
-use Rattle.core_state.specs.Fit.{Fits}
 use Rattle.run_log.specs.Logs.{LogState}
 use Rattle.host_trace.specs.Point.{Point, byte_after, bytes_after}
 use Rattle.host_trace.specs.Requests.{requested, Continues}
-use Rattle.host_trace.specs.Leads.{is_allowed, Logs, Took, At, IsOver, Went, Leads, Heard, Hears}
+use Rattle.host_trace.specs.Leads.{is_allowed, Logs, Took, At, IsOver, Went, Leads, Heard, Hears, Tracks}
 use Rattle.host_trace.proofs.Point.{bytes_after-append}
 use Rattle.host_trace.proofs.Leading.{bytes_allowed}
-use Rattle.host_trace.proofs.Seconds.{logged, short_then}
+use Rattle.host_trace.proofs.Seconds.{given_short, logged, short_then}
 use Rattle.host_trace.proofs.Taking.{Took-none, Took-then}
 
 requested-append : (xs ys : List Got) (so_far : List Event) → requested (xs ++ ys) so_far ≡ requested ys (requested xs so_far)
@@ -82,7 +83,7 @@ over_own : (over : List ℕ) → length over < 384 → over_of over ≡ over
 over_own over short = ap (λ n. drop (384 * n) over) (let none : length over / 384 ≡ 0 = omega (arith, short) in none)
 
 -- what a reader that stands after the bytes over makes of a piece
-pub piece_fed : (old new : Begun) (part : List ℕ) (given : Option Got) (p : Point) → old.count < 384 → IsOver old p.over → ((bytes : List ℕ) → Stands old bytes → Stands new (bytes ++ part)) → ((bytes : List ℕ) → Stands old bytes → gots_of (bytes ++ part) ≡ gots_of bytes ++ option_to_list given) → (IsOver new (bytes_after part p).over) × ((bytes_after part p).past ≡ requested (option_to_list given) p.past)
+pub piece_fed : (old new : Begun) (part : List ℕ) (given : Option Got) (p : Point) → old.count < 384 → IsOver old p.over → ((bytes : List ℕ) → Stands old bytes → Stands new (bytes ++ part)) → ((bytes : List ℕ) → Stands old bytes → gots_of (bytes ++ part) ≡ gots_of bytes ++ option_to_list given) → (IsOver new (bytes_after part p).over) × ((bytes_after part p).past ≡ requested (option_to_list given) p.past) × (list_all is_request (option_to_list given) ≡ true)
 piece_fed old new part given p short stands fed gots =
     let own : over_of p.over ≡ p.over = over_own p.over (subst (λ n. n < 384) stands.count short) in
     let before : Stands old p.over = record { count = stands.count ∙ ap length (sym own); front = stands.front ∙ ap (take 16) (sym own) } in
@@ -90,27 +91,27 @@ piece_fed old new part given p short stands fed gots =
     let all : Continues p.over part p = bytes_continue part p.over p (sym own) in
     let heard : all.requests ≡ option_to_list given = append_cancel_left (gots_of p.over) all.requests (option_to_list given) (sym all.gots ∙ gots p.over before) in
     let over : over_of (p.over ++ part) ≡ (bytes_after part p).over = ap (λ (q : Point). q.over) (sym all.point) in
-    (record { count = behind.count ∙ ap length over; front = behind.front ∙ ap (take 16) over }, ap (λ (q : Point). q.past) all.point ∙ ap (λ l. requested l p.past) heard)
+    (record { count = behind.count ∙ ap length over; front = behind.front ∙ ap (take 16) over }, ap (λ (q : Point). q.past) all.point ∙ ap (λ l. requested l p.past) heard, given_short (gots_of p.over) (option_to_list given) (p.over ++ part) (gots p.over before))
 
-pub Leads-fed : (c now : CoreState) (old new : Begun) (l₀ l₁ : LogState) (room : ℕ) (part : List ℕ) (given : Option Got) → old.count < 384 → ((bytes : List ℕ) → Stands old bytes → Stands new (bytes ++ part)) → ((bytes : List ℕ) → Stands old bytes → gots_of (bytes ++ part) ≡ gots_of bytes ++ option_to_list given) → Hears (Fits c) (Fits now) l₀ l₁ (requested (option_to_list given)) → Leads (At c old) (At now new) l₀ l₁ (TakeBytes room (Ok part) ∷ [])
-Leads-fed c now old new l₀ l₁ room part given short fed gots hears goal p sound fits allowed =
+pub Leads-fed : (c now : CoreState) (old new : Begun) (l₀ l₁ : LogState) (room : ℕ) (part : List ℕ) (given : Option Got) → old.count < 384 → ((bytes : List ℕ) → Stands old bytes → Stands new (bytes ++ part)) → ((bytes : List ℕ) → Stands old bytes → gots_of (bytes ++ part) ≡ gots_of bytes ++ option_to_list given) → (list_all is_request (option_to_list given) ≡ true → Hears (Tracks c) (Tracks now) l₀ l₁ (requested (option_to_list given))) → Leads (At c old) (At now new) l₀ l₁ (TakeBytes room (Ok part) ∷ [])
+Leads-fed c now old new l₀ l₁ room part given short fed gots hears goal p sound fits allowed carried =
     let read = piece_fed old new part given p short fits.1 fed gots in
-    let heard : Heard (Fits now) l₀ l₁ goal p.past (requested (option_to_list given) p.past) = hears goal p.past sound fits.0 (ap (is_allowed goal) (sym read.1) ∙ allowed) in
+    let heard : Heard (Tracks now) l₀ l₁ goal p.past (requested (option_to_list given) p.past) = hears read.2 goal p.past sound fits.0 (ap (is_allowed goal) (sym read.1) ∙ allowed) in
     let more : is_sound goal (bytes_after part p).past ≡ true = ap (is_sound goal) read.1 ∙ heard.sound in
     record {
       in_place = refl;
       sound = more;
-      fits = (subst (Fits now goal) (sym read.1) heard.fits, read.0);
+      fits = (subst (Tracks now goal) (sym read.1) heard.fits, read.0);
       log = logged goal (TakeBytes room (Ok part) ∷ []) p l₀ l₁ more (subst (Logs l₀ l₁ p.past) (sym read.1) heard.log);
     }
 
 -- two pieces of what a call took
 pub Leads-pieces : (f₀ f₁ f₂ : Goal → Point → Type 0) (l₀ l₁ l₂ : LogState) (room : ℕ) (xs ys : List ℕ) → Leads f₀ f₁ l₀ l₁ (TakeBytes room (Ok xs) ∷ []) → Leads f₁ f₂ l₁ l₂ (TakeBytes room (Ok ys) ∷ []) → Leads f₀ f₂ l₀ l₂ (TakeBytes room (Ok (xs ++ ys)) ∷ [])
-Leads-pieces f₀ f₁ f₂ l₀ l₁ l₂ room xs ys one two goal p sound fits allowed =
+Leads-pieces f₀ f₁ f₂ l₀ l₁ l₂ room xs ys one two goal p sound fits allowed carried =
     let joined : bytes_after (xs ++ ys) p ≡ bytes_after ys (bytes_after xs p) = bytes_after-append xs ys p in
     let later : is_allowed goal (bytes_after ys (bytes_after xs p)).past ≡ true = ap (λ (q : Point). is_allowed goal q.past) (sym joined) ∙ allowed in
-    let first : Went f₁ l₀ l₁ goal p (TakeBytes room (Ok xs) ∷ []) = one goal p sound fits (bytes_allowed goal ys (bytes_after xs p) later) in
-    let second : Went f₂ l₁ l₂ goal (bytes_after xs p) (TakeBytes room (Ok ys) ∷ []) = two goal (bytes_after xs p) first.sound first.fits later in
+    let first : Went f₁ l₀ l₁ goal p (TakeBytes room (Ok xs) ∷ []) = one goal p sound fits (bytes_allowed goal ys (bytes_after xs p) later) refl in
+    let second : Went f₂ l₁ l₂ goal (bytes_after xs p) (TakeBytes room (Ok ys) ∷ []) = two goal (bytes_after xs p) first.sound first.fits later refl in
     record {
       in_place = refl;
       sound = ap (λ (q : Point). is_sound goal q.past) joined ∙ second.sound;
@@ -120,4 +121,4 @@ Leads-pieces f₀ f₁ f₂ l₀ l₁ l₂ room xs ys one two goal p sound fits 
 
 -- a call that took no bytes
 pub Leads-no_bytes : (fit : Goal → Point → Type 0) (log : LogState) (room : ℕ) → Leads fit fit log log (TakeBytes room (Ok []) ∷ [])
-Leads-no_bytes fit log room goal p sound fits allowed = record { in_place = refl; sound = sound; fits = fits; log = λ short. Took-none log p.past }
+Leads-no_bytes fit log room goal p sound fits allowed carried = record { in_place = refl; sound = sound; fits = fits; log = λ short. Took-none log p.past }

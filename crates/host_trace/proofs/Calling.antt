@@ -1,7 +1,7 @@
 -- What each call leads to: its core fits the trace with it, where the call was in its place and its answer was possible.
-use Rattle.std.proofs.Common.{◌≡◌, refl, sym, ◌∙◌, ap, subst, ℕ, ◌+◌, ◌≤◌, Bool, true, false, cond, List, [], ◌∷◌, length, nat_lt, Option, Some, Ok, Err, Result}
+use Rattle.std.proofs.Common.{◌≡◌, refl, sym, ◌∙◌, ap, subst, ℕ, ◌+◌, ◌≤◌, Bool, true, false, ◌&&◌, cond, List, [], ◌∷◌, length, nat_lt, Option, Some, Ok, Err, Result}
 use Rattle.std.specs.Option.{option_map_or}
-use Rattle.std.proofs.lemmas.Bool.{and_from, le-ltb}
+use Rattle.std.proofs.lemmas.Bool.{and_from, and_parts, false≢true, le-ltb}
 use Rattle.init_words.specs.declared.entries.Entry.{Entry}
 use Rattle.init_words.specs.declared.orders.Answer.{Answer}
 use Rattle.init_words.specs.declared.orders.Ask.{Ask}
@@ -12,25 +12,31 @@ use Rattle.inittab_text.specs.declared.reading.TheConstants.{TEXT_LIMIT}
 use Rattle.inittab_text.specs.Reading.{table_of_text}
 use Rattle.inittab_text.specs.Tables.{entry_of}
 use Rattle.inittab_text.proofs.Distinct.{distinct_text}
+use Rattle.init_trace.specs.declared.happenings.Handed.{Handed as HandOver}
 use Rattle.init_trace.specs.declared.happenings.Handed.TheVariants as handed
 use Rattle.init_trace.specs.declared.happenings.Happening.TheVariants as past
 use Rattle.init_trace.specs.declared.steps.Goal.{Goal}
 use Rattle.init_trace.specs.declared.steps.Step.TheVariants as step
 use Rattle.init_trace.specs.Event.{Event}
-use Rattle.init_trace.specs.Due.{is_due}
+use Rattle.init_trace.specs.Due.{due, first, is_due}
 use Rattle.init_trace.specs.Sound.{is_sound}
+use Rattle.init_trace.specs.Wishes.{wants_reexec}
 use Rattle.trace_laws.proofs.Runs.{first_due}
 use Rattle.child_table.specs.Lists as lists
 use Rattle.core_state.specs.State.{CoreState}
 use Rattle.core_state.specs.Fit.{Fits, OnEachTrace, with_step}
+use Rattle.core_state.specs.Rules.{KeepsRules}
+use Rattle.core_state.proofs.Decided.{reexec_wished}
+use Rattle.core_state.proofs.Deciding.{decide_due}
+use Rattle.state_text.specs.Range as range
 use Rattle.run_log.specs.Logs.{LogState}
 use Rattle.child_host.specs.declared.calls.Call.TheVariants.{Start, Late, Clock, ReadTable, Announce}
 use Rattle.child_host.specs.declared.calls.HostFault.{HostFault}
 use Rattle.child_host.specs.declared.calls.Reply.{Reply}
 use Rattle.child_host.specs.declared.calls.Reply.TheVariants.{Now, Later}
 use Rattle.child_host.specs.Calls.{TextRead}
-use Rattle.host_trace.specs.Point.{replied, ordered, come, is_last, nudged_if, clocked, reading, before_reading, same_text, is_command}
-use Rattle.host_trace.specs.Leads.{is_allowed, Logs, On, Gave, Counted, Leads, Heard, Hears}
+use Rattle.host_trace.specs.Point.{Point, replied, ordered, come, is_last, nudged_if, clocked, reading, before_reading, before_handing, handed_if, came_whole, same_text, is_command, is_refusal, is_outcome, carrying, point_after, has_trace}
+use Rattle.host_trace.specs.Leads.{is_allowed, comes_back, are_carried, Logs, On, Gave, Counted, Lasts, Carried, Tracks, Leads, Heard, Hears}
 use Rattle.host_trace.proofs.Leading.{answered_allowed, nudged_allowed, Leads-heard, Hears-then}
 use Rattle.host_trace.proofs.Seconds.{logged}
 use Rattle.host_trace.proofs.Acting.{sound_met, Hears-step, table_sound}
@@ -42,8 +48,8 @@ replied_allowed goal id (Now given) so_far h = answered_allowed goal id given so
 replied_allowed goal id Later so_far h = h
 
 -- init asked, and heard the reply
-pub Hears-order : (c new : CoreState) (l₀ l₁ l₂ : LogState) (id : List ℕ) (order : Ask) (reply : Reply) → ((so_far : List Event) → Logs l₀ l₁ so_far (past.Asked id order ∷ so_far)) → Hears (Fits c) (Fits new) l₁ l₂ (replied id reply) → Hears (Gave (Fits c) (step.Order id order)) (Fits new) l₀ l₂ (ordered id order reply)
-Hears-order c new l₀ l₁ l₂ id order reply took heard = Hears-then (Gave (Fits c) (step.Order id order)) (Fits c) (Fits new) l₀ l₁ l₂ (with_step (step.Order id order)) (replied id reply) (λ goal so_far h. replied_allowed goal id reply so_far h) (Hears-step c l₀ l₁ (step.Order id order) took) heard
+pub Hears-order : (c new : CoreState) (l₀ l₁ l₂ : LogState) (id : List ℕ) (order : Ask) (reply : Reply) → ((so_far : List Event) → Logs l₀ l₁ so_far (past.Asked id order ∷ so_far)) → Hears (Tracks c) (Tracks new) l₁ l₂ (replied id reply) → Hears (Gave (Tracks c) (step.Order id order)) (Tracks new) l₀ l₂ (ordered id order reply)
+Hears-order c new l₀ l₁ l₂ id order reply took heard = Hears-then (Gave (Tracks c) (step.Order id order)) (Tracks c) (Tracks new) l₀ l₁ l₂ (with_step (step.Order id order)) (replied id reply) (λ goal so_far h. replied_allowed goal id reply so_far h) (Hears-step (Tracks c) l₀ l₁ (step.Order id order) took) heard
 
 -- the command of the id's entry in the core's table is that of the entry in force
 pub command_placed : (goal : Goal) (so_far : List Event) (c : CoreState) (id command : List ℕ) (e : Entry) → Fits c goal (with_step (step.Order id ask.Start) so_far) → entry_of id c.table ≡ Some e → command ≡ command_of e → is_command id command so_far ≡ true
@@ -52,20 +58,20 @@ command_placed goal so_far c id command e fits own is =
     ∙ ap (λ o. option_map_or (λ e. same_text command (command_of e)) o false) own
     ∙ ap (λ text. same_text text (command_of e)) is ∙ same_id-self (command_of e)
 
-pub Leads-start : (c new : CoreState) (l₀ l₁ : LogState) (id command : List ℕ) (reply : Reply) (e : Entry) → entry_of id c.table ≡ Some e → command ≡ command_of e → Hears (Gave (Fits c) (step.Order id ask.Start)) (Fits new) l₀ l₁ (ordered id ask.Start reply) → Leads (On (Gave (Fits c) (step.Order id ask.Start))) (On (Fits new)) l₀ l₁ (Start id command reply ∷ [])
-Leads-start c new l₀ l₁ id command reply e own is hears = Leads-heard (Gave (Fits c) (step.Order id ask.Start)) (Fits new) l₀ l₁ (Start id command reply) (ordered id ask.Start reply) hears (λ p. refl) (λ goal p sound gave. command_placed goal p.past c id command e gave.1 own is)
+pub Leads-start : (c new : CoreState) (l₀ l₁ : LogState) (id command : List ℕ) (reply : Reply) (e : Entry) → entry_of id c.table ≡ Some e → command ≡ command_of e → Hears (Gave (Tracks c) (step.Order id ask.Start)) (Tracks new) l₀ l₁ (ordered id ask.Start reply) → Leads (On (Gave (Tracks c) (step.Order id ask.Start))) (On (Tracks new)) l₀ l₁ (Start id command reply ∷ [])
+Leads-start c new l₀ l₁ id command reply e own is hears = Leads-heard (Gave (Tracks c) (step.Order id ask.Start)) (Tracks new) l₀ l₁ (Start id command reply) (ordered id ask.Start reply) hears (λ p. refl) (λ goal p sound gave. command_placed goal p.past c id command e gave.1.fits own is)
 
 -- ---- what is heard at the beginning of a turn
 
 -- the clock was read, and no late answers were asked for since
 pub Leads-clock : (f₀ f₁ : Goal → List Event → Type 0) (l₀ l₁ : LogState) (time : Result ℕ HostFault) → Hears f₀ f₁ l₀ l₁ (clocked time) → Leads (On f₀) (λ goal p. On f₁ goal p × Counted 0 goal p) l₀ l₁ (Clock time ∷ [])
-Leads-clock f₀ f₁ l₀ l₁ time hears goal p sound fits allowed =
+Leads-clock f₀ f₁ l₀ l₁ time hears goal p sound fits allowed carried =
     let heard : Heard f₁ l₀ l₁ goal p.past (clocked time p.past) = hears goal p.past sound fits allowed in
     record { in_place = refl; sound = heard.sound; fits = (heard.fits, refl); log = logged goal (Clock time ∷ []) p l₀ l₁ heard.sound heard.log }
 
 -- a late answer was asked for: behind the last the round begins
 pub Leads-late : (f₀ f₁ : Goal → List Event → Type 0) (l₀ l₁ : LogState) (late : Option (List ℕ × Answer)) (count : ℕ) → Hears f₀ f₁ l₀ l₁ (λ so_far. nudged_if (is_last late count) (come late so_far)) → Leads (λ goal p. On f₀ goal p × Counted count goal p) (λ goal p. On f₁ goal p × Counted (count + 1) goal p) l₀ l₁ (Late late ∷ [])
-Leads-late f₀ f₁ l₀ l₁ late count hears goal p sound fits allowed =
+Leads-late f₀ f₁ l₀ l₁ late count hears goal p sound fits allowed carried =
     let comes : nudged_if (is_last late p.lates) (come late p.past) ≡ nudged_if (is_last late count) (come late p.past) = ap (λ n. nudged_if (is_last late n) (come late p.past)) fits.1 in
     let heard : Heard f₁ l₀ l₁ goal p.past (nudged_if (is_last late count) (come late p.past)) = hears goal p.past sound fits.0 (ap (is_allowed goal) (sym comes) ∙ allowed) in
     let more : is_sound goal (nudged_if (is_last late p.lates) (come late p.past)) ≡ true = ap (is_sound goal) comes ∙ heard.sound in
@@ -86,11 +92,14 @@ Hears-last f₀ f₁ f₂ l₀ l₁ l₂ late count last hears round = subst (λ
 -- ---- inittab is read again
 
 -- the table that was read is in force
-pub Leads-used : (c new : CoreState) (l₀ l₁ : LogState) (text : List ℕ) → length text ≤ TEXT_LIMIT → lists.is_quiet c.slots ≡ true → OnEachTrace c (λ goal so_far. Fits new goal (past.NewTable (table_of_text text) ∷ so_far)) → ((so_far : List Event) → Logs l₀ l₁ so_far (past.NewTable (table_of_text text) ∷ so_far)) → Leads (On (Gave (Fits c) step.Reread)) (On (Fits new)) l₀ l₁ (ReadTable (Ok text) ∷ [])
-Leads-used c new l₀ l₁ text short quiet fits took = Leads-heard (Gave (Fits c) step.Reread) (Fits new) l₀ l₁ (ReadTable (Ok text)) (λ so_far. past.NewTable (table_of_text text) ∷ so_far) heard (λ p. ap (λ b. cond b past.NotRead (past.NewTable (table_of_text text)) ∷ p.past) (le-ltb TEXT_LIMIT (length text) short)) (λ goal p sound gave. first_due goal p.past step.Reread gave.0 refl)
+tracks : (c new : CoreState) (goal : Goal) (before now : List Event) → Lasts c new → Tracks c goal before → Fits new goal now → Tracks new goal now
+tracks c new goal before now lasts tracked fits = record { fits = fits; kept = lasts.kept tracked.kept; short = lasts.short tracked.short }
+
+pub Leads-used : (c new : CoreState) (l₀ l₁ : LogState) (text : List ℕ) → length text ≤ TEXT_LIMIT → lists.is_quiet c.slots ≡ true → OnEachTrace c (λ goal so_far. Fits new goal (past.NewTable (table_of_text text) ∷ so_far)) → Lasts c new → ((so_far : List Event) → Logs l₀ l₁ so_far (past.NewTable (table_of_text text) ∷ so_far)) → Leads (On (Gave (Tracks c) step.Reread)) (On (Tracks new)) l₀ l₁ (ReadTable (Ok text) ∷ [])
+Leads-used c new l₀ l₁ text short quiet fits lasts took = Leads-heard (Gave (Tracks c) step.Reread) (Tracks new) l₀ l₁ (ReadTable (Ok text)) (λ so_far. past.NewTable (table_of_text text) ∷ so_far) heard (λ p. ap (λ b. cond b past.NotRead (past.NewTable (table_of_text text)) ∷ p.past) (le-ltb TEXT_LIMIT (length text) short)) (λ goal p sound gave. first_due goal p.past step.Reread gave.0 refl)
   where
-    heard : Hears (Gave (Fits c) step.Reread) (Fits new) l₀ l₁ (λ so_far. past.NewTable (table_of_text text) ∷ so_far)
-    heard goal so_far sound gave allowed = record { sound = table_sound goal so_far c (table_of_text text) sound gave.1 quiet (distinct_text text); fits = fits goal so_far sound gave.1; log = took so_far }
+    heard : Hears (Gave (Tracks c) step.Reread) (Tracks new) l₀ l₁ (λ so_far. past.NewTable (table_of_text text) ∷ so_far)
+    heard goal so_far sound gave allowed = record { sound = table_sound goal so_far c (table_of_text text) sound gave.1.fits quiet (distinct_text text); fits = tracks c new goal so_far (past.NewTable (table_of_text text) ∷ so_far) lasts gave.1 (fits goal so_far sound gave.1.fits); log = took so_far }
 
 -- it could not be read, or its table not be taken
 reading_goes : (text : TextRead) (so_far : List Event) → before_reading (reading text ∷ so_far) ≡ so_far
@@ -101,22 +110,71 @@ reading_goes (Ok text) so_far = by (nat_lt TEXT_LIMIT (length text))
     by true = refl
     by false = refl
 
-pub Leads-not_read : (c new : CoreState) (l₀ l₁ : LogState) (text : TextRead) → OnEachTrace c (λ goal so_far. Fits new goal (past.NotRead ∷ so_far)) → ((so_far : List Event) → Logs l₀ l₁ so_far (past.NotRead ∷ so_far)) → Leads (On (Gave (Fits c) step.Reread)) (On (Fits new)) l₀ l₁ (Announce past.NotRead ∷ ReadTable text ∷ [])
-Leads-not_read c new l₀ l₁ text fits took goal p sound gave allowed =
+pub Leads-not_read : (c new : CoreState) (l₀ l₁ : LogState) (text : TextRead) → OnEachTrace c (λ goal so_far. Fits new goal (past.NotRead ∷ so_far)) → Lasts c new → ((so_far : List Event) → Logs l₀ l₁ so_far (past.NotRead ∷ so_far)) → Leads (On (Gave (Tracks c) step.Reread)) (On (Tracks new)) l₀ l₁ (Announce past.NotRead ∷ ReadTable text ∷ [])
+Leads-not_read c new l₀ l₁ text fits lasts took goal p sound gave allowed carried =
     let goes : past.NotRead ∷ before_reading (reading text ∷ p.past) ≡ past.NotRead ∷ p.past = ap (λ (so_far : List Event). past.NotRead ∷ so_far) (reading_goes text p.past) in
     let more : is_sound goal (past.NotRead ∷ p.past) ≡ true = sound_met goal past.NotRead p.past refl (ap (is_allowed goal) (sym goes) ∙ allowed) sound in
     record {
       in_place = and_from (is_due goal step.Reread p.past) true (first_due goal p.past step.Reread gave.0 refl) refl;
       sound = ap (is_sound goal) goes ∙ more;
-      fits = subst (Fits new goal) (sym goes) (fits goal p.past sound gave.1);
+      fits = subst (Tracks new goal) (sym goes) (tracks c new goal p.past (past.NotRead ∷ p.past) lasts gave.1 (fits goal p.past sound gave.1.fits));
       log = logged goal (Announce past.NotRead ∷ ReadTable text ∷ []) p l₀ l₁ (ap (is_sound goal) goes ∙ more) (subst (Logs l₀ l₁ p.past) (sym goes) (took p.past));
     }
 
--- init was not executed anew
-pub Leads-not_handed : (c new : CoreState) (l₀ l₁ : LogState) → OnEachTrace c (λ goal so_far. Fits new goal (past.Handed handed.Failed ∷ so_far)) → ((so_far : List Event) → Logs l₀ l₁ so_far (past.Handed handed.Failed ∷ so_far)) → Leads (On (Gave (Fits c) step.Reexec)) (On (Fits new)) l₀ l₁ (Announce (past.Handed handed.Failed) ∷ [])
-Leads-not_handed c new l₀ l₁ fits took goal p sound gave allowed = record {
-  in_place = and_from (is_due goal step.Reexec p.past) true (first_due goal p.past step.Reexec gave.0 refl) refl;
-  sound = sound_met goal (past.Handed handed.Failed) p.past refl allowed sound;
-  fits = fits goal p.past sound gave.1;
-  log = logged goal (Announce (past.Handed handed.Failed) ∷ []) p l₀ l₁ (sound_met goal (past.Handed handed.Failed) p.past refl allowed sound) (took p.past);
-}
+-- ---- init is executed anew
+
+-- where it is to be, no hand-over stands newest
+none_handed : (goal : Goal) (so_far : List Event) (c : CoreState) → is_sound goal so_far ≡ true → first (due goal so_far) ≡ step.Reexec → Fits c goal so_far → before_handing so_far ≡ so_far
+none_handed goal so_far c sound is fits = by so_far (sym fits.wishes.reexec ∙ reexec_wished c (decide_due goal so_far sound c fits ∙ is))
+  where
+    by : (trace : List Event) → wants_reexec trace ≡ true → before_handing trace ≡ trace
+    by [] h = refl
+    by (past.Handed how ∷ trace) h = absurd (false≢true h)
+    by (_ ∷ trace) h = refl
+
+-- no text was made: it says so
+pub Leads-not_handed : (c new : CoreState) (l₀ l₁ : LogState) → OnEachTrace c (λ goal so_far. Fits new goal (past.Handed handed.Failed ∷ so_far)) → Lasts c new → ((so_far : List Event) → Logs l₀ l₁ so_far (past.Handed handed.Failed ∷ so_far)) → Leads (On (Gave (Tracks c) step.Reexec)) (On (Tracks new)) l₀ l₁ (Announce (past.Handed handed.Failed) ∷ [])
+Leads-not_handed c new l₀ l₁ fits lasts took goal p sound gave allowed carried =
+    let goes : past.Handed handed.Failed ∷ before_handing p.past ≡ past.Handed handed.Failed ∷ p.past = ap (λ (so_far : List Event). past.Handed handed.Failed ∷ so_far) (none_handed goal p.past c sound gave.0 gave.1.fits) in
+    let more : is_sound goal (past.Handed handed.Failed ∷ p.past) ≡ true = sound_met goal (past.Handed handed.Failed) p.past refl (ap (is_allowed goal) (sym goes) ∙ allowed) sound in
+    record {
+      in_place = and_from (is_due goal step.Reexec p.past) true (first_due goal p.past step.Reexec gave.0 refl) refl;
+      sound = ap (is_sound goal) goes ∙ more;
+      fits = subst (Tracks new goal) (sym goes) (tracks c new goal p.past (past.Handed handed.Failed ∷ p.past) lasts gave.1 (fits goal p.past sound gave.1.fits));
+      log = logged goal (Announce (past.Handed handed.Failed) ∷ []) p l₀ l₁ (ap (is_sound goal) goes ∙ more) (subst (Logs l₀ l₁ p.past) (sym goes) (took p.past));
+    }
+
+handing_goes : (b : Bool) (so_far : List Event) → before_handing so_far ≡ so_far → before_handing (handed_if b so_far) ≡ so_far
+handing_goes true so_far none = refl
+handing_goes false so_far none = none
+
+carrying_goes : (how : HandOver) (text : List ℕ) (back : TextRead) (p : Point) → before_handing p.past ≡ p.past → is_outcome how text back ≡ true → (point_after (carrying how text back) p).past ≡ past.Handed how ∷ p.past
+carrying_goes handed.Whole text back p none outcome = ap (λ b. handed_if b p.past) outcome
+carrying_goes (handed.Cut bytes) text back p none outcome = ap (λ (so_far : List Event). past.Handed (handed.Cut bytes) ∷ so_far) (handing_goes (came_whole text back) p.past none)
+carrying_goes (handed.Older generation) text back p none outcome = ap (λ (so_far : List Event). past.Handed (handed.Older generation) ∷ so_far) (handing_goes (came_whole text back) p.past none)
+carrying_goes handed.Failed text back p none outcome = ap (λ (so_far : List Event). past.Handed handed.Failed ∷ so_far) (handing_goes (came_whole text back) p.past none)
+
+carrying_placed : (how : HandOver) (text : List ℕ) (back : TextRead) (goal : Goal) (p : Point) → is_due goal step.Reexec p.past ≡ true → is_outcome how text back ≡ true → has_trace goal (carrying how text back) p ≡ true
+carrying_placed handed.Whole text back goal p due outcome = and_from (is_due goal step.Reexec p.past) true due refl
+carrying_placed (handed.Cut bytes) text back goal p due outcome = and_from (is_refusal (handed.Cut bytes) text back) (is_due goal step.Reexec p.past && true) outcome (and_from (is_due goal step.Reexec p.past) true due refl)
+carrying_placed (handed.Older generation) text back goal p due outcome = and_from (is_refusal (handed.Older generation) text back) (is_due goal step.Reexec p.past && true) outcome (and_from (is_due goal step.Reexec p.past) true due refl)
+carrying_placed handed.Failed text back goal p due outcome = and_from (is_refusal handed.Failed text back) (is_due goal step.Reexec p.past && true) outcome (and_from (is_due goal step.Reexec p.past) true due refl)
+
+came_back : (how : HandOver) (text : List ℕ) (back : TextRead) → are_carried (carrying how text back) ≡ true → comes_back text back ≡ true
+came_back handed.Whole text back carried = (and_parts (comes_back text back) true carried).0
+came_back (handed.Cut bytes) text back carried = (and_parts (comes_back text back) true carried).0
+came_back (handed.Older generation) text back carried = (and_parts (comes_back text back) true carried).0
+came_back handed.Failed text back carried = (and_parts (comes_back text back) true carried).0
+
+-- a text was made and carried, and taken over or refused
+pub Leads-carried : (c new : CoreState) (l₀ l₁ : LogState) (how : HandOver) (text : List ℕ) (back : TextRead) → (KeepsRules c → range.has_short_seconds c ≡ true → comes_back text back ≡ true → Carried c new how text back) → ((so_far : List Event) → Logs l₀ l₁ so_far (past.Handed how ∷ so_far)) → Leads (On (Gave (Tracks c) step.Reexec)) (On (Tracks new)) l₀ l₁ (carrying how text back)
+Leads-carried c new l₀ l₁ how text back carries took goal p sound gave allowed carried =
+    let comes : Carried c new how text back = carries gave.1.kept gave.1.short (came_back how text back carried) in
+    let goes : (point_after (carrying how text back) p).past ≡ past.Handed how ∷ p.past = carrying_goes how text back p (none_handed goal p.past c sound gave.0 gave.1.fits) comes.outcome in
+    let more : is_sound goal (past.Handed how ∷ p.past) ≡ true = sound_met goal (past.Handed how) p.past refl (ap (is_allowed goal) (sym goes) ∙ allowed) sound in
+    record {
+      in_place = carrying_placed how text back goal p (first_due goal p.past step.Reexec gave.0 refl) comes.outcome;
+      sound = ap (is_sound goal) goes ∙ more;
+      fits = subst (Tracks new goal) (sym goes) (tracks c new goal p.past (past.Handed how ∷ p.past) comes.lasts gave.1 (comes.fits goal p.past sound gave.1.fits));
+      log = logged goal (carrying how text back) p l₀ l₁ (ap (is_sound goal) goes ∙ more) (subst (Logs l₀ l₁ p.past) (sym goes) (took p.past));
+    }

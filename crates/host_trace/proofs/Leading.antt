@@ -7,6 +7,7 @@ use Rattle.init_words.specs.declared.orders.Answer.TheVariants as answer
 use Rattle.init_words.specs.declared.orders.Ask.{Ask}
 use Rattle.init_words.specs.declared.orders.Ask.TheVariants as ask
 use Rattle.initctl_frame.specs.Frames.{got_of}
+use Rattle.init_trace.specs.declared.happenings.Handed.TheVariants as handed
 use Rattle.init_trace.specs.declared.happenings.Happening.TheVariants as past
 use Rattle.init_trace.specs.declared.steps.Goal.{Goal}
 use Rattle.init_trace.specs.Event.{Event}
@@ -16,8 +17,8 @@ use Rattle.child_host.specs.declared.calls.Reply.{Reply}
 use Rattle.child_host.specs.declared.calls.Reply.TheVariants.{Now, Later}
 use Rattle.child_host.specs.Calls.{HostCall, TextRead}
 use Rattle.run_log.specs.Logs.{LogState}
-use Rattle.host_trace.specs.Point.{Point, last_birth, acted, is_asked_for, answered, ordered, order_for, come, is_last, nudged_if, byte_after, bytes_after, reading, before_reading, announced, is_said, after, point_after, is_in_place}
-use Rattle.host_trace.specs.Leads.{Counted, Logs, meets, is_allowed, Took, On, Went, Leads, Heard, Hears}
+use Rattle.host_trace.specs.Point.{Point, last_birth, acted, is_asked_for, answered, ordered, order_for, come, is_last, nudged_if, byte_after, bytes_after, reading, before_reading, before_handing, came_whole, handed_if, announced, is_said, after, point_after, is_in_place}
+use Rattle.host_trace.specs.Leads.{Counted, Logs, meets, is_allowed, comes_back, are_carried, Took, On, Went, Leads, Heard, Hears}
 use Rattle.host_trace.specs.Turns.{takes_none}
 use Rattle.host_trace.proofs.Point.{point_after-append, has_trace-append}
 use Rattle.host_trace.proofs.Seconds.{logged, short_then}
@@ -76,12 +77,22 @@ module _ (goal : Goal) where
   before_allowed [] h = h
   before_allowed (_ ∷ so_far) h = h
 
+  handing_allowed : (so_far : List Event) → is_allowed goal (before_handing so_far) ≡ true → is_allowed goal so_far ≡ true
+  handing_allowed (past.Handed how ∷ so_far) h = and_from (meets goal (past.Handed how) so_far) (is_allowed goal so_far) refl h
+  handing_allowed [] h = h
+  handing_allowed (_ ∷ so_far) h = h
+
+  handed_allowed : (b : Bool) (so_far : List Event) → is_allowed goal (handed_if b so_far) ≡ true → is_allowed goal so_far ≡ true
+  handed_allowed true so_far h = allowed_rest (past.Handed handed.Whole) so_far h
+  handed_allowed false so_far h = h
+
   said_allowed : (happening : Event) (b : Bool) (so_far : List Event) → is_allowed goal (cond b (happening ∷ so_far) so_far) ≡ true → is_allowed goal so_far ≡ true
   said_allowed happening true so_far h = allowed_rest happening so_far h
   said_allowed happening false so_far h = h
 
   announced_allowed : (happening : Event) (so_far : List Event) → is_allowed goal (announced happening so_far) ≡ true → is_allowed goal so_far ≡ true
   announced_allowed past.NotRead so_far h = before_allowed so_far (allowed_rest past.NotRead (before_reading so_far) h)
+  announced_allowed (past.Handed how) so_far h = handing_allowed so_far (allowed_rest (past.Handed how) (before_handing so_far) h)
   announced_allowed happening so_far h = said_allowed happening (is_said happening) so_far h
 
   pub after_allowed : (call : HostCall) (p : Point) → is_allowed goal (after call p).past ≡ true → is_allowed goal p.past ≡ true
@@ -94,7 +105,7 @@ module _ (goal : Goal) where
   after_allowed (TakeBytes room (Ok bytes)) p h = bytes_allowed bytes p h
   after_allowed (TakeBytes room (Err fault)) p h = h
   after_allowed (ReadTable text) p h = allowed_rest (reading text) p.past h
-  after_allowed (Carry text back) p h = h
+  after_allowed (Carry text back) p h = handed_allowed (came_whole text back) p.past h
   after_allowed (Announce happening) p h = announced_allowed happening p.past h
   after_allowed Pause p h = h
 
@@ -102,12 +113,12 @@ module _ (goal : Goal) where
   calls_allowed [] p h = h
   calls_allowed (call ∷ calls) p h = calls_allowed calls p (after_allowed call (point_after calls p) h)
 
-pub Leads-one : (fitted fit : Goal → Point → Type 0) (old new : LogState) (call : HostCall) → ((goal : Goal) (p : Point) → is_sound goal p.past ≡ true → fitted goal p → is_allowed goal (after call p).past ≡ true → Went fit old new goal p (call ∷ [])) → Leads fitted fit old new (call ∷ [])
+pub Leads-one : (fitted fit : Goal → Point → Type 0) (old new : LogState) (call : HostCall) → ((goal : Goal) (p : Point) → is_sound goal p.past ≡ true → fitted goal p → is_allowed goal (after call p).past ≡ true → are_carried (call ∷ []) ≡ true → Went fit old new goal p (call ∷ [])) → Leads fitted fit old new (call ∷ [])
 Leads-one fitted fit old new call went = went
 
 -- a call that comes to what was heard, in its place
 pub Leads-heard : (fitted fit : Goal → List Event → Type 0) (old new : LogState) (call : HostCall) (more : List Event → List Event) → Hears fitted fit old new more → ((p : Point) → (after call p).past ≡ more p.past) → ((goal : Goal) (p : Point) → is_sound goal p.past ≡ true → fitted goal p.past → is_in_place goal call [] p.past ≡ true) → Leads (On fitted) (On fit) old new (call ∷ [])
-Leads-heard fitted fit old new call more hears comes place goal p sound fits allowed =
+Leads-heard fitted fit old new call more hears comes place goal p sound fits allowed carried =
     let heard : Heard fit old new goal p.past (more p.past) = hears goal p.past sound fits (ap (is_allowed goal) (sym (comes p)) ∙ allowed) in
     let more : is_sound goal (after call p).past ≡ true = ap (is_sound goal) (comes p) ∙ heard.sound in
     record {
@@ -117,16 +128,33 @@ Leads-heard fitted fit old new call more hears comes place goal p sound fits all
       log = logged goal (call ∷ []) p old new more (subst (Logs old new p.past) (sym (comes p)) heard.log);
     }
 
+-- what was carried came back in each of two parts
+pub carried_parts : (ys xs : List HostCall) → are_carried (ys ++ xs) ≡ true → (are_carried ys ≡ true) × (are_carried xs ≡ true)
+carried_parts [] xs h = (refl, h)
+carried_parts (Carry text back ∷ ys) xs h =
+    let parts = and_parts (comes_back text back) (are_carried (ys ++ xs)) h in
+    let later = carried_parts ys xs parts.1 in
+    (and_from (comes_back text back) (are_carried ys) parts.0 later.0, later.1)
+carried_parts (Start id command reply ∷ ys) xs h = carried_parts ys xs h
+carried_parts (Look id reply ∷ ys) xs h = carried_parts ys xs h
+carried_parts (Signal id sent reply ∷ ys) xs h = carried_parts ys xs h
+carried_parts (Late late ∷ ys) xs h = carried_parts ys xs h
+carried_parts (Clock time ∷ ys) xs h = carried_parts ys xs h
+carried_parts (TakeBytes room taken ∷ ys) xs h = carried_parts ys xs h
+carried_parts (ReadTable text ∷ ys) xs h = carried_parts ys xs h
+carried_parts (Announce happening ∷ ys) xs h = carried_parts ys xs h
+carried_parts (Pause ∷ ys) xs h = carried_parts ys xs h
+
 pub Leads-none : (fit : Goal → Point → Type 0) (log : LogState) → Leads fit fit log log []
-Leads-none fit log goal p sound fits allowed = record { in_place = refl; sound = sound; fits = fits; log = λ short. Took-none log p.past }
+Leads-none fit log goal p sound fits allowed carried = record { in_place = refl; sound = sound; fits = fits; log = λ short. Took-none log p.past }
 
 -- ys behind xs
 pub Leads-then : (f₀ f₁ f₂ : Goal → Point → Type 0) (l₀ l₁ l₂ : LogState) (xs ys : List HostCall) → Leads f₀ f₁ l₀ l₁ xs → Leads f₁ f₂ l₁ l₂ ys → Leads f₀ f₂ l₀ l₂ (ys ++ xs)
-Leads-then f₀ f₁ f₂ l₀ l₁ l₂ xs ys one two goal p sound fits allowed =
+Leads-then f₀ f₁ f₂ l₀ l₁ l₂ xs ys one two goal p sound fits allowed carried =
     let joined : point_after (ys ++ xs) p ≡ point_after ys (point_after xs p) = point_after-append ys xs p in
     let later : is_allowed goal (point_after ys (point_after xs p)).past ≡ true = ap (λ (q : Point). is_allowed goal q.past) (sym joined) ∙ allowed in
-    let first : Went f₁ l₀ l₁ goal p xs = one goal p sound fits (calls_allowed goal ys (point_after xs p) later) in
-    let second : Went f₂ l₁ l₂ goal (point_after xs p) ys = two goal (point_after xs p) first.sound first.fits later in
+    let first : Went f₁ l₀ l₁ goal p xs = one goal p sound fits (calls_allowed goal ys (point_after xs p) later) (carried_parts ys xs carried).1 in
+    let second : Went f₂ l₁ l₂ goal (point_after xs p) ys = two goal (point_after xs p) first.sound first.fits later (carried_parts ys xs carried).0 in
     record {
       in_place = has_trace-append goal ys xs p second.in_place first.in_place;
       sound = ap (λ (q : Point). is_sound goal q.past) joined ∙ second.sound;
@@ -135,8 +163,8 @@ Leads-then f₀ f₁ f₂ l₀ l₁ l₂ xs ys one two goal p sound fits allowed
     }
 
 pub Leads-weaken : (fitted fitted' fit fit' : Goal → Point → Type 0) (old new : LogState) (calls : List HostCall) → ((goal : Goal) (p : Point) → fitted' goal p → fitted goal p) → ((goal : Goal) (p : Point) → fit goal p → fit' goal p) → Leads fitted fit old new calls → Leads fitted' fit' old new calls
-Leads-weaken fitted fitted' fit fit' old new calls before behind leads goal p sound fits allowed =
-    let went : Went fit old new goal p calls = leads goal p sound (before goal p fits) allowed in
+Leads-weaken fitted fitted' fit fit' old new calls before behind leads goal p sound fits allowed carried =
+    let went : Went fit old new goal p calls = leads goal p sound (before goal p fits) allowed carried in
     record { in_place = went.in_place; sound = went.sound; fits = behind goal (point_after calls p) went.fits; log = went.log }
 
 -- calls that take no bytes leave the bytes of the block under way
@@ -173,8 +201,8 @@ bytes_counted room (Err fault) count goal p is = is
 
 -- what the calls leave as it is stays beside what they make fit
 pub Leads-beside : (f₀ f₁ K : Goal → Point → Type 0) (old new : LogState) (calls : List HostCall) → ((goal : Goal) (p : Point) → K goal p → K goal (point_after calls p)) → Leads f₀ f₁ old new calls → Leads (λ goal p. f₀ goal p × K goal p) (λ goal p. f₁ goal p × K goal p) old new calls
-Leads-beside f₀ f₁ K old new calls kept leads goal p sound fits allowed =
-    let went : Went f₁ old new goal p calls = leads goal p sound fits.0 allowed in
+Leads-beside f₀ f₁ K old new calls kept leads goal p sound fits allowed carried =
+    let went : Went f₁ old new goal p calls = leads goal p sound fits.0 allowed carried in
     record { in_place = went.in_place; sound = went.sound; fits = (went.fits, kept goal p fits.1); log = went.log }
 
 pub Leads-frame : (f₀ f₁ : Goal → Point → Type 0) (K : List ℕ → Type 0) (old new : LogState) (calls : List HostCall) → list_all takes_none calls ≡ true → Leads f₀ f₁ old new calls → Leads (λ goal p. f₀ goal p × K p.over) (λ goal p. f₁ goal p × K p.over) old new calls
@@ -182,7 +210,7 @@ Leads-frame f₀ f₁ K old new calls none leads = Leads-beside f₀ f₁ (λ go
 
 -- a call that comes to nothing
 pub Leads-still : (fit : Goal → Point → Type 0) (log : LogState) (call : HostCall) → ((p : Point) → after call p ≡ p) → ((goal : Goal) (so_far : List Event) → is_in_place goal call [] so_far ≡ true) → Leads fit fit log log (call ∷ [])
-Leads-still fit log call still place goal p sound fits allowed = record {
+Leads-still fit log call still place goal p sound fits allowed carried = record {
   in_place = and_from (is_in_place goal call [] p.past) true (place goal p.past) refl;
   sound = ap (λ (q : Point). is_sound goal q.past) (still p) ∙ sound;
   fits = subst (fit goal) (sym (still p)) fits;

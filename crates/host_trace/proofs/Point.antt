@@ -1,10 +1,14 @@
 -- The trace of calls, part by part.
 use Rattle.std.proofs.Common.{◌≡◌, refl, ◌∙◌, ap, ℕ, true, List, [], ◌∷◌, ◌++◌}
 use Rattle.std.proofs.lemmas.Bool.{false≢true, and_parts, and_from}
+use Rattle.init_trace.specs.declared.happenings.Handed.{Handed as HandOver}
+use Rattle.init_trace.specs.declared.happenings.Handed.TheVariants as handed
 use Rattle.init_trace.specs.declared.happenings.Happening.TheVariants as past
 use Rattle.init_trace.specs.declared.steps.Goal.{Goal}
+use Rattle.init_trace.specs.declared.steps.Step.TheVariants as step
 use Rattle.init_trace.specs.Event.{Event}
-use Rattle.child_host.specs.declared.calls.Call.TheVariants.{ReadTable, Announce}
+use Rattle.init_trace.specs.Due.{is_due}
+use Rattle.child_host.specs.declared.calls.Call.TheVariants.{ReadTable, Carry, Announce}
 use Rattle.child_host.specs.Calls.{HostCall}
 use Rattle.host_trace.specs.Point.{Point, after, point_after, byte_after, bytes_after, was_reading, may_announce, is_in_place, has_trace}
 
@@ -24,9 +28,29 @@ still_reading (ReadTable text ∷ earlier) more h = refl
 still_reading [] more h = absurd (false≢true h)
 still_reading (_ ∷ earlier) more h = absurd (false≢true h)
 
+-- what is said of a hand-over behind other calls than a carrying
+said_more : (goal : Goal) (how : HandOver) (call : HostCall) (earlier more : List HostCall) (so_far : List Event) → may_announce goal (past.Handed how) (call ∷ earlier) so_far ≡ true → may_announce goal (past.Handed how) ((call ∷ earlier) ++ more) so_far ≡ true
+said_more goal how (Carry text back) earlier more so_far h = h
+said_more goal handed.Failed _ earlier more so_far h = h
+said_more goal handed.Whole _ earlier more so_far h = absurd (false≢true h)
+said_more goal (handed.Cut bytes) _ earlier more so_far h = absurd (false≢true h)
+said_more goal (handed.Older generation) _ earlier more so_far h = absurd (false≢true h)
+
+said_first : (goal : Goal) (more : List HostCall) (so_far : List Event) → is_due goal step.Reexec so_far ≡ true → may_announce goal (past.Handed handed.Failed) more so_far ≡ true
+said_first goal [] so_far h = h
+said_first goal (Carry text back ∷ more) so_far h = refl
+said_first goal (_ ∷ more) so_far h = h
+
+handed_more : (goal : Goal) (how : HandOver) (earlier more : List HostCall) (so_far : List Event) → may_announce goal (past.Handed how) earlier so_far ≡ true → may_announce goal (past.Handed how) (earlier ++ more) so_far ≡ true
+handed_more goal how (call ∷ earlier) more so_far h = said_more goal how call earlier more so_far h
+handed_more goal handed.Failed [] more so_far h = said_first goal more so_far h
+handed_more goal handed.Whole [] more so_far h = absurd (false≢true h)
+handed_more goal (handed.Cut bytes) [] more so_far h = absurd (false≢true h)
+handed_more goal (handed.Older generation) [] more so_far h = absurd (false≢true h)
+
 announce_more : (goal : Goal) (happening : Event) (earlier more : List HostCall) (so_far : List Event) → may_announce goal happening earlier so_far ≡ true → may_announce goal happening (earlier ++ more) so_far ≡ true
 announce_more goal past.NotRead earlier more so_far h = still_reading earlier more h
-announce_more goal (past.Handed how) earlier more so_far h = h
+announce_more goal (past.Handed how) earlier more so_far h = handed_more goal how earlier more so_far h
 announce_more goal _ earlier more so_far h = h
 
 more_place : (goal : Goal) (call : HostCall) (earlier more : List HostCall) (so_far : List Event) → is_in_place goal call earlier so_far ≡ true → is_in_place goal call (earlier ++ more) so_far ≡ true

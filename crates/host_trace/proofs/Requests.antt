@@ -14,7 +14,7 @@ use Rattle.child_host.specs.declared.calls.Call.TheVariants.{Start, Look, Signal
 use Rattle.child_host.specs.declared.calls.Reply.{Reply}
 use Rattle.child_host.specs.declared.calls.Reply.TheVariants.{Now, Later}
 use Rattle.child_host.specs.Calls.{HostCall, TextRead}
-use Rattle.host_trace.specs.Point.{Point, acted, is_asked_for, answered, ordered, order_for, come, is_last, nudged_if, reading, before_reading, announced, is_said, point_after}
+use Rattle.host_trace.specs.Point.{Point, acted, is_asked_for, answered, ordered, order_for, come, is_last, nudged_if, reading, before_reading, announced, point_after, before_handing, came_whole, handed_if}
 use Rattle.host_trace.specs.Requests.{requested, Continues, requests_in, bytes_of, Brings}
 use Rattle.host_trace.proofs.Bytes.{bytes_continue}
 
@@ -66,6 +66,15 @@ before_none (past.NotRead ∷ so_far) = refl
 before_none [] = refl
 before_none (_ ∷ so_far) = refl
 
+handing_none : (so_far : List Event) → requests_in (before_handing so_far) ≡ requests_in so_far
+handing_none (past.Handed how ∷ so_far) = refl
+handing_none [] = refl
+handing_none (_ ∷ so_far) = refl
+
+handed_none : (b : Bool) (so_far : List Event) → requests_in (handed_if b so_far) ≡ requests_in so_far
+handed_none true so_far = refl
+handed_none false so_far = refl
+
 announced_none : (happening : Event) (so_far : List Event) → requests_in (announced happening so_far) ≡ requests_in so_far
 announced_none past.NotRead so_far = before_none so_far
 announced_none (past.Got request) so_far = refl
@@ -74,11 +83,7 @@ announced_none (past.Call letter) so_far = refl
 announced_none (past.Power kind) so_far = refl
 announced_none (past.Hold id) so_far = refl
 announced_none (past.Settle level) so_far = refl
-announced_none (past.Handed how) so_far = by (is_said (past.Handed how))
-  where
-    by : (b : Bool) → requests_in (cond b (past.Handed how ∷ so_far) so_far) ≡ requests_in so_far
-    by true = refl
-    by false = refl
+announced_none (past.Handed how) so_far = handing_none so_far
 announced_none _ so_far = refl
 
 -- the calls before brought theirs, and this one brings no request and no byte
@@ -113,6 +118,6 @@ calls_bring (Late late ∷ calls) before p is = brings_none before (Late late) c
 calls_bring (Clock (Ok time) ∷ calls) before p is = brings_none before (Clock (Ok time)) calls p (calls_bring calls before p is) refl refl refl
 calls_bring (Clock (Err fault) ∷ calls) before p is = brings_none before (Clock (Err fault)) calls p (calls_bring calls before p is) refl refl refl
 calls_bring (ReadTable text ∷ calls) before p is = brings_none before (ReadTable text) calls p (calls_bring calls before p is) refl (reading_none text (point_after calls p).past) refl
-calls_bring (Carry text back ∷ calls) before p is = brings_none before (Carry text back) calls p (calls_bring calls before p is) refl refl refl
+calls_bring (Carry text back ∷ calls) before p is = brings_none before (Carry text back) calls p (calls_bring calls before p is) refl (handed_none (came_whole text back) (point_after calls p).past) refl
 calls_bring (Announce happening ∷ calls) before p is = brings_none before (Announce happening) calls p (calls_bring calls before p is) refl (announced_none happening (point_after calls p).past) refl
 calls_bring (Pause ∷ calls) before p is = brings_none before Pause calls p (calls_bring calls before p is) refl refl refl

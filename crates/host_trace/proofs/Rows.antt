@@ -1,5 +1,5 @@
 -- Worked calls, each with the trace that they have: `refl` computes them.
-use Rattle.std.proofs.Common.{◌≡◌, refl, ℕ, true, false, List, [], ◌∷◌, ◌++◌, take, drop, codes, Some, None, Ok, inl, arith}
+use Rattle.std.proofs.Common.{◌≡◌, refl, ℕ, suc, true, false, List, [], ◌∷◌, ◌++◌, take, drop, codes, Some, None, Ok, inl, arith}
 use Rattle.init_words.specs.declared.entries.Entry.{Entry}
 use Rattle.init_words.specs.declared.actions.Act.{Act}
 use Rattle.init_words.specs.declared.actions.Act.TheVariants as act
@@ -11,17 +11,18 @@ use Rattle.init_words.specs.declared.orders.Answer.TheVariants.{Born, NotBorn, A
 use Rattle.init_words.specs.declared.orders.Ask.TheVariants as ask
 use Rattle.initctl_frame.specs.declared.requests.Got.TheVariants as got
 use Rattle.initctl_frame.specs.Frames.{block_of_ints}
+use Rattle.init_trace.specs.declared.happenings.Handed.TheVariants as handed
 use Rattle.init_trace.specs.declared.happenings.Happening.TheVariants as past
 use Rattle.init_trace.specs.declared.steps.Goal.{Goal}
 use Rattle.init_trace.specs.declared.steps.Step.TheVariants as step
 use Rattle.init_trace.specs.Due.{due, first}
 use Rattle.init_trace.specs.Sound.{is_sound}
-use Rattle.child_host.specs.declared.calls.Call.TheVariants.{Start, Look, Late, Clock, TakeBytes, ReadTable, Announce, Pause}
+use Rattle.child_host.specs.declared.calls.Call.TheVariants.{Start, Look, Late, Clock, TakeBytes, ReadTable, Carry, Announce, Pause}
 use Rattle.child_host.specs.declared.calls.Reply.TheVariants.{Now, Later}
-use Rattle.child_host.specs.Calls.{HostCall}
+use Rattle.child_host.specs.Calls.{HostCall, TextRead}
 use Rattle.host_trace.specs.Point.{Point, point_after, has_trace}
 use Rattle.host_trace.specs.Leads.{is_allowed}
-use Rattle.host_trace.specs.Turns.{IsTurn}
+use Rattle.host_trace.specs.Turns.{AreSteps, IsTurn, is_step}
 
 abbrev entry : List ℕ → List Mark → Act → List ℕ → Entry
 entry id levels action process = record { id = id; levels = record { items = levels }; act = action; process = record { items = process } }
@@ -60,12 +61,22 @@ two_turns-allowed = refl
 two_turns-sound : is_sound goal (point_after two_turns opening).past ≡ true
 two_turns-sound = refl
 
+-- a step of one call, behind others
+one_step : (call : HostCall) (n : ℕ) (calls : List HostCall) → is_step (call ∷ []) ≡ true → AreSteps n calls → AreSteps (suc n) (call ∷ calls)
+one_step call n calls is before = (call ∷ [], calls, refl, is, before)
+
+each_a_step : AreSteps 5 first_steps
+each_a_step = one_step (Start (codes "r") (codes "serv") Later) 4 _ refl (one_step (Start (codes "w") (codes "prep") (Now NotBorn)) 3 _ refl (one_step (Announce (past.Enter (stage.Run level.L3) 5)) 2 _ refl (one_step (Announce (past.Enter stage.Boot 5)) 1 _ refl (one_step (Announce (past.Enter stage.Sysinit 5)) 0 [] refl refl))))
+
+last_a_step : AreSteps 2 last_steps
+last_a_step = one_step (Look (codes "r") (Now Alive)) 1 _ refl (one_step (Announce (past.Settle level.L3)) 0 [] refl refl)
+
 -- each turn is one, and ends with nothing due
 first_turn : IsTurn true (first_steps ++ heard)
-first_turn = record { time = Ok 0; takes = TakeBytes 256 (Ok []) ∷ []; lates = Late None ∷ []; steps = first_steps; whole = refl; byte_calls = refl; late_calls = refl; step_calls = refl; most = omega arith; ended = inl refl }
+first_turn = record { time = Ok 0; takes = TakeBytes 256 (Ok []) ∷ []; lates = Late None ∷ []; steps = first_steps; count = 5; whole = refl; byte_calls = refl; late_calls = refl; step_calls = each_a_step; most = omega arith; ended = inl refl }
 
 last_turn : IsTurn true (last_steps ++ late_heard)
-last_turn = record { time = Ok 0; takes = TakeBytes 256 (Ok []) ∷ []; lates = Late None ∷ Late (Some (codes "r", Born 11)) ∷ []; steps = last_steps; whole = refl; byte_calls = refl; late_calls = refl; step_calls = refl; most = omega arith; ended = inl refl }
+last_turn = record { time = Ok 0; takes = TakeBytes 256 (Ok []) ∷ []; lates = Late None ∷ Late (Some (codes "r", Born 11)) ∷ []; steps = last_steps; count = 2; whole = refl; byte_calls = refl; late_calls = refl; step_calls = last_a_step; most = omega arith; ended = inl refl }
 
 two_turns-rest : first (due goal (point_after two_turns opening).past) ≡ step.Idle
 two_turns-rest = refl
@@ -138,3 +149,44 @@ not_read-is_not = refl
 
 read_again-is_not : has_trace goal (ReadTable (Ok []) ∷ is_used) opening ≡ false
 read_again-is_not = refl
+
+-- ---- init is executed anew: the request came in one piece, and the text came back whole
+
+abbrev asked_anew : List HostCall
+asked_anew = Announce (past.Enter stage.Sysinit 5) ∷ Late None ∷ TakeBytes 256 (Ok []) ∷ TakeBytes 384 (Ok (block_of_ints 1 117 5)) ∷ Clock (Ok 0) ∷ []
+
+abbrev text : List ℕ
+text = codes "initd-state 1\ngeneration 2\n"
+
+abbrev anew : TextRead → List HostCall
+anew back = Carry text back ∷ asked_anew
+
+whole-in_place : has_trace goal (anew (Ok text)) opening ≡ true
+whole-in_place = refl
+
+whole-is : (point_after (anew (Ok text)) opening).past ≡ past.Handed handed.Whole ∷ (point_after asked_anew opening).past
+whole-is = refl
+
+-- it came back cut: init goes on as it is, and says so
+cut-in_place : has_trace goal (Announce (past.Handed (handed.Cut 4)) ∷ anew (Ok (codes "init"))) opening ≡ true
+cut-in_place = refl
+
+cut-is : (point_after (Announce (past.Handed (handed.Cut 4)) ∷ anew (Ok (codes "init"))) opening).past ≡ past.Handed (handed.Cut 4) ∷ (point_after asked_anew opening).past
+cut-is = refl
+
+cut_elsewhere-is_not : has_trace goal (Announce (past.Handed (handed.Cut 5)) ∷ anew (Ok (codes "init"))) opening ≡ false
+cut_elsewhere-is_not = refl
+
+not_cut-is_not : has_trace goal (Announce (past.Handed (handed.Cut 28)) ∷ anew (Ok text)) opening ≡ false
+not_cut-is_not = refl
+
+-- it was refused for another cause, though it came back whole: that stands for the hand-over
+failed-is : (point_after (Announce (past.Handed handed.Failed) ∷ anew (Ok text)) opening).past ≡ past.Handed handed.Failed ∷ (point_after asked_anew opening).past
+failed-is = refl
+
+-- no text was made; and none is where init is not to be executed anew
+unmade-in_place : has_trace goal (Announce (past.Handed handed.Failed) ∷ asked_anew) opening ≡ true
+unmade-in_place = refl
+
+unasked-is_not : has_trace goal (Carry text (Ok text) ∷ asked_to_read) opening ≡ false
+unasked-is_not = refl

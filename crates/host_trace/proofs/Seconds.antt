@@ -1,7 +1,8 @@
 -- The seconds that a record of calls names: those of requests are at most an hour, and so, where its trace is sound and
 -- the seconds named before are, are all.
-use Rattle.std.proofs.Common.{◌≡◌, refl, ℕ, ℤ, pos, negsuc, ◌+◌, ◌==◌, min, Bool, true, false, ◌||◌, cond, List, [], ◌∷◌, ◌++◌, length, Option, Some, None, Ok, Err, nat_lt, arith, int_eq}
+use Rattle.std.proofs.Common.{◌≡◌, refl, sym, ap, ◌∙◌, map, ℕ, ℤ, pos, negsuc, ◌+◌, ◌==◌, min, Bool, true, false, ◌||◌, cond, List, [], ◌∷◌, ◌++◌, length, Option, Some, None, Ok, Err, nat_lt, arith, int_eq}
 use Rattle.std.specs.List.{list_all}
+use Rattle.std.proofs.lemmas.List.Folds.{list_all-append}
 use Rattle.std.proofs.lemmas.Bool.{false≢true, and_parts, and_from, lt-ltb}
 use Rattle.init_words.specs.declared.levels.Letter.{Letter}
 use Rattle.init_words.specs.declared.levels.Level.{Level}
@@ -16,6 +17,7 @@ use Rattle.initctl_frame.specs.declared.requests.Cause.TheVariants.{Magic, Unkno
 use Rattle.initctl_frame.specs.declared.requests.Got.{Got}
 use Rattle.initctl_frame.specs.declared.requests.Got.TheVariants as got
 use Rattle.initctl_frame.specs.Frames.{got_of, got_of_command, got_of_ints, got_of_runlevel, int_at, is_left_out, seconds_of}
+use Rattle.initctl_frame.specs.Blocks.{blocks_of, gots_of}
 use Rattle.initctl_frame.specs.Signs.{got_of_letter, got_of_level}
 use Rattle.inittab_text.specs.declared.reading.TheConstants.{TEXT_LIMIT}
 use Rattle.inittab_text.specs.Reading.{table_of_text}
@@ -31,7 +33,7 @@ use Rattle.child_host.specs.declared.calls.Reply.TheVariants.{Now, Later}
 use Rattle.child_host.specs.Calls.{HostCall, TextRead}
 use Rattle.run_log.specs.Logs.{LogState}
 use Rattle.host_trace.specs.Leads.{Logs, Took, has_short_seconds}
-use Rattle.host_trace.specs.Point.{Point, after, acted, announced, answered, before_reading, byte_after, bytes_after, come, is_asked_for, is_last, is_said, nudged_if, order_for, ordered, point_after, reading}
+use Rattle.host_trace.specs.Point.{Point, after, acted, announced, answered, before_handing, before_reading, byte_after, bytes_after, came_whole, come, handed_if, is_asked_for, is_last, is_said, nudged_if, order_for, ordered, point_after, reading}
 
 -- ---- a request
 
@@ -136,12 +138,22 @@ before_requests (past.NotRead ∷ so_far) all = all
 before_requests [] all = all
 before_requests (_ ∷ so_far) all = all
 
+handing_requests : (so_far : List Event) → Requests so_far → Requests (before_handing so_far)
+handing_requests (past.Handed how ∷ so_far) all = all
+handing_requests [] all = all
+handing_requests (_ ∷ so_far) all = all
+
+handed_requests : (b : Bool) (so_far : List Event) → Requests so_far → Requests (handed_if b so_far)
+handed_requests true so_far all = all
+handed_requests false so_far all = all
+
 said_request : (happening : Event) → is_said happening ≡ true → is_short_request happening ≡ true
 said_request (past.Got request) said = absurd (false≢true said)
 said_request _ said = refl
 
 announced_requests : (happening : Event) (so_far : List Event) → Requests so_far → Requests (announced happening so_far)
 announced_requests past.NotRead so_far all = before_requests so_far all
+announced_requests (past.Handed how) so_far all = handing_requests so_far all
 announced_requests happening so_far all = by (is_said happening) refl
   where
     by : (b : Bool) → is_said happening ≡ b → Requests (cond b (happening ∷ so_far) so_far)
@@ -158,7 +170,7 @@ after_requests (Clock (Err fault)) p all = all
 after_requests (TakeBytes room (Ok bytes)) p all = bytes_requests bytes p all
 after_requests (TakeBytes room (Err fault)) p all = all
 after_requests (ReadTable text) p all = reading_requests text p.past all
-after_requests (Carry text back) p all = all
+after_requests (Carry text back) p all = handed_requests (came_whole text back) p.past all
 after_requests (Announce happening) p all = announced_requests happening p.past all
 after_requests Pause p all = all
 
@@ -172,6 +184,14 @@ requests_of (past.Got request ∷ so_far) short =
     let parts = and_parts (is_request request) (are_short so_far) short in
     and_from (is_request request) (list_all is_short_request so_far) parts.0 (requests_of so_far parts.1)
 requests_of (happening ∷ so_far) short = requests_of so_far (and_parts (is_short happening) (are_short so_far) short).1
+
+-- the requests of blocks
+blocks_short : (blocks : List (List ℕ)) → list_all is_request (map got_of blocks) ≡ true
+blocks_short [] = refl
+blocks_short (block ∷ blocks) = and_from (is_request (got_of block)) (list_all is_request (map got_of blocks)) (request_short block) (blocks_short blocks)
+
+pub given_short : (before given : List Got) (bytes : List ℕ) → gots_of bytes ≡ before ++ given → list_all is_request given ≡ true
+given_short before given bytes is = (and_parts (list_all is_request before) (list_all is_request given) (sym (list_all-append is_request before given) ∙ ap (list_all is_request) (sym is) ∙ blocks_short (blocks_of bytes))).1
 
 -- ---- the trace of a record
 

@@ -1,7 +1,9 @@
 -- What a part of init's work makes of its core and its log, as far as its host's answers were possible (init(8)).
-use Rattle.std.specs.Prelude.{◌≡◌, ℕ, Bool, true, false, ◌&&◌, ◌||◌, IsTrue, List, [], ◌∷◌, ◌++◌, length, take, reverse, Some, IfSome, is_some}
+use Rattle.std.specs.Prelude.{◌≡◌, ℕ, Bool, true, false, ◌&&◌, ◌||◌, IsTrue, ◌==◌, not, List, [], ◌∷◌, ◌++◌, length, take, reverse, Some, IfSome, is_some, Ok, Err}
+use Rattle.std.specs.List.{starts_with}
 use Rattle.initctl_frame.specs.Blocks.{Begun}
-use Rattle.init_trace.specs.declared.happenings.Happening.TheVariants.{NewTable}
+use Rattle.init_trace.specs.declared.happenings.Handed.{Handed as HandOver}
+use Rattle.init_trace.specs.declared.happenings.Happening.TheVariants.{Handed, NewTable}
 use Rattle.init_trace.specs.declared.steps.Goal.{Goal}
 use Rattle.init_trace.specs.declared.steps.Step.{Step}
 use Rattle.init_trace.specs.Event.{Event}
@@ -10,10 +12,13 @@ use Rattle.init_trace.specs.Range.{are_short, is_seconds}
 use Rattle.init_trace.specs.Run.{step_in}
 use Rattle.init_trace.specs.Sound.{is_sound, may_come}
 use Rattle.core_state.specs.State.{CoreState}
-use Rattle.core_state.specs.Fit.{Fits, with_step}
+use Rattle.core_state.specs.Fit.{Fits, OnEachTrace, with_step}
+use Rattle.core_state.specs.Rules.{KeepsRules}
+use Rattle.state_text.specs.Range as range
 use Rattle.run_log.specs.Logs.{LogState}
-use Rattle.child_host.specs.Calls.{HostCall}
-use Rattle.host_trace.specs.Point.{Point, point_after, has_trace}
+use Rattle.child_host.specs.declared.calls.Call.TheVariants.{Carry}
+use Rattle.child_host.specs.Calls.{HostCall, TextRead}
+use Rattle.host_trace.specs.Point.{Point, point_after, has_trace, is_outcome, same_generation}
 
 -- the happening is a step of init's own
 abbrev pub is_own : Event → Bool
@@ -28,6 +33,16 @@ meets goal happening so_far = is_own happening || may_come goal happening so_far
 abbrev pub is_allowed : Goal → List Event → Bool
 is_allowed goal [] = true
 is_allowed goal (happening ∷ so_far) = meets goal happening so_far && is_allowed goal so_far
+
+-- A text that is carried comes back as it was, or cut, or as that of another generation; or it doesn't come.
+abbrev pub comes_back : List ℕ → TextRead → Bool
+comes_back text (Ok back) = starts_with ◌==◌ text back || not (same_generation text back)
+comes_back text (Err fault) = true
+
+abbrev pub are_carried : List HostCall → Bool
+are_carried [] = true
+are_carried (Carry text back ∷ calls) = comes_back text back && are_carried calls
+are_carried (_ ∷ calls) = are_carried calls
 
 -- What a log took of the happenings that came, the newest first: those that came before it failed, and all as long as
 -- it has not. After it failed it takes nothing.
@@ -67,9 +82,26 @@ pub record IsOver (blocks : Begun) (over : List ℕ) : Type 0 where
   pub count : blocks.count ≡ length over
   pub front : blocks.front ≡ take 16 over
 
--- the core fits the trace, and the reader of requests stands where the trace does
+-- init's core tracks the trace: it fits, keeps the rules that init is held to, and its seconds are at most an hour
+pub record Tracks (core : CoreState) (goal : Goal) (past : List Event) : Type 0 where
+  pub fits : Fits core goal past
+  pub kept : KeepsRules core
+  pub short : range.has_short_seconds core ≡ true
+
+-- a change that keeps the rules, and seconds of an hour at most
+pub record Lasts (c new : CoreState) : Type 0 where
+  pub kept : KeepsRules c → KeepsRules new
+  pub short : range.has_short_seconds c ≡ true → range.has_short_seconds new ≡ true
+
+-- what a text that was carried came to
+pub record Carried (c new : CoreState) (how : HandOver) (text : List ℕ) (back : TextRead) : Type 0 where
+  pub outcome : is_outcome how text back ≡ true
+  pub fits : OnEachTrace c (λ goal so_far. Fits new goal (Handed how ∷ so_far))
+  pub lasts : Lasts c new
+
+-- the core tracks the trace, and the reader of requests stands where the trace does
 abbrev pub At : CoreState → Begun → Goal → Point → Type 0
-At core blocks goal p = On (Fits core) goal p × IsOver blocks p.over
+At core blocks goal p = On (Tracks core) goal p × IsOver blocks p.over
 
 -- so many late answers were asked for since the clock was read
 abbrev pub Counted : ℕ → Goal → Point → Type 0
@@ -88,7 +120,7 @@ pub record Went (fit : Goal → Point → Type 0) (old new : LogState) (goal : G
 abbrev pub Leads : (Goal → Point → Type 0) → (Goal → Point → Type 0) → LogState → LogState → List HostCall
     → Type 0
 Leads fitted fit old new calls = (goal : Goal) (p : Point) → IsTrue (is_sound goal p.past) → fitted goal p
-    → IsTrue (is_allowed goal (point_after calls p).past) → Went fit old new goal p calls
+    → IsTrue (is_allowed goal (point_after calls p).past) → IsTrue (are_carried calls) → Went fit old new goal p calls
 
 -- the same of what needs no call: an answer, a round, a request
 pub record Heard (fit : Goal → List Event → Type 0) (old new : LogState) (goal : Goal) (past now : List Event)

@@ -1,5 +1,6 @@
 -- Which trace the calls of a host are (init(8)). Calls, like happenings, stand THE NEWEST FIRST.
-use Rattle.std.specs.Prelude.{ℕ, Bool, true, false, ◌&&◌, ◌||◌, ◌+◌, ◌==◌, nat_lt, if◌then◌else◌, List, [], ◌∷◌, ◌++◌, length, Option, Some, None, is_none, Result, Ok, Err}
+use Rattle.std.specs.Prelude.{ℕ, Bool, true, false, not, ◌&&◌, ◌||◌, ◌+◌, ◌==◌, nat_lt, if◌then◌else◌, List, [], ◌∷◌, ◌++◌, length, Option, Some, None, is_none, Result, Ok, Err}
+use Rattle.std.specs.List.{starts_with}
 use Rattle.std.specs.Option.{option_map_or}
 use Rattle.std.specs.Cmp.Lexicographic.{pointwise}
 use Rattle.init_words.specs.declared.orders.Answer.{Answer}
@@ -15,6 +16,7 @@ use Rattle.inittab_text.specs.declared.reading.TheConstants.{TEXT_LIMIT}
 use Rattle.inittab_text.specs.Reading.{table_of_text}
 use Rattle.inittab_text.specs.Tables.{entry_of}
 use Rattle.initctl_frame.specs.Frames.{got_of}
+use Rattle.init_trace.specs.declared.happenings.Handed.{Handed as HandOver}
 use Rattle.init_trace.specs.declared.happenings.Handed.TheVariants as handed
 use Rattle.init_trace.specs.declared.happenings.Happening.TheVariants as past
 use Rattle.init_trace.specs.declared.steps.Goal.{Goal}
@@ -22,6 +24,7 @@ use Rattle.init_trace.specs.declared.steps.Step.TheVariants as step
 use Rattle.init_trace.specs.Event.{Event}
 use Rattle.init_trace.specs.Past.{open_of, table_of}
 use Rattle.init_trace.specs.Due.{is_due}
+use Rattle.state_text.specs.Reading.{generation_of}
 use Rattle.child_host.specs.declared.calls.Call.TheVariants.{Start, Look, Signal, Late, Clock, TakeBytes, ReadTable, Carry, Announce, Pause}
 use Rattle.child_host.specs.declared.calls.HostFault.{HostFault}
 use Rattle.child_host.specs.declared.calls.Reply.{Reply}
@@ -120,6 +123,25 @@ before_reading (past.NewTable table ∷ so_far) = so_far
 before_reading (past.NotRead ∷ so_far) = so_far
 before_reading so_far = so_far
 
+-- two texts are one
+abbrev pub same_text : List ℕ → List ℕ → Bool
+same_text = pointwise ◌==◌
+
+-- the text of init's state that was carried came back as it was
+abbrev pub came_whole : List ℕ → TextRead → Bool
+came_whole text (Ok back) = same_text text back
+came_whole text (Err fault) = false
+
+-- a state text that came back as it was is taken over: the next init goes on
+abbrev pub handed_if : Bool → List Event → List Event
+handed_if true so_far = past.Handed handed.Whole ∷ so_far
+handed_if false so_far = so_far
+
+-- the past before the hand-over that stands newest
+abbrev pub before_handing : List Event → List Event
+before_handing (past.Handed how ∷ so_far) = so_far
+before_handing so_far = so_far
+
 -- these are announced as they happen
 abbrev pub is_said : Event → Bool
 is_said (past.Enter stage grace) = true
@@ -127,16 +149,16 @@ is_said (past.Call letter) = true
 is_said (past.Power kind) = true
 is_said (past.Hold id) = true
 is_said (past.Settle level) = true
-is_said (past.Handed handed.Failed) = true
 is_said _ = false
 
--- What is announced stands in the trace: steps of init, and that it was not executed anew. That inittab could not be
--- read stands for the reading, whose table was not taken.
+-- What is announced stands in the trace: steps of init; that inittab could not be read, which stands for the reading,
+-- whose table was not taken; and that init was not executed anew, which stands for the hand-over, which was not taken.
 abbrev pub announced : Event → List Event → List Event
 announced past.NotRead so_far = past.NotRead ∷ before_reading so_far
+announced (past.Handed how) so_far = past.Handed how ∷ before_handing so_far
 announced happening so_far = if is_said happening then happening ∷ so_far else so_far
 
--- What a call makes of the trace. Nothing comes of a carried text yet: init is not executed anew, and says so.
+-- what a call makes of the trace
 abbrev pub after : HostCall → Point → Point
 after (Start id command reply) p = record p { past = ordered id ask.Start reply p.past }
 after (Look id reply) p = record p { past = ordered id ask.Look reply p.past }
@@ -146,7 +168,7 @@ after (Late late) p =
 after (Clock time) p = record p { lates = 0; past = clocked time p.past }
 after (TakeBytes room taken) p = taken_after taken p
 after (ReadTable text) p = record p { past = reading text ∷ p.past }
-after (Carry text back) p = p
+after (Carry text back) p = record p { past = handed_if (came_whole text back) p.past }
 after (Announce happening) p = record p { past = announced happening p.past }
 after Pause p = p
 
@@ -154,10 +176,6 @@ after Pause p = p
 abbrev pub point_after : List HostCall → Point → Point
 point_after [] p = p
 point_after (call ∷ calls) p = after call (point_after calls p)
-
--- two texts are one
-abbrev pub same_text : List ℕ → List ℕ → Bool
-same_text = pointwise ◌==◌
 
 -- the text is the command of the id's entry in the table in force
 abbrev pub is_command : List ℕ → List ℕ → List Event → Bool
@@ -169,20 +187,48 @@ abbrev pub was_reading : List HostCall → Bool
 was_reading (ReadTable text ∷ calls) = true
 was_reading _ = false
 
+-- the text names the generation; and the generation that the other names
+abbrev pub is_of_generation : ℕ → List ℕ → Bool
+is_of_generation generation text = option_map_or (λ g. g == generation) (generation_of text) false
+
+abbrev pub same_generation : List ℕ → List ℕ → Bool
+same_generation text back = option_map_or (λ g. is_of_generation g back) (generation_of text) false
+
+-- What a text that was carried came to, where it was not taken over: it came back cut to so many bytes, or as that of
+-- another generation, or was refused for another cause.
+abbrev pub is_refusal : HandOver → List ℕ → TextRead → Bool
+is_refusal (handed.Cut bytes) text (Ok back) =
+    starts_with ◌==◌ text back && length back == bytes && nat_lt bytes (length text)
+is_refusal (handed.Older generation) text (Ok back) =
+    is_of_generation generation back && not (is_of_generation generation text)
+is_refusal handed.Failed text back = true
+is_refusal _ text back = false
+
+-- the calls by which a text was carried, and what came of it was said
+abbrev pub carrying : HandOver → List ℕ → TextRead → List HostCall
+carrying handed.Whole text back = Carry text back ∷ []
+carrying how text back = Announce (past.Handed how) ∷ Carry text back ∷ []
+
+-- the text came back as it was and was taken, or was refused so
+abbrev pub is_outcome : HandOver → List ℕ → TextRead → Bool
+is_outcome handed.Whole text back = came_whole text back
+is_outcome how text back = is_refusal how text back
+
 -- What is announced is one of init's steps, or a step that was due and came to nothing: inittab was read in the call
--- before, or init was to be executed anew.
+-- before; the state text was carried in the call before, and refused so; or init was to be executed anew, and no text
+-- was made.
 abbrev pub may_announce : Goal → Event → List HostCall → List Event → Bool
 may_announce goal past.NotRead earlier so_far = was_reading earlier
-may_announce goal (past.Handed how) earlier so_far =
-    is_said (past.Handed how) && is_due goal step.Reexec so_far
+may_announce goal (past.Handed how) (Carry text back ∷ earlier) so_far = is_refusal how text back
+may_announce goal (past.Handed handed.Failed) earlier so_far = is_due goal step.Reexec so_far
 may_announce goal happening earlier so_far = is_said happening
 
--- The call may be made there: a start is of the id's command in the table in force, and inittab is read where that is
--- due. A text is not carried yet.
+-- The call may be made there: a start is of the id's command in the table in force, inittab is read where that is due,
+-- and init's state is carried where it is to be executed anew.
 abbrev pub is_in_place : Goal → HostCall → List HostCall → List Event → Bool
 is_in_place goal (Start id command reply) earlier so_far = is_command id command so_far
 is_in_place goal (ReadTable text) earlier so_far = is_due goal step.Reread so_far
-is_in_place goal (Carry text back) earlier so_far = false
+is_in_place goal (Carry text back) earlier so_far = is_due goal step.Reexec so_far
 is_in_place goal (Announce happening) earlier so_far = may_announce goal happening earlier so_far
 is_in_place goal _ earlier so_far = true
 

@@ -1,7 +1,7 @@
 -- What calls a turn of init makes of its host, and what calls many turns make (init(8)). The newest stand first.
 use Rattle.std.specs.Prelude.{◌≡◌, ◌≤◌, ◌⊎◌, ◌+◌, ℕ, zero, suc, Bool, true, false, ◌&&◌, ◌||◌, ◌==◌, nat_le, nat_lt, IsTrue, List, [], ◌∷◌, ◌++◌, length, Some, None, Result, Ok, Err}
 use Rattle.std.specs.List.{list_all}
-use Rattle.init_trace.specs.declared.happenings.Happening.TheVariants.{NotRead}
+use Rattle.init_trace.specs.declared.happenings.Happening.TheVariants.{NotRead, Handed}
 use Rattle.init_trace.specs.declared.steps.Goal.{Goal}
 use Rattle.init_trace.specs.declared.steps.Step.TheVariants.{Idle}
 use Rattle.init_trace.specs.Due.{due, first}
@@ -14,7 +14,7 @@ use Rattle.child_host.specs.declared.calls.HostFault.{HostFault}
 use Rattle.child_host.specs.Calls.{HostCall, TextRead}
 use Rattle.host_trace.specs.declared.TheConstants.{BYTE_LIMIT, PIECE, LATE_LIMIT, STEP_LIMIT}
 use Rattle.host_trace.specs.Point.{Point, point_after}
-use Rattle.host_trace.specs.Leads.{is_allowed}
+use Rattle.host_trace.specs.Leads.{are_carried, is_allowed}
 
 -- a call that takes no bytes
 abbrev pub takes_none : HostCall → Bool
@@ -58,21 +58,23 @@ abbrev pub are_lates : List HostCall → Bool
 are_lates (Late None ∷ calls) = list_all has_come calls && nat_lt (length calls) LATE_LIMIT
 are_lates calls = list_all has_come calls && length calls == LATE_LIMIT
 
--- a call that carries out a step, or ends one
-abbrev pub is_step_call : HostCall → Bool
-is_step_call (Start id command reply) = true
-is_step_call (Look id reply) = true
-is_step_call (Signal id sent reply) = true
-is_step_call (ReadTable text) = true
-is_step_call (Carry text back) = true
-is_step_call (Announce happening) = true
-is_step_call _ = false
+-- The calls that carry out one step: an order, what is said of it, a reading of inittab, or the carrying of the state
+-- text; and behind one of these two, if it came to nothing, that this was said.
+abbrev pub is_step : List HostCall → Bool
+is_step (Start id command reply ∷ []) = true
+is_step (Look id reply ∷ []) = true
+is_step (Signal id sent reply ∷ []) = true
+is_step (ReadTable text ∷ []) = true
+is_step (Carry text back ∷ []) = true
+is_step (Announce happening ∷ []) = true
+is_step (Announce NotRead ∷ ReadTable text ∷ []) = true
+is_step (Announce (Handed how) ∷ Carry text back ∷ []) = true
+is_step _ = false
 
--- how many steps they carry out: that inittab could not be read ends a step that began with the reading
-abbrev pub steps_in : List HostCall → ℕ
-steps_in [] = 0
-steps_in (Announce NotRead ∷ calls) = steps_in calls
-steps_in (call ∷ calls) = steps_in calls + 1
+-- so many steps, one behind the other
+abbrev pub AreSteps : ℕ → List HostCall → Type 0
+AreSteps zero calls = calls ≡ []
+AreSteps (suc n) calls = (last before : List HostCall) × (calls ≡ last ++ before) × IsTrue (is_step last) × AreSteps n before
 
 -- A turn: it reads the clock, takes bytes, takes late answers, and takes steps until it is done, or has taken as many
 -- as a turn may.
@@ -84,19 +86,21 @@ pub record IsTurn (done : Bool) (calls : List HostCall) : Type 0 where
   pub whole : calls ≡ steps ++ (lates ++ (takes ++ Clock time ∷ []))
   pub byte_calls : are_takes takes ≡ true
   pub late_calls : are_lates lates ≡ true
-  pub step_calls : list_all is_step_call steps ≡ true
-  pub most : steps_in steps ≤ STEP_LIMIT
-  pub ended : IsTrue done ⊎ (steps_in steps ≡ STEP_LIMIT)
+  pub count : ℕ
+  pub step_calls : AreSteps count steps
+  pub most : count ≤ STEP_LIMIT
+  pub ended : IsTrue done ⊎ (count ≡ STEP_LIMIT)
 
 -- nothing is due behind the calls: from each point whose trace is sound and fitted, where the answers were possible
 abbrev pub Rests : (Goal → Point → Type 0) → List HostCall → Type 0
 Rests fitted calls = (goal : Goal) (p : Point) → IsTrue (is_sound goal p.past) → fitted goal p
-    → IsTrue (is_allowed goal (point_after calls p).past) → first (due goal (point_after calls p).past) ≡ Idle
+    → IsTrue (is_allowed goal (point_after calls p).past) → IsTrue (are_carried calls)
+    → first (due goal (point_after calls p).past) ≡ Idle
 
 -- behind the calls there is something left to do, or something runs: a core that fits there is not drained
 abbrev pub Undrained : (Goal → Point → Type 0) → List HostCall → Type 0
 Undrained fitted calls = (goal : Goal) (p : Point) → IsTrue (is_sound goal p.past) → fitted goal p
-    → IsTrue (is_allowed goal (point_after calls p).past)
+    → IsTrue (is_allowed goal (point_after calls p).past) → IsTrue (are_carried calls)
     → (core : CoreState) × Fits core goal (point_after calls p).past × (is_drained core ≡ false)
 
 -- So many turns, with a pause behind each. Behind each that is done nothing is due; and where they end when init is

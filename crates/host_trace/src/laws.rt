@@ -3,7 +3,7 @@ ghost use Rattle.initctl_frame.specs.Blocks.{over_of};
 ghost use Rattle.init_trace.specs.declared.steps.Goal.{Goal};
 ghost use Rattle.child_host.specs.Calls.{HostCall};
 ghost use Rattle.host_trace.specs.Point.{Point, point_after, has_trace};
-ghost use Rattle.host_trace.specs.Leads.{is_allowed};
+ghost use Rattle.host_trace.specs.Leads.{are_carried, is_allowed};
 ghost use Rattle.host_trace.specs.Requests.{Brings};
 
 /// The requests that the calls bring into the trace are those of the blocks that the bytes taken fill, behind bytes
@@ -24,4 +24,6 @@ pub fn law_of_parts()
         → IsTrue (has_trace goal (later ++ earlier) p) }
     ensures possible { (goal : Goal) (calls : List HostCall) (p : Point)
         → IsTrue (is_allowed goal (point_after calls p).past) → IsTrue (is_allowed goal p.past) }
+    ensures carried { (later earlier : List HostCall) → IsTrue (are_carried (later ++ earlier))
+        → IsTrue (are_carried later) × IsTrue (are_carried earlier) }
 {}

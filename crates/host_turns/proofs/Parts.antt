@@ -1,5 +1,5 @@
 -- Parts of a turn, one behind the other.
-use Rattle.std.proofs.Common.{◌≡◌, refl, sym, ◌∙◌, subst, ℕ, ◌+◌, ◌≤◌, true, false, inl, inr, List, [], ◌∷◌, ◌++◌, Option, arith}
+use Rattle.std.proofs.Common.{◌≡◌, refl, sym, ◌∙◌, subst, ℕ, suc, ◌+◌, ◌≤◌, true, false, inl, inr, List, [], ◌∷◌, ◌++◌, Option, arith}
 use Rattle.std.specs.List.{list_all}
 use Rattle.std.proofs.lemmas.Bool.{and_from}
 use Rattle.std.proofs.lemmas.List.Folds.{list_all-append}
@@ -11,10 +11,10 @@ use Rattle.child_host.specs.Calls.{HostCall, Adds}
 use Rattle.host_trace.specs.Point.{Point}
 use Rattle.host_trace.specs.Leads.{Leads}
 use Rattle.host_trace.specs.declared.TheConstants.{STEP_LIMIT}
-use Rattle.host_trace.specs.Turns.{is_step_call, steps_in}
+use Rattle.host_trace.specs.Turns.{AreSteps}
 use Rattle.host_trace.proofs.Record.{Since-one, Since-none, Since-map, Since-then}
 use Rattle.host_trace.proofs.Leading.{Leads-none, Leads-then}
-use Rattle.host_turns.specs.Parts.{AreAllSteps, AreSteps, IsStepUnless, Makes}
+use Rattle.host_turns.specs.Parts.{AreAllSteps, IsStep, IsStepUnless, Makes}
 
 pub Makes-one : (old new : Option (List HostCall)) (l₀ l₁ : LogState) (call : HostCall) (Shape : List HostCall → Type 0) (f₀ f₁ : Goal → Point → Type 0) → Adds old new call → Shape (call ∷ []) → Leads f₀ f₁ l₀ l₁ (call ∷ []) → Makes old new l₀ l₁ Shape f₀ f₁
 Makes-one old new l₀ l₁ call Shape f₀ f₁ adds shape leads = Since-one old new call (λ calls. Shape calls × Leads f₀ f₁ l₀ l₁ calls) adds (shape, leads)
@@ -36,25 +36,16 @@ Makes-then old mid new l₀ l₁ l₂ P Q R f₀ f₁ f₂ first second both = S
 pub Makes-map : (old new : Option (List HostCall)) (l₀ l₁ : LogState) (P Q : List HostCall → Type 0) (f₀ f₁ g₀ g₁ : Goal → Point → Type 0) → Makes old new l₀ l₁ P f₀ f₁ → ((calls : List HostCall) → P calls → Leads f₀ f₁ l₀ l₁ calls → Q calls × Leads g₀ g₁ l₀ l₁ calls) → Makes old new l₀ l₁ Q g₀ g₁
 Makes-map old new l₀ l₁ P Q f₀ f₁ g₀ g₁ makes more = Since-map old new (λ calls. P calls × Leads f₀ f₁ l₀ l₁ calls) (λ calls. Q calls × Leads g₀ g₁ l₀ l₁ calls) makes (λ calls a. more calls a.0 a.1)
 
--- the steps of two parts
-one_more : (a b c : ℕ) → a ≡ b + c → a + 1 ≡ (b + 1) + c
-one_more a b c is = omega (arith, is)
-
-pub steps-append : (ys xs : List HostCall) → steps_in (ys ++ xs) ≡ steps_in ys + steps_in xs
-steps-append [] xs = omega arith
-steps-append (Announce past.NotRead ∷ ys) xs = steps-append ys xs
-steps-append (call ∷ ys) xs = one_more (steps_in (ys ++ xs)) (steps_in ys) (steps_in xs) (steps-append ys xs)
-
 -- ---- steps, one behind the others
 
-pub steps_more : (made : ℕ) (xs ys : List HostCall) → AreSteps made xs → AreSteps 1 ys → AreSteps (made + 1) (ys ++ xs)
-steps_more made xs ys (all, count) (one, counts) = (
-  list_all-append is_step_call ys xs ∙ and_from (list_all is_step_call ys) (list_all is_step_call xs) one all,
-  steps-append ys xs ∙ omega (arith, count, counts),
-)
+pub steps_more : (made : ℕ) (xs ys : List HostCall) → AreSteps made xs → IsStep ys → AreSteps (made + 1) (ys ++ xs)
+steps_more made xs ys steps step = subst (λ n. AreSteps n (ys ++ xs)) next (ys, xs, refl, step, steps)
+  where
+    next : suc made ≡ made + 1
+    next = omega arith
 
 pub steps_end : (made : ℕ) (xs ys : List HostCall) → made ≤ STEP_LIMIT → AreSteps made xs → IsStepUnless true ys → AreAllSteps true (ys ++ xs)
-steps_end made xs ys within (all, count) none = subst (λ calls. AreAllSteps true (calls ++ xs)) (sym none) (record { step_calls = all; most = omega (arith, count, within); ended = inl refl })
+steps_end made xs ys within steps none = subst (λ calls. AreAllSteps true (calls ++ xs)) (sym none) (record { count = made; step_calls = steps; most = within; ended = inl refl })
 
 pub steps_all : (calls : List HostCall) → AreSteps STEP_LIMIT calls → AreAllSteps false calls
-steps_all calls (all, count) = record { step_calls = all; most = omega (arith, count); ended = inr count }
+steps_all calls steps = record { count = STEP_LIMIT; step_calls = steps; most = omega arith; ended = inr refl }

@@ -1,23 +1,24 @@
 -- The parts of a turn, and turns one behind the other.
-use Rattle.std.proofs.Common.{◌≡◌, refl, sym, ap, subst, ℕ, suc, ◌⊎◌, ◌==◌, inl, inr, nat_lt, Bool, true, false, ◌&&◌, List, [], ◌∷◌, ◌++◌, length, Option, None, Result}
+use Rattle.std.proofs.Common.{◌≡◌, refl, sym, ap, ◌∙◌, subst, ℕ, zero, suc, ◌⊎◌, ◌==◌, inl, inr, nat_lt, Bool, true, false, ◌&&◌, List, [], ◌∷◌, ◌++◌, length, Option, None, Result}
 use Rattle.std.specs.List.{list_all}
 use Rattle.std.proofs.lemmas.Bool.{false≢true, and_from, and_parts}
+use Rattle.std.proofs.lemmas.List.Folds.{list_all-append}
 use Rattle.initctl_frame.specs.Blocks.{Begun, Stands}
+use Rattle.init_trace.specs.declared.happenings.Happening.TheVariants as past
 use Rattle.init_trace.specs.declared.steps.Goal.{Goal}
 use Rattle.core_state.specs.State.{CoreState}
 use Rattle.core_state.specs.Decide.{is_drained}
-use Rattle.core_state.specs.Fit.{Fits}
 use Rattle.core_state.proofs.Recorded.{unreaped_recorded}
 use Rattle.run_log.specs.Logs.{LogState}
-use Rattle.child_host.specs.declared.calls.Call.TheVariants.{Late, Clock, TakeBytes, Pause}
+use Rattle.child_host.specs.declared.calls.Call.TheVariants.{Start, Look, Signal, Late, Clock, TakeBytes, ReadTable, Carry, Announce, Pause}
 use Rattle.child_host.specs.declared.calls.HostFault.{HostFault}
 use Rattle.child_host.specs.Calls.{HostCall, Adds}
 use Rattle.host_trace.specs.declared.TheConstants.{LATE_LIMIT}
 use Rattle.host_trace.specs.Point.{Point, point_after}
 use Rattle.host_trace.specs.Record.{Since}
 use Rattle.host_trace.specs.Requests.{Brings}
-use Rattle.host_trace.specs.Leads.{At, Counted, IsOver, Leads, On, Went}
-use Rattle.host_trace.specs.Turns.{AreTurns, IsTurn, Undrained, are_full, are_lates, are_takes, bytes_taken, has_come, is_room, is_step_call, takes_none}
+use Rattle.host_trace.specs.Leads.{At, Counted, IsOver, Leads, On, Tracks, Went}
+use Rattle.host_trace.specs.Turns.{AreSteps, AreTurns, IsTurn, Undrained, are_full, are_lates, are_takes, bytes_taken, has_come, is_room, is_step, takes_none}
 use Rattle.host_trace.proofs.Leading.{Leads-beside, Leads-frame, Leads-still, Leads-then, Leads-weaken, bytes_counted}
 use Rattle.host_trace.proofs.Record.{Since-map, Since-one, Since-then}
 use Rattle.host_trace.proofs.Requests.{calls_bring}
@@ -37,9 +38,20 @@ come_none : (call : HostCall) → has_come call ≡ true → takes_none call ≡
 come_none (TakeBytes room taken) h = absurd (false≢true h)
 come_none _ h = refl
 
-step_none : (call : HostCall) → is_step_call call ≡ true → takes_none call ≡ true
-step_none (TakeBytes room taken) h = absurd (false≢true h)
-step_none _ h = refl
+step_none : (calls : List HostCall) → is_step calls ≡ true → list_all takes_none calls ≡ true
+step_none (Start id command reply ∷ []) h = refl
+step_none (Look id reply ∷ []) h = refl
+step_none (Signal id sent reply ∷ []) h = refl
+step_none (ReadTable text ∷ []) h = refl
+step_none (Carry text back ∷ []) h = refl
+step_none (Announce happening ∷ []) h = refl
+step_none (Announce past.NotRead ∷ ReadTable text ∷ []) h = refl
+step_none (Announce (past.Handed how) ∷ Carry text back ∷ []) h = refl
+step_none _ h = absurd (false≢true h)
+
+steps_none : (count : ℕ) (calls : List HostCall) → AreSteps count calls → list_all takes_none calls ≡ true
+steps_none zero calls none = ap (list_all takes_none) none
+steps_none (suc count) calls (last, before, is, step, steps) = ap (list_all takes_none) is ∙ list_all-append takes_none last before ∙ and_from (list_all takes_none last) (list_all takes_none before) (step_none last step) (steps_none count before steps)
 
 lates_none : (calls : List HostCall) → are_lates calls ≡ true → list_all takes_none calls ≡ true
 lates_none [] h = refl
@@ -73,6 +85,7 @@ turned done xs ys (time, takes, lates, is, byte_calls, late_calls) steps = recor
   takes = takes;
   lates = lates;
   steps = ys;
+  count = steps.count;
   whole = ap (λ calls. ys ++ calls) is;
   byte_calls = byte_calls;
   late_calls = late_calls;
@@ -85,7 +98,7 @@ turned done xs ys (time, takes, lates, is, byte_calls, late_calls) steps = recor
 abbrev Counting : (Goal → Point → Type 0) → Goal → Point → Type 0
 Counting fit goal p = fit goal p × Counted 0 goal p
 
-pub turn_made : (done : Bool) (t₀ t₁ t₂ t₃ t₄ : Option (List HostCall)) (l₀ l₁ l₂ l₃ l₄ : LogState) (c₀ c₁ c₂ c₃ c₄ : CoreState) (b₀ b₁ : Begun) → Makes t₀ t₁ l₀ l₁ IsReading (On (Fits c₀)) (λ goal p. On (Fits c₁) goal p × Counted 0 goal p) → Makes t₁ t₂ l₁ l₂ (λ calls. are_takes calls ≡ true) (At c₁ b₀) (At c₂ b₁) → Makes t₂ t₃ l₂ l₃ (λ calls. are_lates calls ≡ true) (λ goal p. On (Fits c₂) goal p × Counted 0 goal p) (On (Fits c₃)) → Makes t₃ t₄ l₃ l₄ (AreAllSteps done) (On (Fits c₃)) (AndRests done (On (Fits c₄))) → Makes t₀ t₄ l₀ l₄ (IsTurn done) (At c₀ b₀) (Left done c₄ b₁)
+pub turn_made : (done : Bool) (t₀ t₁ t₂ t₃ t₄ : Option (List HostCall)) (l₀ l₁ l₂ l₃ l₄ : LogState) (c₀ c₁ c₂ c₃ c₄ : CoreState) (b₀ b₁ : Begun) → Makes t₀ t₁ l₀ l₁ IsReading (On (Tracks c₀)) (λ goal p. On (Tracks c₁) goal p × Counted 0 goal p) → Makes t₁ t₂ l₁ l₂ (λ calls. are_takes calls ≡ true) (At c₁ b₀) (At c₂ b₁) → Makes t₂ t₃ l₂ l₃ (λ calls. are_lates calls ≡ true) (λ goal p. On (Tracks c₂) goal p × Counted 0 goal p) (On (Tracks c₃)) → Makes t₃ t₄ l₃ l₄ (AreAllSteps done) (On (Tracks c₃)) (AndRests done (On (Tracks c₄))) → Makes t₀ t₄ l₀ l₄ (IsTurn done) (At c₀ b₀) (Left done c₄ b₁)
 turn_made done t₀ t₁ t₂ t₃ t₄ l₀ l₁ l₂ l₃ l₄ c₀ c₁ c₂ c₃ c₄ b₀ b₁ clock takes lates steps =
     Makes-map t₀ t₄ l₀ l₄ (IsTurn done) (IsTurn done) (At c₀ b₀) (AndRests done (At c₄ b₁)) (At c₀ b₀) (Left done c₄ b₁)
     (Makes-then t₀ t₃ t₄ l₀ l₃ l₄ HasHeard (AreAllSteps done) (IsTurn done) (At c₀ b₀) (At c₃ b₁) (AndRests done (At c₄ b₁))
@@ -96,11 +109,11 @@ turn_made done t₀ t₁ t₂ t₃ t₄ l₀ l₁ l₂ l₃ l₄ c₀ c₁ c₂ 
     (λ calls turn leads. (turn, Leads-left (At c₀ b₀) done c₄ b₁ l₀ l₄ calls leads))
   where
     clocked : Makes t₀ t₁ l₀ l₁ IsReading (At c₀ b₀) (Counting (At c₁ b₀))
-    clocked = Makes-map t₀ t₁ l₀ l₁ IsReading IsReading (On (Fits c₀)) (Counting (On (Fits c₁))) (At c₀ b₀) (Counting (At c₁ b₀)) clock
+    clocked = Makes-map t₀ t₁ l₀ l₁ IsReading IsReading (On (Tracks c₀)) (Counting (On (Tracks c₁))) (At c₀ b₀) (Counting (At c₁ b₀)) clock
         (λ calls read leads. (
           read,
-          Leads-weaken (At c₀ b₀) (At c₀ b₀) (λ goal p. Counting (On (Fits c₁)) goal p × IsOver b₀ p.over) (Counting (At c₁ b₀)) l₀ l₁ calls (λ goal p fits. fits) (λ goal p fits. ((fits.0.0, fits.1), fits.0.1))
-              (Leads-frame (On (Fits c₀)) (Counting (On (Fits c₁))) (IsOver b₀) l₀ l₁ calls (ap (list_all takes_none) read.1) leads),
+          Leads-weaken (At c₀ b₀) (At c₀ b₀) (λ goal p. Counting (On (Tracks c₁)) goal p × IsOver b₀ p.over) (Counting (At c₁ b₀)) l₀ l₁ calls (λ goal p fits. fits) (λ goal p fits. ((fits.0.0, fits.1), fits.0.1))
+              (Leads-frame (On (Tracks c₀)) (Counting (On (Tracks c₁))) (IsOver b₀) l₀ l₁ calls (ap (list_all takes_none) read.1) leads),
         ))
 
     taken : Makes t₁ t₂ l₁ l₂ (λ calls. are_takes calls ≡ true) (Counting (At c₁ b₀)) (Counting (At c₂ b₁))
@@ -108,19 +121,19 @@ turn_made done t₀ t₁ t₂ t₃ t₄ l₀ l₁ l₂ l₃ l₄ c₀ c₁ c₂ 
         (λ calls take leads. (take, Leads-beside (At c₁ b₀) (At c₂ b₁) (Counted 0) l₁ l₂ calls (takes_counted 0 calls take) leads))
 
     late : Makes t₂ t₃ l₂ l₃ (λ calls. are_lates calls ≡ true) (Counting (At c₂ b₁)) (At c₃ b₁)
-    late = Makes-map t₂ t₃ l₂ l₃ (λ calls. are_lates calls ≡ true) (λ calls. are_lates calls ≡ true) (Counting (On (Fits c₂))) (On (Fits c₃)) (Counting (At c₂ b₁)) (At c₃ b₁) lates
+    late = Makes-map t₂ t₃ l₂ l₃ (λ calls. are_lates calls ≡ true) (λ calls. are_lates calls ≡ true) (Counting (On (Tracks c₂))) (On (Tracks c₃)) (Counting (At c₂ b₁)) (At c₃ b₁) lates
         (λ calls come leads. (
           come,
-          Leads-weaken (λ goal p. Counting (On (Fits c₂)) goal p × IsOver b₁ p.over) (Counting (At c₂ b₁)) (At c₃ b₁) (At c₃ b₁) l₂ l₃ calls (λ goal p fits. ((fits.0.0, fits.1), fits.0.1)) (λ goal p fits. fits)
-              (Leads-frame (Counting (On (Fits c₂))) (On (Fits c₃)) (IsOver b₁) l₂ l₃ calls (lates_none calls come) leads),
+          Leads-weaken (λ goal p. Counting (On (Tracks c₂)) goal p × IsOver b₁ p.over) (Counting (At c₂ b₁)) (At c₃ b₁) (At c₃ b₁) l₂ l₃ calls (λ goal p fits. ((fits.0.0, fits.1), fits.0.1)) (λ goal p fits. fits)
+              (Leads-frame (Counting (On (Tracks c₂))) (On (Tracks c₃)) (IsOver b₁) l₂ l₃ calls (lates_none calls come) leads),
         ))
 
     stepped : Makes t₃ t₄ l₃ l₄ (AreAllSteps done) (At c₃ b₁) (AndRests done (At c₄ b₁))
-    stepped = Makes-map t₃ t₄ l₃ l₄ (AreAllSteps done) (AreAllSteps done) (On (Fits c₃)) (AndRests done (On (Fits c₄))) (At c₃ b₁) (AndRests done (At c₄ b₁)) steps
+    stepped = Makes-map t₃ t₄ l₃ l₄ (AreAllSteps done) (AreAllSteps done) (On (Tracks c₃)) (AndRests done (On (Tracks c₄))) (At c₃ b₁) (AndRests done (At c₄ b₁)) steps
         (λ calls all leads. (
           all,
-          Leads-weaken (At c₃ b₁) (At c₃ b₁) (λ goal p. AndRests done (On (Fits c₄)) goal p × IsOver b₁ p.over) (AndRests done (At c₄ b₁)) l₃ l₄ calls (λ goal p fits. fits) (λ goal p fits. ((fits.0.0, fits.1), fits.0.1))
-              (Leads-frame (On (Fits c₃)) (AndRests done (On (Fits c₄))) (IsOver b₁) l₃ l₄ calls (all_by is_step_call takes_none step_none calls all.step_calls) leads),
+          Leads-weaken (At c₃ b₁) (At c₃ b₁) (λ goal p. AndRests done (On (Tracks c₄)) goal p × IsOver b₁ p.over) (AndRests done (At c₄ b₁)) l₃ l₄ calls (λ goal p fits. fits) (λ goal p fits. ((fits.0.0, fits.1), fits.0.1))
+              (Leads-frame (On (Tracks c₃)) (AndRests done (On (Tracks c₄))) (IsOver b₁) l₃ l₄ calls (steps_none all.count calls all.step_calls) leads),
         ))
 
 -- ---- turns
@@ -152,12 +165,12 @@ turns_more drain done n t₀ t₁ t₂ t₃ l₀ l₁ l₂ c₀ c c' b b' before
   where
     still : (xs : List HostCall) → Leads (Fresh c₀) (At c b) l₀ l₁ xs → (n ≡ 0) ⊎ (is_drained c ≡ false) → (n ≡ 0) ⊎ Undrained (Fresh c₀) xs
     still xs leads (inl none) = inl none
-    still xs leads (inr busy) = inr (λ goal p sound fits allowed. (c, (leads goal p sound fits allowed).fits.0, busy))
+    still xs leads (inr busy) = inr (λ goal p sound fits allowed carried. (c, (leads goal p sound fits allowed carried).fits.0.fits, busy))
 
     paused : (xs ys : List HostCall) → IsLast drain done c₀ n xs × Leads (Fresh c₀) (Left done c' b') l₀ l₂ xs → ys ≡ Pause ∷ [] → AreTurns drain (Fresh c₀) (suc n) (ys ++ xs) × Leads (Fresh c₀) (At c' b') l₀ l₂ (ys ++ xs)
     paused xs ys ((last, earlier, is, made, rested, turns), leads) one =
         let rests : Leads (Fresh c₀) (Left done c' b') l₀ l₂ (last ++ earlier) = subst (Leads (Fresh c₀) (Left done c' b') l₀ l₂) is leads in (
-          (done, last, earlier, (λ i. one i ++ is i), made, (λ ended goal p sound fits allowed. (rests goal p sound fits allowed).fits.rests ended), rested, turns),
+          (done, last, earlier, (λ i. one i ++ is i), made, (λ ended goal p sound fits allowed carried. (rests goal p sound fits allowed carried).fits.rests ended), rested, turns),
           subst (λ zs. Leads (Fresh c₀) (At c' b') l₀ l₂ (zs ++ xs)) (sym one)
               (Leads-then (Fresh c₀) (Left done c' b') (At c' b') l₀ l₂ l₂ xs (Pause ∷ []) leads
               (Leads-weaken (Left done c' b') (Left done c' b') (Left done c' b') (At c' b') l₂ l₂ (Pause ∷ []) (λ goal p fits. fits) (λ goal p fits. fits.at)
@@ -169,12 +182,12 @@ pub turns_left : (t₀ t₁ : Option (List HostCall)) (l₀ l₁ : LogState) (Sh
 turns_left t₀ t₁ l₀ l₁ Shape c₀ c b makes = Makes-map t₀ t₁ l₀ l₁ Shape Shape (Fresh c₀) (At c b) (Fresh c₀) (LeftBy c) makes (λ calls shape leads. (shape, counts calls leads))
   where
     counts : (calls : List HostCall) → Leads (Fresh c₀) (At c b) l₀ l₁ calls → Leads (Fresh c₀) (LeftBy c) l₀ l₁ calls
-    counts calls leads goal p sound fits allowed =
-        let went : Went (At c b) l₀ l₁ goal p calls = leads goal p sound fits allowed in
+    counts calls leads goal p sound fits allowed carried =
+        let went : Went (At c b) l₀ l₁ goal p calls = leads goal p sound fits allowed carried in
         record {
           in_place = went.in_place;
           sound = went.sound;
-          fits = (went.fits.0, unreaped_recorded goal (point_after calls p).past c went.sound went.fits.0);
+          fits = (went.fits.0, unreaped_recorded goal (point_after calls p).past c went.sound went.fits.0.fits);
           log = went.log;
         }
 

@@ -7,6 +7,9 @@ use Rattle.init_words.specs.declared.orders.Answer.TheVariants.{Ended}
 use Rattle.init_words.specs.declared.orders.Ask.TheVariants as ask
 use Rattle.inittab_text.specs.Tables.{entry_of}
 use Rattle.initctl_frame.specs.Blocks.{Begun}
+use Rattle.init_trace.specs.declared.happenings.Handed.{Handed as HandOver}
+use Rattle.init_trace.specs.declared.happenings.Handed.TheVariants as handed
+use Rattle.init_trace.specs.declared.happenings.Happening.TheVariants.{Handed}
 use Rattle.init_trace.specs.declared.steps.Goal.{Goal}
 use Rattle.init_trace.specs.declared.steps.Step.{Step}
 use Rattle.init_trace.specs.declared.steps.Step.TheVariants as step
@@ -14,17 +17,20 @@ use Rattle.init_trace.specs.Agreement.{is_unreaped}
 use Rattle.init_trace.specs.Due.{due, first}
 use Rattle.init_trace.specs.Event.{Event}
 use Rattle.core_state.specs.State.{CoreState}
-use Rattle.core_state.specs.Fit.{Fits, with_step}
+use Rattle.core_state.specs.Fit.{with_step}
 use Rattle.core_state.specs.Headline.{is_recorded}
+use Rattle.core_state.specs.Parts.{state_of}
+use Rattle.core_state.specs.Rules.{IsFit}
+use Rattle.state_text.specs.Refused.{Says as IsTextOf}
 use Rattle.run_log.specs.Logs.{LogState}
-use Rattle.child_host.specs.declared.calls.Call.TheVariants.{Late, Clock, TakeBytes}
+use Rattle.child_host.specs.declared.calls.Call.TheVariants.{Late, Clock, TakeBytes, Announce}
 use Rattle.child_host.specs.declared.calls.HostFault.{HostFault}
-use Rattle.child_host.specs.Calls.{HostCall, TextRead}
+use Rattle.child_host.specs.Calls.{Adds, HostCall, TextRead}
 use Rattle.host_trace.specs.declared.TheConstants.{STEP_LIMIT}
-use Rattle.host_trace.specs.Point.{Point, is_last, is_said, may_announce}
+use Rattle.host_trace.specs.Point.{Point, is_last, is_outcome, is_said, may_announce}
 use Rattle.host_trace.specs.Record.{Since}
-use Rattle.host_trace.specs.Leads.{At, Leads, On}
-use Rattle.host_trace.specs.Turns.{bytes_in, is_room, is_step_call, steps_in}
+use Rattle.host_trace.specs.Leads.{At, Leads, On, Tracks, comes_back}
+use Rattle.host_trace.specs.Turns.{AreSteps, bytes_in, is_room, is_step}
 
 -- where the host tells its calls: those made are of this shape, and what fits before them fits behind them
 abbrev pub Makes : Option (List HostCall) → Option (List HostCall) → LogState → LogState → (List HostCall → Type 0)
@@ -50,20 +56,32 @@ IsTake before count calls = (room : ℕ) × (taken : TextRead) × (calls ≡ Tak
 abbrev pub IsLate : ℕ → Bool → List HostCall → Type 0
 IsLate before last calls = (late : Option (List ℕ × Answer)) × (calls ≡ Late late ∷ []) × (last ≡ is_last late before)
 
--- so many steps were carried out
-abbrev pub AreSteps : ℕ → List HostCall → Type 0
-AreSteps count calls = (list_all is_step_call calls ≡ true) × (steps_in calls ≡ count)
+-- a step was carried out
+abbrev pub IsStep : List HostCall → Type 0
+IsStep calls = is_step calls ≡ true
 
 -- a step was carried out; where nothing was due, no call was made
 abbrev pub IsStepUnless : Bool → List HostCall → Type 0
 IsStepUnless true calls = calls ≡ []
-IsStepUnless false calls = AreSteps 1 calls
+IsStepUnless false calls = IsStep calls
 
 -- steps were carried out until nothing was due, or as many as a turn may take
 pub record AreAllSteps (done : Bool) (calls : List HostCall) : Type 0 where
-  pub step_calls : list_all is_step_call calls ≡ true
-  pub most : steps_in calls ≤ STEP_LIMIT
-  pub ended : IsTrue done ⊎ (steps_in calls ≡ STEP_LIMIT)
+  pub count : ℕ
+  pub step_calls : AreSteps count calls
+  pub most : count ≤ STEP_LIMIT
+  pub ended : IsTrue done ⊎ (count ≡ STEP_LIMIT)
+
+-- What came of a text that was carried: init keeps what it kept, and the text was taken over or refused so; where the
+-- text is that of its state, which keeps the rules, and came back as a text that is carried may.
+abbrev pub ComesTo : HandOver → List ℕ → TextRead → CoreState → CoreState → Type 0
+ComesTo how text back old new = IsFit old → IsTextOf text (state_of old) → IsTrue (comes_back text back)
+    → (new ≡ old) × IsTrue (is_outcome how text back)
+
+-- a refusal is announced
+abbrev pub Saying : HandOver → Option (List HostCall) → Option (List HostCall) → Type 0
+Saying handed.Whole told now_told = now_told ≡ told
+Saying how told now_told = Adds told now_told (Announce (Handed how))
 
 -- nothing is due
 abbrev pub is_idle : Step → Bool
@@ -80,7 +98,7 @@ pub record Says (made : Step) (happening : Event) : Type 0 where
   pub said : is_said happening ≡ true
   pub place : (goal : Goal) (earlier : List HostCall) (past : List Event) → may_announce goal happening earlier past ≡ true
 
--- What is so behind a turn: init's records fit the trace, and the reader of requests stands where it does; the children
+-- What is so behind a turn: init's core tracks the trace, and the reader of requests stands where it does; the children
 -- that the host has not reaped are those of the records, corrected by the answers under way; and where the turn was
 -- done, nothing is due.
 pub record Left (done : Bool) (core : CoreState) (blocks : Begun) (goal : Goal) (p : Point) : Type 0 where
@@ -90,11 +108,11 @@ pub record Left (done : Bool) (core : CoreState) (blocks : Begun) (goal : Goal) 
 
 -- the same behind all turns, wherever the reader of requests stands
 abbrev pub LeftBy : CoreState → Goal → Point → Type 0
-LeftBy core goal p = On (Fits core) goal p × ((id : List ℕ) (n : ℕ) → is_unreaped id n p.past ≡ is_recorded id n core p.past)
+LeftBy core goal p = On (Tracks core) goal p × ((id : List ℕ) (n : ℕ) → is_unreaped id n p.past ≡ is_recorded id n core p.past)
 
--- what fits the trace, where no bytes of a block have come
+-- what tracks the trace, where no bytes of a block have come
 abbrev pub Fresh : CoreState → Goal → Point → Type 0
-Fresh core goal p = On (Fits core) goal p × (p.over ≡ [])
+Fresh core goal p = On (Tracks core) goal p × (p.over ≡ [])
 
 -- the step of a start is of an id that the table has
 abbrev pub is_listed : List Entry → Step → Bool

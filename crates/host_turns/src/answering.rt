@@ -5,9 +5,8 @@ ghost use Rattle.init_trace.specs.declared.happenings.Happening.TheVariants.{Tol
 ghost use Rattle.init_trace.specs.Event.{Event};
 ghost use Rattle.child_table.specs.Lists.{slot_of};
 ghost use Rattle.child_table.specs.State.{child_number};
-ghost use Rattle.core_state.specs.Fit.{Fits};
 ghost use Rattle.host_trace.specs.Point.{last_birth, acted, answered, replied};
-ghost use Rattle.host_trace.specs.Leads.{Hears, Logs};
+ghost use Rattle.host_trace.specs.Leads.{Hears, Logs, Tracks};
 ghost use Rattle.host_turns.specs.Parts.{is_end};
 
 use child_host::Reply;
@@ -90,7 +89,7 @@ pub(crate) fn hear_answer<A: Allocator, L: Log>(
     id: Id,
     answer: Answer,
 )
-    ensures { Hears (Fits core.old) (Fits core.new) (L.state log.old) (L.state log.new)
+    ensures { Hears (Tracks core.old) (Tracks core.new) (L.state log.old) (L.state log.new)
         (answered id answer) }
 {
     let number = number_of(core, id);
@@ -107,7 +106,7 @@ pub(crate) fn hear_reply<A: Allocator, L: Log>(
     id: Id,
     reply: &Reply,
 )
-    ensures { Hears (Fits core.old) (Fits core.new) (L.state log.old) (L.state log.new)
+    ensures { Hears (Tracks core.old) (Tracks core.new) (L.state log.old) (L.state log.new)
         (replied id reply.now) }
 {
     match *reply {

@@ -1,10 +1,10 @@
-ghost use Rattle.std.specs.Prelude.{◌≡◌, ◌<◌, ◌≤◌, ◌+◌, ◌∷◌, [], ℕ, true, false, length, take, Ok};
+ghost use Rattle.std.specs.Prelude.{◌≡◌, ◌<◌, ◌≤◌, ◌+◌, ◌∷◌, [], ℕ, IsTrue, true, false, length, take, Ok};
+ghost use Rattle.init_trace.specs.Range.{is_request};
 ghost use Rattle.init_trace.specs.declared.happenings.Happening.TheVariants as happening;
-ghost use Rattle.core_state.specs.Fit.{Fits};
 ghost use Rattle.child_host.specs.declared.calls.Call.TheVariants.{TakeBytes};
 ghost use Rattle.host_trace.specs.declared.TheConstants.{BYTE_LIMIT, LATE_LIMIT, PIECE};
 ghost use Rattle.host_trace.specs.Point.{come, is_last};
-ghost use Rattle.host_trace.specs.Leads.{At, Counted, Hears, Leads, On};
+ghost use Rattle.host_trace.specs.Leads.{At, Counted, Hears, Leads, On, Tracks};
 ghost use Rattle.host_trace.specs.Turns.{are_lates, are_takes, is_room};
 ghost use Rattle.host_turns.specs.Parts.{IsLate, IsReading, IsTake, Makes};
 
@@ -26,7 +26,7 @@ pub(crate) fn hear_clock<A: Allocator, H: Host, L: Log>(
 )
     ensures { Makes (H.told host.old) (H.told host.new) (L.state log.old)
         (L.state log.new) IsReading
-        (On (Fits core.old)) (λ goal p. On (Fits core.new) goal p × Counted 0 goal p) }
+        (On (Tracks core.old)) (λ goal p. On (Tracks core.new) goal p × Counted 0 goal p) }
 {
     if let Ok(reading) = host.clock() {
         core.clock(reading);
@@ -35,7 +35,8 @@ pub(crate) fn hear_clock<A: Allocator, H: Host, L: Log>(
 }
 
 fn hear_request<A: Allocator, L: Log>(core: &mut Core<A>, log: &mut L, request: Got)
-    ensures { Hears (Fits core.old) (Fits core.new) (L.state log.old) (L.state log.new)
+    ensures { IsTrue (is_request request)
+        → Hears (Tracks core.old) (Tracks core.new) (L.state log.old) (L.state log.new)
         (λ past. happening.Got request ∷ past) }
 {
     core.got(request);
@@ -148,7 +149,7 @@ pub(crate) fn hear_requests<A: Allocator, H: Host, L: Log>(
 }
 
 fn begin_round<A: Allocator, L: Log>(core: &mut Core<A>, log: &mut L)
-    ensures { Hears (Fits core.old) (Fits core.new) (L.state log.old) (L.state log.new)
+    ensures { Hears (Tracks core.old) (Tracks core.new) (L.state log.old) (L.state log.new)
         (λ past. happening.Nudge ∷ past) }
 {
     core.nudge();
@@ -156,7 +157,7 @@ fn begin_round<A: Allocator, L: Log>(core: &mut Core<A>, log: &mut L)
 }
 
 fn hear_come<A: Allocator, L: Log>(core: &mut Core<A>, log: &mut L, late: &Option<(Id, Answer)>)
-    ensures { Hears (Fits core.old) (Fits core.new) (L.state log.old) (L.state log.new)
+    ensures { Hears (Tracks core.old) (Tracks core.new) (L.state log.old) (L.state log.new)
         (come late.now) }
 {
     if let Some(late) = late {
@@ -182,8 +183,8 @@ fn hear_late<A: Allocator, H: Host, L: Log>(
     requires { asked < LATE_LIMIT }
     ensures more { result ≡ false → asked + 1 < LATE_LIMIT }
     ensures lates { Makes (H.told host.old) (H.told host.new) (L.state log.old) (L.state log.new)
-        (IsLate asked result) (λ goal p. On (Fits core.old) goal p × Counted asked goal p)
-        (λ goal p. On (Fits core.new) goal p × Counted (asked + 1) goal p) }
+        (IsLate asked result) (λ goal p. On (Tracks core.old) goal p × Counted asked goal p)
+        (λ goal p. On (Tracks core.new) goal p × Counted (asked + 1) goal p) }
 {
     let late = host.late();
     let last = is_last(&late, asked);
@@ -202,7 +203,7 @@ pub(crate) fn hear_lates<A: Allocator, H: Host, L: Log>(
 )
     ensures { Makes (H.told host.old) (H.told host.new) (L.state log.old) (L.state log.new)
         (λ calls. are_lates calls ≡ true)
-        (λ goal p. On (Fits core.old) goal p × Counted 0 goal p) (On (Fits core.new)) }
+        (λ goal p. On (Tracks core.old) goal p × Counted 0 goal p) (On (Tracks core.new)) }
 {
     let mut asked = 0;
     while !hear_late(core, host, log, asked) {

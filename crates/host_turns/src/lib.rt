@@ -8,6 +8,7 @@
 mod answering;
 mod hearing;
 mod ordering;
+mod reexecuting;
 mod rereading;
 mod serving;
 mod stepping;

@@ -1,10 +1,9 @@
 ghost use Rattle.std.specs.Prelude.{◌≡◌, true, is_some};
 ghost use Rattle.inittab_text.specs.Tables.{entry_of};
 ghost use Rattle.init_trace.specs.declared.steps.Step.TheVariants as step;
-ghost use Rattle.core_state.specs.Fit.{Fits};
-ghost use Rattle.host_trace.specs.Leads.{Gave, On};
+ghost use Rattle.host_trace.specs.Leads.{Gave, On, Tracks};
 ghost use Rattle.host_trace.specs.Point.{order_for};
-ghost use Rattle.host_turns.specs.Parts.{AreSteps, Makes, is_listed};
+ghost use Rattle.host_turns.specs.Parts.{IsStep, Makes, is_listed};
 
 use crate::answering::{hear_reply, note};
 use child_host::Host;
@@ -33,7 +32,7 @@ fn start<A: Allocator + Copy, H: Host, L: Log>(
 )
     requires { is_some (entry_of id core.old.table) ≡ true }
     ensures { Makes (H.told host.old) (H.told host.new) (L.state log.old) (L.state log.new)
-        (AreSteps 1) (On (Gave (Fits core.old) (step.Order id Ask.Start))) (On (Fits core.new)) }
+        IsStep (On (Gave (Tracks core.old) (step.Order id Ask.Start))) (On (Tracks core.new)) }
 {
     let Some(entry) = core.table().get(&id) else {
         unreachable!()
@@ -45,7 +44,7 @@ fn start<A: Allocator + Copy, H: Host, L: Log>(
 
 fn look<A: Allocator, H: Host, L: Log>(core: &mut Core<A>, host: &mut H, log: &mut L, id: Id)
     ensures { Makes (H.told host.old) (H.told host.new) (L.state log.old) (L.state log.new)
-        (AreSteps 1) (On (Gave (Fits core.old) (step.Order id Ask.Look))) (On (Fits core.new)) }
+        IsStep (On (Gave (Tracks core.old) (step.Order id Ask.Look))) (On (Tracks core.new)) }
 {
     note(log, Happening::Asked(id, Ask::Look));
     let reply = host.look(id);
@@ -60,8 +59,8 @@ fn signal<A: Allocator, H: Host, L: Log>(
     sent: Sig,
 )
     ensures { Makes (H.told host.old) (H.told host.new) (L.state log.old) (L.state log.new)
-        (AreSteps 1) (On (Gave (Fits core.old) (step.Order id (order_for sent))))
-        (On (Fits core.new)) }
+        IsStep (On (Gave (Tracks core.old) (step.Order id (order_for sent))))
+        (On (Tracks core.new)) }
 {
     note(log, Happening::Asked(id, order_for(&sent)));
     let reply = host.signal(id, sent);
@@ -79,7 +78,7 @@ pub(crate) fn order<A: Allocator + Copy, H: Host, L: Log>(
 )
     requires { is_listed core.old.table (step.Order id ask.now) ≡ true }
     ensures { Makes (H.told host.old) (H.told host.new) (L.state log.old) (L.state log.new)
-        (AreSteps 1) (On (Gave (Fits core.old) (step.Order id ask.now))) (On (Fits core.new)) }
+        IsStep (On (Gave (Tracks core.old) (step.Order id ask.now))) (On (Tracks core.new)) }
 {
     match *ask {
         Ask::Start => start(alloc, core, host, log, id),

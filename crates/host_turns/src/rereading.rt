@@ -8,12 +8,12 @@ ghost use Rattle.child_table.specs.Lists.{is_quiet};
 ghost use Rattle.child_host.specs.declared.calls.Call.TheVariants.{ReadTable};
 ghost use Rattle.child_host.specs.Calls.{Adds, TextRead};
 ghost use Rattle.core_state.specs.Fit.{Fits, OnEachTrace};
-ghost use Rattle.host_trace.specs.Leads.{Gave, Logs, On};
-ghost use Rattle.host_turns.specs.Parts.{AreSteps, Makes};
+ghost use Rattle.host_trace.specs.Leads.{Gave, Lasts, Logs, On, Tracks};
+ghost use Rattle.host_turns.specs.Parts.{IsStep, Makes};
 
 use crate::answering::write;
 use child_host::Host;
-use init_trace::{Handed, Happening, HappeningIn};
+use init_trace::{Happening, HappeningIn};
 use inittab_text::read;
 use level_core::Core;
 use run_log::Log;
@@ -30,6 +30,7 @@ fn use_text<A: Allocator + Copy, L: Log>(
     ensures quiet { result ≡ true → is_quiet core.old.slots ≡ true }
     ensures fits { result ≡ true → OnEachTrace core.old (λ goal past.
         Fits core.new goal (NewTable (table_of_text text.now) ∷ past)) }
+    ensures lasts { result ≡ true → Lasts core.old core.new }
     ensures took { result ≡ true → (past : List Event)
         → Logs (L.state log.old) (L.state log.new) past
         (NewTable (table_of_text text.now) ∷ past) }
@@ -59,7 +60,7 @@ fn use_table<A: Allocator + Copy, H: Host, L: Log>(
 ) -> bool
     ensures used { result ≡ true → Makes (H.told host.old) (H.told host.new)
         (L.state log.old) (L.state log.new)
-        (AreSteps 1) (On (Gave (Fits core.old) step.Reread)) (On (Fits core.new)) }
+        IsStep (On (Gave (Tracks core.old) step.Reread)) (On (Tracks core.new)) }
     ensures read { result ≡ false → (text : TextRead)
         × Adds (H.told host.old) (H.told host.new) (ReadTable text) }
     ensures core { result ≡ false → core.new ≡ core.old }
@@ -79,7 +80,7 @@ pub(crate) fn reread<A: Allocator + Copy, H: Host, L: Log>(
     log: &mut L,
 )
     ensures { Makes (H.told host.old) (H.told host.new) (L.state log.old) (L.state log.new)
-        (AreSteps 1) (On (Gave (Fits core.old) step.Reread)) (On (Fits core.new)) }
+        IsStep (On (Gave (Tracks core.old) step.Reread)) (On (Tracks core.new)) }
 {
     if use_table(alloc, core, host, log) {
         return;
@@ -88,19 +89,4 @@ pub(crate) fn reread<A: Allocator + Copy, H: Host, L: Log>(
     core.not_read();
     write(log, &unread);
     host.announce(&unread);
-}
-
-/// Init is not executed anew, and says so.
-pub(crate) fn not_handed<A: Allocator, H: Host, L: Log>(
-    core: &mut Core<A>,
-    host: &mut H,
-    log: &mut L,
-)
-    ensures { Makes (H.told host.old) (H.told host.new) (L.state log.old) (L.state log.new)
-        (AreSteps 1) (On (Gave (Fits core.old) step.Reexec)) (On (Fits core.new)) }
-{
-    let handed: Happening = Happening::Handed(Handed::Failed);
-    core.not_handed();
-    write(log, &handed);
-    host.announce(&handed);
 }

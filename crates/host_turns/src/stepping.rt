@@ -1,13 +1,13 @@
 ghost use Rattle.std.specs.Prelude.{◌≡◌, ◌≤◌, true, false};
 ghost use Rattle.init_trace.specs.declared.steps.Step.{Step};
 ghost use Rattle.core_state.specs.State.{CoreState};
-ghost use Rattle.core_state.specs.Fit.{Fits};
-ghost use Rattle.host_trace.specs.Leads.{Gave, On};
-ghost use Rattle.host_turns.specs.Parts.{AndRests, AreAllSteps, AreSteps, IsStepUnless, Makes, Says, is_idle, is_listed};
+ghost use Rattle.host_trace.specs.Leads.{Gave, On, Tracks};
+ghost use Rattle.host_turns.specs.Parts.{AndRests, AreAllSteps, IsStep, IsStepUnless, Makes, Says, is_idle, is_listed};
 
 use crate::answering::write;
 use crate::ordering::order;
-use crate::rereading::{not_handed, reread};
+use crate::reexecuting::reexec;
+use crate::rereading::reread;
 use child_host::Host;
 use host_trace::STEP_LIMIT;
 use init_trace::{Happening, Step};
@@ -25,7 +25,7 @@ fn is_idle(step: &Step) -> bool
 fn say<H: Host, L: Log>(host: &mut H, log: &mut L, happening: Happening)
     ensures { (core : CoreState) (made : Step) → Says made happening
         → Makes (H.told host.old) (H.told host.new) (L.state log.old) (L.state log.new)
-        (AreSteps 1) (On (Gave (Fits core) made)) (On (Fits core)) }
+        IsStep (On (Gave (Tracks core) made)) (On (Tracks core)) }
 {
     write(log, &happening);
     host.announce(&happening);
@@ -41,8 +41,8 @@ fn carry_out<A: Allocator + Copy, H: Host, L: Log>(
 )
     requires { is_listed core.old.table step.now ≡ true }
     ensures { Makes (H.told host.old) (H.told host.new) (L.state log.old) (L.state log.new)
-        (IsStepUnless (is_idle step.now)) (On (Gave (Fits core.old) step.now))
-        (On (Fits core.new)) }
+        (IsStepUnless (is_idle step.now)) (On (Gave (Tracks core.old) step.now))
+        (On (Tracks core.new)) }
 {
     match *step {
         Step::Enter(stage, grace) => say(host, log, Happening::Enter(stage, grace)),
@@ -52,7 +52,7 @@ fn carry_out<A: Allocator + Copy, H: Host, L: Log>(
         Step::Settle(level) => say(host, log, Happening::Settle(level)),
         Step::Order(id, ask) => order(alloc, core, host, log, id, &ask),
         Step::Reread => reread(alloc, core, host, log),
-        Step::Reexec => not_handed(core, host, log),
+        Step::Reexec => reexec(alloc, core, host, log),
         Step::Idle => {}
     }
 }
@@ -65,7 +65,7 @@ fn take_step<A: Allocator + Copy, H: Host, L: Log>(
     log: &mut L,
 ) -> bool
     ensures { Makes (H.told host.old) (H.told host.new) (L.state log.old) (L.state log.new)
-        (IsStepUnless result) (On (Fits core.old)) (AndRests result (On (Fits core.new))) }
+        (IsStepUnless result) (On (Tracks core.old)) (AndRests result (On (Tracks core.new))) }
 {
     let step = core.next();
     carry_out(alloc, core, host, log, &step);
@@ -80,7 +80,7 @@ pub(crate) fn take_steps<A: Allocator + Copy, H: Host, L: Log>(
     log: &mut L,
 ) -> bool
     ensures { Makes (H.told host.old) (H.told host.new) (L.state log.old) (L.state log.new)
-        (AreAllSteps result) (On (Fits core.old)) (AndRests result (On (Fits core.new))) }
+        (AreAllSteps result) (On (Tracks core.old)) (AndRests result (On (Tracks core.new))) }
 {
     for made in 0..STEP_LIMIT {
         if take_step(alloc, core, host, log) {

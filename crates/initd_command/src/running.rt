@@ -18,11 +18,12 @@ use supervisor::{SimFault, simulate};
 
 /// What is reported of words that are no command line.
 pub const USAGE: &str =
-    "usage: initd run [--inittab P] [--initctl P] [--trace P] [--level L] [--turns N] [--drain] [--pause SEC]
+    "usage: initd run [--inittab P] [--initctl P] [--state P] [--trace P] [--level L] [--turns N] [--drain] [--pause SEC]
        initd simulate [--level L] TABLE SCRIPT
        initd check TRACE
   --inittab  the inittab(5); inittab where it is left out
   --initctl  the file to which telinit appends requests; initctl where it is left out
+  --state    the file that carries init's state where init executes itself anew; initd.state where it is left out
   --trace    the file that the trace of the run is written to; none where it is left out
   --turns    the greatest number of turns, 1 to 1000000000; 1000000 where it is left out
   --drain    end where nothing is left to do and nothing runs

@@ -21,9 +21,6 @@ use std::process::Processes;
 use std::rt::{Clock, Files};
 use supervisor::SimFault;
 
-/// Where the text of init's state would be written. No run writes it yet.
-const STATE: &str = "initd.state";
-
 /// What is reported where a run made all its turns.
 const LIMITED: &str = "initd: the limit of turns is reached\n";
 
@@ -195,7 +192,8 @@ where
 {
     let inittab = said.inittab.as_str();
     let initctl = said.initctl.as_str();
-    let host = OsHost::new(rt.clone()?, alloc, inittab, initctl, STATE)?;
+    let state = said.state.as_str();
+    let host = OsHost::new(rt.clone()?, alloc, inittab, initctl, state)?;
     host.with_pause(said.pause.as_str())
 }
 

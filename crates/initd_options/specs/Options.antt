@@ -1,5 +1,5 @@
--- The command line `initd run [--inittab P] [--initctl P] [--trace P] [--level L] [--turns N] [--drain] [--pause SEC]`,
--- by clap's own words, and what it says.
+-- The command line `initd run [--inittab P] [--initctl P] [--state P] [--trace P] [--level L] [--turns N] [--drain]
+-- [--pause SEC]`, by clap's own words, and what it says.
 use Rattle.std.specs.Prelude.{ℕ, Bool, false, ◌+◌, ◌-◌, ◌*◌, ◌&&◌, if◌then◌else◌, nat_lt, nat_le, List, [], ◌∷◌, codes, Option, Some, None, option_and_then, option_map, string_bytes}
 use Rattle.std.specs.Char.{is_ascii_digit}
 use Rattle.std.specs.Str.{bytes_eq}
@@ -17,6 +17,10 @@ inittab_rule = record (new_rule (codes "inittab")) { long = Some (codes "inittab
 
 unfoldable pub initctl_rule : Rule
 initctl_rule = record (new_rule (codes "initctl")) { long = Some (codes "initctl"); defaults = codes "initctl" ∷ [] }
+
+-- the path of the text of init's state
+unfoldable pub state_rule : Rule
+state_rule = record (new_rule (codes "state")) { long = Some (codes "state"); defaults = codes "initd.state" ∷ [] }
 
 -- the path of the trace, which may be left out
 unfoldable pub trace_path_rule : Rule
@@ -38,9 +42,13 @@ unfoldable pub paths_line : App
 unfolding inittab_rule initctl_rule trace_path_rule
 paths_line = with_rule (with_rule (with_rule (new_app (codes "run")) inittab_rule) initctl_rule) trace_path_rule
 
+unfoldable pub state_line : App
+unfolding paths_line state_rule
+state_line = with_rule paths_line state_rule
+
 unfoldable pub turns_line : App
-unfolding paths_line level_rule turns_rule
-turns_line = with_rule (with_rule paths_line level_rule) turns_rule
+unfolding state_line level_rule turns_rule
+turns_line = with_rule (with_rule state_line level_rule) turns_rule
 
 unfoldable pub run_line : App
 unfolding turns_line drain_rule pause_rule
@@ -79,11 +87,12 @@ is_length (Some hundredths) = nat_lt 0 hundredths && nat_le hundredths 6000
 abbrev pub is_pause : Text → Bool
 is_pause word = is_length (hundredths_read word)
 
--- the paths, that of the trace if one is given, the level to go to if one is, the greatest number of turns, whether the
+-- the paths, that of a trace if one is given, the level to go to if one is, the greatest number of turns, whether the
 -- run ends where it is drained, and the seconds of a pause
 pub record Service : Type 0 where
   pub inittab : Text
   pub initctl : Text
+  pub state : Text
   pub trace : Option Text
   pub level : Option Level
   pub turns : ℕ
@@ -94,6 +103,7 @@ abbrev pub service_of : Serving → Service
 service_of said = record {
   inittab = string_bytes said.inittab;
   initctl = string_bytes said.initctl;
+  state = string_bytes said.state;
   trace = option_map (λ (path : _). string_bytes path) said.trace;
   level = said.level;
   turns = said.turns;
@@ -105,6 +115,7 @@ abbrev pub service_with : List Row → Option Level → ℕ → Service
 service_with rows level turns = record {
   inittab = value_said (codes "inittab") rows;
   initctl = value_said (codes "initctl") rows;
+  state = value_said (codes "state") rows;
   trace = first_of (codes "trace") rows;
   level = level;
   turns = turns;

@@ -1,7 +1,7 @@
 ghost use Rattle.std.specs.Prelude.{◌≡◌, ◌<◌, false, codes, option_map, string_bytes, IfOk, IfSome};
 ghost use Rattle.clap.specs.declared.builder.command.Command.{out-Command};
 ghost use Rattle.clap.specs.Words.{app_of, first_of, found_of, rows_of};
-ghost use Rattle.initd_options.specs.Options.{digit_read, hundredths_read, is_pause, part_read, paths_line, run_line, service_of, service_said, turns_line, turns_read};
+ghost use Rattle.initd_options.specs.Options.{digit_read, hundredths_read, is_pause, part_read, paths_line, run_line, service_of, service_said, state_line, turns_line, turns_read};
 
 use crate::command::read_level_option;
 use clap::{Arg, ArgAction, ArgMatches, Command};
@@ -17,6 +17,8 @@ pub struct Serving {
     pub inittab: String,
     /// The path of the channel of requests (initreq.h).
     pub initctl: String,
+    /// The path of the text of init's state, by which init executes itself anew.
+    pub state: String,
     /// The path of the trace, where one is to be written.
     pub trace: Option<String>,
     /// The runlevel to go to, where one is given.
@@ -35,7 +37,7 @@ const TURNS_LIMIT: u64 = 1_000_000_000;
 /// The longest pause, in hundredths of a second.
 const PAUSE_LIMIT: u64 = 6_000;
 
-/// The command line behind `initd run`, as far as it names paths.
+/// The command line behind `initd run`, as far as it names the paths of the inittab, the channel and the trace.
 fn paths_line<'a>(alloc: Global) -> Result<Command<'a>, AllocError>
     ensures line { IfOk result (λ made. app_of made ≡ paths_line) }
     ensures plain { IfOk result (λ made. (out-Command made).has_globals ≡ false) }
@@ -53,6 +55,17 @@ fn paths_line<'a>(alloc: Global) -> Result<Command<'a>, AllocError>
         .arg(trace)
 }
 
+/// The same, with the path of the state.
+fn state_line<'a>(alloc: Global) -> Result<Command<'a>, AllocError>
+    ensures line { IfOk result (λ made. app_of made ≡ state_line) }
+    ensures plain { IfOk result (λ made. (out-Command made).has_globals ≡ false) }
+{
+    let state = Arg::new(alloc, "state")
+        .long("state")
+        .default_value("initd.state");
+    paths_line(alloc)?.arg(state)
+}
+
 /// The same, with the level and the turns.
 fn turns_line<'a>(alloc: Global) -> Result<Command<'a>, AllocError>
     ensures line { IfOk result (λ made. app_of made ≡ turns_line) }
@@ -62,7 +75,7 @@ fn turns_line<'a>(alloc: Global) -> Result<Command<'a>, AllocError>
     let turns = Arg::new(alloc, "turns")
         .long("turns")
         .default_value("1000000");
-    paths_line(alloc)?.arg(level)?.arg(turns)
+    state_line(alloc)?.arg(level)?.arg(turns)
 }
 
 /// The command line behind `initd run`.
@@ -94,6 +107,7 @@ pub(crate) fn read_run(alloc: Global, matches: &ArgMatches) -> Result<Option<Ser
     Ok(Some(Serving {
         inittab: String::from_str(alloc, value_of(matches, "inittab"))?,
         initctl: String::from_str(alloc, value_of(matches, "initctl"))?,
+        state: String::from_str(alloc, value_of(matches, "state"))?,
         trace: read_path(alloc, matches)?,
         level,
         turns,

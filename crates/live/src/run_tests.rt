@@ -50,6 +50,24 @@ fn write_request(rt: &impl Files, path: &str, code: u8, secs: u16) -> Result<(),
     Ok(())
 }
 
+/// Writes a request of each character, with a grace of five seconds.
+fn write_requests(rt: &impl Files, alloc: Global, path: &str, codes: &[u8]) -> Result<(), Fail> {
+    let mut blocks = Vec::new(alloc);
+    for code in codes {
+        let sign = Sign::read(*code).ok_or("no sign")?;
+        blocks.extend_from_slice(&encode(&Request::Runlvl(sign, 5)))?;
+    }
+    fs::write(rt, path, blocks.as_slice())?;
+    Ok(())
+}
+
+/// The file has the text of init's state, handed over for the first time.
+fn is_handed_over<R: Files + Alloc + Abort>(rt: &R, path: &str) -> Result<(), Fail> {
+    let text = fs::read_to_string(rt, path)?;
+    assert!(rt; text.as_str().starts_with("initd-state 1\ngeneration 1\n"));
+    Ok(())
+}
+
 fn write_all(rt: &impl Files, files: &[(&str, &str)]) -> Result<(), Fail> {
     for (path, text) in files {
         fs::write(rt, *path, *text)?;
@@ -98,11 +116,11 @@ fn has_ends<R: Files + Alloc + Abort>(
 #[test]
 fn children_run_beside_each_other(rt: HostRuntime) -> Result<(), Fail> {
     write_all(&rt, PAIR)?;
-    write_request(&rt, "pair.ctl", b'q', 5)?;
+    write_requests(&rt, rt.alloc(), "pair.ctl", b"qu")?;
     is_done(
         &rt,
         rt.alloc(),
-        "run --inittab pair.tab --initctl pair.ctl --trace pair.trace --level 3 --turns 60 --drain --pause 0.5",
+        "run --inittab pair.tab --initctl pair.ctl --state pair.state --trace pair.trace --level 3 --turns 60 --drain --pause 0.5",
         "",
     )?;
     is_done(&rt, rt.alloc(), "check pair.trace", "lawful\n")?;
@@ -110,9 +128,17 @@ fn children_run_beside_each_other(rt: HostRuntime) -> Result<(), Fail> {
     assert!(rt;
         is_in_order(
             trace.as_str(),
-            &["use 2", "got reload", "use 2", "settle 3"]
+            &[
+                "use 2",
+                "got reload",
+                "got reexec",
+                "handed whole",
+                "use 2",
+                "settle 3"
+            ]
         )
     );
+    is_handed_over(&rt, "pair.state")?;
     has_ends(&rt, rt.alloc(), trace.as_str(), "a", "a.up")?;
     has_ends(&rt, rt.alloc(), trace.as_str(), "b", "b.up")
 }

@@ -1,1 +1,2 @@
 mod Handed
+pub mod Lasting

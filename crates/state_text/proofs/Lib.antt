@@ -6,6 +6,6 @@ mod LineForms
 mod Whole
 mod Bodies
 mod Taken
-mod Prefixes
+pub mod Prefixes
 mod Written
 pub mod Ranged

@@ -3,8 +3,9 @@
 //!
 //! `start`, `look` and `signal` have a reply: an answer, or `later`. `late` has the id before the answer, or nothing for
 //! the end of a round; `lates` has a number of answers that nobody asked for. `clock` has a reading, `table` the lines of
-//! an inittab parted by `|`, `bytes` the requests of a piece, and `piece` two places before them, between which their
-//! bytes are given. A reading, a piece and a table can be `fails`.
+//! an inittab parted by `|`, `carry` those of what comes back of a state text, `bytes` the requests of a piece, and
+//! `piece` two places before them, between which their bytes are given. A reading, a piece, a table and what comes back
+//! can be `fails`.
 
 use child_host::{Bytes, HostFault, MemoryHost, Reply};
 use init_words::{Answer, ChildNo, Id, Status};
@@ -155,6 +156,21 @@ fn give_table<A: Allocator + Copy>(
     Ok(())
 }
 
+fn give_carry<A: Allocator + Copy>(
+    own: Global,
+    alloc: A,
+    host: &mut MemoryHost<A>,
+    text: &str,
+) -> Result<(), Fail> {
+    if text == "fails" {
+        host.give_carry(Err(HostFault::Device))?;
+        return Ok(());
+    }
+    let lines = lines_of(own, text)?;
+    host.give_carry(Ok(Bytes::copy_of(alloc, lines.as_slice())?))?;
+    Ok(())
+}
+
 fn give_lates<A: Allocator + Copy>(host: &mut MemoryHost<A>, number: &str) -> Result<(), Fail> {
     let id = id_of("none")?;
     for _ in 0..number.parse::<u32>()? {
@@ -180,6 +196,7 @@ fn give<A: Allocator + Copy>(
         b"bytes" => give_blocks(own, alloc, host, item)?,
         b"piece" => give_part(own, alloc, host, item)?,
         b"table" => give_table(own, alloc, host, item)?,
+        b"carry" => give_carry(own, alloc, host, item)?,
         _ => return Err(Fail::from("no queue")),
     }
     Ok(())

@@ -6,6 +6,8 @@ mod gifts;
 #[cfg(test)]
 mod log_tests;
 #[cfg(test)]
+mod reexec_tests;
+#[cfg(test)]
 mod request_tests;
 #[cfg(test)]
 mod room_tests;

@@ -137,3 +137,81 @@ fn a_table_without_room_is_not_read(rt: HostRuntime) -> Result<(), Fail> {
     assert!(rt; unread > 0 && refused > 3 && adopted > 0);
     Ok(())
 }
+
+/// A turn that executes init anew, and one whose re-execution is refused.
+const HANDED: &[u8] = b"clock 0\ngot reexec\nnudge\nhanded whole\n";
+
+const NOT_HANDED: &[u8] = b"clock 0\ngot reexec\nnudge\nhanded none\n";
+
+/// A state text was carried.
+fn was_carried(host: &MemoryHost) -> bool {
+    match host.calls() {
+        Some(calls) => calls.iter().any(|call| matches!(call, Call::Carry(_, _))),
+        None => false,
+    }
+}
+
+/// What became of a re-execution where there is little room.
+#[derive(Drop, PartialEq, Eq)]
+enum HandOver {
+    /// There was no room for the state text.
+    Unmade,
+    /// It was carried, and there was no room to read it or to take it over.
+    Refused,
+    Taken,
+}
+
+fn handed(rt: &impl Abort, host: &MemoryHost, text: &[u8]) -> HandOver {
+    if text == HANDED {
+        return HandOver::Taken;
+    }
+    assert!(rt; text == NOT_HANDED);
+    if was_carried(host) {
+        return HandOver::Refused;
+    }
+    HandOver::Unmade
+}
+
+/// With room again the core that went on is executed anew, with its table and its record.
+fn goes_on<A: Allocator + Copy>(
+    rt: &impl Abort,
+    own: Global,
+    alloc: A,
+    core: &mut Core<A>,
+    host: &mut MemoryHost,
+) -> Result<(), Fail> {
+    let text = turn_text(own, alloc, core, host)?;
+    assert!(rt; text.as_slice() == HANDED && (core.table().len(), core.slots().len()) == (1, 1));
+    Ok(())
+}
+
+/// Executes init anew with so much room left.
+fn reexec_in(rt: &impl Abort, own: Global, room: usize) -> Result<HandOver, Fail> {
+    let heap = LocalHeap::new(own, 32_768)?;
+    let mut core = core_of(own, &heap, "a:S:off:x")?;
+    let mut host = MemoryHost::new(own);
+    turn_text(own, &heap, &mut core, &mut host)?;
+    give_all(own, own, &mut host, "bytes u / bytes / bytes u")?;
+    let fillers = fill(own, &heap, room)?;
+    let text = turn_text(own, &heap, &mut core, &mut host)?;
+    drop(fillers);
+    let outcome = handed(rt, &host, text.as_slice());
+    goes_on(rt, own, &heap, &mut core, &mut host)?;
+    Ok(outcome)
+}
+
+#[test]
+fn init_without_room_is_not_executed_anew(rt: HostRuntime) -> Result<(), Fail> {
+    let mut unmade = 0u32;
+    let mut refused = 0u32;
+    let mut taken = 0u32;
+    for step in 0..200usize {
+        match reexec_in(&rt, rt.alloc(), 32 * step)? {
+            HandOver::Unmade => unmade = unmade.saturating_add(1),
+            HandOver::Refused => refused = refused.saturating_add(1),
+            HandOver::Taken => taken = taken.saturating_add(1),
+        }
+    }
+    assert!(rt; unmade > 0 && refused > 3 && taken > 0);
+    Ok(())
+}

@@ -126,15 +126,6 @@ const ROWS: &[Row] = &[
                 clock 114 / nudge / ask r look / still r / told r / \
                 clock 115 / nudge / ask r kill / hit r / told r / ask r look / death 10 / reaped r 10 killed / told r / settle 1",
     },
-    // Init does not execute itself anew.
-    Row {
-        inittab: "# none",
-        gifts: "bytes q u",
-        limit: (1, true),
-        ended: (1, true),
-        faults: 0,
-        trace: "clock 0 / got reload / got reexec / nudge / enter sysinit 5 / handed none / use 0 / enter S 5 / settle S",
-    },
 ];
 
 #[test]
@@ -296,8 +287,14 @@ const CALLS: &[(&str, &str, u64, &str)] = &[
     ),
     // Of a `+` the child sees nothing.
     ("r:S:respawn:+serv -x", "start later", 1, "CBLNNserv -xSP"),
-    // A table that is not read, a letter, news of the power, and an execution that is refused are announced.
-    ("# none", "bytes q A u / table fails", 1, "CBBBBBBLNNTNNNNP"),
+    // A table that is not read and a letter are announced, and a re-execution that is refused; one that isn't is not.
+    ("# none", "bytes q A u / table fails", 1, "CBBBBBBLNHTNNNNP"),
+    (
+        "# none",
+        "bytes q A u / carry fails / table fails",
+        1,
+        "CBBBBBBLNHNTNNNNP",
+    ),
     // Ten starts, and the hold.
     (
         "r:S:respawn:x",

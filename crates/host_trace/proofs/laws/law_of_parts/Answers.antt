@@ -1,5 +1,5 @@
 use Rattle.host_trace.proofs.Point.{point_after-append, has_trace-append}
-use Rattle.host_trace.proofs.Leading.{calls_allowed}
+use Rattle.host_trace.proofs.Leading.{calls_allowed, carried_parts}
 use Rattle.host_trace.proofs.laws.law_of_parts.Goals as goal
 
 pub returns-clause-point : goal.returns-clause-point
@@ -10,3 +10,6 @@ returns-clause-in_place c goal later earlier p above below = has_trace-append go
 
 pub returns-clause-possible : goal.returns-clause-possible
 returns-clause-possible c goal calls p h = calls_allowed goal calls p h
+
+pub returns-clause-carried : goal.returns-clause-carried
+returns-clause-carried c later earlier carried = carried_parts later earlier carried

@@ -1,6 +1,5 @@
 use Rattle.std.proofs.Common.{rules, ◌≡◌, sym, subst, None}
-use Rattle.core_state.specs.Fit.{Fits}
-use Rattle.host_trace.specs.Leads.{Hears}
+use Rattle.host_trace.specs.Leads.{Hears, Tracks}
 use Rattle.host_trace.specs.Point.{come}
 use Rattle.host_trace.proofs.Leading.{Hears-none}
 use Rattle.host_turns.proofs.hearing.hear_come.Goals as goal
@@ -9,4 +8,4 @@ pub returns-in_default : goal.returns-in_default
 returns-in_default g c =
     let is : c.args.late.now ≡ None = search rules in
     let log = g.L.Log.state c.args.log.now in
-    subst (λ late. Hears (Fits c.args.core.now) (Fits c.args.core.now) log log (come late)) (sym is) (Hears-none (Fits c.args.core.now) log)
+    subst (λ late. Hears (Tracks c.args.core.now) (Tracks c.args.core.now) log log (come late)) (sym is) (Hears-none (Tracks c.args.core.now) log)

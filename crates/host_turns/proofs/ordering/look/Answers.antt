@@ -1,13 +1,12 @@
 use Rattle.std.proofs.Common.{refl}
 use Rattle.init_words.specs.declared.orders.Ask.TheVariants as ask
 use Rattle.init_trace.specs.declared.steps.Step.TheVariants as step
-use Rattle.core_state.specs.Fit.{Fits}
 use Rattle.child_host.specs.declared.calls.Call.TheVariants.{Look}
-use Rattle.host_trace.specs.Leads.{Gave, On}
+use Rattle.host_trace.specs.Leads.{Gave, On, Tracks}
 use Rattle.host_trace.specs.Point.{ordered}
 use Rattle.host_trace.proofs.Calling.{Hears-order}
 use Rattle.host_trace.proofs.Leading.{Leads-heard}
-use Rattle.host_turns.specs.Parts.{AreSteps}
+use Rattle.host_turns.specs.Parts.{IsStep}
 use Rattle.host_turns.proofs.Parts.{Makes-one}
 use Rattle.host_turns.proofs.ordering.look.Goals as goal
 
@@ -18,8 +17,8 @@ returns g c =
     let reply = c.look-reply.result in
     let old = g.L.Log.state c.args.log.now in
     let new = g.L.Log.state c.hear_reply.new.log in
-    Makes-one (g.H.Host.told c.args.host.now) (g.H.Host.told c.look-reply.new.self) old new (Look id reply) (AreSteps 1) (On (Gave (Fits core) (step.Order id ask.Look))) (On (Fits c.hear_reply.new.core))
-    c.look-reply.ensures.adds (refl, refl)
-    (Leads-heard (Gave (Fits core) (step.Order id ask.Look)) (Fits c.hear_reply.new.core) old new (Look id reply) (ordered id ask.Look reply)
+    Makes-one (g.H.Host.told c.args.host.now) (g.H.Host.told c.look-reply.new.self) old new (Look id reply) IsStep (On (Gave (Tracks core) (step.Order id ask.Look))) (On (Tracks c.hear_reply.new.core))
+    c.look-reply.ensures.adds refl
+    (Leads-heard (Gave (Tracks core) (step.Order id ask.Look)) (Tracks c.hear_reply.new.core) old new (Look id reply) (ordered id ask.Look reply)
     (Hears-order core c.hear_reply.new.core old (g.L.Log.state c.note.new.log) new id ask.Look reply c.note.ensures c.hear_reply.ensures)
     (λ p. refl) (λ goal p sound gave. refl))

@@ -2,6 +2,7 @@ use Rattle.std.proofs.Common.{rules, ◌≡◌, ◌∷◌, subst, is_err, false,
 use Rattle.inittab_text.specs.Reading.{table_of_text}
 use Rattle.init_trace.specs.declared.happenings.Happening.TheVariants.{NewTable}
 use Rattle.core_state.specs.Fit.{Fits, OnEachTrace}
+use Rattle.host_turns.proofs.Lasting.{adopt_lasts}
 use Rattle.host_turns.proofs.rereading.use_text.Goals as goal
 
 was_ok : {E : Type 0} (result : Result (Unit {0}) E) (P : Type 0) → is_err result ≡ false → OnOk result P → P
@@ -13,3 +14,8 @@ returns-clause-fits g c taken =
     let works : is_err c.adopt.result ≡ false = search rules in
     let read : c.in-Ok.table ≡ table_of_text c.args.text.now = search rules in
     subst (λ table. OnEachTrace c.args.core.now (λ goal past. Fits c.adopt.new.self goal (NewTable table ∷ past))) read (was_ok c.adopt.result _ works c.adopt.ensures.fits)
+
+pub returns-clause-lasts : goal.returns-clause-lasts
+returns-clause-lasts g c taken =
+    let works : is_err c.adopt.result ≡ false = search rules in
+    adopt_lasts c.args.core.now c.adopt.new.self c.in-Ok.table (was_ok c.adopt.result _ works c.adopt.ensures.adopted) (was_ok c.adopt.result _ works c.adopt.ensures.kept)
