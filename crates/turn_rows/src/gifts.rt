@@ -7,60 +7,89 @@
 //! `piece` two places before them, between which their bytes are given. A reading, a piece, a table and what comes back
 //! can be `fails`.
 
+use crate::runs::lines_of;
 use child_host::{Bytes, HostFault, MemoryHost, Reply};
-use init_words::{Answer, ChildNo, Id, Status};
+use init_words::{Answer, ChildNo, Id, Memory, Status};
 use initctl_frame::{Request, Sign, encode};
 use std::alloc::{Allocator, Global};
 use std::test::Fail;
-
-fn id_of(word: &str) -> Result<Id, Fail> {
-    Ok(Id::read(word.as_bytes()).ok_or("no id")?)
-}
 
 /// The first word of a text, and what stands behind it.
 fn cut(text: &str) -> (&str, &str) {
     text.split_once(' ').unwrap_or((text, ""))
 }
 
-fn answer_of(text: &str) -> Result<Answer, Fail> {
+#[derive(Clone, Copy)]
+enum Word {
+    Birth,
+    NoBirth,
+    Exit,
+    Killed,
+    Still,
+    NoLook,
+    Hit,
+    Miss,
+}
+
+const WORDS: &[(&str, Word)] = &[
+    ("birth", Word::Birth),
+    ("nobirth", Word::NoBirth),
+    ("exit", Word::Exit),
+    ("killed", Word::Killed),
+    ("still", Word::Still),
+    ("nolook", Word::NoLook),
+    ("hit", Word::Hit),
+    ("miss", Word::Miss),
+];
+
+fn word_of(text: &str) -> Option<Word> {
+    for (name, word) in WORDS {
+        if *name == text {
+            return Some(*word);
+        }
+    }
+    None
+}
+
+fn number_of(text: &str) -> Option<u32> {
+    text.parse::<u32>().ok()
+}
+
+fn exit_of(text: &str) -> Option<Status> {
+    Some(Status::Exit(text.parse::<u8>().ok()?))
+}
+
+fn answer_of(text: &str) -> Option<Answer> {
     let (word, number) = cut(text);
-    Ok(match word.as_bytes() {
-        b"birth" => Answer::Born(ChildNo(number.parse::<u32>()?)),
-        b"nobirth" => Answer::NotBorn,
-        b"exit" => Answer::Ended(Status::Exit(number.parse::<u8>()?)),
-        b"killed" => Answer::Ended(Status::Killed),
-        b"still" => Answer::Alive,
-        b"nolook" => Answer::NoLook,
-        b"hit" => Answer::Hit,
-        b"miss" => Answer::Miss,
-        _ => return Err(Fail::from("no answer")),
+    Some(match word_of(word)? {
+        Word::Birth => Answer::Born(ChildNo(number_of(number)?)),
+        Word::NoBirth => Answer::NotBorn,
+        Word::Exit => Answer::Ended(exit_of(number)?),
+        Word::Killed => Answer::Ended(Status::Killed),
+        Word::Still => Answer::Alive,
+        Word::NoLook => Answer::NoLook,
+        Word::Hit => Answer::Hit,
+        Word::Miss => Answer::Miss,
     })
 }
 
-fn reply_of(text: &str) -> Result<Reply, Fail> {
+fn reply_of(text: &str) -> Option<Reply> {
     if text == "later" {
-        return Ok(Reply::Later);
+        return Some(Reply::Later);
     }
-    Ok(Reply::Now(answer_of(text)?))
+    Some(Reply::Now(answer_of(text)?))
 }
 
-fn late_of(text: &str) -> Result<Option<(Id, Answer)>, Fail> {
+fn late_of(text: &str) -> Option<Option<(Id, Answer)>> {
     if text.is_empty() {
-        return Ok(None);
+        return Some(None);
     }
     let (id, answer) = cut(text);
-    Ok(Some((id_of(id)?, answer_of(answer)?)))
-}
-
-fn reading_of(text: &str) -> Result<Result<u64, HostFault>, Fail> {
-    if text == "fails" {
-        return Ok(Err(HostFault::Device));
-    }
-    Ok(Ok(text.parse::<u64>()?))
+    Some(Some((Id::read(id.as_bytes())?, answer_of(answer)?)))
 }
 
 /// Adds the block of a request by a character of telinit(8); of `bad` a block of zeros.
-pub(crate) fn add_block(bytes: &mut Vec<u8>, word: &str) -> Result<(), Fail> {
+fn add_block(bytes: &mut Vec<u8>, word: &str) -> Result<(), Fail> {
     let [code] = word.as_bytes() else {
         bytes.extend_from_slice(&[0; 384])?;
         return Ok(());
@@ -71,7 +100,7 @@ pub(crate) fn add_block(bytes: &mut Vec<u8>, word: &str) -> Result<(), Fail> {
 }
 
 /// The bytes of requests.
-pub(crate) fn blocks_of(alloc: Global, words: &str) -> Result<Vec<u8>, Fail> {
+fn blocks_of(alloc: Global, words: &str) -> Result<Vec<u8>, Fail> {
     let mut bytes = Vec::new(alloc);
     for word in words.split_ascii_whitespace() {
         add_block(&mut bytes, word)?;
@@ -80,7 +109,7 @@ pub(crate) fn blocks_of(alloc: Global, words: &str) -> Result<Vec<u8>, Fail> {
 }
 
 /// A piece that holds these bytes.
-pub(crate) fn give_piece<A: Allocator + Copy>(
+fn give_piece<A: Allocator + Copy>(
     alloc: A,
     host: &mut MemoryHost<A>,
     bytes: &[u8],
@@ -95,12 +124,30 @@ fn give_blocks<A: Allocator + Copy>(
     host: &mut MemoryHost<A>,
     words: &str,
 ) -> Result<(), Fail> {
-    if words == "fails" {
-        host.give_bytes(Err(HostFault::Device))?;
-        return Ok(());
-    }
     let bytes = blocks_of(own, words)?;
     give_piece(alloc, host, bytes.as_slice())
+}
+
+/// A text that is two places and words.
+fn places_of(text: &str) -> Option<(usize, usize, &str)> {
+    let (from, rest) = cut(text);
+    let (to, words) = cut(rest);
+    Some((
+        from.parse::<usize>().ok()?,
+        to.parse::<usize>().ok()?,
+        words,
+    ))
+}
+
+fn give_range<A: Allocator + Copy>(
+    alloc: A,
+    host: &mut MemoryHost<A>,
+    bytes: &[u8],
+    from: usize,
+    to: usize,
+) -> Result<(), Fail> {
+    let part = bytes.get(from..to).ok_or("no part")?;
+    give_piece(alloc, host, part)
 }
 
 fn give_part<A: Allocator + Copy>(
@@ -109,26 +156,13 @@ fn give_part<A: Allocator + Copy>(
     host: &mut MemoryHost<A>,
     text: &str,
 ) -> Result<(), Fail> {
-    let (from, rest) = cut(text);
-    let (to, words) = cut(rest);
+    let (from, to, words) = places_of(text).ok_or("no places")?;
     let bytes = blocks_of(own, words)?;
-    let part = bytes
-        .get(from.parse::<usize>()?..to.parse::<usize>()?)
-        .ok_or("no part")?;
-    give_piece(alloc, host, part)
+    give_range(alloc, host, bytes.as_slice(), from, to)
 }
 
 /// One byte more than an inittab may have.
 const TOO_LONG: &[u8] = &[b'#'; 65_537];
-
-fn lines_of(alloc: Global, text: &str) -> Result<Vec<u8>, Fail> {
-    let mut lines = Vec::new(alloc);
-    for line in text.split('|') {
-        lines.extend_from_slice(line.as_bytes())?;
-        lines.push(b'\n')?;
-    }
-    Ok(lines)
-}
 
 fn give_text<A: Allocator + Copy>(
     alloc: A,
@@ -145,14 +179,19 @@ fn give_table<A: Allocator + Copy>(
     host: &mut MemoryHost<A>,
     text: &str,
 ) -> Result<(), Fail> {
-    match text.as_bytes() {
-        b"fails" => host.give_table(Err(HostFault::Device))?,
-        b"long" => give_text(alloc, host, TOO_LONG)?,
-        _ => {
-            let lines = lines_of(own, text)?;
-            give_text(alloc, host, lines.as_slice())?;
-        }
+    if text == "long" {
+        return give_text(alloc, host, TOO_LONG);
     }
+    let lines = lines_of(own, text, "|")?;
+    give_text(alloc, host, lines.as_slice())
+}
+
+fn give_back<A: Allocator + Copy>(
+    alloc: A,
+    host: &mut MemoryHost<A>,
+    text: &[u8],
+) -> Result<(), Fail> {
+    host.give_carry(Ok(Bytes::copy_of(alloc, text)?))?;
     Ok(())
 }
 
@@ -162,20 +201,89 @@ fn give_carry<A: Allocator + Copy>(
     host: &mut MemoryHost<A>,
     text: &str,
 ) -> Result<(), Fail> {
-    if text == "fails" {
-        host.give_carry(Err(HostFault::Device))?;
-        return Ok(());
+    let lines = lines_of(own, text, "|")?;
+    give_back(alloc, host, lines.as_slice())
+}
+
+fn give_lates<A: Allocator + Copy>(
+    host: &mut MemoryHost<A>,
+    id: Id,
+    number: u32,
+) -> Result<(), Memory> {
+    for _ in 0..number {
+        host.give_late(Some((id, Answer::Alive)))?;
     }
-    let lines = lines_of(own, text)?;
-    host.give_carry(Ok(Bytes::copy_of(alloc, lines.as_slice())?))?;
     Ok(())
 }
 
-fn give_lates<A: Allocator + Copy>(host: &mut MemoryHost<A>, number: &str) -> Result<(), Fail> {
-    let id = id_of("none")?;
-    for _ in 0..number.parse::<u32>()? {
-        host.give_late(Some((id, Answer::Alive)))?;
+#[derive(Clone, Copy)]
+enum Queue {
+    Start,
+    Look,
+    Signal,
+    Late,
+    Lates,
+    Clock,
+    Bytes,
+    Piece,
+    Table,
+    Carry,
+}
+
+const QUEUES: &[(&str, Queue)] = &[
+    ("start", Queue::Start),
+    ("look", Queue::Look),
+    ("signal", Queue::Signal),
+    ("late", Queue::Late),
+    ("lates", Queue::Lates),
+    ("clock", Queue::Clock),
+    ("bytes", Queue::Bytes),
+    ("piece", Queue::Piece),
+    ("table", Queue::Table),
+    ("carry", Queue::Carry),
+];
+
+fn queue_of(text: &str) -> Option<Queue> {
+    for (name, queue) in QUEUES {
+        if *name == text {
+            return Some(*queue);
+        }
     }
+    None
+}
+
+/// Gives an item that is not bytes, if it can be read.
+fn give_item<A: Allocator + Copy>(
+    host: &mut MemoryHost<A>,
+    queue: Queue,
+    item: &str,
+) -> Option<Result<(), Memory>> {
+    Some(match queue {
+        Queue::Start => host.give_start(reply_of(item)?),
+        Queue::Look => host.give_look(reply_of(item)?),
+        Queue::Signal => host.give_signal(reply_of(item)?),
+        Queue::Late => host.give_late(late_of(item)?),
+        Queue::Lates => give_lates(host, Id::read(b"none")?, number_of(item)?),
+        Queue::Clock => host.give_clock(Ok(item.parse::<u64>().ok()?)),
+        Queue::Bytes | Queue::Piece | Queue::Table | Queue::Carry => return None,
+    })
+}
+
+fn give_fault<A: Allocator + Copy>(host: &mut MemoryHost<A>, queue: Queue) -> Result<(), Memory> {
+    match queue {
+        Queue::Bytes => host.give_bytes(Err(HostFault::Device)),
+        Queue::Table => host.give_table(Err(HostFault::Device)),
+        Queue::Carry => host.give_carry(Err(HostFault::Device)),
+        _ => host.give_clock(Err(HostFault::Device)),
+    }
+}
+
+fn give_read<A: Allocator + Copy>(
+    host: &mut MemoryHost<A>,
+    queue: Queue,
+    item: &str,
+) -> Result<(), Fail> {
+    give_item(host, queue, item).ok_or("no item")??;
     Ok(())
 }
 
@@ -185,21 +293,18 @@ fn give<A: Allocator + Copy>(
     host: &mut MemoryHost<A>,
     gift: &str,
 ) -> Result<(), Fail> {
-    let (queue, item) = cut(gift);
-    match queue.as_bytes() {
-        b"start" => host.give_start(reply_of(item)?)?,
-        b"look" => host.give_look(reply_of(item)?)?,
-        b"signal" => host.give_signal(reply_of(item)?)?,
-        b"late" => host.give_late(late_of(item)?)?,
-        b"lates" => give_lates(host, item)?,
-        b"clock" => host.give_clock(reading_of(item)?)?,
-        b"bytes" => give_blocks(own, alloc, host, item)?,
-        b"piece" => give_part(own, alloc, host, item)?,
-        b"table" => give_table(own, alloc, host, item)?,
-        b"carry" => give_carry(own, alloc, host, item)?,
-        _ => return Err(Fail::from("no queue")),
+    let (word, item) = cut(gift);
+    let queue = queue_of(word).ok_or("no queue")?;
+    if item == "fails" {
+        return Ok(give_fault(host, queue)?);
     }
-    Ok(())
+    match queue {
+        Queue::Bytes => give_blocks(own, alloc, host, item),
+        Queue::Piece => give_part(own, alloc, host, item),
+        Queue::Table => give_table(own, alloc, host, item),
+        Queue::Carry => give_carry(own, alloc, host, item),
+        _ => give_read(host, queue, item),
+    }
 }
 
 /// Gives a host all items of a text.

@@ -5,6 +5,7 @@ use crate::runs::core_of;
 use child_host::{Host, MemoryHost};
 use host_turns::{Served, serve};
 use init_trace::print;
+use level_core::Core;
 use linked_list_allocator::LocalHeap;
 use run_log::{ListLog, Log, StreamLog};
 use slow_writer::Slow;
@@ -24,20 +25,37 @@ clock 101\ngot level 1 5\nnudge\nuse 2\nid:3:initdefault:\nr:3:respawn:serv\nent
 ask r look\nstill r\ntold r\nclock 106\nnudge\nask r kill\nhit r\ntold r\nask r look\nnolook r\ntold r\n\
 clock 107\nnudge\nask r look\ndeath 10\nreaped r 10 killed\ntold r\nsettle 1\n";
 
-/// Makes the run, of four turns, with the log.
-fn served<L: Log>(alloc: Global, log: &mut L) -> Result<Served, Fail> {
-    let mut host = MemoryHost::new(alloc);
-    give_all(alloc, alloc, &mut host, GIFTS)?;
-    let served = serve_over(alloc, &mut host, log)?;
-    if host.faults() != 1 || host.calls().map_or(0, |calls| calls.len()) != 31 {
+/// How many calls are told.
+fn made(host: &MemoryHost) -> usize {
+    match host.calls() {
+        Some(calls) => calls.len(),
+        None => 0,
+    }
+}
+
+fn served_by<L: Log>(
+    alloc: Global,
+    core: &mut Core,
+    host: &mut MemoryHost,
+    log: &mut L,
+) -> Result<Served, Fail> {
+    let served = serve(alloc, core, host, log, 9, true);
+    if host.faults() != 1 || made(host) != 31 {
         return Err(Fail::from("other calls"));
     }
     Ok(served)
 }
 
-fn serve_over<L: Log>(alloc: Global, host: &mut MemoryHost, log: &mut L) -> Result<Served, Fail> {
+fn served_over<L: Log>(alloc: Global, host: &mut MemoryHost, log: &mut L) -> Result<Served, Fail> {
+    give_all(alloc, alloc, host, GIFTS)?;
     let mut core = core_of(alloc, alloc, INITTAB)?;
-    Ok(serve(alloc, &mut core, host, log, 9, true))
+    served_by(alloc, &mut core, host, log)
+}
+
+/// Makes the run, of four turns, with the log.
+fn served<L: Log>(alloc: Global, log: &mut L) -> Result<Served, Fail> {
+    let mut host = MemoryHost::new(alloc);
+    served_over(alloc, &mut host, log)
 }
 
 /// How a run ends that the log took or not.
@@ -49,15 +67,25 @@ fn ended(logged: bool) -> Served {
     }
 }
 
-fn is_streamed(rt: &impl Abort, alloc: Global, room: usize, fails: bool) -> Result<(), Fail> {
-    let mut log = StreamLog::new(alloc, Slow::new(alloc, room, fails, false));
-    let served = served(alloc, &mut log)?;
-    assert!(rt; served == ended(room >= TRACE.len()), "at {room}");
+/// The writer took what it has room for.
+fn is_taken(
+    rt: &impl Abort,
+    alloc: Global,
+    log: &mut StreamLog<Slow>,
+    room: usize,
+) -> Result<(), Fail> {
+    let served = served(alloc, log)?;
     assert!(rt;
-        log.writer().taken.as_slice() == &TRACE[..room.min(TRACE.len())],
+        served == ended(room >= TRACE.len())
+            && log.writer().taken.as_slice() == &TRACE[..room.min(TRACE.len())],
         "at {room}"
     );
     Ok(())
+}
+
+fn is_streamed(rt: &impl Abort, alloc: Global, room: usize, fails: bool) -> Result<(), Fail> {
+    let mut log = StreamLog::new(alloc, Slow::new(alloc, room, fails, false));
+    is_taken(rt, alloc, &mut log, room)
 }
 
 #[test]
@@ -68,15 +96,40 @@ fn a_writer_that_is_full_ends_the_log(rt: HostRuntime) -> Result<(), Fail> {
     Ok(())
 }
 
+/// The text is a prefix of the trace, and the run ended so.
+fn is_prefix(rt: &impl Abort, text: &[u8], served: Served, room: usize) -> bool {
+    assert!(rt;
+        TRACE.starts_with(text) && served == ended(text.len() == TRACE.len()),
+        "at {room}"
+    );
+    served.logged
+}
+
+fn is_listed_in<'a>(
+    rt: &impl Abort,
+    alloc: Global,
+    log: &mut ListLog<&'a LocalHeap>,
+    room: usize,
+) -> Result<bool, Fail> {
+    let served = served(alloc, log)?;
+    let text = print(alloc, log.list())?;
+    Ok(is_prefix(rt, text.as_slice(), served, room))
+}
+
+fn is_listed_over(
+    rt: &impl Abort,
+    alloc: Global,
+    heap: &LocalHeap,
+    room: usize,
+) -> Result<bool, Fail> {
+    let mut log = ListLog::new(heap);
+    is_listed_in(rt, alloc, &mut log, room)
+}
+
 /// The list of a log on a heap of so many bytes is a prefix of the trace; whether it is all of it.
 fn is_listed(rt: &impl Abort, alloc: Global, room: usize) -> Result<bool, Fail> {
     let heap = LocalHeap::new(alloc, room)?;
-    let mut log = ListLog::new(&heap);
-    let served = served(alloc, &mut log)?;
-    let text = print(alloc, log.list())?;
-    assert!(rt; TRACE.starts_with(text.as_slice()), "at {room}");
-    assert!(rt; served == ended(text.len() == TRACE.len()), "at {room}");
-    Ok(served.logged)
+    is_listed_over(rt, alloc, &heap, room)
 }
 
 #[test]

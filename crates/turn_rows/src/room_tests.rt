@@ -1,7 +1,7 @@
 //! Want of memory within a turn.
 
 use crate::gifts::give_all;
-use crate::runs::{Row, core_of, is_run_over};
+use crate::runs::{Row, core_of, passes_over};
 use child_host::{Call, MemoryHost};
 use host_turns::serve;
 use init_trace::print;
@@ -45,16 +45,37 @@ const UNTOLD: &Row = &Row {
             clock 0 / nudge / ask r look / death 10 / reaped r 10 killed / told r / settle 1",
 };
 
+fn is_run_untold<'a>(
+    rt: &impl Abort,
+    own: Global,
+    heap: &'a LocalHeap,
+    host: &mut MemoryHost<&'a LocalHeap>,
+) -> Result<(), Fail> {
+    let _fillers = fill(own, heap, 0)?;
+    passes_over(rt, own, host, UNTOLD.inittab, UNTOLD)
+}
+
+fn tells_nothing<'a>(
+    rt: &impl Abort,
+    own: Global,
+    heap: &'a LocalHeap,
+    host: &mut MemoryHost<&'a LocalHeap>,
+) -> Result<(), Fail> {
+    give_all(own, heap, host, UNTOLD.gifts)?;
+    is_run_untold(rt, own, heap, host)?;
+    assert!(rt; host.calls().is_none());
+    Ok(())
+}
+
+fn tells_nothing_in(rt: &impl Abort, own: Global, heap: &LocalHeap) -> Result<(), Fail> {
+    let mut host = MemoryHost::new(heap);
+    tells_nothing(rt, own, heap, &mut host)
+}
+
 #[test]
 fn a_host_without_room_to_tell_makes_no_difference(rt: HostRuntime) -> Result<(), Fail> {
     let heap = LocalHeap::new(rt.alloc(), 16_384)?;
-    let mut host = MemoryHost::new(&heap);
-    give_all(rt.alloc(), &heap, &mut host, UNTOLD.gifts)?;
-    let fillers = fill(rt.alloc(), &heap, 0)?;
-    is_run_over(&rt, rt.alloc(), &mut host, UNTOLD)?;
-    drop(fillers);
-    assert!(rt; host.calls().is_none());
-    Ok(())
+    tells_nothing_in(&rt, rt.alloc(), &heap)
 }
 
 /// The inittab that is read anew is longer than the first.
@@ -67,12 +88,15 @@ const UNREAD: &[u8] = b"clock 0\ngot reload\nnudge\nnotread\n";
 
 /// The inittab was read.
 fn was_read(host: &MemoryHost) -> bool {
-    match host.calls() {
-        Some(calls) => calls
-            .iter()
-            .any(|call| matches!(call, Call::ReadTable(Ok(_)))),
-        None => false,
+    let Some(calls) = host.calls() else {
+        return false;
+    };
+    for call in calls {
+        if matches!(call, Call::ReadTable(Ok(_))) {
+            return true;
+        }
     }
+    false
 }
 
 /// Makes a turn, and gives the text of its trace.
@@ -109,17 +133,63 @@ fn outcome(rt: &impl Abort, host: &MemoryHost, text: &[u8], entries: usize) -> R
     Reading::Unread
 }
 
+/// Makes a turn with so much room left.
+fn text_in<'a>(
+    own: Global,
+    heap: &'a LocalHeap,
+    core: &mut Core<&'a LocalHeap>,
+    host: &mut MemoryHost,
+    room: usize,
+) -> Result<Vec<u8>, Fail> {
+    let _fillers = fill(own, heap, room)?;
+    turn_text(own, heap, core, host)
+}
+
+fn reading_of<'a>(
+    rt: &impl Abort,
+    own: Global,
+    heap: &'a LocalHeap,
+    core: &mut Core<&'a LocalHeap>,
+    host: &mut MemoryHost,
+    room: usize,
+) -> Result<Reading, Fail> {
+    let text = text_in(own, heap, core, host, room)?;
+    Ok(outcome(rt, host, text.as_slice(), core.table().len()))
+}
+
 /// Reads inittab again with so much room left.
+fn read_again<'a>(
+    rt: &impl Abort,
+    own: Global,
+    heap: &'a LocalHeap,
+    core: &mut Core<&'a LocalHeap>,
+    host: &mut MemoryHost,
+    room: usize,
+) -> Result<Reading, Fail> {
+    turn_text(own, heap, core, host)?;
+    give_all(own, own, host, GIFTS)?;
+    reading_of(rt, own, heap, core, host, room)
+}
+
+fn read_by<'a>(
+    rt: &impl Abort,
+    own: Global,
+    heap: &'a LocalHeap,
+    core: &mut Core<&'a LocalHeap>,
+    room: usize,
+) -> Result<Reading, Fail> {
+    let mut host = MemoryHost::new(own);
+    read_again(rt, own, heap, core, &mut host, room)
+}
+
+fn read_over(rt: &impl Abort, own: Global, heap: &LocalHeap, room: usize) -> Result<Reading, Fail> {
+    let mut core = core_of(own, heap, "a:S:off:x")?;
+    read_by(rt, own, heap, &mut core, room)
+}
+
 fn read_in(rt: &impl Abort, own: Global, room: usize) -> Result<Reading, Fail> {
     let heap = LocalHeap::new(own, 32_768)?;
-    let mut core = core_of(own, &heap, "a:S:off:x")?;
-    let mut host = MemoryHost::new(own);
-    turn_text(own, &heap, &mut core, &mut host)?;
-    give_all(own, own, &mut host, GIFTS)?;
-    let fillers = fill(own, &heap, room)?;
-    let text = turn_text(own, &heap, &mut core, &mut host)?;
-    drop(fillers);
-    Ok(outcome(rt, &host, text.as_slice(), core.table().len()))
+    read_over(rt, own, &heap, room)
 }
 
 #[test]
@@ -145,14 +215,19 @@ const NOT_HANDED: &[u8] = b"clock 0\ngot reexec\nnudge\nhanded none\n";
 
 /// A state text was carried.
 fn was_carried(host: &MemoryHost) -> bool {
-    match host.calls() {
-        Some(calls) => calls.iter().any(|call| matches!(call, Call::Carry(_, _))),
-        None => false,
+    let Some(calls) = host.calls() else {
+        return false;
+    };
+    for call in calls {
+        if matches!(call, Call::Carry(_, _)) {
+            return true;
+        }
     }
+    false
 }
 
 /// What became of a re-execution where there is little room.
-#[derive(Drop, PartialEq, Eq)]
+#[derive(Clone, Copy, PartialEq, Eq)]
 enum HandOver {
     /// There was no room for the state text.
     Unmade,
@@ -161,7 +236,7 @@ enum HandOver {
     Taken,
 }
 
-fn handed(rt: &impl Abort, host: &MemoryHost, text: &[u8]) -> HandOver {
+fn handing(rt: &impl Abort, host: &MemoryHost, text: &[u8]) -> HandOver {
     if text == HANDED {
         return HandOver::Taken;
     }
@@ -170,6 +245,20 @@ fn handed(rt: &impl Abort, host: &MemoryHost, text: &[u8]) -> HandOver {
         return HandOver::Refused;
     }
     HandOver::Unmade
+}
+
+/// Executes init anew with so much room left.
+fn handing_in<'a>(
+    rt: &impl Abort,
+    own: Global,
+    heap: &'a LocalHeap,
+    core: &mut Core<&'a LocalHeap>,
+    host: &mut MemoryHost,
+    room: usize,
+) -> Result<HandOver, Fail> {
+    give_all(own, own, host, "bytes u / bytes / bytes u")?;
+    let text = text_in(own, heap, core, host, room)?;
+    Ok(handing(rt, host, text.as_slice()))
 }
 
 /// With room again the core that went on is executed anew, with its table and its record.
@@ -185,19 +274,33 @@ fn goes_on<A: Allocator + Copy>(
     Ok(())
 }
 
-/// Executes init anew with so much room left.
-fn reexec_in(rt: &impl Abort, own: Global, room: usize) -> Result<HandOver, Fail> {
-    let heap = LocalHeap::new(own, 32_768)?;
-    let mut core = core_of(own, &heap, "a:S:off:x")?;
+fn handed_by<'a>(
+    rt: &impl Abort,
+    own: Global,
+    heap: &'a LocalHeap,
+    core: &mut Core<&'a LocalHeap>,
+    room: usize,
+) -> Result<HandOver, Fail> {
     let mut host = MemoryHost::new(own);
-    turn_text(own, &heap, &mut core, &mut host)?;
-    give_all(own, own, &mut host, "bytes u / bytes / bytes u")?;
-    let fillers = fill(own, &heap, room)?;
-    let text = turn_text(own, &heap, &mut core, &mut host)?;
-    drop(fillers);
-    let outcome = handed(rt, &host, text.as_slice());
-    goes_on(rt, own, &heap, &mut core, &mut host)?;
+    turn_text(own, heap, core, &mut host)?;
+    let outcome = handing_in(rt, own, heap, core, &mut host, room)?;
+    goes_on(rt, own, heap, core, &mut host)?;
     Ok(outcome)
+}
+
+fn handed_over(
+    rt: &impl Abort,
+    own: Global,
+    heap: &LocalHeap,
+    room: usize,
+) -> Result<HandOver, Fail> {
+    let mut core = core_of(own, heap, "a:S:off:x")?;
+    handed_by(rt, own, heap, &mut core, room)
+}
+
+fn handed_in(rt: &impl Abort, own: Global, room: usize) -> Result<HandOver, Fail> {
+    let heap = LocalHeap::new(own, 32_768)?;
+    handed_over(rt, own, &heap, room)
 }
 
 #[test]
@@ -206,7 +309,7 @@ fn init_without_room_is_not_executed_anew(rt: HostRuntime) -> Result<(), Fail> {
     let mut refused = 0u32;
     let mut taken = 0u32;
     for step in 0..200usize {
-        match reexec_in(&rt, rt.alloc(), 32 * step)? {
+        match handed_in(&rt, rt.alloc(), 32 * step)? {
             HandOver::Unmade => unmade = unmade.saturating_add(1),
             HandOver::Refused => refused = refused.saturating_add(1),
             HandOver::Taken => taken = taken.saturating_add(1),

@@ -1,12 +1,12 @@
 //! Worked runs.
 
-use crate::gifts::give_all;
-use crate::runs::{Row, calls_of, core_of, is_run};
+use crate::runs::{Calls, Row, Trial, is_run, passes};
 use child_host::MemoryHost;
 use host_turns::{Served, serve, turn};
 use initctl_frame::Blocks;
+use level_core::Core;
 use run_log::ListLog;
-use std::alloc::Global;
+use std::alloc::{Allocator, Global};
 use std::process::Abort;
 use std::test::Fail;
 
@@ -277,88 +277,108 @@ fn a_call_that_fails_leaves_the_rest(rt: HostRuntime) -> Result<(), Fail> {
 }
 
 /// An inittab, what the host is given, how many turns are made, and its calls.
-const CALLS: &[(&str, &str, u64, &str)] = &[
-    ("# none", "", 0, ""),
+const CALLS: &[(&str, &str, Calls)] = &[
+    ("# none", "", Calls { turns: 0, want: "" }),
     (
         "id:3:initdefault:|r:3:respawn:serv",
         "start birth 10 / bytes / bytes 1 / table r:3:respawn:serv / look still / clock 0 / clock 0 / clock 9 / look killed",
-        3,
-        "CBLNNNservSNPCBBBLTNGOPCBLGONP",
+        Calls {
+            turns: 3,
+            want: "CBLNNNservSNPCBBBLTNGOPCBLGONP",
+        },
     ),
     // Of a `+` the child sees nothing.
-    ("r:S:respawn:+serv -x", "start later", 1, "CBLNNserv -xSP"),
+    (
+        "r:S:respawn:+serv -x",
+        "start later",
+        Calls {
+            turns: 1,
+            want: "CBLNNserv -xSP",
+        },
+    ),
     // A table that is not read and a letter are announced, and a re-execution that is refused; one that isn't is not.
-    ("# none", "bytes q A u / table fails", 1, "CBBBBBBLNHTNNNNP"),
+    (
+        "# none",
+        "bytes q A u / table fails",
+        Calls {
+            turns: 1,
+            want: "CBBBBBBLNHTNNNNP",
+        },
+    ),
     (
         "# none",
         "bytes q A u / carry fails / table fails",
-        1,
-        "CBBBBBBLNHNTNNNNP",
+        Calls {
+            turns: 1,
+            want: "CBBBBBBLNHNTNNNNP",
+        },
     ),
     // Ten starts, and the hold.
     (
         "r:S:respawn:x",
         "late / late",
-        2,
-        "CBLNNxSxSxSxSxSxSxSxSxSxSNNPCBLP",
+        Calls {
+            turns: 2,
+            want: "CBLNNxSxSxSxSxSxSxSxSxSxSNNPCBLP",
+        },
     ),
 ];
 
-fn are_made(
-    rt: &impl Abort,
-    alloc: Global,
-    inittab: &str,
-    gifts: &str,
-    turns: u64,
-    want: &str,
-) -> Result<(), Fail> {
-    let mut host = MemoryHost::new(alloc);
-    give_all(alloc, alloc, &mut host, gifts)?;
-    serve_over(alloc, &mut host, inittab, turns)?;
-    let calls = calls_of(alloc, &host)?;
-    assert!(rt; calls.as_slice() == want.as_bytes(), "{want}");
-    Ok(())
-}
-
-fn serve_over(
-    alloc: Global,
-    host: &mut MemoryHost,
-    inittab: &str,
-    turns: u64,
-) -> Result<Served, Fail> {
-    let mut core = core_of(alloc, alloc, inittab)?;
-    let mut log = ListLog::new(alloc);
-    Ok(serve(alloc, &mut core, host, &mut log, turns, false))
-}
-
 #[test]
 fn calls_come_in_their_order(rt: HostRuntime) -> Result<(), Fail> {
-    for (inittab, gifts, turns, want) in CALLS {
-        are_made(&rt, rt.alloc(), inittab, gifts, *turns, want)?;
+    for (inittab, gifts, calls) in CALLS {
+        passes(&rt, rt.alloc(), inittab, gifts, calls)?;
     }
     Ok(())
 }
 
+#[derive(Clone, Copy)]
+struct NoTurn;
+
+impl Trial for NoTurn {
+    fn passes<R: Abort, A: Allocator + Copy>(
+        &self,
+        rt: &R,
+        own: Global,
+        core: &mut Core,
+        host: &mut MemoryHost<A>,
+        log: &mut ListLog,
+    ) -> Result<(), Fail> {
+        let served = serve(own, core, host, log, 0, false);
+        let want = Served {
+            turns: 0,
+            drained: false,
+            logged: true,
+        };
+        assert!(rt; served == want);
+        Ok(())
+    }
+}
+
 #[test]
 fn no_turn_is_nothing(rt: HostRuntime) -> Result<(), Fail> {
-    let mut host = MemoryHost::new(rt.alloc());
-    let served = serve_over(rt.alloc(), &mut host, "# none", 0)?;
-    let want = Served {
-        turns: 0,
-        drained: false,
-        logged: true,
-    };
-    assert!(rt; served == want);
-    Ok(())
+    passes(&rt, rt.alloc(), "# none", "", &NoTurn)
+}
+
+#[derive(Clone, Copy)]
+struct Idle;
+
+impl Trial for Idle {
+    fn passes<R: Abort, A: Allocator + Copy>(
+        &self,
+        rt: &R,
+        own: Global,
+        core: &mut Core,
+        host: &mut MemoryHost<A>,
+        log: &mut ListLog,
+    ) -> Result<(), Fail> {
+        let idle = turn(own, core, host, &mut Blocks::new(), log);
+        assert!(rt; idle && core.drained() && log.list().len() == 5);
+        Ok(())
+    }
 }
 
 #[test]
 fn a_turn_ends_where_no_step_is_due(rt: HostRuntime) -> Result<(), Fail> {
-    let mut host = MemoryHost::new(rt.alloc());
-    let mut core = core_of(rt.alloc(), rt.alloc(), "# none")?;
-    let mut blocks = Blocks::new();
-    let mut log = ListLog::new(rt.alloc());
-    let idle = turn(rt.alloc(), &mut core, &mut host, &mut blocks, &mut log);
-    assert!(rt; idle && core.drained() && log.list().len() == 5);
-    Ok(())
+    passes(&rt, rt.alloc(), "# none", "", &Idle)
 }

@@ -46,18 +46,21 @@ pub(crate) fn core_of<A: Allocator + Copy>(
     Ok(Core::new(alloc, table, None)?)
 }
 
-/// Hands the log the table in force.
-pub(crate) fn log_table<L: Log>(alloc: Global, core: &Core, log: &mut L) -> Result<(), Fail> {
-    let table: Happening = Happening::NewTable(core.table().copy(alloc)?);
-    if log.failed() {
+fn take<L: Log>(log: &mut L, happening: &Happening) -> Result<(), Fail> {
+    if log.failed() || log.take(happening).is_err() {
         return Err(Fail::from("not logged"));
     }
-    log.take(&table).map_err(|_| "not logged")?;
     Ok(())
 }
 
+/// Hands the log the table in force.
+fn log_table<L: Log>(alloc: Global, core: &Core, log: &mut L) -> Result<(), Fail> {
+    let table = Happening::NewTable(core.table().copy(alloc)?);
+    take(log, &table)
+}
+
 /// The log's happenings behind the opening table are these lines, and all of it is lawful.
-pub(crate) fn is_logged(
+fn is_logged(
     rt: &impl Abort,
     alloc: Global,
     list: &[HappeningIn<Global>],
@@ -83,28 +86,67 @@ fn is_text(
     Ok(())
 }
 
-/// The core is served over the host, and the run is the row's.
-fn is_served<A: Allocator + Copy>(
-    rt: &impl Abort,
-    alloc: Global,
+/// What is tried with a core, a host and a log.
+pub(crate) trait Trial {
+    fn passes<R: Abort, A: Allocator + Copy>(
+        &self,
+        rt: &R,
+        own: Global,
+        core: &mut Core,
+        host: &mut MemoryHost<A>,
+        log: &mut ListLog,
+    ) -> Result<(), Fail>;
+}
+
+fn passes_with_core<R: Abort, A: Allocator + Copy, T: Trial>(
+    rt: &R,
+    own: Global,
     core: &mut Core,
     host: &mut MemoryHost<A>,
-    row: &Row,
+    trial: &T,
 ) -> Result<(), Fail> {
-    let mut log = ListLog::new(alloc);
-    log_table(alloc, core, &mut log)?;
-    let (turns, drain) = row.limit;
-    let served = serve(alloc, core, host, &mut log, turns, drain);
-    assert!(rt;
-        served == ended(row) && host.faults() == row.faults,
-        "{}",
-        row.trace
-    );
-    is_logged(rt, alloc, log.list(), row.trace)
+    let mut log = ListLog::new(own);
+    trial.passes(rt, own, core, host, &mut log)
+}
+
+/// The trial passes with a core over an inittab and with a host.
+pub(crate) fn passes_over<R: Abort, A: Allocator + Copy, T: Trial>(
+    rt: &R,
+    own: Global,
+    host: &mut MemoryHost<A>,
+    inittab: &str,
+    trial: &T,
+) -> Result<(), Fail> {
+    let mut core = core_of(own, own, inittab)?;
+    passes_with_core(rt, own, &mut core, host, trial)
+}
+
+/// The trial passes with a core over an inittab and with a host that is given so much.
+pub(crate) fn passes<R: Abort, T: Trial>(
+    rt: &R,
+    alloc: Global,
+    inittab: &str,
+    gifts: &str,
+    trial: &T,
+) -> Result<(), Fail> {
+    let mut host = MemoryHost::new(alloc);
+    passes_given(rt, alloc, &mut host, inittab, gifts, trial)
+}
+
+fn passes_given<R: Abort, T: Trial>(
+    rt: &R,
+    alloc: Global,
+    host: &mut MemoryHost,
+    inittab: &str,
+    gifts: &str,
+    trial: &T,
+) -> Result<(), Fail> {
+    give_all(alloc, alloc, host, gifts)?;
+    passes_over(rt, alloc, host, inittab, trial)
 }
 
 /// How the run of a row ends that is logged.
-pub(crate) fn ended(row: &Row) -> Served {
+fn ended(row: &Row) -> Served {
     Served {
         turns: row.ended.0,
         drained: row.ended.1,
@@ -112,22 +154,31 @@ pub(crate) fn ended(row: &Row) -> Served {
     }
 }
 
-/// The run of a row is as it says, over a host in memory of this allocator.
-pub(crate) fn is_run_over<A: Allocator + Copy>(
-    rt: &impl Abort,
-    own: Global,
-    host: &mut MemoryHost<A>,
-    row: &Row,
-) -> Result<(), Fail> {
-    let mut core = core_of(own, own, row.inittab)?;
-    is_served(rt, own, &mut core, host, row)
+/// The run of a row is as it says.
+impl Trial for Row {
+    fn passes<R: Abort, A: Allocator + Copy>(
+        &self,
+        rt: &R,
+        own: Global,
+        core: &mut Core,
+        host: &mut MemoryHost<A>,
+        log: &mut ListLog,
+    ) -> Result<(), Fail> {
+        log_table(own, core, log)?;
+        let (turns, drain) = self.limit;
+        let served = serve(own, core, host, log, turns, drain);
+        assert!(rt;
+            served == ended(self) && host.faults() == self.faults,
+            "{}",
+            self.trace
+        );
+        is_logged(rt, own, log.list(), self.trace)
+    }
 }
 
 /// The run of a row is as it says.
 pub(crate) fn is_run(rt: &impl Abort, alloc: Global, row: &Row) -> Result<(), Fail> {
-    let mut host = MemoryHost::new(alloc);
-    give_all(alloc, alloc, &mut host, row.gifts)?;
-    is_run_over(rt, alloc, &mut host, row)
+    passes(rt, alloc, row.inittab, row.gifts, row)
 }
 
 /// A call's letter: `C`lock, `B`ytes, `L`ate answer, `T`able, `S`tart, l`O`ok, si`G`nal, carry `H`, a`N`nouncement,
@@ -157,10 +208,32 @@ fn add_call<A: Allocator>(text: &mut Vec<u8>, call: &CallIn<A>) -> Result<(), Fa
 }
 
 /// The letters of a host's calls, behind a start's command; none where it doesn't tell them.
-pub(crate) fn calls_of<A: Allocator>(alloc: Global, host: &MemoryHost<A>) -> Result<Vec<u8>, Fail> {
+fn calls_of<A: Allocator>(alloc: Global, host: &MemoryHost<A>) -> Result<Vec<u8>, Fail> {
     let mut text = Vec::new(alloc);
     for call in host.calls().ok_or("not told")? {
         add_call(&mut text, call)?;
     }
     Ok(text)
+}
+
+/// So many turns, and the calls that are made then.
+pub(crate) struct Calls {
+    pub(crate) turns: u64,
+    pub(crate) want: &'static str,
+}
+
+impl Trial for Calls {
+    fn passes<R: Abort, A: Allocator + Copy>(
+        &self,
+        rt: &R,
+        own: Global,
+        core: &mut Core,
+        host: &mut MemoryHost<A>,
+        log: &mut ListLog,
+    ) -> Result<(), Fail> {
+        serve(own, core, host, log, self.turns, false);
+        let calls = calls_of(own, host)?;
+        assert!(rt; calls.as_slice() == self.want.as_bytes(), "{}", self.want);
+        Ok(())
+    }
 }
