@@ -2,8 +2,8 @@
 //! with room again succeeds.
 
 use crate::shown::add_slots;
-use child_table::Slots;
-use init_words::Memory;
+use child_table::{Slot, Slots};
+use init_words::{Act, Id, Memory};
 use inittab_text::{Table, read};
 use linked_list_allocator::LocalHeap;
 use std::alloc::Global;
@@ -88,5 +88,47 @@ fn counts(rt: &impl Abort, alloc: Global) -> Result<(usize, usize), Fail> {
 fn refused_adoptions(rt: HostRuntime) -> Result<(), Fail> {
     let (none, refused) = counts(&rt, rt.alloc())?;
     assert!(rt; none > 8 && refused > 3);
+    Ok(())
+}
+
+/// Whether a list with one record is made on a heap of so many bytes; None where there is no room for the record.
+fn is_rebuilt(alloc: Global, room: usize) -> Result<Option<bool>, Memory> {
+    let heap = LocalHeap::new(alloc, room)?;
+    let Some(id) = Id::read(b"a") else {
+        return Ok(None);
+    };
+    let act = Some(Act::Respawn);
+    let slot = Slot::of(
+        id,
+        act,
+        None,
+        None,
+        None,
+        false,
+        false,
+        false,
+        false,
+        &[],
+        None,
+    );
+    let mut given = Vec::new(&heap);
+    if given.push(slot).is_err() {
+        return Ok(None);
+    }
+    Ok(Some(Slots::rebuilt(&heap, given).is_ok()))
+}
+
+#[test]
+fn records_without_room_are_not_rebuilt(rt: HostRuntime) -> Result<(), Fail> {
+    let mut refused = 0usize;
+    let mut rebuilt = 0usize;
+    for step in 1..200usize {
+        match is_rebuilt(rt.alloc(), 16 * step)? {
+            Some(true) => rebuilt = rebuilt.wrapping_add(1),
+            Some(false) => refused = refused.wrapping_add(1),
+            None => {}
+        }
+    }
+    assert!(rt; refused > 3 && rebuilt > 8, "{refused} {rebuilt}");
     Ok(())
 }

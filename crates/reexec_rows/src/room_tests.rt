@@ -3,9 +3,10 @@
 use crate::states::{INITTAB, SETTLED};
 use init_words::Level;
 use inittab_text::read;
-use level_core::Core;
+use level_core::{Core, Rebuild};
 use linked_list_allocator::LocalHeap;
 use reexec_state::{Over, hand_over, take_over};
+use state_text::read_state;
 use std::alloc::Global;
 use std::process::Abort;
 use std::test::Fail;
@@ -33,6 +34,42 @@ fn is_taken(rt: &impl Abort, alloc: Global, text: &str, room: usize) -> Result<b
             Ok(false)
         }
     }
+}
+
+/// Whether a core is rebuilt of what a text says, on a heap of so many bytes; None where the text isn't read there.
+fn is_rebuilt(
+    rt: &impl Abort,
+    alloc: Global,
+    text: &str,
+    room: usize,
+) -> Result<Option<bool>, Fail> {
+    let heap = LocalHeap::new(alloc, room)?;
+    let Ok(parts) = read_state(&heap, text.as_bytes(), 1) else {
+        return Ok(None);
+    };
+    match Core::rebuilt(&heap, parts) {
+        Ok(_) => Ok(Some(true)),
+        Err(why) => {
+            assert!(rt; why == Rebuild::Memory);
+            Ok(Some(false))
+        }
+    }
+}
+
+#[test]
+fn a_core_without_room_is_not_rebuilt(rt: HostRuntime) -> Result<(), Fail> {
+    let text = format!(in rt.alloc(); "initd-state 1\ngeneration 1\n{SETTLED}")?;
+    let mut refused = 0usize;
+    let mut rebuilt = 0usize;
+    for step in 1..400usize {
+        match is_rebuilt(&rt, rt.alloc(), &text, 32 * step)? {
+            Some(true) => rebuilt = rebuilt.wrapping_add(1),
+            Some(false) => refused = refused.wrapping_add(1),
+            None => {}
+        }
+    }
+    assert!(rt; refused > 3 && rebuilt > 8, "{refused} {rebuilt}");
+    Ok(())
 }
 
 #[test]
