@@ -127,6 +127,13 @@ const OVER_FILES: &[(&[u8], &[u8], &str, u8, &str)] = &[
     ),
     (
         b"",
+        b"handed whole\nhanded older 2\n",
+        "simulate row-table row-script",
+        1,
+        "use 0\nenter sysinit 5\nenter S 5\nsettle S\nhanded whole\n--\ninitd: script line 2 is not allowed\ninitd: handed older 2: no state text of generation 2 was made\n",
+    ),
+    (
+        b"",
         b"got reload\nuse 1\na:2:once\n",
         "simulate row-table row-script",
         1,

@@ -69,6 +69,17 @@ const RUNS: &[(&str, &str, &str)] = &[
         "birth a 700 / told a / nudge / death 700 / reaped a 700 exit 0 / birth b 700 / told b / told a",
         "use 3 / id:3:initdefault: / a:3:respawn:x / b:3:once:y / enter sysinit 5 / enter boot 5 / enter 3 5 / ask a start / ask b start / birth a 700 / told a / nudge / ask a look / death 700 / reaped a 700 exit 0 / birth b 700 / told b / told a / ask a start",
     ),
+    // Init is executed anew right after the orders, or keeps on where its state comes back cut: the rest is the same.
+    (
+        "id:3:initdefault: / a:3:respawn:x / b:3:once:y",
+        "handed whole / birth a 700 / told a / nudge / death 700 / reaped a 700 exit 0 / birth b 700 / told b / told a",
+        "use 3 / id:3:initdefault: / a:3:respawn:x / b:3:once:y / enter sysinit 5 / enter boot 5 / enter 3 5 / ask a start / ask b start / handed whole / birth a 700 / told a / nudge / ask a look / death 700 / reaped a 700 exit 0 / birth b 700 / told b / told a / ask a start",
+    ),
+    (
+        "id:3:initdefault: / a:3:respawn:x / b:3:once:y",
+        "handed cut 20 / birth a 700 / told a / nudge / death 700 / reaped a 700 exit 0 / birth b 700 / told b / told a",
+        "use 3 / id:3:initdefault: / a:3:respawn:x / b:3:once:y / enter sysinit 5 / enter boot 5 / enter 3 5 / ask a start / ask b start / handed cut 20 / birth a 700 / told a / nudge / ask a look / death 700 / reaped a 700 exit 0 / birth b 700 / told b / told a / ask a start",
+    ),
     // Two children live, one is reaped while the other lives, and then the other.
     (
         "id:3:initdefault: / a:3:respawn:x / b:3:respawn:y",
@@ -171,6 +182,28 @@ const RUNS: &[(&str, &str, &str)] = &[
         "clock 60 / nobirth r / told r / nobirth r / told r / nobirth r / told r / nobirth r / told r / nobirth r / told r / nobirth r / told r / nobirth r / told r / nobirth r / told r / nobirth r / told r / birth r 7 / told r / clock 120 / nudge / death 7 / reaped r 7 exit 1 / told r / nobirth r / told r",
         "use 1 / r:S:respawn:x / enter sysinit 5 / enter S 5 / ask r start / clock 60 / nobirth r / told r / ask r start / nobirth r / told r / ask r start / nobirth r / told r / ask r start / nobirth r / told r / ask r start / nobirth r / told r / ask r start / nobirth r / told r / ask r start / nobirth r / told r / ask r start / nobirth r / told r / ask r start / nobirth r / told r / ask r start / birth r 7 / told r / settle S / clock 120 / nudge / ask r look / death 7 / reaped r 7 exit 1 / told r / ask r start / nobirth r / told r / hold r",
     ),
+    // A hand-over ends the wish for it, however it goes, and init goes on: inittab is read.
+    (
+        "",
+        "got reexec / got reload / handed whole / use 0",
+        "use 0 / enter sysinit 5 / enter S 5 / settle S / got reexec / got reload / handed whole / use 0 / settle S",
+    ),
+    (
+        "",
+        "got reexec / got reload / handed cut 0 / use 0",
+        "use 0 / enter sysinit 5 / enter S 5 / settle S / got reexec / got reload / handed cut 0 / use 0 / settle S",
+    ),
+    (
+        "",
+        "got reexec / got reload / handed none / use 0",
+        "use 0 / enter sysinit 5 / enter S 5 / settle S / got reexec / got reload / handed none / use 0 / settle S",
+    ),
+    // Each text that was made before may come in the place of another, and a cut and an older one were made too.
+    (
+        "",
+        "handed whole / handed older 1 / handed cut 94 / handed older 2 / handed older 4 / handed older 1",
+        "use 0 / enter sysinit 5 / enter S 5 / settle S / handed whole / handed older 1 / handed cut 94 / handed older 2 / handed older 4 / handed older 1",
+    ),
 ];
 
 #[test]
@@ -187,6 +220,67 @@ fn the_level_is_the_one_given(rt: HostRuntime) -> Result<(), Fail> {
     let trace =
         "use 3 / id:3:initdefault: / r:2:respawn:serv / t:3:respawn:other / enter sysinit 5 / enter boot 5 / enter 2 5 / ask r start";
     is_run(&rt, rt.alloc(), inittab, Some(Level::L2), "", trace)
+}
+
+/// The text of the lines of a row, with a hand-over behind so many of them.
+fn with_hand_over(alloc: Global, row: &str, place: usize) -> Result<String, AllocError> {
+    let mut text = String::new(alloc);
+    for (number, line) in row.split(" / ").enumerate() {
+        if number == place {
+            text.push_str("handed whole\n")?;
+        }
+        text.push_str(line)?;
+        text.push('\n')?;
+    }
+    if row.split(" / ").count() == place {
+        text.push_str("handed whole\n")?;
+    }
+    Ok(text)
+}
+
+/// The text without its lines of a hand-over.
+fn without_hand_over(alloc: Global, text: &[u8]) -> Result<Vec<u8>, AllocError> {
+    let mut rest = Vec::new(alloc);
+    for line in text.split(|byte| *byte == b'\n') {
+        if !line.is_empty() && line != b"handed whole".as_slice() {
+            rest.extend_from_slice(line)?;
+            rest.push(b'\n')?;
+        }
+    }
+    Ok(rest)
+}
+
+/// The script with a hand-over behind so many of its lines makes the trace with the line of the hand-over.
+fn is_same_with_hand_over(
+    rt: &impl Abort,
+    alloc: Global,
+    inittab: &str,
+    script: &str,
+    trace: &str,
+    place: usize,
+) -> Result<(), Fail> {
+    let mut out: Vec<u8> = Vec::new(alloc);
+    let inittab = lines(alloc, inittab)?;
+    let handed = with_hand_over(alloc, script, place)?;
+    let ended = simulate(alloc, inittab.as_bytes(), None, handed.as_bytes(), &mut out);
+    let rest = without_hand_over(alloc, &out)?;
+    assert!(rt;
+        ended.is_ok() && has_lines(alloc, &rest, trace)? && rest.len() + 13 == out.len(),
+        "at {script:?}, {place}"
+    );
+    Ok(())
+}
+
+#[test]
+fn a_whole_hand_over_changes_nothing_else(rt: HostRuntime) -> Result<(), Fail> {
+    for (inittab, script, trace) in RUNS {
+        if !script.is_empty() && !script.contains("use") && !script.contains("handed") {
+            for place in 0..script.split(" / ").count() + 1 {
+                is_same_with_hand_over(&rt, rt.alloc(), inittab, script, trace, place)?;
+            }
+        }
+    }
+    Ok(())
 }
 
 /// How a run ends before its script does: at the line of this number, which is none, or may not come, and why.
@@ -316,18 +410,51 @@ const FAULTS: &[(&str, &str, Stop, &str)] = &[
         Stop::Script(1),
         "use 0 / enter sysinit 5 / enter S 5 / settle S",
     ),
-    // Lines of init are no script's, and a hand-over is not simulated.
+    // Lines of init are no script's.
     (
         "",
         "settle S",
         Stop::Forbidden(1, "this is a step of init itself"),
         "use 0 / enter sysinit 5 / enter S 5 / settle S",
     ),
+    // No text was made before the first, and none by a hand-over that failed; one that is about to be made is not
+    // older.
     (
         "",
-        "handed whole",
-        Stop::Forbidden(1, "a hand-over is not simulated"),
+        "handed older 1",
+        Stop::Forbidden(1, "no state text of generation 1 was made"),
         "use 0 / enter sysinit 5 / enter S 5 / settle S",
+    ),
+    (
+        "",
+        "handed none / handed older 1",
+        Stop::Forbidden(2, "no state text of generation 1 was made"),
+        "use 0 / enter sysinit 5 / enter S 5 / settle S / handed none",
+    ),
+    (
+        "",
+        "handed whole / handed older 2",
+        Stop::Forbidden(2, "no state text of generation 2 was made"),
+        "use 0 / enter sysinit 5 / enter S 5 / settle S / handed whole",
+    ),
+    (
+        "",
+        "handed whole / handed older 0",
+        Stop::Forbidden(2, "no state text of generation 0 was made"),
+        "use 0 / enter sysinit 5 / enter S 5 / settle S / handed whole",
+    ),
+    // The state text of this core has 95 bytes.
+    (
+        "",
+        "handed cut 95",
+        Stop::Forbidden(1, "the state text has no more than 95 bytes"),
+        "use 0 / enter sysinit 5 / enter S 5 / settle S",
+    ),
+    (
+        "",
+        "handed cut 94 / handed cut 100000",
+        Stop::Forbidden(2, "the state text has no more than 100000 bytes"),
+        "use 0 / enter sysinit 5 / enter S 5 / settle S / handed cut 94",
     ),
     // No table is to be read now, nor could it not be; what is read of a table is one happening.
     (

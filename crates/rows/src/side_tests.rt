@@ -181,7 +181,7 @@ const OBJECTIONS: &[Turn] = &[
     Turn::Refused("hold a", "this is a step of init itself"),
     Turn::Refused("settle 2", "this is a step of init itself"),
     Turn::Refused("use 0", "inittab is not to be read now"),
-    Turn::Refused("handed whole", "a hand-over is not simulated"),
+    Turn::Line("handed whole", true),
     Turn::Line("notread", true),
     Turn::Line("got reload", true),
     Turn::Line("clock 5", true),

@@ -1,4 +1,6 @@
+pub mod Foreign
 pub mod Hearing
+pub mod Keeping
 pub mod Moves
 pub mod Rereading
 pub mod Whole

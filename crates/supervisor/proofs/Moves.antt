@@ -22,7 +22,8 @@ use Rattle.system_side.specs.Follows.{Follows}
 use Rattle.supervisor.specs.declared.running.SimFault.{SimFault}
 use Rattle.supervisor.specs.declared.running.SimFault.TheVariants as fault
 use Rattle.supervisor.specs.Faults.{Leaves}
-use Rattle.supervisor.specs.Moments.{Moment, AtRest, GoesOn}
+use Rattle.supervisor.specs.Handing.{may_hand}
+use Rattle.supervisor.specs.Moments.{Lasts, Moment, AtRest, GoesOn}
 use Rattle.supervisor.specs.Said.{is_said, may_be_said, first_table, heard}
 use Rattle.supervisor.specs.Simulation.{past_text}
 
@@ -89,15 +90,20 @@ step_heard goal Reread past runs = refl
 step_heard goal Reexec past runs = refl
 step_heard goal Idle past runs = refl
 
+-- what may be said is of a script, and init waits for it, and it may come
+pub said_parts : (goal : Goal) (happening : Event) (past : List Event) → may_be_said goal happening past ≡ true
+    → (is_said happening ≡ true) × (is_next (first (due goal past)) happening ≡ true) × (may_come goal happening past ≡ true)
+said_parts goal happening past may =
+    let outer = and_parts (is_said happening && may_hand goal happening past && is_next (first (due goal past)) happening) (may_come goal happening past) may in
+    let inner = and_parts (is_said happening && may_hand goal happening past) (is_next (first (due goal past)) happening) outer.0 in
+    ((and_parts (is_said happening) (may_hand goal happening past) inner.0).0, inner.1, outer.1)
+
 -- a happening that may be said carries the run on
 pub run_hears : (goal : Goal) (happening : Event) (past : List Event) → may_be_said goal happening past ≡ true → is_run goal past ≡ true → is_run goal (happening ∷ past) ≡ true
-run_hears goal happening past may runs = at happening past runs parts.0 parts.1
+run_hears goal happening past may runs =
+    let parts = said_parts goal happening past may in
+    at happening past runs parts.1 parts.2
   where
-    parts : (is_next (first (due goal past)) happening ≡ true) × (may_come goal happening past ≡ true)
-    parts =
-        let outer = and_parts (is_said happening && is_next (first (due goal past)) happening) (may_come goal happening past) may in
-        ((and_parts (is_said happening) (is_next (first (due goal past)) happening) outer.0).1, outer.1)
-
     at : (h : Event) (before : List Event) → is_run goal before ≡ true → is_next (first (due goal before)) h ≡ true → may_come goal h before ≡ true → is_run goal (h ∷ before) ≡ true
     at h [] runs next come = absurd (false≢true runs)
     at (event.NewTable table) (x ∷ before) runs next come = both (is_next (first (due goal (x ∷ before))) (event.NewTable table)) (may_come goal (event.NewTable table) (x ∷ before)) (is_run goal (x ∷ before)) next come runs
@@ -133,7 +139,8 @@ WentOn goal past core side old new = (next : List Event) × (more : List ℕ) ×
 -- a step of the core and of the system's side
 module _ (core new_core : CoreState) (side new_side : State) (s : Step) (happening : Event) (due_now : OnEachTrace core (λ goal past. s ≡ first (due goal past)))
     (fits : OnEachTrace core (λ goal past. Fits new_core goal (with_step s past))) (added : (past : List Event) → with_step s past ≡ happening ∷ past)
-    (follows : (goal : Goal) (past : List Event) → is_sound goal (happening ∷ past) ≡ true → Follows side past → Follows new_side (happening ∷ past)) where
+    (follows : (goal : Goal) (past : List Event) → is_sound goal (happening ∷ past) ≡ true → Follows side past → Follows new_side (happening ∷ past))
+    (lasts : (goal : Goal) (past : List Event) → Fits core goal past → Lasts core goal past → Lasts new_core goal (with_step s past)) where
   pub moment_step : (goal : Goal) (past : List Event) → Moment goal past core side → Moment goal (happening ∷ past) new_core new_side
   moment_step goal past moment =
       let sound = run_sound goal past moment.runs in
@@ -141,6 +148,7 @@ module _ (core new_core : CoreState) (side new_side : State) (s : Step) (happeni
       record {
         runs = runs;
         fits = subst (Fits new_core goal) (added past) (fits goal past sound moment.fits);
+        lasts = subst (Lasts new_core goal) (added past) (lasts goal past moment.fits moment.lasts);
         follows = follows goal past (run_sound goal (happening ∷ past) runs) moment.follows;
       }
 
@@ -172,9 +180,14 @@ memory_before known text = ([], text, refl, Appends-nil known)
 
 -- a moment stays one while init rests
 pub at_rest : (goal : Goal) (past : List Event) (s : Step) (rereads : Bool) (core new_core : CoreState) (side : State) → Moment goal past core side
-    → s ≡ first (due goal past) → is_rest s ≡ true → rereads ≡ is_reread s → Fits new_core goal (with_step s past) → AtRest goal past rereads new_core side
-at_rest goal past s rereads core new_core side moment is rests read fits = record {
-  moment = record { runs = moment.runs; fits = subst (Fits new_core goal) (rest_step s past rests) fits; follows = moment.follows };
+    → s ≡ first (due goal past) → is_rest s ≡ true → rereads ≡ is_reread s → Fits new_core goal (with_step s past) → Lasts new_core goal (with_step s past) → AtRest goal past rereads new_core side
+at_rest goal past s rereads core new_core side moment is rests read fits lasts = record {
+  moment = record {
+    runs = moment.runs;
+    fits = subst (Fits new_core goal) (rest_step s past rests) fits;
+    lasts = subst (Lasts new_core goal) (rest_step s past rests) lasts;
+    follows = moment.follows;
+  };
   rests = sym (ap is_rest is) ∙ rests;
   read = read ∙ ap is_reread is;
 }

@@ -12,14 +12,14 @@ use Rattle.init_words.specs.declared.orders.PowerKind.{PowerKind}
 use Rattle.init_words.specs.Actions.{is_limited}
 use Rattle.init_words.proofs.Tests.{both_ways}
 use Rattle.init_trace.specs.declared.steps.Step.{Step}
-use Rattle.init_trace.specs.declared.steps.Step.TheVariants.{Call, Power, Reread, Order, Hold, Settle, Reexec}
+use Rattle.init_trace.specs.declared.steps.Step.TheVariants.{Call, Power, Order, Hold, Settle, Reexec}
 use Rattle.init_trace.specs.declared.steps.Goal.{Goal}
 use Rattle.init_trace.specs.Event.{Event}
 use Rattle.init_trace.specs.Past.{stage_of, table_of, Child, is_of, open_of, is_quiet, is_idle, known_children}
 use Rattle.init_trace.specs.Wanted.{is_owed}
 use Rattle.init_trace.specs.Spells.{stop_due}
 use Rattle.init_trace.specs.Timing.{is_held, is_full}
-use Rattle.init_trace.specs.Wishes.{in_run, goal_of, wants_reexec, wants_reread, level_wish, keeps_power, keeps_letter, powers, letters, wish_stands}
+use Rattle.init_trace.specs.Wishes.{in_run, goal_of, wants_reexec, level_wish, keeps_power, keeps_letter, powers, letters, wish_stands}
 use Rattle.init_trace.specs.Due.{step_if, steps_if, none_excluded, due_first, due_reexec, due_reread, due_level, enter_level, due_news, power_steps, letter_steps, due_stops, stops_among, stops_of, stop_step, due_starts, starts_among, start_steps, can_start, due_stage, next_stage, is_over, due_settle, settle_step, is_announced, is_settled, due_looks, looks_among, can_look, record_ids, due, first}
 use Rattle.init_trace.specs.Run.{is_reread}
 

@@ -1,6 +1,6 @@
 -- The run over a whole script, happening by happening.
-use Rattle.std.proofs.Common.{Result, Ok, Err, Bool, true, ◌≡◌, ◌≢◌, ◌++◌, ◌+◌, ℕ, List, [], ◌∷◌, Option, refl, sym, ap, ◌∙◌, subst, append_assoc}
-use Rattle.std.specs.Io.KnownBytes.{Appends}
+use Rattle.std.proofs.Common.{Result, Ok, Err, Bool, true, ◌≡◌, ◌≢◌, ◌++◌, ◌+◌, ℕ, List, [], ◌∷◌, Option, refl, sym, ap, ◌∙◌, subst, append_assoc, ◌⊎◌, inl, inr}
+use Rattle.std.specs.Io.KnownBytes.{Appends, Keeps}
 use Rattle.std.proofs.KnownBytes.{Appends-kept, Appends-trans}
 use Rattle.std.proofs.lemmas.List.{append-nil}
 use Rattle.init_words.specs.declared.entries.Entry.{Entry}
@@ -21,7 +21,7 @@ use Rattle.system_side.specs.Follows.{Follows}
 use Rattle.supervisor.specs.declared.running.SimFault.{SimFault}
 use Rattle.supervisor.specs.declared.running.SimFault.TheVariants as fault
 use Rattle.supervisor.specs.Faults.{Leaves}
-use Rattle.supervisor.specs.Moments.{Moment, GoesOn, Hears, ComesToRest, Breaks, FromRest, HeardOne, HeardBreaks, HeardEnds, OpeningEnds, SoFar, opening_text}
+use Rattle.supervisor.specs.Moments.{Lasts, Moment, GoesOn, Hears, ComesToRest, Breaks, FromRest, HeardOne, HeardBreaks, HeardEnds, OpeningEnds, SoFar, opening_text}
 use Rattle.supervisor.specs.Simulation.{Scenario, table_in, goal_in, script_in, past_text, heard_text, RunOver, Broken, Ends, Done}
 use Rattle.supervisor.proofs.Moves.{leaves_behind, memory_after}
 
@@ -34,9 +34,9 @@ table_text : (table : List Entry) → past_text (NewTable table ∷ []) ≡ even
 table_text table = append-nil (event_text (NewTable table))
 
 -- the first moment
-pub first_moment : (inittab : List ℕ) (goal : Goal) (core : CoreState) (side : State) → Fits core goal (NewTable (table_of_text inittab) ∷ []) → Follows side (NewTable (table_of_text inittab) ∷ [])
+pub first_moment : (inittab : List ℕ) (goal : Goal) (core : CoreState) (side : State) → Fits core goal (NewTable (table_of_text inittab) ∷ []) → Lasts core goal (NewTable (table_of_text inittab) ∷ []) → Follows side (NewTable (table_of_text inittab) ∷ [])
     → Moment goal (NewTable (table_of_text inittab) ∷ []) core side
-first_moment inittab goal core side fits follows = record { runs = distinct_text inittab; fits = fits; follows = follows }
+first_moment inittab goal core side fits lasts follows = record { runs = distinct_text inittab; fits = fits; lasts = lasts; follows = follows }
 
 first_run : (s : Scenario) → RunOver s (script_in s) (opening s)
 first_run s = record { runs = distinct_text s.inittab; opens = refl; are = refl; hears = refl }
@@ -134,7 +134,11 @@ heard_ends s rest behind happening number rereads core side (fault.Forbidden n w
     let (is, may_not, why_not, none) = ends (goal_in s) so_far.past so_far.at in
     (rest, so_far.past, is ∙ so_far.counted, record { run = so_far.run; rests = so_far.at.rests }, Appends-kept old mid new (past_text so_far.past) so_far.written none, (happening, behind, ranged, begins, may_not, why_not))
 heard_ends s rest behind happening number rereads core side fault.Write old mid new so_far ranged begins ends = broken_at s rest behind happening number rereads core side fault.Write old mid new so_far begins (ends (goal_in s) so_far.past so_far.at)
-heard_ends s rest behind happening number rereads core side fault.Memory old mid new so_far ranged begins ends = broken_at s rest behind happening number rereads core side fault.Memory old mid new so_far begins (ends (goal_in s) so_far.past so_far.at)
+heard_ends s rest behind happening number rereads core side fault.Memory old mid new so_far ranged begins ends = by (ends (goal_in s) so_far.past so_far.at)
+  where
+    by : Keeps mid new ⊎ HeardBreaks (goal_in s) so_far.past happening fault.Memory mid new → Broken s fault.Memory old new
+    by (inl kept) = (rest, so_far.past, so_far.run, memory_after old new (past_text so_far.past) (Appends-kept old mid new (past_text so_far.past) so_far.written kept))
+    by (inr breaks) = broken_at s rest behind happening number rereads core side fault.Memory old mid new so_far begins breaks
 
 -- no happening begins the rest
 pub unread_ends : (s : Scenario) (rest : List ℕ) (number : ℕ) (rereads : Bool) (core : CoreState) (side : State) (old new : Option (List ℕ)) → SoFar s rest number rereads core side old new → rest ≢ [] → BeginsNone rest → Ends s (fault.Script number) old new

@@ -1,10 +1,10 @@
 -- A moment of a simulated run, and what init's own steps make of it.
-use Rattle.std.specs.Prelude.{◌≡◌, ℕ, Bool, true, false, ◌+◌, List, ◌++◌, Option}
+use Rattle.std.specs.Prelude.{◌≡◌, ◌⊎◌, ℕ, Bool, true, false, ◌+◌, List, ◌++◌, Option}
 use Rattle.std.specs.Io.KnownBytes.{Appends, Keeps}
 use Rattle.init_trace.specs.declared.steps.Goal.{Goal}
 use Rattle.init_trace.specs.Event.{Event}
 use Rattle.inittab_text.specs.Reading.{table_of_text}
-use Rattle.init_trace.specs.declared.happenings.Happening.TheVariants.{NewTable}
+use Rattle.init_trace.specs.declared.happenings.Happening.TheVariants.{NewTable, Handed}
 use Rattle.init_trace.specs.Lines.{event_text}
 use Rattle.init_trace.specs.Range.{are_in_range}
 use Rattle.text_lines.specs.Lines.{newlines}
@@ -13,18 +13,31 @@ use Rattle.init_trace.specs.Run.{is_run, is_rest, is_reread}
 use Rattle.child_table.specs.Lists.{is_quiet}
 use Rattle.core_state.specs.State.{CoreState}
 use Rattle.core_state.specs.Fit.{Fits}
+use Rattle.core_state.specs.Rules.{KeepsRules}
+use Rattle.state_text.specs.Range.{has_short_seconds}
 use Rattle.system_side.specs.State.{State}
 use Rattle.system_side.specs.Follows.{Follows}
 use Rattle.supervisor.specs.declared.running.SimFault.{SimFault}
 use Rattle.supervisor.specs.declared.running.SimFault.TheVariants as fault
 use Rattle.supervisor.specs.Faults.{Leaves}
+use Rattle.supervisor.specs.Handing.{made_in, kept_goal}
+use Rattle.supervisor.specs.Texts.{CanHand}
 use Rattle.supervisor.specs.Said.{may_be_said, IsObjected, first_table, heard}
 use Rattle.supervisor.specs.Simulation.{IsTooLong, RunOver, Scenario, goal_in, heard_text, past_text}
 
--- the core fits the run so far, and the system's side follows it
+-- what can be handed over: the core keeps its rules, its seconds are short, and its generation and its goal are those
+-- of the run so far
+pub record Lasts (core : CoreState) (opening : Goal) (past : List Event) : Type 0 where
+  pub rules : KeepsRules core
+  pub short : has_short_seconds core ≡ true
+  pub made : core.generation ≡ made_in past
+  pub goal : core.goal ≡ kept_goal opening past
+
+-- the core fits the run so far and can be handed over, and the system's side follows the run
 pub record Moment (goal : Goal) (past : List Event) (core : CoreState) (side : State) : Type 0 where
   pub runs : is_run goal past ≡ true
   pub fits : Fits core goal past
+  pub lasts : Lasts core goal past
   pub follows : Follows side past
 
 abbrev pub SomeMoment : CoreState → State → Type 0
@@ -65,9 +78,10 @@ abbrev pub Breaks : Goal → List Event → SimFault → Option (List ℕ) → O
 Breaks goal past f old new =
     (next : List Event) × (more : List ℕ) × (is_run goal next ≡ true) × GoesOn past next more × Leaves f old new more
 
--- a table is adopted where no start and no signal is open in the core
+-- a table is adopted where no start and no signal is open in the core, and a hand-over is made where it can be
 abbrev pub IsReadyFor : Event → CoreState → Type 0
 IsReadyFor (NewTable table) core = is_quiet core.slots ≡ true
+IsReadyFor (Handed how) core = CanHand how core
 IsReadyFor _ core = Unit {0}
 
 -- the trace went on from past to next: it begins with the same table, this was heard of the script, and this text is
@@ -88,14 +102,15 @@ abbrev pub HeardBreaks : Goal → List Event → Event → SimFault → Option (
 HeardBreaks goal past happening f old new = (next : List Event) × (more : List ℕ)
     × (is_run goal next ≡ true) × Hears past next (event_text happening) more × Leaves f old new more
 
--- how a happening whose line has this number may end the run
+-- how a happening whose line has this number may end the run; memory may also be wanting before it is heard
 abbrev pub HeardEnds : Goal → List Event → Event → ℕ → SimFault → Option (List ℕ) → Option (List ℕ) → Type 0
 HeardEnds goal past happening number fault.Table old new = ⊥
 HeardEnds goal past happening number (fault.Script n) old new = ⊥
 HeardEnds goal past happening number (fault.Forbidden n why) old new =
     (n ≡ number) × (may_be_said goal happening past ≡ false) × IsObjected goal happening past why × Keeps old new
 HeardEnds goal past happening number fault.Write old new = HeardBreaks goal past happening fault.Write old new
-HeardEnds goal past happening number fault.Memory old new = HeardBreaks goal past happening fault.Memory old new
+HeardEnds goal past happening number fault.Memory old new =
+    Keeps old new ⊎ HeardBreaks goal past happening fault.Memory old new
 
 -- how the reading of an inittab ends where there is no table
 abbrev pub TableEnds : List ℕ → SimFault → Type 0

@@ -1,6 +1,7 @@
 //! A run of init over a script of what the system did.
 #![tactic(auto)]
 
+mod handing;
 mod laws;
 mod running;
 

@@ -1,4 +1,4 @@
-ghost use Rattle.std.specs.Prelude.{◌≡◌, ◌<◌, length, List, [], ◌∷◌, false, true, IfOk, IfSome, IfNone, IfErr, OnOk, IsOkUnless};
+ghost use Rattle.std.specs.Prelude.{◌≡◌, ◌<◌, length, map, List, [], ◌∷◌, false, true, IfOk, IfSome, IfNone, IfErr, OnOk};
 ghost use Rattle.std.specs.Io.KnownBytes.{Appends};
 ghost use Rattle.init_trace.specs.Event.{Event};
 ghost use Rattle.init_trace.specs.Lines.{event_text};
@@ -11,11 +11,16 @@ ghost use Rattle.inittab_text.specs.Reading.{table_of_text};
 ghost use Rattle.child_table.specs.Lists.{is_quiet};
 ghost use Rattle.core_state.specs.State.{opening_goal};
 ghost use Rattle.core_state.specs.Fit.{Fits, OnEachTrace, with_step};
+ghost use Rattle.core_state.specs.Rules.{KeepsRules};
+ghost use Rattle.core_state.specs.Steps.{after_adopt};
 ghost use Rattle.supervisor.specs.Faults.{Leaves};
-ghost use Rattle.supervisor.specs.Moments.{Breaks, ComesToRest, FromMoment, FromRest, FromScript, HeardEnds, HeardOne, IsReadyFor, Moment, OpeningEnds, SomeMoment, SomeRest, TableEnds, opening_text};
+ghost use Rattle.supervisor.specs.Handing.{text_made};
+ghost use Rattle.supervisor.specs.Texts.{HasTexts};
+ghost use Rattle.supervisor.specs.Moments.{Breaks, ComesToRest, FromMoment, FromRest, FromScript, HeardEnds, HeardOne, IsReadyFor, Lasts, Moment, OpeningEnds, SomeMoment, SomeRest, TableEnds, opening_text};
 ghost use Rattle.supervisor.specs.Said.{may_be_said, objection_in};
 ghost use Rattle.supervisor.specs.Simulation.{Done, Ends, IsTooLong, scenario};
 
+use crate::handing::{hand, objection_handed};
 use init_trace::{
     Happening, HappeningIn, Step, first_happening, line_count, print_one, print_table,
 };
@@ -148,6 +153,7 @@ fn run_until_rest<A: Allocator + Copy, W: Write>(
     ensures ok { IfOk result (λ rereads. FromMoment core.old side.old (λ goal past.
         ComesToRest goal past rereads core.new side.new (W.contents out.old)
         (W.contents out.new))) }
+    ensures generation { OnOk result (core.new.generation ≡ core.old.generation) }
     ensures err { IfErr result (λ fault. FromMoment core.old side.old (λ goal past.
         Breaks goal past fault (W.contents out.old) (W.contents out.new))) }
 {
@@ -162,56 +168,64 @@ fn run_until_rest<A: Allocator + Copy, W: Write>(
     }
 }
 
-/// What is objected to a happening: a table, and that inittab could not be read, come only where it is to be read.
-fn objection_to<A: Allocator>(
+/// What is objected to a happening: a table, and that inittab could not be read, come only where it is to be read, and a
+/// hand-over where it can be made.
+fn objection_to<A: Allocator + Copy>(
+    alloc: A,
+    core: &Core<A>,
     side: &SimulatedSystem<A>,
     happening: &HappeningIn<A>,
     rereads: bool,
-) -> Option<Objection>
-    ensures { result ≡ objection_in rereads side.now happening.now }
+) -> Result<Option<Objection>, Memory>
+    ensures { IfOk result (λ objection. objection ≡ objection_in rereads core.now.generation
+        (length (text_made core.now)) side.now happening.now) }
 {
     match happening {
         Happening::NewTable(_) | Happening::NotRead => {
             if rereads {
-                None
+                Ok(None)
             } else {
-                Some(Objection::NotNow)
+                Ok(Some(Objection::NotNow))
             }
         }
-        _ => side.objection(happening),
+        Happening::Handed(how) => objection_handed(alloc, core, *how),
+        _ => Ok(side.objection(happening)),
     }
 }
 
 /// The core takes a copy of the table for that in force.
-fn adopt<A: Allocator + Copy>(
-    alloc: A,
-    core: &mut Core<A>,
-    table: &Table<A>,
-) -> Result<(), SimFault>
+fn adopt<A: Allocator + Copy>(alloc: A, core: &mut Core<A>, table: &Table<A>) -> Result<(), Memory>
     requires { is_quiet core.old.slots ≡ true }
-    ensures ok { OnOk result (OnEachTrace core.old (λ goal past.
+    ensures state { OnOk result (core.new ≡ after_adopt table.now core.old) }
+    ensures fits { OnOk result (OnEachTrace core.old (λ goal past.
         Fits core.new goal (NewTable table.now ∷ past))) }
-    ensures err { IsOkUnless result SimFault.Memory }
+    ensures rules { OnOk result (KeepsRules core.old → KeepsRules core.new) }
 {
     let copy = table.copy(alloc)?;
     match core.adopt(copy) {
         Ok(()) => Ok(()),
-        Err(Refusal::Memory) => Err(SimFault::Memory),
+        Err(Refusal::Memory) => Err(Memory),
         Err(_) => unreachable!(),
     }
 }
 
-/// The core hears what came.
+/// The core hears what came. Given, and given back, are the state texts that were made.
 fn pass_on<A: Allocator + Copy>(
     alloc: A,
     core: &mut Core<A>,
+    made: &mut Vec<Vec<u8, A>, A>,
     side: &SimulatedSystem<A>,
     happening: &HappeningIn<A>,
-) -> Result<(), SimFault>
-    requires { IsReadyFor happening.now core.old }
-    ensures ok { OnOk result (FromMoment core.old side.now (λ goal past.
+) -> Result<(), Memory>
+    requires ready { IsReadyFor happening.now core.old }
+    requires made { HasTexts (map (λ text. text.items) made.old.items) core.old.generation }
+    requires ranged { is_in_range happening.now ≡ true }
+    ensures fits { OnOk result (FromMoment core.old side.now (λ goal past.
         may_be_said goal happening.now past ≡ true → Fits core.new goal (happening.now ∷ past))) }
-    ensures err { IsOkUnless result SimFault.Memory }
+    ensures lasts { OnOk result (FromMoment core.old side.now (λ goal past.
+        may_be_said goal happening.now past ≡ true → Lasts core.new goal (happening.now ∷ past))) }
+    ensures made { OnOk result
+        (HasTexts (map (λ text. text.items) made.new.items) core.new.generation) }
 {
     match happening {
         Happening::NewTable(table) => adopt(alloc, core, table)?,
@@ -224,6 +238,7 @@ fn pass_on<A: Allocator + Copy>(
         Happening::Clock(reading) => core.clock(*reading),
         Happening::Nudge => core.nudge(),
         Happening::Got(request) => core.got(*request),
+        Happening::Handed(how) => hand(alloc, core, made, *how)?,
         _ => {}
     }
     Ok(())
@@ -233,20 +248,25 @@ fn pass_on<A: Allocator + Copy>(
 fn hear<A: Allocator + Copy, W: Write>(
     alloc: A,
     core: &mut Core<A>,
+    made: &mut Vec<Vec<u8, A>, A>,
     side: &mut SimulatedSystem<A>,
     out: &mut W,
     happening: &HappeningIn<A>,
 ) -> Result<(), SimFault>
-    requires { IsReadyFor happening.now core.old }
+    requires ready { IsReadyFor happening.now core.old }
+    requires made { HasTexts (map (λ text. text.items) made.old.items) core.old.generation }
+    requires ranged { is_in_range happening.now ≡ true }
     ensures text { OnOk result
         (Appends (W.contents out.old) (W.contents out.new) (event_text happening.now)) }
     ensures ok { OnOk result (FromMoment core.old side.old (λ goal past.
         may_be_said goal happening.now past ≡ true
         → Moment goal (happening.now ∷ past) core.new side.new)) }
+    ensures made { OnOk result
+        (HasTexts (map (λ text. text.items) made.new.items) core.new.generation) }
     ensures err { IfErr result (λ fault.
         Leaves fault (W.contents out.old) (W.contents out.new) (event_text happening.now)) }
 {
-    pass_on(alloc, core, side, happening)?;
+    pass_on(alloc, core, made, side, happening)?;
     write_happening(alloc, out, happening)?;
     side.take(happening)?;
     Ok(())
@@ -257,6 +277,7 @@ fn hear<A: Allocator + Copy, W: Write>(
 fn hear_next<A: Allocator + Copy, W: Write>(
     alloc: A,
     core: &mut Core<A>,
+    made: &mut Vec<Vec<u8, A>, A>,
     side: &mut SimulatedSystem<A>,
     out: &mut W,
     happening: &HappeningIn<A>,
@@ -264,17 +285,20 @@ fn hear_next<A: Allocator + Copy, W: Write>(
     number: u64,
 ) -> Result<bool, SimFault>
     requires rests { SomeRest rereads core.old side.old }
+    requires made { HasTexts (map (λ text. text.items) made.old.items) core.old.generation }
     requires ranged { is_in_range happening.now ≡ true }
+    ensures made { OnOk result
+        (HasTexts (map (λ text. text.items) made.new.items) core.new.generation) }
     ensures ok { IfOk result (λ next. FromRest rereads core.old side.old (λ goal past.
         HeardOne goal past happening.now next core.new side.new (W.contents out.old)
         (W.contents out.new))) }
     ensures err { IfErr result (λ fault. FromRest rereads core.old side.old (λ goal past.
         HeardEnds goal past happening.now number fault (W.contents out.old) (W.contents out.new))) }
 {
-    if let Some(objection) = objection_to(side, happening, rereads) {
+    if let Some(objection) = objection_to(alloc, core, side, happening, rereads)? {
         return Err(SimFault::Forbidden(number, objection));
     }
-    hear(alloc, core, side, out, happening)?;
+    hear(alloc, core, made, side, out, happening)?;
     run_until_rest(alloc, core, side, out)
 }
 
@@ -300,6 +324,9 @@ fn open_run<A: Allocator + Copy, W: Write>(
 ) -> Result<Core<A>, SimFault>
     ensures fits { IfOk result (λ core. Fits core (opening_goal level (table_of_text inittab.now))
         (NewTable (table_of_text inittab.now) ∷ [])) }
+    ensures lasts { IfOk result (λ core.
+        Lasts core (opening_goal level (table_of_text inittab.now))
+        (NewTable (table_of_text inittab.now) ∷ [])) }
     ensures text { OnOk result
         (Appends (W.contents out.old) (W.contents out.new) (opening_text inittab.now)) }
     ensures limit { IsTooLong inittab.now → result ≡ Err SimFault.Table }
@@ -323,7 +350,8 @@ fn hear_all<A: Allocator + Copy, W: Write>(
     text: &[u8],
     rereads: bool,
 ) -> Result<(), SimFault>
-    requires { SomeRest rereads core.old side.old }
+    requires rests { SomeRest rereads core.old side.old }
+    requires none { core.old.generation ≡ 0 }
     ensures done { OnOk result (
         FromScript text.now rereads core.old side.old (W.contents out.old)
         (λ s before. Done s before (W.contents out.new))) }
@@ -331,6 +359,7 @@ fn hear_all<A: Allocator + Copy, W: Write>(
         FromScript text.now rereads core.old side.old (W.contents out.old)
         (λ s before. Ends s fault before (W.contents out.new))) }
 {
+    let mut made = Vec::new(alloc);
     let mut rest = text;
     let mut number = 1;
     let mut reads = rereads;
@@ -338,7 +367,7 @@ fn hear_all<A: Allocator + Copy, W: Write>(
         let Some((happening, more)) = first_happening(alloc, rest)? else {
             return Err(SimFault::Script(number));
         };
-        reads = hear_next(alloc, core, side, out, &happening, reads, number)?;
+        reads = hear_next(alloc, core, &mut made, side, out, &happening, reads, number)?;
         number += line_count(&happening);
         rest = more;
     }
@@ -351,7 +380,13 @@ fn hear_all<A: Allocator + Copy, W: Write>(
 /// is given, it is the table's `initdefault`, and S without one.
 ///
 /// Where inittab is to be read, a table of the script (`use`, and its lines behind it) is what was read, and `notread`
-/// that it could not be; where it is not, neither may come. A hand-over is not simulated, so it may not come at all.
+/// that it could not be; where it is not, neither may come.
+///
+/// At `handed` init's state is written, carried and taken over, and the wish for it is over. What came whole (`whole`) is
+/// the core that goes on. Where the text is cut after so many bytes, of which it must have more (`cut`), or an older one
+/// of the run comes in its place, which must have been made (`older`, by its generation), it is refused and the old core
+/// goes on. Each of the three makes a text and raises the generation, and may not come where no generation is left.
+/// `handed none` makes nothing.
 ///
 /// The run ends at the end of the script, or before the first line that is no line of a trace (`Script`) or may not
 /// come (`Forbidden`, with the reason), by its number from 1; the lines of a table count, and it is named by its first.

@@ -34,7 +34,7 @@ objection_to side (Clock reading) = None
 objection_to side Nudge = None
 objection_to side (Got request) = None
 objection_to side (NewTable table) = Some objection.NotNow
-objection_to side (Handed how) = Some objection.NoHandOver
+objection_to side (Handed how) = None
 objection_to side _ = Some objection.OwnStep
 
 -- the objection in words
@@ -48,4 +48,7 @@ objection_text (objection.NoneDead id number) = id ++ codes " has no dead child 
 objection_text (objection.NothingDone id) = codes "nothing is to be told of " ++ id
 objection_text objection.OwnStep = codes "this is a step of init itself"
 objection_text objection.NotNow = codes "inittab is not to be read now"
-objection_text objection.NoHandOver = codes "a hand-over is not simulated"
+objection_text (objection.NotCut bytes) = codes "the state text has no more than " ++ decimal bytes ++ codes " bytes"
+objection_text (objection.NoneOlder generation) =
+    codes "no state text of generation " ++ decimal generation ++ codes " was made"
+objection_text objection.Worn = codes "no generation is left"

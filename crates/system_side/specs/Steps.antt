@@ -2,7 +2,7 @@
 use Rattle.std.specs.Prelude.{ℕ, Bool, true, false, List, Option, is_some}
 use Rattle.init_words.specs.declared.orders.Ask.{Ask}
 use Rattle.init_words.specs.declared.orders.Answer.{Answer}
-use Rattle.init_trace.specs.declared.happenings.Happening.TheVariants.{Asked, NotRead, Birth, NoBirth, Death, Reaped, Still, NoLook, Hit, Miss, Told, Clock, Nudge, Got}
+use Rattle.init_trace.specs.declared.happenings.Happening.TheVariants.{Asked, NotRead, Birth, NoBirth, Death, Reaped, Still, NoLook, Hit, Miss, Told, Clock, Nudge, Got, Handed}
 use Rattle.init_trace.specs.Event.{Event, act_in}
 use Rattle.init_trace.specs.Past.{undone_by}
 use Rattle.init_trace.specs.Answered.{answered_by}
@@ -24,6 +24,7 @@ is_script (Clock reading) = true
 is_script Nudge = true
 is_script NotRead = true
 is_script (Got request) = true
+is_script (Handed how) = true
 is_script _ = false
 
 -- what is taken in needs room: an order, or an act on one

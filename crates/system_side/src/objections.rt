@@ -24,8 +24,12 @@ pub enum Objection {
     OwnStep,
     /// Inittab is not read where this stands.
     NotNow,
-    /// A hand-over of init's state is not simulated.
-    NoHandOver,
+    /// The state text that the hand-over makes has no more than so many bytes.
+    NotCut(u64),
+    /// No state text of the generation was made before.
+    NoneOlder(u64),
+    /// No generation is left for another state text.
+    Worn,
 }
 
 impl fmt::Display for Objection {
@@ -56,7 +60,13 @@ impl fmt::Display for Objection {
             Objection::NothingDone(id) => write!(f, "nothing is to be told of {}", id_text(id)),
             Objection::OwnStep => f.write_str("this is a step of init itself"),
             Objection::NotNow => f.write_str("inittab is not to be read now"),
-            Objection::NoHandOver => f.write_str("a hand-over is not simulated"),
+            Objection::NotCut(bytes) => {
+                write!(f, "the state text has no more than {bytes} bytes")
+            }
+            Objection::NoneOlder(generation) => {
+                write!(f, "no state text of generation {generation} was made")
+            }
+            Objection::Worn => f.write_str("no generation is left"),
         }
     }
 }

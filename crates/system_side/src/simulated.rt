@@ -76,7 +76,7 @@ impl<A: Allocator> SimulatedSystem<A> {
     ghost use Rattle.system_side.specs.Follows.{Follows};
 
     /// The happening may come next, and is one of the system or of the edge: an act on an order, a death, a telling, a
-    /// nudge, a reading of the clock, a request, or that inittab could not be read. A step of init is never allowed.
+    /// nudge, a reading of the clock, a request, a hand-over, or that inittab could not be read. A step of init is never allowed.
     pub fn allows<B: Allocator>(&self, happening: &HappeningIn<B>) -> bool
         ensures may_come { (goal : Goal) (past : List Event)
             → IsTrue (is_sound goal past) → Follows self.now past
@@ -132,9 +132,12 @@ impl<A: Allocator> SimulatedSystem<A> {
             Happening::Told(id) => {
                 unless(self.answers.get(id).is_some(), Objection::NothingDone(*id))
             }
-            Happening::NotRead | Happening::Clock(_) | Happening::Nudge | Happening::Got(_) => None,
+            Happening::NotRead
+            | Happening::Clock(_)
+            | Happening::Nudge
+            | Happening::Got(_)
+            | Happening::Handed(_) => None,
             Happening::NewTable(_) => Some(Objection::NotNow),
-            Happening::Handed(_) => Some(Objection::NoHandOver),
             _ => Some(Objection::OwnStep),
         }
     }

@@ -8,7 +8,7 @@ use Rattle.supervisor.proofs.running.hear.Goals as goal
 
 pub returns-clause-ok : goal.returns-clause-ok
 returns-clause-ok g c goal past moment may =
-    moment_heard goal past c.args.happening.now c.args.core.now c.pass_on.new.core c.args.side.now c.take.new.self moment may (c.in_ok-pass_on.ensures.ok goal past moment may)
+    moment_heard goal past c.args.happening.now c.args.core.now c.pass_on.new.core c.args.side.now c.take.new.self moment may (c.in_ok-pass_on.ensures.fits goal past moment may) (c.in_ok-pass_on.ensures.lasts goal past moment may)
     (λ sound follows. c.in_ok-take.ensures.ok goal past sound follows)
 
 -- the happening was written and not taken in

@@ -1,4 +1,4 @@
-use Rattle.std.proofs.Common.{rules, ◌≡◌, ◌≢◌, ◌++◌, ◌<◌, [], true, Err, length, ap, arith}
+use Rattle.std.proofs.Common.{rules, ◌≡◌, ◌≢◌, ◌++◌, ◌+◌, ◌<◌, ◌≤◌, [], true, Err, length, ap, arith}
 use Rattle.std.proofs.lemmas.Grind.{common_steps}
 use Rattle.std.proofs.lemmas.List.{nil_from_length}
 use Rattle.init_trace.specs.Lines.{event_text}
@@ -31,6 +31,13 @@ returns-in_err-reads-clause-ended g c =
     heard_ends s c.loop-rest.rest.now c.in-Some.more.now c.in-Some.happening c.loop-rest.number c.loop-rest.reads c.loop-rest.core c.loop-rest.side f before (g.W.Write.contents c.loop-rest.out) (g.W.Write.contents c.hear_next.new.out)
     (c.loop-rest.invariant.so_far s before so_far) found.0 found.1 c.in_err-reads.ensures.err)
 
+pub overflow_add-number : goal.overflow_add-number
+overflow_add-number g c =
+    let found : (is_in_range c.in-Some.happening ≡ true) × (event_text c.in-Some.happening ++ c.in-Some.more.now ≡ c.loop-rest.rest.now) = search rules in
+    let lines = lines_within c.in-Some.happening c.in-Some.more.now c.loop-rest.rest.now found.0 found.1 in
+    let bound : c.loop-rest.number + c.line_count-number.result ≤ length c.args.text.now + 1 = rw c.line_count-number.ensures (omega (arith, lines, c.loop-rest.invariant.bounded)) in
+    grind (arith, common_steps)
+
 pub loop-rest-preserved-in_ok-reads : goal.loop-rest-preserved-in_ok-reads
 loop-rest-preserved-in_ok-reads g c =
     let found : (is_in_range c.in-Some.happening ≡ true) × (event_text c.in-Some.happening ++ c.in-Some.more.now ≡ c.loop-rest.rest.now) = search rules in
@@ -38,6 +45,7 @@ loop-rest-preserved-in_ok-reads g c =
     let (goal, past, at) = invariant.some in
     let (next, more, rests, hears, written) = c.in_ok-reads.ensures.ok goal past at in
     rw c.line_count-number.ensures (record {
+      texts = c.in_ok-reads.ensures.made;
       bounded = omega (arith, lines_within c.in-Some.happening c.in-Some.more.now c.loop-rest.rest.now found.0 found.1, invariant.bounded);
       some = (goal, next, rests);
       so_far = λ s before so_far.
@@ -52,6 +60,7 @@ loop-rest-preserved g c =
     let (goal, past, at) = invariant.some in
     let (next, more, rests, hears, written) = c.in_ok-reads.ensures.ok goal past at in
     rw c.line_count-number.ensures (record {
+      texts = c.in_ok-reads.ensures.made;
       bounded = omega (arith, lines_within c.in-Some.happening c.in-Some.more.now c.loop-rest.rest.now found.0 found.1, invariant.bounded);
       some = (goal, next, rests);
       so_far = λ s before so_far.

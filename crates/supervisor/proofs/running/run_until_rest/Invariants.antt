@@ -1,3 +1,4 @@
+use Rattle.std.proofs.Common.{◌≡◌}
 use Rattle.core_state.specs.Work.{work_left}
 use Rattle.supervisor.specs.Moments.{FromMoment, SomeMoment}
 use Rattle.supervisor.proofs.Moves.{WentOn}
@@ -7,6 +8,7 @@ use Rattle.supervisor.proofs.running.run_until_rest.Given as goal
 abbrev pub invariant-steps : goal.invariant-steps
 invariant-steps g l = record {
   some : SomeMoment l.core l.side;
+  generation : l.core.generation ≡ l.fn.core.generation;
   all : FromMoment l.fn.core l.fn.side (λ goal past. WentOn goal past l.core l.side (g.W.Write.contents l.fn.out) (g.W.Write.contents l.out));
 }
 

@@ -26,7 +26,7 @@ returns-in_err-rereads-clause-ended g c =
     (broken_ends s f (g.W.Write.contents c.args.out.now) (g.W.Write.contents c.run_until_rest.new.out)
     (broken_first s f (g.W.Write.contents c.args.out.now) (g.W.Write.contents c.open_run.new.out) (g.W.Write.contents c.run_until_rest.new.out) c.in_ok-core.ensures.text
     (c.in_err-rereads.ensures.err (goal_in s) (NewTable (table_of_text c.args.inittab.now) ∷ [])
-    (first_moment c.args.inittab.now (goal_in s) c.in_ok-core.core c.new-side.result c.in_ok-core.ensures.fits (c.new-side.ensures (table_of_text c.args.inittab.now))))))
+    (first_moment c.args.inittab.now (goal_in s) c.in_ok-core.core c.new-side.result c.in_ok-core.ensures.fits c.in_ok-core.ensures.lasts (c.new-side.ensures (table_of_text c.args.inittab.now))))))
 
 pub returns-in_err-script-clause-ended : goal.returns-in_err-script-clause-ended
 returns-in_err-script-clause-ended g c =
@@ -35,19 +35,19 @@ returns-in_err-script-clause-ended g c =
     (g.W.Write.contents c.args.out.now) (g.W.Write.contents c.open_run.new.out) (g.W.Write.contents c.run_until_rest.new.out)
     c.in_ok-core.ensures.text
     (c.in_ok-rereads.ensures.ok (goal_in s) (NewTable (table_of_text c.args.inittab.now) ∷ [])
-    (first_moment c.args.inittab.now (goal_in s) c.in_ok-core.core c.new-side.result c.in_ok-core.ensures.fits (c.new-side.ensures (table_of_text c.args.inittab.now)))) in
+    (first_moment c.args.inittab.now (goal_in s) c.in_ok-core.core c.new-side.result c.in_ok-core.ensures.fits c.in_ok-core.ensures.lasts (c.new-side.ensures (table_of_text c.args.inittab.now)))) in
     let is : c.from_residual-in_err-script.result ≡ Err fault.Memory = search (rules, c.from_residual-in_err-script.ensures) in
     err_is c.from_residual-in_err-script.result fault.Memory _ is
     (memory_ends s (script_in s) 1 c.in_ok-rereads.rereads c.run_until_rest.new.core c.run_until_rest.new.side (g.W.Write.contents c.args.out.now) (g.W.Write.contents c.run_until_rest.new.out) so_far)
 
-pub hear_all-requires : goal.hear_all-requires
-hear_all-requires g c =
+pub hear_all-requires-clause-rests : goal.hear_all-requires-clause-rests
+hear_all-requires-clause-rests g c =
     let s = scenario c.args.level c.args.inittab.now c.args.script.now in
     let so_far = so_far_first s c.in_ok-rereads.rereads c.run_until_rest.new.core c.run_until_rest.new.side
     (g.W.Write.contents c.args.out.now) (g.W.Write.contents c.open_run.new.out) (g.W.Write.contents c.run_until_rest.new.out)
     c.in_ok-core.ensures.text
     (c.in_ok-rereads.ensures.ok (goal_in s) (NewTable (table_of_text c.args.inittab.now) ∷ [])
-    (first_moment c.args.inittab.now (goal_in s) c.in_ok-core.core c.new-side.result c.in_ok-core.ensures.fits (c.new-side.ensures (table_of_text c.args.inittab.now)))) in
+    (first_moment c.args.inittab.now (goal_in s) c.in_ok-core.core c.new-side.result c.in_ok-core.ensures.fits c.in_ok-core.ensures.lasts (c.new-side.ensures (table_of_text c.args.inittab.now)))) in
     (goal_in s, so_far.past, so_far.at)
 
 pub returns-clause-done : goal.returns-clause-done
@@ -57,7 +57,7 @@ returns-clause-done g c =
     (g.W.Write.contents c.args.out.now) (g.W.Write.contents c.open_run.new.out) (g.W.Write.contents c.run_until_rest.new.out)
     c.in_ok-core.ensures.text
     (c.in_ok-rereads.ensures.ok (goal_in s) (NewTable (table_of_text c.args.inittab.now) ∷ [])
-    (first_moment c.args.inittab.now (goal_in s) c.in_ok-core.core c.new-side.result c.in_ok-core.ensures.fits (c.new-side.ensures (table_of_text c.args.inittab.now)))) in
+    (first_moment c.args.inittab.now (goal_in s) c.in_ok-core.core c.new-side.result c.in_ok-core.ensures.fits c.in_ok-core.ensures.lasts (c.new-side.ensures (table_of_text c.args.inittab.now)))) in
     let whole : script_in s ≡ c.deref.result.now = search rules in
     ok_then c.hear_all.result c.hear_all.ensures.done (λ all.
     all s (g.W.Write.contents c.args.out.now) (subst (λ text. SoFar s text 1 c.in_ok-rereads.rereads c.run_until_rest.new.core c.run_until_rest.new.side (g.W.Write.contents c.args.out.now) (g.W.Write.contents c.run_until_rest.new.out)) whole so_far))
@@ -69,7 +69,7 @@ returns-clause-ended g c =
     (g.W.Write.contents c.args.out.now) (g.W.Write.contents c.open_run.new.out) (g.W.Write.contents c.run_until_rest.new.out)
     c.in_ok-core.ensures.text
     (c.in_ok-rereads.ensures.ok (goal_in s) (NewTable (table_of_text c.args.inittab.now) ∷ [])
-    (first_moment c.args.inittab.now (goal_in s) c.in_ok-core.core c.new-side.result c.in_ok-core.ensures.fits (c.new-side.ensures (table_of_text c.args.inittab.now)))) in
+    (first_moment c.args.inittab.now (goal_in s) c.in_ok-core.core c.new-side.result c.in_ok-core.ensures.fits c.in_ok-core.ensures.lasts (c.new-side.ensures (table_of_text c.args.inittab.now)))) in
     let whole : script_in s ≡ c.deref.result.now = search rules in
     err_then c.hear_all.result _ _ c.hear_all.ensures.ended (λ f all.
     all s (g.W.Write.contents c.args.out.now) (subst (λ text. SoFar s text 1 c.in_ok-rereads.rereads c.run_until_rest.new.core c.run_until_rest.new.side (g.W.Write.contents c.args.out.now) (g.W.Write.contents c.run_until_rest.new.out)) whole so_far))
