@@ -22,30 +22,12 @@ use Rattle.core_state.specs.News.{has_news, first_news}
 use Rattle.core_state.specs.State.{CoreState}
 use Rattle.core_state.specs.Decide as core
 use Rattle.core_state.specs.Decide.{or_else, or_idle, level_step, wish_step, stands, has_excluded, all_done, all_served, look_among, work_step, decide_in, decide}
-use Rattle.core_state.specs.Fit.{Fits, news_of, records_of}
+use Rattle.core_state.specs.Fit.{Fits, core_read, news_of, records_of}
 use Rattle.core_state.proofs.Fitted.{fit_records}
 use Rattle.core_state.proofs.Firsts.{head, first_by_head, head_step_if, head_steps_if}
 use Rattle.core_state.proofs.Reading.{quiet_same, idle_same, excluded_same, kept_excluded_same}
 use Rattle.core_state.proofs.Ranks.{starts_same, all_done_same, all_served_same, looks_same}
 use Rattle.core_state.proofs.Stops.{stops_same}
-
--- the core as the past has it, with this goal, executed anew this often
-abbrev pub core_read : List Event → Goal → ℕ → CoreState
-core_read past g n = record {
-  table = table_of past;
-  slots = records_of past;
-  stage = stage_of past;
-  grace = grace_of past;
-  goal = g;
-  booted = was_booted past;
-  announced = is_announced past;
-  time = time_of past;
-  reexec = wants_reexec past;
-  reread = wants_reread past;
-  level_wish = level_wish past;
-  news = news_of past;
-  generation = n;
-}
 
 pub is_read : (c : CoreState) (goal : Goal) (past : List Event) → Fits c goal past → c ≡ core_read past c.goal c.generation
 is_read c goal past fits = λ i. record {

@@ -171,6 +171,24 @@ record_of past id = record {
 abbrev pub records_of : List Event → List SlotState
 records_of past = map (record_of past) (record_ids past)
 
+-- what init keeps as the past has it, with this goal and of this generation
+abbrev pub core_read : List Event → Goal → ℕ → CoreState
+core_read so_far goal generation = record {
+  table = table_of so_far;
+  slots = records_of so_far;
+  stage = stage_of so_far;
+  grace = grace_of so_far;
+  goal = goal;
+  booted = was_booted so_far;
+  announced = is_announced so_far;
+  time = time_of so_far;
+  reexec = wants_reexec so_far;
+  reread = wants_reread so_far;
+  level_wish = level_wish so_far;
+  news = news_of so_far;
+  generation = generation;
+}
+
 -- the trace with the happening of a step; a reading, a hand-over and idling are none
 abbrev pub with_step : Step → List Event → List Event
 with_step (step.Enter stage grace) so_far = past.Enter stage grace ∷ so_far

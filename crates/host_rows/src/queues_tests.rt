@@ -1,21 +1,218 @@
 //! Each call takes the first of its queue, and has an answer of its own where the queue is empty.
 
-use crate::fixtures::id_of;
+use crate::fixtures::{fill, id_of};
 use child_host::{Bytes, Host, HostFault, MemoryHost, Reply};
-use init_words::{Answer, Ask, ChildNo, Id, Sig, Status};
+use init_words::{Answer, ChildNo, Id, Memory, Sig, Status};
+use linked_list_allocator::LocalHeap;
 use std::alloc::Global;
 use std::process::Abort;
 use std::test::Fail;
 
-/// An order, the replies that its queue is given, those to as many calls and one more, and how many of them are faults.
-/// A reply is a letter: `l`ater, `b`orn, `n`ot born, `e`nded, `a`live, `o` that the look failed, `h`it, `m`iss.
-const REPLIES: &[(Ask, &[u8], &[u8], u64)] = &[
-    (Ask::Start, b"", b"n", 1),
-    (Ask::Start, b"bnl", b"bnln", 2),
-    (Ask::Look, b"", b"a", 0),
-    (Ask::Look, b"oel", b"oela", 1),
-    (Ask::Term, b"", b"h", 0),
-    (Ask::Kill, b"mhml", b"mhmlh", 2),
+type Text = Result<&'static [u8], HostFault>;
+
+type Reading = Result<u64, HostFault>;
+
+/// What a queue is given. A reply is a letter: `l`ater, `b`orn, `n`ot born, `e`nded, `a`live, `o` that the look failed,
+/// `h`it, `m`iss. A late answer is a hit, a miss, or the end of a round.
+#[derive(Clone, Copy)]
+enum Gift {
+    Start(u8),
+    Look(u8),
+    Signal(u8),
+    Late(Option<bool>),
+    Clock(Reading),
+    Bytes(Text),
+    Table(Text),
+    Carry(Text),
+}
+
+/// A call, and what it is to give. Bytes are taken with so much room; the last two have none for their text.
+#[derive(Clone, Copy)]
+enum Want {
+    Start(u8),
+    Look(u8),
+    Term(u8),
+    Kill(u8),
+    Late(Option<bool>),
+    Clock(Reading),
+    Bytes(usize, Text),
+    Table(Text),
+    Carry(Text),
+    NoTable,
+    NoCarry,
+}
+
+/// What a host is given, the calls that are made then, and how many of them are faults.
+struct Row {
+    gifts: &'static [Gift],
+    calls: &'static [Want],
+    faults: u64,
+}
+
+const INITTAB: Text = Ok(b"id:3:initdefault:\n");
+
+const STATE: &[u8] = b"state";
+
+const DEVICE: Text = Err(HostFault::Device);
+
+const ROWS: &[Row] = &[
+    // Orders.
+    Row {
+        gifts: &[],
+        calls: &[Want::Start(b'n')],
+        faults: 1,
+    },
+    Row {
+        gifts: &[Gift::Start(b'b'), Gift::Start(b'n'), Gift::Start(b'l')],
+        calls: &[
+            Want::Start(b'b'),
+            Want::Start(b'n'),
+            Want::Start(b'l'),
+            Want::Start(b'n'),
+        ],
+        faults: 2,
+    },
+    Row {
+        gifts: &[],
+        calls: &[Want::Look(b'a')],
+        faults: 0,
+    },
+    Row {
+        gifts: &[Gift::Look(b'o'), Gift::Look(b'e'), Gift::Look(b'l')],
+        calls: &[
+            Want::Look(b'o'),
+            Want::Look(b'e'),
+            Want::Look(b'l'),
+            Want::Look(b'a'),
+        ],
+        faults: 1,
+    },
+    Row {
+        gifts: &[],
+        calls: &[Want::Term(b'h')],
+        faults: 0,
+    },
+    Row {
+        gifts: &[
+            Gift::Signal(b'm'),
+            Gift::Signal(b'h'),
+            Gift::Signal(b'm'),
+            Gift::Signal(b'l'),
+        ],
+        calls: &[
+            Want::Kill(b'm'),
+            Want::Kill(b'h'),
+            Want::Kill(b'm'),
+            Want::Kill(b'l'),
+            Want::Kill(b'h'),
+        ],
+        faults: 2,
+    },
+    // Late answers: a hit, the end of a round, and a miss, which is a fault. None follows.
+    Row {
+        gifts: &[
+            Gift::Late(Some(true)),
+            Gift::Late(None),
+            Gift::Late(Some(false)),
+        ],
+        calls: &[
+            Want::Late(Some(true)),
+            Want::Late(None),
+            Want::Late(Some(false)),
+            Want::Late(None),
+        ],
+        faults: 1,
+    },
+    // Readings of the clock.
+    Row {
+        gifts: &[
+            Gift::Clock(Ok(5)),
+            Gift::Clock(Err(HostFault::Device)),
+            Gift::Clock(Ok(4)),
+            Gift::Clock(Err(HostFault::Memory)),
+        ],
+        calls: &[
+            Want::Clock(Ok(5)),
+            Want::Clock(Err(HostFault::Device)),
+            Want::Clock(Ok(4)),
+            Want::Clock(Err(HostFault::Memory)),
+            Want::Clock(Ok(0)),
+        ],
+        faults: 2,
+    },
+    // Bytes that don't fit stay.
+    Row {
+        gifts: &[],
+        calls: &[Want::Bytes(4, Ok(b""))],
+        faults: 0,
+    },
+    Row {
+        gifts: &[
+            Gift::Bytes(Ok(b"abcde")),
+            Gift::Bytes(Ok(b"")),
+            Gift::Bytes(Ok(b"fg")),
+        ],
+        calls: &[
+            Want::Bytes(2, Ok(b"ab")),
+            Want::Bytes(0, Ok(b"")),
+            Want::Bytes(2, Ok(b"cd")),
+            Want::Bytes(8, Ok(b"e")),
+            Want::Bytes(8, Ok(b"")),
+            Want::Bytes(2, Ok(b"fg")),
+            Want::Bytes(8, Ok(b"")),
+        ],
+        faults: 0,
+    },
+    Row {
+        gifts: &[
+            Gift::Bytes(Ok(b"abc")),
+            Gift::Bytes(DEVICE),
+            Gift::Bytes(Ok(b"d")),
+        ],
+        calls: &[
+            Want::Bytes(1, Ok(b"a")),
+            Want::Bytes(8, Ok(b"bc")),
+            Want::Bytes(8, DEVICE),
+            Want::Bytes(8, Ok(b"d")),
+        ],
+        faults: 1,
+    },
+    // The inittab.
+    Row {
+        gifts: &[
+            Gift::Table(INITTAB),
+            Gift::Table(DEVICE),
+            Gift::Table(Ok(b"x")),
+        ],
+        calls: &[
+            Want::Table(INITTAB),
+            Want::Table(DEVICE),
+            Want::Table(Ok(b"x")),
+            Want::Table(Ok(b"")),
+        ],
+        faults: 1,
+    },
+    // A text that is carried.
+    Row {
+        gifts: &[
+            Gift::Carry(INITTAB),
+            Gift::Carry(DEVICE),
+            Gift::Carry(Ok(b"x")),
+        ],
+        calls: &[
+            Want::Carry(INITTAB),
+            Want::Carry(DEVICE),
+            Want::Carry(Ok(b"x")),
+            Want::Carry(Ok(STATE)),
+        ],
+        faults: 1,
+    },
+    // There is no room for the inittab's text, nor for the one that is carried.
+    Row {
+        gifts: &[Gift::Table(INITTAB)],
+        calls: &[Want::NoTable, Want::NoCarry],
+        faults: 2,
+    },
 ];
 
 fn reply_of(letter: u8) -> Reply {
@@ -31,144 +228,43 @@ fn reply_of(letter: u8) -> Reply {
     }
 }
 
-fn give(host: &mut MemoryHost, ask: Ask, reply: Reply) -> Result<(), Fail> {
-    match ask {
-        Ask::Start => host.give_start(reply)?,
-        Ask::Look => host.give_look(reply)?,
-        Ask::Term | Ask::Kill => host.give_signal(reply)?,
-    }
-    Ok(())
-}
-
-fn call(alloc: Global, host: &mut MemoryHost, ask: Ask, id: Id) -> Reply {
-    match ask {
-        Ask::Start => host.start(alloc, id, b"/bin/serv"),
-        Ask::Look => host.look(id),
-        Ask::Term => host.signal(id, Sig::Term),
-        Ask::Kill => host.signal(id, Sig::Kill),
-    }
-}
-
-fn are_answered<R: Abort>(
-    rt: &R,
-    alloc: Global,
-    host: &mut MemoryHost,
-    ask: Ask,
-    want: &[u8],
-) -> Result<(), Fail> {
-    let id = id_of(b"r")?;
-    for letter in want {
-        assert!(rt; call(alloc, host, ask, id) == reply_of(*letter));
-    }
-    Ok(())
-}
-
-fn is_replied<R: Abort>(
-    rt: &R,
-    alloc: Global,
-    ask: Ask,
-    given: &[u8],
-    want: &[u8],
-    faults: u64,
-) -> Result<(), Fail> {
-    let mut host = MemoryHost::new(alloc);
-    for letter in given {
-        give(&mut host, ask, reply_of(*letter))?;
-    }
-    are_answered(rt, alloc, &mut host, ask, want)?;
-    assert!(rt; host.faults() == faults && told(&host) == Some(want.len()));
-    Ok(())
-}
-
-/// How many calls are told.
-fn told(host: &MemoryHost) -> Option<usize> {
-    Some(host.calls()?.len())
-}
-
-#[test]
-fn orders_are_answered(rt: HostRuntime) -> Result<(), Fail> {
-    for (ask, given, want, faults) in REPLIES {
-        is_replied(&rt, rt.alloc(), *ask, given, want, *faults)?;
-    }
-    Ok(())
-}
-
-/// Late answers that are given: a hit, the end of a round, and a miss, which is a fault. None follows.
-const LATES: &[Option<bool>] = &[Some(true), None, Some(false)];
-
-/// A hit or a miss, or the end of a round.
 fn late_of(id: Id, is_hit: Option<bool>) -> Option<(Id, Answer)> {
-    Some((id, if is_hit? { Answer::Hit } else { Answer::Miss }))
+    match is_hit {
+        Some(true) => Some((id, Answer::Hit)),
+        Some(false) => Some((id, Answer::Miss)),
+        None => None,
+    }
 }
 
-#[test]
-fn late_answers_come_in_order(rt: HostRuntime) -> Result<(), Fail> {
-    let id = id_of(b"late")?;
-    let mut host = MemoryHost::new(rt.alloc());
-    for is_hit in LATES {
-        host.give_late(late_of(id, *is_hit))?;
-    }
-    for is_hit in LATES {
-        assert!(rt; host.late() == late_of(id, *is_hit));
-    }
-    assert!(rt; host.late().is_none() && host.faults() == 1 && told(&host) == Some(4));
-    Ok(())
-}
-
-const READINGS: &[Result<u64, HostFault>] = &[
-    Ok(5),
-    Err(HostFault::Device),
-    Ok(4),
-    Err(HostFault::Memory),
-];
-
-#[test]
-fn the_clock_is_read_in_order(rt: HostRuntime) -> Result<(), Fail> {
-    let mut host = MemoryHost::new(rt.alloc());
-    for reading in READINGS {
-        host.give_clock(*reading)?;
-    }
-    for reading in READINGS {
-        assert!(rt; host.clock() == *reading);
-    }
-    assert!(rt; host.clock() == Ok(0) && host.faults() == 2 && told(&host) == Some(5));
-    Ok(())
-}
-
-type Text = Result<&'static [u8], HostFault>;
-
-/// Texts that are given, what calls give in their order, each with its room, and how many of them are faults.
-const PIECES: &[(&[Text], &[(usize, Text)], u64)] = &[
-    (&[], &[(4, Ok(b""))], 0),
-    (
-        &[Ok(b"abcde"), Ok(b""), Ok(b"fg")],
-        &[
-            (2, Ok(b"ab")),
-            (0, Ok(b"")),
-            (2, Ok(b"cd")),
-            (8, Ok(b"e")),
-            (8, Ok(b"")),
-            (2, Ok(b"fg")),
-            (8, Ok(b"")),
-        ],
-        0,
-    ),
-    (
-        &[Ok(b"abc"), Err(HostFault::Device), Ok(b"d")],
-        &[
-            (1, Ok(b"a")),
-            (8, Ok(b"bc")),
-            (8, Err(HostFault::Device)),
-            (8, Ok(b"d")),
-        ],
-        1,
-    ),
-];
-
-fn item_of(alloc: Global, text: Text) -> Result<Result<Bytes, HostFault>, Fail> {
+fn item_of(alloc: Global, text: Text) -> Result<Result<Bytes, HostFault>, Memory> {
     match text {
         Ok(text) => Ok(Ok(Bytes::copy_of(alloc, text)?)),
         Err(fault) => Ok(Err(fault)),
+    }
+}
+
+fn give_bytes(alloc: Global, host: &mut MemoryHost, text: Text) -> Result<(), Memory> {
+    host.give_bytes(item_of(alloc, text)?)
+}
+
+fn give_table(alloc: Global, host: &mut MemoryHost, text: Text) -> Result<(), Memory> {
+    host.give_table(item_of(alloc, text)?)
+}
+
+fn give_carry(alloc: Global, host: &mut MemoryHost, text: Text) -> Result<(), Memory> {
+    host.give_carry(item_of(alloc, text)?)
+}
+
+fn give(alloc: Global, host: &mut MemoryHost, id: Id, gift: Gift) -> Result<(), Memory> {
+    match gift {
+        Gift::Start(letter) => host.give_start(reply_of(letter)),
+        Gift::Look(letter) => host.give_look(reply_of(letter)),
+        Gift::Signal(letter) => host.give_signal(reply_of(letter)),
+        Gift::Late(is_hit) => host.give_late(late_of(id, is_hit)),
+        Gift::Clock(reading) => host.give_clock(reading),
+        Gift::Bytes(text) => give_bytes(alloc, host, text),
+        Gift::Table(text) => give_table(alloc, host, text),
+        Gift::Carry(text) => give_carry(alloc, host, text),
     }
 }
 
@@ -183,32 +279,6 @@ fn gives(host: &mut MemoryHost, room: usize, want: Text) -> bool {
     }
 }
 
-fn are_taken(
-    rt: &impl Abort,
-    alloc: Global,
-    given: &[Text],
-    want: &[(usize, Text)],
-    faults: u64,
-) -> Result<(), Fail> {
-    let mut host = MemoryHost::new(alloc);
-    for text in given {
-        host.give_bytes(item_of(alloc, *text)?)?;
-    }
-    for (room, text) in want {
-        assert!(rt; gives(&mut host, *room, *text));
-    }
-    assert!(rt; host.faults() == faults && told(&host) == Some(want.len()));
-    Ok(())
-}
-
-#[test]
-fn bytes_that_do_not_fit_stay(rt: HostRuntime) -> Result<(), Fail> {
-    for (given, want, faults) in PIECES {
-        are_taken(&rt, rt.alloc(), given, want, *faults)?;
-    }
-    Ok(())
-}
-
 fn is_text(given: Result<Vec<u8>, HostFault>, want: Text) -> bool {
     match given {
         Ok(text) => want == Ok(text.as_slice()),
@@ -216,32 +286,88 @@ fn is_text(given: Result<Vec<u8>, HostFault>, want: Text) -> bool {
     }
 }
 
-const TEXTS: &[Text] = &[Ok(b"id:3:initdefault:\n"), Err(HostFault::Device), Ok(b"x")];
+/// The fault of a call that gives a text in memory of a full heap.
+fn fault_over(
+    alloc: Global,
+    heap: &LocalHeap,
+    host: &mut MemoryHost,
+    is_table: bool,
+) -> Result<Option<HostFault>, Fail> {
+    let _fillers = fill(alloc, heap)?;
+    if is_table {
+        return Ok(host.read_table(heap).err());
+    }
+    Ok(host.carry(heap, STATE).err())
+}
 
-#[test]
-fn the_inittab_is_read_in_order(rt: HostRuntime) -> Result<(), Fail> {
-    let mut host = MemoryHost::new(rt.alloc());
-    for text in TEXTS {
-        host.give_table(item_of(rt.alloc(), *text)?)?;
+fn has_no_room(alloc: Global, host: &mut MemoryHost, is_table: bool) -> Result<bool, Fail> {
+    let heap = LocalHeap::new(alloc, 1024)?;
+    Ok(fault_over(alloc, &heap, host, is_table)? == Some(HostFault::Memory))
+}
+
+fn is_given(alloc: Global, host: &mut MemoryHost, id: Id, call: Want) -> Result<bool, Fail> {
+    Ok(match call {
+        Want::Start(letter) => host.start(alloc, id, b"/bin/serv") == reply_of(letter),
+        Want::Look(letter) => host.look(id) == reply_of(letter),
+        Want::Term(letter) => host.signal(id, Sig::Term) == reply_of(letter),
+        Want::Kill(letter) => host.signal(id, Sig::Kill) == reply_of(letter),
+        Want::Late(is_hit) => host.late() == late_of(id, is_hit),
+        Want::Clock(want) => host.clock() == want,
+        Want::Bytes(room, want) => gives(host, room, want),
+        Want::Table(want) => is_text(host.read_table(alloc), want),
+        Want::Carry(want) => is_text(host.carry(alloc, STATE), want),
+        Want::NoTable => return has_no_room(alloc, host, true),
+        Want::NoCarry => return has_no_room(alloc, host, false),
+    })
+}
+
+/// How many calls are told.
+fn told(host: &MemoryHost) -> Option<usize> {
+    Some(host.calls()?.len())
+}
+
+fn give_all(alloc: Global, host: &mut MemoryHost, id: Id, gifts: &[Gift]) -> Result<(), Fail> {
+    for gift in gifts {
+        give(alloc, host, id, *gift)?;
     }
-    for text in TEXTS {
-        assert!(rt; is_text(host.read_table(rt.alloc()), *text));
-    }
-    assert!(rt; is_text(host.read_table(rt.alloc()), Ok(b"")));
-    assert!(rt; host.faults() == 1 && told(&host) == Some(4));
     Ok(())
 }
 
+fn are_given(
+    rt: &impl Abort,
+    alloc: Global,
+    host: &mut MemoryHost,
+    id: Id,
+    calls: &[Want],
+) -> Result<(), Fail> {
+    for call in calls {
+        assert!(rt; is_given(alloc, host, id, *call)?);
+    }
+    Ok(())
+}
+
+fn is_followed(
+    rt: &impl Abort,
+    alloc: Global,
+    host: &mut MemoryHost,
+    row: &Row,
+) -> Result<(), Fail> {
+    let id = id_of(b"late")?;
+    give_all(alloc, host, id, row.gifts)?;
+    are_given(rt, alloc, host, id, row.calls)?;
+    assert!(rt; host.faults() == row.faults && told(host) == Some(row.calls.len()));
+    Ok(())
+}
+
+fn is_kept(rt: &impl Abort, alloc: Global, row: &Row) -> Result<(), Fail> {
+    let mut host = MemoryHost::new(alloc);
+    is_followed(rt, alloc, &mut host, row)
+}
+
 #[test]
-fn a_text_is_carried(rt: HostRuntime) -> Result<(), Fail> {
-    let mut host = MemoryHost::new(rt.alloc());
-    for text in TEXTS {
-        host.give_carry(item_of(rt.alloc(), *text)?)?;
+fn calls_take_the_first_of_their_queue(rt: HostRuntime) -> Result<(), Fail> {
+    for row in ROWS {
+        is_kept(&rt, rt.alloc(), row)?;
     }
-    for text in TEXTS {
-        assert!(rt; is_text(host.carry(rt.alloc(), b"state"), *text));
-    }
-    assert!(rt; is_text(host.carry(rt.alloc(), b"state"), Ok(b"state")));
-    assert!(rt; host.faults() == 1 && told(&host) == Some(4));
     Ok(())
 }

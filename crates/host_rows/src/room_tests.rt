@@ -1,26 +1,12 @@
 //! Growths are refused, over a small heap that is filled.
 
-use crate::fixtures::id_of;
+use crate::fixtures::{fill, id_of};
 use child_host::{Bytes, Host, HostFault, MemoryHost, Reply};
 use init_words::{Answer, Id, Memory};
 use linked_list_allocator::LocalHeap;
-use std::alloc::{AllocError, Allocator, Global};
+use std::alloc::{Allocator, Global};
 use std::process::Abort;
 use std::test::Fail;
-
-/// Takes all that a heap has left, in blocks of falling sizes.
-fn fill<'a>(alloc: Global, heap: &'a LocalHeap) -> Result<Vec<Vec<u8, &'a LocalHeap>>, AllocError> {
-    let mut fillers = Vec::new(alloc);
-    for size in [1024usize, 256, 64, 16] {
-        for _ in 0..64 {
-            let Ok(filler) = Vec::with_capacity(heap, size) else {
-                break;
-            };
-            fillers.push(filler)?;
-        }
-    }
-    Ok(fillers)
-}
 
 /// Gives an item to the queue of this number, 0 to 7.
 fn give<A: Allocator + Copy>(
@@ -57,26 +43,31 @@ fn given<A: Allocator + Copy>(
     items
 }
 
-/// A queue that has had so many items is given more while the heap is full, and one where there is room again.
-fn are_given(rt: &impl Abort, alloc: Global, queue: u8, id: Id, before: u32) -> Result<bool, Fail> {
-    let heap = LocalHeap::new(alloc, 4096)?;
-    let mut host = MemoryHost::new(&heap);
-    assert!(rt; given(&heap, &mut host, queue, id, before) == before);
-    let fillers = fill(alloc, &heap)?;
-    let more = given(&heap, &mut host, queue, id, 100);
-    drop(fillers);
-    assert!(rt; give(&heap, &mut host, queue, id).is_ok());
-    Ok(more < 100)
+/// How many of 100 items a queue is given while the heap is full.
+fn given_while_full<'a>(
+    alloc: Global,
+    heap: &'a LocalHeap,
+    host: &mut MemoryHost<&'a LocalHeap>,
+    queue: u8,
+    id: Id,
+) -> Result<u32, Fail> {
+    let _fillers = fill(alloc, heap)?;
+    Ok(given(heap, host, queue, id, 100))
 }
 
-#[test]
-fn a_queue_that_cannot_grow_refuses(rt: HostRuntime) -> Result<(), Fail> {
+/// A queue that has had so many items is given more while the heap is full, and one where there is room again.
+fn are_given<'a>(
+    rt: &impl Abort,
+    alloc: Global,
+    heap: &'a LocalHeap,
+    host: &mut MemoryHost<&'a LocalHeap>,
+    queue: u8,
+    before: u32,
+) -> Result<(), Fail> {
     let id = id_of(b"r")?;
-    for queue in 0..8u8 {
-        for before in [0, 1, 4, 5] {
-            assert!(rt; are_given(&rt, rt.alloc(), queue, id, before)?);
-        }
-    }
+    assert!(rt; given(heap, host, queue, id, before) == before);
+    assert!(rt; given_while_full(alloc, heap, host, queue, id)? < 100);
+    assert!(rt; give(heap, host, queue, id).is_ok());
     Ok(())
 }
 
@@ -97,53 +88,76 @@ fn is_told<A: Allocator + Copy>(host: &mut MemoryHost<A>, alloc: Global, call: u
     host.calls().is_some()
 }
 
-/// A call that there is no room to keep is not told, and none after it, although there is room again.
-fn is_last(rt: &impl Abort, alloc: Global, call: u8, id: Id) -> Result<(), Fail> {
-    let heap = LocalHeap::new(alloc, 4096)?;
-    let mut host = MemoryHost::new(&heap);
-    assert!(rt; is_told(&mut host, alloc, call, id));
-    let fillers = fill(alloc, &heap)?;
+/// The last of 100 calls while the heap is full is told.
+fn is_told_while_full<'a>(
+    alloc: Global,
+    heap: &'a LocalHeap,
+    host: &mut MemoryHost<&'a LocalHeap>,
+    call: u8,
+    id: Id,
+) -> Result<bool, Fail> {
+    let _fillers = fill(alloc, heap)?;
     let mut is_kept = true;
     for _ in 0..100 {
-        is_kept = is_told(&mut host, alloc, call, id);
+        is_kept = is_told(host, alloc, call, id);
     }
-    drop(fillers);
-    assert!(rt; !is_kept && !is_told(&mut host, alloc, call, id));
+    Ok(is_kept)
+}
+
+/// A call that there is no room to keep is not told, and none after it, although there is room again.
+fn is_last<'a>(
+    rt: &impl Abort,
+    alloc: Global,
+    heap: &'a LocalHeap,
+    host: &mut MemoryHost<&'a LocalHeap>,
+    call: u8,
+) -> Result<(), Fail> {
+    let id = id_of(b"r")?;
+    assert!(rt; is_told(host, alloc, call, id));
+    assert!(rt; !is_told_while_full(alloc, heap, host, call, id)?);
+    assert!(rt; !is_told(host, alloc, call, id));
+    Ok(())
+}
+
+/// A queue and how many items it has had, or a call.
+#[derive(Clone, Copy)]
+enum Trial {
+    Queue(u8, u32),
+    Call(u8),
+}
+
+fn is_tried_over(
+    rt: &impl Abort,
+    alloc: Global,
+    heap: &LocalHeap,
+    trial: Trial,
+) -> Result<(), Fail> {
+    let mut host = MemoryHost::new(heap);
+    match trial {
+        Trial::Queue(queue, before) => are_given(rt, alloc, heap, &mut host, queue, before),
+        Trial::Call(call) => is_last(rt, alloc, heap, &mut host, call),
+    }
+}
+
+fn is_tried(rt: &impl Abort, alloc: Global, trial: Trial) -> Result<(), Fail> {
+    let heap = LocalHeap::new(alloc, 4096)?;
+    is_tried_over(rt, alloc, &heap, trial)
+}
+
+#[test]
+fn a_queue_that_cannot_grow_refuses(rt: HostRuntime) -> Result<(), Fail> {
+    for queue in 0..8u8 {
+        for before in [0, 1, 4, 5] {
+            is_tried(&rt, rt.alloc(), Trial::Queue(queue, before))?;
+        }
+    }
     Ok(())
 }
 
 #[test]
 fn a_record_ends_where_there_is_no_room(rt: HostRuntime) -> Result<(), Fail> {
-    let id = id_of(b"r")?;
     for call in 0..4u8 {
-        is_last(&rt, rt.alloc(), call, id)?;
+        is_tried(&rt, rt.alloc(), Trial::Call(call))?;
     }
-    Ok(())
-}
-
-/// The fault of a call that gives a text in memory of a full heap.
-fn text_fault(
-    alloc: Global,
-    host: &mut MemoryHost,
-    is_table: bool,
-) -> Result<Option<HostFault>, Fail> {
-    let heap = LocalHeap::new(alloc, 1024)?;
-    let fillers = fill(alloc, &heap)?;
-    let given = if is_table {
-        host.read_table(&heap).err()
-    } else {
-        host.carry(&heap, b"state").err()
-    };
-    drop(fillers);
-    Ok(given)
-}
-
-#[test]
-fn a_text_without_room_is_a_fault(rt: HostRuntime) -> Result<(), Fail> {
-    let mut host = MemoryHost::new(rt.alloc());
-    host.give_table(Ok(Bytes::copy_of(rt.alloc(), b"id:3:initdefault:\n")?))?;
-    assert!(rt; text_fault(rt.alloc(), &mut host, true)? == Some(HostFault::Memory));
-    assert!(rt; text_fault(rt.alloc(), &mut host, false)? == Some(HostFault::Memory));
-    assert!(rt; host.faults() == 2 && host.calls().is_some());
     Ok(())
 }

@@ -58,12 +58,7 @@ fn refused(text: &[u8], back: &[u8], why: Over) -> Handed
 }
 
 /// Takes over what came back of the text; gives what came of it. Where it is refused, the core goes on as it is.
-fn take_back<A: Allocator + Copy>(
-    alloc: A,
-    core: &mut Core<A>,
-    text: &[u8],
-    back: &[u8],
-) -> Handed
+fn take_back<A: Allocator + Copy>(alloc: A, core: &mut Core<A>, text: &[u8], back: &[u8]) -> Handed
     ensures { ComesTo result text.now (Ok back.now) core.old core.new }
 {
     match take_over(alloc, back, core.generation()) {

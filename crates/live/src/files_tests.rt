@@ -1,9 +1,11 @@
 //! The channel of requests, the inittab and the text of init's state.
 
-use child_host::{Host, HostFault, OsHost};
+use crate::hosts::{Paths, Trial, passes, passes_with_pause};
+use child_host::{Host, HostFault};
 use linked_list_allocator::LocalHeap;
 use std::alloc::Global;
 use std::fs;
+use std::process::Abort;
 use std::rt::Files;
 use std::test::Fail;
 
@@ -37,17 +39,39 @@ fn put(rt: &impl Files, text: Option<&str>) -> Result<(), Fail> {
     Ok(())
 }
 
+fn gives_all<H: Host>(rt: &impl Abort, host: &mut H, pieces: &[&[u8]]) {
+    for piece in pieces {
+        assert!(rt; gives(host, piece));
+    }
+}
+
+#[derive(Clone, Copy)]
+struct Channel;
+
+impl Trial for Channel {
+    fn passes<R: Files + Alloc + Abort, H: Host>(
+        &self,
+        rt: &R,
+        _alloc: Global,
+        host: &mut H,
+    ) -> Result<(), Fail> {
+        for (text, pieces) in CHANNEL {
+            put(rt, *text)?;
+            gives_all(rt, host, pieces);
+        }
+        assert!(rt; host.faults() == 0);
+        put(rt, None)
+    }
+}
+
 #[test]
 fn a_channel_is_read_on(rt: HostRuntime) -> Result<(), Fail> {
-    let mut host = OsHost::new(rt.clone()?, rt.alloc(), "c.tab", "channel", "c.state")?;
-    for (text, pieces) in CHANNEL {
-        put(&rt, *text)?;
-        for piece in *pieces {
-            assert!(rt; gives(&mut host, piece));
-        }
-    }
-    assert!(rt; host.faults() == 0);
-    put(&rt, None)
+    let paths = Paths {
+        inittab: "c.tab",
+        channel: "channel",
+        state: "c.state",
+    };
+    passes(&rt, rt.alloc(), paths, &Channel)
 }
 
 /// The text, where there is one.
@@ -82,42 +106,108 @@ fn has_no_room<H: Host>(host: &mut H, alloc: Global) -> Result<bool, Fail> {
     Ok(host.read_table(&heap).err() == Some(HostFault::Memory))
 }
 
+/// The inittab is read, and the clock, and there is no room for the inittab's text.
+fn reads<H: Host>(host: &mut H, alloc: Global) -> Result<bool, Fail> {
+    Ok(
+        is_text(host.read_table(alloc), TABLE)
+            && has_no_room(host, alloc)?
+            && host.clock().is_ok()
+            && host.faults() == 4,
+    )
+}
+
+#[derive(Clone, Copy)]
+struct Faults;
+
+impl Trial for Faults {
+    fn passes<R: Files + Alloc + Abort, H: Host>(
+        &self,
+        rt: &R,
+        alloc: Global,
+        host: &mut H,
+    ) -> Result<(), Fail> {
+        assert!(rt; all_fail(host, alloc));
+        fs::write(rt, "f.tab", TABLE)?;
+        assert!(rt; reads(host, alloc)?);
+        fs::remove_file(rt, "f.tab")?;
+        Ok(())
+    }
+}
+
 #[test]
 fn files_that_fail_are_faults(rt: HostRuntime) -> Result<(), Fail> {
-    let mut host = OsHost::new(rt.clone()?, rt.alloc(), "f.tab", ".", "f.none/state")?;
-    assert!(rt; all_fail(&mut host, rt.alloc()));
-    fs::write(&rt, "f.tab", TABLE)?;
-    assert!(rt; is_text(host.read_table(rt.alloc()), TABLE));
-    assert!(rt; has_no_room(&mut host, rt.alloc())?);
-    assert!(rt; host.clock().is_ok() && host.faults() == 4);
-    fs::remove_file(&rt, "f.tab")?;
-    Ok(())
+    let paths = Paths {
+        inittab: "f.tab",
+        channel: ".",
+        state: "f.none/state",
+    };
+    passes(&rt, rt.alloc(), paths, &Faults)
 }
 
 fn is_carried<H: Host>(host: &mut H, alloc: Global, text: &[u8]) -> bool {
     is_text(host.carry(alloc, text), text)
 }
 
+fn has_text<R: Files + Alloc>(rt: &R, path: &str, want: &str) -> Result<bool, Fail> {
+    let text = fs::read_to_string(rt, path)?;
+    Ok(text.as_str() == want)
+}
+
+#[derive(Clone, Copy)]
+struct State;
+
+impl Trial for State {
+    fn passes<R: Files + Alloc + Abort, H: Host>(
+        &self,
+        rt: &R,
+        alloc: Global,
+        host: &mut H,
+    ) -> Result<(), Fail> {
+        assert!(rt; is_carried(host, alloc, b"first, a long text"));
+        assert!(rt; is_carried(host, alloc, b"second"));
+
+        // Nothing can be written beside it.
+        fs::create_dir(rt, "p.state.new")?;
+        assert!(rt; is_fault(host.carry(alloc, b"third")) && host.faults() == 1);
+        assert!(rt; has_text(rt, "p.state", "second")?);
+        fs::remove_dir(rt, "p.state.new")?;
+        fs::remove_file(rt, "p.state")?;
+        Ok(())
+    }
+}
+
 #[test]
 fn a_state_is_put_in_place_whole(rt: HostRuntime) -> Result<(), Fail> {
-    let mut host = OsHost::new(rt.clone()?, rt.alloc(), "p.tab", "p.fifo", "p.state")?;
-    assert!(rt; is_carried(&mut host, rt.alloc(), b"first, a long text"));
-    assert!(rt; is_carried(&mut host, rt.alloc(), b"second"));
+    let paths = Paths {
+        inittab: "p.tab",
+        channel: "p.fifo",
+        state: "p.state",
+    };
+    passes(&rt, rt.alloc(), paths, &State)
+}
 
-    // Nothing can be written beside it.
-    fs::create_dir(&rt, "p.state.new")?;
-    assert!(rt; is_fault(host.carry(rt.alloc(), b"third")) && host.faults() == 1);
-    assert!(rt; fs::read_to_string(&rt, "p.state")?.as_str() == "second");
-    fs::remove_dir(&rt, "p.state.new")?;
-    fs::remove_file(&rt, "p.state")?;
-    Ok(())
+#[derive(Clone, Copy)]
+struct Pause;
+
+impl Trial for Pause {
+    fn passes<R: Files + Alloc + Abort, H: Host>(
+        &self,
+        rt: &R,
+        _alloc: Global,
+        host: &mut H,
+    ) -> Result<(), Fail> {
+        host.pause();
+        assert!(rt; host.faults() == 1);
+        Ok(())
+    }
 }
 
 #[test]
 fn a_pause_that_fails_is_a_fault(rt: HostRuntime) -> Result<(), Fail> {
-    let made = OsHost::new(rt.clone()?, rt.alloc(), "z.tab", "z.fifo", "z.state")?;
-    let mut host = made.with_pause("x")?;
-    host.pause();
-    assert!(rt; host.faults() == 1);
-    Ok(())
+    let paths = Paths {
+        inittab: "z.tab",
+        channel: "z.fifo",
+        state: "z.state",
+    };
+    passes_with_pause(&rt, rt.alloc(), paths, "x", &Pause)
 }

@@ -6,6 +6,8 @@ mod children_tests;
 #[cfg(test)]
 mod files_tests;
 #[cfg(test)]
+mod hosts;
+#[cfg(test)]
 mod run_tests;
 #[cfg(test)]
 mod said_tests;

@@ -61,13 +61,6 @@ fn write_requests(rt: &impl Files, alloc: Global, path: &str, codes: &[u8]) -> R
     Ok(())
 }
 
-/// The file has the text of init's state, handed over for the first time.
-fn is_handed_over<R: Files + Alloc + Abort>(rt: &R, path: &str) -> Result<(), Fail> {
-    let text = fs::read_to_string(rt, path)?;
-    assert!(rt; text.as_str().starts_with("initd-state 1\ngeneration 1\n"));
-    Ok(())
-}
-
 fn write_all(rt: &impl Files, files: &[(&str, &str)]) -> Result<(), Fail> {
     for (path, text) in files {
         fs::write(rt, *path, *text)?;
@@ -75,10 +68,20 @@ fn write_all(rt: &impl Files, files: &[(&str, &str)]) -> Result<(), Fail> {
     Ok(())
 }
 
+/// The line is this one, or begins and ends as this one does at its star.
+fn is_line(line: &str, want: &str) -> bool {
+    match want.split_once('*') {
+        Some((start, end)) => line.starts_with(start) && line.ends_with(end),
+        None => line == want,
+    }
+}
+
 /// The lines stand in the trace, one behind another.
 fn is_in_order(trace: &str, lines: &[&str]) -> bool {
     let mut rest = trace.lines();
-    lines.iter().all(|line| rest.any(|other| other == *line))
+    lines
+        .iter()
+        .all(|line| rest.any(|other| is_line(other, line)))
 }
 
 /// Two scripts that each wait for the other's file.
@@ -113,34 +116,40 @@ fn has_ends<R: Files + Alloc + Abort>(
     Ok(())
 }
 
+const PAIR_RUN: &str =
+    "run --inittab pair.tab --initctl pair.ctl --state pair.state --trace pair.trace --level 3 --turns 60 --drain --pause 0.5";
+
+const SETTLED: &[&str] = &[
+    "use 2",
+    "got reload",
+    "got reexec",
+    "handed whole",
+    "use 2",
+    "settle 3",
+];
+
+/// The file has the text of init's state, handed over for the first time.
+fn is_handed_over<R: Files + Alloc + Abort>(rt: &R, path: &str) -> Result<(), Fail> {
+    let text = fs::read_to_string(rt, path)?;
+    assert!(rt; text.as_str().starts_with("initd-state 1\ngeneration 1\n"));
+    Ok(())
+}
+
+fn are_run<R: Files + Alloc + Abort>(rt: &R, alloc: Global, trace: &str) -> Result<(), Fail> {
+    assert!(rt; is_in_order(trace, SETTLED));
+    is_handed_over(rt, "pair.state")?;
+    has_ends(rt, alloc, trace, "a", "a.up")?;
+    has_ends(rt, alloc, trace, "b", "b.up")
+}
+
 #[test]
 fn children_run_beside_each_other(rt: HostRuntime) -> Result<(), Fail> {
     write_all(&rt, PAIR)?;
     write_requests(&rt, rt.alloc(), "pair.ctl", b"qu")?;
-    is_done(
-        &rt,
-        rt.alloc(),
-        "run --inittab pair.tab --initctl pair.ctl --state pair.state --trace pair.trace --level 3 --turns 60 --drain --pause 0.5",
-        "",
-    )?;
+    is_done(&rt, rt.alloc(), PAIR_RUN, "")?;
     is_done(&rt, rt.alloc(), "check pair.trace", "lawful\n")?;
     let trace = fs::read_to_string(&rt, "pair.trace")?;
-    assert!(rt;
-        is_in_order(
-            trace.as_str(),
-            &[
-                "use 2",
-                "got reload",
-                "got reexec",
-                "handed whole",
-                "use 2",
-                "settle 3"
-            ]
-        )
-    );
-    is_handed_over(&rt, "pair.state")?;
-    has_ends(&rt, rt.alloc(), trace.as_str(), "a", "a.up")?;
-    has_ends(&rt, rt.alloc(), trace.as_str(), "b", "b.up")
+    are_run(&rt, rt.alloc(), trace.as_str())
 }
 
 /// A child that stays where it is sent TERM, one that asks for runlevel 1 by a block of two seconds, and that level's.
@@ -176,27 +185,20 @@ fn a_child_that_stays_is_killed(rt: HostRuntime) -> Result<(), Fail> {
     Ok(())
 }
 
+const SIGNALS: &[&str] = &[
+    "settle 3",
+    "got level 1 2",
+    "enter 1 2",
+    "ask r term",
+    "hit r",
+    "ask r kill",
+    "hit r",
+];
+
+const ENDS: &[&str] = &["reaped r * killed", "ask n start", "reaped n * exit 6"];
+
 /// Its signals, its end and the next level's entry stand in the trace.
 fn is_stopped(rt: &impl Abort, trace: &str) {
-    let signals = [
-        "settle 3",
-        "got level 1 2",
-        "enter 1 2",
-        "ask r term",
-        "hit r",
-        "ask r kill",
-        "hit r",
-    ];
-    assert!(rt; is_in_order(trace, &signals), "{trace}");
-    let ends = |line: &str, id: &str, end: &str| line.starts_with(id) && line.ends_with(end);
-    let mut rest = trace.lines();
-    assert!(rt;
-        rest.any(|line| ends(line, "reaped r ", " killed")),
-        "{trace}"
-    );
-    assert!(rt; rest.any(|line| line == "ask n start"), "{trace}");
-    assert!(rt;
-        rest.any(|line| ends(line, "reaped n ", " exit 6")),
-        "{trace}"
-    );
+    assert!(rt; is_in_order(trace, SIGNALS), "{trace}");
+    assert!(rt; is_in_order(trace, ENDS), "{trace}");
 }

@@ -1,6 +1,7 @@
 //! What a host says on standard output and on standard error. The test runs itself again, with its streams in files.
 
-use child_host::{Host, OsHost};
+use crate::hosts::{Paths, Trial, id_of, passes};
+use child_host::Host;
 use init_trace::{Handed, Happening};
 use init_words::{Id, Level, Stage};
 use std::alloc::Global;
@@ -38,17 +39,21 @@ end
 
 const ERR: &str = "initd: r: /bin/nosuch: not found\nend\n";
 
+/// A line that runs this test again.
+fn line_of(rt: &(impl Alloc + Env), alloc: Global) -> Result<String, Fail> {
+    let program = env::args(rt)?.next().ok_or("no program")?;
+    Ok(format!(in alloc; "SAID=1 exec {program} said_tests::what_is_said > said.out 2> said.err")?)
+}
+
+fn run_line(rt: &impl Processes, alloc: Global, line: &str) -> Result<(), Fail> {
+    Command::new(alloc, "sh")?.arg("-c")?.arg(line)?.status(rt)?;
+    Ok(())
+}
+
 /// Runs this test again.
 fn run_again(rt: &(impl Alloc + Env + Processes), alloc: Global) -> Result<(), Fail> {
-    let program = env::args(rt)?.next().ok_or("no program")?;
-    let line = format!(in alloc;
-        "SAID=1 exec {program} said_tests::what_is_said > said.out 2> said.err"
-    )?;
-    Command::new(alloc, "sh")?
-        .arg("-c")?
-        .arg(line.as_str())?
-        .status(rt)?;
-    Ok(())
+    let line = line_of(rt, alloc)?;
+    run_line(rt, alloc, line.as_str())
 }
 
 /// The file has this text, and behind it at most what ends the run of a test.
@@ -59,11 +64,30 @@ fn is_text<R: Files + Alloc + Abort>(rt: &R, path: &str, want: &str) -> Result<(
     Ok(())
 }
 
+#[derive(Clone, Copy)]
+struct Said;
+
+impl Trial for Said {
+    fn passes<R: Files + Alloc + Abort, H: Host>(
+        &self,
+        _rt: &R,
+        alloc: Global,
+        host: &mut H,
+    ) -> Result<(), Fail> {
+        say(host, alloc, id_of(b"r")?);
+        Ok(())
+    }
+}
+
 #[test]
 fn what_is_said(rt: HostRuntime) -> Result<(), Fail> {
     if env::var(&rt, "SAID").is_ok() {
-        let mut host = OsHost::new(rt.clone()?, rt.alloc(), "u.tab", "u.fifo", "u.state")?;
-        say(&mut host, rt.alloc(), Id::read(b"r").ok_or("no id")?);
+        let paths = Paths {
+            inittab: "u.tab",
+            channel: "u.fifo",
+            state: "u.state",
+        };
+        passes(&rt, rt.alloc(), paths, &Said)?;
         println!(rt; "end")?;
         eprintln!(rt; "end")?;
         return Ok(());

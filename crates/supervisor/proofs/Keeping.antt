@@ -21,11 +21,11 @@ use Rattle.init_trace.specs.Past.{stage_of}
 use Rattle.init_trace.specs.Range.{is_request}
 use Rattle.init_trace.specs.Wishes.{in_run, level_wish}
 use Rattle.core_state.specs.Decide.{decide}
-use Rattle.core_state.specs.Fit.{Fits, with_step}
+use Rattle.core_state.specs.Fit.{Fits, core_read, with_step}
 use Rattle.core_state.specs.Rules.{KeepsRules}
 use Rattle.core_state.specs.State.{CoreState, opening_goal, opening_state}
 use Rattle.core_state.specs.Steps.{wished, heard_in, after_step, after_adopt, after_clock, after_got, after_not_read, after_round, after_told}
-use Rattle.core_state.proofs.Fitted.{fit_records}
+use Rattle.core_state.proofs.Deciding.{is_read}
 use Rattle.state_text.specs.Range.{has_short_seconds}
 use Rattle.reexec_state.proofs.Lasting.{step_lasts, request_lasts}
 use Rattle.supervisor.specs.Handing.{made_in, kept_goal, kept_at, after_hand}
@@ -34,21 +34,7 @@ use Rattle.supervisor.specs.Said.{is_said}
 
 -- what init keeps is what the trace says of it
 pub kept_is : (core : CoreState) (goal : Goal) (past : List Event) → Fits core goal past → Lasts core goal past → core ≡ kept_at goal past
-kept_is core goal past fits lasts = λ i. record {
-  table = fits.table.table i;
-  slots = fit_records core goal past fits i;
-  stage = fits.now.stage i;
-  grace = fits.now.grace i;
-  goal = lasts.goal i;
-  booted = fits.now.booted i;
-  announced = fits.now.announced i;
-  time = fits.now.time i;
-  reexec = fits.wishes.reexec i;
-  reread = fits.wishes.reread i;
-  level_wish = fits.wishes.level i;
-  news = fits.wishes.news i;
-  generation = lasts.made i;
-}
+kept_is core goal past fits lasts = is_read core goal past fits ∙ (λ i. core_read past (lasts.goal i) (lasts.made i))
 
 lasts_as : (core same : CoreState) (goal : Goal) (past : List Event) → core ≡ same → KeepsRules core → has_short_seconds same ≡ true → same.generation ≡ made_in past → same.goal ≡ kept_goal goal past → Lasts core goal past
 lasts_as core same goal past is rules short made kept = record {

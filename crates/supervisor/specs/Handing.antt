@@ -6,10 +6,9 @@ use Rattle.init_trace.specs.declared.happenings.Handed.{Handed as HandOver}
 use Rattle.init_trace.specs.declared.happenings.Handed.TheVariants as handed
 use Rattle.init_trace.specs.declared.steps.Goal.{Goal}
 use Rattle.init_trace.specs.Event.{Event}
-use Rattle.init_trace.specs.Past.{table_of, stage_of, grace_of, time_of}
-use Rattle.init_trace.specs.Wishes.{in_run, wants_reexec, wants_reread, level_wish, was_booted}
-use Rattle.init_trace.specs.Due.{is_announced}
-use Rattle.core_state.specs.Fit.{records_of, news_of}
+use Rattle.init_trace.specs.Past.{stage_of}
+use Rattle.init_trace.specs.Wishes.{in_run, level_wish}
+use Rattle.core_state.specs.Fit.{core_read}
 use Rattle.core_state.specs.Parts.{state_of}
 use Rattle.core_state.specs.State.{CoreState}
 use Rattle.core_state.specs.Steps.{wished, after_handed, after_handed_on}
@@ -36,21 +35,7 @@ kept_goal opening (_ ∷ past) = kept_goal opening past
 
 -- what init keeps after the trace
 abbrev pub kept_at : Goal → List Event → CoreState
-kept_at opening past = record {
-  table = table_of past;
-  slots = records_of past;
-  stage = stage_of past;
-  grace = grace_of past;
-  goal = kept_goal opening past;
-  booted = was_booted past;
-  announced = is_announced past;
-  time = time_of past;
-  reexec = wants_reexec past;
-  reread = wants_reread past;
-  level_wish = level_wish past;
-  news = news_of past;
-  generation = made_in past;
-}
+kept_at opening past = core_read past (kept_goal opening past) (made_in past)
 
 -- the text that is made of what init keeps: it is handed on, to a generation more
 abbrev pub text_made : CoreState → List ℕ

@@ -76,7 +76,8 @@ impl<A: Allocator> SimulatedSystem<A> {
     ghost use Rattle.system_side.specs.Follows.{Follows};
 
     /// The happening may come next, and is one of the system or of the edge: an act on an order, a death, a telling, a
-    /// nudge, a reading of the clock, a request, a hand-over, or that inittab could not be read. A step of init is never allowed.
+    /// nudge, a reading of the clock, a request, a hand-over, or that inittab could not be read. A step of init is never
+    /// allowed.
     pub fn allows<B: Allocator>(&self, happening: &HappeningIn<B>) -> bool
         ensures may_come { (goal : Goal) (past : List Event)
             → IsTrue (is_sound goal past) → Follows self.now past
