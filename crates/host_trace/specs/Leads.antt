@@ -116,7 +116,8 @@ pub record Went (fit : Goal → Point → Type 0) (old new : LogState) (goal : G
   pub fits : fit goal (point_after calls p)
   pub log : IsTrue (has_short_seconds goal p.past) → Took old new p.past (point_after calls p).past
 
--- so it went from each point whose trace is sound and fitted, where the answers to the calls were possible
+-- so it went from each point whose trace is sound and fitted, where the answers to the calls were possible, and the
+-- texts that were carried came back as they may
 abbrev pub Leads : (Goal → Point → Type 0) → (Goal → Point → Type 0) → LogState → LogState → List HostCall
     → Type 0
 Leads fitted fit old new calls = (goal : Goal) (p : Point) → IsTrue (is_sound goal p.past) → fitted goal p
