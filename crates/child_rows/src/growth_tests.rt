@@ -69,12 +69,13 @@ fn refused_on(rt: &impl Abort, alloc: Global, heap: &LocalHeap) -> Result<bool, 
     refused_then_made(rt, alloc, heap, &mut slots, &after)
 }
 
-/// How many heaps refuse the records or what stands before them, and how many an adoption alone.
+/// How many heaps refuse the records or what stands before them, and how many an adoption alone. From one heap to the
+/// next there is less more room than the least growth takes, so that each growth is refused on some heap.
 fn counts(rt: &impl Abort, alloc: Global) -> Result<(usize, usize), Fail> {
     let mut none = 0usize;
     let mut refused = 0usize;
-    for step in 1..200usize {
-        let heap = LocalHeap::new(alloc, 128 * step)?;
+    for step in 1..800usize {
+        let heap = LocalHeap::new(alloc, 32 * step)?;
         match refused_on(rt, alloc, &heap) {
             Err(Memory) => none = none.wrapping_add(1),
             Ok(true) => refused = refused.wrapping_add(1),

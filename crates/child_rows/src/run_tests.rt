@@ -37,6 +37,8 @@ enum Call {
     Ask(&'static [u8], Ask),
     Born(&'static [u8], u32),
     Told(&'static [u8], Told),
+    /// A signal was sent at a time.
+    Hit(&'static [u8], u64),
     /// The answer is refused.
     Refused(&'static [u8], Told, Refusal),
     Called(&'static [u8]),
@@ -47,6 +49,10 @@ enum Call {
     /// The first id whose child has the number.
     Child(u32, Option<&'static [u8]>),
     Quiet(bool),
+    /// A child that is to be stopped got no signal yet.
+    Due(bool),
+    /// The earliest time of a SIGTERM that was a child's last signal.
+    FirstTermed(Option<u64>),
 }
 
 const THREE: Stage = Stage::Run(Level::L3);
@@ -95,6 +101,11 @@ fn tell(rt: &impl Abort, slots: &mut Slots, id: Id, answer: Answer, want: Result
     assert!(rt; slots.told(id, answer, CLOCK_LIMIT) == want);
 }
 
+fn hit(rt: &impl Abort, slots: &mut Slots, id: Id, time: u64) {
+    assert!(rt; time <= CLOCK_LIMIT);
+    assert!(rt; slots.told(id, Answer::Hit, time) == Ok(()));
+}
+
 fn call_entry(rt: &impl Abort, slots: &mut Slots, id: Id) {
     assert!(rt; slots.by_id(&id).is_some());
     slots.called(id);
@@ -107,6 +118,7 @@ fn make(rt: &impl Abort, alloc: Global, slots: &mut Slots, call: &Call) -> Resul
             tell(rt, slots, id_of(id)?, Answer::Born(ChildNo(number)), Ok(()));
         }
         Call::Told(id, ref told) => tell(rt, slots, id_of(id)?, told.answer(), Ok(())),
+        Call::Hit(id, time) => hit(rt, slots, id_of(id)?, time),
         Call::Refused(id, ref told, refusal) => {
             tell(rt, slots, id_of(id)?, told.answer(), Err(refusal));
         }
@@ -119,6 +131,8 @@ fn make(rt: &impl Abort, alloc: Global, slots: &mut Slots, call: &Call) -> Resul
             assert!(rt; slots.by_child(ChildNo(number)) == id.and_then(Id::read));
         }
         Call::Quiet(quiet) => assert!(rt; slots.quiet() == quiet),
+        Call::Due(due) => assert!(rt; slots.has_due() == due),
+        Call::FirstTermed(time) => assert!(rt; slots.first_termed() == time),
     }
     Ok(())
 }
@@ -303,9 +317,112 @@ const RUNS: &[(&[u8], &[Call], &[u8])] = &[
     ),
 ];
 
+/// Calls that stop children, and what the stops have come to.
+const STOPS: &[(&[u8], &[Call], &[u8])] = &[
+    (
+        BOTH,
+        &[Call::Due(false), Call::FirstTermed(None)],
+        b"a --------/b --------/",
+    ),
+    // A stop is due from the judging on until the signal is sent.
+    (
+        BOTH,
+        &[
+            Call::Ask(b"a", Ask::Start),
+            Call::Born(b"a", 700),
+            Call::Due(false),
+            Call::Judge(BOTH, ONE),
+            Call::Due(true),
+            Call::Ask(b"a", Ask::Term),
+            Call::Due(true),
+            Call::FirstTermed(None),
+            Call::Hit(b"a", 30),
+            Call::Due(false),
+            Call::FirstTermed(Some(30)),
+        ],
+        b"a 0-ta----/b --------/",
+    ),
+    // The first of two, then the second, and then none.
+    (
+        BOTH,
+        &[
+            Call::Ask(b"a", Ask::Start),
+            Call::Ask(b"b", Ask::Start),
+            Call::Born(b"a", 700),
+            Call::Born(b"b", 701),
+            Call::Judge(BOTH, ONE),
+            Call::Ask(b"a", Ask::Term),
+            Call::Ask(b"b", Ask::Term),
+            Call::Hit(b"a", 30),
+            Call::Due(true),
+            Call::Hit(b"b", 40),
+            Call::Due(false),
+            Call::FirstTermed(Some(30)),
+            Call::Ask(b"a", Ask::Kill),
+            Call::FirstTermed(Some(30)),
+            Call::Hit(b"a", 50),
+            Call::FirstTermed(Some(40)),
+            Call::Nudge,
+            Call::Ask(b"b", Ask::Look),
+            Call::Told(b"b", Told::Ended(Status::Killed)),
+            Call::FirstTermed(None),
+        ],
+        b"a 0-ka-l--/b ---a----/",
+    ),
+    // The earlier of two is that of the later record, and a judging that excludes none leaves none.
+    (
+        BOTH,
+        &[
+            Call::Ask(b"a", Ask::Start),
+            Call::Ask(b"b", Ask::Start),
+            Call::Born(b"a", 700),
+            Call::Born(b"b", 701),
+            Call::Judge(BOTH, ONE),
+            Call::Ask(b"a", Ask::Term),
+            Call::Ask(b"b", Ask::Term),
+            Call::Hit(b"a", 40),
+            Call::FirstTermed(Some(40)),
+            Call::Hit(b"b", 30),
+            Call::FirstTermed(Some(30)),
+            Call::Judge(BOTH, ONE),
+            Call::FirstTermed(Some(30)),
+            Call::Judge(BOTH, THREE),
+            Call::FirstTermed(None),
+            Call::Due(false),
+        ],
+        b"a 0--a----/b 1--a----/",
+    ),
+    // An id that left the table keeps its stop, which goes with it.
+    (
+        BOTH,
+        &[
+            Call::Ask(b"a", Ask::Start),
+            Call::Born(b"a", 700),
+            Call::Judge(BOTH, ONE),
+            Call::Ask(b"a", Ask::Term),
+            Call::Hit(b"a", 30),
+            Call::Adopt(OTHERS),
+            Call::FirstTermed(Some(30)),
+            Call::Nudge,
+            Call::Ask(b"a", Ask::Look),
+            Call::Told(b"a", Told::Ended(Status::Killed)),
+            Call::FirstTermed(None),
+        ],
+        b"b --------/c --------/",
+    ),
+];
+
 #[test]
 fn runs(rt: HostRuntime) -> Result<(), Fail> {
     for (table, calls, want) in RUNS {
+        comes_to(&rt, rt.alloc(), table, calls, want)?;
+    }
+    Ok(())
+}
+
+#[test]
+fn stops(rt: HostRuntime) -> Result<(), Fail> {
+    for (table, calls, want) in STOPS {
         comes_to(&rt, rt.alloc(), table, calls, want)?;
     }
     Ok(())

@@ -10,8 +10,33 @@ use Rattle.init_words.specs.Ids.{same_id}
 use Rattle.child_table.specs.declared.counts.Counts.{Counts}
 use Rattle.child_table.specs.State.{SlotState}
 use Rattle.child_table.specs.Lists.{is_slot_of, are_distinct, slot_of, is_busy, changed, with_changed}
+use Rattle.child_table.specs.Stopping.{is_due}
 use Rattle.child_table.specs.Counting.{counts_of, plus, minus, IsWithin, AreSmall}
 use Rattle.child_table.proofs.Found.{Kept, IsOwn, distinct_in, found_in, others, rest_distinct, unchanged}
+
+-- there are none where none is found
+module _ {X : Type 0} (p : X → Bool) where
+  pub none_counted : (xs : List X) → (count_by p xs == 0) ≡ not (list_any p xs)
+  none_counted [] = refl
+  none_counted (x ∷ xs) = here (p x) refl (none_counted xs)
+    where
+      more : count_by p (x ∷ xs) ≡ cond (p x) 1 0 + count_by p xs
+      more = sum_by-cons (λ y. cond (p y) 1 0) x xs
+
+      here : (b : Bool) → p x ≡ b → (count_by p xs == 0) ≡ not (list_any p xs) → (count_by p (x ∷ xs) == 0) ≡ not (b || list_any p xs)
+      here true is later =
+          let one : count_by p (x ∷ xs) ≡ 1 + count_by p xs = more ∙ ap (λ (c : Bool). cond c 1 0 + count_by p xs) is in
+          false_from_ne_true (count_by p (x ∷ xs) == 0) (λ none. let is_none : count_by p (x ∷ xs) ≡ 0 = eqb-true (count_by p (x ∷ xs)) 0 none in omega arith)
+      here false is later =
+          let same : count_by p (x ∷ xs) ≡ count_by p xs = more ∙ ap (λ (c : Bool). cond c 1 0 + count_by p xs) is ∙ omega arith in
+          ap (λ n. n == 0) same ∙ later
+
+  pub some_counted : (xs : List X) → not (count_by p xs == 0) ≡ list_any p xs
+  some_counted xs = ap not (none_counted xs) ∙ twice (list_any p xs)
+    where
+      twice : (b : Bool) → not (not b) ≡ b
+      twice true = refl
+      twice false = refl
 
 -- the records of one kind
 module _ (p : SlotState → Bool) where
@@ -56,36 +81,16 @@ module _ (p : SlotState → Bool) where
   count_same change keeps [] = refl
   count_same change keeps (slot ∷ slots) = count-cons (change slot) (map change slots) ∙ ap (λ b. cond b 1 0 + count_by p (map change slots)) (keeps slot) ∙ ap (λ n. cond (p slot) 1 0 + n) (count_same change keeps slots) ∙ sym (count-cons slot slots)
 
-  -- there are none where none is found
-  pub none_counted : (slots : List SlotState) → (count_by p slots == 0) ≡ not (list_any p slots)
-  none_counted [] = refl
-  none_counted (slot ∷ slots) = here (p slot) refl (none_counted slots)
-    where
-      here : (b : Bool) → p slot ≡ b → (count_by p slots == 0) ≡ not (list_any p slots) → (count_by p (slot ∷ slots) == 0) ≡ not (b || list_any p slots)
-      here true is later =
-          let one : count_by p (slot ∷ slots) ≡ 1 + count_by p slots = count-cons slot slots ∙ ap (λ (c : Bool). cond c 1 0 + count_by p slots) is in
-          false_from_ne_true (count_by p (slot ∷ slots) == 0) (λ none. let is_none : count_by p (slot ∷ slots) ≡ 0 = eqb-true (count_by p (slot ∷ slots)) 0 none in omega arith)
-      here false is later =
-          let same : count_by p (slot ∷ slots) ≡ count_by p slots = count-cons slot slots ∙ ap (λ (c : Bool). cond c 1 0 + count_by p slots) is ∙ omega arith in
-          ap (λ n. n == 0) same ∙ later
-
-  pub some_counted : (slots : List SlotState) → not (count_by p slots == 0) ≡ list_any p slots
-  some_counted slots = ap not (none_counted slots) ∙ twice (list_any p slots)
-    where
-      twice : (b : Bool) → not (not b) ≡ b
-      twice true = refl
-      twice false = refl
-
 -- a record that is found is counted
 pub found_within : (id : List ℕ) (slot : SlotState) (slots : List SlotState) → slot_of id slots ≡ Some slot → IsWithin (counts_of (slot ∷ [])) (counts_of slots)
-found_within id slot slots is = (at (λ s. is_some s.order), at (λ s. is_busy s.order), at (λ s. is_some s.stop))
+found_within id slot slots is = (at (λ s. is_some s.order), at (λ s. is_busy s.order), at (λ s. is_some s.stop), at (λ s. is_due s.stop))
   where
     at : (p : SlotState → Bool) → count_by p (slot ∷ []) ≤ count_by p slots
     at p = omega (arith, count-one p slot, count_found p id slot slots is)
 
 -- the counts fit a word where the records do
 pub counts_small : (slots : List SlotState) → length slots < 2 ^ 63 → AreSmall (counts_of slots)
-counts_small slots few = (at (λ s. is_some s.order), at (λ s. is_busy s.order), at (λ s. is_some s.stop))
+counts_small slots few = (at (λ s. is_some s.order), at (λ s. is_busy s.order), at (λ s. is_some s.stop), at (λ s. is_due s.stop))
   where
     at : (p : SlotState → Bool) → count_by p slots < 2 ^ 64
     at p = omega (arith, count_by-le-length p slots, few)
@@ -93,7 +98,7 @@ counts_small slots few = (at (λ s. is_some s.order), at (λ s. is_busy s.order)
 -- the counts after the record of an id was changed, taken out, or added behind the others
 recounted : (id : List ℕ) (change : SlotState → SlotState) (slot : SlotState) (slots : List SlotState) → are_distinct slots ≡ true → slot_of id slots ≡ Some slot
     → plus (minus (counts_of slots) (counts_of (slot ∷ []))) (counts_of (change slot ∷ [])) ≡ counts_of (with_changed id change slots)
-recounted id change slot slots distinct is = λ i. record { orders = at (λ s. is_some s.order) i; busy = at (λ s. is_busy s.order) i; excluded = at (λ s. is_some s.stop) i }
+recounted id change slot slots distinct is = λ i. record { orders = at (λ s. is_some s.order) i; busy = at (λ s. is_busy s.order) i; excluded = at (λ s. is_some s.stop) i; due = at (λ s. is_due s.stop) i }
   where
     at : (p : SlotState → Bool) → count_by p slots - count_by p (slot ∷ []) + count_by p (change slot ∷ []) ≡ count_by p (with_changed id change slots)
     at p = omega (arith, count-one p slot, count-one p (change slot), count_found p id slot slots is, count_changed p id change slot slots distinct is)
@@ -117,13 +122,13 @@ recount m id change slot left slots counts less fewer more own unique few is fou
     }
 
 pub removed_counts : (test : List ℕ → Bool) (slot : SlotState) (kept : Kept) → lookup test kept ≡ Some slot → minus (counts_of (values_of kept)) (counts_of (slot ∷ [])) ≡ counts_of (values_of (remove_entry test kept))
-removed_counts test slot kept is = λ i. record { orders = at (λ s. is_some s.order) i; busy = at (λ s. is_busy s.order) i; excluded = at (λ s. is_some s.stop) i }
+removed_counts test slot kept is = λ i. record { orders = at (λ s. is_some s.order) i; busy = at (λ s. is_busy s.order) i; excluded = at (λ s. is_some s.stop) i; due = at (λ s. is_due s.stop) i }
   where
     at : (p : SlotState → Bool) → count_by p (values_of kept) - count_by p (slot ∷ []) ≡ count_by p (values_of (remove_entry test kept))
     at p = omega (arith, count-one p slot, count_removed p test slot kept is)
 
 pushed_counts : (slots : List SlotState) (slot : SlotState) → plus (counts_of slots) (counts_of (slot ∷ [])) ≡ counts_of (slots ++ slot ∷ [])
-pushed_counts slots slot = λ i. record { orders = at (λ s. is_some s.order) i; busy = at (λ s. is_busy s.order) i; excluded = at (λ s. is_some s.stop) i }
+pushed_counts slots slot = λ i. record { orders = at (λ s. is_some s.order) i; busy = at (λ s. is_busy s.order) i; excluded = at (λ s. is_some s.stop) i; due = at (λ s. is_due s.stop) i }
   where
     at : (p : SlotState → Bool) → count_by p slots + count_by p (slot ∷ []) ≡ count_by p (slots ++ slot ∷ [])
     at p = omega (arith, count-one p slot, sum_by_push (λ (s : SlotState). cond (p s) 1 0) slots slot)
@@ -141,6 +146,7 @@ same_counts change orders stops slots = λ i. record {
   orders = at (λ s. is_some s.order) (λ s. ap is_some (orders s)) i;
   busy = at (λ s. is_busy s.order) (λ s. ap is_busy (orders s)) i;
   excluded = at (λ s. is_some s.stop) (λ s. ap is_some (stops s)) i;
+  due = at (λ s. is_due s.stop) (λ s. ap is_due (stops s)) i;
 }
   where
     at : (p : SlotState → Bool) → ((slot : SlotState) → p (change slot) ≡ p slot) → count_by p slots ≡ count_by p (map change slots)
@@ -158,12 +164,13 @@ same_changed id change orders stops slots = same_counts (changed id change) (λ 
     stop false slot = refl
 
 -- where the stops alone are counted anew
-pub judged_counts : (change : SlotState → SlotState) → ((slot : SlotState) → (change slot).order ≡ slot.order) → (slots : List SlotState) (counts : Counts) → counts ≡ counts_of slots
-    → record counts { excluded = count_by (λ (s : SlotState). is_some s.stop) (map change slots) } ≡ counts_of (map change slots)
-judged_counts change orders slots counts is = λ i. record {
+pub judged_counts : (change : SlotState → SlotState) → ((slot : SlotState) → (change slot).order ≡ slot.order) → (slots : List SlotState) (counts : Counts) (excluded due : ℕ) → counts ≡ counts_of slots
+    → excluded ≡ count_by (λ (s : SlotState). is_some s.stop) (map change slots) → due ≡ count_by (λ (s : SlotState). is_due s.stop) (map change slots) → record counts { excluded = excluded; due = due } ≡ counts_of (map change slots)
+judged_counts change orders slots counts excluded due is stops dues = λ i. record {
   orders = at (λ s. is_some s.order) (λ s. ap is_some (orders s)) (ap (λ (k : Counts). k.orders) is) i;
   busy = at (λ s. is_busy s.order) (λ s. ap is_busy (orders s)) (ap (λ (k : Counts). k.busy) is) i;
-  excluded = count_by (λ (s : SlotState). is_some s.stop) (map change slots);
+  excluded = stops i;
+  due = dues i;
 }
   where
     at : {n : ℕ} (p : SlotState → Bool) → ((slot : SlotState) → p (change slot) ≡ p slot) → n ≡ count_by p slots → n ≡ count_by p (map change slots)

@@ -2,7 +2,9 @@ pub mod Adopted
 pub mod Changed
 pub mod Counted
 pub mod Found
-pub mod Numbers
+pub mod Indexes
+pub mod Keys
 pub mod Ordered
 pub mod Rebuilt
+pub mod Sorted
 pub mod Timely

@@ -1,15 +1,17 @@
--- How many records have an open order, an open start or signal, and a child that is to be stopped.
+-- How many records have an open order, an open start or signal, a child that is to be stopped, and one without signal.
 use Rattle.std.specs.Prelude.{◌≤◌, ◌<◌, ◌+◌, ◌-◌, ◌^◌, List, is_some}
 use Rattle.std.specs.List.{count_by}
 use Rattle.child_table.specs.declared.counts.Counts.{Counts}
 use Rattle.child_table.specs.State.{SlotState}
 use Rattle.child_table.specs.Lists.{is_busy}
+use Rattle.child_table.specs.Stopping.{is_due}
 
 abbrev pub counts_of : List SlotState → Counts
 counts_of slots = record {
   orders = count_by (λ (slot : SlotState). is_some slot.order) slots;
   busy = count_by (λ (slot : SlotState). is_busy slot.order) slots;
   excluded = count_by (λ (slot : SlotState). is_some slot.stop) slots;
+  due = count_by (λ (slot : SlotState). is_due slot.stop) slots;
 }
 
 -- some more, and some fewer
@@ -18,6 +20,7 @@ plus counts more = record {
   orders = counts.orders + more.orders;
   busy = counts.busy + more.busy;
   excluded = counts.excluded + more.excluded;
+  due = counts.due + more.due;
 }
 
 abbrev pub minus : Counts → Counts → Counts
@@ -25,11 +28,13 @@ minus counts less = record {
   orders = counts.orders - less.orders;
   busy = counts.busy - less.busy;
   excluded = counts.excluded - less.excluded;
+  due = counts.due - less.due;
 }
 
 -- each of the ones is at most that of the others, and each fits a machine's word
 abbrev pub IsWithin : Counts → Counts → Type 0
-IsWithin less counts = (less.orders ≤ counts.orders) × (less.busy ≤ counts.busy) × (less.excluded ≤ counts.excluded)
+IsWithin less counts = (less.orders ≤ counts.orders) × (less.busy ≤ counts.busy)
+    × (less.excluded ≤ counts.excluded) × (less.due ≤ counts.due)
 
 abbrev pub AreSmall : Counts → Type 0
-AreSmall counts = (counts.orders < 2 ^ 64) × (counts.busy < 2 ^ 64) × (counts.excluded < 2 ^ 64)
+AreSmall counts = (counts.orders < 2 ^ 64) × (counts.busy < 2 ^ 64) × (counts.excluded < 2 ^ 64) × (counts.due < 2 ^ 64)

@@ -1,9 +1,10 @@
 pub mod Adopting
 pub mod Changes
 pub mod Counting
+pub mod Indexing
 pub mod Judging
 pub mod Lists
-pub mod Numbering
 pub mod Order
 pub mod State
+pub mod Stopping
 pub mod Times

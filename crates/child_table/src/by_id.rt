@@ -2,8 +2,11 @@ ghost use Rattle.std.specs.Prelude.{◌≡◌, ◌≤◌, ◌++◌, [], ◌∷�
 ghost use Rattle.init_words.specs.declared.orders.Ask.{Ask};
 ghost use Rattle.respawn_limit.specs.declared.TheConstants.{CLOCK_LIMIT};
 
-use crate::counts::{Counts, count_excluded};
-use crate::numbered::{Found, Numbered, child_of, forget, note, put, with_number};
+use crate::counts::{Counts, count_due, count_excluded};
+use crate::keyed::{
+    Found, Keyed, child_of, first_key, forget, index_termed, make_room, moves_child, moves_stop,
+    note, put, termed_of, with_key,
+};
 use crate::records::Slot;
 use indexmap::IndexMap;
 use init_words::{Answer, Ask, ChildNo, Id, Memory, Refusal, Stage};
@@ -20,20 +23,21 @@ use std::marker::Model;
 pub struct Slots<A: Allocator = Global> {
     records: IndexMap<Id, Slot, BuildHasherDefault<FoldHasher>, A>,
     counts: Counts,
-    // Sorted by number, with room for one child a record.
-    children: Vec<Numbered, A>,
+    // The children by their numbers, sorted, and the times of SIGTERMs that were the last signal, with room for one of
+    // each a record.
+    children: Vec<Keyed, A>,
+    termed: Vec<Keyed, A>,
 }
 
 impl<A: Allocator> Model for Slots<A> {
-    ghost use Rattle.std.specs.Prelude.{◌≡◌, ◌≤◌, List, length, true};
+    ghost use Rattle.std.specs.Prelude.{◌≡◌, List, true};
     ghost use Rattle.indexmap.specs.IndexMap.{keys, values};
     ghost use Rattle.respawn_limit.specs.declared.TheConstants.{CLOCK_LIMIT};
     ghost use Rattle.child_table.specs.State.{SlotState};
     ghost use Rattle.child_table.specs.Lists.{slot_ids};
     ghost use Rattle.child_table.specs.Times.{are_timely};
     ghost use Rattle.child_table.specs.Counting.{counts_of};
-    ghost use Rattle.child_table.specs.Numbering.{are_sorted, AreChildrenOf};
-    ghost use Rattle.std.specs.Vec.{vec_capacity};
+    ghost use Rattle.child_table.specs.Indexing.{child_of, termed_of, IsIndex};
 
     ghost Value = { List SlotState };
 
@@ -42,9 +46,8 @@ impl<A: Allocator> Model for Slots<A> {
     ghost invariant = { λ slots. (keys slots.records ≡ slot_ids (values slots.records))
         × (are_timely CLOCK_LIMIT (values slots.records) ≡ true)
         × (slots.counts ≡ counts_of (values slots.records))
-        × (are_sorted slots.children.items ≡ true)
-        × AreChildrenOf (values slots.records) slots.children.items
-        × (length (values slots.records) ≤ vec_capacity slots.children) };
+        × IsIndex child_of (values slots.records) slots.children
+        × IsIndex termed_of (values slots.records) slots.termed };
 }
 
 impl<A: Allocator + Copy> Slots<A> {
@@ -56,6 +59,7 @@ impl<A: Allocator + Copy> Slots<A> {
             records: IndexMap::new(alloc),
             counts: Counts::none(),
             children: Vec::new(alloc),
+            termed: Vec::new(alloc),
         }
     }
 
@@ -67,6 +71,7 @@ impl<A: Allocator + Copy> Slots<A> {
             records: IndexMap::with_capacity(alloc, room)?,
             counts: Counts::none(),
             children: Vec::with_capacity(alloc, room)?,
+            termed: Vec::with_capacity(alloc, room)?,
         })
     }
 
@@ -83,6 +88,7 @@ impl<A: Allocator> Slots<A> {
     ghost use Rattle.child_table.specs.Times.{is_timely, are_timely};
     ghost use Rattle.child_table.specs.Changes.{after_order, after_hold, after_call, after_enter, after_nudge, after_answer};
     ghost use Rattle.child_table.specs.Judging.{after_judge};
+    ghost use Rattle.child_table.specs.Stopping.{is_due, IsFirstTermed};
 
     /// How many records there are. No id has two, and no time that they keep is above the clock's limit.
     pub fn len(&self) -> usize
@@ -124,7 +130,7 @@ impl<A: Allocator> Slots<A> {
     pub fn by_child(&self, number: ChildNo) -> Option<Id>
         ensures { result ≡ id_of_child number self.now }
     {
-        match with_number(self.children.as_slice(), number) {
+        match with_key(self.children.as_slice(), u64::from(number.0)) {
             Found::None => None,
             Found::One(id) => Some(id),
             // The system gave the number anew, and the end of the child that had it before isn't told yet.
@@ -161,6 +167,20 @@ impl<A: Allocator> Slots<A> {
         ensures { result ≡ list_any (λ (slot : SlotState). is_some slot.stop) self.now }
     {
         self.counts.excluded != 0
+    }
+
+    /// A child is to be stopped, and no signal was sent to it yet.
+    pub fn has_due(&self) -> bool
+        ensures { result ≡ list_any (λ (slot : SlotState). is_due slot.stop) self.now }
+    {
+        self.counts.due != 0
+    }
+
+    /// The earliest time, in seconds, at which a child that is to be stopped got its last signal, a SIGTERM.
+    pub fn first_termed(&self) -> Option<u64>
+        ensures { IsFirstTermed self.now result }
+    {
+        first_key(self.termed.as_slice())
     }
 
     /// The order may be given about the id now: none is open, and a start is that of an entry without child, which the
@@ -259,7 +279,9 @@ impl<A: Allocator> Slots<A> {
         slot.note_answer(answer, now);
         self.counts.add(Counts::of(slot));
         let child = child_of(slot);
-        note(&mut self.children, &id, &answer, child);
+        let termed = termed_of(slot);
+        note(&mut self.children, &id, moves_child(&answer), child);
+        note(&mut self.termed, &id, moves_stop(&answer), termed);
     }
 
     fn remove(&mut self, id: Id)
@@ -268,6 +290,7 @@ impl<A: Allocator> Slots<A> {
         if let Some(slot) = self.records.shift_remove(&id) {
             self.counts.subtract(Counts::of(&slot));
             forget(&mut self.children, id);
+            forget(&mut self.termed, id);
         }
     }
 
@@ -336,7 +359,10 @@ impl<A: Allocator> Slots<A> {
                 true
             },
         );
-        self.counts.excluded = count_excluded(self.records.values().as_slice());
+        let slots = self.records.values().as_slice();
+        self.counts.excluded = count_excluded(slots);
+        self.counts.due = count_due(slots);
+        index_termed(&mut self.termed, slots);
     }
 
     /// Adds the record of an id that has none behind the others.
@@ -349,14 +375,16 @@ impl<A: Allocator> Slots<A> {
         let id = slot.id();
         let counts = Counts::of(&slot);
         let child = child_of(&slot);
-        // Room for one child a record.
-        let missing = self.records.len() + 1 - self.children.len();
-        self.children.reserve(missing)?;
+        let termed = termed_of(&slot);
+        let records = self.records.len() + 1;
+        make_room(&mut self.children, records)?;
+        make_room(&mut self.termed, records)?;
         self.records.insert(id, slot)?;
         // `len` says that the records are few enough to count, as `insert` doesn't.
         let _ = self.records.len();
         self.counts.add(counts);
         put(&mut self.children, child);
+        put(&mut self.termed, termed);
         Ok(())
     }
 }

@@ -2,6 +2,7 @@ ghost use Rattle.std.specs.Prelude.{◌≡◌, [], ◌∷◌, is_some};
 ghost use Rattle.std.specs.List.{count_by};
 ghost use Rattle.child_table.specs.State.{SlotState};
 ghost use Rattle.child_table.specs.Counting.{counts_of, plus, minus, IsWithin, AreSmall};
+ghost use Rattle.child_table.specs.Stopping.{is_due};
 
 use crate::records::Slot;
 
@@ -14,6 +15,8 @@ pub(crate) struct Counts {
     pub(crate) busy: usize,
     /// Those whose child is to be stopped.
     pub(crate) excluded: usize,
+    /// Those of them that got no signal yet.
+    pub(crate) due: usize,
 }
 
 impl Counts {
@@ -25,6 +28,7 @@ impl Counts {
             orders: 0,
             busy: 0,
             excluded: 0,
+            due: 0,
         }
     }
 
@@ -36,6 +40,7 @@ impl Counts {
             orders: usize::from(slot.order().is_some()),
             busy: usize::from(slot.is_busy()),
             excluded: usize::from(slot.stop().is_some()),
+            due: usize::from(slot.is_due()),
         }
     }
 
@@ -46,6 +51,7 @@ impl Counts {
         self.orders += more.orders;
         self.busy += more.busy;
         self.excluded += more.excluded;
+        self.due += more.due;
     }
 
     pub(crate) fn subtract(&mut self, less: Counts)
@@ -55,6 +61,7 @@ impl Counts {
         self.orders -= less.orders;
         self.busy -= less.busy;
         self.excluded -= less.excluded;
+        self.due -= less.due;
     }
 }
 
@@ -63,4 +70,11 @@ pub(crate) fn count_excluded(slots: &[Slot]) -> usize
     ensures { result ≡ count_by (λ (slot : SlotState). is_some slot.stop) slots.now }
 {
     slots.iter().filter(|slot| slot.stop().is_some()).count()
+}
+
+/// How many children that are to be stopped got no signal yet.
+pub(crate) fn count_due(slots: &[Slot]) -> usize
+    ensures { result ≡ count_by (λ (slot : SlotState). is_due slot.stop) slots.now }
+{
+    slots.iter().filter(|slot| slot.is_due()).count()
 }

@@ -9,7 +9,7 @@ mod adopting;
 mod by_id;
 mod children;
 mod counts;
-mod numbered;
+mod keyed;
 mod rebuilding;
 mod records;
 

@@ -218,6 +218,7 @@ impl Slot {
     ghost use Rattle.child_table.specs.Changes.{can_be_asked, after_order, after_hold, after_call, after_enter, after_nudge, after_answer, is_over};
     ghost use Rattle.child_table.specs.Judging.{after_judge};
     ghost use Rattle.child_table.specs.Lists.{is_busy};
+    ghost use Rattle.child_table.specs.Stopping.{is_due};
     ghost use Rattle.child_table.specs.Adopting.{adopted, left_over, is_left_over};
 
     /// The record of an entry of which nothing was asked yet.
@@ -344,6 +345,13 @@ impl Slot {
             None | Some(Ask::Look) => false,
             Some(Ask::Start | Ask::Term | Ask::Kill) => true,
         }
+    }
+
+    /// Its child is to be stopped, and no signal was sent to it yet.
+    pub(crate) fn is_due(&self) -> bool
+        ensures { result ≡ is_due self.now.stop }
+    {
+        matches!(self.stop, Some(Stop::Due))
     }
 
     /// The answer ends the record: its child ended, and the table doesn't have its id.

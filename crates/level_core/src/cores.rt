@@ -1,7 +1,7 @@
 ghost use Rattle.std.specs.Prelude.{◌≡◌, IfOk, OnOk, OnErr};
 
 use crate::calling::{call_named, judge_in};
-use crate::deciding::{brings_nothing, level_step, next_stage};
+use crate::deciding::{brings_nothing, is_past, level_step, next_stage};
 use crate::walking::{
     all_done, all_served, any_busy, leaves_passed, look_among, passed_to, place_if, seen_to,
     start_among, stop_among,
@@ -168,7 +168,7 @@ impl<A: Allocator> Core<A> {
     ghost use Rattle.init_trace.specs.Run.{is_rest};
     ghost use Rattle.child_table.specs.Order.{IsInOrder};
     ghost use Rattle.child_table.specs.Lists.{are_distinct, can_ask, order_in, refusal_of};
-    ghost use Rattle.core_state.specs.Decide.{decide, wished_step, wish_step, stands, calm_step, work_step, is_drained};
+    ghost use Rattle.core_state.specs.Decide.{decide, wished_step, wish_step, stands, stop_among, calm_step, work_step, is_drained};
     ghost use Rattle.core_state.specs.Decide as core;
     ghost use Rattle.core_state.specs.Steps as steps;
     ghost use Rattle.init_trace.specs.declared.happenings.Handed.{Handed};
@@ -390,7 +390,19 @@ impl<A: Allocator> Core<A> {
         if !self.slots.has_excluded() {
             return self.calm_step(stage);
         }
-        stop_among(self.grace, self.time, self.slots.as_slice())
+        self.stop_step()
+    }
+
+    /// The first signal that is due. The records are walked only where a stop is due, or the grace of the first
+    /// SIGTERM is over.
+    fn stop_step(&self) -> Option<Step>
+        ensures { result ≡ stop_among self.now.grace self.now.time self.now.slots }
+    {
+        let slots = &self.slots;
+        if slots.has_due() || is_past(slots.first_termed(), self.grace, self.time) {
+            return stop_among(self.grace, self.time, slots.as_slice());
+        }
+        None
     }
 
     fn due_step(&self) -> Step

@@ -4,6 +4,7 @@ ghost use Rattle.init_trace.specs.Wanted.{is_order};
 ghost use Rattle.init_words.specs.Orders.{same_ask};
 ghost use Rattle.respawn_limit.specs.declared.TheConstants.{CLOCK_LIMIT};
 ghost use Rattle.level_core.specs.Places.{is_seen_slot, is_passed_slot, brings_nothing};
+ghost use Rattle.level_core.specs.Signals.{is_past};
 
 use child_table::{Slot, Stop};
 use init_trace::{Goal, Step};
@@ -28,6 +29,16 @@ fn is_over(time: u64, grace: u16, now: u64) -> bool
     ensures { result ≡ nat_le (time + grace) now }
 {
     time <= now && now - time >= u64::from(grace)
+}
+
+/// There is a time, and the seconds of the grace have passed since it.
+pub(crate) fn is_past(time: Option<u64>, grace: u16, now: u64) -> bool
+    ensures { result ≡ is_past grace now time }
+{
+    match time {
+        Some(time) => is_over(time, grace, now),
+        None => false,
+    }
 }
 
 fn signal_step(grace: u16, now: u64, id: Id, stop: Option<Stop>) -> Option<Step>

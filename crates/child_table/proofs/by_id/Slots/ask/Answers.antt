@@ -1,17 +1,16 @@
 use Rattle.std.proofs.Common.{◌≡◌, ap, subst, true, sym, ◌∙◌}
-use Rattle.std.proofs.lemmas.List.{length-map}
 use Rattle.std.specs.Option.{option_copied_mut}
 use Rattle.init_words.proofs.Tests.{both_ways}
 use Rattle.respawn_limit.specs.declared.TheConstants.{CLOCK_LIMIT}
-use Rattle.child_table.specs.Lists.{can_ask, can_ask_of, changed}
+use Rattle.child_table.specs.Lists.{can_ask, can_ask_of}
 use Rattle.child_table.specs.Changes.{after_order}
-use Rattle.child_table.proofs.Changed.{child-after_order, id-after_order}
+use Rattle.child_table.proofs.Changed.{child-after_order, id-after_order, termed-after_order}
 use Rattle.child_table.specs.Counting.{counts_of}
 use Rattle.child_table.proofs.Counted.{found_within, recount}
-use Rattle.child_table.specs.Numbering.{AreChildrenOf}
-use Rattle.child_table.proofs.Numbers.{same_one}
 use Rattle.child_table.proofs.Found.{absent_in, found_in, written}
 use Rattle.child_table.proofs.Timely.{timely_found, timely_order}
+use Rattle.child_table.specs.Indexing.{child_of, termed_of}
+use Rattle.child_table.proofs.Indexes.{same_index_at}
 use Rattle.child_table.proofs.by_id.Slots.ask.Goals as goal
 
 pub unreachable-requires : goal.unreachable-requires
@@ -39,9 +38,8 @@ invariant_of-self g c =
       left.own,
       left.timely CLOCK_LIMIT (λ s kept. timely_order c.args.ask c.args.now CLOCK_LIMIT c.requires.limit s kept) (rw c.self.view_is at c.self.invariant.1),
       c.add.ensures ∙ (recount c.self.inside.records c.args.id (after_order c.args.ask c.args.now) c.in-Some.slot.now c.note_order.new.self c.args.self.now c.self.inside.counts c.of.result c.subtract.new.self c.of-2.result c.self.invariant.0 c.get_mut.ensures.unique (rw c.len.ensures.len at c.len.ensures.small) c.self.view_is c.in-Some.ensures.value c.self.invariant.2 c.of.ensures c.subtract.ensures c.note_order.ensures c.of-2.ensures).exact ∙ sym (ap counts_of left.values),
-      c.self.invariant.3,
-      subst (λ slots. AreChildrenOf slots c.self.inside.children.items) (sym left.values) (same_one c.args.id (after_order c.args.ask c.args.now) (λ s. child-after_order c.args.ask c.args.now s) c.args.self.now c.self.inside.children.items (rw c.self.view_is at c.self.invariant.4)),
-      rw (left.values, length-map c.args.self.now (changed c.args.id (after_order c.args.ask c.args.now)), ← c.self.view_is) c.self.invariant.5,
+      same_index_at child_of c.args.id (after_order c.args.ask c.args.now) (λ s. child-after_order c.args.ask c.args.now s) c.self.inside.children c.self.view_is left.values c.self.invariant.3,
+      same_index_at termed_of c.args.id (after_order c.args.ask c.args.now) (λ s. termed-after_order c.args.ask c.args.now s) c.self.inside.termed c.self.view_is left.values c.self.invariant.4,
     )
 
 pub returns : goal.returns

@@ -1,15 +1,14 @@
-use Rattle.std.proofs.Common.{ap, refl, sym, ◌∙◌, subst}
-use Rattle.std.proofs.lemmas.List.{length-map}
+use Rattle.std.proofs.Common.{ap, refl, sym, ◌∙◌}
 use Rattle.std.specs.Option.{is_some, option_copied_mut}
 use Rattle.init_words.proofs.Tests.{both_ways}
 use Rattle.respawn_limit.specs.declared.TheConstants.{CLOCK_LIMIT}
-use Rattle.child_table.specs.Lists.{has_slot, changed}
+use Rattle.child_table.specs.Lists.{has_slot}
 use Rattle.child_table.specs.Changes.{after_hold}
 use Rattle.child_table.specs.Counting.{counts_of}
 use Rattle.child_table.proofs.Counted.{same_changed}
-use Rattle.child_table.specs.Numbering.{AreChildrenOf}
-use Rattle.child_table.proofs.Numbers.{same_one}
 use Rattle.child_table.proofs.Found.{absent_in, written}
+use Rattle.child_table.specs.Indexing.{child_of, termed_of}
+use Rattle.child_table.proofs.Indexes.{same_index_at}
 use Rattle.child_table.proofs.by_id.Slots.hold.Goals as goal
 
 pub unreachable-requires : goal.unreachable-requires
@@ -23,9 +22,8 @@ invariant_of-self g c =
       left.own,
       left.timely CLOCK_LIMIT (λ s kept. kept) (rw c.self.view_is at c.self.invariant.1),
       c.self.invariant.2 ∙ ap counts_of c.self.view_is ∙ same_changed c.args.id (after_hold c.args.now) (λ s. refl) (λ s. refl) c.args.self.now ∙ sym (ap counts_of left.values),
-      c.self.invariant.3,
-      subst (λ slots. AreChildrenOf slots c.self.inside.children.items) (sym left.values) (same_one c.args.id (after_hold c.args.now) (λ s. refl) c.args.self.now c.self.inside.children.items (rw c.self.view_is at c.self.invariant.4)),
-      rw (left.values, length-map c.args.self.now (changed c.args.id (after_hold c.args.now)), ← c.self.view_is) c.self.invariant.5,
+      same_index_at child_of c.args.id (after_hold c.args.now) (λ s. refl) c.self.inside.children c.self.view_is left.values c.self.invariant.3,
+      same_index_at termed_of c.args.id (after_hold c.args.now) (λ s. refl) c.self.inside.termed c.self.view_is left.values c.self.invariant.4,
     )
 
 pub returns : goal.returns

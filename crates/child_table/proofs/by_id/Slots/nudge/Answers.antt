@@ -1,13 +1,12 @@
-use Rattle.std.proofs.Common.{rules, refl, ap, sym, ◌∙◌, subst}
-use Rattle.std.proofs.lemmas.List.{length-map}
+use Rattle.std.proofs.Common.{rules, refl, ap, sym, ◌∙◌}
 use Rattle.std.proofs.lemmas.Map.Made.{map_same_pairs}
 use Rattle.respawn_limit.specs.declared.TheConstants.{CLOCK_LIMIT}
 use Rattle.child_table.specs.Changes.{after_nudge}
 use Rattle.child_table.specs.Counting.{counts_of}
 use Rattle.child_table.proofs.Counted.{same_counts}
-use Rattle.child_table.specs.Numbering.{AreChildrenOf}
-use Rattle.child_table.proofs.Numbers.{same_those}
 use Rattle.child_table.proofs.Found.{all_written}
+use Rattle.child_table.specs.Indexing.{child_of, termed_of}
+use Rattle.child_table.proofs.Indexes.{same_index}
 use Rattle.child_table.proofs.by_id.Slots.nudge.Goals as goal
 
 pub invariant_of-self : goal.invariant_of-self
@@ -16,9 +15,8 @@ invariant_of-self g c =
       left.own,
       left.timely CLOCK_LIMIT (λ s kept. kept) (rw c.self.view_is at c.self.invariant.1),
       c.self.invariant.2 ∙ ap counts_of c.self.view_is ∙ same_counts after_nudge (λ s. refl) (λ s. refl) c.args.self.now ∙ sym (ap counts_of left.values),
-      c.self.invariant.3,
-      subst (λ slots. AreChildrenOf slots c.self.inside.children.items) (sym left.values) (same_those after_nudge (λ s. refl) c.args.self.now c.self.inside.children.items (rw c.self.view_is at c.self.invariant.4)),
-      rw (left.values, length-map c.args.self.now after_nudge, ← c.self.view_is) c.self.invariant.5,
+      same_index child_of after_nudge (λ s. refl) c.self.inside.children c.self.view_is left.values c.self.invariant.3,
+      same_index termed_of after_nudge (λ s. refl) c.self.inside.termed c.self.view_is left.values c.self.invariant.4,
     )
 
 pub returns : goal.returns

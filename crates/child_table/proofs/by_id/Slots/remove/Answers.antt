@@ -2,16 +2,14 @@ use Rattle.std.proofs.Common.{sym}
 use Rattle.init_words.specs.Ids.{same_id}
 use Rattle.respawn_limit.specs.declared.TheConstants.{CLOCK_LIMIT}
 use Rattle.child_table.proofs.Counted.{found_within, removed_counts}
-use Rattle.std.specs.Vec.{vec_capacity}
-use Rattle.child_table.proofs.Numbers.{fewer_within, without_those}
 use Rattle.child_table.proofs.Found.{found_in, removed}
+use Rattle.child_table.specs.Indexing.{child_of, termed_of}
+use Rattle.child_table.proofs.Keys.{own_child, own_termed}
+use Rattle.child_table.proofs.Indexes.{removed_index}
 use Rattle.child_table.proofs.by_id.Slots.remove.Goals as goal
 
 pub subtract-requires : goal.subtract-requires
 subtract-requires g c = rw (c.of.ensures, c.self.invariant.2, c.self.view_is) (found_within c.args.id c.in-Some.slot c.args.self.now (found_in c.args.id c.in-Some.slot c.self.inside.records.entries c.args.self.now c.self.invariant.0 c.self.view_is c.in-Some.ensures.value))
-
-pub forget-requires : goal.forget-requires
-forget-requires g c = c.self.invariant.3
 
 pub invariant_of-self : goal.invariant_of-self
 invariant_of-self g c =
@@ -19,9 +17,8 @@ invariant_of-self g c =
       left.own,
       left.timely CLOCK_LIMIT (rw c.self.view_is at c.self.invariant.1),
       rw (c.subtract.ensures, c.of.ensures, c.self.invariant.2, c.shift_remove.ensures.entries) (removed_counts (same_id c.args.id) c.in-Some.slot c.self.inside.records.entries (sym c.in-Some.ensures.value)),
-      c.forget.ensures.sorted,
-      rw (left.values, c.forget.ensures.items) (without_those c.args.id c.args.self.now c.self.inside.children.items (rw c.self.view_is at c.self.invariant.4)),
-      rw (left.values, c.forget.ensures.room) (fewer_within c.args.id c.args.self.now (vec_capacity c.self.inside.children) (rw c.self.view_is at c.self.invariant.5)),
+      removed_index child_of own_child c.args.id c.self.inside.children c.forget.new.items c.self.view_is left.values c.forget.ensures.items c.forget.ensures.sorted c.forget.ensures.room c.self.invariant.3,
+      removed_index termed_of own_termed c.args.id c.self.inside.termed c.forget-in-Some.new.items c.self.view_is left.values c.forget-in-Some.ensures.items c.forget-in-Some.ensures.sorted c.forget-in-Some.ensures.room c.self.invariant.4,
     )
 
 pub returns-in-Some : goal.returns-in-Some
