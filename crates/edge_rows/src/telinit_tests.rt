@@ -31,6 +31,21 @@ fn words_of(alloc: Global, line: &[&str]) -> Result<Vec<String>, AllocError> {
     Ok(words)
 }
 
+/// A line, the status that it ends with, and the report.
+type Row = (&'static [&'static str], u8, &'static str);
+
+fn words_end(
+    rt: &(impl Files + Abort),
+    alloc: Global,
+    words: Vec<String>,
+    status: u8,
+    report: &str,
+) {
+    let mut err: Vec<u8> = Vec::new(alloc);
+    let ended = run_words(rt, alloc, words, &mut sink(), &mut err);
+    assert!(rt; ended == status && err.as_slice() == report.as_bytes());
+}
+
 /// The line ends with this status and this report.
 fn ends(
     rt: &(impl Files + Abort),
@@ -39,40 +54,40 @@ fn ends(
     status: u8,
     report: &str,
 ) -> Result<(), Fail> {
-    let mut err: Vec<u8> = Vec::new(alloc);
-    let ended = run_words(rt, alloc, words_of(alloc, line)?, &mut sink(), &mut err);
-    assert!(rt;
-        ended == status && err.as_slice() == report.as_bytes(),
-        "at {line:?}"
-    );
+    words_end(rt, alloc, words_of(alloc, line)?, status, report);
     Ok(())
 }
 
-const USAGE_FAULTS: &[&[&str]] = &[
-    &["x"],
-    &["33"],
-    &["-t", "3601", "q"],
-    &["-t", "-1", "q"],
-    &["-t", "+5", "q"],
-    &["-t", "five", "q"],
-    &["-t", "q"],
-    &["q", "q"],
-    &[""],
-    &["--help"],
-    &["-h"],
-    &["help"],
-    &["--version"],
-    &["-e", "q"],
-    &["-t", "1", "-t", "2", "q"],
-    &["é"],
-    &[],
+fn all_end(rt: &(impl Files + Abort), alloc: Global, rows: &[Row]) -> Result<(), Fail> {
+    for (line, status, report) in rows {
+        ends(rt, alloc, line, *status, report)?;
+    }
+    Ok(())
+}
+
+const USAGE_FAULTS: &[Row] = &[
+    (&["x"], 1, USAGE_REPORT),
+    (&["33"], 1, USAGE_REPORT),
+    (&["-t", "3601", "q"], 1, USAGE_REPORT),
+    (&["-t", "-1", "q"], 1, USAGE_REPORT),
+    (&["-t", "+5", "q"], 1, USAGE_REPORT),
+    (&["-t", "five", "q"], 1, USAGE_REPORT),
+    (&["-t", "q"], 1, USAGE_REPORT),
+    (&["q", "q"], 1, USAGE_REPORT),
+    (&[""], 1, USAGE_REPORT),
+    (&["--help"], 1, USAGE_REPORT),
+    (&["-h"], 1, USAGE_REPORT),
+    (&["help"], 1, USAGE_REPORT),
+    (&["--version"], 1, USAGE_REPORT),
+    (&["-e", "q"], 1, USAGE_REPORT),
+    (&["-t", "1", "-t", "2", "q"], 1, USAGE_REPORT),
+    (&["é"], 1, USAGE_REPORT),
+    (&[], 1, USAGE_REPORT),
 ];
 
 #[test]
 fn usage_faults_write_nothing(rt: HostRuntime) -> Result<(), Fail> {
-    for line in USAGE_FAULTS {
-        ends(&rt, rt.alloc(), line, 1, USAGE_REPORT)?;
-    }
+    all_end(&rt, rt.alloc(), USAGE_FAULTS)?;
     assert!(rt; fs::metadata(&rt, "initctl").is_err());
     Ok(())
 }
@@ -101,6 +116,17 @@ fn are_blocks(bytes: &[u8], first: [u8; 16], second: [u8; 16]) -> bool {
     }
 }
 
+/// The file has these two blocks.
+fn has_blocks(
+    rt: &(impl Files + Alloc),
+    path: &str,
+    first: [u8; 16],
+    second: [u8; 16],
+) -> io::Result<bool> {
+    let bytes = fs::read(rt, path)?;
+    Ok(are_blocks(bytes.as_slice(), first, second))
+}
+
 #[test]
 fn blocks_are_appended(rt: HostRuntime) -> Result<(), Fail> {
     let _ = fs::remove_file(&rt, "two");
@@ -113,34 +139,37 @@ fn blocks_are_appended(rt: HostRuntime) -> Result<(), Fail> {
     )?;
     assert!(rt; fs::metadata(&rt, "two")?.len() == 384);
     ends(&rt, rt.alloc(), &["--initctl=two", "q"], 0, "")?;
-    let bytes = fs::read(&rt, "two")?;
+    assert!(rt; has_blocks(&rt, "two", AT_ONCE, BY_DEFAULT)?);
     fs::remove_file(&rt, "two")?;
-    assert!(rt; are_blocks(bytes.as_slice(), AT_ONCE, BY_DEFAULT));
     Ok(())
 }
 
 /// Lines whose channel can't be appended to, and what is reported.
-const WRITE_FAULTS: &[(&[&str], &str)] = &[
+const WRITE_FAULTS: &[Row] = &[
     (
         &["--initctl", ".", "q"],
+        4,
         "telinit: cannot append to .: it is no plain file
 telinit: see that it is a file that you may write, in a folder that is there, with room on its disk
 ",
     ),
     (
         &["--initctl", "/dev/null", "q"],
+        4,
         "telinit: cannot append to /dev/null: it is no plain file
 telinit: see that it is a file that you may write, in a folder that is there, with room on its disk
 ",
     ),
     (
         &["--initctl", "fifo", "q"],
+        4,
         "telinit: cannot append to fifo: it is no plain file
 telinit: see that it is a file that you may write, in a folder that is there, with room on its disk
 ",
     ),
     (
         &["--initctl", "absent/initctl", "q"],
+        4,
         "telinit: cannot append to absent/initctl: No such file or directory (os error 2)
 telinit: see that it is a file that you may write, in a folder that is there, with room on its disk
 ",
@@ -157,9 +186,7 @@ fn make_fifo(rt: &impl Processes, alloc: Global, path: &str) -> io::Result<()> {
 fn write_faults_are_reported(rt: HostRuntime) -> Result<(), Fail> {
     let _ = fs::remove_file(&rt, "fifo");
     make_fifo(&rt, rt.alloc(), "fifo")?;
-    for (line, report) in WRITE_FAULTS {
-        ends(&rt, rt.alloc(), line, 4, report)?;
-    }
+    all_end(&rt, rt.alloc(), WRITE_FAULTS)?;
     assert!(rt; !fs::metadata(&rt, "fifo")?.is_file());
     Ok(())
 }
@@ -178,8 +205,9 @@ fn is_unread(rt: &impl Abort, alloc: Global, kind: ErrorKind, status: u8, report
     let error = io::Error::from(kind);
     let mut err: Vec<u8> = Vec::new(alloc);
     let ended = tell_unread("telinit", USAGE, &error, &mut err);
-    assert!(rt; ended == status && err.as_slice() == report.as_bytes());
-    assert!(rt; unread_status(&error) == status);
+    assert!(rt;
+        (ended, err.as_slice(), unread_status(&error)) == (status, report.as_bytes(), status)
+    );
 }
 
 #[test]
@@ -198,7 +226,7 @@ const LINES: &[(&[&str], u16, &str, &str)] = &[
 ];
 
 fn is_read(rt: &impl Abort, words: &Words, secs: u16, path: &str, sign: &str) {
-    assert!(rt; words.secs == secs && words.path.as_str() == path && words.sign.as_str() == sign);
+    assert!(rt; (words.secs, words.path.as_str(), words.sign.as_str()) == (secs, path, sign));
 }
 
 fn line_is_read(
@@ -238,20 +266,24 @@ const SIGNS: &[(&str, bool)] = &[
     ("qq", false),
 ];
 
-fn is_sign(rt: &impl Abort, alloc: Global, sign: &str, is_one: bool) -> Result<(), Fail> {
+fn is_sign(rt: &impl Abort, alloc: Global, sign: String, is_one: bool) {
     let words = Words {
         secs: 5,
         path: String::new(alloc),
-        sign: String::from_str(alloc, sign)?,
+        sign,
     };
-    assert!(rt; frame_of(&words).is_some() == is_one, "at {sign:?}");
-    Ok(())
+    assert!(rt; frame_of(&words).is_some() == is_one);
 }
 
 #[test]
 fn signs_are_one_character(rt: HostRuntime) -> Result<(), Fail> {
     for (sign, is_one) in SIGNS {
-        is_sign(&rt, rt.alloc(), sign, *is_one)?;
+        is_sign(
+            &rt,
+            rt.alloc(),
+            String::from_str(rt.alloc(), sign)?,
+            *is_one,
+        );
     }
     Ok(())
 }

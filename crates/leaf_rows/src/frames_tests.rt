@@ -59,10 +59,7 @@ const ROWS: &[(i32, i32, i32, Got)] = &[
 
 fn is_got(rt: &impl Abort, command: i32, runlevel: i32, sleeptime: i32, want: Got) {
     let block = block_of_ints(command, runlevel, sleeptime);
-    assert!(rt;
-        decode(&block) == want,
-        "command {command}, runlevel {runlevel}"
-    );
+    assert!(rt; decode(&block) == want);
 }
 
 #[test]

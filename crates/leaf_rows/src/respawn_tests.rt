@@ -31,8 +31,14 @@ fn answers(rt: &impl Abort, limiter: &Limiter, now: u64, may: May, held: bool) {
     assert!(rt; now <= CLOCK_LIMIT);
     let again = Limiter::of(limiter.starts(), limiter.held_until());
     assert!(rt; again == *limiter);
-    assert!(rt; again.may(now) == may && again.held(now) == held);
-    assert!(rt; limiter.may(now) == may && limiter.held(now) == held);
+    assert!(rt;
+        (
+            again.may(now),
+            again.held(now),
+            limiter.may(now),
+            limiter.held(now)
+        ) == (may, held, may, held)
+    );
 }
 
 fn answers_after(rt: &impl Abort, times: &[u64], now: u64, may: May) {

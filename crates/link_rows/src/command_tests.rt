@@ -1,5 +1,5 @@
-//! Runs of rclinks. The cases are rows of the words, parted by single blanks, the status, what is written on standard
-//! output, and what is told on standard error.
+//! Runs of rclinks. The cases are rows of the words, the status, what is written on standard output, and what is told
+//! on standard error.
 
 use init_words::Memory;
 use rclinks_command::run_words;
@@ -10,87 +10,87 @@ use std::process::Abort;
 use std::rt::Files;
 use std::test::Fail;
 
-/// Writes a script that provides names, requires names to start, and starts at runlevel 3.
-fn write_script(
-    rt: &impl Files,
-    alloc: Global,
-    path: &str,
-    provides: &str,
-    needs: &str,
-) -> Result<(), Fail> {
-    let text = format!(in alloc;
-        "### BEGIN INIT INFO
-# Provides: {provides}
-# Required-Start: {needs}
-# Default-Start: 3
-### END INIT INFO
-"
-    )?;
-    fs::write(rt, path, text.as_str())?;
-    Ok(())
-}
+/// A run's words, status, what is written on standard output, and what is told on standard error.
+type Row = (&'static [&'static str], u8, &'static [u8], &'static [u8]);
 
-fn add_words(words: &mut Vec<String>, alloc: Global, line: &str) -> Result<(), Memory> {
-    for word in line.split(' ') {
+fn add_words(words: &mut Vec<String>, alloc: Global, line: &[&str]) -> Result<(), Memory> {
+    for word in line {
         words.push(String::from_str(alloc, word)?)?;
     }
     Ok(())
 }
 
-/// The words of a line, parted by single blanks.
-fn words_of(alloc: Global, line: &str) -> Result<Vec<String>, Memory> {
+fn words_of(alloc: Global, line: &[&str]) -> Result<Vec<String>, Memory> {
     let mut words = Vec::new(alloc);
-    if !line.is_empty() {
-        add_words(&mut words, alloc, line)?;
-    }
+    add_words(&mut words, alloc, line)?;
     Ok(words)
 }
 
-/// Adds a run's status, and what it wrote on standard output and on standard error, each ended by a bar.
-fn add_run(
-    rt: &impl Files,
+/// Runs the words, with a writer of so much room, which may be one that can't be flushed.
+fn words_are_run<R: Files + Abort>(
+    rt: &R,
     alloc: Global,
     words: &[String],
-    text: &mut Vec<u8>,
-) -> Result<(), Memory> {
+    room: usize,
+    is_stuck: bool,
+    row: &Row,
+) {
+    let mut out = Slow::new(alloc, room, true, is_stuck);
     let mut err: Vec<u8> = Vec::new(alloc);
-    let status = run_words(rt, alloc, words, text, &mut err);
-    text.push(b'|')?;
-    text.extend_from_slice(err.as_slice())?;
-    text.push(b'|')?;
-    text.push(b'0' + status % 10)?;
+    let status = run_words(rt, alloc, words, &mut out, &mut err);
+    assert!(rt; (status, out.taken.as_slice(), err.as_slice()) == (row.1, row.2, row.3));
+}
+
+fn is_run<R: Files + Abort>(
+    rt: &R,
+    alloc: Global,
+    room: usize,
+    is_stuck: bool,
+    row: &Row,
+) -> Result<(), Fail> {
+    let words = words_of(alloc, row.0)?;
+    words_are_run(rt, alloc, words.as_slice(), room, is_stuck, row);
     Ok(())
 }
 
-/// What a run on the words of a line wrote, what it told, and its status, parted by bars.
-fn run(rt: &impl Files, alloc: Global, line: &str) -> Result<Vec<u8>, Memory> {
-    let words = words_of(alloc, line)?;
-    let mut text = Vec::new(alloc);
-    add_run(rt, alloc, words.as_slice(), &mut text)?;
-    Ok(text)
-}
+/// Room for all that is written.
+const ROOM: usize = 1000;
 
-fn is_run<R: Files + Abort>(rt: &R, alloc: Global, line: &str, want: &[u8]) -> Result<(), Fail> {
-    let given = run(rt, alloc, line)?;
-    assert_eq!(rt; given.as_slice(), want);
-    Ok(())
-}
-
-/// Paths, and what the script at each provides and requires.
-const SCRIPTS: &[(&str, &str, &str)] = &[
-    ("run-net", "net", "$network"),
-    ("run-db", "db", "net"),
-    ("run-web", "web", "db"),
-    ("run-other", "other net", ""),
-    ("run-left", "left", "right"),
-    ("run-right", "right", "left"),
-    ("run+net", "net", ""),
-    ("run-none", "", ""),
-    ("--help", "help", ""),
-];
-
-/// Paths, and the texts of files whose header is bad.
-const BAD: &[(&str, &str)] = &[
+/// Paths, and the texts of the files there: scripts that start at runlevel 3, and then files whose header is bad.
+const FILES: &[(&str, &str)] = &[
+    (
+        "run-net",
+        "### BEGIN INIT INFO\n# Provides: net\n# Required-Start: $network\n# Default-Start: 3\n### END INIT INFO\n",
+    ),
+    (
+        "run-db",
+        "### BEGIN INIT INFO\n# Provides: db\n# Required-Start: net\n# Default-Start: 3\n### END INIT INFO\n",
+    ),
+    (
+        "run-web",
+        "### BEGIN INIT INFO\n# Provides: web\n# Required-Start: db\n# Default-Start: 3\n### END INIT INFO\n",
+    ),
+    (
+        "run-other",
+        "### BEGIN INIT INFO\n# Provides: other net\n# Required-Start: \n# Default-Start: 3\n### END INIT INFO\n",
+    ),
+    (
+        "run-left",
+        "### BEGIN INIT INFO\n# Provides: left\n# Required-Start: right\n# Default-Start: 3\n### END INIT INFO\n",
+    ),
+    (
+        "run-right",
+        "### BEGIN INIT INFO\n# Provides: right\n# Required-Start: left\n# Default-Start: 3\n### END INIT INFO\n",
+    ),
+    ("run+net", NET),
+    (
+        "run-none",
+        "### BEGIN INIT INFO\n# Provides: \n# Required-Start: \n# Default-Start: 3\n### END INIT INFO\n",
+    ),
+    (
+        "--help",
+        "### BEGIN INIT INFO\n# Provides: help\n# Required-Start: \n# Default-Start: 3\n### END INIT INFO\n",
+    ),
     ("run-bad", "# Provides: bad\n"),
     ("run-open", "### BEGIN INIT INFO\n# Provides: open\n"),
     (
@@ -103,87 +103,140 @@ const BAD: &[(&str, &str)] = &[
     ),
 ];
 
-const RUNS: &[(&str, &[u8])] = &[
-    ("", b"|rclinks: usage: rclinks FILE..\n|1"),
-    ("--help", b"|rclinks: usage: rclinks FILE..\n|1"),
-    ("-h", b"|rclinks: usage: rclinks FILE..\n|1"),
-    ("run-net --help", b"|rclinks: usage: rclinks FILE..\n|1"),
-    ("./--help", b"rc3.d/S01--help ../init.d/--help\n||0"),
-    ("run-net", b"rc3.d/S01run-net ../init.d/run-net\n||0"),
-    ("./run-net", b"rc3.d/S01run-net ../init.d/run-net\n||0"),
+/// A script that provides `net` and requires nothing.
+const NET: &str =
+    "### BEGIN INIT INFO\n# Provides: net\n# Required-Start: \n# Default-Start: 3\n### END INIT INFO\n";
+
+const USAGE: &[u8] = b"rclinks: usage: rclinks FILE..\n";
+
+const RUNS: &[Row] = &[
+    (&[], 1, b"", USAGE),
+    (&["--help"], 1, b"", USAGE),
+    (&["-h"], 1, b"", USAGE),
+    (&["run-net", "--help"], 1, b"", USAGE),
+    (&["./--help"], 0, b"rc3.d/S01--help ../init.d/--help\n", b""),
     (
-        "run-folder/../run-net",
-        b"rc3.d/S01run-net ../init.d/run-net\n||0",
+        &["run-net"],
+        0,
+        b"rc3.d/S01run-net ../init.d/run-net\n",
+        b"",
     ),
     (
-        "./run-db ././run-net",
-        b"rc3.d/S01run-net ../init.d/run-net\nrc3.d/S02run-db ../init.d/run-db\n||0",
+        &["./run-net"],
+        0,
+        b"rc3.d/S01run-net ../init.d/run-net\n",
+        b"",
     ),
     (
-        "run-absent",
-        b"|rclinks: cannot read: run-absent\nrclinks: run-absent: No such file or directory (os error 2)\n|4",
+        &["run-folder/../run-net"],
+        0,
+        b"rc3.d/S01run-net ../init.d/run-net\n",
+        b"",
+    ),
+    (
+        &["./run-db", "././run-net"],
+        0,
+        b"rc3.d/S01run-net ../init.d/run-net\nrc3.d/S02run-db ../init.d/run-db\n",
+        b"",
+    ),
+    (
+        &["run-absent"],
+        4,
+        b"",
+        b"rclinks: cannot read: run-absent\nrclinks: run-absent: No such file or directory (os error 2)\n",
     ),
     // A file that is not read comes before a name that no link may have.
     (
-        "run+absent",
-        b"|rclinks: cannot read: run+absent\nrclinks: run+absent: No such file or directory (os error 2)\n|4",
+        &["run+absent"],
+        4,
+        b"",
+        b"rclinks: cannot read: run+absent\nrclinks: run+absent: No such file or directory (os error 2)\n",
     ),
     (
-        ".",
-        b"|rclinks: cannot read: .\nrclinks: .: Is a directory (os error 21)\n|4",
+        &["."],
+        4,
+        b"",
+        b"rclinks: cannot read: .\nrclinks: .: Is a directory (os error 21)\n",
     ),
     (
-        "run+net",
-        b"|rclinks: bad header: run+net\nrclinks: run+net: the name of a script has bytes of A-Z a-z 0-9 . _ - alone\n|1",
+        &["run+net"],
+        1,
+        b"",
+        b"rclinks: bad header: run+net\nrclinks: run+net: the name of a script has bytes of A-Z a-z 0-9 . _ - alone\n",
     ),
     (
-        "./run+net",
-        b"|rclinks: bad header: ./run+net\nrclinks: ./run+net: the name of a script has bytes of A-Z a-z 0-9 . _ - alone\n|1",
+        &["./run+net"],
+        1,
+        b"",
+        b"rclinks: bad header: ./run+net\nrclinks: ./run+net: the name of a script has bytes of A-Z a-z 0-9 . _ - alone\n",
     ),
     (
-        "run-bad",
-        b"|rclinks: bad header: run-bad\nrclinks: run-bad: no line \"### BEGIN INIT INFO\"\n|1",
+        &["run-bad"],
+        1,
+        b"",
+        b"rclinks: bad header: run-bad\nrclinks: run-bad: no line \"### BEGIN INIT INFO\"\n",
     ),
     (
-        "run-open",
-        b"|rclinks: bad header: run-open\nrclinks: run-open: no line \"### END INIT INFO\" after \"### BEGIN INIT INFO\"\n|1",
+        &["run-open"],
+        1,
+        b"",
+        b"rclinks: bad header: run-open\nrclinks: run-open: no line \"### END INIT INFO\" after \"### BEGIN INIT INFO\"\n",
     ),
     (
-        "run-line",
-        b"|rclinks: bad header: run-line\nrclinks: run-line: line 4: neither \"# Keyword: words\" nor \"#  text\" in UTF-8\n|1",
+        &["run-line"],
+        1,
+        b"",
+        b"rclinks: bad header: run-line\nrclinks: run-line: line 4: neither \"# Keyword: words\" nor \"#  text\" in UTF-8\n",
     ),
     (
-        "run-twice",
-        b"|rclinks: bad header: run-twice\nrclinks: run-twice: line 7: Required-Start stands twice\n|1",
+        &["run-twice"],
+        1,
+        b"",
+        b"rclinks: bad header: run-twice\nrclinks: run-twice: line 7: Required-Start stands twice\n",
     ),
     (
-        "run-none",
-        b"|rclinks: bad header: run-none\nrclinks: run-none: no name after \"# Provides:\"\n|1",
+        &["run-none"],
+        1,
+        b"",
+        b"rclinks: bad header: run-none\nrclinks: run-none: no name after \"# Provides:\"\n",
     ),
     // The first fault ends the run.
     (
-        "run-net run-bad run-absent",
-        b"|rclinks: bad header: run-bad\nrclinks: run-bad: no line \"### BEGIN INIT INFO\"\n|1",
+        &["run-net", "run-bad", "run-absent"],
+        1,
+        b"",
+        b"rclinks: bad header: run-bad\nrclinks: run-bad: no line \"### BEGIN INIT INFO\"\n",
     ),
     (
-        "run-db run-absent run-bad",
-        b"|rclinks: cannot read: run-absent\nrclinks: run-absent: No such file or directory (os error 2)\n|4",
+        &["run-db", "run-absent", "run-bad"],
+        4,
+        b"",
+        b"rclinks: cannot read: run-absent\nrclinks: run-absent: No such file or directory (os error 2)\n",
     ),
-    ("run-db", b"|rclinks: missing: net\n|1"),
-    ("run-web run-db", b"|rclinks: missing: net\n|1"),
-    ("run-net run-other", b"|rclinks: provided twice: net\n|1"),
-    ("run-net ./run-net", b"|rclinks: provided twice: net\n|1"),
+    (&["run-db"], 1, b"", b"rclinks: missing: net\n"),
+    (&["run-web", "run-db"], 1, b"", b"rclinks: missing: net\n"),
     (
-        "run-net run-left run-right",
-        b"|rclinks: cycle: run-left run-right\n|1",
+        &["run-net", "run-other"],
+        1,
+        b"",
+        b"rclinks: provided twice: net\n",
+    ),
+    (
+        &["run-net", "./run-net"],
+        1,
+        b"",
+        b"rclinks: provided twice: net\n",
+    ),
+    (
+        &["run-net", "run-left", "run-right"],
+        1,
+        b"",
+        b"rclinks: cycle: run-left run-right\n",
     ),
 ];
 
-fn write_files(rt: &impl Files, alloc: Global) -> Result<(), Fail> {
-    for (path, provides, needs) in SCRIPTS {
-        write_script(rt, alloc, path, provides, needs)?;
-    }
-    for (path, text) in BAD {
+fn write_files(rt: &impl Files) -> Result<(), Fail> {
+    for (path, text) in FILES {
         fs::write(rt, *path, *text)?;
     }
     fs::create_dir(rt, "run-folder")?;
@@ -191,10 +244,7 @@ fn write_files(rt: &impl Files, alloc: Global) -> Result<(), Fail> {
 }
 
 fn remove_files(rt: &impl Files) -> Result<(), Fail> {
-    for (path, _, _) in SCRIPTS {
-        fs::remove_file(rt, *path)?;
-    }
-    for (path, _) in BAD {
+    for (path, _) in FILES {
         fs::remove_file(rt, *path)?;
     }
     fs::remove_dir(rt, "run-folder")?;
@@ -203,124 +253,102 @@ fn remove_files(rt: &impl Files) -> Result<(), Fail> {
 
 #[test]
 fn runs_are_told(rt: HostRuntime) -> Result<(), Fail> {
-    write_files(&rt, rt.alloc())?;
-    for (line, want) in RUNS {
-        is_run(&rt, rt.alloc(), line, want)?;
+    write_files(&rt)?;
+    for row in RUNS {
+        is_run(&rt, rt.alloc(), ROOM, false, row)?;
     }
     remove_files(&rt)
 }
 
-fn deep_path(alloc: Global, place: u32) -> Result<String, Fail> {
-    Ok(format!(in alloc; "deep-{place}")?)
-}
+/// The paths of scripts of which each requires the one before.
+const DEEP: &[&str] = &[
+    "deep-0", "deep-1", "deep-2", "deep-3", "deep-4", "deep-5", "deep-6", "deep-7", "deep-8",
+    "deep-9", "deep-10", "deep-11", "deep-12", "deep-13", "deep-14", "deep-15", "deep-16",
+    "deep-17", "deep-18", "deep-19", "deep-20", "deep-21", "deep-22", "deep-23", "deep-24",
+    "deep-25", "deep-26", "deep-27", "deep-28", "deep-29", "deep-30", "deep-31", "deep-32",
+    "deep-33", "deep-34", "deep-35", "deep-36", "deep-37", "deep-38", "deep-39", "deep-40",
+    "deep-41", "deep-42", "deep-43", "deep-44", "deep-45", "deep-46", "deep-47", "deep-48",
+    "deep-49", "deep-50", "deep-51", "deep-52", "deep-53", "deep-54", "deep-55", "deep-56",
+    "deep-57", "deep-58", "deep-59", "deep-60", "deep-61", "deep-62", "deep-63", "deep-64",
+    "deep-65", "deep-66", "deep-67", "deep-68", "deep-69", "deep-70", "deep-71", "deep-72",
+    "deep-73", "deep-74", "deep-75", "deep-76", "deep-77", "deep-78", "deep-79", "deep-80",
+    "deep-81", "deep-82", "deep-83", "deep-84", "deep-85", "deep-86", "deep-87", "deep-88",
+    "deep-89", "deep-90", "deep-91", "deep-92", "deep-93", "deep-94", "deep-95", "deep-96",
+    "deep-97", "deep-98", "deep-99",
+];
 
-fn name_before(alloc: Global, place: u32) -> Result<String, Fail> {
-    match place.checked_sub(1) {
-        Some(before) => Ok(format!(in alloc; "d{before}")?),
-        None => Ok(String::new(alloc)),
-    }
-}
+const TOO_DEEP: &Row = &(DEEP, 1, b"", b"rclinks: too deep\n");
 
-/// Writes the script at a place, which requires the one before.
-fn write_deep(rt: &impl Files, alloc: Global, path: &str, place: u32) -> Result<(), Fail> {
-    let need = name_before(alloc, place)?;
-    let name = format!(in alloc; "d{place}")?;
-    write_script(rt, alloc, path, name.as_str(), need.as_str())
-}
-
-fn add_deep(
-    rt: &impl Files,
-    alloc: Global,
-    words: &mut Vec<String>,
-    place: u32,
-) -> Result<(), Fail> {
-    let path = deep_path(alloc, place)?;
-    write_deep(rt, alloc, path.as_str(), place)?;
-    words.push(path)?;
+/// Writes a script that provides the name of its path, requires another name to start, and starts at runlevel 3.
+fn write_deep(rt: &impl Files, alloc: Global, path: &str, need: &str) -> Result<(), Fail> {
+    let text = format!(in alloc;
+        "### BEGIN INIT INFO
+# Provides: {path}
+# Required-Start: {need}
+# Default-Start: 3
+### END INIT INFO
+"
+    )?;
+    fs::write(rt, path, text.as_str())?;
     Ok(())
 }
 
-/// Writes scripts of which each requires the one before.
-fn add_all_deep(rt: &impl Files, alloc: Global, words: &mut Vec<String>) -> Result<(), Fail> {
-    for place in 0..100u32 {
-        add_deep(rt, alloc, words, place)?;
+fn write_all_deep(rt: &impl Files, alloc: Global) -> Result<(), Fail> {
+    let mut need = "";
+    for path in DEEP {
+        write_deep(rt, alloc, path, need)?;
+        need = path;
     }
-    Ok(())
-}
-
-fn run_deep(rt: &impl Files, alloc: Global, words: &mut Vec<String>) -> Result<Vec<u8>, Fail> {
-    add_all_deep(rt, alloc, words)?;
-    let mut text = Vec::new(alloc);
-    add_run(rt, alloc, words.as_slice(), &mut text)?;
-    Ok(text)
-}
-
-fn is_too_deep<R: Files + Abort>(
-    rt: &R,
-    alloc: Global,
-    words: &mut Vec<String>,
-) -> Result<(), Fail> {
-    let given = run_deep(rt, alloc, words)?;
-    assert_eq!(rt; given.as_slice(), b"|rclinks: too deep\n|1".as_slice());
     Ok(())
 }
 
 #[test]
 fn a_deep_plan_is_told(rt: HostRuntime) -> Result<(), Fail> {
-    let mut words = Vec::new(rt.alloc());
-    is_too_deep(&rt, rt.alloc(), &mut words)?;
-    for word in &words {
-        fs::remove_file(&rt, word.as_str())?;
+    write_all_deep(&rt, rt.alloc())?;
+    is_run(&rt, rt.alloc(), ROOM, false, TOO_DEEP)?;
+    for path in DEEP {
+        fs::remove_file(&rt, *path)?;
     }
     Ok(())
 }
 
-/// What a writer of so much room took of the links of a script, what was told, and the status, parted by bars.
-fn slow_run(
-    rt: &impl Files,
-    alloc: Global,
-    room: usize,
-    is_flushed: bool,
-) -> Result<Vec<u8>, Fail> {
-    let words = words_of(alloc, "slow-net")?;
-    let mut out = Slow::new(alloc, room, true, !is_flushed);
-    let mut err: Vec<u8> = Vec::new(alloc);
-    let status = run_words(rt, alloc, words.as_slice(), &mut out, &mut err);
-    out.taken.push(b'|')?;
-    out.taken.extend_from_slice(err.as_slice())?;
-    out.taken.push(b'0' + status % 10)?;
-    Ok(out.taken)
-}
+const SLOW_NET: &[&str] = &["slow-net"];
 
-fn is_slow_run<R: Files + Abort>(
-    rt: &R,
-    alloc: Global,
-    room: usize,
-    is_flushed: bool,
-    want: &[u8],
-) -> Result<(), Fail> {
-    let given = slow_run(rt, alloc, room, is_flushed)?;
-    assert_eq!(rt; given.as_slice(), want);
-    Ok(())
-}
-
-/// The room of a writer, whether it can be flushed, and what comes of it.
-const SLOW: &[(usize, bool, &[u8])] = &[
-    (0, true, b"|rclinks: cannot write\n4"),
-    (20, true, b"rc3.d/S01slow-net ..|rclinks: cannot write\n4"),
-    (100, true, b"rc3.d/S01slow-net ../init.d/slow-net\n|0"),
+/// The room of a writer, whether it can't be flushed, and what comes of a run that writes there.
+const SLOW: &[(usize, bool, Row)] = &[
+    (0, false, (SLOW_NET, 4, b"", b"rclinks: cannot write\n")),
+    (
+        20,
+        false,
+        (
+            SLOW_NET,
+            4,
+            b"rc3.d/S01slow-net ..",
+            b"rclinks: cannot write\n",
+        ),
+    ),
     (
         100,
         false,
-        b"rc3.d/S01slow-net ../init.d/slow-net\n|rclinks: cannot write\n4",
+        (SLOW_NET, 0, b"rc3.d/S01slow-net ../init.d/slow-net\n", b""),
+    ),
+    (
+        100,
+        true,
+        (
+            SLOW_NET,
+            4,
+            b"rc3.d/S01slow-net ../init.d/slow-net\n",
+            b"rclinks: cannot write\n",
+        ),
     ),
 ];
 
 #[test]
 fn a_write_fault_is_told(rt: HostRuntime) -> Result<(), Fail> {
-    write_script(&rt, rt.alloc(), "slow-net", "net", "")?;
-    for (room, is_flushed, want) in SLOW {
-        is_slow_run(&rt, rt.alloc(), *room, *is_flushed, want)?;
+    fs::write(&rt, "slow-net", NET)?;
+    for (room, is_stuck, row) in SLOW {
+        is_run(&rt, rt.alloc(), *room, *is_stuck, row)?;
     }
     fs::remove_file(&rt, "slow-net")?;
     Ok(())

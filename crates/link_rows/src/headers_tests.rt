@@ -4,6 +4,7 @@ use init_words::{Level, Memory};
 use linked_list_allocator::LocalHeap;
 use lsb_header::{Header, HeaderFault, Keyword, read, second_line};
 use std::alloc::{Allocator, Global};
+use std::fmt::Display;
 use std::process::Abort;
 use std::test::Fail;
 
@@ -77,38 +78,51 @@ fn between(alloc: Global, front: &[u8], lines: &[u8], back: &[u8]) -> Result<Vec
     Ok(text)
 }
 
-/// What is shown of the header of a text.
-fn shown_of(alloc: Global, text: &[u8]) -> Result<Vec<u8>, Fail> {
+/// The text is read as a header of which this is shown.
+fn is_read(rt: &impl Abort, alloc: Global, text: &[u8], want: &[u8]) -> Result<(), Fail> {
     let header = read(alloc, text)?;
-    Ok(shown(alloc, &header)?)
+    has_shown(rt, alloc, &header, want)
 }
 
-/// What is shown of the header with these lines in it.
-fn shown_in(alloc: Global, lines: &[u8]) -> Result<Vec<u8>, Fail> {
+fn has_shown(rt: &impl Abort, alloc: Global, header: &Header, want: &[u8]) -> Result<(), Fail> {
+    let given = shown(alloc, header)?;
+    assert!(rt; given.as_slice() == want);
+    Ok(())
+}
+
+/// The header with these lines in it is read, and this is shown of it.
+fn is_shown(rt: &impl Abort, alloc: Global, lines: &[u8], want: &[u8]) -> Result<(), Fail> {
     let text = between(alloc, BEGIN, lines, END)?;
-    shown_of(alloc, text.as_slice())
+    is_read(rt, alloc, text.as_slice(), want)
 }
 
-/// The fault of the text of these lines between two others.
-fn fault_in(
+/// The text of these lines between two others is read so.
+fn is_fault(
+    rt: &impl Abort,
     alloc: Global,
     front: &[u8],
     lines: &[u8],
     back: &[u8],
-) -> Result<Option<HeaderFault>, Memory> {
+    want: Option<HeaderFault>,
+) -> Result<(), Fail> {
     let text = between(alloc, front, lines, back)?;
-    Ok(read(alloc, text.as_slice()).err())
-}
-
-fn is_shown(rt: &impl Abort, alloc: Global, lines: &[u8], want: &[u8]) -> Result<(), Fail> {
-    let given = shown_in(alloc, lines)?;
-    assert_eq!(rt; given.as_slice(), want);
+    assert!(rt; read(alloc, text.as_slice()).err() == want);
     Ok(())
 }
 
-fn is_fault(rt: &impl Abort, alloc: Global, lines: &[u8], want: HeaderFault) -> Result<(), Fail> {
-    let given = fault_in(alloc, BEGIN, lines, END)?;
-    assert!(rt; given == Some(want));
+/// Lines, and the fault of the text that has them, where it has one.
+type Faults = &'static [(&'static [u8], Option<HeaderFault>)];
+
+fn are_faults(
+    rt: &impl Abort,
+    alloc: Global,
+    front: &[u8],
+    rows: Faults,
+    back: &[u8],
+) -> Result<(), Fail> {
+    for (lines, want) in rows {
+        is_fault(rt, alloc, front, lines, back, *want)?;
+    }
     Ok(())
 }
 
@@ -124,12 +138,12 @@ const EXAMPLE: &[u8] = b"#!/bin/sh
 
 #[test]
 fn the_example(rt: HostRuntime) -> Result<(), Fail> {
-    let given = shown_of(rt.alloc(), EXAMPLE)?;
-    assert_eq!(rt;
-        given.as_slice(),
-        b" web www/ $network db////35///serves pages".as_slice()
-    );
-    Ok(())
+    is_read(
+        &rt,
+        rt.alloc(),
+        EXAMPLE,
+        b" web www/ $network db////35///serves pages",
+    )
 }
 
 const SHOWN: &[(&[u8], &[u8])] = &[
@@ -212,16 +226,28 @@ fn doubled(alloc: Global, word: &str) -> Result<Vec<u8>, Memory> {
     Ok(text)
 }
 
+/// The keyword stands twice in the text, the second time in line 12.
+fn is_second(rt: &impl Abort, alloc: Global, text: &[u8], keyword: Keyword) {
+    assert!(rt;
+        read(alloc, text).err() == Some(HeaderFault::Twice(keyword))
+            && second_line(text, keyword) == Some(12)
+    );
+}
+
 fn is_doubled(rt: &impl Abort, alloc: Global, word: &str, keyword: Keyword) -> Result<(), Fail> {
     let text = doubled(alloc, word)?;
-    assert!(rt; read(alloc, text.as_slice()).err() == Some(HeaderFault::Twice(keyword)));
-    assert!(rt; second_line(text.as_slice(), keyword) == Some(12));
+    is_second(rt, alloc, text.as_slice(), keyword);
     Ok(())
 }
 
-fn is_printed(rt: &impl Abort, alloc: Global, word: &str, keyword: Keyword) -> Result<(), Fail> {
-    let text = format!(in alloc; "{keyword}")?;
-    assert_eq!(rt; text.as_str(), word);
+fn is_printed(
+    rt: &impl Abort,
+    alloc: Global,
+    value: &impl Display,
+    want: &str,
+) -> Result<(), Fail> {
+    let text = format!(in alloc; "{value}")?;
+    assert!(rt; text.as_str() == want);
     Ok(())
 }
 
@@ -229,7 +255,7 @@ fn is_printed(rt: &impl Abort, alloc: Global, word: &str, keyword: Keyword) -> R
 fn each_keyword_has_its_field(rt: HostRuntime) -> Result<(), Fail> {
     for (word, shout, keyword) in KEYWORDS {
         is_doubled(&rt, rt.alloc(), word, *keyword)?;
-        is_printed(&rt, rt.alloc(), word, *keyword)?;
+        is_printed(&rt, rt.alloc(), keyword, word)?;
         assert!(rt; Keyword::read(shout) == Some(*keyword) && keyword.word() == word.as_bytes());
     }
     assert!(rt; Keyword::read(b"X-Provides").is_none());
@@ -265,73 +291,64 @@ const BEFORE_BAD: &[u8] = b"### BEGIN INIT INFO\n# Provides: a\n";
 
 const AFTER_BAD: &[u8] = b"\n# Provides: b\n### END INIT INFO\n";
 
-/// Lines of no form that a header has; the last four are not UTF-8, in each form.
-const BAD_LINES: &[&[u8]] = &[
-    b"",
-    b" ",
-    b"text",
-    b" # X-Own: a",
-    b"#a: b",
-    b"##",
-    b"# words",
-    b"# a b: c",
-    b"# a\tb: c",
-    b"# : a",
-    b"# a : b",
-    b"# \tx",
-    b"# \tX-Own: a",
-    b"#\r",
-    b"### begin init info",
-    b"### BEGIN INIT INFO",
-    b"### END INIT INFO x",
-    b"# X-Own: \xff",
-    b"# Provides: \xc3",
-    b"#  \xed\xa0\x80",
-    b"# \xe9: a",
-];
+/// The third line of a text is bad.
+const BAD: Option<HeaderFault> = Some(HeaderFault::BadLine(3));
 
-fn is_bad(rt: &impl Abort, alloc: Global, line: &[u8]) -> Result<(), Fail> {
-    let given = fault_in(alloc, BEFORE_BAD, line, AFTER_BAD)?;
-    assert!(rt; given == Some(HeaderFault::BadLine(3)));
-    Ok(())
-}
+/// Lines of no form that a header has; the last four are not UTF-8, in each form.
+const BAD_LINES: Faults = &[
+    (b"", BAD),
+    (b" ", BAD),
+    (b"text", BAD),
+    (b" # X-Own: a", BAD),
+    (b"#a: b", BAD),
+    (b"##", BAD),
+    (b"# words", BAD),
+    (b"# a b: c", BAD),
+    (b"# a\tb: c", BAD),
+    (b"# : a", BAD),
+    (b"# a : b", BAD),
+    (b"# \tx", BAD),
+    (b"# \tX-Own: a", BAD),
+    (b"#\r", BAD),
+    (b"### begin init info", BAD),
+    (b"### BEGIN INIT INFO", BAD),
+    (b"### END INIT INFO x", BAD),
+    (b"# X-Own: \xff", BAD),
+    (b"# Provides: \xc3", BAD),
+    (b"#  \xed\xa0\x80", BAD),
+    (b"# \xe9: a", BAD),
+];
 
 #[test]
 fn lines_that_are_bad(rt: HostRuntime) -> Result<(), Fail> {
-    for line in BAD_LINES {
-        is_bad(&rt, rt.alloc(), line)?;
-    }
-    Ok(())
+    are_faults(&rt, rt.alloc(), BEFORE_BAD, BAD_LINES, AFTER_BAD)
 }
 
-const FIRST_FAULTS: &[(&[u8], HeaderFault)] = &[
-    (b"", HeaderFault::NoProvides),
-    (b"# Provides: \t\n", HeaderFault::NoProvides),
+const FIRST_FAULTS: Faults = &[
+    (b"", Some(HeaderFault::NoProvides)),
+    (b"# Provides: \t\n", Some(HeaderFault::NoProvides)),
     (
         b"# X-Provides: a\n#  Provides: a\n",
-        HeaderFault::NoProvides,
+        Some(HeaderFault::NoProvides),
     ),
-    (b"# Should-Stop: a\nx\n", HeaderFault::BadLine(3)),
+    (b"# Should-Stop: a\nx\n", Some(HeaderFault::BadLine(3))),
     (
         b"x\n# Provides: a\n# Provides: b\n",
-        HeaderFault::BadLine(2),
+        Some(HeaderFault::BadLine(2)),
     ),
     (
         b"# Provides:\n# PROVIDES: b\n",
-        HeaderFault::Twice(Keyword::Provides),
+        Some(HeaderFault::Twice(Keyword::Provides)),
     ),
 ];
 
 #[test]
 fn the_first_fault_counts(rt: HostRuntime) -> Result<(), Fail> {
-    for (lines, want) in FIRST_FAULTS {
-        is_fault(&rt, rt.alloc(), lines, *want)?;
-    }
-    Ok(())
+    are_faults(&rt, rt.alloc(), BEGIN, FIRST_FAULTS, END)
 }
 
-/// Whole texts, and the fault of each.
-const TEXTS: &[(&[u8], Option<HeaderFault>)] = &[
+/// Whole texts.
+const TEXTS: Faults = &[
     (b"", Some(HeaderFault::NoBegin)),
     (
         b"# Provides: a\n### END INIT INFO\n",
@@ -398,10 +415,8 @@ const TEXTS: &[(&[u8], Option<HeaderFault>)] = &[
 ];
 
 #[test]
-fn where_the_header_stands(rt: HostRuntime) {
-    for (text, want) in TEXTS {
-        assert!(rt; read(rt.alloc(), text).err() == *want);
-    }
+fn where_the_header_stands(rt: HostRuntime) -> Result<(), Fail> {
+    are_faults(&rt, rt.alloc(), b"", TEXTS, b"")
 }
 
 const FAULT_TEXTS: &[(HeaderFault, &str)] = &[
@@ -422,16 +437,10 @@ const FAULT_TEXTS: &[(HeaderFault, &str)] = &[
     (HeaderFault::Memory, "out of memory"),
 ];
 
-fn is_told(rt: &impl Abort, alloc: Global, fault: HeaderFault, want: &str) -> Result<(), Fail> {
-    let text = format!(in alloc; "{fault}")?;
-    assert_eq!(rt; text.as_str(), want);
-    Ok(())
-}
-
 #[test]
 fn faults_are_told(rt: HostRuntime) -> Result<(), Fail> {
     for (fault, want) in FAULT_TEXTS {
-        is_told(&rt, rt.alloc(), *fault, want)?;
+        is_printed(&rt, rt.alloc(), fault, want)?;
     }
     Ok(())
 }
@@ -467,7 +476,6 @@ fn enough(rt: &impl Abort, alloc: Global, text: &[u8]) -> Result<usize, Fail> {
 #[test]
 fn want_of_memory(rt: HostRuntime) -> Result<(), Fail> {
     let text = between(rt.alloc(), BEGIN, NINE, END)?;
-    let step = enough(&rt, rt.alloc(), text.as_slice())?;
-    assert!(rt; step > 8);
+    assert!(rt; enough(&rt, rt.alloc(), text.as_slice())? > 8);
     Ok(())
 }

@@ -13,14 +13,20 @@ fn headed(alloc: Global, name: &str, header: &[u8]) -> Result<Script, Fail> {
     Ok(Script::new(String::from_str(alloc, name)?, header))
 }
 
-/// The header of a script that provides its own name and others, requires names to start and stop, and starts at
+/// The header of a script that provides its own name and others, requires names to start and to stop, and starts at
 /// runlevel 3.
-fn header_of(alloc: Global, name: &str, provides: &str, needs: &str) -> Result<String, Fail> {
+fn header_of(
+    alloc: Global,
+    name: &str,
+    provides: &str,
+    start: &str,
+    stop: &str,
+) -> Result<String, Fail> {
     Ok(format!(in alloc;
         "### BEGIN INIT INFO
 # Provides: {name} {provides}
-# Required-Start: {needs}
-# Required-Stop: {needs}
+# Required-Start: {start}
+# Required-Stop: {stop}
 # Should-Start: absent
 # Default-Start: 3
 ### END INIT INFO
@@ -28,8 +34,14 @@ fn header_of(alloc: Global, name: &str, provides: &str, needs: &str) -> Result<S
     )?)
 }
 
-fn script(alloc: Global, name: &str, provides: &str, needs: &str) -> Result<Script, Fail> {
-    let header = header_of(alloc, name, provides, needs)?;
+fn script(
+    alloc: Global,
+    name: &str,
+    provides: &str,
+    start: &str,
+    stop: &str,
+) -> Result<Script, Fail> {
+    let header = header_of(alloc, name, provides, start, stop)?;
     headed(alloc, name, header.as_bytes())
 }
 
@@ -39,7 +51,7 @@ type Row = (&'static str, &'static str, &'static str);
 fn scripts_of(alloc: Global, rows: &[Row]) -> Result<Vec<Script>, Fail> {
     let mut scripts = Vec::new(alloc);
     for (name, provides, needs) in rows {
-        scripts.push(script(alloc, name, provides, needs)?)?;
+        scripts.push(script(alloc, name, provides, needs, needs)?)?;
     }
     Ok(scripts)
 }
@@ -56,15 +68,15 @@ fn told(alloc: Global, scripts: &[Script]) -> Result<Vec<u8>, Fail> {
     }
 }
 
-fn told_of(alloc: Global, rows: &[Row]) -> Result<Vec<u8>, Fail> {
-    let scripts = scripts_of(alloc, rows)?;
-    told(alloc, scripts.as_slice())
+fn are_told(rt: &impl Abort, alloc: Global, scripts: &[Script], want: &[u8]) -> Result<(), Fail> {
+    let given = told(alloc, scripts)?;
+    assert!(rt; given.as_slice() == want);
+    Ok(())
 }
 
 fn is_told(rt: &impl Abort, alloc: Global, rows: &[Row], want: &[u8]) -> Result<(), Fail> {
-    let given = told_of(alloc, rows)?;
-    assert_eq!(rt; given.as_slice(), want);
-    Ok(())
+    let scripts = scripts_of(alloc, rows)?;
+    are_told(rt, alloc, scripts.as_slice(), want)
 }
 
 const TOLD: &[(&[Row], &[u8])] = &[
@@ -127,33 +139,36 @@ fn plans_are_told(rt: HostRuntime) -> Result<(), Fail> {
     Ok(())
 }
 
-/// The start and stop number of a name.
-fn numbers(plan: &Plan, name: &str) -> Option<(u8, u8)> {
-    Some((plan.start_number(name)?, plan.stop_number(name)?))
-}
-
-/// The numbers of a name in the plan of some scripts.
-fn numbers_in(alloc: Global, scripts: &[Script], name: &str) -> Result<Option<(u8, u8)>, Fail> {
-    let plan = plan(alloc, scripts).map_err(|_| Fail::from("no plan"))?;
-    Ok(numbers(&plan, name))
-}
-
 /// Names, and the start and stop number of each.
-type Numbers = &'static [(&'static str, Option<(u8, u8)>)];
+type Numbers = &'static [(&'static str, Option<u8>, Option<u8>)];
 
+fn have_numbers(rt: &impl Abort, plan: &Plan, names: Numbers) {
+    for (name, start, stop) in names {
+        assert!(rt; (plan.start_number(name), plan.stop_number(name)) == (*start, *stop));
+    }
+}
+
+/// The names have these numbers in the plan of some scripts.
 fn are_numbered(
     rt: &impl Abort,
     alloc: Global,
     scripts: &[Script],
     names: Numbers,
 ) -> Result<(), Fail> {
-    for (name, want) in names {
-        assert!(rt; numbers_in(alloc, scripts, name)? == *want);
+    match plan(alloc, scripts) {
+        Ok(plan) => {
+            have_numbers(rt, &plan, names);
+            Ok(())
+        }
+        Err(_) => Err(Fail::from("no plan")),
     }
-    Ok(())
 }
 
-const NET_AND_DB: Numbers = &[("net", Some((1, 2))), ("db", Some((2, 1))), ("web", None)];
+const NET_AND_DB: Numbers = &[
+    ("net", Some(1), Some(2)),
+    ("db", Some(2), Some(1)),
+    ("web", None, None),
+];
 
 #[test]
 fn stop_numbers(rt: HostRuntime) -> Result<(), Fail> {
@@ -161,19 +176,32 @@ fn stop_numbers(rt: HostRuntime) -> Result<(), Fail> {
     are_numbered(&rt, rt.alloc(), scripts.as_slice(), NET_AND_DB)
 }
 
-/// The name of the script at the place before, if there is one.
-fn name_before(alloc: Global, place: u32) -> Result<String, Fail> {
-    match place.checked_sub(1) {
-        Some(before) => Ok(format!(in alloc; "s{before}")?),
-        None => Ok(String::new(alloc)),
+/// Adds the names of as many scripts that stand this many places and more before a place, as far as there are any.
+fn add_before(text: &mut String, place: u32, gap: u32, count: u32) -> Result<(), Fail> {
+    for more in 0..count {
+        if let Some(need) = place.checked_sub(gap.wrapping_add(more)) {
+            write!(text, " s{need}")?;
+        }
     }
+    Ok(())
+}
+
+fn names_before(alloc: Global, place: u32, gap: u32, count: u32) -> Result<String, Fail> {
+    let mut text = String::new(alloc);
+    add_before(&mut text, place, gap, count)?;
+    Ok(text)
+}
+
+/// The script at a place, which provides the place's name.
+fn numbered(alloc: Global, place: u32, start: &str, stop: &str) -> Result<Script, Fail> {
+    let name = format!(in alloc; "s{place}")?;
+    script(alloc, name.as_str(), "", start, stop)
 }
 
 /// The script at a place, which needs the one before.
 fn link_at(alloc: Global, place: u32) -> Result<Script, Fail> {
-    let name = format!(in alloc; "s{place}")?;
-    let need = name_before(alloc, place)?;
-    script(alloc, name.as_str(), "", need.as_str())
+    let need = names_before(alloc, place, 1, 1)?;
+    numbered(alloc, place, need.as_str(), need.as_str())
 }
 
 /// Scripts of which each needs the one before.
@@ -188,12 +216,10 @@ fn chain(alloc: Global, count: u32) -> Result<Vec<Script>, Fail> {
 #[test]
 fn a_hundred_in_a_row(rt: HostRuntime) -> Result<(), Fail> {
     let scripts = chain(rt.alloc(), 100)?;
-    let given = told(rt.alloc(), scripts.as_slice())?;
-    assert_eq!(rt; given.as_slice(), b"too deep".as_slice());
-    Ok(())
+    are_told(&rt, rt.alloc(), scripts.as_slice(), b"too deep")
 }
 
-const ENDS_OF_CHAIN: Numbers = &[("s0", Some((1, 99))), ("s98", Some((99, 1)))];
+const ENDS_OF_CHAIN: Numbers = &[("s0", Some(1), Some(99)), ("s98", Some(99), Some(1))];
 
 #[test]
 fn ninety_nine_in_a_row(rt: HostRuntime) -> Result<(), Fail> {
@@ -201,32 +227,12 @@ fn ninety_nine_in_a_row(rt: HostRuntime) -> Result<(), Fail> {
     are_numbered(&rt, rt.alloc(), scripts.as_slice(), ENDS_OF_CHAIN)
 }
 
-/// Adds the names of the ten scripts that stand this many places and more before a place, as far as there are any.
-fn add_ten_before(text: &mut String, place: u32, gap: u32) -> Result<(), Fail> {
-    for more in 0..10u32 {
-        if let Some(need) = place.checked_sub(gap.wrapping_add(more)) {
-            write!(text, " s{need}")?;
-        }
-    }
-    Ok(())
-}
-
-fn crowded_header(alloc: Global, place: u32, gap: u32) -> Result<String, Fail> {
-    let mut text = format!(in alloc;
-        "### BEGIN INIT INFO\n# Provides: s{place}\n# Required-Start:"
-    )?;
-    add_ten_before(&mut text, place, gap)?;
-    text.push_str("\n### END INIT INFO\n")?;
-    Ok(text)
-}
-
+/// The script at a place, which needs ten to start that stand this many places and more before it.
 fn crowded(alloc: Global, place: u32, gap: u32) -> Result<Script, Fail> {
-    let header = crowded_header(alloc, place, gap)?;
-    let name = format!(in alloc; "s{place}")?;
-    headed(alloc, name.as_str(), header.as_bytes())
+    let needs = names_before(alloc, place, gap, 10)?;
+    numbered(alloc, place, needs.as_str(), "")
 }
 
-/// Scripts of which each needs ten to start that stand this many places and more before it.
 fn crowd(alloc: Global, count: u32, gap: u32) -> Result<Vec<Script>, Fail> {
     let mut scripts = Vec::new(alloc);
     for place in 0..count {
@@ -236,9 +242,9 @@ fn crowd(alloc: Global, count: u32, gap: u32) -> Result<Vec<Script>, Fail> {
 }
 
 const CROWD: Numbers = &[
-    ("s99", Some((1, 1))),
-    ("s100", Some((2, 1))),
-    ("s1999", Some((20, 1))),
+    ("s99", Some(1), Some(1)),
+    ("s100", Some(2), Some(1)),
+    ("s1999", Some(20), Some(1)),
 ];
 
 #[test]
@@ -250,9 +256,7 @@ fn two_thousand_scripts(rt: HostRuntime) -> Result<(), Fail> {
 #[test]
 fn two_thousand_in_a_row(rt: HostRuntime) -> Result<(), Fail> {
     let scripts = crowd(rt.alloc(), 2000, 1)?;
-    let given = told(rt.alloc(), scripts.as_slice())?;
-    assert_eq!(rt; given.as_slice(), b"too deep".as_slice());
-    Ok(())
+    are_told(&rt, rt.alloc(), scripts.as_slice(), b"too deep")
 }
 
 /// Starts and stops at several runlevels, some of them named twice.
@@ -283,17 +287,25 @@ rc6.d/K01web ../init.d/web
 rcS.d/S02web ../init.d/web
 ";
 
+fn add_headed(
+    scripts: &mut Vec<Script>,
+    alloc: Global,
+    name: &str,
+    header: &[u8],
+) -> Result<(), Fail> {
+    scripts.push(headed(alloc, name, header)?)?;
+    Ok(())
+}
+
 fn web_and_net(alloc: Global) -> Result<Vec<Script>, Fail> {
     let mut scripts = Vec::new(alloc);
-    scripts.push(headed(alloc, "web", WEB)?)?;
-    scripts.push(headed(alloc, "net", NET)?)?;
+    add_headed(&mut scripts, alloc, "web", WEB)?;
+    add_headed(&mut scripts, alloc, "net", NET)?;
     Ok(scripts)
 }
 
 #[test]
 fn links_of_levels(rt: HostRuntime) -> Result<(), Fail> {
     let scripts = web_and_net(rt.alloc())?;
-    let given = told(rt.alloc(), scripts.as_slice())?;
-    assert_eq!(rt; given.as_slice(), LINKS);
-    Ok(())
+    are_told(&rt, rt.alloc(), scripts.as_slice(), LINKS)
 }

@@ -8,7 +8,9 @@ use std::rt::{Clock, Files};
 use std::test::Fail;
 
 /// The words, the status, and what is written.
-const ROWS: &[(&[&str], u8, &str)] = &[
+type Row = (&'static [&'static str], u8, &'static str);
+
+const ROWS: &[Row] = &[
     (&[], 1, ""),
     (&["t", "2"], 1, ""),
     (&["t", "2", "3", "4"], 1, ""),
@@ -58,36 +60,52 @@ const SCRIPTS: &[(&str, &str)] = &[
 
 const FOLDERS: &[&str] = &["t", "t/rc0.d", "t/rc2.d", "t/rc3.d", "t/rc6.d", "t/rcS.d"];
 
-fn words_of(alloc: Global, row: &[&str]) -> Result<Vec<String>, Fail> {
-    let mut words = Vec::new(alloc);
+fn add_words(words: &mut Vec<String>, alloc: Global, row: &[&str]) -> Result<(), Fail> {
     for word in row {
         words.push(String::from_str(alloc, word)?)?;
     }
+    Ok(())
+}
+
+fn words_of(alloc: Global, row: &[&str]) -> Result<Vec<String>, Fail> {
+    let mut words = Vec::new(alloc);
+    add_words(&mut words, alloc, row)?;
     Ok(words)
 }
 
-fn is_run<R>(rt: &R, alloc: Global, row: &(&[&str], u8, &str)) -> Result<(), Fail>
+fn words_are_run<R>(rt: &R, alloc: Global, words: Vec<String>, row: &Row)
 where
     R: Processes + Files + Clock + Print + Eprint + Alloc + Abort + Clone + Drop,
 {
-    let words = words_of(alloc, row.0)?;
     let mut out: Vec<u8> = Vec::new(alloc);
     let mut err: Vec<u8> = Vec::new(alloc);
     let status = run_words(rt, alloc, words, &mut out, &mut err);
     assert!(rt;
         status == row.1 && out.as_slice() == row.2.as_bytes() && (status == 0) == err.is_empty()
     );
+}
+
+fn is_run<R>(rt: &R, alloc: Global, row: &Row) -> Result<(), Fail>
+where
+    R: Processes + Files + Clock + Print + Eprint + Alloc + Abort + Clone + Drop,
+{
+    words_are_run(rt, alloc, words_of(alloc, row.0)?, row);
+    Ok(())
+}
+
+fn write_scripts(rt: &impl Files) -> Result<(), Fail> {
+    for folder in FOLDERS {
+        fs::create_dir(rt, *folder)?;
+    }
+    for (path, text) in SCRIPTS {
+        fs::write(rt, *path, *text)?;
+    }
     Ok(())
 }
 
 #[test]
 fn command_lines_are_run(rt: HostRuntime) -> Result<(), Fail> {
-    for folder in FOLDERS {
-        fs::create_dir(&rt, *folder)?;
-    }
-    for (path, text) in SCRIPTS {
-        fs::write(&rt, *path, *text)?;
-    }
+    write_scripts(&rt)?;
     for row in ROWS {
         is_run(&rt, rt.alloc(), row)?;
     }

@@ -127,18 +127,32 @@ fn give_late(host: &mut MemoryHost, letter: u8) -> Result<(), Fail> {
     Ok(())
 }
 
-fn host_of(alloc: Global, row: &Row) -> Result<MemoryHost, Fail> {
-    let mut host = MemoryHost::new(alloc);
-    for letter in row.0 {
+fn give_starts(host: &mut MemoryHost, letters: &[u8]) -> Result<(), Fail> {
+    for letter in letters {
         host.give_start(reply_of(*letter))?;
     }
-    for letter in row.1 {
+    Ok(())
+}
+
+fn give_looks(host: &mut MemoryHost, letters: &[u8]) -> Result<(), Fail> {
+    for letter in letters {
         host.give_look(reply_of(*letter))?;
     }
-    for letter in row.2 {
-        give_late(&mut host, *letter)?;
+    Ok(())
+}
+
+fn give_lates(host: &mut MemoryHost, letters: &[u8]) -> Result<(), Fail> {
+    for letter in letters {
+        give_late(host, *letter)?;
     }
-    Ok(host)
+    Ok(())
+}
+
+/// Gives the host what a row says.
+fn give(host: &mut MemoryHost, row: &Row) -> Result<(), Fail> {
+    give_starts(host, row.0)?;
+    give_looks(host, row.1)?;
+    give_lates(host, row.2)
 }
 
 /// A letter for each call.
@@ -152,12 +166,16 @@ fn letter_of(call: &Call) -> u8 {
     }
 }
 
-fn calls_of(alloc: Global, host: &MemoryHost) -> Result<Vec<u8>, Fail> {
-    let mut letters = Vec::new(alloc);
-    for call in host.calls().ok_or("no record")? {
-        letters.push(letter_of(call))?;
+/// The calls are these letters.
+fn are_calls(calls: &[Call], letters: &[u8]) -> bool {
+    let mut letters = letters.iter();
+    for call in calls {
+        match letters.next() {
+            Some(letter) if *letter == letter_of(call) => {}
+            _ => return false,
+        }
     }
-    Ok(letters)
+    letters.next().is_none()
 }
 
 /// The call starts the first script, under the id of rc.
@@ -171,35 +189,48 @@ fn is_first_start(call: &Call) -> bool {
     }
 }
 
-fn has_first_start(host: &MemoryHost) -> bool {
-    match host.calls() {
-        Some([first, ..]) => is_first_start(first),
-        _ => false,
+fn begin_with_start(calls: &[Call]) -> bool {
+    match calls {
+        [first, ..] => is_first_start(first),
+        [] => false,
     }
 }
 
-fn is_run(rt: &impl Abort, alloc: Global, names: &[String], row: &Row) -> Result<(), Fail> {
-    let mut host = host_of(alloc, row)?;
-    let mut rc = Rc::new(alloc, &[], names)?;
-    let mut out = Slow::new(alloc, row.4, true, false);
-    let ended = run_links(alloc, &mut rc, &mut host, "etc/rc3.d", row.3, &mut out);
-    assert!(rt;
-        ended == row.5 && out.taken.as_slice() == row.6.as_bytes(),
-        "{}",
-        row.7
-    );
-    assert!(rt;
-        calls_of(alloc, &host)?.as_slice() == row.7.as_bytes() && has_first_start(&host),
-        "{}",
-        row.7
-    );
-    let last = if row.5 == RunEnd::Done {
+/// The host has these calls, and the first starts the first script.
+fn has_calls(host: &MemoryHost, letters: &[u8]) -> bool {
+    match host.calls() {
+        Some(calls) => are_calls(calls, letters) && begin_with_start(calls),
+        None => false,
+    }
+}
+
+/// What is asked for after a run that ended so: nothing, or an answer that is still missing.
+fn step_at(end: RunEnd) -> RcStep<'static> {
+    if end == RunEnd::Done {
         RcStep::Done
     } else {
         RcStep::Waiting
-    };
-    assert!(rt; rc.next() == last);
+    }
+}
+
+/// The run over the host ends so, with so much written.
+fn ends(rt: &impl Abort, alloc: Global, rc: &mut Rc, host: &mut MemoryHost, row: &Row) {
+    let mut out = Slow::new(alloc, row.4, true, false);
+    let ended = run_links(alloc, rc, host, "etc/rc3.d", row.3, &mut out);
+    assert!(rt; ended == row.5 && out.taken.as_slice() == row.6.as_bytes());
+}
+
+fn is_run_by(rt: &impl Abort, alloc: Global, rc: &mut Rc, row: &Row) -> Result<(), Fail> {
+    let mut host = MemoryHost::new(alloc);
+    give(&mut host, row)?;
+    ends(rt, alloc, rc, &mut host, row);
+    assert!(rt; has_calls(&host, row.7.as_bytes()) && rc.next() == step_at(row.5));
     Ok(())
+}
+
+fn is_run(rt: &impl Abort, alloc: Global, names: &[String], row: &Row) -> Result<(), Fail> {
+    let mut rc = Rc::new(alloc, &[], names)?;
+    is_run_by(rt, alloc, &mut rc, row)
 }
 
 fn two_names(alloc: Global) -> Result<Vec<String>, Fail> {
@@ -209,36 +240,63 @@ fn two_names(alloc: Global) -> Result<Vec<String>, Fail> {
     Ok(names)
 }
 
+fn rows_are_run(rt: &impl Abort, alloc: Global, names: &[String]) -> Result<(), Fail> {
+    for row in ROWS {
+        is_run(rt, alloc, names, row)?;
+    }
+    Ok(())
+}
+
 #[test]
 fn scripts_run_one_at_a_time(rt: HostRuntime) -> Result<(), Fail> {
     let names = two_names(rt.alloc())?;
-    for row in ROWS {
-        is_run(&rt, rt.alloc(), &names, row)?;
-    }
+    rows_are_run(&rt, rt.alloc(), &names)
+}
+
+/// A run over a host that was given nothing ends so, with so much written.
+fn ends_at_once(
+    rt: &impl Abort,
+    alloc: Global,
+    rc: &mut Rc,
+    is_stuck: bool,
+    end: RunEnd,
+    taken: &[u8],
+) {
+    let mut host = MemoryHost::new(alloc);
+    let mut out = Slow::new(alloc, 99, true, is_stuck);
+    let ended = run_links(alloc, rc, &mut host, "x", 9, &mut out);
+    assert!(rt; ended == end && out.taken.as_slice() == taken);
+}
+
+/// The first script was asked for, and not answered.
+fn ends_with_no_answer(rt: &impl Abort, alloc: Global, names: &[String]) -> Result<(), Fail> {
+    let mut rc = Rc::new(alloc, &[], names)?;
+    let _ = rc.next();
+    ends_at_once(rt, alloc, &mut rc, false, RunEnd::Limit, b"");
     Ok(())
 }
 
 #[test]
 fn an_answer_that_was_missing_before_ends_the_run(rt: HostRuntime) -> Result<(), Fail> {
     let names = two_names(rt.alloc())?;
-    let mut rc = Rc::new(rt.alloc(), &[], &names)?;
-    let _ = rc.next();
-    let mut host = MemoryHost::new(rt.alloc());
-    let mut out = Slow::new(rt.alloc(), 99, true, false);
-    let ended = run_links(rt.alloc(), &mut rc, &mut host, "x", 9, &mut out);
-    assert!(rt; ended == RunEnd::Limit && out.taken.is_empty());
+    ends_with_no_answer(&rt, rt.alloc(), &names)
+}
+
+fn ends_with_a_write_fault(rt: &impl Abort, alloc: Global, names: &[String]) -> Result<(), Fail> {
+    let mut rc = Rc::new(alloc, &[], names)?;
+    ends_at_once(
+        rt,
+        alloc,
+        &mut rc,
+        true,
+        RunEnd::Write,
+        b"K05c stop not started\n",
+    );
     Ok(())
 }
 
 #[test]
 fn a_writer_that_keeps_its_bytes_ends_the_run(rt: HostRuntime) -> Result<(), Fail> {
     let names = two_names(rt.alloc())?;
-    let mut rc = Rc::new(rt.alloc(), &[], &names)?;
-    let mut host = MemoryHost::new(rt.alloc());
-    let mut out = Slow::new(rt.alloc(), 99, true, true);
-    let ended = run_links(rt.alloc(), &mut rc, &mut host, "x", 9, &mut out);
-    assert!(rt;
-        ended == RunEnd::Write && out.taken.as_slice() == b"K05c stop not started\n".as_slice()
-    );
-    Ok(())
+    ends_with_a_write_fault(&rt, rt.alloc(), &names)
 }

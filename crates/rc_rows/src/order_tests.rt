@@ -3,97 +3,148 @@
 use init_words::Status;
 use linked_list_allocator::LocalHeap;
 use rc_driver::{Arg, NotAsked, Rc, RcAnswer, RcStep};
-use std::alloc::{Allocator, Global};
+use std::alloc::Global;
 use std::process::Abort;
 use std::test::Fail;
 
-/// The names in the previous folder and in the new one, each behind a blank, and what is run.
-const ROWS: &[(&str, &str, &str)] = &[
-    ("", "", ""),
+/// What is run: links, each to stop or to start.
+type Runs = &'static [(&'static str, Arg)];
+
+/// The names in the previous folder and in the new one, and what is run.
+type Row = (&'static [&'static str], &'static [&'static str], Runs);
+
+const ROWS: &[Row] = &[
+    (&[], &[], &[]),
     (
-        " S10a S20b",
-        " K05c S10a S20b K90b S30d",
-        "K05c stop,K90b stop,S20b start,S30d start,",
+        &["S10a", "S20b"],
+        &["K05c", "S10a", "S20b", "K90b", "S30d"],
+        &[
+            ("K05c", Arg::Stop),
+            ("K90b", Arg::Stop),
+            ("S20b", Arg::Start),
+            ("S30d", Arg::Start),
+        ],
     ),
     // Names that are no links.
     (
-        " S10a",
-        " README S1x S10 s10a K05c~ K05 Kx5c k05c .S10a S1aa SS10a S10a/ S10é",
-        "",
+        &["S10a"],
+        &[
+            "README", "S1x", "S10", "s10a", "K05c~", "K05", "Kx5c", "k05c", ".S10a", "S1aa",
+            "SS10a", "S10a/", "S10é",
+        ],
+        &[],
     ),
-    (" S1x S10 s10b", " S10b", "S10b start,"),
+    (&["S1x", "S10", "s10b"], &["S10b"], &[("S10b", Arg::Start)]),
     (
-        "",
-        " S10.x K05c.sh S00_ S99-",
-        "K05c.sh stop,S00_ start,S10.x start,S99- start,",
+        &[],
+        &["S10.x", "K05c.sh", "S00_", "S99-"],
+        &[
+            ("K05c.sh", Arg::Stop),
+            ("S00_", Arg::Start),
+            ("S10.x", Arg::Start),
+            ("S99-", Arg::Start),
+        ],
     ),
     // The digits and the rest decide in byte order; capitals come first.
     (
-        "",
-        " S20a S10b S10B S09z K9Xa K10a K09b",
-        "K09b stop,K10a stop,S09z start,S10B start,S10b start,S20a start,",
+        &[],
+        &["S20a", "S10b", "S10B", "S09z", "K9Xa", "K10a", "K09b"],
+        &[
+            ("K09b", Arg::Stop),
+            ("K10a", Arg::Stop),
+            ("S09z", Arg::Start),
+            ("S10B", Arg::Start),
+            ("S10b", Arg::Start),
+            ("S20a", Arg::Start),
+        ],
     ),
     // A name that stands twice is run once.
-    ("", " S10a K05a S10a K05a S10a", "K05a stop,S10a start,"),
+    (
+        &[],
+        &["S10a", "K05a", "S10a", "K05a", "S10a"],
+        &[("K05a", Arg::Stop), ("S10a", Arg::Start)],
+    ),
     // A service runs already, whatever its number was; a K link of the previous level says nothing.
-    (" S99a K01b", " S10a S10b", "S10b start,"),
+    (
+        &["S99a", "K01b"],
+        &["S10a", "S10b"],
+        &[("S10b", Arg::Start)],
+    ),
     // Two numbers of one service; it is stopped, and so started again.
     (
-        " S10a",
-        " S10a S20a K50a",
-        "K50a stop,S10a start,S20a start,",
+        &["S10a"],
+        &["S10a", "S20a", "K50a"],
+        &[
+            ("K50a", Arg::Stop),
+            ("S10a", Arg::Start),
+            ("S20a", Arg::Start),
+        ],
     ),
-    (" S10a", " S10a S20a K50b", "K50b stop,"),
+    (&["S10a"], &["S10a", "S20a", "K50b"], &[("K50b", Arg::Stop)]),
     // A K link of the new level alone stops; what the previous level started is not stopped by itself.
-    (" S10a S20b", " S20b", ""),
-    (" S10ab", " S10a S10b", "S10a start,S10b start,"),
+    (&["S10a", "S20b"], &["S20b"], &[]),
+    (
+        &["S10ab"],
+        &["S10a", "S10b"],
+        &[("S10a", Arg::Start), ("S10b", Arg::Start)],
+    ),
 ];
 
-/// The words of a text, as a folder's list gives them.
-fn names_of(alloc: Global, text: &str) -> Result<Vec<String>, Fail> {
-    let mut names = Vec::new(alloc);
-    for word in text.split(' ').skip(1) {
+fn add_names(names: &mut Vec<String>, alloc: Global, words: &[&str]) -> Result<(), Fail> {
+    for word in words {
         names.push(String::from_str(alloc, word)?)?;
     }
+    Ok(())
+}
+
+fn names_of(alloc: Global, words: &[&str]) -> Result<Vec<String>, Fail> {
+    let mut names = Vec::new(alloc);
+    add_names(&mut names, alloc, words)?;
     Ok(names)
 }
 
-/// Adds a script, and answers it.
-fn add_script<A: Allocator>(text: &mut String, rc: &mut Rc<A>) -> Result<bool, Fail> {
-    let RcStep::Run(link, arg) = rc.next() else {
-        return Ok(false);
-    };
-    text.push_str(link)?;
-    text.push_str(if arg == Arg::Stop {
-        " stop,"
-    } else {
-        " start,"
-    })?;
-    if rc.next() == RcStep::Waiting {
-        rc.answer(RcAnswer::NotStarted)?;
-    }
-    Ok(true)
+/// This script is handed out next, once; it is answered when the next was asked for.
+fn is_handed_out(rt: &impl Abort, rc: &mut Rc, link: &str, arg: Arg) {
+    assert!(rt;
+        rc.next() == RcStep::Run(link, arg)
+            && rc.next() == RcStep::Waiting
+            && rc.answer(RcAnswer::NotStarted) == Ok(())
+    );
 }
 
-/// The scripts that are handed out, each answered once the next was asked for.
-fn scripts_of<A: Allocator>(alloc: Global, rc: &mut Rc<A>) -> Result<String, Fail> {
-    let mut text = String::new(alloc);
-    for _ in 0..100 {
-        if !add_script(&mut text, rc)? {
-            break;
-        }
+/// These scripts are handed out, and then no more.
+fn are_handed_out(rt: &impl Abort, rc: &mut Rc, runs: &[(&str, Arg)]) {
+    for (link, arg) in runs {
+        is_handed_out(rt, rc, link, *arg);
     }
-    Ok(text)
-}
-
-fn is_run(rt: &impl Abort, alloc: Global, row: &(&str, &str, &str)) -> Result<(), Fail> {
-    let previous = names_of(alloc, row.0)?;
-    let new = names_of(alloc, row.1)?;
-    let mut rc = Rc::new(alloc, &previous, &new)?;
-    let text = scripts_of(alloc, &mut rc)?;
-    assert_eq!(rt; text.as_str(), row.2);
     assert!(rt; rc.next() == RcStep::Done && rc.answer(RcAnswer::NotStarted) == Err(NotAsked));
+}
+
+fn runs_of(
+    rt: &impl Abort,
+    alloc: Global,
+    previous: &[String],
+    new: &[String],
+    runs: &[(&str, Arg)],
+) -> Result<(), Fail> {
+    let mut rc = Rc::new(alloc, previous, new)?;
+    are_handed_out(rt, &mut rc, runs);
     Ok(())
+}
+
+fn is_run_after(
+    rt: &impl Abort,
+    alloc: Global,
+    previous: &[String],
+    row: &Row,
+) -> Result<(), Fail> {
+    let new = names_of(alloc, row.1)?;
+    runs_of(rt, alloc, previous, &new, row.2)
+}
+
+fn is_run(rt: &impl Abort, alloc: Global, row: &Row) -> Result<(), Fail> {
+    let previous = names_of(alloc, row.0)?;
+    is_run_after(rt, alloc, &previous, row)
 }
 
 #[test]
@@ -104,17 +155,31 @@ fn scripts_are_handed_out_in_order(rt: HostRuntime) -> Result<(), Fail> {
     Ok(())
 }
 
+fn answers_are_asked_for_once(rt: &impl Abort, rc: &mut Rc) {
+    let ended = RcAnswer::Ended(Status::Exit(3));
+    assert!(rt;
+        rc.answer(ended) == Err(NotAsked)
+            && rc.next() == RcStep::Run("S10a", Arg::Start)
+            && rc.next() == RcStep::Waiting
+            && rc.next() == RcStep::Waiting
+    );
+    assert!(rt;
+        rc.answer(ended) == Ok(())
+            && rc.answer(ended) == Err(NotAsked)
+            && rc.next() == RcStep::Run("S20b", Arg::Start)
+    );
+}
+
+fn is_asked_once(rt: &impl Abort, alloc: Global, new: &[String]) -> Result<(), Fail> {
+    let mut rc = Rc::new(alloc, &[], new)?;
+    answers_are_asked_for_once(rt, &mut rc);
+    Ok(())
+}
+
 #[test]
 fn an_answer_is_asked_for_once(rt: HostRuntime) -> Result<(), Fail> {
-    let new = names_of(rt.alloc(), " S10a S20b")?;
-    let mut rc = Rc::new(rt.alloc(), &[], &new)?;
-    let ended = RcAnswer::Ended(Status::Exit(3));
-    assert!(rt; rc.answer(ended) == Err(NotAsked));
-    assert!(rt; rc.next() == RcStep::Run("S10a", Arg::Start));
-    assert!(rt; rc.next() == RcStep::Waiting && rc.next() == RcStep::Waiting);
-    assert!(rt; rc.answer(ended) == Ok(()) && rc.answer(ended) == Err(NotAsked));
-    assert!(rt; rc.next() == RcStep::Run("S20b", Arg::Start));
-    Ok(())
+    let new = names_of(rt.alloc(), &["S10a", "S20b"])?;
+    is_asked_once(&rt, rt.alloc(), &new)
 }
 
 /// There was room for the scripts of a folder.
@@ -123,9 +188,13 @@ fn has_room(alloc: Global, new: &[String], room: usize) -> Result<bool, Fail> {
     Ok(Rc::new(&heap, &[], new).is_ok())
 }
 
+fn wants_room(rt: &impl Abort, alloc: Global, new: &[String]) -> Result<(), Fail> {
+    assert!(rt; !has_room(alloc, new, 64)? && has_room(alloc, new, 8192)?);
+    Ok(())
+}
+
 #[test]
 fn want_of_room_is_told(rt: HostRuntime) -> Result<(), Fail> {
-    let new = names_of(rt.alloc(), " S10a S20b K05c")?;
-    assert!(rt; !has_room(rt.alloc(), &new, 64)? && has_room(rt.alloc(), &new, 8192)?);
-    Ok(())
+    let new = names_of(rt.alloc(), &["S10a", "S20b", "K05c"])?;
+    wants_room(&rt, rt.alloc(), &new)
 }
