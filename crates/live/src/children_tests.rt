@@ -1,10 +1,10 @@
 //! Children are started, looked at and signalled. What waits gives up after so many pauses.
 
-use crate::hosts::{Paths, Trial, id_of, passes, passes_with_pause};
-use child_host::{Host, OsHost, Reply};
+use crate::hosts::{Paths, Trial, host_of, id_of, passes, passes_with_pause};
+use child_host::{Host, Reply};
 use init_words::{Answer, Id, Sig, Status};
 use linked_list_allocator::LocalHeap;
-use std::alloc::Global;
+use std::alloc::{AllocError, Global};
 use std::fs;
 use std::process::{Abort, Processes};
 use std::rt::{Clock, Files};
@@ -290,41 +290,40 @@ fn is_started_by<H: Host>(rt: &impl Abort, heap: &LocalHeap, host: &mut H, id: I
 }
 
 /// Starts a child over a heap, where there is enough of it.
-fn is_started_over<R>(rt: &R, heap: &LocalHeap, id: Id) -> Result<bool, Fail>
+fn is_started_over<R>(rt: &R, heap: &LocalHeap, id: Id) -> bool
 where
     R: Abort + Processes + Files + Clock + Print + Eprint + Clone + Drop,
 {
-    match OsHost::new(rt.clone()?, heap, "tab", "channel", "state") {
-        Ok(mut host) => Ok(is_started_by(rt, heap, &mut host, id)),
-        Err(_) => Ok(false),
+    match host_of(rt, heap, PATHS) {
+        Some(mut host) => is_started_by(rt, heap, &mut host, id),
+        None => false,
     }
 }
 
 /// Starts a child over so much memory, where there is enough of it. Where its start is refused there is none.
-fn is_started<R>(rt: &R, alloc: Global, room: usize) -> Result<bool, Fail>
+fn is_started<R>(rt: &R, alloc: Global, id: Id, room: usize) -> Result<bool, AllocError>
 where
     R: Abort + Processes + Files + Clock + Print + Eprint + Clone + Drop,
 {
-    let id = id_of(b"m")?;
     let heap = LocalHeap::new(alloc, room)?;
-    is_started_over(rt, &heap, id)
+    Ok(is_started_over(rt, &heap, id))
 }
 
-/// The first room, in steps of 16 bytes, in which a child is started.
-fn enough<R>(rt: &R, alloc: Global) -> Result<usize, Fail>
+/// The first room, in steps of 16 bytes, in which a child is started, and 0 where there is none.
+fn enough<R>(rt: &R, alloc: Global, id: Id) -> Result<usize, AllocError>
 where
     R: Abort + Processes + Files + Clock + Print + Eprint + Clone + Drop,
 {
     for step in 4..1024usize {
-        if is_started(rt, alloc, 16 * step)? {
+        if is_started(rt, alloc, id, 16 * step)? {
             return Ok(step);
         }
     }
-    Err(Fail::from("no room"))
+    Ok(0)
 }
 
 #[test]
 fn no_child_is_born_without_room(rt: HostRuntime) -> Result<(), Fail> {
-    assert!(rt; enough(&rt, rt.alloc())? > 8);
+    assert!(rt; enough(&rt, rt.alloc(), id_of(b"m")?)? > 8);
     Ok(())
 }

@@ -2,7 +2,7 @@
 
 use child_host::{Host, OsHost};
 use init_words::Id;
-use std::alloc::Global;
+use std::alloc::{Allocator, Global};
 use std::process::{Abort, Processes};
 use std::rt::{Clock, Files};
 use std::test::Fail;
@@ -29,17 +29,14 @@ pub(crate) struct Paths {
     pub(crate) state: &'static str,
 }
 
-fn host_of<R>(rt: &R, alloc: Global, paths: Paths) -> Result<OsHost<R>, Fail>
+/// A host of these paths, where there is room for it.
+pub(crate) fn host_of<R, A>(rt: &R, alloc: A, paths: Paths) -> Option<OsHost<R, A>>
 where
     R: Processes + Files + Clock + Print + Eprint + Clone + Drop,
+    A: Allocator + Copy,
 {
-    Ok(OsHost::new(
-        rt.clone()?,
-        alloc,
-        paths.inittab,
-        paths.channel,
-        paths.state,
-    )?)
+    let own = rt.clone().ok()?;
+    OsHost::new(own, alloc, paths.inittab, paths.channel, paths.state).ok()
 }
 
 /// The trial passes with a host of these paths.
@@ -52,8 +49,18 @@ pub(crate) fn passes<R, T: Trial>(
 where
     R: Abort + Alloc + Processes + Files + Clock + Print + Eprint + Clone + Drop,
 {
-    let mut host = host_of(rt, alloc, paths)?;
-    trial.passes(rt, alloc, &mut host)
+    match host_of(rt, alloc, paths) {
+        Some(mut host) => trial.passes(rt, alloc, &mut host),
+        None => Err(Fail::from("no host")),
+    }
+}
+
+/// A host that pauses so.
+fn pausing<R>(rt: &R, alloc: Global, paths: Paths, pause: &str) -> Option<OsHost<R>>
+where
+    R: Processes + Files + Clock + Print + Eprint + Clone + Drop,
+{
+    host_of(rt, alloc, paths)?.with_pause(pause).ok()
 }
 
 /// The trial passes with a host that pauses so.
@@ -67,6 +74,8 @@ pub(crate) fn passes_with_pause<R, T: Trial>(
 where
     R: Abort + Alloc + Processes + Files + Clock + Print + Eprint + Clone + Drop,
 {
-    let mut host = host_of(rt, alloc, paths)?.with_pause(pause)?;
-    trial.passes(rt, alloc, &mut host)
+    match pausing(rt, alloc, paths, pause) {
+        Some(mut host) => trial.passes(rt, alloc, &mut host),
+        None => Err(Fail::from("no host")),
+    }
 }

@@ -11,20 +11,39 @@ use std::test::Fail;
 /// The words of a line, parted by single blanks.
 fn words_of(alloc: Global, line: &str) -> Result<Vec<String>, AllocError> {
     let mut words = Vec::new(alloc);
-    for word in line.split(' ') {
-        words.push(String::from_str(alloc, word)?)?;
-    }
+    add_words(alloc, &mut words, line)?;
     Ok(words)
 }
 
-/// The exit status of a command line; what it writes and reports is added to `out`.
-fn status_of<R>(rt: &R, alloc: Global, line: &str, out: &mut Vec<u8>) -> Result<u8, AllocError>
+fn add_words(alloc: Global, words: &mut Vec<String>, line: &str) -> Result<(), AllocError> {
+    for word in line.split(' ') {
+        words.push(String::from_str(alloc, word)?)?;
+    }
+    Ok(())
+}
+
+/// The exit status of a command line.
+fn status_of<R>(
+    rt: &R,
+    alloc: Global,
+    line: &str,
+    out: &mut Vec<u8>,
+    err: &mut Vec<u8>,
+) -> Result<u8, AllocError>
 where
     R: Processes + Files + Clock + Print + Eprint + Clone + Drop,
 {
     let words = words_of(alloc, line)?;
+    Ok(run_words(rt, alloc, words, out, err))
+}
+
+/// The same, where what is reported is added to `out` too.
+fn answer<R>(rt: &R, alloc: Global, line: &str, out: &mut Vec<u8>) -> Result<u8, AllocError>
+where
+    R: Processes + Files + Clock + Print + Eprint + Clone + Drop,
+{
     let mut err = Vec::new(alloc);
-    let status = run_words(rt, alloc, words, out, &mut err);
+    let status = status_of(rt, alloc, line, out, &mut err)?;
     out.extend_from_slice(&err)?;
     Ok(status)
 }
@@ -35,7 +54,7 @@ where
     R: Processes + Files + Clock + Print + Eprint + Clone + Drop + Abort,
 {
     let mut out = Vec::new(alloc);
-    let status = status_of(rt, alloc, line, &mut out)?;
+    let status = answer(rt, alloc, line, &mut out)?;
     assert!(rt;
         status == 0 && out.as_slice() == want.as_bytes(),
         "{line}: {status}"
@@ -53,11 +72,16 @@ fn write_request(rt: &impl Files, path: &str, code: u8, secs: u16) -> Result<(),
 /// Writes a request of each character, with a grace of five seconds.
 fn write_requests(rt: &impl Files, alloc: Global, path: &str, codes: &[u8]) -> Result<(), Fail> {
     let mut blocks = Vec::new(alloc);
+    add_blocks(&mut blocks, codes)?;
+    fs::write(rt, path, blocks.as_slice())?;
+    Ok(())
+}
+
+fn add_blocks(blocks: &mut Vec<u8>, codes: &[u8]) -> Result<(), Fail> {
     for code in codes {
         let sign = Sign::read(*code).ok_or("no sign")?;
         blocks.extend_from_slice(&encode(&Request::Runlvl(sign, 5)))?;
     }
-    fs::write(rt, path, blocks.as_slice())?;
     Ok(())
 }
 
@@ -97,13 +121,13 @@ const PAIR: &[(&str, &str)] = &[
     ),
 ];
 
-/// The line of a child's end, by the number that it wrote.
-fn end_line<R: Files + Alloc>(rt: &R, alloc: Global, id: &str, path: &str) -> Result<String, Fail> {
-    let number = fs::read_to_string(rt, path)?;
-    let number = number.as_str().trim_ascii();
-    Ok(format!(in alloc; "reaped {id} {number} exit 3")?)
+/// The line of the end of a child of this number stands in the trace.
+fn has_end(alloc: Global, trace: &str, id: &str, number: &str) -> Result<bool, AllocError> {
+    let line = format!(in alloc; "reaped {id} {number} exit 3")?;
+    Ok(is_in_order(trace, &[line.as_str()]))
 }
 
+/// The same of the number that the child wrote.
 fn has_ends<R: Files + Alloc + Abort>(
     rt: &R,
     alloc: Global,
@@ -111,8 +135,11 @@ fn has_ends<R: Files + Alloc + Abort>(
     id: &str,
     path: &str,
 ) -> Result<(), Fail> {
-    let line = end_line(rt, alloc, id, path)?;
-    assert!(rt; is_in_order(trace, &[line.as_str()]), "{trace}");
+    let number = fs::read_to_string(rt, path)?;
+    assert!(rt;
+        has_end(alloc, trace, id, number.as_str().trim_ascii())?,
+        "{trace}"
+    );
     Ok(())
 }
 

@@ -10,20 +10,24 @@ use std::rt::{Env, Files};
 use std::test::Fail;
 use std::{env, fs};
 
-/// Announces happenings, the first and the last of which init says nothing of, and starts a program that is missing.
+/// Eight happenings, the first and the last of which init says nothing of.
+fn happening(number: u32, id: Id) -> Happening {
+    match number {
+        1 => Happening::Nudge,
+        2 => Happening::Enter(Stage::Sysinit, 5),
+        3 => Happening::Enter(Stage::Run(Level::L3), 5),
+        4 => Happening::Settle(Level::S),
+        5 => Happening::Hold(id),
+        6 => Happening::NotRead,
+        7 => Happening::Handed(Handed::Failed),
+        _ => Happening::Handed(Handed::Whole),
+    }
+}
+
+/// Announces them, and starts a program that is missing.
 fn say<H: Host>(host: &mut H, alloc: Global, id: Id) {
-    let happenings: [Happening; 8] = [
-        Happening::Nudge,
-        Happening::Enter(Stage::Sysinit, 5),
-        Happening::Enter(Stage::Run(Level::L3), 5),
-        Happening::Settle(Level::S),
-        Happening::Hold(id),
-        Happening::NotRead,
-        Happening::Handed(Handed::Failed),
-        Happening::Handed(Handed::Whole),
-    ];
-    for happening in &happenings {
-        host.announce(happening);
+    for number in 1..9u32 {
+        host.announce(&happening(number, id));
     }
     let _ = host.start(alloc, id, b"/bin/nosuch a");
 }
@@ -46,7 +50,12 @@ fn line_of(rt: &(impl Alloc + Env), alloc: Global) -> Result<String, Fail> {
 }
 
 fn run_line(rt: &impl Processes, alloc: Global, line: &str) -> Result<(), Fail> {
-    Command::new(alloc, "sh")?.arg("-c")?.arg(line)?.status(rt)?;
+    let mut command = Command::new(alloc, "sh")?;
+    run_command(rt, &mut command, line)
+}
+
+fn run_command(rt: &impl Processes, command: &mut Command, line: &str) -> Result<(), Fail> {
+    command.arg("-c")?.arg(line)?.status(rt)?;
     Ok(())
 }
 

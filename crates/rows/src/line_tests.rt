@@ -1,8 +1,7 @@
-use crate::texts::{first_line, has_lines};
+use crate::texts::{first_line, has_lines, holds};
 use init_trace::{HappeningIn, ReadFault, print, print_one, print_table, read};
 use std::alloc::Global;
 use std::process::Abort;
-use std::test::Fail;
 
 /// Texts of traces, and texts that are none with the number of the line at which no happening begins.
 const TEXTS: &[(&str, u64)] = &[
@@ -87,64 +86,70 @@ const TEXTS: &[(&str, u64)] = &[
     ("use 1\na:3:once:x\nb:3:once:y\n", 3),
 ];
 
-/// 0 where the trace prints as the text again.
-fn printed_again(alloc: Global, trace: &[HappeningIn<Global>], text: &str) -> Result<u64, Fail> {
-    let again = print(alloc, trace)?;
-    Ok(if again.as_slice() == text.as_bytes() {
-        0
-    } else {
-        u64::MAX
-    })
+/// The trace prints as the text again.
+fn is_printed(alloc: Global, trace: &[HappeningIn<Global>], text: &str) -> bool {
+    match print(alloc, trace) {
+        Ok(again) => again.as_slice() == text.as_bytes(),
+        Err(_) => false,
+    }
 }
 
-/// The number of the line at which the text is no trace's, 0 where it is one's.
-fn fault_in(alloc: Global, text: &str) -> Result<u64, Fail> {
+/// The number of the line at which the text is no trace's, 0 where it is one's, which is printed again.
+fn fault_in(alloc: Global, text: &str) -> Option<u64> {
     match read(alloc, text.as_bytes()) {
-        Ok(trace) => printed_again(alloc, &trace, text),
-        Err(ReadFault::Line(number)) => Ok(number),
-        Err(ReadFault::Memory) => Err(Fail::from("out of memory")),
+        Ok(trace) if is_printed(alloc, &trace, text) => Some(0),
+        Err(ReadFault::Line(number)) => Some(number),
+        _ => None,
     }
 }
 
-fn is_read(rt: &impl Abort, alloc: Global, text: &str, fault: u64) -> Result<(), Fail> {
-    assert!(rt; fault_in(alloc, text)? == fault, "at {text:?}");
-    Ok(())
+fn are_read(rt: &impl Abort, alloc: Global, rows: &[(&str, u64)]) {
+    for (text, fault) in rows {
+        holds(rt, fault_in(alloc, text) == Some(*fault), text);
+    }
 }
 
 #[test]
-fn traces_are_read(rt: HostRuntime) -> Result<(), Fail> {
-    for (text, fault) in TEXTS {
-        is_read(&rt, rt.alloc(), text, *fault)?;
-    }
-    Ok(())
+fn traces_are_read(rt: HostRuntime) {
+    are_read(&rt, rt.alloc(), TEXTS);
 }
 
-fn print_line(alloc: Global, line: &str) -> Result<Vec<u8>, Fail> {
+fn print_line(alloc: Global, line: &str) -> Option<Vec<u8>> {
     let happening = first_line(alloc, line)?;
-    Ok(print_one(alloc, &happening)?)
+    print_one(alloc, &happening).ok()
+}
+
+fn is_line_printed(alloc: Global, line: &str, want: &[u8]) -> bool {
+    match print_line(alloc, line) {
+        Some(text) => text.as_slice() == want,
+        None => false,
+    }
 }
 
 #[test]
-fn a_happening_is_printed(rt: HostRuntime) -> Result<(), Fail> {
-    let line = print_line(rt.alloc(), "told r")?;
-    assert_eq!(rt; line.as_slice(), b"told r\n".as_slice());
-    Ok(())
+fn a_happening_is_printed(rt: HostRuntime) {
+    assert!(rt; is_line_printed(rt.alloc(), "told r", b"told r\n"));
 }
 
-fn print_table_of(alloc: Global, text: &[u8]) -> Result<Vec<u8>, Fail> {
-    let (table, _) = inittab_text::read(alloc, text)?;
-    Ok(print_table(alloc, &table)?)
+fn print_table_of(alloc: Global, text: &[u8]) -> Option<Vec<u8>> {
+    let (table, _) = inittab_text::read(alloc, text).ok()?;
+    print_table(alloc, &table).ok()
+}
+
+fn is_table_printed(alloc: Global, text: &[u8], row: &str) -> bool {
+    match print_table_of(alloc, text) {
+        Some(text) => has_lines(alloc, &text, row),
+        None => false,
+    }
 }
 
 #[test]
-fn tables_are_printed(rt: HostRuntime) -> Result<(), Fail> {
-    let text = print_table_of(rt.alloc(), b"r::respawn:getty\nbad\nk:S:off:\n")?;
+fn tables_are_printed(rt: HostRuntime) {
     assert!(rt;
-        has_lines(
+        is_table_printed(
             rt.alloc(),
-            &text,
+            b"r::respawn:getty\nbad\nk:S:off:\n",
             "use 2 / r:0123456789:respawn:getty / k:S:off:"
-        )?
+        )
     );
-    Ok(())
 }

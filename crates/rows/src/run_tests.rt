@@ -1,20 +1,21 @@
-use crate::texts::{has_lines, lines};
+use crate::texts::{add_line, has_lines, holds, is_said, lines};
 use init_words::Level;
 use std::alloc::{AllocError, Global};
 use std::process::Abort;
-use std::test::Fail;
 use supervisor::{SimFault, simulate};
 
 /// The run over an inittab and a script.
 fn run_over(
     alloc: Global,
-    inittab: &str,
+    inittab: &[u8],
     level: Option<Level>,
     script: &str,
     out: &mut Vec<u8>,
-) -> Result<Result<(), SimFault>, AllocError> {
-    let script = lines(alloc, script)?;
-    Ok(simulate(alloc, inittab.as_bytes(), level, script.as_bytes(), out))
+) -> Result<(), SimFault> {
+    match lines(alloc, script) {
+        Ok(script) => simulate(alloc, inittab, level, script.as_bytes(), out),
+        Err(_) => Err(SimFault::Memory),
+    }
 }
 
 /// The same, where ` / ` stands for the inittab's line ends too.
@@ -24,27 +25,17 @@ fn run_rows(
     level: Option<Level>,
     script: &str,
     out: &mut Vec<u8>,
-) -> Result<Result<(), SimFault>, AllocError> {
-    let inittab = lines(alloc, inittab)?;
-    run_over(alloc, inittab.as_str(), level, script, out)
+) -> Result<(), SimFault> {
+    match lines(alloc, inittab) {
+        Ok(inittab) => run_over(alloc, inittab.as_bytes(), level, script, out),
+        Err(_) => Err(SimFault::Memory),
+    }
 }
 
 /// The run is done, and what is written is the trace.
-fn is_run(
-    rt: &impl Abort,
-    alloc: Global,
-    inittab: &str,
-    level: Option<Level>,
-    script: &str,
-    trace: &str,
-) -> Result<(), Fail> {
+fn is_run(alloc: Global, inittab: &str, level: Option<Level>, script: &str, trace: &str) -> bool {
     let mut out: Vec<u8> = Vec::new(alloc);
-    let ended = run_rows(alloc, inittab, level, script, &mut out)?;
-    assert!(rt;
-        ended.is_ok() && has_lines(alloc, &out, trace)?,
-        "at {script:?}"
-    );
-    Ok(())
+    run_rows(alloc, inittab, level, script, &mut out).is_ok() && has_lines(alloc, &out, trace)
 }
 
 /// An inittab, a script, and the trace.
@@ -206,81 +197,145 @@ const RUNS: &[(&str, &str, &str)] = &[
     ),
 ];
 
-#[test]
-fn runs(rt: HostRuntime) -> Result<(), Fail> {
-    for (inittab, script, trace) in RUNS {
-        is_run(&rt, rt.alloc(), inittab, None, script, trace)?;
+fn are_runs(rt: &impl Abort, alloc: Global, rows: &[(&str, &str, &str)]) {
+    for (inittab, script, trace) in rows {
+        holds(rt, is_run(alloc, inittab, None, script, trace), script);
     }
-    Ok(())
 }
 
 #[test]
-fn the_level_is_the_one_given(rt: HostRuntime) -> Result<(), Fail> {
+fn runs(rt: HostRuntime) {
+    are_runs(&rt, rt.alloc(), RUNS);
+}
+
+#[test]
+fn the_level_is_the_one_given(rt: HostRuntime) {
     let inittab = "id:3:initdefault: / r:2:respawn:serv / t:3:respawn:other";
     let trace =
         "use 3 / id:3:initdefault: / r:2:respawn:serv / t:3:respawn:other / enter sysinit 5 / enter boot 5 / enter 2 5 / ask r start";
-    is_run(&rt, rt.alloc(), inittab, Some(Level::L2), "", trace)
+    assert!(rt; is_run(rt.alloc(), inittab, Some(Level::L2), "", trace));
+}
+
+const HANDED: &str = "handed whole";
+
+/// Adds a line, behind one of a hand-over where that has its place.
+fn add_handed(text: &mut String, line: &str, is_here: bool) -> Result<(), AllocError> {
+    if is_here {
+        add_line(text, HANDED)?;
+    }
+    add_line(text, line)
+}
+
+/// Adds the lines of a row, with a hand-over behind so many of them.
+fn add_with_hand_over(text: &mut String, row: &str, place: usize) -> Result<(), AllocError> {
+    for (number, line) in row.split(" / ").enumerate() {
+        add_handed(text, line, number == place)?;
+    }
+    if row.split(" / ").count() == place {
+        add_line(text, HANDED)?;
+    }
+    Ok(())
 }
 
 /// The text of the lines of a row, with a hand-over behind so many of them.
 fn with_hand_over(alloc: Global, row: &str, place: usize) -> Result<String, AllocError> {
     let mut text = String::new(alloc);
-    for (number, line) in row.split(" / ").enumerate() {
-        if number == place {
-            text.push_str("handed whole\n")?;
-        }
-        text.push_str(line)?;
-        text.push('\n')?;
-    }
-    if row.split(" / ").count() == place {
-        text.push_str("handed whole\n")?;
-    }
+    add_with_hand_over(&mut text, row, place)?;
     Ok(text)
 }
 
-/// The text without its lines of a hand-over.
-fn without_hand_over(alloc: Global, text: &[u8]) -> Result<Vec<u8>, AllocError> {
-    let mut rest = Vec::new(alloc);
+/// The run over an inittab and a script with a hand-over behind so many of its lines is done.
+fn is_handed_over(
+    alloc: Global,
+    inittab: &[u8],
+    script: &str,
+    place: usize,
+    out: &mut Vec<u8>,
+) -> bool {
+    match with_hand_over(alloc, script, place) {
+        Ok(text) => simulate(alloc, inittab, None, text.as_bytes(), out).is_ok(),
+        Err(_) => false,
+    }
+}
+
+/// The same, where ` / ` stands for the inittab's line ends too.
+fn is_row_handed_over(
+    alloc: Global,
+    inittab: &str,
+    script: &str,
+    place: usize,
+    out: &mut Vec<u8>,
+) -> bool {
+    match lines(alloc, inittab) {
+        Ok(inittab) => is_handed_over(alloc, inittab.as_bytes(), script, place, out),
+        Err(_) => false,
+    }
+}
+
+/// Adds the text without its lines of a hand-over.
+fn add_without_hand_over(rest: &mut Vec<u8>, text: &[u8]) -> Result<(), AllocError> {
     for line in text.split(|byte| *byte == b'\n') {
-        if !line.is_empty() && line != b"handed whole".as_slice() {
+        if !line.is_empty() && line != HANDED.as_bytes() {
             rest.extend_from_slice(line)?;
             rest.push(b'\n')?;
         }
     }
-    Ok(rest)
+    Ok(())
+}
+
+/// The text is the trace with the line of one hand-over.
+fn is_trace_handed_over(alloc: Global, text: &[u8], trace: &str) -> bool {
+    let mut rest = Vec::new(alloc);
+    add_without_hand_over(&mut rest, text).is_ok()
+        && has_lines(alloc, &rest, trace)
+        && rest.len() + 13 == text.len()
 }
 
 /// The script with a hand-over behind so many of its lines makes the trace with the line of the hand-over.
 fn is_same_with_hand_over(
-    rt: &impl Abort,
     alloc: Global,
     inittab: &str,
     script: &str,
     trace: &str,
     place: usize,
-) -> Result<(), Fail> {
+) -> bool {
     let mut out: Vec<u8> = Vec::new(alloc);
-    let inittab = lines(alloc, inittab)?;
-    let handed = with_hand_over(alloc, script, place)?;
-    let ended = simulate(alloc, inittab.as_bytes(), None, handed.as_bytes(), &mut out);
-    let rest = without_hand_over(alloc, &out)?;
-    assert!(rt;
-        ended.is_ok() && has_lines(alloc, &rest, trace)? && rest.len() + 13 == out.len(),
-        "at {script:?}, {place}"
-    );
-    Ok(())
+    is_row_handed_over(alloc, inittab, script, place, &mut out)
+        && is_trace_handed_over(alloc, &out, trace)
+}
+
+/// The same behind each number of lines.
+fn is_same_at_each_place(rt: &impl Abort, alloc: Global, inittab: &str, script: &str, trace: &str) {
+    for place in 0..script.split(" / ").count() + 1 {
+        holds(
+            rt,
+            is_same_with_hand_over(alloc, inittab, script, trace, place),
+            script,
+        );
+    }
+}
+
+/// Lines of a script, and none of a table or of a hand-over.
+fn has_plain_lines(script: &str) -> bool {
+    for line in script.split(" / ") {
+        if line.is_empty() || line.starts_with("use ") || line.starts_with("handed ") {
+            return false;
+        }
+    }
+    true
+}
+
+fn are_same(rt: &impl Abort, alloc: Global, rows: &[(&str, &str, &str)]) {
+    for (inittab, script, trace) in rows {
+        if has_plain_lines(script) {
+            is_same_at_each_place(rt, alloc, inittab, script, trace);
+        }
+    }
 }
 
 #[test]
-fn a_whole_hand_over_changes_nothing_else(rt: HostRuntime) -> Result<(), Fail> {
-    for (inittab, script, trace) in RUNS {
-        if !script.is_empty() && !script.contains("use") && !script.contains("handed") {
-            for place in 0..script.split(" / ").count() + 1 {
-                is_same_with_hand_over(&rt, rt.alloc(), inittab, script, trace, place)?;
-            }
-        }
-    }
-    Ok(())
+fn a_whole_hand_over_changes_nothing_else(rt: HostRuntime) {
+    are_same(&rt, rt.alloc(), RUNS);
 }
 
 /// How a run ends before its script does: at the line of this number, which is none, or may not come, and why.
@@ -289,45 +344,22 @@ enum Stop {
     Forbidden(u64, &'static str),
 }
 
-/// The fault is the one that is wanted.
-fn is_stop(alloc: Global, fault: SimFault, stop: &Stop) -> Result<bool, AllocError> {
-    match stop {
-        Stop::Script(number) => Ok(fault == SimFault::Script(*number)),
-        Stop::Forbidden(number, reason) => is_forbidden(alloc, fault, *number, reason),
+/// The run ended so.
+fn is_stop(alloc: Global, ended: Result<(), SimFault>, stop: &Stop) -> bool {
+    match (ended, stop) {
+        (Err(SimFault::Script(line)), Stop::Script(number)) => line == *number,
+        (Err(SimFault::Forbidden(line, why)), Stop::Forbidden(number, reason)) => {
+            line == *number && is_said(alloc, why, reason)
+        }
+        _ => false,
     }
 }
 
-fn is_forbidden(
-    alloc: Global,
-    fault: SimFault,
-    number: u64,
-    reason: &str,
-) -> Result<bool, AllocError> {
-    let SimFault::Forbidden(line, why) = fault else {
-        return Ok(false);
-    };
-    let text = format!(in alloc; "{why}")?;
-    Ok(line == number && text.as_str() == reason)
-}
-
 /// The run ends so, and what is written is the trace before.
-fn is_stopped(
-    rt: &impl Abort,
-    alloc: Global,
-    inittab: &str,
-    script: &str,
-    stop: &Stop,
-    trace: &str,
-) -> Result<(), Fail> {
+fn is_stopped(alloc: Global, inittab: &str, script: &str, stop: &Stop, trace: &str) -> bool {
     let mut out: Vec<u8> = Vec::new(alloc);
-    let fault = run_rows(alloc, inittab, None, script, &mut out)?
-        .err()
-        .ok_or("no fault")?;
-    assert!(rt;
-        is_stop(alloc, fault, stop)? && has_lines(alloc, &out, trace)?,
-        "at {script:?}"
-    );
-    Ok(())
+    let ended = run_rows(alloc, inittab, None, script, &mut out);
+    is_stop(alloc, ended, stop) && has_lines(alloc, &out, trace)
 }
 
 /// An inittab, a script, its fault, and the trace of what was before.
@@ -522,30 +554,40 @@ const FAULTS: &[(&str, &str, Stop, &str)] = &[
     ),
 ];
 
-#[test]
-fn a_run_ends_before_the_line_at_fault(rt: HostRuntime) -> Result<(), Fail> {
-    for (inittab, script, stop, trace) in FAULTS {
-        is_stopped(&rt, rt.alloc(), inittab, script, stop, trace)?;
+fn are_stopped(rt: &impl Abort, alloc: Global, rows: &[(&str, &str, Stop, &str)]) {
+    for (inittab, script, stop, trace) in rows {
+        holds(rt, is_stopped(alloc, inittab, script, stop, trace), script);
     }
-    Ok(())
 }
 
 #[test]
-fn a_last_line_without_a_newline_counts(rt: HostRuntime) -> Result<(), Fail> {
-    let mut out: Vec<u8> = Vec::new(rt.alloc());
-    let end = simulate(rt.alloc(), b"", None, b"nudge\nclock 7", &mut out);
-    let trace = b"use 0\nenter sysinit 5\nenter S 5\nsettle S\nnudge\nclock 7\n";
-    assert!(rt; end == Ok(()) && out.as_slice() == trace.as_slice());
-    Ok(())
+fn a_run_ends_before_the_line_at_fault(rt: HostRuntime) {
+    are_stopped(&rt, rt.alloc(), FAULTS);
+}
+
+/// So a run ends over the bytes of an inittab and of a script, and this is written.
+fn ends(
+    alloc: Global,
+    inittab: &[u8],
+    script: &[u8],
+    end: Result<(), SimFault>,
+    trace: &[u8],
+) -> bool {
+    let mut out: Vec<u8> = Vec::new(alloc);
+    simulate(alloc, inittab, None, script, &mut out) == end && out.as_slice() == trace
+}
+
+const LAST_LINE: &[u8] = b"use 0\nenter sysinit 5\nenter S 5\nsettle S\nnudge\nclock 7\n";
+
+#[test]
+fn a_last_line_without_a_newline_counts(rt: HostRuntime) {
+    assert!(rt; ends(rt.alloc(), b"", b"nudge\nclock 7", Ok(()), LAST_LINE));
 }
 
 /// One byte more than an inittab may have.
 const TOO_LONG: &[u8] = &[b'#'; 65_537];
 
 #[test]
-fn a_long_inittab_is_refused(rt: HostRuntime) -> Result<(), Fail> {
-    let mut out: Vec<u8> = Vec::new(rt.alloc());
-    let end = simulate(rt.alloc(), TOO_LONG, None, b"", &mut out);
-    assert!(rt; end == Err(SimFault::Table) && out.is_empty());
-    Ok(())
+fn a_long_inittab_is_refused(rt: HostRuntime) {
+    assert!(rt; ends(rt.alloc(), TOO_LONG, b"", Err(SimFault::Table), b""));
 }

@@ -1,10 +1,9 @@
-use crate::texts::first_line;
+use crate::texts::{first_line, is_said};
 use init_trace::HappeningIn;
 use init_words::{Answer, Ask, ChildNo, Id, Status};
 use std::alloc::Global;
 use std::process::Abort;
-use std::test::Fail;
-use system_side::SimulatedSystem;
+use system_side::{Objection, SimulatedSystem};
 
 /// What is done with the system's side, or asked of it.
 enum Turn {
@@ -20,10 +19,12 @@ enum Turn {
     Ended(&'static [u8], Option<u8>),
 }
 
-fn order(side: &mut SimulatedSystem, id: &[u8], ask: Ask) -> Result<(), Fail> {
-    let id = Id::read(id).ok_or("no id")?;
+fn order(side: &mut SimulatedSystem, id: &[u8], ask: Ask) -> bool {
+    let Some(id) = Id::read(id) else {
+        return false;
+    };
     let asked: HappeningIn<Global> = HappeningIn::Asked(id, ask);
-    Ok(side.take(&asked)?)
+    side.take(&asked).is_ok()
 }
 
 /// The answer under way to the id's order.
@@ -39,48 +40,49 @@ fn status(code: Option<u8>) -> Status {
 }
 
 /// Takes the happening in, if it is allowed, and says whether it is.
-fn step(side: &mut SimulatedSystem, happening: &HappeningIn<Global>) -> Result<bool, Fail> {
-    let is_allowed = side.allows(happening);
-    if is_allowed {
-        side.take(happening)?;
+fn step(side: &mut SimulatedSystem, happening: &HappeningIn<Global>) -> Option<bool> {
+    if !side.allows(happening) {
+        return Some(false);
     }
-    Ok(is_allowed)
+    side.take(happening).ok()?;
+    Some(true)
 }
 
-fn step_line(alloc: Global, side: &mut SimulatedSystem, line: &str) -> Result<bool, Fail> {
+fn step_line(alloc: Global, side: &mut SimulatedSystem, line: &str) -> Option<bool> {
     let happening = first_line(alloc, line)?;
     step(side, &happening)
 }
 
-/// What is objected to a script line is this text.
-fn objects(side: &SimulatedSystem, alloc: Global, line: &str, text: &str) -> Result<bool, Fail> {
+/// What is objected to a script line.
+fn objection(alloc: Global, side: &SimulatedSystem, line: &str) -> Option<Objection> {
     let happening = first_line(alloc, line)?;
-    let objection = side.objection(&happening).ok_or("no objection")?;
-    let given = format!(in alloc; "{objection}")?;
-    Ok(given.as_str() == text)
+    side.objection(&happening)
+}
+
+/// What is objected to a script line is this text.
+fn objects(alloc: Global, side: &SimulatedSystem, line: &str, text: &str) -> bool {
+    match objection(alloc, side, line) {
+        Some(why) => is_said(alloc, why, text),
+        None => false,
+    }
 }
 
 /// The turn goes as it says.
-fn goes(alloc: Global, side: &mut SimulatedSystem, turn: &Turn) -> Result<bool, Fail> {
+fn goes(alloc: Global, side: &mut SimulatedSystem, turn: &Turn) -> bool {
     match turn {
-        Turn::Order(id, ask) => order(side, id, *ask).map(|()| true),
-        Turn::Line(line, is_allowed) => Ok(step_line(alloc, side, line)? == *is_allowed),
-        Turn::Refused(line, text) => objects(side, alloc, line, text),
-        Turn::Born(id, number) => Ok(answer(side, id) == Some(Answer::Born(ChildNo(*number)))),
-        Turn::Ended(id, code) => Ok(answer(side, id) == Some(Answer::Ended(status(*code)))),
+        Turn::Order(id, ask) => order(side, id, *ask),
+        Turn::Line(line, is_allowed) => step_line(alloc, side, line) == Some(*is_allowed),
+        Turn::Refused(line, text) => objects(alloc, side, line, text),
+        Turn::Born(id, number) => answer(side, id) == Some(Answer::Born(ChildNo(*number))),
+        Turn::Ended(id, code) => answer(side, id) == Some(Answer::Ended(status(*code))),
     }
 }
 
-fn follow(
-    rt: &impl Abort,
-    alloc: Global,
-    side: &mut SimulatedSystem,
-    turns: &[Turn],
-) -> Result<(), Fail> {
+fn follow(rt: &impl Abort, alloc: Global, turns: &[Turn]) {
+    let mut side = SimulatedSystem::new(alloc);
     for turn in turns {
-        assert!(rt; goes(alloc, side, turn)?);
+        assert!(rt; goes(alloc, &mut side, turn));
     }
-    Ok(())
 }
 
 /// The children born for a and b take the number 7 in turn: it is free only once the first is reaped.
@@ -189,19 +191,16 @@ const OBJECTIONS: &[Turn] = &[
 ];
 
 #[test]
-fn number_of_two_children(rt: HostRuntime) -> Result<(), Fail> {
-    let mut side = SimulatedSystem::new(rt.alloc());
-    follow(&rt, rt.alloc(), &mut side, IN_TURN)
+fn number_of_two_children(rt: HostRuntime) {
+    follow(&rt, rt.alloc(), IN_TURN);
 }
 
 #[test]
-fn two_children_at_once(rt: HostRuntime) -> Result<(), Fail> {
-    let mut side = SimulatedSystem::new(rt.alloc());
-    follow(&rt, rt.alloc(), &mut side, AT_ONCE)
+fn two_children_at_once(rt: HostRuntime) {
+    follow(&rt, rt.alloc(), AT_ONCE);
 }
 
 #[test]
-fn each_objection(rt: HostRuntime) -> Result<(), Fail> {
-    let mut side = SimulatedSystem::new(rt.alloc());
-    follow(&rt, rt.alloc(), &mut side, OBJECTIONS)
+fn each_objection(rt: HostRuntime) {
+    follow(&rt, rt.alloc(), OBJECTIONS);
 }
