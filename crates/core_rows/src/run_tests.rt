@@ -1,8 +1,7 @@
 //! Runs of a core, worked out by hand from the rules of init.
 
-use crate::runs::is_run;
+use crate::runs::are_runs;
 use init_words::Level;
-use std::test::Fail;
 
 /// Where a start is not answered, and after it.
 const WAITED: &str = "id:3:initdefault:\nw:3:wait:prep\nr:3:respawn:serv";
@@ -286,9 +285,6 @@ const RUNS: &[(&str, Option<Level>, &str)] = &[
 ];
 
 #[test]
-fn runs(rt: HostRuntime) -> Result<(), Fail> {
-    for (inittab, level, run) in RUNS {
-        is_run(&rt, rt.alloc(), inittab, *level, run)?;
-    }
-    Ok(())
+fn runs(rt: HostRuntime) {
+    are_runs(&rt, rt.alloc(), RUNS);
 }

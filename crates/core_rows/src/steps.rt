@@ -22,19 +22,28 @@ fn add_done(
     add(text, line.trim_ascii_end())
 }
 
-fn add_step(alloc: Global, text: &mut Vec<u8>, step: &Step) -> Result<(), Memory> {
-    let done = match *step {
+/// The line of a trace that a step is, if it is one.
+fn done(step: &Step) -> Option<HappeningIn<Global>> {
+    Some(match *step {
         Step::Enter(stage, grace) => Happening::Enter(stage, grace),
         Step::Call(letter) => Happening::Call(letter),
         Step::Power(kind) => Happening::Power(kind),
         Step::Order(id, order) => Happening::Asked(id, order),
         Step::Hold(id) => Happening::Hold(id),
         Step::Settle(level) => Happening::Settle(level),
-        Step::Reread => return add(text, b"reread"),
-        Step::Reexec => return add(text, b"reexec"),
-        Step::Idle => return Ok(()),
-    };
-    add_done(alloc, text, &done)
+        Step::Reread | Step::Reexec | Step::Idle => return None,
+    })
+}
+
+fn add_step(alloc: Global, text: &mut Vec<u8>, step: &Step) -> Result<(), Memory> {
+    if let Some(done) = done(step) {
+        return add_done(alloc, text, &done);
+    }
+    match step {
+        Step::Reread => add(text, b"reread"),
+        Step::Reexec => add(text, b"reexec"),
+        _ => Ok(()),
+    }
 }
 
 /// Adds the steps up to the first that stays: one that waits for its answer, or none that is left.
