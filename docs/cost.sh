@@ -1,8 +1,9 @@
 #!/bin/bash
-# What a line of a script costs `initd simulate` over tables of 16, 128 and 512 respawn entries, in processor time.
+# What a line of a script costs `initd simulate` over tables of 16, 128 and 512 respawn entries, and what 60 turns cost
+# `initd run` over 500 children that sleep, in processor time.
 # usage: docs/cost.sh INITD     (the program, as `rt run` leaves it in crates/initd/out/initd)
 set -eu
-initd=$1
+initd=$(realpath "$1")
 folder=$(mktemp -d)
 trap 'rm -r "$folder"' EXIT
 for entries in 16 128 512; do
@@ -20,3 +21,10 @@ for entries in 16 128 512; do
     echo "the trace, $(wc -l < "$folder/trace") lines, is judged"
     ( time "$initd" check "$folder/trace" ) 2>&1 | grep -e user -e lawful
 done
+
+cd "$folder"
+awk 'BEGIN { for (i = 0; i < 500; i++) printf "%03x:3:once:sleep 30\n", i }' > inittab
+echo "500 children, 60 turns"
+( time "$initd" run --level 3 --turns 60 --pause 0.05 --trace trace > said 2>&1 || [ $? = 3 ] ) 2>&1 | grep -e user -e sys
+echo "the trace, $(wc -l < trace) lines, is judged"
+( time "$initd" check trace ) 2>&1 | grep -e user -e lawful
