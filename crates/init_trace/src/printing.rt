@@ -8,7 +8,7 @@ use init_words::{Ask, Memory, PowerKind, Stage, Status};
 use initctl_frame::{Cause, Got};
 use inittab_text::{Table, write};
 use itoa::Buffer;
-use std::alloc::{AllocError, Allocator};
+use std::alloc::Allocator;
 
 fn order_word(order: Ask) -> &'static [u8]
     ensures { result.now ≡ order_word order }
@@ -43,7 +43,7 @@ fn cause_number(why: Cause) -> u8
 }
 
 /// Appends the words, each behind a blank. Where memory is wanted, a part of it may be appended.
-fn put_words<A: Allocator>(text: &mut Vec<u8, A>, words: &[&[u8]]) -> Result<(), AllocError>
+fn put_words<A: Allocator>(text: &mut Vec<u8, A>, words: &[&[u8]]) -> Result<(), Memory>
     ensures { OnOk result (text.new.items ≡ text.old.items
         ++ words_behind (map (λ word. word.now) words.now)) }
 {
@@ -55,11 +55,7 @@ fn put_words<A: Allocator>(text: &mut Vec<u8, A>, words: &[&[u8]]) -> Result<(),
 }
 
 /// Appends a line of these words. Where memory is wanted, a part of it may be appended.
-fn put_line<A: Allocator>(
-    text: &mut Vec<u8, A>,
-    first: &[u8],
-    rest: &[&[u8]],
-) -> Result<(), AllocError>
+fn put_line<A: Allocator>(text: &mut Vec<u8, A>, first: &[u8], rest: &[&[u8]]) -> Result<(), Memory>
     ensures { OnOk result (text.new.items ≡ text.old.items
         ++ line_of_words (first.now ∷ map (λ word. word.now) rest.now)) }
 {
@@ -75,7 +71,7 @@ fn put_pair<A: Allocator>(
     first: &[u8],
     second: &[u8],
     third: &[u8],
-) -> Result<(), AllocError>
+) -> Result<(), Memory>
     ensures { OnOk result (text.new.items ≡ text.old.items
         ++ line_of_words (first.now ∷ second.now ∷ third.now ∷ [])) }
 {
@@ -87,7 +83,7 @@ fn put_status<A: Allocator>(
     id: &[u8],
     number: &[u8],
     status: Status,
-) -> Result<(), AllocError>
+) -> Result<(), Memory>
     ensures { OnOk result (text.new.items ≡ text.old.items
         ++ line_of_words (codes "reaped" ∷ id.now ∷ number.now ∷ status_words status)) }
 {
@@ -101,11 +97,7 @@ fn put_status<A: Allocator>(
     }
 }
 
-fn put_enter<A: Allocator>(
-    text: &mut Vec<u8, A>,
-    stage: Stage,
-    grace: u16,
-) -> Result<(), AllocError>
+fn put_enter<A: Allocator>(text: &mut Vec<u8, A>, stage: Stage, grace: u16) -> Result<(), Memory>
     ensures { OnOk result (text.new.items ≡ text.old.items
         ++ line_of_words (codes "enter" ∷ stage_word stage ∷ decimal grace ∷ [])) }
 {
@@ -118,7 +110,7 @@ fn put_enter<A: Allocator>(
     }
 }
 
-fn put_got<A: Allocator>(text: &mut Vec<u8, A>, request: &Got) -> Result<(), AllocError>
+fn put_got<A: Allocator>(text: &mut Vec<u8, A>, request: &Got) -> Result<(), Memory>
     ensures { OnOk result (text.new.items ≡ text.old.items
         ++ line_of_words (codes "got" ∷ got_words request.now)) }
 {
@@ -139,7 +131,7 @@ fn put_got<A: Allocator>(text: &mut Vec<u8, A>, request: &Got) -> Result<(), All
     }
 }
 
-fn put_handed<A: Allocator>(text: &mut Vec<u8, A>, how: Handed) -> Result<(), AllocError>
+fn put_handed<A: Allocator>(text: &mut Vec<u8, A>, how: Handed) -> Result<(), Memory>
     ensures { OnOk result (text.new.items ≡ text.old.items
         ++ line_of_words (codes "handed" ∷ handed_words how)) }
 {
@@ -190,43 +182,40 @@ fn put_happening<A: Allocator + Copy, B: Allocator>(
 {
     let mut digits = Buffer::new();
     match happening {
-        Happening::NewTable(table) => put_table(text, table)?,
-        Happening::NotRead => put_line(text, b"notread", &[])?,
-        Happening::Enter(stage, grace) => put_enter(text, *stage, *grace)?,
-        Happening::Call(letter) => put_line(text, b"call", &[&[letter.code()]])?,
-        Happening::Power(kind) => put_line(text, b"power", &[power_word(*kind)])?,
-        Happening::Asked(id, order) => {
-            put_pair(text, b"ask", id.as_bytes(), order_word(*order))?
-        }
-        Happening::Hold(id) => put_line(text, b"hold", &[id.as_bytes()])?,
-        Happening::Settle(level) => put_line(text, b"settle", &[&[level.code()]])?,
+        Happening::NewTable(table) => put_table(text, table),
+        Happening::NotRead => put_line(text, b"notread", &[]),
+        Happening::Enter(stage, grace) => put_enter(text, *stage, *grace),
+        Happening::Call(letter) => put_line(text, b"call", &[&[letter.code()]]),
+        Happening::Power(kind) => put_line(text, b"power", &[power_word(*kind)]),
+        Happening::Asked(id, order) => { put_pair(text, b"ask", id.as_bytes(), order_word(*order)) }
+        Happening::Hold(id) => put_line(text, b"hold", &[id.as_bytes()]),
+        Happening::Settle(level) => put_line(text, b"settle", &[&[level.code()]]),
         Happening::Birth(id, child) => {
             let number = digits.format(child.0).as_bytes();
-            put_pair(text, b"birth", id.as_bytes(), number)?
+            put_pair(text, b"birth", id.as_bytes(), number)
         }
-        Happening::NoBirth(id) => put_line(text, b"nobirth", &[id.as_bytes()])?,
+        Happening::NoBirth(id) => put_line(text, b"nobirth", &[id.as_bytes()]),
         Happening::Death(child) => {
             let number = digits.format(child.0).as_bytes();
-            put_line(text, b"death", &[number])?
+            put_line(text, b"death", &[number])
         }
         Happening::Reaped(id, child, status) => {
             let number = digits.format(child.0).as_bytes();
-            put_status(text, id.as_bytes(), number, *status)?
+            put_status(text, id.as_bytes(), number, *status)
         }
-        Happening::Still(id) => put_line(text, b"still", &[id.as_bytes()])?,
-        Happening::NoLook(id) => put_line(text, b"nolook", &[id.as_bytes()])?,
-        Happening::Hit(id) => put_line(text, b"hit", &[id.as_bytes()])?,
-        Happening::Miss(id) => put_line(text, b"miss", &[id.as_bytes()])?,
-        Happening::Told(id) => put_line(text, b"told", &[id.as_bytes()])?,
+        Happening::Still(id) => put_line(text, b"still", &[id.as_bytes()]),
+        Happening::NoLook(id) => put_line(text, b"nolook", &[id.as_bytes()]),
+        Happening::Hit(id) => put_line(text, b"hit", &[id.as_bytes()]),
+        Happening::Miss(id) => put_line(text, b"miss", &[id.as_bytes()]),
+        Happening::Told(id) => put_line(text, b"told", &[id.as_bytes()]),
         Happening::Clock(reading) => {
             let reading = digits.format(*reading).as_bytes();
-            put_line(text, b"clock", &[reading])?
+            put_line(text, b"clock", &[reading])
         }
-        Happening::Nudge => put_line(text, b"nudge", &[])?,
-        Happening::Got(request) => put_got(text, request)?,
-        Happening::Handed(how) => put_handed(text, *how)?,
+        Happening::Nudge => put_line(text, b"nudge", &[]),
+        Happening::Got(request) => put_got(text, request),
+        Happening::Handed(how) => put_handed(text, *how),
     }
-    Ok(())
 }
 
 /// The text of the happening that brings a table: `use`, how many entries, and their lines.
