@@ -15,11 +15,16 @@ pub record IsNumbering (edges : List (ℕ × ℕ)) (number : ℕ → ℕ) : Type
 abbrev pub HasNoNumbering : List (ℕ × ℕ) → Type 0
 HasNoNumbering edges = (number : ℕ → ℕ) → IsNumbering edges number → ⊥
 
+-- the numbers are at or below those of every numbering, at every place
+abbrev pub AtMostAny : List (ℕ × ℕ) → List ℕ → Type 0
+AtMostAny edges numbers =
+    (number : ℕ → ℕ) → IsNumbering edges number → (a : ℕ) → get_or numbers a 0 ≤ number a
+
 -- a numbering of the places below the count, at or below every numbering at every place
 pub record IsLeast (count : ℕ) (edges : List (ℕ × ℕ)) (numbers : List ℕ) : Type 0 where
   pub some : (a : ℕ) → a < count → 1 ≤ get_or numbers a 0
   pub rises : (a b : ℕ) → Needs edges a b → get_or numbers b 0 < get_or numbers a 0
-  pub least : (number : ℕ → ℕ) → IsNumbering edges number → (a : ℕ) → get_or numbers a 0 ≤ number a
+  pub least : AtMostAny edges numbers
 
 -- from a place through others to a place, each needing the next
 abbrev pub Walk : List (ℕ × ℕ) → ℕ → List ℕ → ℕ → Type 0

@@ -1,6 +1,6 @@
 -- How numbers are given, pass by pass: 0 is no number.
 use Rattle.std.specs.Prelude.{◌≡◌, ℕ, ◌+◌, ◌<◌, ◌≤◌, ◌==◌, ◌||◌, ◌&&◌, max, if◌then◌else◌, List, [], ◌∷◌, get_or, length}
-use Rattle.link_numbers.specs.Numbering.{Needs, IsNumbering}
+use Rattle.link_numbers.specs.Numbering.{Needs, AtMostAny}
 
 -- a height after one more need of this number: none where the need has none
 abbrev pub raised : ℕ → ℕ → ℕ
@@ -45,7 +45,7 @@ pub record IsPartial (count : ℕ) (edges : List (ℕ × ℕ)) (numbers : List �
   pub small : (a : ℕ) → get_or numbers a 0 + zeros numbers ≤ count
   pub rises : (a b : ℕ) → Needs edges a b → 0 < get_or numbers a 0
       → (0 < get_or numbers b 0) × (get_or numbers b 0 < get_or numbers a 0)
-  pub least : (number : ℕ → ℕ) → IsNumbering edges number → (a : ℕ) → get_or numbers a 0 ≤ number a
+  pub least : AtMostAny edges numbers
 
 -- a place without a number needs one without a number
 abbrev pub IsStuck : ℕ → List (ℕ × ℕ) → List ℕ → Type 0
