@@ -1,7 +1,7 @@
 ghost use Rattle.std.specs.Prelude.{◌≡◌, ◌<◌, false, codes, option_map, string_bytes, IfOk, IfSome};
 ghost use Rattle.clap.specs.declared.builder.command.Command.{out-Command};
-ghost use Rattle.clap.specs.Words.{app_of, first_of, found_of, rows_of};
-ghost use Rattle.initd_options.specs.Options.{digit_read, hundredths_read, is_pause, part_read, paths_line, run_line, service_of, service_said, state_line, turns_line, turns_read};
+ghost use Rattle.clap.specs.Words.{app_of, first_of, found_of, new_app, rows_of, with_rule};
+ghost use Rattle.initd_options.specs.Options.{digit_read, hundredths_read, initctl_rule, inittab_rule, is_pause, part_read, paths_line, run_line, service_of, service_said, state_line, turns_line, turns_read};
 
 use crate::command::read_level_option;
 use clap::{Arg, ArgAction, ArgMatches, Command};
@@ -37,22 +37,36 @@ const TURNS_LIMIT: u64 = 1_000_000_000;
 /// The longest pause, in hundredths of a second.
 const PAUSE_LIMIT: u64 = 6_000;
 
-/// The command line behind `initd run`, as far as it names the paths of the inittab, the channel and the trace.
-fn paths_line<'a>(alloc: Global) -> Result<Command<'a>, AllocError>
-    ensures line { IfOk result (λ made. app_of made ≡ paths_line) }
+/// The command line behind `initd run`, as far as it names the path of the inittab.
+fn inittab_line<'a>(alloc: Global) -> Result<Command<'a>, AllocError>
+    ensures line { IfOk result (λ made. app_of made
+        ≡ with_rule (new_app (codes "run")) inittab_rule) }
     ensures plain { IfOk result (λ made. (out-Command made).has_globals ≡ false) }
 {
     let inittab = Arg::new(alloc, "inittab")
         .long("inittab")
         .default_value("inittab");
+    Command::new(alloc, "run").arg(inittab)
+}
+
+/// The same, with the path of the channel.
+fn channel_line<'a>(alloc: Global) -> Result<Command<'a>, AllocError>
+    ensures line { IfOk result (λ made. app_of made
+        ≡ with_rule (with_rule (new_app (codes "run")) inittab_rule) initctl_rule) }
+    ensures plain { IfOk result (λ made. (out-Command made).has_globals ≡ false) }
+{
     let initctl = Arg::new(alloc, "initctl")
         .long("initctl")
         .default_value("initctl");
-    let trace = Arg::new(alloc, "trace").long("trace");
-    Command::new(alloc, "run")
-        .arg(inittab)?
-        .arg(initctl)?
-        .arg(trace)
+    inittab_line(alloc)?.arg(initctl)
+}
+
+/// The same, with the path of the trace.
+fn paths_line<'a>(alloc: Global) -> Result<Command<'a>, AllocError>
+    ensures line { IfOk result (λ made. app_of made ≡ paths_line) }
+    ensures plain { IfOk result (λ made. (out-Command made).has_globals ≡ false) }
+{
+    channel_line(alloc)?.arg(Arg::new(alloc, "trace").long("trace"))
 }
 
 /// The same, with the path of the state.

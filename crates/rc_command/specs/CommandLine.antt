@@ -1,6 +1,6 @@
 -- The command line `rc DIR PREV NEW`. What it takes is said by clap's own words; they are opaque, since a goal that sees
 -- them sees the whole parser.
-use Rattle.std.specs.Prelude.{ℕ, Bool, true, if◌then◌else◌, List, [], ◌∷◌, codes, Option, Some, None, unwrap_or, option_and_then, option_map, length, ◌==◌, ◌||◌, string_bytes}
+use Rattle.std.specs.Prelude.{Bool, true, if◌then◌else◌, List, [], codes, Option, Some, None, unwrap_or, option_and_then, option_map, length, ◌==◌, ◌||◌, string_bytes}
 use Rattle.std.specs.List.{list_all}
 use Rattle.std.specs.Str.{byte, bytes_eq}
 use Rattle.clap.specs.Words.{App, Row, Rule, Text, fault_of, first_of, matches_of, new_app, new_rule, with_rule}
@@ -21,12 +21,12 @@ unfoldable pub new_level_rule : Rule
 new_level_rule = record (new_rule (codes "new")) { required = true }
 
 -- the words have no program's name in front
+unfoldable pub unnamed : App
+unnamed = let named = new_app (codes "rc") in record named { top = record named.top { no_binary_name = true } }
+
 unfoldable pub command_line : App
-unfolding dir_rule previous_rule new_level_rule
-command_line =
-    let named = new_app (codes "rc") in
-    let unnamed = record named { top = record named.top { no_binary_name = true } } in
-    with_rule (with_rule (with_rule unnamed dir_rule) previous_rule) new_level_rule
+unfolding unnamed dir_rule previous_rule new_level_rule
+command_line = with_rule (with_rule (with_rule unnamed dir_rule) previous_rule) new_level_rule
 
 -- the folder that holds those of the runlevels, the level before, if there was one, and the new level
 pub record Said : Type 0 where

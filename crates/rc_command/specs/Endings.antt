@@ -1,5 +1,5 @@
 -- What is written of a run of `rc`.
-use Rattle.std.specs.Prelude.{◌≡◌, ◌⊎◌, ℕ, List, length, Option, Some}
+use Rattle.std.specs.Prelude.{◌≡◌, ℕ, List, length, Option}
 use Rattle.std.specs.Io.KnownBytes.{Appends}
 use Rattle.program_edge.specs.Writing.{AppendsPrefix}
 use Rattle.rc_driver.specs.declared.runs.RcAnswer.{RcAnswer}

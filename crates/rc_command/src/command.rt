@@ -1,6 +1,7 @@
-ghost use Rattle.std.specs.Prelude.{◌≡◌, map, option_map, string_bytes, IfOk, IsErrOf};
-ghost use Rattle.clap.specs.Words.{FailsBy, app_of, fault_of, found_of, matches_of, rows_of};
-ghost use Rattle.rc_command.specs.CommandLine.{command_line, is_dir, level_of, previous_of, read_of, rows_said, said_by, said_of};
+ghost use Rattle.std.specs.Prelude.{◌≡◌, false, map, option_map, string_bytes, IfOk, IsErrOf};
+ghost use Rattle.clap.specs.declared.builder.command.Command.{out-Command};
+ghost use Rattle.clap.specs.Words.{FailsBy, app_of, fault_of, found_of, matches_of, rows_of, with_rule};
+ghost use Rattle.rc_command.specs.CommandLine.{command_line, dir_rule, is_dir, level_of, previous_of, previous_rule, read_of, rows_said, said_by, said_of, unnamed};
 
 use clap::{Arg, ArgMatches, Command, Error};
 use command_words::{WordFault, value_of, word_fault};
@@ -35,18 +36,29 @@ pub fn read_words(alloc: Global, words: &[String]) -> Result<Words, WordFault>
     }
 }
 
+/// The command line of `rc`, as far as it names the folder.
+fn dir_line<'a>(alloc: Global) -> Result<Command<'a>, AllocError>
+    ensures line { IfOk result (λ made. app_of made ≡ with_rule unnamed dir_rule) }
+    ensures plain { IfOk result (λ made. (out-Command made).has_globals ≡ false) }
+{
+    let dir = Arg::new(alloc, "dir").required(true);
+    Command::new(alloc, "rc").no_binary_name(true).arg(dir)
+}
+
+/// The same, with the level before.
+fn previous_line<'a>(alloc: Global) -> Result<Command<'a>, AllocError>
+    ensures line { IfOk result (λ made. app_of made
+        ≡ with_rule (with_rule unnamed dir_rule) previous_rule) }
+    ensures plain { IfOk result (λ made. (out-Command made).has_globals ≡ false) }
+{
+    dir_line(alloc)?.arg(Arg::new(alloc, "previous").required(true))
+}
+
 /// The command line of `rc`.
 fn command<'a>(alloc: Global) -> Result<Command<'a>, AllocError>
     ensures { IfOk result (λ made. app_of made ≡ command_line) }
 {
-    let dir = Arg::new(alloc, "dir").required(true);
-    let previous = Arg::new(alloc, "previous").required(true);
-    let new = Arg::new(alloc, "new").required(true);
-    Command::new(alloc, "rc")
-        .no_binary_name(true)
-        .arg(dir)?
-        .arg(previous)?
-        .arg(new)
+    previous_line(alloc)?.arg(Arg::new(alloc, "new").required(true))
 }
 
 fn parsed<'a>(alloc: Global, words: &'a [String]) -> Result<ArgMatches<'a>, Error>

@@ -1,6 +1,7 @@
-ghost use Rattle.std.specs.Prelude.{◌≡◌, map, string_bytes, IfOk, IsErrOf};
-ghost use Rattle.clap.specs.Words.{FailsBy, app_of, fault_of, found_of, matches_of, rows_of};
-ghost use Rattle.telinit_command.specs.CommandLine.{command_line, read_of};
+ghost use Rattle.std.specs.Prelude.{◌≡◌, false, map, string_bytes, IfOk, IsErrOf};
+ghost use Rattle.clap.specs.declared.builder.command.Command.{out-Command};
+ghost use Rattle.clap.specs.Words.{FailsBy, app_of, fault_of, found_of, matches_of, rows_of, with_rule};
+ghost use Rattle.telinit_command.specs.CommandLine.{command_line, path_rule, read_of, seconds_rule, unnamed};
 
 use crate::seconds::read_seconds;
 use clap::{Arg, ArgMatches, Command, Error};
@@ -43,19 +44,34 @@ pub fn read_words(alloc: Global, words: Vec<String>) -> Result<Words, WordFault>
     })
 }
 
-fn command<'a>(alloc: Global) -> Result<Command<'a>, AllocError>
-    ensures { IfOk result (λ made. app_of made ≡ command_line) }
+/// The command line of `telinit`, as far as it names the seconds.
+fn seconds_line<'a>(alloc: Global) -> Result<Command<'a>, AllocError>
+    ensures line { IfOk result (λ made. app_of made ≡ with_rule unnamed seconds_rule) }
+    ensures plain { IfOk result (λ made. (out-Command made).has_globals ≡ false) }
 {
     let secs = Arg::new(alloc, "secs").short('t').default_value("5");
+    Command::new(alloc, "telinit")
+        .no_binary_name(true)
+        .arg(secs)
+}
+
+/// The same, with the path of the channel.
+fn path_line<'a>(alloc: Global) -> Result<Command<'a>, AllocError>
+    ensures line { IfOk result (λ made. app_of made
+        ≡ with_rule (with_rule unnamed seconds_rule) path_rule) }
+    ensures plain { IfOk result (λ made. (out-Command made).has_globals ≡ false) }
+{
     let path = Arg::new(alloc, "initctl")
         .long("initctl")
         .default_value("initctl");
-    let sign = Arg::new(alloc, "sign").required(true);
-    Command::new(alloc, "telinit")
-        .no_binary_name(true)
-        .arg(secs)?
-        .arg(path)?
-        .arg(sign)
+    seconds_line(alloc)?.arg(path)
+}
+
+/// The command line of `telinit`.
+fn command<'a>(alloc: Global) -> Result<Command<'a>, AllocError>
+    ensures { IfOk result (λ made. app_of made ≡ command_line) }
+{
+    path_line(alloc)?.arg(Arg::new(alloc, "sign").required(true))
 }
 
 fn parsed<'a>(alloc: Global, words: &'a [String]) -> Result<ArgMatches<'a>, Error>
