@@ -1,7 +1,7 @@
 //! Writers and readers that give or take little at a time, or fail in the middle, and the words of a program.
 
 use program_edge::{only_byte, read_all, read_file, words, write_text};
-use slow_writer::Slow;
+use program_trials::Slow;
 use std::alloc::Global;
 use std::env::{Env, FillError};
 use std::io::{ErrorKind, Read, Write};

@@ -1,7 +1,8 @@
 //! Command lines of telinit(8): their exit statuses, what is reported, and what is appended.
 
 use program_edge::{tell_unread, unread_status};
-use std::alloc::{AllocError, Global};
+use program_trials::words_of;
+use std::alloc::Global;
 use std::io::{ErrorKind, sink};
 use std::process::{Abort, Command, Processes};
 use std::rt::Files;
@@ -16,20 +17,6 @@ const USAGE_REPORT: &str = "usage: telinit [-t SEC] [--initctl P] CHAR\
 \n        A, B, C, a, b or c: start the ondemand entries of that letter\
 \n        Q or q: read inittab again\
 \n        U or u: execute init anew, and keep its state\n";
-
-fn add_words(words: &mut Vec<String>, alloc: Global, line: &[&str]) -> Result<(), AllocError> {
-    for word in line {
-        words.push(String::from_str(alloc, word)?)?;
-    }
-    Ok(())
-}
-
-/// The words of a line.
-fn words_of(alloc: Global, line: &[&str]) -> Result<Vec<String>, AllocError> {
-    let mut words = Vec::new(alloc);
-    add_words(&mut words, alloc, line)?;
-    Ok(words)
-}
 
 /// A line, the status that it ends with, and the report.
 type Row = (&'static [&'static str], u8, &'static str);

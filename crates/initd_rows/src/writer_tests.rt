@@ -1,5 +1,5 @@
 use program_edge::write_text;
-use slow_writer::Slow;
+use program_trials::Slow;
 use std::alloc::Global;
 use std::process::Abort;
 use std::test::Fail;

@@ -1,9 +1,8 @@
 //! Runs of rclinks. The cases are rows of the words, the status, what is written on standard output, and what is told
 //! on standard error.
 
-use init_words::Memory;
+use program_trials::{Slow, words_of};
 use rclinks_command::run_words;
-use slow_writer::Slow;
 use std::alloc::Global;
 use std::fs;
 use std::process::Abort;
@@ -12,19 +11,6 @@ use std::test::Fail;
 
 /// A run's words, status, what is written on standard output, and what is told on standard error.
 type Row = (&'static [&'static str], u8, &'static [u8], &'static [u8]);
-
-fn add_words(words: &mut Vec<String>, alloc: Global, line: &[&str]) -> Result<(), Memory> {
-    for word in line {
-        words.push(String::from_str(alloc, word)?)?;
-    }
-    Ok(())
-}
-
-fn words_of(alloc: Global, line: &[&str]) -> Result<Vec<String>, Memory> {
-    let mut words = Vec::new(alloc);
-    add_words(&mut words, alloc, line)?;
-    Ok(words)
-}
 
 /// Runs the words, with a writer of so much room, which may be one that can't be flushed.
 fn words_are_run<R: Files + Abort>(

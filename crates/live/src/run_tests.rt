@@ -2,25 +2,12 @@
 
 use initctl_frame::{Request, Sign, encode};
 use initd_command::run_words;
+use program_trials::line_words;
 use std::alloc::{AllocError, Global};
 use std::fs;
 use std::process::{Abort, Processes};
 use std::rt::{Clock, Files};
 use std::test::Fail;
-
-/// The words of a line, parted by single blanks.
-fn words_of(alloc: Global, line: &str) -> Result<Vec<String>, AllocError> {
-    let mut words = Vec::new(alloc);
-    add_words(alloc, &mut words, line)?;
-    Ok(words)
-}
-
-fn add_words(alloc: Global, words: &mut Vec<String>, line: &str) -> Result<(), AllocError> {
-    for word in line.split(' ') {
-        words.push(String::from_str(alloc, word)?)?;
-    }
-    Ok(())
-}
 
 /// The exit status of a command line.
 fn status_of<R>(
@@ -33,7 +20,7 @@ fn status_of<R>(
 where
     R: Processes + Files + Clock + Print + Eprint + Clone + Drop,
 {
-    let words = words_of(alloc, line)?;
+    let words = line_words(alloc, line)?;
     Ok(run_words(rt, alloc, words, out, err))
 }
 

@@ -1,5 +1,6 @@
 //! The command line of rc, with real children.
 
+use program_trials::words_of;
 use rc_command::run_words;
 use std::alloc::Global;
 use std::fs;
@@ -59,19 +60,6 @@ const SCRIPTS: &[(&str, &str)] = &[
 ];
 
 const FOLDERS: &[&str] = &["t", "t/rc0.d", "t/rc2.d", "t/rc3.d", "t/rc6.d", "t/rcS.d"];
-
-fn add_words(words: &mut Vec<String>, alloc: Global, row: &[&str]) -> Result<(), Fail> {
-    for word in row {
-        words.push(String::from_str(alloc, word)?)?;
-    }
-    Ok(())
-}
-
-fn words_of(alloc: Global, row: &[&str]) -> Result<Vec<String>, Fail> {
-    let mut words = Vec::new(alloc);
-    add_words(&mut words, alloc, row)?;
-    Ok(words)
-}
 
 fn words_are_run<R>(rt: &R, alloc: Global, words: Vec<String>, row: &Row)
 where

@@ -2,8 +2,8 @@
 
 use child_host::{Call, MemoryHost, Reply};
 use init_words::{Answer, ChildNo, Id, Status};
+use program_trials::Slow;
 use rc_driver::{Rc, RcStep, RunEnd, run_links};
-use slow_writer::Slow;
 use std::alloc::Global;
 use std::process::Abort;
 use std::test::Fail;

@@ -1,6 +1,3 @@
-//! A writer for tests: it takes one byte a write until it is full, then fails or takes none, and may not be flushed.
-#![tactic(auto)]
-
 use std::alloc::Global;
 use std::io;
 use std::io::{ErrorKind, Write};
