@@ -9,10 +9,9 @@
 
 use crate::runs::lines_of;
 use child_host::{Bytes, HostFault, MemoryHost, Reply};
-use init_words::{Answer, ChildNo, Id, Memory, Status};
+use init_words::{Answer, ChildNo, Id, Status};
 use initctl_frame::{Request, Sign, encode};
 use std::alloc::{Allocator, Global};
-use std::test::Fail;
 
 /// The first word of a text, and what stands behind it.
 fn cut(text: &str) -> (&str, &str) {
@@ -89,33 +88,35 @@ fn late_of(text: &str) -> Option<Option<(Id, Answer)>> {
 }
 
 /// Adds the block of a request by a character of telinit(8); of `bad` a block of zeros.
-fn add_block(bytes: &mut Vec<u8>, word: &str) -> Result<(), Fail> {
+fn add_block(bytes: &mut Vec<u8>, word: &str) -> bool {
     let [code] = word.as_bytes() else {
-        bytes.extend_from_slice(&[0; 384])?;
-        return Ok(());
+        return bytes.extend_from_slice(&[0; 384]).is_ok();
     };
-    let sign = Sign::read(*code).ok_or("no sign")?;
-    bytes.extend_from_slice(&encode(&Request::Runlvl(sign, 5)))?;
-    Ok(())
+    let Some(sign) = Sign::read(*code) else {
+        return false;
+    };
+    bytes
+        .extend_from_slice(&encode(&Request::Runlvl(sign, 5)))
+        .is_ok()
 }
 
 /// The bytes of requests.
-fn blocks_of(alloc: Global, words: &str) -> Result<Vec<u8>, Fail> {
+fn blocks_of(alloc: Global, words: &str) -> Option<Vec<u8>> {
     let mut bytes = Vec::new(alloc);
     for word in words.split_ascii_whitespace() {
-        add_block(&mut bytes, word)?;
+        if !add_block(&mut bytes, word) {
+            return None;
+        }
     }
-    Ok(bytes)
+    Some(bytes)
 }
 
 /// A piece that holds these bytes.
-fn give_piece<A: Allocator + Copy>(
-    alloc: A,
-    host: &mut MemoryHost<A>,
-    bytes: &[u8],
-) -> Result<(), Fail> {
-    host.give_bytes(Ok(Bytes::copy_of(alloc, bytes)?))?;
-    Ok(())
+fn give_piece<A: Allocator + Copy>(alloc: A, host: &mut MemoryHost<A>, bytes: &[u8]) -> bool {
+    let Ok(piece) = Bytes::copy_of(alloc, bytes) else {
+        return false;
+    };
+    host.give_bytes(Ok(piece)).is_ok()
 }
 
 fn give_blocks<A: Allocator + Copy>(
@@ -123,9 +124,11 @@ fn give_blocks<A: Allocator + Copy>(
     alloc: A,
     host: &mut MemoryHost<A>,
     words: &str,
-) -> Result<(), Fail> {
-    let bytes = blocks_of(own, words)?;
-    give_piece(alloc, host, bytes.as_slice())
+) -> bool {
+    match &blocks_of(own, words) {
+        Some(bytes) => give_piece(alloc, host, bytes.as_slice()),
+        None => false,
+    }
 }
 
 /// A text that is two places and words.
@@ -145,9 +148,11 @@ fn give_range<A: Allocator + Copy>(
     bytes: &[u8],
     from: usize,
     to: usize,
-) -> Result<(), Fail> {
-    let part = bytes.get(from..to).ok_or("no part")?;
-    give_piece(alloc, host, part)
+) -> bool {
+    match bytes.get(from..to) {
+        Some(part) => give_piece(alloc, host, part),
+        None => false,
+    }
 }
 
 fn give_part<A: Allocator + Copy>(
@@ -155,22 +160,24 @@ fn give_part<A: Allocator + Copy>(
     alloc: A,
     host: &mut MemoryHost<A>,
     text: &str,
-) -> Result<(), Fail> {
-    let (from, to, words) = places_of(text).ok_or("no places")?;
-    let bytes = blocks_of(own, words)?;
-    give_range(alloc, host, bytes.as_slice(), from, to)
+) -> bool {
+    let Some((from, to, words)) = places_of(text) else {
+        return false;
+    };
+    match &blocks_of(own, words) {
+        Some(bytes) => give_range(alloc, host, bytes.as_slice(), from, to),
+        None => false,
+    }
 }
 
 /// One byte more than an inittab may have.
 const TOO_LONG: &[u8] = &[b'#'; 65_537];
 
-fn give_text<A: Allocator + Copy>(
-    alloc: A,
-    host: &mut MemoryHost<A>,
-    text: &[u8],
-) -> Result<(), Fail> {
-    host.give_table(Ok(Bytes::copy_of(alloc, text)?))?;
-    Ok(())
+fn give_text<A: Allocator + Copy>(alloc: A, host: &mut MemoryHost<A>, text: &[u8]) -> bool {
+    let Ok(bytes) = Bytes::copy_of(alloc, text) else {
+        return false;
+    };
+    host.give_table(Ok(bytes)).is_ok()
 }
 
 fn give_table<A: Allocator + Copy>(
@@ -178,21 +185,21 @@ fn give_table<A: Allocator + Copy>(
     alloc: A,
     host: &mut MemoryHost<A>,
     text: &str,
-) -> Result<(), Fail> {
+) -> bool {
     if text == "long" {
         return give_text(alloc, host, TOO_LONG);
     }
-    let lines = lines_of(own, text, "|")?;
-    give_text(alloc, host, lines.as_slice())
+    match &lines_of(own, text, "|") {
+        Some(lines) => give_text(alloc, host, lines.as_slice()),
+        None => false,
+    }
 }
 
-fn give_back<A: Allocator + Copy>(
-    alloc: A,
-    host: &mut MemoryHost<A>,
-    text: &[u8],
-) -> Result<(), Fail> {
-    host.give_carry(Ok(Bytes::copy_of(alloc, text)?))?;
-    Ok(())
+fn give_back<A: Allocator + Copy>(alloc: A, host: &mut MemoryHost<A>, text: &[u8]) -> bool {
+    let Ok(bytes) = Bytes::copy_of(alloc, text) else {
+        return false;
+    };
+    host.give_carry(Ok(bytes)).is_ok()
 }
 
 fn give_carry<A: Allocator + Copy>(
@@ -200,20 +207,56 @@ fn give_carry<A: Allocator + Copy>(
     alloc: A,
     host: &mut MemoryHost<A>,
     text: &str,
-) -> Result<(), Fail> {
-    let lines = lines_of(own, text, "|")?;
-    give_back(alloc, host, lines.as_slice())
+) -> bool {
+    match &lines_of(own, text, "|") {
+        Some(lines) => give_back(alloc, host, lines.as_slice()),
+        None => false,
+    }
 }
 
-fn give_lates<A: Allocator + Copy>(
-    host: &mut MemoryHost<A>,
-    id: Id,
-    number: u32,
-) -> Result<(), Memory> {
+fn give_reply<A: Allocator + Copy>(host: &mut MemoryHost<A>, queue: Queue, item: &str) -> bool {
+    let Some(reply) = reply_of(item) else {
+        return false;
+    };
+    let given = match queue {
+        Queue::Start => host.give_start(reply),
+        Queue::Look => host.give_look(reply),
+        _ => host.give_signal(reply),
+    };
+    given.is_ok()
+}
+
+fn give_late<A: Allocator + Copy>(host: &mut MemoryHost<A>, item: &str) -> bool {
+    let Some(late) = late_of(item) else {
+        return false;
+    };
+    host.give_late(late).is_ok()
+}
+
+fn give_many<A: Allocator + Copy>(host: &mut MemoryHost<A>, id: Id, number: u32) -> bool {
     for _ in 0..number {
-        host.give_late(Some((id, Answer::Alive)))?;
+        if host.give_late(Some((id, Answer::Alive))).is_err() {
+            return false;
+        }
     }
-    Ok(())
+    true
+}
+
+fn give_lates<A: Allocator + Copy>(host: &mut MemoryHost<A>, item: &str) -> bool {
+    let Some(id) = Id::read(b"none") else {
+        return false;
+    };
+    let Some(number) = number_of(item) else {
+        return false;
+    };
+    give_many(host, id, number)
+}
+
+fn give_clock<A: Allocator + Copy>(host: &mut MemoryHost<A>, item: &str) -> bool {
+    let Ok(reading) = item.parse::<u64>() else {
+        return false;
+    };
+    host.give_clock(Ok(reading)).is_ok()
 }
 
 #[derive(Clone, Copy)]
@@ -252,59 +295,44 @@ fn queue_of(text: &str) -> Option<Queue> {
     None
 }
 
-/// Gives an item that is not bytes, if it can be read.
-fn give_item<A: Allocator + Copy>(
-    host: &mut MemoryHost<A>,
-    queue: Queue,
-    item: &str,
-) -> Option<Result<(), Memory>> {
-    Some(match queue {
-        Queue::Start => host.give_start(reply_of(item)?),
-        Queue::Look => host.give_look(reply_of(item)?),
-        Queue::Signal => host.give_signal(reply_of(item)?),
-        Queue::Late => host.give_late(late_of(item)?),
-        Queue::Lates => give_lates(host, Id::read(b"none")?, number_of(item)?),
-        Queue::Clock => host.give_clock(Ok(item.parse::<u64>().ok()?)),
-        Queue::Bytes | Queue::Piece | Queue::Table | Queue::Carry => return None,
-    })
-}
-
-fn give_fault<A: Allocator + Copy>(host: &mut MemoryHost<A>, queue: Queue) -> Result<(), Memory> {
-    match queue {
+fn give_fault<A: Allocator + Copy>(host: &mut MemoryHost<A>, queue: Queue) -> bool {
+    let given = match queue {
         Queue::Bytes => host.give_bytes(Err(HostFault::Device)),
         Queue::Table => host.give_table(Err(HostFault::Device)),
         Queue::Carry => host.give_carry(Err(HostFault::Device)),
         _ => host.give_clock(Err(HostFault::Device)),
-    }
+    };
+    given.is_ok()
 }
 
-fn give_read<A: Allocator + Copy>(
-    host: &mut MemoryHost<A>,
-    queue: Queue,
-    item: &str,
-) -> Result<(), Fail> {
-    give_item(host, queue, item).ok_or("no item")??;
-    Ok(())
-}
-
-fn give<A: Allocator + Copy>(
+fn give_to<A: Allocator + Copy>(
     own: Global,
     alloc: A,
     host: &mut MemoryHost<A>,
-    gift: &str,
-) -> Result<(), Fail> {
-    let (word, item) = cut(gift);
-    let queue = queue_of(word).ok_or("no queue")?;
-    if item == "fails" {
-        return Ok(give_fault(host, queue)?);
-    }
+    queue: Queue,
+    item: &str,
+) -> bool {
     match queue {
+        Queue::Start | Queue::Look | Queue::Signal => give_reply(host, queue, item),
+        Queue::Late => give_late(host, item),
+        Queue::Lates => give_lates(host, item),
+        Queue::Clock => give_clock(host, item),
         Queue::Bytes => give_blocks(own, alloc, host, item),
         Queue::Piece => give_part(own, alloc, host, item),
         Queue::Table => give_table(own, alloc, host, item),
         Queue::Carry => give_carry(own, alloc, host, item),
-        _ => give_read(host, queue, item),
     }
+}
+
+fn give<A: Allocator + Copy>(own: Global, alloc: A, host: &mut MemoryHost<A>, gift: &str) -> bool {
+    let (word, item) = cut(gift);
+    let Some(queue) = queue_of(word) else {
+        return false;
+    };
+    if item == "fails" {
+        return give_fault(host, queue);
+    }
+    give_to(own, alloc, host, queue, item)
 }
 
 /// Gives a host all items of a text.
@@ -313,12 +341,14 @@ pub(crate) fn give_all<A: Allocator + Copy>(
     alloc: A,
     host: &mut MemoryHost<A>,
     gifts: &str,
-) -> Result<(), Fail> {
+) -> bool {
     if gifts.is_empty() {
-        return Ok(());
+        return true;
     }
     for gift in gifts.split(" / ") {
-        give(own, alloc, host, gift)?;
+        if !give(own, alloc, host, gift) {
+            return false;
+        }
     }
-    Ok(())
+    true
 }

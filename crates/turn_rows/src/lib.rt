@@ -15,3 +15,5 @@ mod room_tests;
 mod run_tests;
 #[cfg(test)]
 mod runs;
+#[cfg(test)]
+mod trials;

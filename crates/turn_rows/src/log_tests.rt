@@ -4,14 +4,12 @@ use crate::gifts::give_all;
 use crate::runs::core_of;
 use child_host::{Host, MemoryHost};
 use host_turns::{Served, serve};
-use init_trace::print;
+use init_trace::{HappeningIn, print};
 use level_core::Core;
 use linked_list_allocator::LocalHeap;
 use program_trials::Slow;
 use run_log::{ListLog, Log, StreamLog};
 use std::alloc::Global;
-use std::process::Abort;
-use std::test::Fail;
 
 const INITTAB: &str = "id:3:initdefault:|r:3:respawn:serv";
 
@@ -38,23 +36,27 @@ fn served_by<L: Log>(
     core: &mut Core,
     host: &mut MemoryHost,
     log: &mut L,
-) -> Result<Served, Fail> {
+) -> Option<Served> {
     let served = serve(alloc, core, host, log, 9, true);
     if host.faults() != 1 || made(host) != 31 {
-        return Err(Fail::from("other calls"));
+        return None;
     }
-    Ok(served)
+    Some(served)
 }
 
-fn served_over<L: Log>(alloc: Global, host: &mut MemoryHost, log: &mut L) -> Result<Served, Fail> {
-    give_all(alloc, alloc, host, GIFTS)?;
-    let mut core = core_of(alloc, alloc, INITTAB)?;
+fn served_over<L: Log>(alloc: Global, host: &mut MemoryHost, log: &mut L) -> Option<Served> {
+    let Some(mut core) = core_of(alloc, alloc, INITTAB) else {
+        return None;
+    };
     served_by(alloc, &mut core, host, log)
 }
 
 /// Makes the run, of four turns, with the log.
-fn served<L: Log>(alloc: Global, log: &mut L) -> Result<Served, Fail> {
+fn served<L: Log>(alloc: Global, log: &mut L) -> Option<Served> {
     let mut host = MemoryHost::new(alloc);
+    if !give_all(alloc, alloc, &mut host, GIFTS) {
+        return None;
+    }
     served_over(alloc, &mut host, log)
 }
 
@@ -68,78 +70,68 @@ fn ended(logged: bool) -> Served {
 }
 
 /// The writer took what it has room for.
-fn is_taken(
-    rt: &impl Abort,
-    alloc: Global,
-    log: &mut StreamLog<Slow>,
-    room: usize,
-) -> Result<(), Fail> {
-    let served = served(alloc, log)?;
-    assert!(rt;
-        served == ended(room >= TRACE.len())
-            && log.writer().taken.as_slice() == &TRACE[..room.min(TRACE.len())],
-        "at {room}"
-    );
-    Ok(())
+fn is_taken(alloc: Global, log: &mut StreamLog<Slow>, room: usize) -> bool {
+    let Some(served) = served(alloc, log) else {
+        return false;
+    };
+    served == ended(room >= TRACE.len())
+        && log.writer().taken.as_slice() == &TRACE[..room.min(TRACE.len())]
 }
 
-fn is_streamed(rt: &impl Abort, alloc: Global, room: usize, fails: bool) -> Result<(), Fail> {
+fn is_streamed(alloc: Global, room: usize, fails: bool) -> bool {
     let mut log = StreamLog::new(alloc, Slow::new(alloc, room, fails, false));
-    is_taken(rt, alloc, &mut log, room)
+    is_taken(alloc, &mut log, room)
 }
 
 #[test]
-fn a_writer_that_is_full_ends_the_log(rt: HostRuntime) -> Result<(), Fail> {
+fn a_writer_that_is_full_ends_the_log(rt: HostRuntime) {
     for room in 0..=TRACE.len() {
-        is_streamed(&rt, rt.alloc(), room, room % 2 == 0)?;
+        assert!(rt; is_streamed(rt.alloc(), room, room % 2 == 0), "at {room}");
     }
-    Ok(())
 }
 
-/// The text is a prefix of the trace, and the run ended so.
-fn is_prefix(rt: &impl Abort, text: &[u8], served: Served, room: usize) -> bool {
-    assert!(rt;
-        TRACE.starts_with(text) && served == ended(text.len() == TRACE.len()),
-        "at {room}"
-    );
-    served.logged
+/// The list is a prefix of the trace, and the run ended so.
+fn is_prefix<'a>(alloc: Global, list: &[HappeningIn<&'a LocalHeap>], served: Served) -> bool {
+    match &print(alloc, list) {
+        Ok(text) => {
+            TRACE.starts_with(text.as_slice()) && served == ended(text.len() == TRACE.len())
+        }
+        Err(_) => false,
+    }
 }
 
-fn is_listed_in<'a>(
-    rt: &impl Abort,
-    alloc: Global,
-    log: &mut ListLog<&'a LocalHeap>,
-    room: usize,
-) -> Result<bool, Fail> {
-    let served = served(alloc, log)?;
-    let text = print(alloc, log.list())?;
-    Ok(is_prefix(rt, text.as_slice(), served, room))
+fn is_listed_in<'a>(alloc: Global, log: &mut ListLog<&'a LocalHeap>) -> Option<bool> {
+    let Some(served) = served(alloc, log) else {
+        return None;
+    };
+    if !is_prefix(alloc, log.list(), served) {
+        return None;
+    }
+    Some(served.logged)
 }
 
-fn is_listed_over(
-    rt: &impl Abort,
-    alloc: Global,
-    heap: &LocalHeap,
-    room: usize,
-) -> Result<bool, Fail> {
+fn is_listed_over(alloc: Global, heap: &LocalHeap) -> Option<bool> {
     let mut log = ListLog::new(heap);
-    is_listed_in(rt, alloc, &mut log, room)
+    is_listed_in(alloc, &mut log)
 }
 
-/// The list of a log on a heap of so many bytes is a prefix of the trace; whether it is all of it.
-fn is_listed(rt: &impl Abort, alloc: Global, room: usize) -> Result<bool, Fail> {
-    let heap = LocalHeap::new(alloc, room)?;
-    is_listed_over(rt, alloc, &heap, room)
+/// Whether the list of a log on a heap of so many bytes is all of the trace; `None` where it is no prefix of it.
+fn is_listed(alloc: Global, room: usize) -> Option<bool> {
+    match &LocalHeap::new(alloc, room) {
+        Ok(heap) => is_listed_over(alloc, heap),
+        Err(_) => None,
+    }
 }
 
 #[test]
-fn a_list_that_cannot_grow_ends_the_log(rt: HostRuntime) -> Result<(), Fail> {
+fn a_list_that_cannot_grow_ends_the_log(rt: HostRuntime) {
     let mut whole = 0u32;
     for step in 1..60usize {
-        if is_listed(&rt, rt.alloc(), 1024 * step)? {
+        let listed = is_listed(rt.alloc(), 1024 * step);
+        assert!(rt; listed.is_some(), "at {step}");
+        if listed == Some(true) {
             whole = whole.saturating_add(1);
         }
     }
     assert!(rt; whole > 0 && whole < 59);
-    Ok(())
 }

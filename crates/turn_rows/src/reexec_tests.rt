@@ -1,6 +1,7 @@
 //! Init executed anew: what comes of its state text where that comes back whole, cut, older, changed, or not at all.
 
-use crate::runs::{Row, is_run};
+use crate::runs::Row;
+use crate::trials::are_run;
 use std::test::Fail;
 
 const ROWS: &[Row] = &[
@@ -114,8 +115,5 @@ const ROWS: &[Row] = &[
 
 #[test]
 fn init_is_executed_anew(rt: HostRuntime) -> Result<(), Fail> {
-    for row in ROWS {
-        is_run(&rt, rt.alloc(), row)?;
-    }
-    Ok(())
+    are_run(rt.alloc(), ROWS)
 }

@@ -1,35 +1,54 @@
 //! Want of memory within a turn.
 
 use crate::gifts::give_all;
-use crate::runs::{Row, core_of, passes_over};
+use crate::runs::{Row, core_of};
+use crate::trials::{Trial, passes_over};
 use child_host::{Call, MemoryHost};
 use host_turns::serve;
 use init_trace::print;
 use level_core::Core;
 use linked_list_allocator::LocalHeap;
 use run_log::ListLog;
-use std::alloc::{AllocError, Allocator, Global};
-use std::process::Abort;
+use std::alloc::{Allocator, Global};
 use std::test::Fail;
+
+/// Takes what a heap has left in blocks of one size, up to 64 of them.
+fn take_blocks<'a>(
+    heap: &'a LocalHeap,
+    fillers: &mut Vec<Vec<u8, &'a LocalHeap>>,
+    size: usize,
+) -> bool {
+    for _ in 0..64 {
+        let Ok(filler) = Vec::with_capacity(heap, size) else {
+            return true;
+        };
+        if fillers.push(filler).is_err() {
+            return false;
+        }
+    }
+    true
+}
+
+fn fillers_of<'a>(alloc: Global, heap: &'a LocalHeap) -> Option<Vec<Vec<u8, &'a LocalHeap>>> {
+    let mut fillers = Vec::new(alloc);
+    for size in [4096usize, 256, 64, 16] {
+        if !take_blocks(heap, &mut fillers, size) {
+            return None;
+        }
+    }
+    Some(fillers)
+}
 
 /// Takes what a heap has left but so many bytes, in blocks of falling sizes.
 fn fill<'a>(
     alloc: Global,
     heap: &'a LocalHeap,
     room: usize,
-) -> Result<Vec<Vec<u8, &'a LocalHeap>>, AllocError> {
-    let kept: Vec<u8, &LocalHeap> = Vec::with_capacity(heap, room)?;
-    let mut fillers = Vec::new(alloc);
-    for size in [4096usize, 256, 64, 16] {
-        for _ in 0..64 {
-            let Ok(filler) = Vec::with_capacity(heap, size) else {
-                break;
-            };
-            fillers.push(filler)?;
-        }
-    }
-    drop(kept);
-    Ok(fillers)
+) -> Option<Vec<Vec<u8, &'a LocalHeap>>> {
+    let Ok(_kept) = Vec::<u8, &LocalHeap>::with_capacity(heap, room) else {
+        return None;
+    };
+    fillers_of(alloc, heap)
 }
 
 /// A run whose host can tell none of its calls.
@@ -45,37 +64,34 @@ const UNTOLD: &Row = &Row {
             clock 0 / nudge / ask r look / death 10 / reaped r 10 killed / told r / settle 1",
 };
 
+/// The run is as the row says where the heap has no room left.
 fn is_run_untold<'a>(
-    rt: &impl Abort,
     own: Global,
     heap: &'a LocalHeap,
     host: &mut MemoryHost<&'a LocalHeap>,
-) -> Result<(), Fail> {
-    let _fillers = fill(own, heap, 0)?;
-    passes_over(rt, own, host, UNTOLD.inittab, UNTOLD)
+) -> bool {
+    let Some(_fillers) = fill(own, heap, 0) else {
+        return false;
+    };
+    passes_over(own, host, UNTOLD.inittab, &Trial::Run(UNTOLD))
 }
 
-fn tells_nothing<'a>(
-    rt: &impl Abort,
-    own: Global,
-    heap: &'a LocalHeap,
-    host: &mut MemoryHost<&'a LocalHeap>,
-) -> Result<(), Fail> {
-    give_all(own, heap, host, UNTOLD.gifts)?;
-    is_run_untold(rt, own, heap, host)?;
-    assert!(rt; host.calls().is_none());
-    Ok(())
+fn is_untold<'a>(own: Global, heap: &'a LocalHeap, host: &mut MemoryHost<&'a LocalHeap>) -> bool {
+    give_all(own, heap, host, UNTOLD.gifts)
+        && is_run_untold(own, heap, host)
+        && host.calls().is_none()
 }
 
-fn tells_nothing_in(rt: &impl Abort, own: Global, heap: &LocalHeap) -> Result<(), Fail> {
+fn tells_nothing(own: Global, heap: &LocalHeap) -> bool {
     let mut host = MemoryHost::new(heap);
-    tells_nothing(rt, own, heap, &mut host)
+    is_untold(own, heap, &mut host)
 }
 
 #[test]
 fn a_host_without_room_to_tell_makes_no_difference(rt: HostRuntime) -> Result<(), Fail> {
     let heap = LocalHeap::new(rt.alloc(), 16_384)?;
-    tells_nothing_in(&rt, rt.alloc(), &heap)
+    assert!(rt; tells_nothing(rt.alloc(), &heap));
+    Ok(())
 }
 
 /// The inittab that is read anew is longer than the first.
@@ -105,10 +121,10 @@ fn turn_text<A: Allocator + Copy>(
     alloc: A,
     core: &mut Core<A>,
     host: &mut MemoryHost,
-) -> Result<Vec<u8>, Fail> {
+) -> Option<Vec<u8>> {
     let mut log = ListLog::new(own);
     serve(alloc, core, host, &mut log, 1, false);
-    Ok(print(own, log.list())?)
+    print(own, log.list()).ok()
 }
 
 /// What became of a table that is read where there is little room.
@@ -121,16 +137,17 @@ enum Reading {
     Adopted,
 }
 
-fn outcome(rt: &impl Abort, host: &MemoryHost, text: &[u8], entries: usize) -> Reading {
-    if text == READ {
-        assert!(rt; entries == 5);
-        return Reading::Adopted;
+fn reading_of(host: &MemoryHost, text: &[u8], entries: usize) -> Option<Reading> {
+    if text == READ && entries == 5 {
+        return Some(Reading::Adopted);
     }
-    assert!(rt; text == UNREAD && entries == 1);
+    if text != UNREAD || entries != 1 {
+        return None;
+    }
     if was_read(host) {
-        return Reading::Refused;
+        return Some(Reading::Refused);
     }
-    Reading::Unread
+    Some(Reading::Unread)
 }
 
 /// Makes a turn with so much room left.
@@ -140,72 +157,79 @@ fn text_in<'a>(
     core: &mut Core<&'a LocalHeap>,
     host: &mut MemoryHost,
     room: usize,
-) -> Result<Vec<u8>, Fail> {
-    let _fillers = fill(own, heap, room)?;
+) -> Option<Vec<u8>> {
+    let Some(_fillers) = fill(own, heap, room) else {
+        return None;
+    };
     turn_text(own, heap, core, host)
 }
 
-fn reading_of<'a>(
-    rt: &impl Abort,
+fn reading_in<'a>(
     own: Global,
     heap: &'a LocalHeap,
     core: &mut Core<&'a LocalHeap>,
     host: &mut MemoryHost,
     room: usize,
-) -> Result<Reading, Fail> {
-    let text = text_in(own, heap, core, host, room)?;
-    Ok(outcome(rt, host, text.as_slice(), core.table().len()))
+) -> Option<Reading> {
+    match &text_in(own, heap, core, host, room) {
+        Some(text) => reading_of(host, text.as_slice(), core.table().len()),
+        None => None,
+    }
+}
+
+/// Makes a turn, and gives the host what it is given behind it.
+fn begins<A: Allocator + Copy>(
+    own: Global,
+    alloc: A,
+    core: &mut Core<A>,
+    host: &mut MemoryHost,
+    gifts: &str,
+) -> bool {
+    turn_text(own, alloc, core, host).is_some() && give_all(own, own, host, gifts)
 }
 
 /// Reads inittab again with so much room left.
 fn read_again<'a>(
-    rt: &impl Abort,
-    own: Global,
-    heap: &'a LocalHeap,
-    core: &mut Core<&'a LocalHeap>,
-    host: &mut MemoryHost,
-    room: usize,
-) -> Result<Reading, Fail> {
-    turn_text(own, heap, core, host)?;
-    give_all(own, own, host, GIFTS)?;
-    reading_of(rt, own, heap, core, host, room)
-}
-
-fn read_by<'a>(
-    rt: &impl Abort,
     own: Global,
     heap: &'a LocalHeap,
     core: &mut Core<&'a LocalHeap>,
     room: usize,
-) -> Result<Reading, Fail> {
+) -> Option<Reading> {
     let mut host = MemoryHost::new(own);
-    read_again(rt, own, heap, core, &mut host, room)
+    if !begins(own, heap, core, &mut host, GIFTS) {
+        return None;
+    }
+    reading_in(own, heap, core, &mut host, room)
 }
 
-fn read_over(rt: &impl Abort, own: Global, heap: &LocalHeap, room: usize) -> Result<Reading, Fail> {
-    let mut core = core_of(own, heap, "a:S:off:x")?;
-    read_by(rt, own, heap, &mut core, room)
+fn read_over(own: Global, heap: &LocalHeap, room: usize) -> Option<Reading> {
+    let Some(mut core) = core_of(own, heap, "a:S:off:x") else {
+        return None;
+    };
+    read_again(own, heap, &mut core, room)
 }
 
-fn read_in(rt: &impl Abort, own: Global, room: usize) -> Result<Reading, Fail> {
-    let heap = LocalHeap::new(own, 32_768)?;
-    read_over(rt, own, &heap, room)
+fn read_in(own: Global, room: usize) -> Option<Reading> {
+    match &LocalHeap::new(own, 32_768) {
+        Ok(heap) => read_over(own, heap, room),
+        Err(_) => None,
+    }
 }
 
 #[test]
-fn a_table_without_room_is_not_read(rt: HostRuntime) -> Result<(), Fail> {
+fn a_table_without_room_is_not_read(rt: HostRuntime) {
     let mut unread = 0u32;
     let mut refused = 0u32;
     let mut adopted = 0u32;
     for step in 0..300usize {
-        match read_in(&rt, rt.alloc(), 32 * step)? {
-            Reading::Unread => unread = unread.saturating_add(1),
-            Reading::Refused => refused = refused.saturating_add(1),
-            Reading::Adopted => adopted = adopted.saturating_add(1),
+        match read_in(rt.alloc(), 32 * step) {
+            Some(Reading::Unread) => unread = unread.saturating_add(1),
+            Some(Reading::Refused) => refused = refused.saturating_add(1),
+            Some(Reading::Adopted) => adopted = adopted.saturating_add(1),
+            None => panic!(rt; "at {step}"),
         }
     }
     assert!(rt; unread > 0 && refused > 3 && adopted > 0);
-    Ok(())
 }
 
 /// A turn that executes init anew, and one whose re-execution is refused.
@@ -236,85 +260,92 @@ enum HandOver {
     Taken,
 }
 
-fn handing(rt: &impl Abort, host: &MemoryHost, text: &[u8]) -> HandOver {
+fn hand_over_of(host: &MemoryHost, text: &[u8]) -> Option<HandOver> {
     if text == HANDED {
-        return HandOver::Taken;
+        return Some(HandOver::Taken);
     }
-    assert!(rt; text == NOT_HANDED);
+    if text != NOT_HANDED {
+        return None;
+    }
     if was_carried(host) {
-        return HandOver::Refused;
+        return Some(HandOver::Refused);
     }
-    HandOver::Unmade
+    Some(HandOver::Unmade)
 }
 
 /// Executes init anew with so much room left.
-fn handing_in<'a>(
-    rt: &impl Abort,
+fn hand_over_in<'a>(
     own: Global,
     heap: &'a LocalHeap,
     core: &mut Core<&'a LocalHeap>,
     host: &mut MemoryHost,
     room: usize,
-) -> Result<HandOver, Fail> {
-    give_all(own, own, host, "bytes u / bytes / bytes u")?;
-    let text = text_in(own, heap, core, host, room)?;
-    Ok(handing(rt, host, text.as_slice()))
+) -> Option<HandOver> {
+    match &text_in(own, heap, core, host, room) {
+        Some(text) => hand_over_of(host, text.as_slice()),
+        None => None,
+    }
 }
 
 /// With room again the core that went on is executed anew, with its table and its record.
 fn goes_on<A: Allocator + Copy>(
-    rt: &impl Abort,
     own: Global,
     alloc: A,
     core: &mut Core<A>,
     host: &mut MemoryHost,
-) -> Result<(), Fail> {
-    let text = turn_text(own, alloc, core, host)?;
-    assert!(rt; text.as_slice() == HANDED && (core.table().len(), core.slots().len()) == (1, 1));
-    Ok(())
+) -> bool {
+    match &turn_text(own, alloc, core, host) {
+        Some(text) => {
+            text.as_slice() == HANDED && core.table().len() == 1 && core.slots().len() == 1
+        }
+        None => false,
+    }
 }
 
-fn handed_by<'a>(
-    rt: &impl Abort,
+/// Executes init anew with so much room left, and once more with all of it.
+fn hand_over_twice<'a>(
     own: Global,
     heap: &'a LocalHeap,
     core: &mut Core<&'a LocalHeap>,
     room: usize,
-) -> Result<HandOver, Fail> {
+) -> Option<HandOver> {
     let mut host = MemoryHost::new(own);
-    turn_text(own, heap, core, &mut host)?;
-    let outcome = handing_in(rt, own, heap, core, &mut host, room)?;
-    goes_on(rt, own, heap, core, &mut host)?;
-    Ok(outcome)
+    if !begins(own, heap, core, &mut host, "bytes u / bytes / bytes u") {
+        return None;
+    }
+    let outcome = hand_over_in(own, heap, core, &mut host, room);
+    if !goes_on(own, heap, core, &mut host) {
+        return None;
+    }
+    outcome
 }
 
-fn handed_over(
-    rt: &impl Abort,
-    own: Global,
-    heap: &LocalHeap,
-    room: usize,
-) -> Result<HandOver, Fail> {
-    let mut core = core_of(own, heap, "a:S:off:x")?;
-    handed_by(rt, own, heap, &mut core, room)
+fn hand_over_from(own: Global, heap: &LocalHeap, room: usize) -> Option<HandOver> {
+    let Some(mut core) = core_of(own, heap, "a:S:off:x") else {
+        return None;
+    };
+    hand_over_twice(own, heap, &mut core, room)
 }
 
-fn handed_in(rt: &impl Abort, own: Global, room: usize) -> Result<HandOver, Fail> {
-    let heap = LocalHeap::new(own, 32_768)?;
-    handed_over(rt, own, &heap, room)
+fn handed_in(own: Global, room: usize) -> Option<HandOver> {
+    match &LocalHeap::new(own, 32_768) {
+        Ok(heap) => hand_over_from(own, heap, room),
+        Err(_) => None,
+    }
 }
 
 #[test]
-fn init_without_room_is_not_executed_anew(rt: HostRuntime) -> Result<(), Fail> {
+fn init_without_room_is_not_executed_anew(rt: HostRuntime) {
     let mut unmade = 0u32;
     let mut refused = 0u32;
     let mut taken = 0u32;
     for step in 0..200usize {
-        match handed_in(&rt, rt.alloc(), 32 * step)? {
-            HandOver::Unmade => unmade = unmade.saturating_add(1),
-            HandOver::Refused => refused = refused.saturating_add(1),
-            HandOver::Taken => taken = taken.saturating_add(1),
+        match handed_in(rt.alloc(), 32 * step) {
+            Some(HandOver::Unmade) => unmade = unmade.saturating_add(1),
+            Some(HandOver::Refused) => refused = refused.saturating_add(1),
+            Some(HandOver::Taken) => taken = taken.saturating_add(1),
+            None => panic!(rt; "at {step}"),
         }
     }
     assert!(rt; unmade > 0 && refused > 3 && taken > 0);
-    Ok(())
 }

@@ -1,17 +1,23 @@
 //! Worked runs.
 
-use crate::runs::{Calls, Row, Trial, is_run, passes};
-use child_host::MemoryHost;
-use host_turns::{Served, serve, turn};
+use crate::runs::{Bench, Calls, Row};
+use crate::trials::{Trial, are_run, passes};
+use host_turns::turn;
 use initctl_frame::Blocks;
-use level_core::Core;
-use run_log::ListLog;
-use std::alloc::{Allocator, Global};
-use std::process::Abort;
+use std::alloc::Allocator;
 use std::test::Fail;
 
 /// Runs without a fault of a file or a signal.
 const ROWS: &[Row] = &[
+    // No turn is nothing.
+    Row {
+        inittab: "# none",
+        gifts: "",
+        limit: (0, false),
+        ended: (0, false),
+        faults: 0,
+        trace: "",
+    },
     // A start fails, the next is answered late.
     Row {
         inittab: "id:3:initdefault:|w:3:wait:prep|r:3:respawn:serv",
@@ -130,10 +136,7 @@ const ROWS: &[Row] = &[
 
 #[test]
 fn runs(rt: HostRuntime) -> Result<(), Fail> {
-    for row in ROWS {
-        is_run(&rt, rt.alloc(), row)?;
-    }
-    Ok(())
+    are_run(rt.alloc(), ROWS)
 }
 
 /// The same run, of which in turn each call fails once.
@@ -270,10 +273,7 @@ const FAILING: &[Row] = &[
 
 #[test]
 fn a_call_that_fails_leaves_the_rest(rt: HostRuntime) -> Result<(), Fail> {
-    for row in FAILING {
-        is_run(&rt, rt.alloc(), row)?;
-    }
-    Ok(())
+    are_run(rt.alloc(), FAILING)
 }
 
 /// An inittab, what the host is given, how many turns are made, and its calls.
@@ -325,60 +325,29 @@ const CALLS: &[(&str, &str, Calls)] = &[
 ];
 
 #[test]
-fn calls_come_in_their_order(rt: HostRuntime) -> Result<(), Fail> {
+fn calls_come_in_their_order(rt: HostRuntime) {
     for (inittab, gifts, calls) in CALLS {
-        passes(&rt, rt.alloc(), inittab, gifts, calls)?;
+        assert!(rt;
+            passes(rt.alloc(), inittab, gifts, &Trial::Made(calls)),
+            "{}",
+            calls.want
+        );
     }
-    Ok(())
 }
 
-#[derive(Clone, Copy)]
-struct NoTurn;
-
-impl Trial for NoTurn {
-    fn passes<R: Abort, A: Allocator + Copy>(
-        &self,
-        rt: &R,
-        own: Global,
-        core: &mut Core,
-        host: &mut MemoryHost<A>,
-        log: &mut ListLog,
-    ) -> Result<(), Fail> {
-        let served = serve(own, core, host, log, 0, false);
-        let want = Served {
-            turns: 0,
-            drained: false,
-            logged: true,
-        };
-        assert!(rt; served == want);
-        Ok(())
-    }
+/// A turn ends where no step is due.
+pub(crate) fn is_idle<A: Allocator + Copy>(bench: &mut Bench<A>) -> bool {
+    turn(
+        bench.own,
+        bench.core,
+        bench.host,
+        &mut Blocks::new(),
+        bench.log,
+    ) && bench.core.drained()
+        && bench.log.list().len() == 5
 }
 
 #[test]
-fn no_turn_is_nothing(rt: HostRuntime) -> Result<(), Fail> {
-    passes(&rt, rt.alloc(), "# none", "", &NoTurn)
-}
-
-#[derive(Clone, Copy)]
-struct Idle;
-
-impl Trial for Idle {
-    fn passes<R: Abort, A: Allocator + Copy>(
-        &self,
-        rt: &R,
-        own: Global,
-        core: &mut Core,
-        host: &mut MemoryHost<A>,
-        log: &mut ListLog,
-    ) -> Result<(), Fail> {
-        let idle = turn(own, core, host, &mut Blocks::new(), log);
-        assert!(rt; idle && core.drained() && log.list().len() == 5);
-        Ok(())
-    }
-}
-
-#[test]
-fn a_turn_ends_where_no_step_is_due(rt: HostRuntime) -> Result<(), Fail> {
-    passes(&rt, rt.alloc(), "# none", "", &Idle)
+fn a_turn_ends_where_no_step_is_due(rt: HostRuntime) {
+    assert!(rt; passes(rt.alloc(), "# none", "", &Trial::Idle));
 }

@@ -1,6 +1,5 @@
 //! Runs of init over a scripted host, whose traces are text, their lines parted by ` / `.
 
-use crate::gifts::give_all;
 use child_host::{Call, CallIn, Host, MemoryHost};
 use host_turns::{Served, serve};
 use init_trace::{Happening, HappeningIn, print};
@@ -8,8 +7,6 @@ use inittab_text::read;
 use level_core::Core;
 use run_log::{ListLog, Log};
 use std::alloc::{Allocator, Global};
-use std::process::Abort;
-use std::test::Fail;
 use trace_check::{Verdict, check};
 
 /// A run over an inittab, its lines parted by `|`, and a host that is given so much.
@@ -25,14 +22,29 @@ pub(crate) struct Row {
     pub(crate) trace: &'static str,
 }
 
-/// The lines of a text, each ended by a newline.
-pub(crate) fn lines_of(alloc: Global, text: &str, parted: &str) -> Result<Vec<u8>, Fail> {
+fn add_line(lines: &mut Vec<u8>, line: &str) -> bool {
+    lines.extend_from_slice(line.as_bytes()).is_ok() && lines.push(b'\n').is_ok()
+}
+
+/// The lines of a text, each ended by a newline; none of an empty text.
+pub(crate) fn lines_of(alloc: Global, text: &str, parted: &str) -> Option<Vec<u8>> {
     let mut lines = Vec::new(alloc);
-    for line in text.split(parted) {
-        lines.extend_from_slice(line.as_bytes())?;
-        lines.push(b'\n')?;
+    if text.is_empty() {
+        return Some(lines);
     }
-    Ok(lines)
+    for line in text.split(parted) {
+        if !add_line(&mut lines, line) {
+            return None;
+        }
+    }
+    Some(lines)
+}
+
+fn core_from<A: Allocator + Copy>(alloc: A, text: &[u8]) -> Option<Core<A>> {
+    let Ok((table, _)) = read(alloc, text) else {
+        return None;
+    };
+    Core::new(alloc, table, None).ok()
 }
 
 /// A core over an inittab.
@@ -40,109 +52,50 @@ pub(crate) fn core_of<A: Allocator + Copy>(
     own: Global,
     alloc: A,
     inittab: &str,
-) -> Result<Core<A>, Fail> {
-    let lines = lines_of(own, inittab, "|")?;
-    let (table, _) = read(alloc, lines.as_slice())?;
-    Ok(Core::new(alloc, table, None)?)
+) -> Option<Core<A>> {
+    match &lines_of(own, inittab, "|") {
+        Some(lines) => core_from(alloc, lines.as_slice()),
+        None => None,
+    }
 }
 
-fn take<L: Log>(log: &mut L, happening: &Happening) -> Result<(), Fail> {
-    if log.failed() || log.take(happening).is_err() {
-        return Err(Fail::from("not logged"));
-    }
-    Ok(())
+/// What a run is made with.
+#[derive(Drop)]
+pub(crate) struct Bench<'a, A: Allocator + Copy> {
+    pub(crate) own: Global,
+    pub(crate) core: &'a mut Core,
+    pub(crate) host: &'a mut MemoryHost<A>,
+    pub(crate) log: &'a mut ListLog,
 }
 
 /// Hands the log the table in force.
-fn log_table<L: Log>(alloc: Global, core: &Core, log: &mut L) -> Result<(), Fail> {
-    let table = Happening::NewTable(core.table().copy(alloc)?);
-    take(log, &table)
+fn log_table(own: Global, core: &Core, log: &mut ListLog) -> bool {
+    let Ok(table) = core.table().copy(own) else {
+        return false;
+    };
+    !log.failed() && log.take(&Happening::NewTable(table)).is_ok()
+}
+
+fn is_trace(own: Global, text: &[u8], trace: &str) -> bool {
+    match &lines_of(own, trace, " / ") {
+        Some(want) => text == want.as_slice(),
+        None => false,
+    }
+}
+
+fn is_text(own: Global, made: &[HappeningIn<Global>], trace: &str) -> bool {
+    match &print(own, made) {
+        Ok(text) => is_trace(own, text.as_slice(), trace),
+        Err(_) => false,
+    }
 }
 
 /// The log's happenings behind the opening table are these lines, and all of it is lawful.
-fn is_logged(
-    rt: &impl Abort,
-    alloc: Global,
-    list: &[HappeningIn<Global>],
-    trace: &str,
-) -> Result<(), Fail> {
+fn is_logged(own: Global, list: &[HappeningIn<Global>], trace: &str) -> bool {
     let [_, made @ ..] = list else {
-        return Err(Fail::from("no table"));
+        return false;
     };
-    is_text(rt, alloc, made, trace)?;
-    assert!(rt; check(alloc, list)? == Verdict::Lawful, "{trace}");
-    Ok(())
-}
-
-fn is_text(
-    rt: &impl Abort,
-    alloc: Global,
-    made: &[HappeningIn<Global>],
-    trace: &str,
-) -> Result<(), Fail> {
-    let text = print(alloc, made)?;
-    let want = lines_of(alloc, trace, " / ")?;
-    assert!(rt; text.as_slice() == want.as_slice(), "{trace}");
-    Ok(())
-}
-
-/// What is tried with a core, a host and a log.
-pub(crate) trait Trial {
-    fn passes<R: Abort, A: Allocator + Copy>(
-        &self,
-        rt: &R,
-        own: Global,
-        core: &mut Core,
-        host: &mut MemoryHost<A>,
-        log: &mut ListLog,
-    ) -> Result<(), Fail>;
-}
-
-fn passes_with_core<R: Abort, A: Allocator + Copy, T: Trial>(
-    rt: &R,
-    own: Global,
-    core: &mut Core,
-    host: &mut MemoryHost<A>,
-    trial: &T,
-) -> Result<(), Fail> {
-    let mut log = ListLog::new(own);
-    trial.passes(rt, own, core, host, &mut log)
-}
-
-/// The trial passes with a core over an inittab and with a host.
-pub(crate) fn passes_over<R: Abort, A: Allocator + Copy, T: Trial>(
-    rt: &R,
-    own: Global,
-    host: &mut MemoryHost<A>,
-    inittab: &str,
-    trial: &T,
-) -> Result<(), Fail> {
-    let mut core = core_of(own, own, inittab)?;
-    passes_with_core(rt, own, &mut core, host, trial)
-}
-
-/// The trial passes with a core over an inittab and with a host that is given so much.
-pub(crate) fn passes<R: Abort, T: Trial>(
-    rt: &R,
-    alloc: Global,
-    inittab: &str,
-    gifts: &str,
-    trial: &T,
-) -> Result<(), Fail> {
-    let mut host = MemoryHost::new(alloc);
-    passes_given(rt, alloc, &mut host, inittab, gifts, trial)
-}
-
-fn passes_given<R: Abort, T: Trial>(
-    rt: &R,
-    alloc: Global,
-    host: &mut MemoryHost,
-    inittab: &str,
-    gifts: &str,
-    trial: &T,
-) -> Result<(), Fail> {
-    give_all(alloc, alloc, host, gifts)?;
-    passes_over(rt, alloc, host, inittab, trial)
+    is_text(own, made, trace) && matches!(check(own, list), Ok(Verdict::Lawful))
 }
 
 /// How the run of a row ends that is logged.
@@ -154,31 +107,25 @@ fn ended(row: &Row) -> Served {
     }
 }
 
-/// The run of a row is as it says.
-impl Trial for Row {
-    fn passes<R: Abort, A: Allocator + Copy>(
-        &self,
-        rt: &R,
-        own: Global,
-        core: &mut Core,
-        host: &mut MemoryHost<A>,
-        log: &mut ListLog,
-    ) -> Result<(), Fail> {
-        log_table(own, core, log)?;
-        let (turns, drain) = self.limit;
-        let served = serve(own, core, host, log, turns, drain);
-        assert!(rt;
-            served == ended(self) && host.faults() == self.faults,
-            "{}",
-            self.trace
-        );
-        is_logged(rt, own, log.list(), self.trace)
-    }
+/// Makes so many turns; with `drain` it ends where init is drained.
+pub(crate) fn serve_on<A: Allocator + Copy>(
+    bench: &mut Bench<A>,
+    turns: u64,
+    drain: bool,
+) -> Served {
+    serve(bench.own, bench.core, bench.host, bench.log, turns, drain)
+}
+
+fn is_served<A: Allocator + Copy>(bench: &mut Bench<A>, row: &Row) -> bool {
+    let (turns, drain) = row.limit;
+    serve_on(bench, turns, drain) == ended(row) && bench.host.faults() == row.faults
 }
 
 /// The run of a row is as it says.
-pub(crate) fn is_run(rt: &impl Abort, alloc: Global, row: &Row) -> Result<(), Fail> {
-    passes(rt, alloc, row.inittab, row.gifts, row)
+pub(crate) fn is_run<A: Allocator + Copy>(bench: &mut Bench<A>, row: &Row) -> bool {
+    log_table(bench.own, bench.core, bench.log)
+        && is_served(bench, row)
+        && is_logged(bench.own, bench.log.list(), row.trace)
 }
 
 /// A call's letter: `C`lock, `B`ytes, `L`ate answer, `T`able, `S`tart, l`O`ok, si`G`nal, carry `H`, a`N`nouncement,
@@ -199,21 +146,32 @@ fn letter_of<A: Allocator>(call: &CallIn<A>) -> u8 {
 }
 
 /// Adds a call's letter, behind the command of a start.
-fn add_call<A: Allocator>(text: &mut Vec<u8>, call: &CallIn<A>) -> Result<(), Fail> {
+fn add_call<A: Allocator>(text: &mut Vec<u8>, call: &CallIn<A>) -> bool {
     if let Call::Start(_, command, _) = call {
-        text.extend_from_slice(command.as_slice())?;
+        if text.extend_from_slice(command.as_slice()).is_err() {
+            return false;
+        }
     }
-    text.push(letter_of(call))?;
-    Ok(())
+    text.push(letter_of(call)).is_ok()
 }
 
-/// The letters of a host's calls, behind a start's command; none where it doesn't tell them.
-fn calls_of<A: Allocator>(alloc: Global, host: &MemoryHost<A>) -> Result<Vec<u8>, Fail> {
+/// The letters of a host's calls, each start's behind its command.
+fn letters_of<A: Allocator>(alloc: Global, calls: &[CallIn<A>]) -> Option<Vec<u8>> {
     let mut text = Vec::new(alloc);
-    for call in host.calls().ok_or("not told")? {
-        add_call(&mut text, call)?;
+    for call in calls {
+        if !add_call(&mut text, call) {
+            return None;
+        }
     }
-    Ok(text)
+    Some(text)
+}
+
+/// The calls have these letters.
+fn are_calls<A: Allocator>(alloc: Global, calls: &[CallIn<A>], want: &str) -> bool {
+    match &letters_of(alloc, calls) {
+        Some(letters) => letters.as_slice() == want.as_bytes(),
+        None => false,
+    }
 }
 
 /// So many turns, and the calls that are made then.
@@ -222,18 +180,11 @@ pub(crate) struct Calls {
     pub(crate) want: &'static str,
 }
 
-impl Trial for Calls {
-    fn passes<R: Abort, A: Allocator + Copy>(
-        &self,
-        rt: &R,
-        own: Global,
-        core: &mut Core,
-        host: &mut MemoryHost<A>,
-        log: &mut ListLog,
-    ) -> Result<(), Fail> {
-        serve(own, core, host, log, self.turns, false);
-        let calls = calls_of(own, host)?;
-        assert!(rt; calls.as_slice() == self.want.as_bytes(), "{}", self.want);
-        Ok(())
+/// The host tells these calls.
+pub(crate) fn are_made<A: Allocator + Copy>(bench: &mut Bench<A>, calls: &Calls) -> bool {
+    serve_on(bench, calls.turns, false);
+    match bench.host.calls() {
+        Some(made) => are_calls(bench.own, made, calls.want),
+        None => false,
     }
 }
