@@ -1,16 +1,15 @@
 //! Children are started, looked at and signalled. What waits gives up after so many pauses.
 
-use crate::hosts::{Paths, Trial, host_of, id_of, passes, passes_with_pause};
+use crate::hosts::{Paths, SystemHost, host_of, id_of, pausing};
 use child_host::{Host, Reply};
 use init_words::{Answer, Id, Sig, Status};
 use linked_list_allocator::LocalHeap;
-use std::alloc::{AllocError, Global};
+use std::alloc::Global;
 use std::fs;
-use std::process::{Abort, Processes};
-use std::rt::{Clock, Files};
+use std::process::Abort;
 use std::test::Fail;
 
-const PATHS: Paths = Paths {
+const PATHS: &Paths = &Paths {
     inittab: "tab",
     channel: "channel",
     state: "state",
@@ -20,7 +19,7 @@ const PATHS: Paths = Paths {
 const QUICK: &str = "0.1";
 
 /// The first reply to a look that is not Alive, within so many pauses.
-fn ending<H: Host>(host: &mut H, id: Id, pauses: u32) -> Reply {
+fn ending(host: &mut SystemHost, id: Id, pauses: u32) -> Reply {
     for _ in 0..pauses {
         let reply = host.look(id);
         if reply != Reply::Now(Answer::Alive) {
@@ -31,7 +30,7 @@ fn ending<H: Host>(host: &mut H, id: Id, pauses: u32) -> Reply {
     host.look(id)
 }
 
-fn is_there<H: Host>(rt: &impl Files, host: &mut H, path: &str) -> bool {
+fn is_there(rt: &HostRuntime, host: &mut SystemHost, path: &str) -> bool {
     for _ in 0..30 {
         if fs::metadata(rt, path).is_ok() {
             return true;
@@ -45,84 +44,76 @@ fn is_born(reply: Reply) -> bool {
     matches!(reply, Reply::Now(Answer::Born(_)))
 }
 
-/// A signal, and how the child ends that it stops.
-#[derive(Clone, Copy)]
+/// A script that makes `t.up`, the signal that stops it, how it ends then, and what files there are.
 struct Stop {
     script: &'static str,
     signal: Sig,
     end: Status,
+    files: &'static [&'static str],
 }
 
+const STOPS: &[Stop] = &[
+    Stop {
+        script: "trap ': > t.term; exit 7' TERM
+: > t.up
+for i in 1 2 3 4 5 6; do for k in 1 2 3 4 5 6 7 8 9 10; do sleep 1; done; done
+",
+        signal: Sig::Term,
+        end: Status::Exit(7),
+        files: &["t.up", "t.sh", "t.term"],
+    },
+    Stop {
+        script: ": > t.up\nexec sleep 60\n",
+        signal: Sig::Kill,
+        end: Status::Killed,
+        files: &["t.up", "t.sh"],
+    },
+];
+
 /// While a child lives its id bears no other.
-fn is_alone<H: Host>(alloc: Global, host: &mut H, id: Id) -> bool {
+fn is_alone(alloc: Global, host: &mut SystemHost, id: Id) -> bool {
     host.start(alloc, id, b"true") == Reply::Now(Answer::NotBorn)
         && host.look(id) == Reply::Now(Answer::Alive)
 }
 
-fn is_ended<H: Host>(host: &mut H, id: Id, signal: Sig, end: Status) -> bool {
-    host.signal(id, signal) == Reply::Now(Answer::Hit)
-        && ending(host, id, 30) == Reply::Now(Answer::Ended(end))
+fn is_ended(host: &mut SystemHost, id: Id, stop: &Stop) -> bool {
+    host.signal(id, stop.signal) == Reply::Now(Answer::Hit)
+        && ending(host, id, 30) == Reply::Now(Answer::Ended(stop.end))
 }
 
-/// Starts the script, which makes `t.up`, and stops it.
-fn stops<R: Files + Abort, H: Host>(rt: &R, alloc: Global, host: &mut H, id: Id, stop: Stop) {
-    assert!(rt; is_born(host.start(alloc, id, b"sh t.sh")) && is_there(rt, host, "t.up"));
-    assert!(rt; is_alone(alloc, host, id));
-    assert!(rt; is_ended(host, id, stop.signal, stop.end));
+/// Starts the script, which lives alone, and stops it.
+fn is_stopped(rt: &HostRuntime, host: &mut SystemHost, id: Id, stop: &Stop) -> bool {
+    is_born(host.start(rt.alloc(), id, b"sh t.sh"))
+        && is_there(rt, host, "t.up")
+        && is_alone(rt.alloc(), host, id)
+        && is_ended(host, id, stop)
 }
 
-/// Starts a script that makes `t.up`, is sent a signal, and ends so.
-fn is_stopped<R: Files + Abort, H: Host>(
-    rt: &R,
-    alloc: Global,
-    host: &mut H,
-    stop: Stop,
-) -> Result<(), Fail> {
-    fs::write(rt, "t.sh", stop.script)?;
-    stops(rt, alloc, host, id_of(b"t")?, stop);
-    fs::remove_file(rt, "t.up")?;
-    fs::remove_file(rt, "t.sh")?;
-    Ok(())
-}
-
-const TRAPPED: &str = "trap ': > t.term; exit 7' TERM
-: > t.up
-for i in 1 2 3 4 5 6; do for k in 1 2 3 4 5 6 7 8 9 10; do sleep 1; done; done
-";
-
-const PLAIN: &str = ": > t.up\nexec sleep 60\n";
-
-#[derive(Clone, Copy)]
-struct Signals;
-
-impl Trial for Signals {
-    fn passes<R: Files + Alloc + Abort, H: Host>(
-        &self,
-        rt: &R,
-        alloc: Global,
-        host: &mut H,
-    ) -> Result<(), Fail> {
-        let trapped = Stop {
-            script: TRAPPED,
-            signal: Sig::Term,
-            end: Status::Exit(7),
-        };
-        is_stopped(rt, alloc, host, trapped)?;
-        fs::remove_file(rt, "t.term")?;
-        let plain = Stop {
-            script: PLAIN,
-            signal: Sig::Kill,
-            end: Status::Killed,
-        };
-        is_stopped(rt, alloc, host, plain)?;
-        assert!(rt; host.faults() == 2);
-        Ok(())
+fn are_removed(rt: &HostRuntime, paths: &[&str]) -> bool {
+    for path in paths {
+        if fs::remove_file(rt, *path).is_err() {
+            return false;
+        }
     }
+    true
+}
+
+/// Writes the script, starts and stops it, and removes its files.
+fn stops(rt: &HostRuntime, host: &mut SystemHost, id: Id, stop: &Stop) -> bool {
+    fs::write(rt, "t.sh", stop.script).is_ok()
+        && is_stopped(rt, host, id, stop)
+        && are_removed(rt, stop.files)
 }
 
 #[test]
 fn signals_stop_children(rt: HostRuntime) -> Result<(), Fail> {
-    passes(&rt, rt.alloc(), PATHS, &Signals)
+    let mut host = host_of(&rt, rt.alloc(), PATHS)?;
+    let id = id_of(b"t")?;
+    for stop in STOPS {
+        assert!(rt; stops(&rt, &mut host, id, stop));
+    }
+    assert!(rt; host.faults() == 2);
+    Ok(())
 }
 
 /// Process texts of a program that is missing. A shell is born for those behind the bar, and ends with a status.
@@ -161,49 +152,35 @@ const MISSING: &[&[u8]] = &[
     b"echo \xff",
 ];
 
-fn is_shell<H: Host>(rt: &impl Abort, alloc: Global, host: &mut H, id: Id, text: &str) {
-    assert!(rt; is_born(host.start(alloc, id, text.as_bytes())), "{text}");
-    let reply = ending(host, id, 300);
-    assert!(rt;
-        matches!(reply, Reply::Now(Answer::Ended(Status::Exit(_)))),
-        "{text}"
-    );
+fn is_shell(alloc: Global, host: &mut SystemHost, id: Id, text: &str) -> bool {
+    is_born(host.start(alloc, id, text.as_bytes()))
+        && matches!(
+            ending(host, id, 300),
+            Reply::Now(Answer::Ended(Status::Exit(_)))
+        )
 }
 
-fn are_shells<H: Host>(rt: &impl Abort, alloc: Global, host: &mut H, id: Id) {
+fn are_shells(rt: &impl Abort, alloc: Global, host: &mut SystemHost, id: Id) {
     for text in SHELL {
-        is_shell(rt, alloc, host, id, text);
+        assert!(rt; is_shell(alloc, host, id, text), "{text}");
     }
+    assert!(rt; host.faults() == 0);
 }
 
-fn are_missing<H: Host>(rt: &impl Abort, alloc: Global, host: &mut H, id: Id) {
+fn are_missing(rt: &impl Abort, alloc: Global, host: &mut SystemHost, id: Id) {
     for text in MISSING {
         assert!(rt; host.start(alloc, id, text) == Reply::Now(Answer::NotBorn));
     }
-}
-
-#[derive(Clone, Copy)]
-struct Shells;
-
-impl Trial for Shells {
-    fn passes<R: Files + Alloc + Abort, H: Host>(
-        &self,
-        rt: &R,
-        alloc: Global,
-        host: &mut H,
-    ) -> Result<(), Fail> {
-        let id = id_of(b"r")?;
-        are_shells(rt, alloc, host, id);
-        assert!(rt; host.faults() == 0);
-        are_missing(rt, alloc, host, id);
-        assert!(rt; host.faults() == 6);
-        Ok(())
-    }
+    assert!(rt; host.faults() == 6);
 }
 
 #[test]
 fn a_shell_reads_its_characters(rt: HostRuntime) -> Result<(), Fail> {
-    passes_with_pause(&rt, rt.alloc(), PATHS, QUICK, &Shells)
+    let mut host = pausing(&rt, PATHS, QUICK)?;
+    let id = id_of(b"r")?;
+    are_shells(&rt, rt.alloc(), &mut host, id);
+    are_missing(&rt, rt.alloc(), &mut host, id);
+    Ok(())
 }
 
 /// Process texts of one script, and what it finds as its arguments.
@@ -215,107 +192,78 @@ const WORDS: &[(&[u8], &str)] = &[
     (b"sh w.sh a\"  b\"; exit 5", "1:a  b:\n"),
 ];
 
-fn is_text<R: Files + Alloc + Abort>(rt: &R, path: &str, want: &str) -> Result<(), Fail> {
-    let text = fs::read_to_string(rt, path)?;
-    assert!(rt; text.as_str() == want);
-    Ok(())
-}
-
-fn has_words<R: Files + Alloc + Abort, H: Host>(
-    rt: &R,
-    alloc: Global,
-    host: &mut H,
-    text: &[u8],
-    want: &str,
-) -> Result<(), Fail> {
-    let id = id_of(b"w")?;
-    assert!(rt; is_born(host.start(alloc, id, text)));
-    assert!(rt; ending(host, id, 300) == Reply::Now(Answer::Ended(Status::Exit(0))));
-    is_text(rt, "w.out", want)
-}
-
-#[derive(Clone, Copy)]
-struct Words;
-
-impl Trial for Words {
-    fn passes<R: Files + Alloc + Abort, H: Host>(
-        &self,
-        rt: &R,
-        alloc: Global,
-        host: &mut H,
-    ) -> Result<(), Fail> {
-        for (text, want) in WORDS {
-            fs::write(rt, "w.sh", "echo \"$#:$1:$2\" > w.out\n")?;
-            has_words(rt, alloc, host, text, want)?;
-        }
-        Ok(())
+fn is_text(rt: &HostRuntime, path: &str, want: &str) -> bool {
+    match fs::read_to_string(rt, path) {
+        Ok(text) => text.as_str() == want,
+        Err(_) => false,
     }
+}
+
+/// The script is written, and a process of this text finds these arguments.
+fn has_words(rt: &HostRuntime, host: &mut SystemHost, id: Id, text: &[u8], want: &str) -> bool {
+    fs::write(rt, "w.sh", "echo \"$#:$1:$2\" > w.out\n").is_ok()
+        && is_born(host.start(rt.alloc(), id, text))
+        && ending(host, id, 300) == Reply::Now(Answer::Ended(Status::Exit(0)))
+        && is_text(rt, "w.out", want)
 }
 
 #[test]
 fn words_are_split_at_blanks(rt: HostRuntime) -> Result<(), Fail> {
-    passes_with_pause(&rt, rt.alloc(), PATHS, QUICK, &Words)
+    let mut host = pausing(&rt, PATHS, QUICK)?;
+    let id = id_of(b"w")?;
+    for (text, want) in WORDS {
+        assert!(rt; has_words(&rt, &mut host, id, text, want));
+    }
+    Ok(())
 }
 
-#[derive(Clone, Copy)]
-struct NoChild;
-
-impl Trial for NoChild {
-    fn passes<R: Files + Alloc + Abort, H: Host>(
-        &self,
-        rt: &R,
-        _alloc: Global,
-        host: &mut H,
-    ) -> Result<(), Fail> {
-        let id = id_of(b"none")?;
-        assert!(rt; host.look(id) == Reply::Now(Answer::NoLook));
-        assert!(rt; host.signal(id, Sig::Term) == Reply::Now(Answer::Miss));
-        assert!(rt; host.signal(id, Sig::Kill) == Reply::Now(Answer::Miss));
-        assert!(rt; host.late().is_none() && host.faults() == 3);
-        Ok(())
-    }
+fn has_no_child(host: &mut SystemHost, id: Id) -> bool {
+    host.look(id) == Reply::Now(Answer::NoLook)
+        && host.signal(id, Sig::Term) == Reply::Now(Answer::Miss)
+        && host.signal(id, Sig::Kill) == Reply::Now(Answer::Miss)
+        && host.late().is_none()
+        && host.faults() == 3
 }
 
 #[test]
 fn an_id_without_a_child(rt: HostRuntime) -> Result<(), Fail> {
-    passes_with_pause(&rt, rt.alloc(), PATHS, QUICK, &NoChild)
+    let mut host = pausing(&rt, PATHS, QUICK)?;
+    assert!(rt; has_no_child(&mut host, id_of(b"none")?));
+    Ok(())
 }
 
 /// Where a start is refused there is no child.
-fn is_started_by<H: Host>(rt: &impl Abort, heap: &LocalHeap, host: &mut H, id: Id) -> bool {
-    let reply = host.start(heap, id, b"true");
+fn is_started_by(
+    heap: &LocalHeap,
+    host: &mut SystemHost<&LocalHeap>,
+    id: Id,
+) -> Result<bool, Fail> {
+    let is_born = is_born(host.start(heap, id, b"true"));
     let is_there = host.look(id) != Reply::Now(Answer::NoLook);
-    assert!(rt; is_there == is_born(reply) && is_there == (host.faults() == 0));
-    is_there
+    if is_there == is_born && is_there == (host.faults() == 0) {
+        return Ok(is_born);
+    }
+    Err(Fail::from("a child whose start is refused"))
 }
 
 /// Starts a child over a heap, where there is enough of it.
-fn is_started_over<R>(rt: &R, heap: &LocalHeap, id: Id) -> bool
-where
-    R: Abort + Processes + Files + Clock + Print + Eprint + Clone + Drop,
-{
+fn is_started_over(rt: &HostRuntime, heap: &LocalHeap, id: Id) -> Result<bool, Fail> {
     match host_of(rt, heap, PATHS) {
-        Some(mut host) => is_started_by(rt, heap, &mut host, id),
-        None => false,
+        Ok(mut host) => is_started_by(heap, &mut host, id),
+        Err(_) => Ok(false),
     }
 }
 
-/// Starts a child over so much memory, where there is enough of it. Where its start is refused there is none.
-fn is_started<R>(rt: &R, alloc: Global, id: Id, room: usize) -> Result<bool, AllocError>
-where
-    R: Abort + Processes + Files + Clock + Print + Eprint + Clone + Drop,
-{
-    let heap = LocalHeap::new(alloc, room)?;
-    Ok(is_started_over(rt, &heap, id))
+/// Starts a child over so much memory, where there is enough of it.
+fn is_started(rt: &HostRuntime, id: Id, room: usize) -> Result<bool, Fail> {
+    let heap = LocalHeap::new(rt.alloc(), room)?;
+    is_started_over(rt, &heap, id)
 }
 
 /// The first room, in steps of 16 bytes, in which a child is started, and 0 where there is none.
-fn enough<R>(rt: &R, alloc: Global, id: Id) -> Result<usize, AllocError>
-where
-    R: Abort + Processes + Files + Clock + Print + Eprint + Clone + Drop,
-{
+fn enough(rt: &HostRuntime, id: Id) -> Result<usize, Fail> {
     for step in 4..1024usize {
-        if is_started(rt, alloc, id, 16 * step)? {
+        if is_started(rt, id, 16 * step)? {
             return Ok(step);
         }
     }
@@ -324,6 +272,6 @@ where
 
 #[test]
 fn no_child_is_born_without_room(rt: HostRuntime) -> Result<(), Fail> {
-    assert!(rt; enough(&rt, rt.alloc(), id_of(b"m")?)? > 8);
+    assert!(rt; enough(&rt, id_of(b"m")?)? > 8);
     Ok(())
 }

@@ -5,78 +5,70 @@ use initd_command::run_words;
 use program_trials::line_words;
 use std::alloc::{AllocError, Global};
 use std::fs;
-use std::process::{Abort, Processes};
-use std::rt::{Clock, Files};
-use std::test::Fail;
+use std::process::Abort;
 
 /// The exit status of a command line.
-fn status_of<R>(
-    rt: &R,
-    alloc: Global,
+fn status_of(
+    rt: &HostRuntime,
     line: &str,
     out: &mut Vec<u8>,
     err: &mut Vec<u8>,
-) -> Result<u8, AllocError>
-where
-    R: Processes + Files + Clock + Print + Eprint + Clone + Drop,
-{
-    let words = line_words(alloc, line)?;
-    Ok(run_words(rt, alloc, words, out, err))
+) -> Result<u8, AllocError> {
+    let words = line_words(rt.alloc(), line)?;
+    Ok(run_words(rt, rt.alloc(), words, out, err))
 }
 
 /// The same, where what is reported is added to `out` too.
-fn answer<R>(rt: &R, alloc: Global, line: &str, out: &mut Vec<u8>) -> Result<u8, AllocError>
-where
-    R: Processes + Files + Clock + Print + Eprint + Clone + Drop,
-{
-    let mut err = Vec::new(alloc);
-    let status = status_of(rt, alloc, line, out, &mut err)?;
+fn answer(rt: &HostRuntime, line: &str, out: &mut Vec<u8>) -> Result<u8, AllocError> {
+    let mut err = Vec::new(rt.alloc());
+    let status = status_of(rt, line, out, &mut err)?;
     out.extend_from_slice(&err)?;
     Ok(status)
 }
 
 /// A command line ends with 0, and writes this.
-fn is_done<R>(rt: &R, alloc: Global, line: &str, want: &str) -> Result<(), Fail>
-where
-    R: Processes + Files + Clock + Print + Eprint + Clone + Drop + Abort,
-{
-    let mut out = Vec::new(alloc);
-    let status = answer(rt, alloc, line, &mut out)?;
-    assert!(rt;
-        status == 0 && out.as_slice() == want.as_bytes(),
-        "{line}: {status}"
-    );
-    Ok(())
+fn is_done(rt: &HostRuntime, line: &str, want: &str) -> bool {
+    let mut out = Vec::new(rt.alloc());
+    matches!(answer(rt, line, &mut out), Ok(0)) && out.as_slice() == want.as_bytes()
 }
 
-/// Writes a request to go to a runlevel, or of another character.
-fn write_request(rt: &impl Files, path: &str, code: u8, secs: u16) -> Result<(), Fail> {
-    let sign = Sign::read(code).ok_or("no sign")?;
-    fs::write(rt, path, encode(&Request::Runlvl(sign, secs)).as_slice())?;
-    Ok(())
+/// Requests to go to a runlevel, or of another character, with the same grace, and the file that they are written to.
+struct Requests {
+    path: &'static str,
+    codes: &'static [u8],
+    seconds: u16,
 }
 
-/// Writes a request of each character, with a grace of five seconds.
-fn write_requests(rt: &impl Files, alloc: Global, path: &str, codes: &[u8]) -> Result<(), Fail> {
-    let mut blocks = Vec::new(alloc);
-    add_blocks(&mut blocks, codes)?;
-    fs::write(rt, path, blocks.as_slice())?;
-    Ok(())
-}
-
-fn add_blocks(blocks: &mut Vec<u8>, codes: &[u8]) -> Result<(), Fail> {
-    for code in codes {
-        let sign = Sign::read(*code).ok_or("no sign")?;
-        blocks.extend_from_slice(&encode(&Request::Runlvl(sign, 5)))?;
+fn add_block(blocks: &mut Vec<u8>, code: u8, seconds: u16) -> bool {
+    match Sign::read(code) {
+        Some(sign) => blocks
+            .extend_from_slice(&encode(&Request::Runlvl(sign, seconds)))
+            .is_ok(),
+        None => false,
     }
-    Ok(())
 }
 
-fn write_all(rt: &impl Files, files: &[(&str, &str)]) -> Result<(), Fail> {
+fn add_blocks(blocks: &mut Vec<u8>, requests: &Requests) -> bool {
+    for code in requests.codes {
+        if !add_block(blocks, *code, requests.seconds) {
+            return false;
+        }
+    }
+    true
+}
+
+fn are_requested(rt: &HostRuntime, requests: &Requests) -> bool {
+    let mut blocks = Vec::new(rt.alloc());
+    add_blocks(&mut blocks, requests) && fs::write(rt, requests.path, blocks.as_slice()).is_ok()
+}
+
+fn are_written(rt: &HostRuntime, files: &[(&str, &str)]) -> bool {
     for (path, text) in files {
-        fs::write(rt, *path, *text)?;
+        if fs::write(rt, *path, *text).is_err() {
+            return false;
+        }
     }
-    Ok(())
+    true
 }
 
 /// The line is this one, or begins and ends as this one does at its star.
@@ -89,130 +81,156 @@ fn is_line(line: &str, want: &str) -> bool {
 
 /// The lines stand in the trace, one behind another.
 fn is_in_order(trace: &str, lines: &[&str]) -> bool {
-    let mut rest = trace.lines();
-    lines
-        .iter()
-        .all(|line| rest.any(|other| is_line(other, line)))
+    let mut rest = lines;
+    for line in trace.lines() {
+        if let [want, others @ ..] = rest
+            && is_line(line, want)
+        {
+            rest = others;
+        }
+    }
+    rest.is_empty()
+}
+
+fn are_in_order(trace: &str, parts: &[&[&str]]) -> bool {
+    for lines in parts {
+        if !is_in_order(trace, lines) {
+            return false;
+        }
+    }
+    true
+}
+
+/// A run of `initd`, what it writes, and the lines that stand in its trace, the lines of each part in their order.
+struct Run {
+    files: &'static [(&'static str, &'static str)],
+    requests: Requests,
+    line: &'static str,
+    said: &'static str,
+    check: &'static str,
+    trace: &'static str,
+    parts: &'static [&'static [&'static str]],
+}
+
+/// The file's text has these lines.
+fn is_traced(rt: &HostRuntime, path: &str, parts: &[&[&str]]) -> bool {
+    match fs::read_to_string(rt, path) {
+        Ok(trace) => are_in_order(trace.as_str(), parts),
+        Err(_) => false,
+    }
+}
+
+fn is_run(rt: &HostRuntime, run: &Run) -> bool {
+    are_written(rt, run.files)
+        && are_requested(rt, &run.requests)
+        && is_done(rt, run.line, run.said)
+        && is_done(rt, run.check, "lawful\n")
+        && is_traced(rt, run.trace, run.parts)
 }
 
 /// Two scripts that each wait for the other's file.
-const PAIR: &[(&str, &str)] = &[
-    ("pair.tab", "a:3:once:sh a.sh\nb:3:once:sh b.sh\n"),
-    (
-        "a.sh",
-        "echo $$ > a.up\nfor t in 1 2 3; do for i in 1 2 3 4 5 6 7 8 9 10; do\nif test -e b.up; then exit 3; fi; sleep 1\ndone; done\nexit 4\n",
-    ),
-    (
-        "b.sh",
-        "echo $$ > b.up\nfor t in 1 2 3; do for i in 1 2 3 4 5 6 7 8 9 10; do\nif test -e a.up; then exit 3; fi; sleep 1\ndone; done\nexit 4\n",
-    ),
-];
+const PAIR: &Run = &Run {
+    files: &[
+        ("pair.tab", "a:3:once:sh a.sh\nb:3:once:sh b.sh\n"),
+        (
+            "a.sh",
+            "echo $$ > a.up\nfor t in 1 2 3; do for i in 1 2 3 4 5 6 7 8 9 10; do\nif test -e b.up; then exit 3; fi; sleep 1\ndone; done\nexit 4\n",
+        ),
+        (
+            "b.sh",
+            "echo $$ > b.up\nfor t in 1 2 3; do for i in 1 2 3 4 5 6 7 8 9 10; do\nif test -e a.up; then exit 3; fi; sleep 1\ndone; done\nexit 4\n",
+        ),
+    ],
+    requests: Requests {
+        path: "pair.ctl",
+        codes: b"qu",
+        seconds: 5,
+    },
+    line: "run --inittab pair.tab --initctl pair.ctl --state pair.state --trace pair.trace --level 3 --turns 60 --drain --pause 0.5",
+    said: "",
+    check: "check pair.trace",
+    trace: "pair.trace",
+    parts: &[&[
+        "use 2",
+        "got reload",
+        "got reexec",
+        "handed whole",
+        "use 2",
+        "settle 3",
+    ]],
+};
 
 /// The line of the end of a child of this number stands in the trace.
-fn has_end(alloc: Global, trace: &str, id: &str, number: &str) -> Result<bool, AllocError> {
-    let line = format!(in alloc; "reaped {id} {number} exit 3")?;
-    Ok(is_in_order(trace, &[line.as_str()]))
+fn has_end(rt: &HostRuntime, id: &str, number: &str) -> bool {
+    match format!(in rt.alloc(); "reaped {id} {number} exit 3") {
+        Ok(line) => is_traced(rt, PAIR.trace, &[&[line.as_str()]]),
+        Err(_) => false,
+    }
 }
 
 /// The same of the number that the child wrote.
-fn has_ends<R: Files + Alloc + Abort>(
-    rt: &R,
-    alloc: Global,
-    trace: &str,
-    id: &str,
-    path: &str,
-) -> Result<(), Fail> {
-    let number = fs::read_to_string(rt, path)?;
-    assert!(rt;
-        has_end(alloc, trace, id, number.as_str().trim_ascii())?,
-        "{trace}"
-    );
-    Ok(())
+fn has_ended(rt: &HostRuntime, id: &str, path: &str) -> bool {
+    match fs::read_to_string(rt, path) {
+        Ok(number) => has_end(rt, id, number.as_str().trim_ascii()),
+        Err(_) => false,
+    }
 }
-
-const PAIR_RUN: &str =
-    "run --inittab pair.tab --initctl pair.ctl --state pair.state --trace pair.trace --level 3 --turns 60 --drain --pause 0.5";
-
-const SETTLED: &[&str] = &[
-    "use 2",
-    "got reload",
-    "got reexec",
-    "handed whole",
-    "use 2",
-    "settle 3",
-];
 
 /// The file has the text of init's state, handed over for the first time.
-fn is_handed_over<R: Files + Alloc + Abort>(rt: &R, path: &str) -> Result<(), Fail> {
-    let text = fs::read_to_string(rt, path)?;
-    assert!(rt; text.as_str().starts_with("initd-state 1\ngeneration 1\n"));
-    Ok(())
-}
-
-fn are_run<R: Files + Alloc + Abort>(rt: &R, alloc: Global, trace: &str) -> Result<(), Fail> {
-    assert!(rt; is_in_order(trace, SETTLED));
-    is_handed_over(rt, "pair.state")?;
-    has_ends(rt, alloc, trace, "a", "a.up")?;
-    has_ends(rt, alloc, trace, "b", "b.up")
+fn is_handed_over(rt: &HostRuntime, path: &str) -> bool {
+    match fs::read_to_string(rt, path) {
+        Ok(text) => text.as_str().starts_with("initd-state 1\ngeneration 1\n"),
+        Err(_) => false,
+    }
 }
 
 #[test]
-fn children_run_beside_each_other(rt: HostRuntime) -> Result<(), Fail> {
-    write_all(&rt, PAIR)?;
-    write_requests(&rt, rt.alloc(), "pair.ctl", b"qu")?;
-    is_done(&rt, rt.alloc(), PAIR_RUN, "")?;
-    is_done(&rt, rt.alloc(), "check pair.trace", "lawful\n")?;
-    let trace = fs::read_to_string(&rt, "pair.trace")?;
-    are_run(&rt, rt.alloc(), trace.as_str())
+fn children_run_beside_each_other(rt: HostRuntime) {
+    assert!(rt; is_run(&rt, PAIR) && is_handed_over(&rt, "pair.state"));
+    assert!(rt; has_ended(&rt, "a", "a.up") && has_ended(&rt, "b", "b.up"));
 }
 
 /// A child that stays where it is sent TERM, one that asks for runlevel 1 by a block of two seconds, and that level's.
-const STAYS: &[(&str, &str)] = &[
-    (
-        "stays.tab",
-        "r:3:respawn:sh r.sh\nt:3:once:sh t.sh\nn:1:once:sh n.sh\nx:3:once\n",
-    ),
-    (
-        "r.sh",
-        "trap ': > r.term' TERM\n: > r.up\nfor t in 1 2 3 4 5 6; do for i in 1 2 3 4 5 6 7 8 9 10; do\nfor k in 1 2 3 4 5 6 7 8 9 10; do sleep 0.1; done; done; done\n",
-    ),
-    (
-        "t.sh",
-        "for i in 1 2 3 4 5 6 7 8 9 10; do if test -e r.up; then cat one >> stays.ctl; exit 0; fi; sleep 1; done\n",
-    ),
-    ("n.sh", "test -e r.term && exit 6\n"),
-];
+const STAYS: &Run = &Run {
+    files: &[
+        (
+            "stays.tab",
+            "r:3:respawn:sh r.sh\nt:3:once:sh t.sh\nn:1:once:sh n.sh\nx:3:once\n",
+        ),
+        (
+            "r.sh",
+            "trap ': > r.term' TERM\n: > r.up\nfor t in 1 2 3 4 5 6; do for i in 1 2 3 4 5 6 7 8 9 10; do\nfor k in 1 2 3 4 5 6 7 8 9 10; do sleep 0.1; done; done; done\n",
+        ),
+        (
+            "t.sh",
+            "for i in 1 2 3 4 5 6 7 8 9 10; do if test -e r.up; then cat one >> stays.ctl; exit 0; fi; sleep 1; done\n",
+        ),
+        ("n.sh", "test -e r.term && exit 6\n"),
+    ],
+    requests: Requests {
+        path: "one",
+        codes: b"1",
+        seconds: 2,
+    },
+    line: "run --inittab stays.tab --initctl stays.ctl --trace stays.trace --level 3 --turns 100 --drain --pause 0.2",
+    said: "initd: inittab line 4: too few fields\n",
+    check: "check stays.trace",
+    trace: "stays.trace",
+    parts: &[
+        &[
+            "settle 3",
+            "got level 1 2",
+            "enter 1 2",
+            "ask r term",
+            "hit r",
+            "ask r kill",
+            "hit r",
+        ],
+        &["reaped r * killed", "ask n start", "reaped n * exit 6"],
+    ],
+};
 
 #[test]
-fn a_child_that_stays_is_killed(rt: HostRuntime) -> Result<(), Fail> {
-    write_all(&rt, STAYS)?;
-    write_request(&rt, "one", b'1', 2)?;
-    is_done(
-        &rt,
-        rt.alloc(),
-        "run --inittab stays.tab --initctl stays.ctl --trace stays.trace --level 3 --turns 100 --drain --pause 0.2",
-        "initd: inittab line 4: too few fields\n",
-    )?;
-    is_done(&rt, rt.alloc(), "check stays.trace", "lawful\n")?;
-    let trace = fs::read_to_string(&rt, "stays.trace")?;
-    is_stopped(&rt, trace.as_str());
-    Ok(())
-}
-
-const SIGNALS: &[&str] = &[
-    "settle 3",
-    "got level 1 2",
-    "enter 1 2",
-    "ask r term",
-    "hit r",
-    "ask r kill",
-    "hit r",
-];
-
-const ENDS: &[&str] = &["reaped r * killed", "ask n start", "reaped n * exit 6"];
-
-/// Its signals, its end and the next level's entry stand in the trace.
-fn is_stopped(rt: &impl Abort, trace: &str) {
-    assert!(rt; is_in_order(trace, SIGNALS), "{trace}");
-    assert!(rt; is_in_order(trace, ENDS), "{trace}");
+fn a_child_that_stays_is_killed(rt: HostRuntime) {
+    assert!(rt; is_run(&rt, STAYS));
 }
