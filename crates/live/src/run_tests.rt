@@ -3,7 +3,7 @@
 use initctl_frame::{Request, Sign, encode};
 use initd_command::run_words;
 use program_trials::line_words;
-use std::alloc::{AllocError, Global};
+use std::alloc::AllocError;
 use std::fs;
 use std::process::Abort;
 
