@@ -17,9 +17,17 @@ table_rule = record (new_rule (codes "table")) { required = true }
 unfoldable pub script_rule : Rule
 script_rule = record (new_rule (codes "script")) { required = true }
 
+unfoldable pub level_line : App
+unfolding level_rule
+level_line = with_rule (new_app (codes "simulate")) level_rule
+
+unfoldable pub table_line : App
+unfolding level_line table_rule
+table_line = with_rule level_line table_rule
+
 unfoldable pub simulate_line : App
-unfolding level_rule table_rule script_rule
-simulate_line = with_rule (with_rule (with_rule (new_app (codes "simulate")) level_rule) table_rule) script_rule
+unfolding table_line script_rule
+simulate_line = with_rule table_line script_rule
 
 -- TRACE, which has to be there
 unfoldable pub trace_rule : Rule

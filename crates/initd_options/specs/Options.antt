@@ -38,9 +38,17 @@ drain_rule = record (new_rule (codes "drain")) { long = Some (codes "drain"); ac
 unfoldable pub pause_rule : Rule
 pause_rule = record (new_rule (codes "pause")) { long = Some (codes "pause"); defaults = codes "1" ∷ [] }
 
+unfoldable pub inittab_line : App
+unfolding inittab_rule
+inittab_line = with_rule (new_app (codes "run")) inittab_rule
+
+unfoldable pub initctl_line : App
+unfolding inittab_line initctl_rule
+initctl_line = with_rule inittab_line initctl_rule
+
 unfoldable pub paths_line : App
-unfolding inittab_rule initctl_rule trace_path_rule
-paths_line = with_rule (with_rule (with_rule (new_app (codes "run")) inittab_rule) initctl_rule) trace_path_rule
+unfolding initctl_line trace_path_rule
+paths_line = with_rule initctl_line trace_path_rule
 
 unfoldable pub state_line : App
 unfolding paths_line state_rule
@@ -50,9 +58,13 @@ unfoldable pub turns_line : App
 unfolding state_line level_rule turns_rule
 turns_line = with_rule (with_rule state_line level_rule) turns_rule
 
+unfoldable pub drain_line : App
+unfolding turns_line drain_rule
+drain_line = with_rule turns_line drain_rule
+
 unfoldable pub run_line : App
-unfolding turns_line drain_rule pause_rule
-run_line = with_rule (with_rule turns_line drain_rule) pause_rule
+unfolding drain_line pause_rule
+run_line = with_rule drain_line pause_rule
 
 -- a number of turns: 1 to 1,000,000,000
 abbrev pub turns_read : Text → Option ℕ

@@ -1,8 +1,8 @@
-ghost use Rattle.std.specs.Prelude.{◌≡◌, codes, false, map, option_map, string_bytes, IfOk, IsErrOf};
+ghost use Rattle.std.specs.Prelude.{◌≡◌, false, map, option_map, string_bytes, IfOk, IsErrOf};
 ghost use Rattle.clap.specs.declared.builder.command.Command.{out-Command};
-ghost use Rattle.clap.specs.Words.{FailsBy, app_of, fault_of, found_of, new_app, rows_of, subcommand_of, subcommand_rows_of, with_rule};
-ghost use Rattle.initd_options.specs.CommandLine.{check_line, command_line, judged_by, read_of, runs, said_by, said_of, served_by, simulate_line, table_rule, trace_said, words_said};
-ghost use Rattle.initd_options.specs.Values.{level_rule, level_said, level_word_read};
+ghost use Rattle.clap.specs.Words.{FailsBy, app_of, fault_of, found_of, rows_of, subcommand_of, subcommand_rows_of};
+ghost use Rattle.initd_options.specs.CommandLine.{check_line, command_line, judged_by, level_line, read_of, runs, said_by, said_of, served_by, simulate_line, table_line, trace_said, words_said};
+ghost use Rattle.initd_options.specs.Values.{level_said, level_word_read};
 
 use crate::options::{Serving, read_run, run_line};
 use clap::{Arg, ArgMatches, Command, Error};
@@ -50,8 +50,7 @@ pub fn read_words(alloc: Global, words: &[String]) -> Result<Words, WordFault>
 
 /// The command line behind `initd simulate`, as far as it names the level.
 fn level_line<'a>(alloc: Global) -> Result<Command<'a>, AllocError>
-    ensures line { IfOk result (λ made. app_of made
-        ≡ with_rule (new_app (codes "simulate")) level_rule) }
+    ensures line { IfOk result (λ made. app_of made ≡ level_line) }
     ensures plain { IfOk result (λ made. (out-Command made).has_globals ≡ false) }
 {
     let level = Arg::new(alloc, "level").long("level");
@@ -60,8 +59,7 @@ fn level_line<'a>(alloc: Global) -> Result<Command<'a>, AllocError>
 
 /// The same, with the path of the inittab.
 fn table_line<'a>(alloc: Global) -> Result<Command<'a>, AllocError>
-    ensures line { IfOk result (λ made. app_of made
-        ≡ with_rule (with_rule (new_app (codes "simulate")) level_rule) table_rule) }
+    ensures line { IfOk result (λ made. app_of made ≡ table_line) }
     ensures plain { IfOk result (λ made. (out-Command made).has_globals ≡ false) }
 {
     level_line(alloc)?.arg(Arg::new(alloc, "table").required(true))

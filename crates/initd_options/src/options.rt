@@ -1,7 +1,7 @@
 ghost use Rattle.std.specs.Prelude.{◌≡◌, ◌<◌, false, codes, option_map, string_bytes, IfOk, IfSome};
 ghost use Rattle.clap.specs.declared.builder.command.Command.{out-Command};
-ghost use Rattle.clap.specs.Words.{app_of, first_of, found_of, new_app, rows_of, with_rule};
-ghost use Rattle.initd_options.specs.Options.{digit_read, hundredths_read, initctl_rule, inittab_rule, is_pause, part_read, paths_line, run_line, service_of, service_said, state_line, turns_line, turns_read};
+ghost use Rattle.clap.specs.Words.{app_of, first_of, found_of, rows_of};
+ghost use Rattle.initd_options.specs.Options.{digit_read, drain_line, hundredths_read, initctl_line, inittab_line, is_pause, part_read, paths_line, run_line, service_of, service_said, state_line, turns_line, turns_read};
 
 use crate::command::read_level_option;
 use clap::{Arg, ArgAction, ArgMatches, Command};
@@ -39,8 +39,7 @@ const PAUSE_LIMIT: u64 = 6_000;
 
 /// The command line behind `initd run`, as far as it names the path of the inittab.
 fn inittab_line<'a>(alloc: Global) -> Result<Command<'a>, AllocError>
-    ensures line { IfOk result (λ made. app_of made
-        ≡ with_rule (new_app (codes "run")) inittab_rule) }
+    ensures line { IfOk result (λ made. app_of made ≡ inittab_line) }
     ensures plain { IfOk result (λ made. (out-Command made).has_globals ≡ false) }
 {
     let inittab = Arg::new(alloc, "inittab")
@@ -50,9 +49,8 @@ fn inittab_line<'a>(alloc: Global) -> Result<Command<'a>, AllocError>
 }
 
 /// The same, with the path of the channel.
-fn channel_line<'a>(alloc: Global) -> Result<Command<'a>, AllocError>
-    ensures line { IfOk result (λ made. app_of made
-        ≡ with_rule (with_rule (new_app (codes "run")) inittab_rule) initctl_rule) }
+fn initctl_line<'a>(alloc: Global) -> Result<Command<'a>, AllocError>
+    ensures line { IfOk result (λ made. app_of made ≡ initctl_line) }
     ensures plain { IfOk result (λ made. (out-Command made).has_globals ≡ false) }
 {
     let initctl = Arg::new(alloc, "initctl")
@@ -66,7 +64,7 @@ fn paths_line<'a>(alloc: Global) -> Result<Command<'a>, AllocError>
     ensures line { IfOk result (λ made. app_of made ≡ paths_line) }
     ensures plain { IfOk result (λ made. (out-Command made).has_globals ≡ false) }
 {
-    channel_line(alloc)?.arg(Arg::new(alloc, "trace").long("trace"))
+    initctl_line(alloc)?.arg(Arg::new(alloc, "trace").long("trace"))
 }
 
 /// The same, with the path of the state.
@@ -92,16 +90,24 @@ fn turns_line<'a>(alloc: Global) -> Result<Command<'a>, AllocError>
     state_line(alloc)?.arg(level)?.arg(turns)
 }
 
-/// The command line behind `initd run`.
-pub(crate) fn run_line<'a>(alloc: Global) -> Result<Command<'a>, AllocError>
-    ensures line { IfOk result (λ made. app_of made ≡ run_line) }
+/// The same, with whether the run ends where nothing is left to do.
+fn drain_line<'a>(alloc: Global) -> Result<Command<'a>, AllocError>
+    ensures line { IfOk result (λ made. app_of made ≡ drain_line) }
     ensures plain { IfOk result (λ made. (out-Command made).has_globals ≡ false) }
 {
     let drain = Arg::new(alloc, "drain")
         .long("drain")
         .action(ArgAction::SetTrue);
+    turns_line(alloc)?.arg(drain)
+}
+
+/// The command line behind `initd run`.
+pub(crate) fn run_line<'a>(alloc: Global) -> Result<Command<'a>, AllocError>
+    ensures line { IfOk result (λ made. app_of made ≡ run_line) }
+    ensures plain { IfOk result (λ made. (out-Command made).has_globals ≡ false) }
+{
     let pause = Arg::new(alloc, "pause").long("pause").default_value("1");
-    turns_line(alloc)?.arg(drain)?.arg(pause)
+    drain_line(alloc)?.arg(pause)
 }
 
 /// What the words behind `run` say; None where a value is none of its kind.

@@ -21,12 +21,19 @@ unfoldable pub new_level_rule : Rule
 new_level_rule = record (new_rule (codes "new")) { required = true }
 
 -- the words have no program's name in front
-unfoldable pub unnamed : App
-unnamed = let named = new_app (codes "rc") in record named { top = record named.top { no_binary_name = true } }
+unfoldable pub dir_line : App
+unfolding dir_rule
+dir_line =
+    let named = new_app (codes "rc") in
+    with_rule (record named { top = record named.top { no_binary_name = true } }) dir_rule
+
+unfoldable pub previous_line : App
+unfolding dir_line previous_rule
+previous_line = with_rule dir_line previous_rule
 
 unfoldable pub command_line : App
-unfolding unnamed dir_rule previous_rule new_level_rule
-command_line = with_rule (with_rule (with_rule unnamed dir_rule) previous_rule) new_level_rule
+unfolding previous_line new_level_rule
+command_line = with_rule previous_line new_level_rule
 
 -- the folder that holds those of the runlevels, the level before, if there was one, and the new level
 pub record Said : Type 0 where

@@ -1,7 +1,7 @@
 ghost use Rattle.std.specs.Prelude.{◌≡◌, false, map, option_map, string_bytes, IfOk, IsErrOf};
 ghost use Rattle.clap.specs.declared.builder.command.Command.{out-Command};
-ghost use Rattle.clap.specs.Words.{FailsBy, app_of, fault_of, found_of, matches_of, rows_of, with_rule};
-ghost use Rattle.rc_command.specs.CommandLine.{command_line, dir_rule, is_dir, level_of, previous_of, previous_rule, read_of, rows_said, said_by, said_of, unnamed};
+ghost use Rattle.clap.specs.Words.{FailsBy, app_of, fault_of, found_of, matches_of, rows_of};
+ghost use Rattle.rc_command.specs.CommandLine.{command_line, dir_line, is_dir, level_of, previous_line, previous_of, read_of, rows_said, said_by, said_of};
 
 use clap::{Arg, ArgMatches, Command, Error};
 use command_words::{WordFault, value_of, word_fault};
@@ -38,7 +38,7 @@ pub fn read_words(alloc: Global, words: &[String]) -> Result<Words, WordFault>
 
 /// The command line of `rc`, as far as it names the folder.
 fn dir_line<'a>(alloc: Global) -> Result<Command<'a>, AllocError>
-    ensures line { IfOk result (λ made. app_of made ≡ with_rule unnamed dir_rule) }
+    ensures line { IfOk result (λ made. app_of made ≡ dir_line) }
     ensures plain { IfOk result (λ made. (out-Command made).has_globals ≡ false) }
 {
     let dir = Arg::new(alloc, "dir").required(true);
@@ -47,8 +47,7 @@ fn dir_line<'a>(alloc: Global) -> Result<Command<'a>, AllocError>
 
 /// The same, with the level before.
 fn previous_line<'a>(alloc: Global) -> Result<Command<'a>, AllocError>
-    ensures line { IfOk result (λ made. app_of made
-        ≡ with_rule (with_rule unnamed dir_rule) previous_rule) }
+    ensures line { IfOk result (λ made. app_of made ≡ previous_line) }
     ensures plain { IfOk result (λ made. (out-Command made).has_globals ≡ false) }
 {
     dir_line(alloc)?.arg(Arg::new(alloc, "previous").required(true))

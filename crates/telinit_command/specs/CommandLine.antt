@@ -18,12 +18,19 @@ unfoldable pub sign_rule : Rule
 sign_rule = record (new_rule (codes "sign")) { required = true }
 
 -- the words have no program's name in front
-unfoldable pub unnamed : App
-unnamed = let named = new_app (codes "telinit") in record named { top = record named.top { no_binary_name = true } }
+unfoldable pub seconds_line : App
+unfolding seconds_rule
+seconds_line =
+    let named = new_app (codes "telinit") in
+    with_rule (record named { top = record named.top { no_binary_name = true } }) seconds_rule
+
+unfoldable pub path_line : App
+unfolding seconds_line path_rule
+path_line = with_rule seconds_line path_rule
 
 unfoldable pub command_line : App
-unfolding unnamed seconds_rule path_rule sign_rule
-command_line = with_rule (with_rule (with_rule unnamed seconds_rule) path_rule) sign_rule
+unfolding path_line sign_rule
+command_line = with_rule path_line sign_rule
 
 -- the value that the words give an argument, or its default
 abbrev pub value_in : List Text → Text → Text

@@ -1,7 +1,7 @@
 ghost use Rattle.std.specs.Prelude.{◌≡◌, false, map, string_bytes, IfOk, IsErrOf};
 ghost use Rattle.clap.specs.declared.builder.command.Command.{out-Command};
-ghost use Rattle.clap.specs.Words.{FailsBy, app_of, fault_of, found_of, matches_of, rows_of, with_rule};
-ghost use Rattle.telinit_command.specs.CommandLine.{command_line, path_rule, read_of, seconds_rule, unnamed};
+ghost use Rattle.clap.specs.Words.{FailsBy, app_of, fault_of, found_of, matches_of, rows_of};
+ghost use Rattle.telinit_command.specs.CommandLine.{command_line, path_line, read_of, seconds_line};
 
 use crate::seconds::read_seconds;
 use clap::{Arg, ArgMatches, Command, Error};
@@ -46,7 +46,7 @@ pub fn read_words(alloc: Global, words: Vec<String>) -> Result<Words, WordFault>
 
 /// The command line of `telinit`, as far as it names the seconds.
 fn seconds_line<'a>(alloc: Global) -> Result<Command<'a>, AllocError>
-    ensures line { IfOk result (λ made. app_of made ≡ with_rule unnamed seconds_rule) }
+    ensures line { IfOk result (λ made. app_of made ≡ seconds_line) }
     ensures plain { IfOk result (λ made. (out-Command made).has_globals ≡ false) }
 {
     let secs = Arg::new(alloc, "secs").short('t').default_value("5");
@@ -57,8 +57,7 @@ fn seconds_line<'a>(alloc: Global) -> Result<Command<'a>, AllocError>
 
 /// The same, with the path of the channel.
 fn path_line<'a>(alloc: Global) -> Result<Command<'a>, AllocError>
-    ensures line { IfOk result (λ made. app_of made
-        ≡ with_rule (with_rule unnamed seconds_rule) path_rule) }
+    ensures line { IfOk result (λ made. app_of made ≡ path_line) }
     ensures plain { IfOk result (λ made. (out-Command made).has_globals ≡ false) }
 {
     let path = Arg::new(alloc, "initctl")

@@ -8,4 +8,4 @@ pub returns-clause-line : goal.returns-clause-line
 unfolding trace_path_rule paths_line
 returns-clause-line c =
     let trace_is : rule_of c.long.result ≡ trace_path_rule = search rules in
-    IfOk-weaker c.arg.result _ _ (λ made adds. adds.shape (search rules) ∙ ap₂ with_rule c.in_ok-channel_line.ensures.line trace_is) c.arg.ensures
+    IfOk-weaker c.arg.result _ _ (λ made adds. adds.shape (search rules) ∙ ap₂ with_rule c.in_ok-initctl_line.ensures.line trace_is) c.arg.ensures

@@ -2,14 +2,14 @@ use Rattle.std.proofs.Common.{rules, true, ◌≡◌, ◌∙◌, ap, ap₂, code
 use Rattle.std.proofs.lemmas.Result.{IfOk-weaker}
 use Rattle.clap.specs.Words.{App, app_of, new_app, rule_of, with_rule}
 use Rattle.clap.specs.Simple.{app_of_fields}
-use Rattle.rc_command.specs.CommandLine.{dir_rule, unnamed}
+use Rattle.rc_command.specs.CommandLine.{dir_line, dir_rule}
 use Rattle.rc_command.proofs.command.dir_line.Goals as goal
 
 abbrev without_name : App → App
 without_name app = record app { top = record app.top { no_binary_name = true } }
 
 pub returns-clause-line : goal.returns-clause-line
-unfolding dir_rule unnamed
+unfolding dir_rule dir_line
 returns-clause-line c =
     let dir_is : rule_of c.required-dir.result ≡ dir_rule = search rules in
     let none : app_of c.no_binary_name.result ≡ without_name (new_app (codes "rc")) =

@@ -3,15 +3,15 @@ use Rattle.std.specs.Prelude.{map, string_bytes}
 use Rattle.std.proofs.lemmas.Result.{IfOk-weaker}
 use Rattle.clap.specs.Words.{App, FailsBy, Text, is_simple, is_simple_and_free, matches_of, fault_of}
 use Rattle.clap.proofs.OnLiterals.{clap_on_literals}
-use Rattle.rc_command.specs.CommandLine.{command_line, dir_rule, new_level_rule, previous_rule, unnamed}
+use Rattle.rc_command.specs.CommandLine.{command_line, dir_line, dir_rule, new_level_rule, previous_line, previous_rule}
 use Rattle.rc_command.proofs.command.parsed.Goals as goal
 
 is_simple_line : is_simple command_line ≡ true
-unfolding unnamed dir_rule previous_rule new_level_rule command_line
+unfolding dir_rule previous_rule new_level_rule dir_line previous_line command_line
 is_simple_line = refl
 
 is_free_line : is_simple_and_free command_line ≡ true
-unfolding unnamed dir_rule previous_rule new_level_rule command_line clap_on_literals
+unfolding dir_rule previous_rule new_level_rule dir_line previous_line command_line clap_on_literals
 is_free_line = refl
 
 pub returns-clause-rows : goal.returns-clause-rows

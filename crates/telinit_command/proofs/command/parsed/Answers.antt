@@ -3,15 +3,15 @@ use Rattle.std.specs.Prelude.{map, string_bytes}
 use Rattle.std.proofs.lemmas.Result.{IfOk-weaker}
 use Rattle.clap.specs.Words.{App, FailsBy, Text, is_simple, is_simple_and_free, matches_of, fault_of}
 use Rattle.clap.proofs.OnLiterals.{clap_on_literals}
-use Rattle.telinit_command.specs.CommandLine.{command_line, path_rule, seconds_rule, sign_rule, unnamed}
+use Rattle.telinit_command.specs.CommandLine.{command_line, path_line, path_rule, seconds_line, seconds_rule, sign_rule}
 use Rattle.telinit_command.proofs.command.parsed.Goals as goal
 
 is_simple_line : is_simple command_line ≡ true
-unfolding unnamed seconds_rule path_rule sign_rule command_line
+unfolding seconds_rule path_rule sign_rule seconds_line path_line command_line
 is_simple_line = refl
 
 is_free_line : is_simple_and_free command_line ≡ true
-unfolding unnamed seconds_rule path_rule sign_rule command_line clap_on_literals
+unfolding seconds_rule path_rule sign_rule seconds_line path_line command_line clap_on_literals
 is_free_line = refl
 
 pub returns-clause-rows : goal.returns-clause-rows
