@@ -81,13 +81,13 @@ impl Slot {
         Slot {
             id,
             act: table_act,
-            child,
-            order,
-            stop,
             asked,
             called,
             look,
             missed,
+            child,
+            order,
+            stop,
             limiter: Limiter::of(starts, held_until),
         }
     }

@@ -20,12 +20,12 @@ record_of slot = record {
   act = birth_act slot;
   order = slot.order;
   stop = slot.stop;
+  held_until = slot.limiter.held;
+  starts = record { items = slot.limiter.starts };
   asked = slot.asked;
   called = slot.called;
   look = slot.look;
   missed = slot.missed;
-  held_until = slot.limiter.held;
-  starts = record { items = slot.limiter.starts };
 }
 
 -- what init keeps, but for its table and its records

@@ -39,15 +39,11 @@ pub const USAGE: &str =
 /// run used up its turns, 4 where a file can't be read, the trace or the output fails or memory runs out. The trace of
 /// a simulated run, the verdict on a trace, or the faults of the inittab of a run are written on `out`, and a fault is
 /// reported on `err`.
-pub fn run_words<R, W: Write, E: Write>(
-    rt: &R,
-    alloc: Global,
-    words: Vec<String>,
-    out: &mut W,
-    err: &mut E,
-) -> u8
+pub fn run_words<R, W, E>(rt: &R, alloc: Global, words: Vec<String>, out: &mut W, err: &mut E) -> u8
 where
     R: Processes + Files + Clock + Print + Eprint + Clone + Drop,
+    W: Write,
+    E: Write,
     ensures { (ending : Ending) × (result ≡ status_of ending)
         × EndsBy (map string_bytes words.items) ending (W.contents out.old) (W.contents out.new)
         × Reports ending (E.contents err.old) (E.contents err.new) }

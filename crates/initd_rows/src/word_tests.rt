@@ -1,4 +1,4 @@
-use initd_command::run_words;
+use initd_command::{USAGE, run_words};
 use program_trials::{Slow, line_words};
 use std::alloc::{AllocError, Global};
 use std::fs;
@@ -315,27 +315,30 @@ const FAULTY: &[&str] = &[
     "--version",
 ];
 
-const USAGE_REPORTED: &str = "--
+/// What the report of words that are no command line begins with, and that nothing is written before it.
+const FORMS_REPORTED: &str = "--
 usage: initd run [--inittab P] [--initctl P] [--state P] [--trace P] [--level L] [--turns N] [--drain] [--pause SEC]
        initd simulate [--level L] TABLE SCRIPT
        initd check TRACE
-  --inittab  the inittab(5); inittab where it is left out
-  --initctl  the file to which telinit appends requests; initctl where it is left out
-  --state    the file that carries init's state where init executes itself anew; initd.state where it is left out
-  --trace    the file that the trace of the run is written to; none where it is left out
-  --turns    the greatest number of turns, 1 to 1000000000; 1000000 where it is left out
-  --drain    end where nothing is left to do and nothing runs
-  --pause    the seconds between two turns, 0.01 to 60, with at most two digits behind the point; 1 where it is left out
-  L       the runlevel to go to, 0 to 9, S or s; the table's initdefault where it is left out
-  TABLE   an inittab(5)
-  SCRIPT  what the system did, one happening a line
-  TRACE   a trace of init, which is judged
 ";
+
+/// The words of a line are refused, and the forms of the command line reported.
+fn is_usage_fault<R>(rt: &R, alloc: Global, line: &str) -> Result<(), Fail>
+where
+    R: Processes + Files + Clock + Print + Eprint + Clone + Drop + Abort,
+{
+    let mut out: Vec<u8> = Vec::new(alloc);
+    let ended = answer(rt, alloc, line, &mut out)?;
+    let has_forms = out.as_slice().starts_with(FORMS_REPORTED.as_bytes());
+    let is_whole = out.len() == "--\n".len() + USAGE.len();
+    assert!(rt; ended == 1 && has_forms && is_whole, "at {line:?}");
+    Ok(())
+}
 
 #[test]
 fn usage_faults_write_no_trace(rt: HostRuntime) -> Result<(), Fail> {
     for line in FAULTY {
-        answers(&rt, rt.alloc(), line, 1, USAGE_REPORTED)?;
+        is_usage_fault(&rt, rt.alloc(), line)?;
     }
     Ok(())
 }

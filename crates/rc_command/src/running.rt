@@ -28,15 +28,11 @@ pub const USAGE: &str = "usage: rc DIR PREV NEW
 /// were carried out, whatever their own statuses, 1 where the words are no command line, 3 where a script has not ended
 /// after 100,000 pauses, 4 where NEW's folder can't be listed, the output fails or memory runs out. A line for each
 /// script is written on `out` at its end, and a fault is reported on `err`.
-pub fn run_words<R, W: Write, E: Write>(
-    rt: &R,
-    alloc: Global,
-    words: Vec<String>,
-    out: &mut W,
-    err: &mut E,
-) -> u8
+pub fn run_words<R, W, E>(rt: &R, alloc: Global, words: Vec<String>, out: &mut W, err: &mut E) -> u8
 where
     R: Processes + Files + Clock + Print + Eprint + Alloc + Clone + Drop,
+    W: Write,
+    E: Write,
     ensures statuses { (result ≡ DONE) ⊎ (result ≡ REFUSED) ⊎ (result ≡ LIMIT_REACHED)
         ⊎ (result ≡ DEVICE_FAULT) }
     ensures refused { result ≡ REFUSED → read_of (map string_bytes words.items) ≡ None }
