@@ -1,5 +1,5 @@
 -- A moment of a simulated run, and what init's own steps make of it.
-use Rattle.std.specs.Prelude.{◌≡◌, ◌⊎◌, ℕ, Bool, true, false, ◌+◌, List, ◌++◌, Option}
+use Rattle.std.specs.Prelude.{◌≡◌, ◌⊎◌, ℕ, Bool, true, false, ◌+◌, List, [], ◌∷◌, ◌++◌, Option}
 use Rattle.std.specs.Io.KnownBytes.{Appends, Keeps}
 use Rattle.init_trace.specs.declared.steps.Goal.{Goal}
 use Rattle.init_trace.specs.Event.{Event}
@@ -23,7 +23,7 @@ use Rattle.supervisor.specs.Faults.{Leaves}
 use Rattle.supervisor.specs.Handing.{made_in, kept_goal}
 use Rattle.supervisor.specs.Texts.{CanHand}
 use Rattle.supervisor.specs.Said.{may_be_said, IsObjected, first_table, heard}
-use Rattle.supervisor.specs.Simulation.{IsTooLong, RunOver, Scenario, goal_in, heard_text, past_text}
+use Rattle.supervisor.specs.Simulation.{IsTooLong, RunOver, Scenario, goal_in, heard_text, past_text, table_in}
 
 -- what can be handed over: the core keeps its rules, its seconds are short, and its generation and its goal are those
 -- of the run so far
@@ -129,6 +129,14 @@ OpeningEnds inittab (fault.Script n) old new = ⊥
 OpeningEnds inittab (fault.Forbidden n why) old new = ⊥
 OpeningEnds inittab fault.Write old new = Leaves fault.Write old new (opening_text inittab)
 OpeningEnds inittab fault.Memory old new = Leaves fault.Memory old new (opening_text inittab)
+
+-- of each run over this script whose table is written, core and side being at its first moment
+abbrev pub FromOpening : List ℕ → CoreState → State → Option (List ℕ)
+    → (Scenario → Option (List ℕ) → Type 0) → Type 0
+FromOpening script core side now P =
+    (s : Scenario) (before : Option (List ℕ)) → s.script ≡ script
+    → Moment (goal_in s) (NewTable (table_in s) ∷ []) core side → Appends before now (opening_text s.inittab)
+    → P s before
 
 -- the run over the script up to this rest of it, whose first line has the number; init rests
 pub record SoFar (s : Scenario) (rest : List ℕ) (number : ℕ) (rereads : Bool) (core : CoreState) (side : State)

@@ -16,7 +16,7 @@ ghost use Rattle.core_state.specs.Steps.{after_adopt};
 ghost use Rattle.supervisor.specs.Faults.{Leaves};
 ghost use Rattle.supervisor.specs.Handing.{text_made};
 ghost use Rattle.supervisor.specs.Texts.{HasTexts};
-ghost use Rattle.supervisor.specs.Moments.{Breaks, ComesToRest, FromMoment, FromRest, FromScript, HeardEnds, HeardOne, IsReadyFor, Lasts, Moment, OpeningEnds, SomeMoment, SomeRest, TableEnds, opening_text};
+ghost use Rattle.supervisor.specs.Moments.{Breaks, ComesToRest, FromMoment, FromOpening, FromRest, FromScript, HeardEnds, HeardOne, IsReadyFor, Lasts, Moment, OpeningEnds, SomeMoment, SomeRest, TableEnds, opening_text};
 ghost use Rattle.supervisor.specs.Said.{may_be_said, objection_in};
 ghost use Rattle.supervisor.specs.Simulation.{Done, Ends, IsTooLong, scenario};
 
@@ -374,6 +374,28 @@ fn hear_all<A: Allocator + Copy, W: Write>(
     Ok(())
 }
 
+/// Takes init's first steps until it rests, and hears the script.
+fn run_script<A: Allocator + Copy, W: Write>(
+    alloc: A,
+    core: &mut Core<A>,
+    side: &mut SimulatedSystem<A>,
+    out: &mut W,
+    script: &[u8],
+) -> Result<(), SimFault>
+    requires moment { SomeMoment core.old side.old }
+    requires none { core.old.generation ≡ 0 }
+    ensures done { OnOk result (
+        FromOpening script.now core.old side.old (W.contents out.old)
+        (λ s before. Done s before (W.contents out.new))) }
+    ensures ended { IfErr result (λ fault.
+        FromOpening script.now core.old side.old (W.contents out.old)
+        (λ s before. Ends s fault before (W.contents out.new))) }
+{
+    let rereads = run_until_rest(alloc, core, side, out)?;
+    let text = ended(alloc, script)?;
+    hear_all(alloc, core, side, out, &text, rereads)
+}
+
 /// Runs init over an inittab(5) and a script of what the system and the edge did, a happening a line, and writes the
 /// trace as it comes: the table, and then each step of init and each line. Init takes its steps until none is due but to
 /// read inittab or to execute itself anew, after the opening and after each line. The level is that to go to; where none
@@ -407,7 +429,5 @@ pub fn simulate<A: Allocator + Copy, W: Write>(
 {
     let mut core = open_run(alloc, inittab, level, out)?;
     let mut side = SimulatedSystem::new(alloc);
-    let rereads = run_until_rest(alloc, &mut core, &mut side, out)?;
-    let script = ended(alloc, script)?;
-    hear_all(alloc, &mut core, &mut side, out, &script, rereads)
+    run_script(alloc, &mut core, &mut side, out, script)
 }

@@ -2,13 +2,12 @@ ghost use Rattle.std.specs.Prelude.{◌≡◌, OnOk};
 
 use crate::children::{Living, take_child};
 use crate::limits::{Starts, take_hold, take_start};
-use crate::maps::{ById, Ids};
+use crate::maps::{ById, Ids, no_ids, nothing};
 use crate::parts::{
     grace_after, stage_after, take_asked, take_called, take_kept, take_order, take_sent, time_after,
 };
 use crate::spells::take_term;
 use crate::tables::InForce;
-use indexmap::{IndexMap, IndexSet};
 use init_trace::HappeningIn;
 use init_words::{Ask, Memory, Stage};
 use std::alloc::Allocator;
@@ -65,15 +64,15 @@ impl<A: Allocator + Copy> Judge<A> {
             stage: None,
             grace: 0,
             time: 0,
-            orders: IndexMap::new(alloc),
-            kept: IndexSet::new(alloc),
-            asked: IndexSet::new(alloc),
-            called: IndexSet::new(alloc),
-            sent: IndexSet::new(alloc),
-            starts: IndexMap::new(alloc),
-            holds: IndexMap::new(alloc),
-            children: IndexMap::new(alloc),
-            termed: IndexMap::new(alloc),
+            orders: nothing(alloc),
+            kept: no_ids(alloc),
+            asked: no_ids(alloc),
+            called: no_ids(alloc),
+            sent: no_ids(alloc),
+            starts: nothing(alloc),
+            holds: nothing(alloc),
+            children: nothing(alloc),
+            termed: nothing(alloc),
         }
     }
 

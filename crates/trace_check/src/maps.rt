@@ -13,18 +13,32 @@ pub(crate) type ById<V, A> = IndexMap<Id, V, BuildHasherDefault<FoldHasher>, A>;
 /// A set of ids.
 pub(crate) type Ids<A> = IndexSet<Id, BuildHasherDefault<FoldHasher>, A>;
 
+/// Nothing of any id. It takes no memory.
+pub(crate) fn nothing<V, A: Allocator + Copy>(alloc: A) -> ById<V, A>
+    ensures { result.entries ≡ [] }
+{
+    IndexMap::new(alloc)
+}
+
+/// No ids. It takes no memory.
+pub(crate) fn no_ids<A: Allocator + Copy>(alloc: A) -> Ids<A>
+    ensures { result.keys ≡ [] }
+{
+    IndexSet::new(alloc)
+}
+
 /// Forgets all, and gives the memory back, so that it costs what was put in since.
 pub(crate) fn forget_all<V: Drop, A: Allocator + Copy>(map: &mut ById<V, A>)
     ensures { map.new.entries ≡ [] }
 {
-    *map = IndexMap::new(*map.allocator());
+    *map = nothing(*map.allocator());
 }
 
 /// The same of a set.
 pub(crate) fn forget_ids<A: Allocator + Copy>(ids: &mut Ids<A>)
     ensures { ids.new.keys ≡ [] }
 {
-    *ids = IndexSet::new(*ids.allocator());
+    *ids = no_ids(*ids.allocator());
 }
 
 /// Adds the id where the test holds.
