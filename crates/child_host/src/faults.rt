@@ -12,7 +12,7 @@ fn is_failed_answer(answer: &Answer) -> bool
 }
 
 /// The reply tells of a fault.
-pub(crate) fn is_failed_reply(reply: &Reply) -> bool
+pub fn is_failed_reply(reply: &Reply) -> bool
     ensures { result ≡ is_failed_reply reply.now }
 {
     match reply {
@@ -22,7 +22,7 @@ pub(crate) fn is_failed_reply(reply: &Reply) -> bool
 }
 
 /// The late answer tells of a fault.
-pub(crate) fn is_failed_late(late: &Option<(Id, Answer)>) -> bool
+pub fn is_failed_late(late: &Option<(Id, Answer)>) -> bool
     ensures { result ≡ is_failed_late late.now }
 {
     match late {
@@ -32,7 +32,7 @@ pub(crate) fn is_failed_late(late: &Option<(Id, Answer)>) -> bool
 }
 
 /// The count of faults after a call.
-pub(crate) fn counted(faults: u64, failed: bool) -> u64
+pub fn counted(faults: u64, failed: bool) -> u64
     ensures value { result ≡ counted failed faults }
     ensures cause { HasCause faults result failed }
 {

@@ -1,9 +1,10 @@
 //! Each call takes the first of its queue, and has an answer of its own where the queue is empty.
 
 use crate::fixtures::{fill, id_of};
-use child_host::{Bytes, Host, HostFault, MemoryHost, Reply};
+use child_host::{Bytes, Host, HostFault, Reply};
 use init_words::{Answer, ChildNo, Id, Memory, Sig, Status};
 use linked_list_allocator::LocalHeap;
+use memory_host::MemoryHost;
 use std::alloc::Global;
 use std::process::Abort;
 use std::test::Fail;

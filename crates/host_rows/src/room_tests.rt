@@ -1,9 +1,10 @@
 //! Growths are refused, over a small heap that is filled.
 
 use crate::fixtures::{fill, id_of};
-use child_host::{Bytes, Host, HostFault, MemoryHost, Reply};
+use child_host::{Bytes, Host, HostFault, Reply};
 use init_words::{Answer, Id, Memory};
 use linked_list_allocator::LocalHeap;
+use memory_host::MemoryHost;
 use std::alloc::{Allocator, Global};
 use std::process::Abort;
 use std::test::Fail;

@@ -4,13 +4,13 @@ ghost use Rattle.initd_options.specs.Options.{service_of};
 ghost use Rattle.initd_command.specs.Services.{EndsOver, EndsService, EndsTold, IsServed, end_of, fault_line, faults_text};
 
 use crate::reports::{report, report_fault, report_memory, report_uncreated, report_unread, tell};
-use child_host::OsHost;
 use host_turns::{Served, serve};
 use init_trace::{Happening, HappeningIn};
 use init_words::Memory;
 use initd_options::Serving;
 use inittab_text::{LineFault, Table, TableFault, read};
 use level_core::Core;
+use os_host::OsHost;
 use program_edge::{DEVICE_FAULT, DONE, LIMIT_REACHED, read_file};
 use run_log::{Log, LogFault, StreamLog};
 use std::alloc::{AllocError, Allocator, Global};

@@ -1,7 +1,7 @@
 //! Hosts over the operating system.
 
-use child_host::OsHost;
 use init_words::{Id, Memory};
+use os_host::OsHost;
 use std::alloc::{Allocator, Global};
 use std::test::Fail;
 

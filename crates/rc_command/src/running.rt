@@ -4,8 +4,8 @@ ghost use Rattle.rc_command.specs.Endings.{Reports, ReportsPart};
 
 use crate::command::{Words, read_words};
 use crate::folders::{folder_of, names_in, previous_names};
-use child_host::OsHost;
 use command_words::WordFault;
+use os_host::OsHost;
 use program_edge::{DEVICE_FAULT, DONE, LIMIT_REACHED, REFUSED, tell_no_memory, tell_usage};
 use rc_driver::{Rc, RunEnd, run_links};
 use std::alloc::Global;

@@ -1,7 +1,8 @@
 //! Runs over a scripted host.
 
-use child_host::{Call, MemoryHost, Reply};
+use child_host::{Call, Reply};
 use init_words::{Answer, ChildNo, Id, Status};
+use memory_host::MemoryHost;
 use program_trials::Slow;
 use rc_driver::{Rc, RcStep, RunEnd, run_links};
 use std::alloc::Global;

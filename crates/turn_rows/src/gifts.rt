@@ -8,9 +8,10 @@
 //! can be `fails`.
 
 use crate::runs::lines_of;
-use child_host::{Bytes, HostFault, MemoryHost, Reply};
+use child_host::{Bytes, HostFault, Reply};
 use init_words::{Answer, ChildNo, Id, Status};
 use initctl_frame::{Request, Sign, encode};
+use memory_host::MemoryHost;
 use std::alloc::{Allocator, Global};
 
 /// The first word of a text, and what stands behind it.

@@ -2,11 +2,12 @@
 
 use crate::gifts::give_all;
 use crate::runs::core_of;
-use child_host::{Host, MemoryHost};
+use child_host::Host;
 use host_turns::{Served, serve};
 use init_trace::{HappeningIn, print};
 use level_core::Core;
 use linked_list_allocator::LocalHeap;
+use memory_host::MemoryHost;
 use program_trials::Slow;
 use run_log::{ListLog, Log, StreamLog};
 use std::alloc::Global;

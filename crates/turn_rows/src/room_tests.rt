@@ -3,11 +3,12 @@
 use crate::gifts::give_all;
 use crate::runs::{Row, core_of};
 use crate::trials::{Trial, passes_over};
-use child_host::{Call, MemoryHost};
+use child_host::Call;
 use host_turns::serve;
 use init_trace::print;
 use level_core::Core;
 use linked_list_allocator::LocalHeap;
+use memory_host::MemoryHost;
 use run_log::ListLog;
 use std::alloc::{Allocator, Global};
 use std::test::Fail;

@@ -1,10 +1,11 @@
 //! Runs of init over a scripted host, whose traces are text, their lines parted by ` / `.
 
-use child_host::{Call, CallIn, Host, MemoryHost};
+use child_host::{Call, CallIn, Host};
 use host_turns::{Served, serve};
 use init_trace::{Happening, HappeningIn, print};
 use inittab_text::read;
 use level_core::Core;
+use memory_host::MemoryHost;
 use run_log::{ListLog, Log};
 use std::alloc::{Allocator, Global};
 use trace_check::{Verdict, check};

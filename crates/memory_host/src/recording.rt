@@ -1,8 +1,8 @@
 ghost use Rattle.std.specs.Prelude.{◌≡◌, ◌≤◌, length, IfOk};
 ghost use Rattle.child_host.specs.Calls.{HostCall, Adds, text_read, front_read};
-ghost use Rattle.child_host.specs.Script.{tale};
+ghost use Rattle.memory_host.specs.Script.{tale};
 
-use crate::calls::{Bytes, Call, CallIn, HostFault, Reply};
+use child_host::{Bytes, Call, CallIn, HostFault, Reply};
 use init_trace::{HappeningIn, happening_copy};
 use init_words::{Id, Memory};
 use std::alloc::Allocator;

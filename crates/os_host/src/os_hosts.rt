@@ -1,11 +1,9 @@
 ghost use Rattle.std.specs.Prelude.{◌≡◌, IfOk, OnErr, IsErr};
 
 use crate::announcements::announcement_text;
-use crate::calls::{HostFault, Reply};
 use crate::children::{Children, run_line, say_not_born};
-use crate::faults::{counted, is_failed_reply};
-use crate::hosts::Host;
 use crate::paths::Paths;
+use child_host::{Host, HostFault, Reply, counted, is_failed_reply};
 use init_trace::HappeningIn;
 use init_words::{Answer, ChildNo, Id, Memory, Sig};
 use std::alloc::{Allocator, Global};

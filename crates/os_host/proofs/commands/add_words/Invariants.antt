@@ -1,8 +1,8 @@
 use Rattle.std.proofs.Common.{◌≡◌, ◌++◌, length, Some}
 use Rattle.std.specs.Str.{IsUtf8}
 use Rattle.text_lines.specs.Lines.{words_of}
-use Rattle.child_host.specs.Commands.{words_in}
-use Rattle.child_host.proofs.commands.add_words.Given as goal
+use Rattle.os_host.specs.Commands.{words_in}
+use Rattle.os_host.proofs.commands.add_words.Given as goal
 
 abbrev pub invariant-loop-word : goal.invariant-loop-word
 invariant-loop-word g l = record {

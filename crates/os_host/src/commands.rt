@@ -1,7 +1,7 @@
 ghost use Rattle.std.specs.Prelude.{◌≡◌, ◌++◌, ◌∷◌, [], Some, codes, IfOk, OnOk};
 ghost use Rattle.std.specs.Str.{IsUtf8};
 ghost use Rattle.text_lines.specs.Lines.{words_of};
-ghost use Rattle.child_host.specs.Commands.{is_shell_byte, needs_shell, words_run, words_in};
+ghost use Rattle.os_host.specs.Commands.{is_shell_byte, needs_shell, words_run, words_in};
 
 use std::alloc::{AllocError, Allocator};
 use std::process::Command;

@@ -1,8 +1,8 @@
 ghost use Rattle.std.specs.Prelude.{◌≡◌, ◌≤◌, ◌++◌, ◌∷◌, [], drop, length, take, min, unwrap_or, Ok, OnOk, OnErr, IfOk};
 ghost use Rattle.child_host.specs.Calls.{front_read};
-ghost use Rattle.child_host.specs.Script.{first, left_of, taken_of};
+ghost use Rattle.memory_host.specs.Script.{first, left_of, taken_of};
 
-use crate::calls::{Bytes, HostFault};
+use child_host::{Bytes, HostFault};
 use init_words::Memory;
 use std::alloc::Allocator;
 use std::collections::VecDeque;
@@ -63,7 +63,7 @@ pub(crate) struct Pieces<A: Allocator> {
 impl<A: Allocator> Model for Pieces<A> {
     ghost use Rattle.std.specs.Prelude.{◌≤◌, List, length};
     ghost use Rattle.child_host.specs.Calls.{TextRead};
-    ghost use Rattle.child_host.specs.Script.{pieces_from};
+    ghost use Rattle.memory_host.specs.Script.{pieces_from};
 
     ghost Value = { List TextRead };
 

@@ -1,5 +1,5 @@
 ghost use Rattle.std.specs.Prelude.{◌≡◌, ◌++◌, IfOk};
-ghost use Rattle.child_host.specs.Announced.{announcement, entered, handed_over};
+ghost use Rattle.os_host.specs.Announced.{announcement, entered, handed_over};
 
 use init_trace::{Handed, Happening, HappeningIn};
 use init_words::{Memory, Stage};

@@ -1,10 +1,9 @@
 ghost use Rattle.std.specs.Prelude.{◌≡◌, ◌⊎◌, ◌++◌, ◌∷◌, [], OnOk, OnErr, IfOk, IfErr};
 
-use crate::calls::{Bytes, Call, CallIn, HostFault, Reply};
-use crate::faults::{counted, is_failed_late, is_failed_reply};
-use crate::hosts::Host;
 use crate::queues::{Pieces, give, next_or};
 use crate::recording::{announce_call, bytes_call, carry_call, record, start_call, table_call};
+use child_host::{Bytes, Call, CallIn, Host, HostFault, Reply};
+use child_host::{counted, is_failed_late, is_failed_reply};
 use init_trace::HappeningIn;
 use init_words::{Answer, Id, Memory, Sig};
 use std::alloc::{Allocator, Global};
@@ -32,7 +31,7 @@ pub struct MemoryHost<A: Allocator = Global> {
 }
 
 impl<A: Allocator> Model for MemoryHost<A> {
-    ghost use Rattle.child_host.specs.Script.{Script, tale};
+    ghost use Rattle.memory_host.specs.Script.{Script, tale};
 
     ghost Value = { Script };
 
@@ -174,7 +173,7 @@ impl<A: Allocator> MemoryHost<A> {
 
 impl<A: Allocator> MemoryHost<A> {
     ghost use Rattle.child_host.specs.Calls.{HostCall, Adds, HasCause, counted};
-    ghost use Rattle.child_host.specs.Script.{Becomes};
+    ghost use Rattle.memory_host.specs.Script.{Becomes};
 
     /// Counts the fault of a call that failed, and keeps the call.
     fn note(&mut self, failed: bool, call: Result<CallIn<A>, Memory>)
@@ -215,7 +214,7 @@ impl<A: Allocator + Copy> Host for MemoryHost<A> {
     ghost use Rattle.std.specs.Prelude.{◌≤◌, false, drop, length, unwrap_or, is_err};
     ghost use Rattle.child_host.specs.Calls.{Adds, HasCause, counted};
     ghost use Rattle.child_host.specs.Calls.{is_failed_reply, is_failed_late, text_read, front_read};
-    ghost use Rattle.child_host.specs.Script.{Script, Becomes, first, taken_of, left_of};
+    ghost use Rattle.memory_host.specs.Script.{Script, Becomes, first, taken_of, left_of};
 
     ghost told = { λ (s : Script). s.told };
 

@@ -1,0 +1,11 @@
+//! A host that asks the operating system: real children, the channel of requests, the inittab, the text of init's state.
+#![tactic(auto)]
+
+mod announcements;
+mod children;
+mod commands;
+mod os_hosts;
+mod paths;
+
+pub use announcements::announcement_text;
+pub use os_hosts::OsHost;
