@@ -1,8 +1,7 @@
-use Rattle.std.proofs.Common.{◌≡◌, ◌∙◌, ap, refl, true, List, String, Global, subst}
-use Rattle.std.specs.Prelude.{map, string_bytes}
-use Rattle.std.proofs.lemmas.Result.{IfOk-weaker}
-use Rattle.clap.specs.Words.{App, FailsBy, Text, is_simple, is_simple_and_free, matches_of, fault_of}
+use Rattle.std.proofs.Common.{◌≡◌, refl, true}
+use Rattle.clap.specs.Words.{is_simple, is_simple_and_free}
 use Rattle.clap.proofs.OnLiterals.{clap_on_literals}
+use Rattle.command_words.proofs.KnownLines.{known_faults, known_rows}
 use Rattle.rc_command.specs.CommandLine.{command_line, dir_line, dir_rule, new_level_rule, previous_line, previous_rule}
 use Rattle.rc_command.proofs.command.parsed.Goals as goal
 
@@ -15,15 +14,7 @@ unfolding dir_rule previous_rule new_level_rule dir_line previous_line command_l
 is_free_line = refl
 
 pub returns-clause-rows : goal.returns-clause-rows
-returns-clause-rows c =
-    let is = c.in_ok-command.ensures in
-    let words : List Text = map (λ (word : String Global). string_bytes word) c.args.words.now in
-    IfOk-weaker c.try_get_matches_from.result _ _
-    (λ found has. (has (ap is_simple is ∙ is_simple_line)).0 ∙ ap (λ (app : App). matches_of app words) is) c.try_get_matches_from.ensures.matches
+returns-clause-rows c = known_rows _ _ c.in_ok-command.ensures _ c.try_get_matches_from.result is_simple_line c.try_get_matches_from.ensures.matches
 
 pub returns-clause-faults : goal.returns-clause-faults
-returns-clause-faults c =
-    let is = c.in_ok-command.ensures in
-    let words : List Text = map (λ (word : String Global). string_bytes word) c.args.words.now in
-    subst (λ (app : App). FailsBy (fault_of app words) c.try_get_matches_from.result) is
-    (c.try_get_matches_from.ensures.kinds (ap is_simple_and_free is ∙ is_free_line))
+returns-clause-faults c = known_faults _ _ c.in_ok-command.ensures _ c.try_get_matches_from.result is_free_line c.try_get_matches_from.ensures.kinds
