@@ -2,8 +2,9 @@ ghost use Rattle.std.specs.Prelude.{◌≡◌, ◌⊎◌, ◌++◌, ◌∷◌, [
 
 use crate::queues::{Pieces, give, next_or};
 use crate::recording::{announce_call, bytes_call, carry_call, record, start_call, table_call};
-use child_host::{Bytes, Call, CallIn, Host, HostFault, Reply};
-use child_host::{counted, is_failed_late, is_failed_reply};
+use child_host::{
+    Bytes, Call, CallIn, Host, HostFault, Reply, counted, is_failed_late, is_failed_reply,
+};
 use init_trace::HappeningIn;
 use init_words::{Answer, Id, Memory, Sig};
 use std::alloc::{Allocator, Global};
