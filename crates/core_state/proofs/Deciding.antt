@@ -13,11 +13,12 @@ use Rattle.init_trace.specs.declared.steps.Goal.{Goal}
 use Rattle.init_trace.specs.Event.{Event}
 use Rattle.init_trace.specs.Past.{table_of, stage_of, grace_of, time_of, has_child, is_quiet, is_idle, kept_children, known_children}
 use Rattle.init_trace.specs.Wanted.{is_wanted, is_excluded}
-use Rattle.init_trace.specs.Wishes.{is_level, in_run, goal_of, wants_reexec, wants_reread, level_wish, keeps_power, keeps_letter, powers, letters, keeps_news, wish_stands, was_booted}
+use Rattle.init_trace.specs.Wishes.{is_level, in_run, goal_of, wants_reexec, wants_reread, level_wish, powers, letters, keeps_news, wish_stands, was_booted}
 use Rattle.init_trace.specs.Due as due
 use Rattle.init_trace.specs.Due.{due, first, step_if, steps_if, due_first, due_reexec, due_reread, due_level, due_news, due_stops, due_starts, due_stage, due_settle, due_looks, enter_level, power_steps, letter_steps, stops_among, starts_among, looks_among, is_announced, is_served, is_settled, record_ids}
 use Rattle.init_trace.specs.Sound.{is_sound}
 use Rattle.child_table.specs.Lists as lists
+use Rattle.core_state.specs.declared.news.News.{News}
 use Rattle.core_state.specs.News.{has_news, first_news}
 use Rattle.core_state.specs.State.{CoreState}
 use Rattle.core_state.specs.Decide as core
@@ -25,6 +26,7 @@ use Rattle.core_state.specs.Decide.{or_else, or_idle, level_step, wish_step, sta
 use Rattle.core_state.specs.Fit.{Fits, core_read, news_of, records_of}
 use Rattle.core_state.proofs.Fitted.{fit_records}
 use Rattle.core_state.proofs.Firsts.{head, first_by_head, head_step_if, head_steps_if}
+use Rattle.core_state.proofs.Newest.{by_first}
 use Rattle.core_state.proofs.Reading.{quiet_same, idle_same, excluded_same, kept_excluded_same}
 use Rattle.core_state.proofs.Ranks.{starts_same, all_done_same, all_served_same, looks_same}
 use Rattle.core_state.proofs.Stops.{stops_same}
@@ -71,33 +73,15 @@ wish_by true false true run level news = refl
 wish_by true false false run level news = refl
 
 news_heads : (past : List Event) → head (power_steps powers past ++ letter_steps letters past) ≡ first_news (news_of past)
-news_heads past = at (keeps_power power.Fail past) (keeps_power power.FailNow past) (keeps_power power.Ok past) (keeps_letter letter.A past) (keeps_letter letter.B past) (keeps_letter letter.C past)
-  where
-    at : (f n o a b c : Bool) → head ((step_if f (Power power.Fail) ++ (step_if n (Power power.FailNow) ++ (step_if o (Power power.Ok) ++ []))) ++ (step_if a (Call letter.A) ++ (step_if b (Call letter.B) ++ (step_if c (Call letter.C) ++ []))))
-        ≡ first_news (record { fail = f; fail_now = n; ok = o; a = a; b = b; c = c })
-    at true n o a b c = refl
-    at false true o a b c = refl
-    at false false true a b c = refl
-    at false false false true b c = refl
-    at false false false false true c = refl
-    at false false false false false true = refl
-    at false false false false false false = refl
+news_heads past = by_first (λ (n : News). head ((step_if n.fail (Power power.Fail) ++ (step_if n.fail_now (Power power.FailNow) ++ (step_if n.ok (Power power.Ok) ++ []))) ++ (step_if n.a (Call letter.A) ++ (step_if n.b (Call letter.B) ++ (step_if n.c (Call letter.C) ++ [])))) ≡ first_news n)
+    (λ n o a b c. refl) (λ o a b c. refl) (λ a b c. refl) (λ b c. refl) (λ c. refl) refl refl (news_of past)
 
 level_head : (past : List Event) (wish : Option Goal) → head (enter_level wish past) ≡ level_step (was_booted past) wish
 level_head past None = refl
 level_head past (Some wish) = refl
 
 any_news : (past : List Event) → keeps_news past ≡ has_news (news_of past)
-any_news past = at (keeps_power power.Fail past) (keeps_power power.FailNow past) (keeps_power power.Ok past) (keeps_letter letter.A past) (keeps_letter letter.B past) (keeps_letter letter.C past)
-  where
-    at : (f n o a b c : Bool) → ((f || (n || (o || false))) || (a || (b || (c || false)))) ≡ has_news (record { fail = f; fail_now = n; ok = o; a = a; b = b; c = c })
-    at true n o a b c = refl
-    at false true o a b c = refl
-    at false false true a b c = refl
-    at false false false true b c = refl
-    at false false false false true c = refl
-    at false false false false false true = refl
-    at false false false false false false = refl
+any_news past = by_first (λ (n : News). ((n.fail || (n.fail_now || (n.ok || false))) || (n.a || (n.b || (n.c || false)))) ≡ has_news n) (λ n o a b c. refl) (λ o a b c. refl) (λ a b c. refl) (λ b c. refl) (λ c. refl) refl refl (news_of past)
 
 -- 6 to 9: what is to be done, where no wish stands
 work_by : (w x q l i a : Bool) (stops starts next settled : List Step) (s m n t : Option Step) → head stops ≡ s → head starts ≡ m → head (steps_if (q && l) next) ≡ n → (x ≡ true → settled ≡ []) → (x ≡ false → head (steps_if (i && not a) settled) ≡ t)

@@ -8,6 +8,7 @@ pub mod Firsts
 pub mod Fitted
 pub mod Hearing
 pub mod Moments
+pub mod Newest
 pub mod Ordering
 pub mod Ranks
 pub mod Reading

@@ -37,6 +37,7 @@ use Rattle.core_state.specs.Steps.{after_step, with_called, is_named}
 use Rattle.core_state.specs.Fit.{Fits, records_of, with_step}
 use Rattle.core_state.proofs.Fitted.{fit_records, fits_by}
 use Rattle.core_state.proofs.Ordering.{look_ordered, term_ordered, kill_ordered, start_ordered, hold_made, power_called, letter_called}
+use Rattle.core_state.proofs.Newest.{by_first}
 use Rattle.core_state.proofs.Moments.{at_enter, wishes_enter, wishes_power, wishes_call}
 use Rattle.core_state.proofs.Tables.{enter_records}
 use Rattle.core_state.proofs.Hearing.{settle_records}
@@ -88,16 +89,7 @@ look_enters (slot ∷ slots) = at (core.can_look_slot slot) (look_enters slots)
     at false h = h
 
 news_enters : (news : News) → enters (first_news news) ≡ false
-news_enters news = at news.fail news.fail_now news.ok news.a news.b news.c
-  where
-    at : (f n o a b c : Bool) → enters (first_news (record { fail = f; fail_now = n; ok = o; a = a; b = b; c = c })) ≡ false
-    at true n o a b c = refl
-    at false true o a b c = refl
-    at false false true a b c = refl
-    at false false false true b c = refl
-    at false false false false true c = refl
-    at false false false false false true = refl
-    at false false false false false false = refl
+news_enters = by_first (λ (n : News). enters (first_news n) ≡ false) (λ n o a b c. refl) (λ o a b c. refl) (λ a b c. refl) (λ b c. refl) (λ c. refl) refl refl
 
 -- in a run level in which no other is wished for the core enters no stage
 run_enters : (c : CoreState) (level : Level) → c.level_wish ≡ None → enters (or_else (core.wish_step (stage.Run level) c) (or_else (core.work_step (stage.Run level) c) (core.look_among c.slots))) ≡ false
