@@ -3,13 +3,13 @@ use Rattle.std.proofs.Common.{Bool, true, false}
 use Rattle.core_state.specs.declared.news.News.{News}
 
 module _ (P : News → Type 0)
-  (fail : (n o a b c : Bool) → P (record { fail = true; fail_now = n; ok = o; a = a; b = b; c = c }))
-  (fail_now : (o a b c : Bool) → P (record { fail = false; fail_now = true; ok = o; a = a; b = b; c = c }))
-  (ok : (a b c : Bool) → P (record { fail = false; fail_now = false; ok = true; a = a; b = b; c = c }))
-  (by_a : (b c : Bool) → P (record { fail = false; fail_now = false; ok = false; a = true; b = b; c = c }))
-  (by_b : (c : Bool) → P (record { fail = false; fail_now = false; ok = false; a = false; b = true; c = c }))
-  (by_c : P (record { fail = false; fail_now = false; ok = false; a = false; b = false; c = true }))
-  (none : P (record { fail = false; fail_now = false; ok = false; a = false; b = false; c = false })) where
+    (fail : (n o a b c : Bool) → P (record { fail = true; fail_now = n; ok = o; a = a; b = b; c = c }))
+    (fail_now : (o a b c : Bool) → P (record { fail = false; fail_now = true; ok = o; a = a; b = b; c = c }))
+    (ok : (a b c : Bool) → P (record { fail = false; fail_now = false; ok = true; a = a; b = b; c = c }))
+    (by_a : (b c : Bool) → P (record { fail = false; fail_now = false; ok = false; a = true; b = b; c = c }))
+    (by_b : (c : Bool) → P (record { fail = false; fail_now = false; ok = false; a = false; b = true; c = c }))
+    (by_c : P (record { fail = false; fail_now = false; ok = false; a = false; b = false; c = true }))
+    (none : P (record { fail = false; fail_now = false; ok = false; a = false; b = false; c = false })) where
   pub by_first : (news : News) → P news
   by_first news = at news.fail news.fail_now news.ok news.a news.b news.c
     where
