@@ -7,27 +7,12 @@ use Rattle.init_trace.specs.Event.{Event}
 use Rattle.init_trace.specs.Past.{table_of, stage_of, time_of}
 use Rattle.init_trace.specs.Lawful.{broken, Fault, breach_at, earlier, first_breach}
 use Rattle.trace_check.specs.State.{State, opening, at, among, times_at}
-use Rattle.trace_check.specs.After.{table_after, stage_after, grace_after, time_after, order_after, kept_after, asked_after, called_after, sent_after, starts_after, hold_after, child_after, term_after}
+use Rattle.trace_check.specs.After.{Took, table_after, stage_after, grace_after, time_after, order_after, kept_after, asked_after, called_after, sent_after, starts_after, hold_after, term_after}
 use Rattle.trace_check.specs.Flaws.{flaw_in}
 use Rattle.trace_check.proofs.Reading.{Reads}
 use Rattle.trace_check.proofs.Keeping.{table_step, stage_step, grace_step, time_step, order_step, kept_step, asked_step, called_step, sent_step, starts_step, hold_step}
 use Rattle.trace_check.proofs.Bearing.{lone_step, child_step, term_step}
 use Rattle.trace_check.proofs.Judging.{alive, flaw_reads}
-
--- the state took the happening in, where the table was in force before it
-pub record Took (table : List Entry) (old new : State) (happening : Event) : Type 0 where
-  pub stage : new.stage ≡ stage_after happening old.stage
-  pub grace : new.grace ≡ grace_after happening old.grace
-  pub time : new.time ≡ time_after happening old.time
-  pub orders : (id : List ℕ) → at id new.orders ≡ order_after happening id (at id old.orders)
-  pub kept : (id : List ℕ) → among id new.kept ≡ kept_after (λ i. is_some (at i old.children)) happening id (among id old.kept)
-  pub asked : (id : List ℕ) → among id new.asked ≡ asked_after table happening id (among id old.asked)
-  pub called : (id : List ℕ) → among id new.called ≡ called_after table old.stage happening id (among id old.called)
-  pub sent : (id : List ℕ) → among id new.sent ≡ sent_after (λ i. at i old.orders) happening id (among id old.sent)
-  pub starts : (id : List ℕ) → times_at id new.starts ≡ starts_after old.time happening id (times_at id old.starts)
-  pub holds : (id : List ℕ) → at id new.holds ≡ hold_after old.time happening id (at id old.holds)
-  pub children : (id : List ℕ) → at id new.children ≡ child_after table (λ i. at i old.children) happening id
-  pub termed : (id : List ℕ) → at id new.termed ≡ term_after table old.stage old.time (λ i. at i old.children) (λ i. among i old.sent) (λ i. at i old.termed) happening id
 
 pub reads_opening : Reads opening []
 reads_opening = record {

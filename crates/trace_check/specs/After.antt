@@ -1,5 +1,5 @@
 -- What a happening makes of each part of the state, at each id by what was there before.
-use Rattle.std.specs.Prelude.{ℕ, Bool, false, not, ◌&&◌, ◌||◌, ◌-◌, ◌==◌, if◌then◌else◌, max, min, List, [], ◌∷◌, take, Option, Some, None}
+use Rattle.std.specs.Prelude.{◌≡◌, is_some, ℕ, Bool, false, not, ◌&&◌, ◌||◌, ◌-◌, ◌==◌, if◌then◌else◌, max, min, List, [], ◌∷◌, take, Option, Some, None}
 use Rattle.std.specs.Option.{option_map_or}
 use Rattle.std.specs.List.{list_any}
 use Rattle.respawn_limit.specs.declared.TheConstants.{CLOCK_LIMIT, STARTS}
@@ -16,6 +16,7 @@ use Rattle.init_trace.specs.declared.happenings.Happening.TheVariants.{NewTable,
 use Rattle.init_trace.specs.Event.{Event}
 use Rattle.init_trace.specs.Wanted.{starts_in, is_order, same_acts, may_live}
 use Rattle.trace_check.specs.declared.children.Living.{Living}
+use Rattle.trace_check.specs.State.{State, at, among, times_at}
 
 abbrev pub table_after : Event → List Entry → List Entry
 table_after (NewTable next) table = next
@@ -137,3 +138,21 @@ term_after table stage time child is_sent term (NewTable next) id =
 term_after table stage time child is_sent term (Enter next grace) id =
     if spares table (Some next) child id then None else term id
 term_after table stage time child is_sent term _ id = term id
+
+-- the state took the happening in, where the table was in force before it
+pub record Took (table : List Entry) (old new : State) (happening : Event) : Type 0 where
+  pub stage : new.stage ≡ stage_after happening old.stage
+  pub grace : new.grace ≡ grace_after happening old.grace
+  pub time : new.time ≡ time_after happening old.time
+  pub orders : (id : List ℕ) → at id new.orders ≡ order_after happening id (at id old.orders)
+  pub kept : (id : List ℕ)
+      → among id new.kept ≡ kept_after (λ i. is_some (at i old.children)) happening id (among id old.kept)
+  pub asked : (id : List ℕ) → among id new.asked ≡ asked_after table happening id (among id old.asked)
+  pub called : (id : List ℕ) → among id new.called ≡ called_after table old.stage happening id (among id old.called)
+  pub sent : (id : List ℕ) → among id new.sent ≡ sent_after (λ i. at i old.orders) happening id (among id old.sent)
+  pub starts : (id : List ℕ) → times_at id new.starts ≡ starts_after old.time happening id (times_at id old.starts)
+  pub holds : (id : List ℕ) → at id new.holds ≡ hold_after old.time happening id (at id old.holds)
+  pub children : (id : List ℕ) → at id new.children ≡ child_after table (λ i. at i old.children) happening id
+  pub termed : (id : List ℕ)
+      → at id new.termed ≡ term_after table old.stage old.time (λ i. at i old.children) (λ i. among i old.sent)
+      (λ i. at i old.termed) happening id

@@ -52,9 +52,8 @@ impl<A: Allocator> Model for Judge<A> {
 }
 
 impl<A: Allocator + Copy> Judge<A> {
-    ghost use Rattle.std.specs.Prelude.{ℕ, List, is_some};
-    ghost use Rattle.trace_check.specs.State.{opening, at, among, times_at};
-    ghost use Rattle.trace_check.specs.After.{stage_after, grace_after, time_after, order_after, kept_after, asked_after, called_after, sent_after, starts_after, hold_after, child_after, term_after};
+    ghost use Rattle.trace_check.specs.State.{opening};
+    ghost use Rattle.trace_check.specs.After.{Took};
 
     /// Before the first happening. It takes no memory.
     pub(crate) fn new(alloc: A) -> Judge<A>
@@ -82,29 +81,7 @@ impl<A: Allocator + Copy> Judge<A> {
         table: &InForce<'_, B>,
         happening: &HappeningIn<B>,
     ) -> Result<(), Memory>
-        ensures stage { OnOk result (self.new.stage ≡ stage_after happening.now self.old.stage) }
-        ensures grace { OnOk result (self.new.grace ≡ grace_after happening.now self.old.grace) }
-        ensures time { OnOk result (self.new.time ≡ time_after happening.now self.old.time) }
-        ensures orders { OnOk result ((id : List ℕ) → at id self.new.orders
-            ≡ order_after happening.now id (at id self.old.orders)) }
-        ensures kept { OnOk result ((id : List ℕ) → among id self.new.kept
-            ≡ kept_after (λ i. is_some (at i self.old.children)) happening.now id
-            (among id self.old.kept)) }
-        ensures asked { OnOk result ((id : List ℕ) → among id self.new.asked
-            ≡ asked_after table.now happening.now id (among id self.old.asked)) }
-        ensures called { OnOk result ((id : List ℕ) → among id self.new.called
-            ≡ called_after table.now self.old.stage happening.now id (among id self.old.called)) }
-        ensures sent { OnOk result ((id : List ℕ) → among id self.new.sent
-            ≡ sent_after (λ i. at i self.old.orders) happening.now id (among id self.old.sent)) }
-        ensures starts { OnOk result ((id : List ℕ) → times_at id self.new.starts
-            ≡ starts_after self.old.time happening.now id (times_at id self.old.starts)) }
-        ensures holds { OnOk result ((id : List ℕ) → at id self.new.holds
-            ≡ hold_after self.old.time happening.now id (at id self.old.holds)) }
-        ensures children { OnOk result ((id : List ℕ) → at id self.new.children
-            ≡ child_after table.now (λ i. at i self.old.children) happening.now id) }
-        ensures termed { OnOk result ((id : List ℕ) → at id self.new.termed
-            ≡ term_after table.now self.old.stage self.old.time (λ i. at i self.old.children)
-            (λ i. among i self.old.sent) (λ i. at i self.old.termed) happening.now id) }
+        ensures { OnOk result (Took table.now self.old self.new happening.now) }
     {
         let stage = self.stage;
         let time = self.time;

@@ -1,4 +1,4 @@
-use Rattle.trace_check.proofs.Passing.{Took, passed_none, passed_more, breach_found, passed_all}
+use Rattle.trace_check.proofs.Passing.{passed_none, passed_more, breach_found, passed_all}
 use Rattle.trace_check.proofs.pass.first_breach.Goals as goal
 
 pub returns-in-Some : goal.returns-in-Some
@@ -9,21 +9,7 @@ loop-place-init g c = rw (c.requires, c.none-table.ensures) (passed_none c.args.
 
 pub loop-place-preserved : goal.loop-place-preserved
 loop-place-preserved g c =
-    let took : Took c.loop-place.table c.loop-place.judge c.take.new.self c.index-trace-place.result = record {
-      stage = c.in_ok-take.ensures.stage;
-      grace = c.in_ok-take.ensures.grace;
-      time = c.in_ok-take.ensures.time;
-      orders = c.in_ok-take.ensures.orders;
-      kept = c.in_ok-take.ensures.kept;
-      asked = c.in_ok-take.ensures.asked;
-      called = c.in_ok-take.ensures.called;
-      sent = c.in_ok-take.ensures.sent;
-      starts = c.in_ok-take.ensures.starts;
-      holds = c.in_ok-take.ensures.holds;
-      children = c.in_ok-take.ensures.children;
-      termed = c.in_ok-take.ensures.termed;
-    } in
-    passed_more c.args.trace.now c.loop-place.place c.index-trace-place.result c.loop-place.judge c.take.new.self c.loop-place.table c.table_after-table.result c.flaw.result c.loop-place.invariant c.loop-place-test.true c.index-trace-place.is c.in_default.is c.flaw.ensures took c.table_after-table.ensures.value c.table_after-table.ensures.distinct
+    passed_more c.args.trace.now c.loop-place.place c.index-trace-place.result c.loop-place.judge c.take.new.self c.loop-place.table c.table_after-table.result c.flaw.result c.loop-place.invariant c.loop-place-test.true c.index-trace-place.is c.in_default.is c.flaw.ensures c.in_ok-take.ensures c.table_after-table.ensures.value c.table_after-table.ensures.distinct
 
 pub returns : goal.returns
 returns g c = passed_all c.args.trace.now c.loop-place.place c.loop-place.judge c.loop-place.table c.loop-place.invariant c.loop-place-test.false
