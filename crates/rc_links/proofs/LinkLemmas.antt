@@ -1,8 +1,8 @@
--- Texts in byte order: a list that ascends is the one list of its texts that does.
-use Rattle.std.proofs.Common.{◌≡◌, ℕ, zero, suc, ◌+◌, ◌<◌, ◌≤◌, Bool, true, false, cond, List, [], ◌∷◌, length, get_or, map, refl, sym, ap, ◌∙◌, subst, arith}
+-- Links one more script on; and texts in byte order: a list that ascends is the one list of its texts that does.
+use Rattle.std.proofs.Common.{◌≡◌, ℕ, zero, suc, ◌+◌, ◌<◌, ◌≤◌, Bool, true, false, cond, List, [], ◌∷◌, ◌++◌, length, get_or, map, refl, sym, ap, ◌∙◌, subst, arith}
 use Rattle.std.specs.Cmp.{IsStrictWeakOrder}
 use Rattle.std.specs.Cmp.Lexicographic.{slice_cmp}
-use Rattle.std.specs.List.{AllByRecursion, sum_by}
+use Rattle.std.specs.List.{AllByRecursion, filter, sum_by}
 use Rattle.std.specs.List.Sorted.{IsPermutation, IsSortedBy}
 use Rattle.std.specs.Ordering.{is_eq, is_lt, nat_cmp, ordering_reverse}
 use Rattle.std.specs.declared.cmp.Ordering.{Ordering}
@@ -15,6 +15,16 @@ use Rattle.std.proofs.lemmas.List.Sorted.{IsPermutation-map, ranks_by, sorted_fa
 use Rattle.std.proofs.lemmas.Map.Text.{is_eq-slice_cmp}
 use Rattle.std.proofs.lemmas.Slice.Eq.{bytes_eq-Decides}
 use Rattle.rc_links.specs.Links.{in_byte_order, is_before, placed}
+use Rattle.rc_links.proofs.NeedLemmas.{append_assoc}
+
+filter-first : {X Y : Type 0} (f : X → Y) (x : X) (xs : List X) (y : Bool) → map f (cond y (x ∷ []) []) ++ map f xs ≡ map f (cond y (x ∷ xs) xs)
+filter-first f x xs true = refl
+filter-first f x xs false = refl
+
+-- what one more thing gives, and those after it
+pub filter-step : {X Y : Type 0} (f : X → Y) (p : X → Bool) (x : X) (xs : List X) (old new whole : List Y) → new ≡ old ++ map f (filter p (x ∷ [])) → old ++ map f (filter p (x ∷ xs)) ≡ whole → new ++ map f (filter p xs) ≡ whole
+filter-step f p x xs old new whole added is =
+    rw added (append_assoc old (map f (filter p (x ∷ []))) (map f (filter p xs)) ∙ ap (λ ys. old ++ ys) (filter-first f x (filter p xs) (p x)) ∙ is)
 
 order : IsStrictWeakOrder is_before
 order = ranks_by nat_list_cmp_total (λ text. text)

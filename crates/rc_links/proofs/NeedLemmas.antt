@@ -1,5 +1,5 @@
 -- The needs by names: where they are, by a table, and within which places.
-use Rattle.std.proofs.Common.{◌≡◌, ℕ, zero, suc, ◌+◌, ◌<◌, ◌≤◌, Bool, true, false, cond, List, [], ◌∷◌, ◌++◌, length, map, Option, Some, None, is_some, Result, Ok, Err, OnOk, refl, sym, ap, ◌∙◌, arith}
+use Rattle.std.proofs.Common.{◌≡◌, ℕ, zero, suc, ◌+◌, ◌<◌, ◌≤◌, Bool, true, false, cond, List, [], ◌∷◌, ◌++◌, length, get_or, drop, map, Option, Some, None, is_some, Result, Ok, Err, OnOk, refl, sym, ap, ◌∙◌, arith}
 use Rattle.std.specs.List.{filter_map, cons_option}
 use Rattle.std.specs.Option.{option_map, unwrap_or}
 use Rattle.std.proofs.lemmas.Bool.{true≢false}
@@ -8,6 +8,7 @@ use Rattle.rc_links.specs.declared.needs.Phase.TheVariants as phase
 use Rattle.link_numbers.specs.Numbering.{InRange}
 use Rattle.rc_links.specs.ScriptText.{ScriptText}
 use Rattle.rc_links.specs.Scripts.{has_name, named, need, needs_from, needs_of, place_from, place_of, places_of}
+use Rattle.rc_links.proofs.NameLemmas.{cut_at}
 
 -- two lists of names after another
 pub append_assoc : {X : Type 0} (xs ys zs : List X) → (xs ++ ys) ++ zs ≡ xs ++ (ys ++ zs)
@@ -86,10 +87,12 @@ pub needs-range : (turn : Phase) (scripts : List ScriptText) → InRange (length
 needs-range turn scripts = Within-range (length scripts) (needs_of turn scripts) (Within-from turn scripts 0 scripts (omega arith))
 
 -- the needs of one more script
-pub needs-next : (turn : Phase) (all : List ScriptText) (place : ℕ) (s : ScriptText) (rest : List ScriptText) (f : List ℕ → Option ℕ) (edges whole : List (ℕ × ℕ)) → ((bs : List ℕ) → f bs ≡ place_of all bs)
-    → edges ++ needs_from turn all place (s ∷ rest) ≡ whole → (edges ++ map (need turn place) (filter_map f (named turn s.header))) ++ needs_from turn all (place + 1) rest ≡ whole
-needs-next turn all place s rest f edges whole same is =
-    rw (filter_map-ext f (place_of all) (named turn s.header) same) (append_assoc edges (map (need turn place) (places_of all (named turn s.header))) (needs_from turn all (place + 1) rest) ∙ is)
+pub needs-next : (turn : Phase) (all : List ScriptText) (place : ℕ) (s : ScriptText) (f : List ℕ → Option ℕ) (edges whole : List (ℕ × ℕ)) → place < length all → s ≡ get_or all place s → ((bs : List ℕ) → f bs ≡ place_of all bs)
+    → edges ++ needs_from turn all place (drop place all) ≡ whole → (edges ++ map (need turn place) (filter_map f (named turn s.header))) ++ needs_from turn all (place + 1) (drop (place + 1) all) ≡ whole
+needs-next turn all place s f edges whole within at same is =
+    let rest = needs_from turn all (place + 1) (drop (place + 1) all) in
+    let kept = ap (λ scripts. edges ++ needs_from turn all place scripts) (sym (cut_at all place s within at).0) ∙ is in
+    rw (filter_map-ext f (place_of all) (named turn s.header) same) (append_assoc edges (map (need turn place) (places_of all (named turn s.header))) rest ∙ kept)
 
 pub append-none : {X : Type 0} (xs : List X) → xs ++ [] ≡ xs
 append-none [] = refl

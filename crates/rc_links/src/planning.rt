@@ -1,9 +1,9 @@
-ghost use Rattle.std.specs.Prelude.{◌≡◌, ◌≤◌, ◌<◌, ◌++◌, ◌∷◌, [], IfOk, IfErr, IfSome, IfNone, OnOk, length, map, string_bytes};
+ghost use Rattle.std.specs.Prelude.{◌≡◌, ◌≤◌, ◌<◌, ◌++◌, ◌∷◌, [], IfOk, IfErr, IfSome, IfNone, None, OnOk, length, map, string_bytes};
 ghost use Rattle.std.specs.List.{AllByRecursion};
 ghost use Rattle.link_numbers.specs.Numbering.{AllBelow, HasNoNumbering, IsCycle};
 ghost use Rattle.rc_links.specs.Faults.{IsAnyDeep, IsRound, IsTooDeep, Round, Says};
 ghost use Rattle.rc_links.specs.Plans.{AreLeast, IsPlan, IsRefused, IsShort, names_at, planned, planned_all};
-ghost use Rattle.rc_links.specs.Scripts.{needs_of};
+ghost use Rattle.rc_links.specs.Scripts.{double_from, needs_of};
 ghost use Rattle.rc_links.specs.Tables.{HasPlaces};
 
 use crate::faults::PlanFault;
@@ -181,15 +181,29 @@ fn planned_all<A: Allocator + Copy>(
     Ok(plan)
 }
 
+/// Gives each script its least numbers, where no name is provided twice.
+fn plan_by<A: Allocator + Copy>(
+    alloc: A,
+    scripts: &[Script<A>],
+    table: &Table<'_, A>,
+) -> Result<Plan<A>, PlanFault<A>>
+    requires places { HasPlaces scripts.now table.now }
+    requires single { double_from [] scripts.now ≡ None }
+    ensures planned { IfOk result (λ plan. IsPlan scripts.now plan) }
+    ensures refused { IfErr result (λ fault. IsRefused scripts.now fault) }
+{
+    check_missing(alloc, scripts, table)?;
+    let starts = numbered(alloc, Phase::Start, scripts, table)?;
+    let stops = numbered(alloc, Phase::Stop, scripts, table)?;
+    let plan = planned_all(alloc, scripts, starts.as_slice(), stops.as_slice())?;
+    Ok(Plan::new(plan))
+}
+
 /// Gives each script its least numbers, or says which check fails first.
 pub fn plan<A: Allocator + Copy>(alloc: A, scripts: &[Script<A>]) -> Result<Plan<A>, PlanFault<A>>
     ensures planned { IfOk result (λ plan. IsPlan scripts.now plan) }
     ensures refused { IfErr result (λ fault. IsRefused scripts.now fault) }
 {
     let table = table_of(alloc, scripts)?;
-    check_missing(alloc, scripts, &table)?;
-    let starts = numbered(alloc, Phase::Start, scripts, &table)?;
-    let stops = numbered(alloc, Phase::Stop, scripts, &table)?;
-    let plan = planned_all(alloc, scripts, starts.as_slice(), stops.as_slice())?;
-    Ok(Plan::new(plan))
+    plan_by(alloc, scripts, &table)
 }

@@ -4,6 +4,9 @@ use Rattle.rc_links.specs.Scripts.{needs_of}
 use Rattle.rc_links.proofs.PlanLemmas.{AreLeast-order}
 use Rattle.rc_links.proofs.planning.order_of.Goals as goal
 
+pub ordered-requires : goal.ordered-requires
+ordered-requires g c = rw c.as_slice.ensures.value c.in_ok-edges.ensures.range
+
 pub returns-clause-least : goal.returns-clause-least
 returns-clause-least g c =
     let e : c.as_slice.result.now ≡ needs_of c.args.phase c.args.scripts.now = c.as_slice.ensures.value ∙ c.in_ok-edges.ensures.needs in
