@@ -1,5 +1,5 @@
 -- Links one more script on; and texts in byte order: a list that ascends is the one list of its texts that does.
-use Rattle.std.proofs.Common.{◌≡◌, ℕ, zero, suc, ◌+◌, ◌<◌, ◌≤◌, Bool, true, false, cond, List, [], ◌∷◌, ◌++◌, length, get_or, map, refl, sym, ap, ◌∙◌, subst, arith}
+use Rattle.std.proofs.Common.{◌≡◌, ℕ, zero, suc, ◌+◌, ◌<◌, ◌≤◌, Bool, true, false, cond, List, [], ◌∷◌, ◌++◌, length, get_or, drop, map, refl, sym, ap, ◌∙◌, subst, arith}
 use Rattle.std.specs.Cmp.{IsStrictWeakOrder}
 use Rattle.std.specs.Cmp.Lexicographic.{slice_cmp}
 use Rattle.std.specs.List.{AllByRecursion, filter, sum_by}
@@ -15,16 +15,20 @@ use Rattle.std.proofs.lemmas.List.Sorted.{IsPermutation-map, ranks_by, sorted_fa
 use Rattle.std.proofs.lemmas.Map.Text.{is_eq-slice_cmp}
 use Rattle.std.proofs.lemmas.Slice.Eq.{bytes_eq-Decides}
 use Rattle.rc_links.specs.Links.{in_byte_order, is_before, placed}
+use Rattle.rc_links.proofs.NameLemmas.{cut_at}
 use Rattle.rc_links.proofs.NeedLemmas.{append_assoc}
 
 filter-first : {X Y : Type 0} (f : X → Y) (x : X) (xs : List X) (y : Bool) → map f (cond y (x ∷ []) []) ++ map f xs ≡ map f (cond y (x ∷ xs) xs)
 filter-first f x xs true = refl
 filter-first f x xs false = refl
 
--- what one more thing gives, and those after it
-pub filter-step : {X Y : Type 0} (f : X → Y) (p : X → Bool) (x : X) (xs : List X) (old new whole : List Y) → new ≡ old ++ map f (filter p (x ∷ [])) → old ++ map f (filter p (x ∷ xs)) ≡ whole → new ++ map f (filter p xs) ≡ whole
-filter-step f p x xs old new whole added is =
-    rw added (append_assoc old (map f (filter p (x ∷ []))) (map f (filter p xs)) ∙ ap (λ ys. old ++ ys) (filter-first f x (filter p xs) (p x)) ∙ is)
+-- what one more script gives, and those after it
+pub links-next : {X Y : Type 0} (f : X → Y) (p : X → Bool) (all : List X) (place : ℕ) (s : X) (old new whole : List Y) → place < length all → s ≡ get_or all place s → new ≡ old ++ map f (filter p (s ∷ []))
+    → old ++ map f (filter p (drop place all)) ≡ whole → new ++ map f (filter p (drop (place + 1) all)) ≡ whole
+links-next f p all place s old new whole within at added is =
+    let rest = drop (place + 1) all in
+    let kept = ap (λ scripts. old ++ map f (filter p scripts)) (sym (cut_at all place s within at).0) ∙ is in
+    rw added (append_assoc old (map f (filter p (s ∷ []))) (map f (filter p rest)) ∙ ap (λ ys. old ++ ys) (filter-first f s (filter p rest) (p s)) ∙ kept)
 
 order : IsStrictWeakOrder is_before
 order = ranks_by nat_list_cmp_total (λ text. text)
