@@ -2,5 +2,6 @@ pub mod Foreign
 pub mod Hearing
 pub mod Keeping
 pub mod Moves
+pub mod Opening
 pub mod Rereading
 pub mod Whole

@@ -21,7 +21,8 @@ use Rattle.system_side.specs.Follows.{Follows}
 use Rattle.supervisor.specs.declared.running.SimFault.{SimFault}
 use Rattle.supervisor.specs.declared.running.SimFault.TheVariants as fault
 use Rattle.supervisor.specs.Faults.{Leaves}
-use Rattle.supervisor.specs.Moments.{Lasts, Moment, GoesOn, Hears, ComesToRest, Breaks, FromRest, HeardOne, HeardBreaks, HeardEnds, OpeningEnds, SoFar, opening_text}
+use Rattle.supervisor.proofs.Opening.{OpeningEnds}
+use Rattle.supervisor.specs.Moments.{Lasts, Moment, GoesOn, Hears, ComesToRest, Breaks, FromRest, HeardOne, HeardBreaks, HeardEnds, SoFar, opening_text}
 use Rattle.supervisor.specs.Simulation.{Scenario, table_in, goal_in, script_in, past_text, heard_text, RunOver, Broken, Ends, Done}
 use Rattle.supervisor.proofs.Moves.{leaves_behind, memory_after}
 

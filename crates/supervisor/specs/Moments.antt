@@ -122,14 +122,6 @@ TableEnds inittab _ = ⊥
 abbrev pub opening_text : List ℕ → List ℕ
 opening_text inittab = event_text (NewTable (table_of_text inittab))
 
--- how the opening of a run ends where it does not come to its first moment
-abbrev pub OpeningEnds : List ℕ → SimFault → Option (List ℕ) → Option (List ℕ) → Type 0
-OpeningEnds inittab fault.Table old new = IsTooLong inittab × Keeps old new
-OpeningEnds inittab (fault.Script n) old new = ⊥
-OpeningEnds inittab (fault.Forbidden n why) old new = ⊥
-OpeningEnds inittab fault.Write old new = Leaves fault.Write old new (opening_text inittab)
-OpeningEnds inittab fault.Memory old new = Leaves fault.Memory old new (opening_text inittab)
-
 -- of each run over this script whose table is written, core and side being at its first moment
 abbrev pub FromOpening : List ℕ → CoreState → State → Option (List ℕ)
     → (Scenario → Option (List ℕ) → Type 0) → Type 0

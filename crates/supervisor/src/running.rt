@@ -16,7 +16,7 @@ ghost use Rattle.core_state.specs.Steps.{after_adopt};
 ghost use Rattle.supervisor.specs.Faults.{Leaves};
 ghost use Rattle.supervisor.specs.Handing.{text_made};
 ghost use Rattle.supervisor.specs.Texts.{HasTexts};
-ghost use Rattle.supervisor.specs.Moments.{Breaks, ComesToRest, FromMoment, FromOpening, FromRest, FromScript, HeardEnds, HeardOne, IsReadyFor, Lasts, Moment, OpeningEnds, SomeMoment, SomeRest, TableEnds, opening_text};
+ghost use Rattle.supervisor.specs.Moments.{Breaks, ComesToRest, FromMoment, FromOpening, FromRest, FromScript, HeardEnds, HeardOne, IsReadyFor, Lasts, Moment, SomeMoment, SomeRest, TableEnds};
 ghost use Rattle.supervisor.specs.Said.{may_be_said, objection_in};
 ghost use Rattle.supervisor.specs.Simulation.{Done, Ends, IsTooLong, scenario};
 
@@ -315,29 +315,40 @@ fn read_table<A: Allocator + Copy>(alloc: A, inittab: &[u8]) -> Result<Table<A>,
     }
 }
 
-/// The core of an inittab, of which the table is written.
-fn open_run<A: Allocator + Copy, W: Write>(
+/// The core of an inittab.
+fn open_core<A: Allocator + Copy>(
     alloc: A,
     inittab: &[u8],
     level: Option<Level>,
-    out: &mut W,
 ) -> Result<Core<A>, SimFault>
+    ensures table { IfOk result (λ core. core.table ≡ table_of_text inittab.now) }
     ensures fits { IfOk result (λ core. Fits core (opening_goal level (table_of_text inittab.now))
         (NewTable (table_of_text inittab.now) ∷ [])) }
     ensures lasts { IfOk result (λ core.
         Lasts core (opening_goal level (table_of_text inittab.now))
         (NewTable (table_of_text inittab.now) ∷ [])) }
-    ensures text { OnOk result
-        (Appends (W.contents out.old) (W.contents out.new) (opening_text inittab.now)) }
     ensures limit { IsTooLong inittab.now → result ≡ Err SimFault.Table }
-    ensures err { IfErr result (λ fault.
-        OpeningEnds inittab.now fault (W.contents out.old) (W.contents out.new)) }
+    ensures err { IfErr result (λ fault. TableEnds inittab.now fault) }
 {
     let table = read_table(alloc, inittab)?;
     let core = Core::new(alloc, table, level)?;
-    let text = print_table(alloc, core.table())?;
-    write_text(out, &text)?;
     Ok(core)
+}
+
+/// Writes the text of a table.
+fn write_table<A: Allocator + Copy, W: Write>(
+    alloc: A,
+    out: &mut W,
+    table: &Table<A>,
+) -> Result<(), SimFault>
+    ensures ok { OnOk result
+        (Appends (W.contents out.old) (W.contents out.new) (event_text (NewTable table.now))) }
+    ensures err { IfErr result (λ fault. Leaves fault (W.contents out.old) (W.contents out.new)
+        (event_text (NewTable table.now))) }
+{
+    let text = print_table(alloc, table)?;
+    write_text(out, &text)?;
+    Ok(())
 }
 
 /// Hears the happenings of a text in turn, and takes init's steps after each until it rests. Given is whether inittab is
@@ -427,7 +438,8 @@ pub fn simulate<A: Allocator + Copy, W: Write>(
         (W.contents out.old) (W.contents out.new)) }
     ensures limit { IsTooLong inittab.now → result ≡ Err SimFault.Table }
 {
-    let mut core = open_run(alloc, inittab, level, out)?;
+    let mut core = open_core(alloc, inittab, level)?;
+    write_table(alloc, out, core.table())?;
     let mut side = SimulatedSystem::new(alloc);
     run_script(alloc, &mut core, &mut side, out, script)
 }

@@ -6,6 +6,7 @@ use Rattle.supervisor.specs.Simulation.{goal_in, scenario}
 use Rattle.init_words.proofs.Tests.{err_is}
 use Rattle.supervisor.proofs.Hearing.{ok_then}
 use Rattle.supervisor.proofs.Moves.{err_then}
+use Rattle.supervisor.proofs.Opening.{no_fault, none_opened, opening_breaks, opening_written}
 use Rattle.supervisor.proofs.Whole.{same_fault, opening_ends, first_moment}
 use Rattle.supervisor.proofs.running.simulate.Goals as goal
 
@@ -14,12 +15,26 @@ returns-in_err-core-clause-ended g c =
     let s = scenario c.args.level c.args.inittab.now c.args.script.now in
     let is : c.from_residual.result ≡ Err c.in_err-core.field-0.0 = search rules in
     err_is c.from_residual.result c.in_err-core.field-0.0 _ is
-    (opening_ends s c.in_err-core.field-0.0 (g.W.Write.contents c.args.out.now) (g.W.Write.contents c.open_run.new.out) c.in_err-core.ensures.err)
+    (opening_ends s c.in_err-core.field-0.0 (g.W.Write.contents c.args.out.now) (g.W.Write.contents c.args.out.now)
+    (none_opened c.args.inittab.now c.in_err-core.field-0.0 (g.W.Write.contents c.args.out.now) c.in_err-core.ensures.err))
 
 pub returns-in_err-core-clause-limit : goal.returns-in_err-core-clause-limit
 returns-in_err-core-clause-limit g c many =
     let is : c.from_residual.result ≡ Err c.in_err-core.field-0.0 = search rules in
-    is ∙ ap Err (same_fault c.open_run.result c.in_err-core.field-0.0 fault.Table c.in_err-core.was (c.open_run.ensures.limit many))
+    is ∙ ap Err (same_fault c.open_core.result c.in_err-core.field-0.0 fault.Table c.in_err-core.was (c.open_core.ensures.limit many))
+
+pub returns-in_err-write_table-clause-ended : goal.returns-in_err-write_table-clause-ended
+returns-in_err-write_table-clause-ended g c =
+    let s = scenario c.args.level c.args.inittab.now c.args.script.now in
+    let f = c.in_err-write_table.field-0.0 in
+    let is : c.from_residual-in_err-write_table.result ≡ Err f = search rules in
+    err_is c.from_residual-in_err-write_table.result f _ is
+    (opening_ends s f (g.W.Write.contents c.args.out.now) (g.W.Write.contents c.write_table.new.out)
+    (opening_breaks c.args.inittab.now c.table.result.now f (g.W.Write.contents c.args.out.now) (g.W.Write.contents c.write_table.new.out)
+    (c.table.ensures ∙ c.in_ok-core.ensures.table) c.in_err-write_table.ensures.err))
+
+pub returns-in_err-write_table-clause-limit : goal.returns-in_err-write_table-clause-limit
+returns-in_err-write_table-clause-limit g c many = no_fault c.open_core.result c.in_ok-core.core fault.Table c.in_ok-core.was (c.open_core.ensures.limit many)
 
 pub run_script-requires-clause-moment : goal.run_script-requires-clause-moment
 run_script-requires-clause-moment g c =
@@ -33,12 +48,17 @@ pub returns-clause-done : goal.returns-clause-done
 returns-clause-done g c =
     let s = scenario c.args.level c.args.inittab.now c.args.script.now in
     let first = first_moment c.args.inittab.now (goal_in s) c.in_ok-core.core c.new-side.result c.in_ok-core.ensures.fits c.in_ok-core.ensures.lasts (c.new-side.ensures (table_of_text c.args.inittab.now)) in
+    let text = opening_written c.args.inittab.now c.table.result.now (g.W.Write.contents c.args.out.now) (g.W.Write.contents c.write_table.new.out) (c.table.ensures ∙ c.in_ok-core.ensures.table) c.in_ok-write_table.ensures.ok in
     ok_then c.run_script.result c.run_script.ensures.done (λ all.
-    all s (g.W.Write.contents c.args.out.now) refl first c.in_ok-core.ensures.text)
+    all s (g.W.Write.contents c.args.out.now) refl first text)
 
 pub returns-clause-ended : goal.returns-clause-ended
 returns-clause-ended g c =
     let s = scenario c.args.level c.args.inittab.now c.args.script.now in
     let first = first_moment c.args.inittab.now (goal_in s) c.in_ok-core.core c.new-side.result c.in_ok-core.ensures.fits c.in_ok-core.ensures.lasts (c.new-side.ensures (table_of_text c.args.inittab.now)) in
+    let text = opening_written c.args.inittab.now c.table.result.now (g.W.Write.contents c.args.out.now) (g.W.Write.contents c.write_table.new.out) (c.table.ensures ∙ c.in_ok-core.ensures.table) c.in_ok-write_table.ensures.ok in
     err_then c.run_script.result _ _ c.run_script.ensures.ended (λ f all.
-    all s (g.W.Write.contents c.args.out.now) refl first c.in_ok-core.ensures.text)
+    all s (g.W.Write.contents c.args.out.now) refl first text)
+
+pub returns-clause-limit : goal.returns-clause-limit
+returns-clause-limit g c many = no_fault c.open_core.result c.in_ok-core.core fault.Table c.in_ok-core.was (c.open_core.ensures.limit many)
