@@ -1,12 +1,13 @@
-//! What the programs do alike with the words of a command line: why words are refused, and the value of an argument.
+//! What the programs do alike with a command line: its arguments, why words are refused, and the value of an argument.
 #![tactic(auto)]
 
-ghost use Rattle.std.specs.Prelude.{◌≡◌, ◌≢◌, [], unwrap_or};
+ghost use Rattle.std.specs.Prelude.{◌≡◌, ◌≢◌, [], unwrap_or, IfOk};
 ghost use Rattle.clap.specs.Words.{first_of, found_of, kind_of, rows_of};
+ghost use Rattle.command_words.specs.CommandLines.{Adds, IsLine, default_rule, program_app, short_rule, switch_rule, value_rule, word_rule};
 
 use clap::error::ErrorKind;
-use clap::{ArgMatches, Error};
-use std::alloc::AllocError;
+use clap::{Arg, ArgAction, ArgMatches, Command, Error};
+use std::alloc::{AllocError, Global};
 
 /// Why words were not read.
 #[derive(Clone, Copy, Debug, PartialEq, Eq, thiserror::Error)]
@@ -50,4 +51,73 @@ pub fn value_of<'a>(matches: &ArgMatches<'a>, id: &str) -> &'a str
         Some(value) => value,
         None => "",
     }
+}
+
+/// The command line of a program, without any argument. Its words have no program's name in front.
+pub fn program_line<'a>(alloc: Global, name: &'a str) -> Command<'a>
+    ensures { IsLine (program_app name.entry.now) result }
+{
+    Command::new(alloc, name).no_binary_name(true)
+}
+
+/// A command line with a word that has to be there, behind its other arguments. It fails for want of memory alone, as
+/// those below.
+pub fn with_word<'a>(
+    alloc: Global,
+    line: Command<'a>,
+    name: &'a str,
+) -> Result<Command<'a>, AllocError>
+    ensures { IfOk result (Adds line.entry (word_rule name.entry.now)) }
+{
+    line.arg(Arg::new(alloc, name).required(true))
+}
+
+/// A command line with `--NAME VALUE`, which may be left out.
+pub fn with_value<'a>(
+    alloc: Global,
+    line: Command<'a>,
+    name: &'a str,
+) -> Result<Command<'a>, AllocError>
+    ensures { IfOk result (Adds line.entry (value_rule name.entry.now)) }
+{
+    line.arg(Arg::new(alloc, name).long(name))
+}
+
+/// The same, with the value that it has where it is left out.
+pub fn with_default<'a>(
+    alloc: Global,
+    line: Command<'a>,
+    name: &'a str,
+    value: &'a str,
+) -> Result<Command<'a>, AllocError>
+    ensures { IfOk result (Adds line.entry (default_rule name.entry.now value.entry.now)) }
+{
+    line.arg(Arg::new(alloc, name).long(name).default_value(value))
+}
+
+/// A command line with `-C VALUE`, and the value that it has where it is left out.
+pub fn with_short<'a>(
+    alloc: Global,
+    line: Command<'a>,
+    name: &'a str,
+    character: char,
+    value: &'a str,
+) -> Result<Command<'a>, AllocError>
+    ensures { IfOk result
+        (Adds line.entry (short_rule name.entry.now character value.entry.now)) }
+{
+    let option = Arg::new(alloc, name).short(character).default_value(value);
+    line.arg(option)
+}
+
+/// A command line with `--NAME`, without a value.
+pub fn with_switch<'a>(
+    alloc: Global,
+    line: Command<'a>,
+    name: &'a str,
+) -> Result<Command<'a>, AllocError>
+    ensures { IfOk result (Adds line.entry (switch_rule name.entry.now)) }
+{
+    let switch = Arg::new(alloc, name).long(name).action(ArgAction::SetTrue);
+    line.arg(switch)
 }

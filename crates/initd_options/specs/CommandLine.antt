@@ -1,49 +1,29 @@
 -- The command lines `initd simulate [--level L] TABLE SCRIPT`, `initd check TRACE` and `initd run ..`. What they take is
 -- said by clap's own words; they are opaque, since a goal that sees them sees the whole parser.
-use Rattle.std.specs.Prelude.{true, if◌then◌else◌, List, codes, Option, Some, None, option_map, length, ◌==◌, string_bytes}
+use Rattle.std.specs.Prelude.{true, if◌then◌else◌, List, [], ◌∷◌, codes, Option, Some, None, option_map, length, ◌==◌, string_bytes}
 use Rattle.std.specs.Str.{bytes_eq}
-use Rattle.clap.specs.Words.{App, Row, Rule, Text, fault_of, new_app, new_rule, subcommand_of, with_rule, with_subcommand}
+use Rattle.clap.specs.Words.{App, Row, Text, fault_of, new_app, subcommand_of, with_subcommand}
+use Rattle.command_words.specs.CommandLines.{program_app, value_rule, with_rules, word_rule}
 use Rattle.init_words.specs.declared.levels.Level.{Level}
 use Rattle.initd_options.specs.Options.{Service, run_line, service_of, service_said}
-use Rattle.initd_options.specs.Values.{level_rule, level_said, value_said}
+use Rattle.initd_options.specs.Values.{level_said, value_said}
 use Rattle.initd_options.specs.declared.command.Simulation.{Simulation}
 use Rattle.initd_options.specs.declared.command.Words.{Words}
 use Rattle.initd_options.specs.declared.command.Words.TheVariants.{Simulate, Check, Run as Serve}
 
--- TABLE and SCRIPT, which have to be there
-unfoldable pub table_rule : Rule
-table_rule = record (new_rule (codes "table")) { required = true }
-
-unfoldable pub script_rule : Rule
-script_rule = record (new_rule (codes "script")) { required = true }
-
-unfoldable pub level_line : App
-unfolding level_rule
-level_line = with_rule (new_app (codes "simulate")) level_rule
-
-unfoldable pub table_line : App
-unfolding level_line table_rule
-table_line = with_rule level_line table_rule
-
 unfoldable pub simulate_line : App
-unfolding table_line script_rule
-simulate_line = with_rule table_line script_rule
-
--- TRACE, which has to be there
-unfoldable pub trace_rule : Rule
-trace_rule = record (new_rule (codes "trace")) { required = true }
+simulate_line = with_rules (new_app (codes "simulate")) (
+    value_rule (codes "level") ∷ word_rule (codes "table") ∷ word_rule (codes "script") ∷ [])
 
 unfoldable pub check_line : App
-unfolding trace_rule
-check_line = with_rule (new_app (codes "check")) trace_rule
+check_line = with_rules (new_app (codes "check")) (word_rule (codes "trace") ∷ [])
 
--- the words have no program's name in front, and name a subcommand
+-- the words name a subcommand
 unfoldable pub command_line : App
-unfolding simulate_line check_line run_line
 command_line =
-    let named = new_app (codes "initd") in
-    let unnamed = record named { top = record named.top { no_binary_name = true; subcommand_required = true } } in
-    with_subcommand (with_subcommand (with_subcommand unnamed simulate_line.top) check_line.top) run_line.top
+    let program = program_app (codes "initd") in
+    let required = record program { top = record program.top { subcommand_required = true } } in
+    with_subcommand (with_subcommand (with_subcommand required simulate_line.top) check_line.top) run_line.top
 
 -- the level to go to, if one is given, and the paths of the inittab and the script
 pub record Run : Type 0 where

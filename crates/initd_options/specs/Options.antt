@@ -3,68 +3,27 @@
 use Rattle.std.specs.Prelude.{ℕ, Bool, false, ◌+◌, ◌-◌, ◌*◌, ◌&&◌, if◌then◌else◌, nat_lt, nat_le, List, [], ◌∷◌, codes, Option, Some, None, option_and_then, option_map, string_bytes}
 use Rattle.std.specs.Char.{is_ascii_digit}
 use Rattle.std.specs.Str.{bytes_eq}
-use Rattle.clap.specs.Words.{App, Row, Rule, Text, first_of, new_app, new_rule, with_rule}
-use Rattle.clap.specs.declared.builder.action.ArgAction.TheVariants.{SetTrue}
+use Rattle.clap.specs.Words.{App, Row, Text, first_of, new_app}
+use Rattle.command_words.specs.CommandLines.{default_rule, switch_rule, value_rule, with_rules}
 use Rattle.init_words.specs.declared.levels.Level.{Level}
 use Rattle.text_lines.specs.Lines.{cut}
 use Rattle.text_lines.specs.Numbers.{number_read}
 use Rattle.initd_options.specs.declared.options.Serving.{Serving}
-use Rattle.initd_options.specs.Values.{level_rule, level_said, value_said}
+use Rattle.initd_options.specs.Values.{level_said, value_said}
 
--- the paths of the inittab and of the channel of requests, each under its own name where it is left out
-unfoldable pub inittab_rule : Rule
-inittab_rule = record (new_rule (codes "inittab")) { long = Some (codes "inittab"); defaults = codes "inittab" ∷ [] }
-
-unfoldable pub initctl_rule : Rule
-initctl_rule = record (new_rule (codes "initctl")) { long = Some (codes "initctl"); defaults = codes "initctl" ∷ [] }
-
--- the path of the text of init's state
-unfoldable pub state_rule : Rule
-state_rule = record (new_rule (codes "state")) { long = Some (codes "state"); defaults = codes "initd.state" ∷ [] }
-
--- the path of the trace, which may be left out
-unfoldable pub trace_path_rule : Rule
-trace_path_rule = record (new_rule (codes "trace")) { long = Some (codes "trace") }
-
--- the greatest number of turns, a million where it is left out
-unfoldable pub turns_rule : Rule
-turns_rule = record (new_rule (codes "turns")) { long = Some (codes "turns"); defaults = codes "1000000" ∷ [] }
-
--- `--drain`, without a value
-unfoldable pub drain_rule : Rule
-drain_rule = record (new_rule (codes "drain")) { long = Some (codes "drain"); action = Some SetTrue }
-
--- the seconds of a pause, one where they are left out
-unfoldable pub pause_rule : Rule
-pause_rule = record (new_rule (codes "pause")) { long = Some (codes "pause"); defaults = codes "1" ∷ [] }
-
-unfoldable pub inittab_line : App
-unfolding inittab_rule
-inittab_line = with_rule (new_app (codes "run")) inittab_rule
-
-unfoldable pub initctl_line : App
-unfolding inittab_line initctl_rule
-initctl_line = with_rule inittab_line initctl_rule
-
-unfoldable pub paths_line : App
-unfolding initctl_line trace_path_rule
-paths_line = with_rule initctl_line trace_path_rule
-
-unfoldable pub state_line : App
-unfolding paths_line state_rule
-state_line = with_rule paths_line state_rule
-
-unfoldable pub turns_line : App
-unfolding state_line level_rule turns_rule
-turns_line = with_rule (with_rule state_line level_rule) turns_rule
-
-unfoldable pub drain_line : App
-unfolding turns_line drain_rule
-drain_line = with_rule turns_line drain_rule
-
+-- the paths of the inittab, of the channel of requests, of the trace, which may be left out, and of the text of init's
+-- state; the level; the greatest number of turns, a million where it is left out; and the seconds of a pause
 unfoldable pub run_line : App
-unfolding drain_line pause_rule
-run_line = with_rule drain_line pause_rule
+run_line = with_rules (new_app (codes "run")) (
+    default_rule (codes "inittab") (codes "inittab")
+    ∷ default_rule (codes "initctl") (codes "initctl")
+    ∷ value_rule (codes "trace")
+    ∷ default_rule (codes "state") (codes "initd.state")
+    ∷ value_rule (codes "level")
+    ∷ default_rule (codes "turns") (codes "1000000")
+    ∷ switch_rule (codes "drain")
+    ∷ default_rule (codes "pause") (codes "1")
+    ∷ [])
 
 -- a number of turns: 1 to 1,000,000,000
 abbrev pub turns_read : Text → Option ℕ

@@ -1,6 +1,6 @@
 -- What the arguments of a command line say, by what clap gives of them.
 use Rattle.std.specs.Prelude.{List, [], codes, Option, Some, None, unwrap_or, option_and_then, option_map}
-use Rattle.clap.specs.Words.{Row, Rule, Text, first_of, new_rule}
+use Rattle.clap.specs.Words.{Row, Text, first_of}
 use Rattle.init_words.specs.declared.levels.Level.{Level}
 use Rattle.init_words.specs.Levels.{level_read}
 use Rattle.program_edge.specs.Arguments.{only_byte}
@@ -8,10 +8,6 @@ use Rattle.program_edge.specs.Arguments.{only_byte}
 -- the value that is given to an argument, or its default
 abbrev pub value_said : Text → List Row → Text
 value_said id rows = unwrap_or (first_of id rows) []
-
--- `--level L`, which may be left out
-unfoldable pub level_rule : Rule
-level_rule = record (new_rule (codes "level")) { long = Some (codes "level") }
 
 -- the level of a word of one character
 abbrev pub level_word_read : Text → Option Level

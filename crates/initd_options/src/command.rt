@@ -1,12 +1,12 @@
-ghost use Rattle.std.specs.Prelude.{◌≡◌, false, map, option_map, string_bytes, IfOk, IsErrOf};
-ghost use Rattle.clap.specs.declared.builder.command.Command.{out-Command};
+ghost use Rattle.std.specs.Prelude.{◌≡◌, map, option_map, string_bytes, IfOk, IsErrOf};
 ghost use Rattle.clap.specs.Words.{FailsBy, app_of, fault_of, found_of, rows_of, subcommand_of, subcommand_rows_of};
-ghost use Rattle.initd_options.specs.CommandLine.{check_line, command_line, judged_by, level_line, read_of, runs, said_by, said_of, served_by, simulate_line, table_line, trace_said, words_said};
+ghost use Rattle.command_words.specs.CommandLines.{IsLine};
+ghost use Rattle.initd_options.specs.CommandLine.{check_line, command_line, judged_by, read_of, runs, said_by, said_of, served_by, simulate_line, trace_said, words_said};
 ghost use Rattle.initd_options.specs.Values.{level_said, level_word_read};
 
 use crate::options::{Serving, read_run, run_line};
-use clap::{Arg, ArgMatches, Command, Error};
-use command_words::{WordFault, value_of, word_fault};
+use clap::{ArgMatches, Command, Error};
+use command_words::{WordFault, program_line, value_of, with_value, with_word, word_fault};
 use init_words::Level;
 use program_edge::only_byte;
 use std::alloc::{AllocError, Global};
@@ -48,38 +48,21 @@ pub fn read_words(alloc: Global, words: &[String]) -> Result<Words, WordFault>
     }
 }
 
-/// The command line behind `initd simulate`, as far as it names the level.
-fn level_line<'a>(alloc: Global) -> Result<Command<'a>, AllocError>
-    ensures line { IfOk result (λ made. app_of made ≡ level_line) }
-    ensures plain { IfOk result (λ made. (out-Command made).has_globals ≡ false) }
-{
-    let level = Arg::new(alloc, "level").long("level");
-    Command::new(alloc, "simulate").arg(level)
-}
-
-/// The same, with the path of the inittab.
-fn table_line<'a>(alloc: Global) -> Result<Command<'a>, AllocError>
-    ensures line { IfOk result (λ made. app_of made ≡ table_line) }
-    ensures plain { IfOk result (λ made. (out-Command made).has_globals ≡ false) }
-{
-    level_line(alloc)?.arg(Arg::new(alloc, "table").required(true))
-}
-
-/// The same, with the path of the script.
+/// The command line behind `initd simulate`.
 fn simulate_line<'a>(alloc: Global) -> Result<Command<'a>, AllocError>
-    ensures line { IfOk result (λ made. app_of made ≡ simulate_line) }
-    ensures plain { IfOk result (λ made. (out-Command made).has_globals ≡ false) }
+    ensures { IfOk result (IsLine simulate_line) }
 {
-    table_line(alloc)?.arg(Arg::new(alloc, "script").required(true))
+    let line = Command::new(alloc, "simulate");
+    let line = with_value(alloc, line, "level")?;
+    let line = with_word(alloc, line, "table")?;
+    with_word(alloc, line, "script")
 }
 
 /// The command line behind `initd check`.
 fn check_line<'a>(alloc: Global) -> Result<Command<'a>, AllocError>
-    ensures line { IfOk result (λ made. app_of made ≡ check_line) }
-    ensures plain { IfOk result (λ made. (out-Command made).has_globals ≡ false) }
+    ensures { IfOk result (IsLine check_line) }
 {
-    let trace = Arg::new(alloc, "trace").required(true);
-    Command::new(alloc, "check").arg(trace)
+    with_word(alloc, Command::new(alloc, "check"), "trace")
 }
 
 /// The command line of `initd`.
@@ -89,8 +72,7 @@ fn command<'a>(alloc: Global) -> Result<Command<'a>, AllocError>
     let simulate = simulate_line(alloc)?;
     let check = check_line(alloc)?;
     let serving = run_line(alloc)?;
-    Command::new(alloc, "initd")
-        .no_binary_name(true)
+    program_line(alloc, "initd")
         .subcommand_required(true)
         .subcommand(simulate)?
         .subcommand(check)?

@@ -1,11 +1,11 @@
 ghost use Rattle.std.specs.Prelude.{◌≡◌, ◌<◌, false, codes, option_map, string_bytes, IfOk, IfSome};
-ghost use Rattle.clap.specs.declared.builder.command.Command.{out-Command};
-ghost use Rattle.clap.specs.Words.{app_of, first_of, found_of, rows_of};
-ghost use Rattle.initd_options.specs.Options.{digit_read, drain_line, hundredths_read, initctl_line, inittab_line, is_pause, part_read, paths_line, run_line, service_of, service_said, state_line, turns_line, turns_read};
+ghost use Rattle.clap.specs.Words.{first_of, found_of, rows_of};
+ghost use Rattle.command_words.specs.CommandLines.{IsLine};
+ghost use Rattle.initd_options.specs.Options.{digit_read, hundredths_read, is_pause, part_read, run_line, service_of, service_said, turns_read};
 
 use crate::command::read_level_option;
-use clap::{Arg, ArgAction, ArgMatches, Command};
-use command_words::value_of;
+use clap::{ArgMatches, Command};
+use command_words::{value_of, with_default, with_switch, with_value};
 use init_words::Level;
 use std::alloc::{AllocError, Global};
 use text_lines::{cut, read_below};
@@ -37,77 +37,19 @@ const TURNS_LIMIT: u64 = 1_000_000_000;
 /// The longest pause, in hundredths of a second.
 const PAUSE_LIMIT: u64 = 6_000;
 
-/// The command line behind `initd run`, as far as it names the path of the inittab.
-fn inittab_line<'a>(alloc: Global) -> Result<Command<'a>, AllocError>
-    ensures line { IfOk result (λ made. app_of made ≡ inittab_line) }
-    ensures plain { IfOk result (λ made. (out-Command made).has_globals ≡ false) }
-{
-    let inittab = Arg::new(alloc, "inittab")
-        .long("inittab")
-        .default_value("inittab");
-    Command::new(alloc, "run").arg(inittab)
-}
-
-/// The same, with the path of the channel.
-fn initctl_line<'a>(alloc: Global) -> Result<Command<'a>, AllocError>
-    ensures line { IfOk result (λ made. app_of made ≡ initctl_line) }
-    ensures plain { IfOk result (λ made. (out-Command made).has_globals ≡ false) }
-{
-    let initctl = Arg::new(alloc, "initctl")
-        .long("initctl")
-        .default_value("initctl");
-    inittab_line(alloc)?.arg(initctl)
-}
-
-/// The same, with the path of the trace.
-fn paths_line<'a>(alloc: Global) -> Result<Command<'a>, AllocError>
-    ensures line { IfOk result (λ made. app_of made ≡ paths_line) }
-    ensures plain { IfOk result (λ made. (out-Command made).has_globals ≡ false) }
-{
-    initctl_line(alloc)?.arg(Arg::new(alloc, "trace").long("trace"))
-}
-
-/// The same, with the path of the state.
-fn state_line<'a>(alloc: Global) -> Result<Command<'a>, AllocError>
-    ensures line { IfOk result (λ made. app_of made ≡ state_line) }
-    ensures plain { IfOk result (λ made. (out-Command made).has_globals ≡ false) }
-{
-    let state = Arg::new(alloc, "state")
-        .long("state")
-        .default_value("initd.state");
-    paths_line(alloc)?.arg(state)
-}
-
-/// The same, with the level and the turns.
-fn turns_line<'a>(alloc: Global) -> Result<Command<'a>, AllocError>
-    ensures line { IfOk result (λ made. app_of made ≡ turns_line) }
-    ensures plain { IfOk result (λ made. (out-Command made).has_globals ≡ false) }
-{
-    let level = Arg::new(alloc, "level").long("level");
-    let turns = Arg::new(alloc, "turns")
-        .long("turns")
-        .default_value("1000000");
-    state_line(alloc)?.arg(level)?.arg(turns)
-}
-
-/// The same, with whether the run ends where nothing is left to do.
-fn drain_line<'a>(alloc: Global) -> Result<Command<'a>, AllocError>
-    ensures line { IfOk result (λ made. app_of made ≡ drain_line) }
-    ensures plain { IfOk result (λ made. (out-Command made).has_globals ≡ false) }
-{
-    let drain = Arg::new(alloc, "drain")
-        .long("drain")
-        .action(ArgAction::SetTrue);
-    turns_line(alloc)?.arg(drain)
-}
-
 /// The command line behind `initd run`.
 pub(crate) fn run_line<'a>(alloc: Global) -> Result<Command<'a>, AllocError>
-    ensures line { IfOk result (λ made. app_of made ≡ run_line) }
-    ensures plain { IfOk result (λ made. (out-Command made).has_globals ≡ false) }
+    ensures { IfOk result (IsLine run_line) }
 {
-    let pause = Arg::new(alloc, "pause").long("pause").default_value("1");
-    drain_line(alloc)?.arg(pause)
+    let line = Command::new(alloc, "run");
+    let line = with_default(alloc, line, "inittab", "inittab")?;
+    let line = with_default(alloc, line, "initctl", "initctl")?;
+    let line = with_value(alloc, line, "trace")?;
+    let line = with_default(alloc, line, "state", "initd.state")?;
+    let line = with_value(alloc, line, "level")?;
+    let line = with_default(alloc, line, "turns", "1000000")?;
+    let line = with_switch(alloc, line, "drain")?;
+    with_default(alloc, line, "pause", "1")
 }
 
 /// What the words behind `run` say; None where a value is none of its kind.

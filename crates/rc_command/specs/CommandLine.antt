@@ -1,39 +1,19 @@
 -- The command line `rc DIR PREV NEW`. What it takes is said by clap's own words; they are opaque, since a goal that sees
 -- them sees the whole parser.
-use Rattle.std.specs.Prelude.{Bool, true, if◌then◌else◌, List, [], codes, Option, Some, None, unwrap_or, option_and_then, option_map, length, ◌==◌, ◌||◌, string_bytes}
+use Rattle.std.specs.Prelude.{Bool, if◌then◌else◌, List, [], ◌∷◌, codes, Option, Some, None, unwrap_or, option_and_then, option_map, length, ◌==◌, ◌||◌, string_bytes}
 use Rattle.std.specs.List.{list_all}
 use Rattle.std.specs.Str.{byte, bytes_eq}
-use Rattle.clap.specs.Words.{App, Row, Rule, Text, fault_of, first_of, matches_of, new_app, new_rule, with_rule}
+use Rattle.clap.specs.Words.{App, Row, Text, fault_of, first_of, matches_of}
+use Rattle.command_words.specs.CommandLines.{program_app, with_rules, word_rule}
 use Rattle.init_words.specs.declared.levels.Level.{Level}
 use Rattle.init_words.specs.Levels.{level_read}
 use Rattle.program_edge.specs.Arguments.{only_byte}
 use Rattle.rc_command.specs.declared.command.Words.{Words}
 use Rattle.rc_links.specs.Names.{is_name_byte}
 
--- DIR, PREV and NEW, which have to be there
-unfoldable pub dir_rule : Rule
-dir_rule = record (new_rule (codes "dir")) { required = true }
-
-unfoldable pub previous_rule : Rule
-previous_rule = record (new_rule (codes "previous")) { required = true }
-
-unfoldable pub new_level_rule : Rule
-new_level_rule = record (new_rule (codes "new")) { required = true }
-
--- the words have no program's name in front
-unfoldable pub dir_line : App
-unfolding dir_rule
-dir_line =
-    let named = new_app (codes "rc") in
-    with_rule (record named { top = record named.top { no_binary_name = true } }) dir_rule
-
-unfoldable pub previous_line : App
-unfolding dir_line previous_rule
-previous_line = with_rule dir_line previous_rule
-
 unfoldable pub command_line : App
-unfolding previous_line new_level_rule
-command_line = with_rule previous_line new_level_rule
+command_line = with_rules (program_app (codes "rc")) (
+    word_rule (codes "dir") ∷ word_rule (codes "previous") ∷ word_rule (codes "new") ∷ [])
 
 -- the folder that holds those of the runlevels, the level before, if there was one, and the new level
 pub record Said : Type 0 where

@@ -1,10 +1,10 @@
-ghost use Rattle.std.specs.Prelude.{◌≡◌, false, map, option_map, string_bytes, IfOk, IsErrOf};
-ghost use Rattle.clap.specs.declared.builder.command.Command.{out-Command};
-ghost use Rattle.clap.specs.Words.{FailsBy, app_of, fault_of, found_of, matches_of, rows_of};
-ghost use Rattle.rc_command.specs.CommandLine.{command_line, dir_line, is_dir, level_of, previous_line, previous_of, read_of, rows_said, said_by, said_of};
+ghost use Rattle.std.specs.Prelude.{◌≡◌, map, option_map, string_bytes, IfOk, IsErrOf};
+ghost use Rattle.clap.specs.Words.{FailsBy, fault_of, found_of, matches_of, rows_of};
+ghost use Rattle.command_words.specs.CommandLines.{IsLine};
+ghost use Rattle.rc_command.specs.CommandLine.{command_line, is_dir, level_of, previous_of, read_of, rows_said, said_by, said_of};
 
-use clap::{Arg, ArgMatches, Command, Error};
-use command_words::{WordFault, value_of, word_fault};
+use clap::{ArgMatches, Command, Error};
+use command_words::{WordFault, program_line, value_of, with_word, word_fault};
 use init_words::Level;
 use program_edge::only_byte;
 use rc_links::is_name_byte;
@@ -36,28 +36,14 @@ pub fn read_words(alloc: Global, words: &[String]) -> Result<Words, WordFault>
     }
 }
 
-/// The command line of `rc`, as far as it names the folder.
-fn dir_line<'a>(alloc: Global) -> Result<Command<'a>, AllocError>
-    ensures line { IfOk result (λ made. app_of made ≡ dir_line) }
-    ensures plain { IfOk result (λ made. (out-Command made).has_globals ≡ false) }
-{
-    let dir = Arg::new(alloc, "dir").required(true);
-    Command::new(alloc, "rc").no_binary_name(true).arg(dir)
-}
-
-/// The same, with the level before.
-fn previous_line<'a>(alloc: Global) -> Result<Command<'a>, AllocError>
-    ensures line { IfOk result (λ made. app_of made ≡ previous_line) }
-    ensures plain { IfOk result (λ made. (out-Command made).has_globals ≡ false) }
-{
-    dir_line(alloc)?.arg(Arg::new(alloc, "previous").required(true))
-}
-
 /// The command line of `rc`.
 fn command<'a>(alloc: Global) -> Result<Command<'a>, AllocError>
-    ensures { IfOk result (λ made. app_of made ≡ command_line) }
+    ensures { IfOk result (IsLine command_line) }
 {
-    previous_line(alloc)?.arg(Arg::new(alloc, "new").required(true))
+    let line = program_line(alloc, "rc");
+    let line = with_word(alloc, line, "dir")?;
+    let line = with_word(alloc, line, "previous")?;
+    with_word(alloc, line, "new")
 }
 
 fn parsed<'a>(alloc: Global, words: &'a [String]) -> Result<ArgMatches<'a>, Error>

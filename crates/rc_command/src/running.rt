@@ -6,7 +6,9 @@ use crate::command::{Words, read_words};
 use crate::folders::{folder_of, names_in, previous_names};
 use command_words::WordFault;
 use os_host::OsHost;
-use program_edge::{DEVICE_FAULT, DONE, LIMIT_REACHED, REFUSED, tell_no_memory, tell_usage};
+use program_edge::{
+    DEVICE_FAULT, DONE, LIMIT_REACHED, REFUSED, tell_no_memory, tell_usage, write_text,
+};
 use rc_driver::{Rc, RunEnd, run_links};
 use std::alloc::Global;
 use std::io;
@@ -16,6 +18,9 @@ use std::rt::{Clock, Files};
 
 /// The greatest number of pauses of a run, of a second each.
 pub const PAUSES_LIMIT: u32 = 100_000;
+
+/// What is reported where they are used up.
+const LIMIT_TEXT: &str = "rc: a script has not ended after 100000 pauses\n";
 
 /// What is reported of words that are no command line.
 pub const USAGE: &str = "usage: rc DIR PREV NEW
@@ -103,16 +108,19 @@ fn tell_end<E: Write>(ended: RunEnd, err: &mut E) -> u8
     ensures statuses { (result ≡ DONE) ⊎ (result ≡ LIMIT_REACHED) ⊎ (result ≡ DEVICE_FAULT) }
     ensures done { result ≡ DONE → ended ≡ RunEnd.Done }
 {
-    let (status, report) = match ended {
-        RunEnd::Done => return DONE,
-        RunEnd::Limit => (
-            LIMIT_REACHED,
-            "rc: a script has not ended after 100000 pauses",
-        ),
-        RunEnd::Write => (DEVICE_FAULT, "rc: cannot write"),
-        RunEnd::Memory => (DEVICE_FAULT, "rc: out of memory"),
-    };
-    let _ = writeln!(err, "{report}");
+    match ended {
+        RunEnd::Done => DONE,
+        RunEnd::Limit => tell(LIMIT_REACHED, LIMIT_TEXT, err),
+        RunEnd::Write => tell(DEVICE_FAULT, "rc: cannot write\n", err),
+        RunEnd::Memory => tell(DEVICE_FAULT, "rc: out of memory\n", err),
+    }
+}
+
+/// Reports a line, and gives the exit status.
+fn tell<E: Write>(status: u8, line: &str, err: &mut E) -> u8
+    ensures { result ≡ status }
+{
+    let _ = write_text(err, line.as_bytes());
     status
 }
 

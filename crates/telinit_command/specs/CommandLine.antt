@@ -1,36 +1,17 @@
 -- The command line `telinit [-t SEC] [--initctl P] CHAR` (telinit(8)). What it takes is said by clap's own words; they are
 -- opaque, since a goal that sees them sees the whole parser.
-use Rattle.std.specs.Prelude.{ℕ, true, if◌then◌else◌, List, [], ◌∷◌, codes, Option, Some, None, unwrap_or, option_and_then, option_map, length, ◌==◌}
-use Rattle.clap.specs.Words.{App, Rule, Text, fault_of, first_of, matches_of, new_app, new_rule, with_rule}
+use Rattle.std.specs.Prelude.{ℕ, if◌then◌else◌, List, [], ◌∷◌, codes, Option, None, unwrap_or, option_and_then, option_map, length, ◌==◌}
+use Rattle.clap.specs.Words.{App, Text, fault_of, first_of, matches_of}
+use Rattle.command_words.specs.CommandLines.{default_rule, program_app, short_rule, with_rules, word_rule}
 use Rattle.telinit_command.specs.Frames.{frame_for}
 use Rattle.telinit_command.specs.Seconds.{seconds_read}
 
--- `-t SEC`, 5 where it is left out
-unfoldable pub seconds_rule : Rule
-seconds_rule = record (new_rule (codes "secs")) { short = Some 116; defaults = codes "5" ∷ [] }
-
--- `--initctl P`, `initctl` where it is left out
-unfoldable pub path_rule : Rule
-path_rule = record (new_rule (codes "initctl")) { long = Some (codes "initctl"); defaults = codes "initctl" ∷ [] }
-
--- CHAR, which has to be there
-unfoldable pub sign_rule : Rule
-sign_rule = record (new_rule (codes "sign")) { required = true }
-
--- the words have no program's name in front
-unfoldable pub seconds_line : App
-unfolding seconds_rule
-seconds_line =
-    let named = new_app (codes "telinit") in
-    with_rule (record named { top = record named.top { no_binary_name = true } }) seconds_rule
-
-unfoldable pub path_line : App
-unfolding seconds_line path_rule
-path_line = with_rule seconds_line path_rule
-
 unfoldable pub command_line : App
-unfolding path_line sign_rule
-command_line = with_rule path_line sign_rule
+command_line = with_rules (program_app (codes "telinit")) (
+    short_rule (codes "secs") 116 (codes "5")
+    ∷ default_rule (codes "initctl") (codes "initctl")
+    ∷ word_rule (codes "sign")
+    ∷ [])
 
 -- the value that the words give an argument, or its default
 abbrev pub value_in : List Text → Text → Text

@@ -1,11 +1,13 @@
-ghost use Rattle.std.specs.Prelude.{◌≡◌, false, map, string_bytes, IfOk, IsErrOf};
-ghost use Rattle.clap.specs.declared.builder.command.Command.{out-Command};
-ghost use Rattle.clap.specs.Words.{FailsBy, app_of, fault_of, found_of, matches_of, rows_of};
-ghost use Rattle.telinit_command.specs.CommandLine.{command_line, path_line, read_of, seconds_line};
+ghost use Rattle.std.specs.Prelude.{◌≡◌, map, string_bytes, IfOk, IsErrOf};
+ghost use Rattle.clap.specs.Words.{FailsBy, fault_of, found_of, matches_of, rows_of};
+ghost use Rattle.command_words.specs.CommandLines.{IsLine};
+ghost use Rattle.telinit_command.specs.CommandLine.{command_line, read_of};
 
 use crate::seconds::read_seconds;
-use clap::{Arg, ArgMatches, Command, Error};
-use command_words::{WordFault, value_of, word_fault};
+use clap::{ArgMatches, Command, Error};
+use command_words::{
+    WordFault, program_line, value_of, with_default, with_short, with_word, word_fault,
+};
 use std::alloc::{AllocError, Global};
 
 /// What a command line says.
@@ -44,33 +46,14 @@ pub fn read_words(alloc: Global, words: Vec<String>) -> Result<Words, WordFault>
     })
 }
 
-/// The command line of `telinit`, as far as it names the seconds.
-fn seconds_line<'a>(alloc: Global) -> Result<Command<'a>, AllocError>
-    ensures line { IfOk result (λ made. app_of made ≡ seconds_line) }
-    ensures plain { IfOk result (λ made. (out-Command made).has_globals ≡ false) }
-{
-    let secs = Arg::new(alloc, "secs").short('t').default_value("5");
-    Command::new(alloc, "telinit")
-        .no_binary_name(true)
-        .arg(secs)
-}
-
-/// The same, with the path of the channel.
-fn path_line<'a>(alloc: Global) -> Result<Command<'a>, AllocError>
-    ensures line { IfOk result (λ made. app_of made ≡ path_line) }
-    ensures plain { IfOk result (λ made. (out-Command made).has_globals ≡ false) }
-{
-    let path = Arg::new(alloc, "initctl")
-        .long("initctl")
-        .default_value("initctl");
-    seconds_line(alloc)?.arg(path)
-}
-
 /// The command line of `telinit`.
 fn command<'a>(alloc: Global) -> Result<Command<'a>, AllocError>
-    ensures { IfOk result (λ made. app_of made ≡ command_line) }
+    ensures { IfOk result (IsLine command_line) }
 {
-    path_line(alloc)?.arg(Arg::new(alloc, "sign").required(true))
+    let line = program_line(alloc, "telinit");
+    let line = with_short(alloc, line, "secs", 't', "5")?;
+    let line = with_default(alloc, line, "initctl", "initctl")?;
+    with_word(alloc, line, "sign")
 }
 
 fn parsed<'a>(alloc: Global, words: &'a [String]) -> Result<ArgMatches<'a>, Error>

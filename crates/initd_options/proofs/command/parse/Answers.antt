@@ -2,17 +2,17 @@ use Rattle.std.proofs.Common.{◌≡◌, refl, true}
 use Rattle.clap.specs.Words.{is_simple, is_simple_and_free}
 use Rattle.clap.proofs.OnLiterals.{clap_on_literals}
 use Rattle.command_words.proofs.KnownLines.{known_faults, known_subcommand}
-use Rattle.initd_options.specs.CommandLine.{check_line, command_line, level_line, script_rule, simulate_line, table_line, table_rule, trace_rule}
-use Rattle.initd_options.specs.Options.{drain_line, drain_rule, initctl_line, initctl_rule, inittab_line, inittab_rule, paths_line, pause_rule, run_line, trace_path_rule, turns_line, turns_rule}
-use Rattle.initd_options.specs.Values.{level_rule}
+use Rattle.command_words.specs.CommandLines.{default_rule, program_app, switch_rule, value_rule, word_rule}
+use Rattle.initd_options.specs.CommandLine.{check_line, command_line, simulate_line}
+use Rattle.initd_options.specs.Options.{run_line}
 use Rattle.initd_options.proofs.command.parse.Goals as goal
 
 is_simple_line : is_simple command_line ≡ true
-unfolding level_rule table_rule script_rule level_line table_line simulate_line trace_rule check_line inittab_rule initctl_rule trace_path_rule turns_rule drain_rule pause_rule inittab_line initctl_line paths_line turns_line drain_line run_line command_line
+unfolding program_app word_rule value_rule default_rule switch_rule simulate_line check_line run_line command_line
 is_simple_line = refl
 
 is_free_line : is_simple_and_free command_line ≡ true
-unfolding level_rule table_rule script_rule level_line table_line simulate_line trace_rule check_line inittab_rule initctl_rule trace_path_rule turns_rule drain_rule pause_rule inittab_line initctl_line paths_line turns_line drain_line run_line command_line clap_on_literals
+unfolding program_app word_rule value_rule default_rule switch_rule simulate_line check_line run_line command_line clap_on_literals
 is_free_line = refl
 
 pub returns-clause-entered : goal.returns-clause-entered

@@ -1,11 +1,13 @@
-use Rattle.std.proofs.Common.{rules, ◌≡◌, ◌∙◌, ap₂}
+use Rattle.std.proofs.Common.{codes}
 use Rattle.std.proofs.lemmas.Result.{IfOk-weaker}
-use Rattle.clap.specs.Words.{rule_of, with_rule}
-use Rattle.initd_options.specs.CommandLine.{script_rule, simulate_line}
+use Rattle.command_words.specs.CommandLines.{value_rule, word_rule}
+use Rattle.command_words.proofs.CommandLines.{adds_line}
+use Rattle.initd_options.specs.CommandLine.{simulate_line}
 use Rattle.initd_options.proofs.command.simulate_line.Goals as goal
 
-pub returns-clause-line : goal.returns-clause-line
-unfolding script_rule simulate_line
-returns-clause-line c =
-    let script_is : rule_of c.required.result ≡ script_rule = search rules in
-    IfOk-weaker c.arg.result _ _ (λ made adds. adds.shape (search rules) ∙ ap₂ with_rule c.in_ok-table_line.ensures.line script_is) c.arg.ensures
+pub returns : goal.returns
+unfolding simulate_line
+returns c =
+    let level = adds_line c.new-line.result (value_rule (codes "level")) _ (c.new-line.ensures.app, c.new-line.ensures.local) c.in_ok-line.line c.in_ok-line.ensures in
+    let table = adds_line c.in_ok-line.line (word_rule (codes "table")) _ level c.in_ok-line-2.line c.in_ok-line-2.ensures in
+    IfOk-weaker c.with_word-2.result _ _ (adds_line c.in_ok-line-2.line (word_rule (codes "script")) _ table) c.with_word-2.ensures

@@ -1,11 +1,18 @@
-use Rattle.std.proofs.Common.{rules, ◌≡◌, ◌∙◌, ap₂}
+use Rattle.std.proofs.Common.{codes}
 use Rattle.std.proofs.lemmas.Result.{IfOk-weaker}
-use Rattle.clap.specs.Words.{rule_of, with_rule}
-use Rattle.initd_options.specs.Options.{pause_rule, run_line}
+use Rattle.command_words.specs.CommandLines.{default_rule, switch_rule, value_rule}
+use Rattle.command_words.proofs.CommandLines.{adds_line}
+use Rattle.initd_options.specs.Options.{run_line}
 use Rattle.initd_options.proofs.options.run_line.Goals as goal
 
-pub returns-clause-line : goal.returns-clause-line
-unfolding pause_rule run_line
-returns-clause-line c =
-    let pause_is : rule_of c.default_value-pause.result ≡ pause_rule = search rules in
-    IfOk-weaker c.arg.result _ _ (λ made adds. adds.shape (search rules) ∙ ap₂ with_rule c.in_ok-drain_line.ensures.line pause_is) c.arg.ensures
+pub returns : goal.returns
+unfolding run_line
+returns c =
+    let inittab = adds_line c.new-line.result (default_rule (codes "inittab") (codes "inittab")) _ (c.new-line.ensures.app, c.new-line.ensures.local) c.in_ok-line.line c.in_ok-line.ensures in
+    let initctl = adds_line c.in_ok-line.line (default_rule (codes "initctl") (codes "initctl")) _ inittab c.in_ok-line-2.line c.in_ok-line-2.ensures in
+    let trace = adds_line c.in_ok-line-2.line (value_rule (codes "trace")) _ initctl c.in_ok-line-3.line c.in_ok-line-3.ensures in
+    let state = adds_line c.in_ok-line-3.line (default_rule (codes "state") (codes "initd.state")) _ trace c.in_ok-line-4.line c.in_ok-line-4.ensures in
+    let level = adds_line c.in_ok-line-4.line (value_rule (codes "level")) _ state c.in_ok-line-5.line c.in_ok-line-5.ensures in
+    let turns = adds_line c.in_ok-line-5.line (default_rule (codes "turns") (codes "1000000")) _ level c.in_ok-line-6.line c.in_ok-line-6.ensures in
+    let drain = adds_line c.in_ok-line-6.line (switch_rule (codes "drain")) _ turns c.in_ok-line-7.line c.in_ok-line-7.ensures in
+    IfOk-weaker c.with_default-5.result _ _ (adds_line c.in_ok-line-7.line (default_rule (codes "pause") (codes "1")) _ drain) c.with_default-5.ensures
