@@ -1,4 +1,5 @@
--- The arguments of a command line, by clap's own words. They are opaque, since a goal that sees them sees the whole parser.
+-- The arguments of a command line, by clap's own words. They are opaque, since a goal that sees them sees the whole
+-- parser.
 use Rattle.std.specs.Prelude.{ℕ, ◌≡◌, true, false, List, [], ◌∷◌, Some}
 use Rattle.clap.specs.declared.builder.action.ArgAction.TheVariants.{SetTrue}
 use Rattle.clap.specs.declared.builder.command.Command.{Command, out-Command}
@@ -32,7 +33,8 @@ program_app name =
 
 -- `new` is `old` with the argument behind all that it has
 abbrev pub Adds : Command → Rule → Command → Type 0
-Adds old rule new = (app_of new ≡ with_rule (app_of old) rule) × ((out-Command new).has_globals ≡ (out-Command old).has_globals)
+Adds old rule new =
+    (app_of new ≡ with_rule (app_of old) rule) × ((out-Command new).has_globals ≡ (out-Command old).has_globals)
 
 -- a command line with these arguments, in turn
 abbrev pub with_rules : App → List Rule → App
