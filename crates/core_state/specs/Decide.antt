@@ -68,7 +68,8 @@ signal_step grace now id _ = None
 
 abbrev pub stop_step : ℕ → ℕ → SlotState → Option Step
 stop_step grace now slot =
-    if is_some slot.child && is_none slot.order && not slot.missed then signal_step grace now slot.id slot.stop else None
+    if is_some slot.child && is_none slot.order && not slot.missed then signal_step grace now slot.id slot.stop
+    else None
 
 -- the first signal in record order
 abbrev pub stop_among : ℕ → ℕ → List SlotState → Option Step
@@ -149,7 +150,8 @@ is_served_slot level now e slot = not (is_owed_slot (stage.Run level) e slot)
     || served_by e.act slot.asked (is_some slot.child || is_held slot.limiter.held now))
 
 abbrev pub all_served : Level → ℕ → List Entry → List SlotState → Bool
-all_served level now table slots = list_all (λ (p : Entry × SlotState). is_served_slot level now p.0 p.1) (zip table slots)
+all_served level now table slots =
+    list_all (λ (p : Entry × SlotState). is_served_slot level now p.0 p.1) (zip table slots)
 
 -- in a run level, that it is settled, once
 abbrev pub settle_step : Stage → Bool → ℕ → List Entry → List SlotState → Option Step

@@ -107,8 +107,8 @@ At core blocks goal p = On (Tracks core) goal p × IsOver blocks p.over
 abbrev pub Counted : ℕ → Goal → Point → Type 0
 Counted lates goal p = p.lates ≡ lates
 
--- from a point on these calls were made: each in its place, and with them the trace is sound, fits, and went to the log,
--- where the seconds named before are at most an hour, as are those of each request
+-- from a point on these calls were made: each in its place, and with them the trace is sound, fits, and went to the
+-- log, where the seconds named before are at most an hour, as are those of each request
 pub record Went (fit : Goal → Point → Type 0) (old new : LogState) (goal : Goal) (p : Point) (calls : List HostCall)
     : Type 0 where
   pub in_place : IsTrue (has_trace goal calls p)

@@ -74,7 +74,8 @@ is_step _ = false
 -- so many steps, one behind the other
 abbrev pub AreSteps : ℕ → List HostCall → Type 0
 AreSteps zero calls = calls ≡ []
-AreSteps (suc n) calls = (last before : List HostCall) × (calls ≡ last ++ before) × IsTrue (is_step last) × AreSteps n before
+AreSteps (suc n) calls = (last before : List HostCall) × (calls ≡ last ++ before)
+    × IsTrue (is_step last) × AreSteps n before
 
 -- A turn: it reads the clock, takes bytes, takes late answers, and takes steps until it is done, or has taken as many
 -- as a turn may.
@@ -108,5 +109,5 @@ Undrained fitted calls = (goal : Goal) (p : Point) → IsTrue (is_sound goal p.p
 abbrev pub AreTurns : Bool → (Goal → Point → Type 0) → ℕ → List HostCall → Type 0
 AreTurns drain fitted zero calls = calls ≡ []
 AreTurns drain fitted (suc n) calls = (done : Bool) × (last before : List HostCall) × (calls ≡ Pause ∷ (last ++ before))
-    × IsTurn done last × (IsTrue done → Rests fitted (last ++ before)) × (IsTrue drain → (n ≡ 0) ⊎ Undrained fitted before)
-    × AreTurns drain fitted n before
+    × IsTurn done last × (IsTrue done → Rests fitted (last ++ before))
+    × (IsTrue drain → (n ≡ 0) ⊎ Undrained fitted before) × AreTurns drain fitted n before

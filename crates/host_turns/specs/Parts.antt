@@ -96,7 +96,8 @@ AndRests done fit goal p = fit goal p × (IsTrue done → first (due goal p.past
 pub record Says (made : Step) (happening : Event) : Type 0 where
   pub step : (past : List Event) → with_step made past ≡ happening ∷ past
   pub said : is_said happening ≡ true
-  pub place : (goal : Goal) (earlier : List HostCall) (past : List Event) → may_announce goal happening earlier past ≡ true
+  pub place : (goal : Goal) (earlier : List HostCall) (past : List Event) →
+      may_announce goal happening earlier past ≡ true
 
 -- What is so behind a turn: init's core tracks the trace, and the reader of requests stands where it does; the children
 -- that the host has not reaped are those of the records, corrected by the answers under way; and where the turn was
@@ -108,7 +109,8 @@ pub record Left (done : Bool) (core : CoreState) (blocks : Begun) (goal : Goal) 
 
 -- the same behind all turns, wherever the reader of requests stands
 abbrev pub LeftBy : CoreState → Goal → Point → Type 0
-LeftBy core goal p = On (Tracks core) goal p × ((id : List ℕ) (n : ℕ) → is_unreaped id n p.past ≡ is_recorded id n core p.past)
+LeftBy core goal p =
+    On (Tracks core) goal p × ((id : List ℕ) (n : ℕ) → is_unreaped id n p.past ≡ is_recorded id n core p.past)
 
 -- what tracks the trace, where no bytes of a block have come
 abbrev pub Fresh : CoreState → Goal → Point → Type 0

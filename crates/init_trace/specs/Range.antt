@@ -83,7 +83,8 @@ line_count _ = 1
 
 -- the text begins with no happening's text
 abbrev pub BeginsNone : List ℕ → Type 0
-BeginsNone text = (happening : Event) (more : List ℕ) → is_in_range happening ≡ true → event_text happening ++ more ≢ text
+BeginsNone text =
+    (happening : Event) (more : List ℕ) → is_in_range happening ≡ true → event_text happening ++ more ≢ text
 
 -- the text is that of a trace up to its line of this number, counted from 1, and no happening begins there
 pub record Stops (text : List ℕ) (number : ℕ) : Type 0 where

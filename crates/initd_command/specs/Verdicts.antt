@@ -19,7 +19,8 @@ abbrev pub lawful_text : List ℕ
 lawful_text = codes "lawful\n"
 
 abbrev pub unlawful_text : Fault → List ℕ
-unlawful_text fault = codes "unlawful: happening " ++ decimal fault.place ++ codes ", law " ++ decimal fault.law ++ codes "\n"
+unlawful_text fault =
+    codes "unlawful: happening " ++ decimal fault.place ++ codes ", law " ++ decimal fault.law ++ codes "\n"
 
 -- what breaks a law, in words
 abbrev pub law_text : ℕ → List ℕ
@@ -41,7 +42,8 @@ message_of number line why =
 abbrev pub breach_message : List Event → Fault → List ℕ
 breach_message trace fault =
     message_of (newlines (trace_text (take fault.place trace)) + 1)
-    (option_map_or (λ happening. first_line (event_text happening)) (slice_get trace fault.place) []) (law_text fault.law)
+    (option_map_or (λ happening. first_line (event_text happening)) (slice_get trace fault.place) [])
+    (law_text fault.law)
 
 -- how a lawful trace ends, and one with this breach
 abbrev pub EndsLawful : Ending → Option (List ℕ) → Option (List ℕ) → Type 0

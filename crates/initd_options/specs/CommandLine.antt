@@ -1,5 +1,5 @@
--- The command lines `initd simulate [--level L] TABLE SCRIPT`, `initd check TRACE` and `initd run ..`. What they take is
--- said by clap's own words; they are opaque, since a goal that sees them sees the whole parser.
+-- The command lines `initd simulate [--level L] TABLE SCRIPT`, `initd check TRACE` and `initd run ..`. What they take
+-- is said by clap's own words; they are opaque, since a goal that sees them sees the whole parser.
 use Rattle.std.specs.Prelude.{true, if◌then◌else◌, List, [], ◌∷◌, codes, Option, Some, None, option_map, length, ◌==◌, string_bytes}
 use Rattle.std.specs.Str.{bytes_eq}
 use Rattle.clap.specs.Words.{App, Row, Text, fault_of, new_app, subcommand_of, with_subcommand}

@@ -1,5 +1,5 @@
--- The command line `rc DIR PREV NEW`. What it takes is said by clap's own words; they are opaque, since a goal that sees
--- them sees the whole parser.
+-- The command line `rc DIR PREV NEW`. What it takes is said by clap's own words; they are opaque, since a goal that
+-- sees them sees the whole parser.
 use Rattle.std.specs.Prelude.{Bool, if◌then◌else◌, List, [], ◌∷◌, codes, Option, Some, None, unwrap_or, option_and_then, option_map, length, ◌==◌, ◌||◌, string_bytes}
 use Rattle.std.specs.List.{list_all}
 use Rattle.std.specs.Str.{byte, bytes_eq}
@@ -44,7 +44,8 @@ value_in id rows = unwrap_or (first_of id rows) []
 abbrev pub said_by : Text → Text → Text → Option Said
 said_by dir before after =
     if is_dir dir then
-    option_and_then (λ previous. option_map (λ new. record { dir = dir; previous = previous; new = new }) (level_of after))
+    option_and_then
+    (λ previous. option_map (λ new. record { dir = dir; previous = previous; new = new }) (level_of after))
     (previous_of before)
     else None
 

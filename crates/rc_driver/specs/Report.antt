@@ -49,11 +49,13 @@ report _ _ = []
 -- how a run over a host changes the run of the scripts and a writer's bytes. Lines of the scripts that were left were
 -- written, each with the end that it came to: of all of them, where the run is done; else as far as it came, and the
 -- last script that was handed out is not answered
-pub record Went (old : RcState) (before : Option (List ℕ)) (ended : RunEnd) (new : RcState) (after : Option (List ℕ)) : Type 0 where
+pub record Went (old : RcState) (before : Option (List ℕ)) (ended : RunEnd) (new : RcState) (after : Option (List ℕ))
+    : Type 0 where
   pub answers : List RcAnswer
   pub part : AppendsPrefix before after (report old.left answers)
   pub whole : ended ≡ run_end.Done →
-      (length answers ≡ length old.left) × Appends before after (report old.left answers) × (new.left ≡ []) × (new.waits ≡ false)
+      (length answers ≡ length old.left) × Appends before after (report old.left answers)
+      × (new.left ≡ []) × (new.waits ≡ false)
   pub waits : ended ≢ run_end.Done → new.waits ≡ true
 
 -- the next script that was left came to an end, and its line was written
@@ -63,4 +65,5 @@ Advances old before new after = (s : Script) × (given : RcAnswer)
 
 -- a run ended at a script: of its line at most a part was written
 abbrev pub Stops : RunEnd → Script → Option (List ℕ) → Option (List ℕ) → Type 0
-Stops ended s before after = (ended ≢ run_end.Done) × ((given : RcAnswer) × AppendsPrefix before after (line_of s given))
+Stops ended s before after =
+    (ended ≢ run_end.Done) × ((given : RcAnswer) × AppendsPrefix before after (line_of s given))

@@ -3,7 +3,6 @@ use Rattle.std.proofs.Common.{◌≡◌, ◌≢◌, refl, sym, ap, ◌∙◌, su
 use Rattle.std.specs.Prelude.{OnErr}
 use Rattle.std.proofs.lemmas.Bool.{false≢true}
 use Rattle.init_words.specs.declared.entries.Entry.{Entry}
-use Rattle.init_words.specs.declared.levels.Level.{Level}
 use Rattle.init_words.specs.declared.orders.Answer.{Answer}
 use Rattle.init_words.specs.declared.stages.Stage.{Stage}
 use Rattle.init_words.specs.declared.stages.Stage.TheVariants as stage
@@ -23,7 +22,7 @@ use Rattle.init_trace.specs.Wishes.{in_run, level_wish}
 use Rattle.core_state.specs.Decide.{decide}
 use Rattle.core_state.specs.Fit.{Fits, core_read, with_step}
 use Rattle.core_state.specs.Rules.{KeepsRules}
-use Rattle.core_state.specs.State.{CoreState, opening_goal, opening_state}
+use Rattle.core_state.specs.State.{CoreState}
 use Rattle.core_state.specs.Steps.{wished, heard_in, after_step, after_adopt, after_clock, after_got, after_not_read, after_round, after_told}
 use Rattle.core_state.proofs.Deciding.{is_read}
 use Rattle.state_text.specs.Range.{has_short_seconds}
@@ -43,10 +42,6 @@ lasts_as core same goal past is rules short made kept = record {
   made = ap (λ (c : CoreState). c.generation) is ∙ made;
   goal = ap (λ (c : CoreState). c.goal) is ∙ kept;
 }
-
--- at the opening
-pub lasts_opening : (core : CoreState) (level : Option Level) (table : List Entry) → core ≡ opening_state table (opening_goal level table) → KeepsRules core → Lasts core (opening_goal level table) (event.NewTable table ∷ [])
-lasts_opening core level table is rules = lasts_as core (opening_state table (opening_goal level table)) (opening_goal level table) (event.NewTable table ∷ []) is rules refl refl refl
 
 -- ---- behind a step of init
 

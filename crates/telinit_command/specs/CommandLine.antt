@@ -1,5 +1,5 @@
--- The command line `telinit [-t SEC] [--initctl P] CHAR` (telinit(8)). What it takes is said by clap's own words; they are
--- opaque, since a goal that sees them sees the whole parser.
+-- The command line `telinit [-t SEC] [--initctl P] CHAR` (telinit(8)). What it takes is said by clap's own words; they
+-- are opaque, since a goal that sees them sees the whole parser.
 use Rattle.std.specs.Prelude.{ℕ, if◌then◌else◌, List, [], ◌∷◌, codes, Option, None, unwrap_or, option_and_then, option_map, length, ◌==◌}
 use Rattle.clap.specs.Words.{App, Text, fault_of, first_of, matches_of}
 use Rattle.command_words.specs.CommandLines.{default_rule, program_app, short_rule, with_rules, word_rule}
