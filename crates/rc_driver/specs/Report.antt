@@ -47,8 +47,8 @@ report (s ∷ scripts) (given ∷ answers) = line_of s given ++ report scripts a
 report _ _ = []
 
 -- how a run over a host changes the run of the scripts and a writer's bytes. Lines of the scripts that were left were
--- written, each with the end that it came to: of all of them, where the run is done; else as far as it came, and the
--- last script that was handed out is not answered
+-- written, each with an end (which one the host answered is not said): of all of them, where the run is done; else as
+-- far as it came, and the last script that was handed out is not answered
 pub record Went (old : RcState) (before : Option (List ℕ)) (ended : RunEnd) (new : RcState) (after : Option (List ℕ))
     : Type 0 where
   pub answers : List RcAnswer
