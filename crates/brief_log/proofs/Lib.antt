@@ -1,0 +1,3 @@
+pub mod AddLemmas
+pub mod Writing
+pub mod TellLemmas

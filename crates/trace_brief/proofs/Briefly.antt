@@ -1,0 +1,148 @@
+-- The brief form of a sound trace is sound, and init reads the same off it.
+use Rattle.std.proofs.Common.{◌≡◌, refl, sym, ◌∙◌, ap, ap₂, subst, ℕ, Bool, true, false, not, ◌&&◌, ◌||◌, cond, List, [], ◌∷◌}
+use Rattle.std.specs.List.{list_any}
+use Rattle.std.proofs.lemmas.Bool.{false≢true, and_from}
+use Rattle.init_words.specs.declared.entries.Entry.{Entry}
+use Rattle.init_words.specs.declared.orders.Ask.TheVariants.{Start, Look, Term, Kill}
+use Rattle.init_words.specs.Ids.{same_id}
+use Rattle.inittab_text.specs.Tables.{is_distinct}
+use Rattle.init_trace.specs.declared.happenings.Happening.TheVariants.{NewTable, Enter, Call, Power, Asked, Hold, Settle, Birth, NoBirth, Death, Reaped, Still, NoLook, Hit, Miss, Told, Clock, Nudge}
+use Rattle.init_trace.specs.declared.steps.Step.TheVariants as step
+use Rattle.init_trace.specs.declared.steps.Goal.{Goal}
+use Rattle.init_trace.specs.Event.{Event}
+use Rattle.init_trace.specs.Past.{is_child, has_number, is_dead, is_living, undone_of, unreaped_children}
+use Rattle.init_trace.specs.Wanted.{is_order}
+use Rattle.init_trace.specs.Sound.{may_come, is_sound}
+use Rattle.init_trace.specs.Lawful.{is_lawful}
+use Rattle.init_words.proofs.Same.{same_id-is}
+use Rattle.init_words.proofs.Tests.{any_same}
+use Rattle.trace_laws.proofs.Keeps.{sound_ind}
+use Rattle.trace_laws.proofs.Laws.{sound_lawful}
+use Rattle.trace_brief.specs.Readings.{is_spoken, spoken}
+use Rattle.trace_brief.specs.Brief.{in_look, tell, read, read_early, begin_round, then_brief, brief_of}
+use Rattle.trace_brief.proofs.Spoken.{dead_spoken}
+use Rattle.trace_brief.proofs.Alike.{Alike, alike_self, alike_then, alike_cons, same_by, same_unreaped}
+use Rattle.trace_brief.proofs.Shorter.{alike_look, alike_readings, alike_early, alike_rounds}
+use Rattle.trace_brief.proofs.SameDues.{quiet_same, due_alike}
+
+dead_same : (past brief : List Event) → Alike past brief → (id : List ℕ) (n : ℕ) → is_dead id n past ≡ is_dead id n brief
+dead_same past brief a id n = same_by (is_dead id n) (dead_spoken id n) past brief a.said
+
+living_same : (past brief : List Event) → Alike past brief → (n : ℕ) → is_living n past ≡ is_living n brief
+living_same past brief a n =
+    any_same (λ child. has_number n child && not (is_dead child.id n past)) (λ child. has_number n child && not (is_dead child.id n brief)) (λ child. ap (λ dead. has_number n child && not dead) (dead_same past brief a child.id n)) (unreaped_children past)
+    ∙ ap (list_any (λ child. has_number n child && not (is_dead child.id n brief))) (same_unreaped past brief a.said)
+
+-- what may come behind a trace may come behind one that is alike
+pub may_alike : (goal : Goal) (happening : Event) (past brief : List Event) → Alike past brief → may_come goal happening past ≡ true → may_come goal happening brief ≡ true
+may_alike goal (NewTable table) past brief a h = sym (ap (λ quiet. quiet && is_distinct table) (quiet_same past brief a)) ∙ h
+may_alike goal (Enter stage grace) past brief a h = due_alike goal (step.Enter stage grace) past brief a h
+may_alike goal (Call letter) past brief a h = due_alike goal (step.Call letter) past brief a h
+may_alike goal (Power kind) past brief a h = due_alike goal (step.Power kind) past brief a h
+may_alike goal (Asked id ask) past brief a h = due_alike goal (step.Order id ask) past brief a h
+may_alike goal (Hold id) past brief a h = due_alike goal (step.Hold id) past brief a h
+may_alike goal (Settle level) past brief a h = due_alike goal (step.Settle level) past brief a h
+may_alike goal (Birth id n) past brief a h = sym (ap₂ (λ order children. is_order Start order && not (list_any (has_number n) children)) (a.undone id) (same_unreaped past brief a.said)) ∙ h
+may_alike goal (NoBirth id) past brief a h = sym (ap (is_order Start) (a.undone id)) ∙ h
+may_alike goal (Death n) past brief a h = sym (living_same past brief a n) ∙ h
+may_alike goal (Reaped id n status) past brief a h = sym (ap₂ (λ order children. is_order Look order && list_any (is_child id n) children && is_dead id n past) (a.undone id) (same_unreaped past brief a.said) ∙ ap (λ dead. is_order Look (undone_of id brief) && list_any (is_child id n) (unreaped_children brief) && dead) (dead_same past brief a id n)) ∙ h
+may_alike goal (Still id) past brief a h = sym (ap (is_order Look) (a.undone id)) ∙ h
+may_alike goal (NoLook id) past brief a h = sym (ap (is_order Look) (a.undone id)) ∙ h
+may_alike goal (Hit id) past brief a h = sym (ap (λ order. is_order Term order || is_order Kill order) (a.undone id)) ∙ h
+may_alike goal (Miss id) past brief a h = sym (ap (λ order. is_order Term order || is_order Kill order) (a.undone id)) ∙ h
+may_alike goal (Told id) past brief a h = sym (a.untold id) ∙ h
+may_alike goal _ past brief a h = refl
+
+-- a happening that may come behind a sound trace makes a sound one
+sound_cons : (goal : Goal) (happening : Event) (past : List Event) → may_come goal happening past ≡ true → is_sound goal past ≡ true → is_sound goal (happening ∷ past) ≡ true
+sound_cons goal happening [] may sound = absurd (false≢true sound)
+sound_cons goal (NewTable table) (x ∷ past) may sound = and_from (may_come goal (NewTable table) (x ∷ past)) (is_sound goal (x ∷ past)) may sound
+sound_cons goal happening (x ∷ past) may sound = and_from (may_come goal happening (x ∷ past)) (is_sound goal (x ∷ past)) may sound
+
+-- a sound trace, off which init reads the same
+abbrev Stands : Goal → List Event → List Event → Type 0
+Stands goal past brief = (is_sound goal brief ≡ true) × Alike past brief
+
+-- a look is of one id
+one_id : (goal : Goal) (i j k : List ℕ) (brief : List Event) → i ≡ j → i ≡ k → is_sound goal (Told i ∷ Still j ∷ Asked k Look ∷ brief) ≡ true → Stands goal (Told i ∷ Still j ∷ Asked k Look ∷ brief) brief
+one_id goal i j k brief first second =
+    let P : List ℕ → Type 0 = λ x. is_sound goal (Told i ∷ Still x ∷ Asked i Look ∷ brief) ≡ true → Stands goal (Told i ∷ Still x ∷ Asked i Look ∷ brief) brief in
+    let Q : List ℕ → Type 0 = λ x. is_sound goal (Told i ∷ Still j ∷ Asked x Look ∷ brief) ≡ true → Stands goal (Told i ∷ Still j ∷ Asked x Look ∷ brief) brief in
+    subst Q second (subst P first (alike_look goal i brief))
+
+tell_stands : (goal : Goal) (i : List ℕ) (brief : List Event) → is_sound goal (Told i ∷ brief) ≡ true → Stands goal (Told i ∷ brief) (tell i brief)
+tell_stands goal i (Still j ∷ Asked k Look ∷ brief) h = split (same_id i j) (same_id i k) (in_look brief) refl refl where
+  whole : List Event
+  whole = Told i ∷ Still j ∷ Asked k Look ∷ brief
+
+  split : (b c d : Bool) → same_id i j ≡ b → same_id i k ≡ c → Stands goal whole (cond (b && c && not d) brief whole)
+  split true true false first second = one_id goal i j k brief (same_id-is i j first) (same_id-is i k second) h
+  split true true true first second = (h, alike_self whole)
+  split true false d first second = (h, alike_self whole)
+  split false c d first second = (h, alike_self whole)
+tell_stands goal i brief h = (h, alike_self (Told i ∷ brief))
+
+-- each reading of the clock, and each round, computes to what comes before it
+read_stands : (goal : Goal) (reading : ℕ) (brief : List Event) → is_sound goal (Clock reading ∷ brief) ≡ true → Stands goal (Clock reading ∷ brief) (read reading brief)
+read_stands goal reading (Clock before ∷ brief) h = (h, alike_readings reading before brief)
+read_stands goal reading brief h = (h, alike_self (Clock reading ∷ brief))
+
+early_stands : (goal : Goal) (reading : ℕ) (brief : List Event) → is_sound goal (Clock reading ∷ brief) ≡ true → Stands goal (Clock reading ∷ brief) (read_early reading brief)
+early_stands goal reading (Nudge ∷ brief) h =
+    let rest = read_stands goal reading brief h in
+    (rest.0, alike_then (Clock reading ∷ Nudge ∷ brief) (Nudge ∷ Clock reading ∷ brief) (Nudge ∷ read reading brief) (alike_early reading brief) (alike_cons Nudge (Clock reading ∷ brief) (read reading brief) rest.1))
+early_stands goal reading brief h = read_stands goal reading brief h
+
+round_stands : (goal : Goal) (brief : List Event) → is_sound goal (Nudge ∷ brief) ≡ true → Stands goal (Nudge ∷ brief) (begin_round brief)
+round_stands goal (Nudge ∷ brief) h = (h, alike_rounds brief)
+round_stands goal brief h = (h, alike_self (Nudge ∷ brief))
+
+then_stands : (goal : Goal) (happening : Event) (brief : List Event) → is_sound goal (happening ∷ brief) ≡ true → Stands goal (happening ∷ brief) (then_brief happening brief)
+then_stands goal (Told i) brief h = tell_stands goal i brief h
+then_stands goal (Clock reading) brief h = early_stands goal reading brief h
+then_stands goal Nudge brief h = round_stands goal brief h
+then_stands goal happening brief h = (h, alike_self (happening ∷ brief))
+
+pub brief_stands : (goal : Goal) (past : List Event) → is_sound goal past ≡ true → Stands goal past (brief_of past)
+brief_stands goal past h = sound_ind goal (λ before. Stands goal before (brief_of before)) first next past h where
+  first : (table : List Entry) → is_distinct table ≡ true → Stands goal (NewTable table ∷ []) (brief_of (NewTable table ∷ []))
+  first table distinct = (distinct, alike_self (NewTable table ∷ []))
+
+  next : (happening : Event) (before : List Event) → may_come goal happening before ≡ true → is_sound goal before ≡ true → Stands goal before (brief_of before) → Stands goal (happening ∷ before) (brief_of (happening ∷ before))
+  next happening before may sound rest =
+      let whole = sound_cons goal happening (brief_of before) (may_alike goal happening before (brief_of before) rest.1 may) rest.0 in
+      let last = then_stands goal happening (brief_of before) whole in
+      (last.0, alike_then (happening ∷ before) (happening ∷ brief_of before) (then_brief happening (brief_of before)) (alike_cons happening before (brief_of before) rest.1) last.1)
+
+-- what no soundness is asked for: the spoken happenings, the clock, the times of starts and holds
+same_tell : {X : Type 0} (f : List Event → X) → ((i j k : List ℕ) (past : List Event) → f (Told i ∷ Still j ∷ Asked k Look ∷ past) ≡ f past) → (i : List ℕ) (brief : List Event) → f (Told i ∷ brief) ≡ f (tell i brief)
+same_tell f look i (Still j ∷ Asked k Look ∷ brief) = split (same_id i j && same_id i k && not (in_look brief)) where
+  split : (b : Bool) → f (Told i ∷ Still j ∷ Asked k Look ∷ brief) ≡ f (cond b brief (Told i ∷ Still j ∷ Asked k Look ∷ brief))
+  split true = look i j k brief
+  split false = refl
+same_tell f look i brief = refl
+
+said_read : (reading : ℕ) (brief : List Event) → spoken brief ≡ spoken (read reading brief)
+said_read reading (Clock before ∷ brief) = refl
+said_read reading brief = refl
+
+said_early : (reading : ℕ) (brief : List Event) → spoken brief ≡ spoken (read_early reading brief)
+said_early reading (Nudge ∷ brief) = said_read reading brief
+said_early reading brief = said_read reading brief
+
+said_round : (brief : List Event) → spoken brief ≡ spoken (begin_round brief)
+said_round (Nudge ∷ brief) = refl
+said_round brief = refl
+
+said_then : (happening : Event) (brief : List Event) → spoken (happening ∷ brief) ≡ spoken (then_brief happening brief)
+said_then (Told i) brief = same_tell spoken (λ i j k past. refl) i brief
+said_then (Clock reading) brief = said_early reading brief
+said_then Nudge brief = said_round brief
+said_then _ brief = refl
+
+pub brief_said : (past : List Event) → spoken past ≡ spoken (brief_of past)
+brief_said [] = refl
+brief_said (happening ∷ past) = ap (λ rest. cond (is_spoken happening) (happening ∷ rest) rest) (brief_said past) ∙ said_then happening (brief_of past)
+
+pub brief_lawful : (goal : Goal) (past : List Event) → is_sound goal past ≡ true → is_lawful (brief_of past) ≡ true
+brief_lawful goal past h = sound_lawful goal (brief_of past) (brief_stands goal past h).0

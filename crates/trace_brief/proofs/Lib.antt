@@ -1,0 +1,9 @@
+mod Rows
+pub mod Spoken
+pub mod Alike
+pub mod Shorter
+pub mod SameDues
+pub mod Briefly
+pub mod HoldLemmas
+pub mod Short
+pub mod Judged

@@ -1,0 +1,66 @@
+//! Brief traces: a trace without its idle rounds, which is sound where the whole one is.
+#![tactic(auto)]
+
+mod held;
+
+ghost use Rattle.std.specs.Prelude.{◌≡◌, ℕ, IsTrue, false, List, [], ◌∷◌, ◌++◌, None};
+ghost use Rattle.init_trace.specs.declared.steps.Goal.{Goal};
+ghost use Rattle.init_trace.specs.Event.{Event};
+ghost use Rattle.init_trace.specs.Past.{Child, table_of, stage_of, time_of, unreaped_children, has_child, known_children, open_orders};
+ghost use Rattle.init_trace.specs.Spells.{stop_due};
+ghost use Rattle.init_trace.specs.Timing.{is_held, is_full};
+ghost use Rattle.init_trace.specs.Sound.{is_sound};
+ghost use Rattle.init_trace.specs.Lawful.{is_lawful, first_breach};
+ghost use Rattle.trace_brief.specs.Readings.{are_looks_free, spoken};
+ghost use Rattle.trace_brief.specs.Brief.{brief_of, IsBrief};
+ghost use Rattle.trace_brief.specs.declared.held.Held.{Held};
+ghost use Rattle.trace_brief.specs.Holding.{Holds, next_held, newly_written};
+
+pub use held::{Held, HeldLook};
+
+/// The laws of brief traces. It does nothing: its contract says them.
+pub fn law_of_brief()
+    // of any trace at all: each happening that is no look, telling, reading of the clock or round stands, in its order
+    ensures said { (trace : List Event) → spoken trace ≡ spoken (brief_of trace) }
+    // nothing more can be left out of it
+    ensures short { (trace : List Event) → IsBrief (brief_of trace) }
+    ensures twice { (trace : List Event) → brief_of (brief_of trace) ≡ brief_of trace }
+    // of a trace whose looks are free, as those of every sound one are, sound or not: its brief form is lawful exactly
+    // if it is
+    ensures free { (goal : Goal) (trace : List Event)
+        → IsTrue (is_sound goal trace) → IsTrue (are_looks_free trace) }
+    ensures judged { (trace : List Event)
+        → IsTrue (are_looks_free trace) → is_lawful trace ≡ is_lawful (brief_of trace) }
+    // of a sound trace: its brief form is sound, for the same opening goal, and so breaks no law
+    ensures sound { (goal : Goal) (trace : List Event)
+        → IsTrue (is_sound goal trace) → IsTrue (is_sound goal (brief_of trace)) }
+    ensures lawful { (goal : Goal) (trace : List Event)
+        → IsTrue (is_sound goal trace) → IsTrue (is_lawful (brief_of trace)) }
+    ensures unbroken { (goal : Goal) (trace : List Event)
+        → IsTrue (is_sound goal trace) → first_breach (brief_of trace) ≡ None }
+    // and init reads the same off it
+    ensures time { (goal : Goal) (trace : List Event)
+        → IsTrue (is_sound goal trace) → time_of trace ≡ time_of (brief_of trace) }
+    ensures unreaped { (goal : Goal) (trace : List Event)
+        → IsTrue (is_sound goal trace) → unreaped_children trace ≡ unreaped_children (brief_of trace) }
+    ensures orders { (goal : Goal) (trace : List Event)
+        → IsTrue (is_sound goal trace) → open_orders trace ≡ open_orders (brief_of trace) }
+    ensures known { (goal : Goal) (trace : List Event) (id : List ℕ)
+        → IsTrue (is_sound goal trace)
+        → has_child id (known_children trace) ≡ has_child id (known_children (brief_of trace)) }
+    ensures stops { (goal : Goal) (trace : List Event) (child : Child)
+        → IsTrue (is_sound goal trace) → stop_due child trace ≡ stop_due child (brief_of trace) }
+    ensures held { (goal : Goal) (trace : List Event) (id : List ℕ)
+        → IsTrue (is_sound goal trace) → is_held id trace ≡ is_held id (brief_of trace) }
+    ensures full { (goal : Goal) (trace : List Event) (id : List ℕ)
+        → IsTrue (is_sound goal trace) → is_full id trace ≡ is_full id (brief_of trace) }
+{}
+
+/// What is held back and what was written are the brief form of what came: at the beginning, and behind each happening.
+/// It does nothing: its contract says so.
+pub fn law_of_held()
+    ensures first { Holds (record { reading = None; round = false; look = None; within = false }) [] [] }
+    ensures next { (happening : Event) (held : Held) (written trace : List Event)
+        → Holds held written trace
+        → Holds (next_held happening held) (newly_written happening held ++ written) (happening ∷ trace) }
+{}
