@@ -31,7 +31,7 @@ use Rattle.core_state.specs.News.{keeps_kind, keeps_call, first_news}
 use Rattle.core_state.specs.Rules.{may_follow}
 use Rattle.core_state.specs.State.{CoreState}
 use Rattle.core_state.specs.Work.{stages_left, enters_left, unheld}
-use Rattle.core_state.specs.Decide.{or_else, or_idle, level_step, news_step, wished_step, wish_step, stands, signal_step, stop_step, stop_among, has_excluded, is_wanted_slot, is_owed_slot, limited_step, start_step, start_along, is_over_among, next_stage, enter_step, stage_step, is_idle, all_served, settle_step, look_among, calm_step, work_step, decide_in, decide}
+use Rattle.core_state.specs.Decide.{or_else, or_idle, level_step, news_step, wished_step, wish_step, stands, signal_step, stop_step, stop_among, has_excluded, is_wanted_slot, is_owed_slot, limited_step, start_step, start_along, is_over_among, next_stage, enter_step, stage_step, is_idle, all_served, settle_step, look_among, calm_step, work_step, first_step, decide_in, decide}
 
 -- a record of the id passes
 abbrev pub has_with : List ℕ → (SlotState → Bool) → List SlotState → Bool
@@ -215,7 +215,7 @@ module _ (c : CoreState) where
     idle_backed (Some step) h = h
 
     decided_in : (o : Option Stage) → c.stage ≡ o → is_backed c.slots (Some (decide_in o c)) ≡ true
-    decided_in None is = rw is (grind (arith, nat_tests))
+    decided_in None is = idle_backed (first_step c) (backed_if c.slots (is_quiet c.slots) (Some (Enter stage.Sysinit c.goal.grace)) (rw is (grind (arith, nat_tests))))
     decided_in (Some now) is = idle_backed (or_else (wish_step now c) (or_else (work_step now c) (look_among c.slots)))
         (backed_or c.slots (wish_step now c) (or_else (work_step now c) (look_among c.slots)) (backed_if c.slots (is_quiet c.slots) (wished_step now c) (wished_backed c.slots now))
         (backed_or c.slots (work_step now c) (look_among c.slots) (work_backed now is) (looks_backed c.slots)))

@@ -25,7 +25,7 @@ use Rattle.child_table.specs.Lists.{is_quiet}
 use Rattle.core_state.specs.declared.news.News.{News}
 use Rattle.core_state.specs.News.{first_news}
 use Rattle.core_state.specs.State.{CoreState}
-use Rattle.core_state.specs.Decide.{or_else, or_idle, level_step, news_step, wished_step, wish_step, stop_step, stop_among, signal_step, limited_step, start_step, start_along, start_among, stage_step, settle_step, calm_step, work_step, look_among, can_look_slot, can_start_slot, is_owed_slot, is_over_among, all_served, is_idle, has_excluded, stands, decide_in, decide}
+use Rattle.core_state.specs.Decide.{or_else, or_idle, level_step, news_step, wished_step, wish_step, stop_step, stop_among, signal_step, limited_step, start_step, start_along, start_among, stage_step, settle_step, calm_step, work_step, look_among, can_look_slot, can_start_slot, is_owed_slot, is_over_among, all_served, is_idle, has_excluded, stands, first_step, decide_in, decide}
 
 -- the kinds of step pass: an Enter with the seconds of the goal, or of the wish for a level, and a re-execution where
 -- it is wished
@@ -130,7 +130,7 @@ module _ (test : Step → Bool) (c : CoreState) (each : EachPasses test c) where
       (by_cond (has_excluded c.slots) None (calm_step now c) (λ _. tt) (calm now)))
 
   decided_in : (now : Option Stage) → test (decide_in now c) ≡ true
-  decided_in None = each.goal stage.Sysinit
+  decided_in None = by_idle (first_step c) (by_cond (is_quiet c.slots) (Some (Enter stage.Sysinit c.goal.grace)) None (λ _. each.goal stage.Sysinit) tt)
   decided_in (Some now) = by_idle (or_else (wish_step now c) (or_else (work_step now c) (look_among c.slots)))
       (by_else (wish_step now c) (or_else (work_step now c) (look_among c.slots))
       (by_cond (is_quiet c.slots) (wished_step now c) None (λ _. wishes now) tt)

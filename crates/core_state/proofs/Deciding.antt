@@ -25,6 +25,7 @@ use Rattle.core_state.specs.Decide as core
 use Rattle.core_state.specs.Decide.{or_else, or_idle, level_step, wish_step, stands, has_excluded, all_done, all_served, look_among, work_step, decide_in, decide}
 use Rattle.core_state.specs.Fit.{Fits, core_read, news_of, records_of}
 use Rattle.core_state.proofs.Fitted.{fit_records}
+use Rattle.core_state.proofs.Dawn.{dawn_quiet}
 use Rattle.core_state.proofs.Firsts.{head, first_by_head, head_step_if, head_steps_if}
 use Rattle.core_state.proofs.Newest.{by_first}
 use Rattle.core_state.proofs.Reading.{quiet_same, idle_same, excluded_same, kept_excluded_same}
@@ -173,9 +174,11 @@ module _ (goal : Goal) (past : List Event) (sound : is_sound goal past ≡ true)
         ∙ nine (due_reexec past) (due_reread past) (due_level past) (due_news past) (due_stops past) (due_starts past) (due_stage goal past) (due_settle past) (due_looks past)
         ∙ (λ i. or_idle (or_else (wish_same now in_stage i) (or_else (work_same i) (looks_same past i))))
 
+  -- before the first stage no order is open
   first_none : stage_of past ≡ None → first (due goal past) ≡ decide_in None (core_read past g n)
   first_none is = ap (λ o. first (due_first goal o past ++ due_reexec past ++ due_reread past ++ due_level past ++ due_news past ++ due_stops past ++ due_starts past ++ due_stage goal past ++ due_settle past ++ due_looks past)) is
       ∙ ap (λ (x : Goal). Enter stage.Sysinit x.grace) (sym (same_goal (ap in_run is)))
+      ∙ ap (λ b. or_idle (cond b (Some (Enter stage.Sysinit g.grace)) None)) (sym (sym (quiet_same goal past sound) ∙ dawn_quiet goal past sound is))
 
   pub read_due : decide (core_read past g n) ≡ first (due goal past)
   read_due = at (stage_of past) refl

@@ -1,5 +1,6 @@
 pub mod Acts
 pub mod Allowed
+pub mod Dawn
 pub mod Decided
 pub mod Deciding
 pub mod Each

@@ -18,7 +18,7 @@ use Rattle.child_table.specs.Order.{IsInOrder}
 use Rattle.child_table.specs.Times.{is_timely, are_timely}
 use Rattle.core_state.specs.declared.parts.Record.{Record}
 use Rattle.core_state.specs.Parts.{State, record_of, heads_of, state_of}
-use Rattle.core_state.specs.Rules.{IsFit, has_cause, is_birth_known, is_order_allowed, is_stop_judged, are_marks_due, is_limiter_kept, is_limit_kept, is_unused, is_hold_of, are_starts_fit, are_starts_free, is_other_level, is_goal_reached, never_fall}
+use Rattle.core_state.specs.Rules.{IsFit, has_cause, is_birth_known, is_order_allowed, is_stop_judged, are_marks_due, is_limiter_kept, is_limit_kept, is_unused, is_hold_of, are_starts_in, are_starts_free, is_other_level, is_goal_reached, never_fall}
 use Rattle.core_state.specs.Rebuilding.{living_of, slot_from, slots_along, are_paired, is_whole, is_for, are_whole, core_of, are_heads_kept, is_slot_kept, are_slots_kept, is_kept}
 use Rattle.core_state.specs.State.{CoreState}
 
@@ -214,9 +214,9 @@ made_kept s whole kept =
     let third = and_parts (nat_le s.heads.time CLOCK_LIMIT && is_other_level s.heads.stage s.heads.level_wish && (not s.heads.announced || in_run s.heads.stage)) (is_goal_reached s.heads.stage s.heads.goal s.heads.booted) both.0 in
     let second = and_parts (nat_le s.heads.time CLOCK_LIMIT && is_other_level s.heads.stage s.heads.level_wish) (not s.heads.announced || in_run s.heads.stage) third.0 in
     let first = and_parts (nat_le s.heads.time CLOCK_LIMIT) (is_other_level s.heads.stage s.heads.level_wish) second.0 in
-    let all = and_parts (are_distinct slots && are_starts_fit s.heads.stage s.table slots && are_starts_free slots) (list_all (is_slot_kept s.heads.stage s.table s.heads.time) slots) both.1 in
-    let some = and_parts (are_distinct slots && are_starts_fit s.heads.stage s.table slots) (are_starts_free slots) all.0 in
-    let few = and_parts (are_distinct slots) (are_starts_fit s.heads.stage s.table slots) some.0 in
+    let all = and_parts (are_distinct slots && are_starts_in s.heads.stage s.table slots && are_starts_free slots) (list_all (is_slot_kept s.heads.stage s.table s.heads.time) slots) both.1 in
+    let some = and_parts (are_distinct slots && are_starts_in s.heads.stage s.table slots) (are_starts_free slots) all.0 in
+    let few = and_parts (are_distinct slots) (are_starts_in s.heads.stage s.table slots) some.0 in
     let each = each_kept s.heads.stage s.table s.heads.time slots all.1 in
     record {
       in_order = made_order s.table s.records whole;
@@ -251,9 +251,9 @@ rules_kept core rules =
     (and_from (nat_le core.time CLOCK_LIMIT) (is_other_level core.stage core.level_wish) (le-leb core.time CLOCK_LIMIT rules.clock) rules.wish)
     rules.announced)
     rules.reached)
-    (and_from (are_distinct core.slots && are_starts_fit core.stage core.table core.slots && are_starts_free core.slots) (list_all (is_slot_kept core.stage core.table core.time) core.slots)
-    (and_from (are_distinct core.slots && are_starts_fit core.stage core.table core.slots) (are_starts_free core.slots)
-    (and_from (are_distinct core.slots) (are_starts_fit core.stage core.table core.slots) rules.distinct rules.starts)
+    (and_from (are_distinct core.slots && are_starts_in core.stage core.table core.slots && are_starts_free core.slots) (list_all (is_slot_kept core.stage core.table core.time) core.slots)
+    (and_from (are_distinct core.slots && are_starts_in core.stage core.table core.slots) (are_starts_free core.slots)
+    (and_from (are_distinct core.slots) (are_starts_in core.stage core.table core.slots) rules.distinct rules.starts)
     rules.free)
     (all_kept core.stage core.table core.time core.slots (record { caused = rules.caused; orders = rules.orders; stops = rules.stops; marks = rules.marks; limiters = rules.limiters; timely = rules.timely })))
 

@@ -2,7 +2,7 @@
 use Rattle.std.proofs.Common.{◌≡◌, ◌≤◌, refl, sym, ap, ◌∙◌, Bool, true, false, not, ◌&&◌, ◌||◌, cond, ℕ, List, [], ◌∷◌, zip, Option, Some, None, is_some, is_none}
 use Rattle.std.specs.List.{list_any, list_all}
 use Rattle.std.specs.Option.{option_map}
-use Rattle.std.proofs.lemmas.Bool.{false≢true, and_parts, and_from}
+use Rattle.std.proofs.lemmas.Bool.{false≢true, and_parts, and_from, not-true}
 use Rattle.respawn_limit.specs.declared.TheConstants.{CLOCK_LIMIT}
 use Rattle.init_words.specs.declared.actions.Act.{Act}
 use Rattle.init_words.specs.declared.actions.Act.TheVariants as act
@@ -28,7 +28,7 @@ use Rattle.child_table.specs.Order.{IsInOrder}
 use Rattle.child_table.specs.Times.{is_timely, are_timely}
 use Rattle.child_table.proofs.Found.{is_listed, others, rest_distinct}
 use Rattle.core_state.specs.Decide.{is_owed_slot}
-use Rattle.core_state.specs.Rules.{has_cause, is_birth_known, allows_order, is_order_allowed, is_started, is_start_allowed, are_starts_along, are_starts_in, are_starts_free, is_excluded_in, is_stop_judged, are_marks_due, is_limiter_kept, is_other_level, is_goal_reached, KeepsRules}
+use Rattle.core_state.specs.Rules.{has_cause, is_birth_known, allows_order, is_order_allowed, is_started, is_start_allowed, are_starts_along, are_starts_in, are_starts_free, is_excluded_in, is_stop_judged, are_marks_due, is_limiter_kept, is_other_level, is_goal_reached, IsFit}
 use Rattle.core_state.specs.State.{CoreState}
 use Rattle.core_state.proofs.Each.{Each, each_from, each_fails, each_all, each_both, each_less}
 use Rattle.core_state.proofs.RuledStarts.{started_busy, none_busy, along_rest}
@@ -129,7 +129,7 @@ start_each now (e ∷ table) (slot ∷ slots) order distinct allowed along = (
         ap (is_excluded now slot.act) (entry_first e table slot slots order distinct) ∙ ap (λ a. not (is_act e.act a && lives_of e now)) order.1 ∙ (λ i. not (same_act-self e.act i && lives i))
 
 start_in : (now : Option Stage) (table : List Entry) (slots : List SlotState) → IsInOrder table slots → are_distinct slots ≡ true → list_all is_order_allowed slots ≡ true → are_starts_in now table slots ≡ true → Each (λ slot. is_started slot ≡ true → is_excluded_in now slot.act (entry_of slot.id table) ≡ false) slots
-start_in None table slots order distinct allowed quiet = each_less (λ s. is_busy s.order ≡ false) (λ s. is_started s ≡ true → true ≡ false) (λ s free started. both_ways (is_busy s.order) (started_busy s.order started) free) slots (each_fails (λ s. is_busy s.order) slots (none_busy slots quiet))
+start_in None table slots order distinct allowed none = each_less (λ s. is_started s ≡ false) (λ s. is_started s ≡ true → true ≡ false) (λ s free started. both_ways (is_started s) started free) slots (each_fails is_started slots (not-true (list_any is_started slots) none))
 start_in (Some now) table slots order distinct allowed along = start_each now table slots order distinct allowed along
 
 -- the rules, record by record
@@ -148,7 +148,7 @@ placed_each : (now : Option Stage) (table : List Entry) (time : ℕ) (slots : Li
 placed_each now table time [] rules owns starts times = tt
 placed_each now table time (slot ∷ slots) rules owns starts times = (record { rules = rules.0; own = owns.0; start = starts.0; timely = times.0 }, placed_each now table time slots rules.1 owns.1 starts.1 times.1)
 
-pub each_placed : (c : CoreState) → KeepsRules c → Each (IsPlaced c.stage c.table c.time) c.slots
+pub each_placed : (c : CoreState) → IsFit c → Each (IsPlaced c.stage c.table c.time) c.slots
 each_placed c keeps = placed_each c.stage c.table c.time c.slots
     (ruled_each c.stage c.table c.time c.slots keeps.caused keeps.births keeps.orders keeps.stops keeps.marks keeps.limiters)
     (own_each c.table c.slots keeps.in_order keeps.distinct)
@@ -170,10 +170,10 @@ pub record IsHeaded (now : Option Stage) (time : ℕ) (other : Option Goal) (set
   pub announced : (not settled || in_run now) ≡ true
   pub reached : is_goal_reached now goal booted ≡ true
 
-pub heads_kept : (c : CoreState) → KeepsRules c → IsHeaded c.stage c.time c.level_wish c.announced c.goal c.booted
+pub heads_kept : (c : CoreState) → IsFit c → IsHeaded c.stage c.time c.level_wish c.announced c.goal c.booted
 heads_kept c keeps = record { clock = keeps.clock; wish = keeps.wish; announced = keeps.announced; reached = keeps.reached }
 
-pub all_kept : (c : CoreState) → KeepsRules c → AreRuled c.stage c.table c.time c.slots
+pub all_kept : (c : CoreState) → IsFit c → AreRuled c.stage c.table c.time c.slots
 all_kept c keeps = record {
   each = ruled_each c.stage c.table c.time c.slots keeps.caused keeps.births keeps.orders keeps.stops keeps.marks keeps.limiters;
   in_order = keeps.in_order;
@@ -183,7 +183,7 @@ all_kept c keeps = record {
   timely = keeps.timely;
 }
 
-pub kept_by : (c : CoreState) → AreRuled c.stage c.table c.time c.slots → IsHeaded c.stage c.time c.level_wish c.announced c.goal c.booted → KeepsRules c
+pub kept_by : (c : CoreState) → AreRuled c.stage c.table c.time c.slots → IsHeaded c.stage c.time c.level_wish c.announced c.goal c.booted → IsFit c
 kept_by c ruled heads = record {
   in_order = ruled.in_order;
   distinct = ruled.distinct;

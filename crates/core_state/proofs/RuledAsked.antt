@@ -16,7 +16,7 @@ use Rattle.child_table.proofs.Changed.{id-after_order}
 use Rattle.child_table.proofs.Ordered.{kept_by_one, order_changed, act-after_order}
 use Rattle.child_table.proofs.Timely.{timely_changed, timely_order, timely_parts}
 use Rattle.core_state.specs.Decide.{has_excluded, decide}
-use Rattle.core_state.specs.Rules.{may_follow, is_started, are_starts_along, are_starts_in, are_starts_free, is_limit_kept, is_unused, KeepsRules}
+use Rattle.core_state.specs.Rules.{may_follow, is_started, are_starts_along, are_starts_in, are_starts_free, is_limit_kept, is_unused, IsFit}
 use Rattle.core_state.specs.State.{CoreState}
 use Rattle.core_state.specs.Work.{unheld}
 use Rattle.core_state.proofs.Allowed.{is_askable, is_holdable, decided}
@@ -112,7 +112,7 @@ module _ (stage : Option Stage) (table : List Entry) (now : ℕ) (slot : SlotSta
       by false is free denied h = absurd (false≢true is)
 
 -- all of them, where the step was decided
-module _ (c : CoreState) (keeps : KeepsRules c) (id : List ℕ) where
+module _ (c : CoreState) (keeps : IsFit c) (id : List ℕ) where
   module _ (ask : Ask) (is : decide c ≡ Order id ask) where
     abbrev order : SlotState → SlotState
     order slot = changed id (after_order ask c.time) slot

@@ -20,7 +20,7 @@ use Rattle.child_table.proofs.Changed.{id-after_judge, timely_judge, timely_ente
 use Rattle.child_table.proofs.Found.{is_listed}
 use Rattle.child_table.proofs.Ordered.{order_map, order_adopt, order_new, act-after_judge}
 use Rattle.child_table.proofs.Timely.{timely_map}
-use Rattle.core_state.specs.Rules.{is_callable, KeepsRules}
+use Rattle.core_state.specs.Rules.{is_callable, IsFit}
 use Rattle.core_state.specs.State.{CoreState}
 use Rattle.core_state.specs.Steps.{called_if, with_called, judged_in}
 use Rattle.core_state.proofs.Each.{Each, each_fails, each_less, each_both, each_map, each_filter, each_joined, each_found, distinct_map}
@@ -91,7 +91,7 @@ called_act true slot = refl
 called_act false slot = refl
 
 -- a quiet point of a core that keeps the rules
-module _ (c : CoreState) (keeps : KeepsRules c) (quiet : is_quiet c.slots ≡ true) where
+module _ (c : CoreState) (keeps : IsFit c) (quiet : is_quiet c.slots ≡ true) where
   calm_each : Each (IsCalm c.stage c.table c.time) c.slots
   calm_each = each_both (IsRuled c.stage c.table c.time) (λ s. is_busy s.order ≡ false) c.slots (each_less (IsPlaced c.stage c.table c.time) (IsRuled c.stage c.table c.time) (λ s own. own.rules) c.slots (each_placed c keeps)) (each_fails (λ s. is_busy s.order) c.slots (none_busy c.slots quiet))
 

@@ -61,7 +61,7 @@ along_rest stage e slot ps h = at (is_owed_slot stage e slot) (and_parts (is_sta
 
 -- at a quiet point no start is open at all
 pub quiet_starts : (stage : Option Stage) (table : List Entry) (slots : List SlotState) → is_quiet slots ≡ true → are_starts_in stage table slots ≡ true
-quiet_starts None table slots quiet = quiet
+quiet_starts None table slots quiet = ap not (none_started slots quiet)
 quiet_starts (Some stage) table slots quiet = along_none stage (zip table slots) (falsely (list_any is_started_at (zip table slots)) (list_any is_started slots) (zip_any table slots) (none_started slots quiet))
 
 pub quiet_free : (slots : List SlotState) → is_quiet slots ≡ true → are_starts_free slots ≡ true
@@ -126,9 +126,9 @@ along_less stage change (e ∷ table) (slot ∷ slots) each h =
     at false was true is h rest = both_ways (is_owed_slot stage e slot) (less.owed is) was
     at false was false is h rest = rest h
 
-pub starts_less : (stage : Option Stage) (change : SlotState → SlotState) (table : List Entry) (slots : List SlotState) → Each (λ slot. is_busy (change slot).order ≡ true → is_busy slot.order ≡ true) slots → ((now : Stage) → Each (λ slot. (e : Entry) → IsLess now e slot (change slot)) slots) → are_starts_in stage table slots ≡ true → are_starts_in stage table (map change slots) ≡ true
-starts_less None change table slots busy less quiet = not_from_false (list_any is_busy_slot (map change slots)) (falsely (list_any is_busy_slot (map change slots)) (list_any is_busy_slot slots) (any_map is_busy_slot change slots busy) (none_busy slots quiet))
-starts_less (Some now) change table slots busy less along = along_less now change table slots (less now) along
+pub starts_less : (stage : Option Stage) (change : SlotState → SlotState) (table : List Entry) (slots : List SlotState) → Each (λ slot. is_started (change slot) ≡ true → is_started slot ≡ true) slots → ((now : Stage) → Each (λ slot. (e : Entry) → IsLess now e slot (change slot)) slots) → are_starts_in stage table slots ≡ true → are_starts_in stage table (map change slots) ≡ true
+starts_less None change table slots started less none = not_from_false (list_any is_started (map change slots)) (falsely (list_any is_started (map change slots)) (list_any is_started slots) (any_map is_started change slots started) (not-true (list_any is_started slots) none))
+starts_less (Some now) change table slots started less along = along_less now change table slots (less now) along
 
 -- and so does no start while a child is excluded come about, where no stop begins either
 free_by : (s x t y : Bool) → (t ≡ true → s ≡ true) → (y ≡ true → x ≡ true) → (not s || not x) ≡ true → (not t || not y) ≡ true

@@ -21,7 +21,7 @@ use Rattle.child_table.specs.Times.{are_timely}
 use Rattle.child_table.proofs.Changed.{id-after_answer}
 use Rattle.child_table.proofs.Ordered.{kept_by_one, over_none, order_told}
 use Rattle.child_table.proofs.Timely.{timely_told}
-use Rattle.core_state.specs.Rules.{is_started, are_starts_along, are_starts_in, KeepsRules}
+use Rattle.core_state.specs.Rules.{is_started, are_starts_along, are_starts_in, IsFit}
 use Rattle.core_state.specs.State.{CoreState}
 use Rattle.core_state.proofs.Allowed.{has_with}
 use Rattle.core_state.proofs.Each.{Each, each_less, each_both, each_filter, each_changed, each_own, distinct_map, distinct_filter}
@@ -65,7 +65,7 @@ accepted : (b : Bool) → verdict b ≡ Ok tt → b ≡ true
 accepted true is = refl
 accepted false is = absurd (cc)
 
-module _ (c : CoreState) (keeps : KeepsRules c) (id : List ℕ) (answer : Answer) where
+module _ (c : CoreState) (keeps : IsFit c) (id : List ℕ) (answer : Answer) where
   abbrev next : SlotState → SlotState
   next slot = changed id (after_answer answer c.time) slot
 
@@ -80,10 +80,6 @@ module _ (c : CoreState) (keeps : KeepsRules c) (id : List ℕ) (answer : Answer
     started_less : (slot : SlotState) (b : Bool) → is_started (cond b (after_answer answer c.time slot) slot) ≡ true → is_started slot ≡ true
     started_less slot true h = absurd (false≢true (sym (ap (is_order Start) (order_over answer c.time slot)) ∙ h))
     started_less slot false h = h
-
-    busy_less : (slot : SlotState) (b : Bool) → is_busy (cond b (after_answer answer c.time slot) slot).order ≡ true → is_busy slot.order ≡ true
-    busy_less slot true h = absurd (false≢true (sym (ap is_busy (order_over answer c.time slot)) ∙ h))
-    busy_less slot false h = h
 
     stop_less : (slot : SlotState) → IsAnswered slot → (b : Bool) → is_some (cond b (after_answer answer c.time slot) slot).stop ≡ true → is_some slot.stop ≡ true
     stop_less slot own true h = begins_none c.stage c.table c.time slot own.0 answer h
@@ -101,7 +97,7 @@ module _ (c : CoreState) (keeps : KeepsRules c) (id : List ℕ) (answer : Answer
           (each_both IsAnswered (λ s. is_slot_of id s ≡ true → not (is_over answer s) ≡ true) c.slots each_answered (each_own id (λ s. not (is_over answer s)) c.slots keeps.distinct (found_with id (λ s. not (is_over answer s)) c.slots found there (ap not stays))));
       in_order = subst (IsInOrder c.table) here (order_told id answer c.time c.table c.slots keeps.in_order);
       distinct = distinct_map next (kept_by_one (λ s. s.id) id (after_answer answer c.time) (λ s. id-after_answer answer c.time s)) c.slots keeps.distinct;
-      starts = starts_less c.stage next c.table c.slots (each_less IsAnswered (λ s. is_busy (next s).order ≡ true → is_busy s.order ≡ true) (λ s own. busy_less s (is_slot_of id s)) c.slots each_answered) (λ now. each_less IsAnswered (λ s. (e : Entry) → IsLess now e s (next s)) (λ s own e. next_less s own now e (is_slot_of id s) refl) c.slots each_answered) keeps.starts;
+      starts = starts_less c.stage next c.table c.slots (each_less IsAnswered (λ s. is_started (next s) ≡ true → is_started s ≡ true) (λ s own. started_less s (is_slot_of id s)) c.slots each_answered) (λ now. each_less IsAnswered (λ s. (e : Entry) → IsLess now e s (next s)) (λ s own e. next_less s own now e (is_slot_of id s) refl) c.slots each_answered) keeps.starts;
       free = free_less next c.slots (each_less IsAnswered (λ s. is_started (next s) ≡ true → is_started s ≡ true) (λ s own. started_less s (is_slot_of id s)) c.slots each_answered) (each_less IsAnswered (λ s. is_some (next s).stop ≡ true → is_some s.stop ≡ true) (λ s own. stop_less s own (is_slot_of id s)) c.slots each_answered) keeps.free;
       timely = subst (λ slots. are_timely c.time slots ≡ true) here (timely_told id answer c.time c.time (omega arith) c.slots keeps.timely);
     } where
@@ -110,7 +106,7 @@ module _ (c : CoreState) (keeps : KeepsRules c) (id : List ℕ) (answer : Answer
 
     -- the record of a child that ended goes
     starts_without : is_over answer found ≡ true → (stage : Option Stage) → are_starts_in stage c.table c.slots ≡ true → are_starts_in stage c.table (without id c.slots) ≡ true
-    starts_without over None quiet = not_from_false (list_any (λ (s : SlotState). is_busy s.order) (without id c.slots)) (falsely (list_any (λ (s : SlotState). is_busy s.order) (without id c.slots)) (list_any (λ (s : SlotState). is_busy s.order) c.slots) (any_filtered (λ s. is_busy s.order) (λ s. not (is_slot_of id s)) c.slots) (not-true (list_any (λ (s : SlotState). is_busy s.order) c.slots) quiet))
+    starts_without over None none = not_from_false (list_any is_started (without id c.slots)) (falsely (list_any is_started (without id c.slots)) (list_any is_started c.slots) (any_filtered is_started (λ s. not (is_slot_of id s)) c.slots) (not-true (list_any is_started c.slots) none))
     starts_without over (Some now) along = ap (are_starts_along now) (zip_without id c.table c.slots keeps.in_order (each_own id (λ s. is_none s.act) c.slots keeps.distinct (found_with id (λ s. is_none s.act) c.slots found there (over_none answer found over)))) ∙ along
 
     goes_ruled : is_over answer found ≡ true → AreRuled c.stage c.table c.time (without id c.slots)

@@ -26,7 +26,7 @@ use Rattle.child_table.specs.Changes.{allows, can_be_asked, after_order}
 use Rattle.child_table.specs.Lists.{is_quiet, with_changed, order_in, refusal_of}
 use Rattle.core_state.specs.News.{first_news}
 use Rattle.core_state.specs.Decide.{or_else, or_idle, level_step, news_step, wished_step, wish_step, stands, signal_step, stop_step, stop_among, has_excluded, is_owed_slot, can_start_slot, start_step, start_along, is_over_among, all_done, next_stage, enter_step, stage_step, is_idle, all_served, settle_step, can_look_slot, look_among, calm_step, work_step, decide_in, decide}
-use Rattle.core_state.specs.Rules.{may_follow, are_starts_along, are_starts_by, are_starts_in, are_unstarted, is_callable, is_other_level, is_goal_reached, IsFit, KeepsRules}
+use Rattle.core_state.specs.Rules.{may_follow, are_starts_along, are_starts_in, is_callable, is_other_level, is_goal_reached, IsFit}
 use Rattle.core_state.specs.State.{CoreState, opening_state}
 use Rattle.core_state.specs.Steps.{is_boot, wished, is_named, after_step, after_told, after_adopt}
 use Rattle.core_state.proofs.Ruled.{all_kept, heads_kept, kept_by}
@@ -37,12 +37,12 @@ use Rattle.core_state.proofs.RuledTold.{answer_ruled}
 use Rattle.core_state.proofs.RuledWalk.{walk_kept}
 
 -- the opening
-pub opening_keeps : (table : List Entry) (goal : Goal) → is_distinct table ≡ true → KeepsRules (opening_state table goal)
+pub opening_keeps : (table : List Entry) (goal : Goal) → is_distinct table ≡ true → IsFit (opening_state table goal)
 opening_keeps table goal distinct = kept_by (opening_state table goal) (opening_ruled table distinct) (record { clock = omega arith; wish = refl; announced = refl; reached = refl })
 
 -- what a step that is decided in a stage brings with it: a stage, news and an announcement come where they may, and a
 -- start is behind no owed entry and beside no excluded child
-module _ (c : CoreState) (keeps : KeepsRules c) (now : Stage) (in_stage : c.stage ≡ Some now) where
+module _ (c : CoreState) (keeps : IsFit c) (now : Stage) (in_stage : c.stage ≡ Some now) where
   abbrev is_lawful : Option Step → Bool
   is_lawful (Some (Order id Start)) = not (has_excluded c.slots) && are_starts_along now (zip c.table (with_changed id (after_order Start c.time) c.slots))
   is_lawful (Some (Enter next grace)) = is_quiet c.slots && is_goal_reached (Some next) (wished c.level_wish c.goal) (is_boot next || c.booted)
@@ -205,7 +205,7 @@ module _ (c : CoreState) (keeps : KeepsRules c) (now : Stage) (in_stage : c.stag
       ∙ idle_lawful (or_else (wish_step now c) (or_else (work_step now c) (look_among c.slots))) (lawful_or (wish_step now c) (or_else (work_step now c) (look_among c.slots)) (lawful_if (is_quiet c.slots) (wished_step now c) wished_lawful) (lawful_or (work_step now c) (look_among c.slots) work_lawful (looks_lawful c.slots)))
 
 -- a stage that is entered at a quiet point
-entered_keeps : (c : CoreState) → KeepsRules c → (next : Stage) (grace : ℕ) → is_quiet c.slots ≡ true → is_goal_reached (Some next) (wished c.level_wish c.goal) (is_boot next || c.booted) ≡ true → KeepsRules (after_step (Enter next grace) c)
+entered_keeps : (c : CoreState) → IsFit c → (next : Stage) (grace : ℕ) → is_quiet c.slots ≡ true → is_goal_reached (Some next) (wished c.level_wish c.goal) (is_boot next || c.booted) ≡ true → IsFit (after_step (Enter next grace) c)
 entered_keeps c keeps next grace quiet reached = kept_by (after_step (Enter next grace) c) (entered_ruled c keeps quiet next) (record { clock = keeps.clock; wish = refl; announced = refl; reached = reached })
 
 -- an entry that a step names may be called
@@ -217,7 +217,7 @@ named_callable (Call letter) now e h = or_right (is_called_by power.Fail e.act |
 named_callable _ now e h = absurd (false≢true h)
 
 -- a step that was decided
-step_in : (c : CoreState) → KeepsRules c → (now : Stage) → c.stage ≡ Some now → (s : Step) → decide c ≡ s → KeepsRules (after_step s c)
+step_in : (c : CoreState) → IsFit c → (now : Stage) → c.stage ≡ Some now → (s : Step) → decide c ≡ s → IsFit (after_step s c)
 step_in c keeps now in_stage (Enter next grace) is =
     let parts = and_parts (is_quiet c.slots) (is_goal_reached (Some next) (wished c.level_wish c.goal) (is_boot next || c.booted)) (decided_lawful c keeps now in_stage (Enter next grace) is) in
     entered_keeps c keeps next grace parts.0 parts.1
@@ -233,44 +233,21 @@ step_in c keeps now in_stage (Hold id) is = kept_by (after_step (Hold id) c) (ho
 step_in c keeps now in_stage (Settle level) is = kept_by (after_step (Settle level) c) (all_kept c keeps) (record { clock = keeps.clock; wish = keeps.wish; announced = ap in_run in_stage ∙ decided_lawful c keeps now in_stage (Settle level) is; reached = keeps.reached })
 step_in c keeps now in_stage _ is = keeps
 
-pub step_keeps : (c : CoreState) → KeepsRules c → (s : Step) → decide c ≡ s → KeepsRules (after_step s c)
+pub step_keeps : (c : CoreState) → IsFit c → (s : Step) → decide c ≡ s → IsFit (after_step s c)
 step_keeps c keeps s is = at c.stage refl
   where
-    at : (o : Option Stage) → c.stage ≡ o → KeepsRules (after_step s c)
-    at None before =
-        let first : Enter stage.Sysinit c.goal.grace ≡ s = sym (ap (λ o. decide_in o c) before) ∙ is in
-        let quiet : is_quiet c.slots ≡ true = sym (ap (λ o. are_starts_in o c.table c.slots) before) ∙ keeps.starts in
-        subst (λ x. KeepsRules (after_step x c)) first (entered_keeps c keeps stage.Sysinit c.goal.grace quiet (sym (ap (λ o. is_goal_reached o c.goal c.booted) before) ∙ keeps.reached))
+    first : c.stage ≡ None → (b : Bool) → is_quiet c.slots ≡ b → IsFit (after_step (or_idle (cond b (Some (Enter stage.Sysinit c.goal.grace)) None)) c)
+    first before true quiet = entered_keeps c keeps stage.Sysinit c.goal.grace quiet (sym (ap (λ o. is_goal_reached o c.goal c.booted) before) ∙ keeps.reached)
+    first before false busy = keeps
+
+    at : (o : Option Stage) → c.stage ≡ o → IsFit (after_step s c)
+    at None before = subst (λ x. IsFit (after_step x c)) (sym (ap (λ o. decide_in o c) before) ∙ is) (first before (is_quiet c.slots) refl)
     at (Some now) in_stage = step_in c keeps now in_stage s is
 
 -- an answer that is taken
-pub told_keeps : (c : CoreState) → KeepsRules c → (id : List ℕ) (answer : Answer) → refusal_of (order_in id c.slots) answer ≡ Ok tt → KeepsRules (after_told id answer c)
+pub told_keeps : (c : CoreState) → IsFit c → (id : List ℕ) (answer : Answer) → refusal_of (order_in id c.slots) answer ≡ Ok tt → IsFit (after_told id answer c)
 told_keeps c keeps id answer taken = kept_by (after_told id answer c) (answer_ruled c keeps id answer taken) (heads_kept c keeps)
 
 -- another table, at a quiet point
-pub adopt_keeps : (c : CoreState) → KeepsRules c → is_quiet c.slots ≡ true → (table : List Entry) → is_distinct table ≡ true → KeepsRules (after_adopt table c)
+pub adopt_keeps : (c : CoreState) → IsFit c → is_quiet c.slots ≡ true → (table : List Entry) → is_distinct table ≡ true → IsFit (after_adopt table c)
 adopt_keeps c keeps quiet table distinct = kept_by (after_adopt table c) (adopted_ruled c keeps quiet table distinct) (record { clock = keeps.clock; wish = keeps.wish; announced = refl; reached = keeps.reached })
-
--- such a state may be said in a text
-pub rules_fit : (c : CoreState) → KeepsRules c → IsFit c
-rules_fit c keeps = record {
-  in_order = keeps.in_order;
-  distinct = keeps.distinct;
-  caused = keeps.caused;
-  births = keeps.births;
-  orders = keeps.orders;
-  starts = by c.stage keeps.starts;
-  free = keeps.free;
-  stops = keeps.stops;
-  marks = keeps.marks;
-  limiters = keeps.limiters;
-  timely = keeps.timely;
-  clock = keeps.clock;
-  wish = keeps.wish;
-  announced = keeps.announced;
-  reached = keeps.reached;
-}
-  where
-    by : (o : Option Stage) → are_starts_by is_quiet o c.table c.slots ≡ true → are_starts_by are_unstarted o c.table c.slots ≡ true
-    by None quiet = ap not (none_started c.slots quiet)
-    by (Some now) starts = starts

@@ -180,9 +180,13 @@ work_step stage c =
     if stands stage c then None
     else or_else (stop_among c.grace c.time c.slots) (if has_excluded c.slots then None else calm_step stage c)
 
--- the step: Sysinit before the first stage; then what is wished, what is to be done, a look, or nothing
+-- the step: before the first stage Sysinit, where no start and no signal is open; then what is wished, what is to be
+-- done, a look, or nothing
+abbrev pub first_step : CoreState → Option Step
+first_step c = if is_quiet c.slots then Some (Enter stage.Sysinit c.goal.grace) else None
+
 abbrev pub decide_in : Option Stage → CoreState → Step
-decide_in None c = Enter stage.Sysinit c.goal.grace
+decide_in None c = or_idle (first_step c)
 decide_in (Some stage) c = or_idle (or_else (wish_step stage c) (or_else (work_step stage c) (look_among c.slots)))
 
 abbrev pub decide : CoreState → Step

@@ -15,7 +15,7 @@ use Rattle.child_table.specs.Times.{is_timely}
 use Rattle.core_state.specs.declared.parts.Heads.{Heads}
 use Rattle.core_state.specs.declared.parts.Record.{Record}
 use Rattle.core_state.specs.Parts.{State}
-use Rattle.core_state.specs.Rules.{has_cause, is_order_allowed, is_stop_judged, are_marks_due, is_limiter_kept, are_starts_fit, are_starts_free, is_other_level, is_goal_reached, never_fall}
+use Rattle.core_state.specs.Rules.{has_cause, is_order_allowed, is_stop_judged, are_marks_due, is_limiter_kept, are_starts_in, are_starts_free, is_other_level, is_goal_reached, never_fall}
 use Rattle.core_state.specs.State.{CoreState}
 
 -- the child that has the number, and was born with the action
@@ -100,7 +100,7 @@ is_slot_kept stage table now slot = has_cause slot && is_order_allowed slot && i
     && are_marks_due slot && is_limiter_kept now slot && is_timely now slot
 
 abbrev pub are_slots_kept : Option Stage → List Entry → ℕ → List SlotState → Bool
-are_slots_kept stage table now slots = are_distinct slots && are_starts_fit stage table slots
+are_slots_kept stage table now slots = are_distinct slots && are_starts_in stage table slots
     && are_starts_free slots && list_all (is_slot_kept stage table now) slots
 
 -- the rules are kept, but for what `are_whole` says of the records

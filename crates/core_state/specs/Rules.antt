@@ -23,7 +23,7 @@ use Rattle.child_table.specs.declared.children.Stop.{Stop}
 use Rattle.child_table.specs.declared.children.Stop.TheVariants.{Due, Termed}
 use Rattle.child_table.specs.State.{SlotState, is_limited_slot}
 use Rattle.child_table.specs.Judging.{is_excluded}
-use Rattle.child_table.specs.Lists.{are_distinct, is_quiet}
+use Rattle.child_table.specs.Lists.{are_distinct}
 use Rattle.child_table.specs.Order.{IsInOrder}
 use Rattle.child_table.specs.Times.{are_timely}
 use Rattle.core_state.specs.Decide.{has_excluded, is_owed_slot}
@@ -68,20 +68,14 @@ are_starts_along stage (p ∷ ps) = is_start_allowed stage p.0 p.1
     && (if is_owed_slot stage p.0 p.1 then not (list_any (λ (q : Entry × SlotState). is_started q.1) ps)
     else are_starts_along stage ps)
 
--- before the first stage the records are calm
-abbrev pub are_starts_by : (List SlotState → Bool) → Option Stage → List Entry → List SlotState → Bool
-are_starts_by are_calm None table slots = are_calm slots
-are_starts_by are_calm (Some stage) table slots = are_starts_along stage (zip table slots)
-
-abbrev pub are_starts_in : Option Stage → List Entry → List SlotState → Bool
-are_starts_in stage table slots = are_starts_by is_quiet stage table slots
-
 -- no start is open
 abbrev pub are_unstarted : List SlotState → Bool
 are_unstarted slots = not (list_any is_started slots)
 
-abbrev pub are_starts_fit : Option Stage → List Entry → List SlotState → Bool
-are_starts_fit stage table slots = are_starts_by are_unstarted stage table slots
+-- before the first stage none is at all
+abbrev pub are_starts_in : Option Stage → List Entry → List SlotState → Bool
+are_starts_in None table slots = are_unstarted slots
+are_starts_in (Some stage) table slots = are_starts_along stage (zip table slots)
 
 -- no start is open while a child is excluded
 abbrev pub are_starts_free : List SlotState → Bool
@@ -155,13 +149,13 @@ is_goal_reached _ goal booted = not booted
 -- the records stand in record order, one an id; init knows how each child was born; each open order is allowed, and a
 -- start where nothing that comes first is owed or excluded; stops, marks and limiters are as they should be; no time
 -- is later than now; and so are the wish for a level, the announcement and the goal
-pub record Keeps (are_calm : List SlotState → Bool) (c : CoreState) : Type 0 where
+pub record IsFit (c : CoreState) : Type 0 where
   pub in_order : IsInOrder c.table c.slots
   pub distinct : are_distinct c.slots ≡ true
   pub caused : list_all has_cause c.slots ≡ true
   pub births : list_all (λ (slot : SlotState). is_birth_known slot.child) c.slots ≡ true
   pub orders : list_all is_order_allowed c.slots ≡ true
-  pub starts : are_starts_by are_calm c.stage c.table c.slots ≡ true
+  pub starts : are_starts_in c.stage c.table c.slots ≡ true
   pub free : are_starts_free c.slots ≡ true
   pub stops : list_all (is_stop_judged c.stage c.table) c.slots ≡ true
   pub marks : list_all are_marks_due c.slots ≡ true
@@ -171,11 +165,3 @@ pub record Keeps (are_calm : List SlotState → Bool) (c : CoreState) : Type 0 w
   pub wish : is_other_level c.stage c.level_wish ≡ true
   pub announced : (not c.announced || in_run c.stage) ≡ true
   pub reached : is_goal_reached c.stage c.goal c.booted ≡ true
-
--- what init keeps: before its first stage neither a start nor a signal is open
-abbrev pub KeepsRules : CoreState → Type 0
-KeepsRules c = Keeps is_quiet c
-
--- what the text of a state may say: before the first stage no start is open
-abbrev pub IsFit : CoreState → Type 0
-IsFit c = Keeps are_unstarted c

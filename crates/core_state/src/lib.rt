@@ -5,10 +5,12 @@
 //! is due, and its children, corrected by the answers under way, are the children that the system has.
 #![tactic(auto)]
 
+mod headline;
 mod laws;
 mod news;
 mod parts;
 
-pub use laws::{law_of_acts, law_of_records};
+pub use headline::law_agreement;
+pub use laws::law_of_acts;
 pub use news::News;
 pub use parts::{Heads, Parts, Record};

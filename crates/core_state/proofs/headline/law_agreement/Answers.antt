@@ -11,7 +11,8 @@ use Rattle.trace_laws.proofs.Pairs.{reaped_between, eleven, rested, on_order}
 use Rattle.trace_laws.proofs.Laws.{sound_lawful}
 use Rattle.trace_laws.proofs.Agreement.{agrees_at}
 use Rattle.trace_laws.proofs.Warnings.{kill_warned}
-use Rattle.trace_laws.proofs.law_agreement.Goals as goal
+use Rattle.core_state.proofs.Recorded.{unreaped_recorded, one_recorded}
+use Rattle.core_state.proofs.headline.law_agreement.Goals as goal
 
 pub returns-clause-one_child : goal.returns-clause-one_child
 returns-clause-one_child c goal later past h id = one_child_at goal later past id h
@@ -75,3 +76,9 @@ returns-clause-on_order c = on_order
 
 pub returns-clause-warned : goal.returns-clause-warned
 returns-clause-warned c goal later past id h = kill_warned goal later past id h
+
+pub returns-clause-records : goal.returns-clause-records
+returns-clause-records c core goal past sound fits id n = unreaped_recorded goal past core sound fits id n
+
+pub returns-clause-one_record : goal.returns-clause-one_record
+returns-clause-one_record c core goal past sound fits id m n has_m has_n = one_recorded goal past core sound fits id m n has_m has_n
