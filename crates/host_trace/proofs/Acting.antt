@@ -34,8 +34,8 @@ use Rattle.core_state.proofs.Fitted.{fit_records}
 use Rattle.core_state.proofs.Hearing.{fits_act, fits_told}
 use Rattle.core_state.proofs.Reading.{quiet_same}
 use Rattle.run_log.specs.Logs.{LogState}
-use Rattle.host_trace.specs.Point.{last_birth, acted, is_asked_for, answered}
-use Rattle.host_trace.specs.Leads.{is_own, is_allowed, Logs, Gave, Heard, Hears, Lasts, Tracks}
+use Rattle.host_trace.specs.Point.{Point, last_birth, acted, is_asked_for, answered}
+use Rattle.host_trace.specs.Leads.{is_own, is_allowed, gone_on, Logs, Gave, Heard, Hears, Lasts, Tracks}
 use Rattle.host_trace.proofs.Leading.{allowed_rest, allowed_first}
 
 -- a trace stays sound with what may come
@@ -51,21 +51,38 @@ may_met goal happening so_far other allowed = ap (λ b. b || may_come goal happe
 pub sound_met : (goal : Goal) (happening : Event) (so_far : List Event) → is_own happening ≡ false → is_allowed goal (happening ∷ so_far) ≡ true → is_sound goal so_far ≡ true → is_sound goal (happening ∷ so_far) ≡ true
 sound_met goal happening so_far other allowed sound = sound_more goal happening so_far (may_met goal happening so_far other allowed) sound
 
+-- what was heard, of what fits the trace alone
+pub record HeardBy (fit : Goal → List Event → Type 0) (old new : LogState) (goal : Goal) (past now : List Event) : Type 0 where
+  pub sound : is_sound goal now ≡ true
+  pub fits : fit goal now
+  pub log : Logs old new past now
+
+abbrev pub HearsBy : (Goal → List Event → Type 0) → (Goal → List Event → Type 0) → LogState → LogState → (List Event → List Event) → Type 0
+HearsBy fitted fit old new more = (goal : Goal) (past : List Event) → is_sound goal past ≡ true → fitted goal past → is_allowed goal (more past) ≡ true → HeardBy fit old new goal past (more past)
+
 -- a happening that is not init's own: an act, a reading of the clock, a request, a round, that inittab was not read
-pub Hears-edge : (fitted fit : Goal → List Event → Type 0) (old new : LogState) (happening : Event) → is_own happening ≡ false → ((goal : Goal) (so_far : List Event) → is_sound goal so_far ≡ true → fitted goal so_far → is_sound goal (happening ∷ so_far) ≡ true → fit goal (happening ∷ so_far)) → ((so_far : List Event) → Logs old new so_far (happening ∷ so_far)) → Hears fitted fit old new (λ so_far. happening ∷ so_far)
+pub Hears-edge : (fitted fit : Goal → List Event → Type 0) (old new : LogState) (happening : Event) → is_own happening ≡ false → ((goal : Goal) (so_far : List Event) → is_sound goal so_far ≡ true → fitted goal so_far → is_sound goal (happening ∷ so_far) ≡ true → fit goal (happening ∷ so_far)) → ((so_far : List Event) → Logs old new so_far (happening ∷ so_far)) → HearsBy fitted fit old new (λ so_far. happening ∷ so_far)
 Hears-edge fitted fit old new happening other fits took goal so_far sound before allowed =
     let more : is_sound goal (happening ∷ so_far) ≡ true = sound_met goal happening so_far other allowed sound in
     record { sound = more; fits = fits goal so_far sound before more; log = took so_far }
 
 -- the same where the core says so itself
-pub Hears-told : (c new : CoreState) (l₀ l₁ : LogState) (happening : Event) → is_own happening ≡ false → OnEachTrace c (λ goal so_far. Fits new goal (happening ∷ so_far)) → ((so_far : List Event) → Logs l₀ l₁ so_far (happening ∷ so_far)) → Hears (Fits c) (Fits new) l₀ l₁ (λ so_far. happening ∷ so_far)
+pub Hears-told : (c new : CoreState) (l₀ l₁ : LogState) (happening : Event) → is_own happening ≡ false → OnEachTrace c (λ goal so_far. Fits new goal (happening ∷ so_far)) → ((so_far : List Event) → Logs l₀ l₁ so_far (happening ∷ so_far)) → HearsBy (Fits c) (Fits new) l₀ l₁ (λ so_far. happening ∷ so_far)
 Hears-told c new l₀ l₁ happening other fits took = Hears-edge (Fits c) (Fits new) l₀ l₁ happening other (λ goal so_far sound before more. fits goal so_far sound before) took
 
--- what keeps the rules, and seconds of an hour at most, tracks the trace that it fits
-pub Hears-tracks : (c new : CoreState) (l₀ l₁ : LogState) (more : List Event → List Event) → Lasts c new → Hears (Fits c) (Fits new) l₀ l₁ more → Hears (Tracks c) (Tracks new) l₀ l₁ more
-Hears-tracks c new l₀ l₁ more lasts hears goal so_far sound tracks allowed =
-    let heard : Heard (Fits new) l₀ l₁ goal so_far (more so_far) = hears goal so_far sound tracks.fits allowed in
-    record { sound = heard.sound; fits = record { fits = heard.fits; kept = lasts.kept tracks.kept; short = lasts.short tracks.short }; log = heard.log }
+-- what tracks a record tracks another with its trace and its generation
+pub tracks_at : (c : CoreState) (goal : Goal) (p q : Point) → p.past ≡ q.past → p.generation ≡ q.generation → Tracks c goal p → Tracks c goal q
+tracks_at c goal p q past same tracked = record { fits = subst (Fits c goal) past tracked.fits; short = tracked.short; own = tracked.own ∙ same }
+
+-- and so does what it became, where that fits
+pub tracks : (c new : CoreState) (goal : Goal) (p q : Point) → Lasts c new → p.generation ≡ q.generation → Tracks c goal p → Fits new goal q.past → Tracks new goal q
+tracks c new goal p q lasts same tracked fits = record { fits = fits; short = lasts.short tracked.short; own = lasts.same ∙ tracked.own ∙ same }
+
+-- what keeps the rules, seconds of an hour at most, and the generation tracks the record that it fits
+pub Hears-tracks : (c new : CoreState) (l₀ l₁ : LogState) (more : List Event → List Event) → Lasts c new → HearsBy (Fits c) (Fits new) l₀ l₁ more → Hears (Tracks c) (Tracks new) l₀ l₁ more
+Hears-tracks c new l₀ l₁ more lasts hears goal p sound tracked allowed =
+    let heard : HeardBy (Fits new) l₀ l₁ goal p.past (more p.past) = hears goal p.past sound tracked.fits allowed in
+    record { sound = heard.sound; fits = tracks c new goal p (gone_on more p) lasts refl tracked heard.fits; log = heard.log }
 
 -- a step that init gave: it was due, so the trace with its happening is sound
 pub step_sound : (goal : Goal) (so_far : List Event) (made : Step) → first (due goal so_far) ≡ made → is_sound goal so_far ≡ true → is_sound goal (with_step made so_far) ≡ true
@@ -79,8 +96,8 @@ step_sound goal so_far step.Reread is sound = sound
 step_sound goal so_far step.Reexec is sound = sound
 step_sound goal so_far step.Idle is sound = sound
 
-pub Hears-step : (fit : Goal → List Event → Type 0) (l₀ l₁ : LogState) (made : Step) → ((so_far : List Event) → Logs l₀ l₁ so_far (with_step made so_far)) → Hears (Gave fit made) fit l₀ l₁ (with_step made)
-Hears-step fit l₀ l₁ made took goal so_far sound gave allowed = record { sound = step_sound goal so_far made gave.0 sound; fits = gave.1; log = took so_far }
+pub Hears-step : (fit : Goal → Point → Type 0) (l₀ l₁ : LogState) (made : Step) → ((so_far : List Event) → Logs l₀ l₁ so_far (with_step made so_far)) → Hears (Gave fit made) fit l₀ l₁ (with_step made)
+Hears-step fit l₀ l₁ made took goal p sound gave allowed = record { sound = step_sound goal p.past made gave.0 sound; fits = gave.1; log = took p.past }
 
 -- ---- answers
 
@@ -152,16 +169,16 @@ acted_by goal c so_far sound fits id answer.Miss allowed =
     record { sound = more; fits = fits_act goal so_far c sound fits (past.Miss id) refl more; under_way = rw (same_id-self id) refl }
 
 -- An answer: one that the core takes is its act and that it was told; one that it refuses is nothing.
-pub Hears-answer : (c new : CoreState) (l₀ l₁ : LogState) (id : List ℕ) (given : Answer) (result : Result (Unit {0}) Refusal) → result ≡ lists.refusal_of (lists.order_in id c.slots) given → OnOk result (new ≡ after_told id given c) → OnErr result (new ≡ c) → OnOk result ((goal : Goal) (so_far : List Event) → is_sound goal so_far ≡ true → Fits c goal so_far → is_allowed goal (acted id given so_far) ≡ true → Logs l₀ l₁ so_far (past.Told id ∷ acted id given so_far)) → OnErr result ((so_far : List Event) → Logs l₀ l₁ so_far so_far) → Hears (Fits c) (Fits new) l₀ l₁ (answered id given)
+pub Hears-answer : (c new : CoreState) (l₀ l₁ : LogState) (id : List ℕ) (given : Answer) (result : Result (Unit {0}) Refusal) → result ≡ lists.refusal_of (lists.order_in id c.slots) given → OnOk result (new ≡ after_told id given c) → OnErr result (new ≡ c) → OnOk result ((goal : Goal) (so_far : List Event) → is_sound goal so_far ≡ true → Fits c goal so_far → is_allowed goal (acted id given so_far) ≡ true → Logs l₀ l₁ so_far (past.Told id ∷ acted id given so_far)) → OnErr result ((so_far : List Event) → Logs l₀ l₁ so_far so_far) → HearsBy (Fits c) (Fits new) l₀ l₁ (answered id given)
 Hears-answer c new l₀ l₁ id given (Ok tt) is told same took left goal so_far sound fits allowed = by (is_asked_for id given so_far) refl (taken_asked (open_of id so_far) given (is ∙ ap (λ o. lists.refusal_of o given) (order_same goal so_far c sound fits id)))
   where
-    by : (b : Bool) → is_asked_for id given so_far ≡ b → b ≡ true → Heard (Fits new) l₀ l₁ goal so_far (answered id given so_far)
+    by : (b : Bool) → is_asked_for id given so_far ≡ b → b ≡ true → HeardBy (Fits new) l₀ l₁ goal so_far (answered id given so_far)
     by b is so =
         let asked : answered id given so_far ≡ past.Told id ∷ acted id given so_far = ap (λ b. cond b (past.Told id ∷ acted id given so_far) so_far) (is ∙ so) in
         let possible : is_allowed goal (past.Told id ∷ acted id given so_far) ≡ true = ap (is_allowed goal) (sym asked) ∙ allowed in
         let was : is_allowed goal (acted id given so_far) ≡ true = allowed_rest goal (past.Told id) (acted id given so_far) possible in
         let done : Acted goal c id given (acted id given so_far) = acted_by goal c so_far sound fits id given was in
-        subst (Heard (Fits new) l₀ l₁ goal so_far) (sym asked) (record {
+        subst (HeardBy (Fits new) l₀ l₁ goal so_far) (sym asked) (record {
           sound = sound_met goal (past.Told id) (acted id given so_far) refl possible done.sound;
           fits = subst (λ s. Fits s goal (past.Told id ∷ acted id given so_far)) (sym told) (fits_told goal (acted id given so_far) c done.sound done.fits id given done.under_way);
           log = took goal so_far sound fits was;
@@ -169,7 +186,7 @@ Hears-answer c new l₀ l₁ id given (Ok tt) is told same took left goal so_far
 Hears-answer c new l₀ l₁ id given (Err why) is told same took left goal so_far sound fits allowed =
     let unasked : is_asked_for id given so_far ≡ false = refused_unasked (open_of id so_far) given why (is ∙ ap (λ o. lists.refusal_of o given) (order_same goal so_far c sound fits id)) in
     let nothing : answered id given so_far ≡ so_far = ap (λ b. cond b (past.Told id ∷ acted id given so_far) so_far) unasked in
-    subst (Heard (Fits new) l₀ l₁ goal so_far) (sym nothing) (record { sound = sound; fits = subst (λ s. Fits s goal so_far) (sym same) fits; log = left so_far })
+    subst (HeardBy (Fits new) l₀ l₁ goal so_far) (sym nothing) (record { sound = sound; fits = subst (λ s. Fits s goal so_far) (sym same) fits; log = left so_far })
 
 -- ---- a table that was read
 

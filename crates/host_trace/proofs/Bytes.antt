@@ -18,9 +18,10 @@ use Rattle.core_state.specs.State.{CoreState}
 use Rattle.run_log.specs.Logs.{LogState}
 use Rattle.host_trace.specs.Point.{Point, byte_after, bytes_after}
 use Rattle.host_trace.specs.Requests.{requested, Continues}
-use Rattle.host_trace.specs.Leads.{is_allowed, Logs, Took, At, IsOver, Went, Leads, Heard, Hears, Tracks}
+use Rattle.host_trace.specs.Leads.{is_allowed, gone_on, Logs, Took, At, IsOver, Went, Leads, Heard, Hears, Tracks}
 use Rattle.host_trace.proofs.Point.{bytes_after-append}
-use Rattle.host_trace.proofs.Leading.{bytes_allowed}
+use Rattle.host_trace.proofs.Acting.{tracks_at}
+use Rattle.host_trace.proofs.Leading.{bytes_allowed, bytes_generation}
 use Rattle.host_trace.proofs.Seconds.{given_short, logged, short_then}
 use Rattle.host_trace.proofs.Taking.{Took-none, Took-then}
 
@@ -94,31 +95,37 @@ piece_fed old new part given p short stands fed gots =
     (record { count = behind.count ∙ ap length over; front = behind.front ∙ ap (take 16) over }, ap (λ (q : Point). q.past) all.point ∙ ap (λ l. requested l p.past) heard, given_short (gots_of p.over) (option_to_list given) (p.over ++ part) (gots p.over before))
 
 pub Leads-fed : (c now : CoreState) (old new : Begun) (l₀ l₁ : LogState) (room : ℕ) (part : List ℕ) (given : Option Got) → old.count < 384 → ((bytes : List ℕ) → Stands old bytes → Stands new (bytes ++ part)) → ((bytes : List ℕ) → Stands old bytes → gots_of (bytes ++ part) ≡ gots_of bytes ++ option_to_list given) → (list_all is_request (option_to_list given) ≡ true → Hears (Tracks c) (Tracks now) l₀ l₁ (requested (option_to_list given))) → Leads (At c old) (At now new) l₀ l₁ (TakeBytes room (Ok part) ∷ [])
-Leads-fed c now old new l₀ l₁ room part given short fed gots hears goal p sound fits allowed carried =
-    let read = piece_fed old new part given p short fits.1 fed gots in
-    let heard : Heard (Tracks now) l₀ l₁ goal p.past (requested (option_to_list given) p.past) = hears read.2 goal p.past sound fits.0 (ap (is_allowed goal) (sym read.1) ∙ allowed) in
-    let more : is_sound goal (bytes_after part p).past ≡ true = ap (is_sound goal) read.1 ∙ heard.sound in
-    record {
-      in_place = refl;
-      sound = more;
-      fits = (subst (Tracks now goal) (sym read.1) heard.fits, read.0);
-      log = logged goal (TakeBytes room (Ok part) ∷ []) p l₀ l₁ more (subst (Logs l₀ l₁ p.past) (sym read.1) heard.log);
-    }
+Leads-fed c now old new l₀ l₁ room part given short fed gots hears goal p sound fits allowed = (
+  tt,
+  λ carried.
+      let read = piece_fed old new part given p short fits.1 fed gots in
+      let heard : Heard (Tracks now) l₀ l₁ goal p (gone_on (requested (option_to_list given)) p) = hears read.2 goal p sound fits.0 (ap (is_allowed goal) (sym read.1) ∙ allowed) in
+      let more : is_sound goal (bytes_after part p).past ≡ true = ap (is_sound goal) read.1 ∙ heard.sound in
+      record {
+        in_place = refl;
+        sound = more;
+        fits = (tracks_at now goal (gone_on (requested (option_to_list given)) p) (bytes_after part p) (sym read.1) (sym (bytes_generation part p)) heard.fits, read.0);
+        log = logged goal (TakeBytes room (Ok part) ∷ []) p l₀ l₁ more (subst (Logs l₀ l₁ p.past) (sym read.1) heard.log);
+      },
+)
 
 -- two pieces of what a call took
 pub Leads-pieces : (f₀ f₁ f₂ : Goal → Point → Type 0) (l₀ l₁ l₂ : LogState) (room : ℕ) (xs ys : List ℕ) → Leads f₀ f₁ l₀ l₁ (TakeBytes room (Ok xs) ∷ []) → Leads f₁ f₂ l₁ l₂ (TakeBytes room (Ok ys) ∷ []) → Leads f₀ f₂ l₀ l₂ (TakeBytes room (Ok (xs ++ ys)) ∷ [])
-Leads-pieces f₀ f₁ f₂ l₀ l₁ l₂ room xs ys one two goal p sound fits allowed carried =
-    let joined : bytes_after (xs ++ ys) p ≡ bytes_after ys (bytes_after xs p) = bytes_after-append xs ys p in
-    let later : is_allowed goal (bytes_after ys (bytes_after xs p)).past ≡ true = ap (λ (q : Point). is_allowed goal q.past) (sym joined) ∙ allowed in
-    let first : Went f₁ l₀ l₁ goal p (TakeBytes room (Ok xs) ∷ []) = one goal p sound fits (bytes_allowed goal ys (bytes_after xs p) later) refl in
-    let second : Went f₂ l₁ l₂ goal (bytes_after xs p) (TakeBytes room (Ok ys) ∷ []) = two goal (bytes_after xs p) first.sound first.fits later refl in
-    record {
-      in_place = refl;
-      sound = ap (λ (q : Point). is_sound goal q.past) joined ∙ second.sound;
-      fits = subst (f₂ goal) (sym joined) second.fits;
-      log = λ short. subst (λ (q : Point). Took l₀ l₂ p.past q.past) (sym joined) (Took-then l₀ l₁ l₂ p.past (bytes_after xs p).past (bytes_after ys (bytes_after xs p)).past (first.log short) (second.log (short_then goal (TakeBytes room (Ok xs) ∷ []) p first.sound short)));
-    }
+Leads-pieces f₀ f₁ f₂ l₀ l₁ l₂ room xs ys one two goal p sound fits allowed = (
+  tt,
+  λ carried.
+      let joined : bytes_after (xs ++ ys) p ≡ bytes_after ys (bytes_after xs p) = bytes_after-append xs ys p in
+      let later : is_allowed goal (bytes_after ys (bytes_after xs p)).past ≡ true = ap (λ (q : Point). is_allowed goal q.past) (sym joined) ∙ allowed in
+      let first : Went f₁ l₀ l₁ goal p (TakeBytes room (Ok xs) ∷ []) = (one goal p sound fits (bytes_allowed goal ys (bytes_after xs p) later)).1 refl in
+      let second : Went f₂ l₁ l₂ goal (bytes_after xs p) (TakeBytes room (Ok ys) ∷ []) = (two goal (bytes_after xs p) first.sound first.fits later).1 refl in
+      record {
+        in_place = refl;
+        sound = ap (λ (q : Point). is_sound goal q.past) joined ∙ second.sound;
+        fits = subst (f₂ goal) (sym joined) second.fits;
+        log = λ short. subst (λ (q : Point). Took l₀ l₂ p.past q.past) (sym joined) (Took-then l₀ l₁ l₂ p.past (bytes_after xs p).past (bytes_after ys (bytes_after xs p)).past (first.log short) (second.log (short_then goal (TakeBytes room (Ok xs) ∷ []) p first.sound short)));
+      },
+)
 
 -- a call that took no bytes
 pub Leads-no_bytes : (fit : Goal → Point → Type 0) (log : LogState) (room : ℕ) → Leads fit fit log log (TakeBytes room (Ok []) ∷ [])
-Leads-no_bytes fit log room goal p sound fits allowed carried = record { in_place = refl; sound = sound; fits = fits; log = λ short. Took-none log p.past }
+Leads-no_bytes fit log room goal p sound fits allowed = (tt, λ carried. record { in_place = refl; sound = sound; fits = fits; log = λ short. Took-none log p.past })

@@ -16,30 +16,37 @@ use Rattle.init_trace.specs.declared.happenings.Handed.{Handed as HandOver}
 use Rattle.init_trace.specs.declared.happenings.Handed.TheVariants as handed
 use Rattle.init_trace.specs.declared.happenings.Happening.TheVariants as past
 use Rattle.init_trace.specs.declared.steps.Goal.{Goal}
+use Rattle.init_trace.specs.declared.steps.Step.{Step}
 use Rattle.init_trace.specs.declared.steps.Step.TheVariants as step
 use Rattle.init_trace.specs.Event.{Event}
-use Rattle.init_trace.specs.Due.{due, first, is_due}
+use Rattle.init_trace.specs.Due.{due, first, same_step}
 use Rattle.init_trace.specs.Sound.{is_sound}
 use Rattle.init_trace.specs.Wishes.{wants_reexec}
-use Rattle.trace_laws.proofs.Runs.{first_due}
+use Rattle.trace_laws.proofs.Runs.{same_step-self}
 use Rattle.child_table.specs.Lists as lists
 use Rattle.core_state.specs.State.{CoreState}
 use Rattle.core_state.specs.Fit.{Fits, OnEachTrace, with_step}
-use Rattle.core_state.specs.Rules.{KeepsRules}
+use Rattle.core_state.specs.Parts.{state_of}
+use Rattle.core_state.specs.Rules.{IsFit}
 use Rattle.core_state.proofs.Decided.{reexec_wished}
 use Rattle.core_state.proofs.Deciding.{decide_due}
 use Rattle.state_text.specs.Range as range
+use Rattle.state_text.specs.Refused.{Says}
 use Rattle.run_log.specs.Logs.{LogState}
 use Rattle.child_host.specs.declared.calls.Call.TheVariants.{Start, Late, Clock, ReadTable, Announce}
 use Rattle.child_host.specs.declared.calls.HostFault.{HostFault}
 use Rattle.child_host.specs.declared.calls.Reply.{Reply}
 use Rattle.child_host.specs.declared.calls.Reply.TheVariants.{Now, Later}
 use Rattle.child_host.specs.Calls.{TextRead}
-use Rattle.host_trace.specs.Point.{Point, replied, ordered, come, is_last, nudged_if, clocked, reading, before_reading, before_handing, handed_if, came_whole, same_text, is_command, is_refusal, is_outcome, carrying, point_after, has_trace}
-use Rattle.host_trace.specs.Leads.{is_allowed, comes_back, are_carried, Logs, On, Gave, Counted, Lasts, Carried, Tracks, Leads, Heard, Hears}
+use Rattle.host_trace.specs.Point.{Point, replied, ordered, come, is_last, nudged_if, clocked, reading, before_reading, before_handing, handed_if, came_whole, same_text, is_command, is_first, is_refusal, is_outcome, carrying, point_after, has_trace}
+use Rattle.host_trace.specs.Leads.{AreTexts, IsStateText, is_allowed, comes_back, are_carried, gone_on, Logs, Gave, Counted, Lasts, Tracks, Leads, Heard, Hears}
 use Rattle.host_trace.proofs.Leading.{answered_allowed, nudged_allowed, Leads-heard, Hears-then}
 use Rattle.host_trace.proofs.Seconds.{logged}
-use Rattle.host_trace.proofs.Acting.{sound_met, Hears-step, table_sound}
+use Rattle.host_trace.proofs.Acting.{sound_met, Hears-step, table_sound, tracks, tracks_at}
+
+-- the step that init gave is the first
+pub first_is : (goal : Goal) (so_far : List Event) (s : Step) → first (due goal so_far) ≡ s → is_first goal s so_far ≡ true
+first_is goal so_far s is = ap (same_step s) is ∙ same_step-self s
 
 -- ---- orders
 
@@ -58,48 +65,54 @@ command_placed goal so_far c id command e fits own is =
     ∙ ap (λ o. option_map_or (λ e. same_text command (command_of e)) o false) own
     ∙ ap (λ text. same_text text (command_of e)) is ∙ same_id-self (command_of e)
 
-pub Leads-start : (c new : CoreState) (l₀ l₁ : LogState) (id command : List ℕ) (reply : Reply) (e : Entry) → entry_of id c.table ≡ Some e → command ≡ command_of e → Hears (Gave (Tracks c) (step.Order id ask.Start)) (Tracks new) l₀ l₁ (ordered id ask.Start reply) → Leads (On (Gave (Tracks c) (step.Order id ask.Start))) (On (Tracks new)) l₀ l₁ (Start id command reply ∷ [])
-Leads-start c new l₀ l₁ id command reply e own is hears = Leads-heard (Gave (Tracks c) (step.Order id ask.Start)) (Tracks new) l₀ l₁ (Start id command reply) (ordered id ask.Start reply) hears (λ p. refl) (λ goal p sound gave. command_placed goal p.past c id command e gave.1.fits own is)
+pub Leads-start : (c new : CoreState) (l₀ l₁ : LogState) (id command : List ℕ) (reply : Reply) (e : Entry) → entry_of id c.table ≡ Some e → command ≡ command_of e → Hears (Gave (Tracks c) (step.Order id ask.Start)) (Tracks new) l₀ l₁ (ordered id ask.Start reply) → Leads (Gave (Tracks c) (step.Order id ask.Start)) (Tracks new) l₀ l₁ (Start id command reply ∷ [])
+Leads-start c new l₀ l₁ id command reply e own is hears = Leads-heard (Gave (Tracks c) (step.Order id ask.Start)) (Tracks new) l₀ l₁ (Start id command reply) (ordered id ask.Start reply) hears (λ p. refl) (λ goal p sound gave. and_from (is_first goal (step.Order id ask.Start) p.past) (is_command id command p.past) (first_is goal p.past (step.Order id ask.Start) gave.0) (command_placed goal p.past c id command e gave.1.fits own is)) (λ goal p. tt)
 
 -- ---- what is heard at the beginning of a turn
 
 -- the clock was read, and no late answers were asked for since
-pub Leads-clock : (f₀ f₁ : Goal → List Event → Type 0) (l₀ l₁ : LogState) (time : Result ℕ HostFault) → Hears f₀ f₁ l₀ l₁ (clocked time) → Leads (On f₀) (λ goal p. On f₁ goal p × Counted 0 goal p) l₀ l₁ (Clock time ∷ [])
-Leads-clock f₀ f₁ l₀ l₁ time hears goal p sound fits allowed carried =
-    let heard : Heard f₁ l₀ l₁ goal p.past (clocked time p.past) = hears goal p.past sound fits allowed in
-    record { in_place = refl; sound = heard.sound; fits = (heard.fits, refl); log = logged goal (Clock time ∷ []) p l₀ l₁ heard.sound heard.log }
+pub Leads-clock : (c new : CoreState) (l₀ l₁ : LogState) (time : Result ℕ HostFault) → Hears (Tracks c) (Tracks new) l₀ l₁ (clocked time) → Leads (Tracks c) (λ goal p. Tracks new goal p × Counted 0 goal p) l₀ l₁ (Clock time ∷ [])
+Leads-clock c new l₀ l₁ time hears goal p sound fits allowed = (
+  tt,
+  λ carried.
+      let heard : Heard (Tracks new) l₀ l₁ goal p (gone_on (clocked time) p) = hears goal p sound fits allowed in
+      record { in_place = refl; sound = heard.sound; fits = (tracks_at new goal (gone_on (clocked time) p) (record p { lates = 0; past = clocked time p.past }) refl refl heard.fits, refl); log = logged goal (Clock time ∷ []) p l₀ l₁ heard.sound heard.log },
+)
 
 -- a late answer was asked for: behind the last the round begins
-pub Leads-late : (f₀ f₁ : Goal → List Event → Type 0) (l₀ l₁ : LogState) (late : Option (List ℕ × Answer)) (count : ℕ) → Hears f₀ f₁ l₀ l₁ (λ so_far. nudged_if (is_last late count) (come late so_far)) → Leads (λ goal p. On f₀ goal p × Counted count goal p) (λ goal p. On f₁ goal p × Counted (count + 1) goal p) l₀ l₁ (Late late ∷ [])
-Leads-late f₀ f₁ l₀ l₁ late count hears goal p sound fits allowed carried =
-    let comes : nudged_if (is_last late p.lates) (come late p.past) ≡ nudged_if (is_last late count) (come late p.past) = ap (λ n. nudged_if (is_last late n) (come late p.past)) fits.1 in
-    let heard : Heard f₁ l₀ l₁ goal p.past (nudged_if (is_last late count) (come late p.past)) = hears goal p.past sound fits.0 (ap (is_allowed goal) (sym comes) ∙ allowed) in
-    let more : is_sound goal (nudged_if (is_last late p.lates) (come late p.past)) ≡ true = ap (is_sound goal) comes ∙ heard.sound in
-    record {
-      in_place = refl;
-      sound = more;
-      fits = (subst (f₁ goal) (sym comes) heard.fits, ap (λ n. n + 1) fits.1);
-      log = logged goal (Late late ∷ []) p l₀ l₁ more (subst (Logs l₀ l₁ p.past) (sym comes) heard.log);
-    }
+pub Leads-late : (c new : CoreState) (l₀ l₁ : LogState) (late : Option (List ℕ × Answer)) (count : ℕ) → Hears (Tracks c) (Tracks new) l₀ l₁ (λ so_far. nudged_if (is_last late count) (come late so_far)) → Leads (λ goal p. Tracks c goal p × Counted count goal p) (λ goal p. Tracks new goal p × Counted (count + 1) goal p) l₀ l₁ (Late late ∷ [])
+Leads-late c new l₀ l₁ late count hears goal p sound fits allowed = (
+  tt,
+  λ carried.
+      let comes : nudged_if (is_last late p.lates) (come late p.past) ≡ nudged_if (is_last late count) (come late p.past) = ap (λ n. nudged_if (is_last late n) (come late p.past)) fits.1 in
+      let heard : Heard (Tracks new) l₀ l₁ goal p (gone_on (λ so_far. nudged_if (is_last late count) (come late so_far)) p) = hears goal p sound fits.0 (ap (is_allowed goal) (sym comes) ∙ allowed) in
+      let more : is_sound goal (nudged_if (is_last late p.lates) (come late p.past)) ≡ true = ap (is_sound goal) comes ∙ heard.sound in
+      record {
+        in_place = refl;
+        sound = more;
+        fits = (tracks_at new goal (gone_on (λ so_far. nudged_if (is_last late count) (come late so_far)) p) (point_after (Late late ∷ []) p) (sym comes) refl heard.fits, ap (λ n. n + 1) fits.1);
+        log = logged goal (Late late ∷ []) p l₀ l₁ more (subst (Logs l₀ l₁ p.past) (sym comes) heard.log);
+      },
+)
 
 -- it was not the last, or it was, and the round began
-pub Hears-more : (f₀ f₁ : Goal → List Event → Type 0) (l₀ l₁ : LogState) (late : Option (List ℕ × Answer)) (count : ℕ) → is_last late count ≡ false → Hears f₀ f₁ l₀ l₁ (come late) → Hears f₀ f₁ l₀ l₁ (λ so_far. nudged_if (is_last late count) (come late so_far))
+pub Hears-more : (f₀ f₁ : Goal → Point → Type 0) (l₀ l₁ : LogState) (late : Option (List ℕ × Answer)) (count : ℕ) → is_last late count ≡ false → Hears f₀ f₁ l₀ l₁ (come late) → Hears f₀ f₁ l₀ l₁ (λ so_far. nudged_if (is_last late count) (come late so_far))
 Hears-more f₀ f₁ l₀ l₁ late count more hears = subst (λ b. Hears f₀ f₁ l₀ l₁ (λ so_far. nudged_if b (come late so_far))) (sym more) hears
 
-pub Hears-last : (f₀ f₁ f₂ : Goal → List Event → Type 0) (l₀ l₁ l₂ : LogState) (late : Option (List ℕ × Answer)) (count : ℕ) → is_last late count ≡ true → Hears f₀ f₁ l₀ l₁ (come late) → Hears f₁ f₂ l₁ l₂ (λ so_far. past.Nudge ∷ so_far) → Hears f₀ f₂ l₀ l₂ (λ so_far. nudged_if (is_last late count) (come late so_far))
+pub Hears-last : (f₀ f₁ f₂ : Goal → Point → Type 0) (l₀ l₁ l₂ : LogState) (late : Option (List ℕ × Answer)) (count : ℕ) → is_last late count ≡ true → Hears f₀ f₁ l₀ l₁ (come late) → Hears f₁ f₂ l₁ l₂ (λ so_far. past.Nudge ∷ so_far) → Hears f₀ f₂ l₀ l₂ (λ so_far. nudged_if (is_last late count) (come late so_far))
 Hears-last f₀ f₁ f₂ l₀ l₁ l₂ late count last hears round = subst (λ b. Hears f₀ f₂ l₀ l₂ (λ so_far. nudged_if b (come late so_far))) (sym last) (Hears-then f₀ f₁ f₂ l₀ l₁ l₂ (come late) (λ so_far. past.Nudge ∷ so_far) (λ goal so_far h. nudged_allowed goal true so_far h) hears round)
 
 -- ---- inittab is read again
 
 -- the table that was read is in force
-tracks : (c new : CoreState) (goal : Goal) (before now : List Event) → Lasts c new → Tracks c goal before → Fits new goal now → Tracks new goal now
-tracks c new goal before now lasts tracked fits = record { fits = fits; kept = lasts.kept tracked.kept; short = lasts.short tracked.short }
-
-pub Leads-used : (c new : CoreState) (l₀ l₁ : LogState) (text : List ℕ) → length text ≤ TEXT_LIMIT → lists.is_quiet c.slots ≡ true → OnEachTrace c (λ goal so_far. Fits new goal (past.NewTable (table_of_text text) ∷ so_far)) → Lasts c new → ((so_far : List Event) → Logs l₀ l₁ so_far (past.NewTable (table_of_text text) ∷ so_far)) → Leads (On (Gave (Tracks c) step.Reread)) (On (Tracks new)) l₀ l₁ (ReadTable (Ok text) ∷ [])
-Leads-used c new l₀ l₁ text short quiet fits lasts took = Leads-heard (Gave (Tracks c) step.Reread) (Tracks new) l₀ l₁ (ReadTable (Ok text)) (λ so_far. past.NewTable (table_of_text text) ∷ so_far) heard (λ p. ap (λ b. cond b past.NotRead (past.NewTable (table_of_text text)) ∷ p.past) (le-ltb TEXT_LIMIT (length text) short)) (λ goal p sound gave. first_due goal p.past step.Reread gave.0 refl)
+pub Leads-used : (c new : CoreState) (l₀ l₁ : LogState) (text : List ℕ) → length text ≤ TEXT_LIMIT → lists.is_quiet c.slots ≡ true → OnEachTrace c (λ goal so_far. Fits new goal (past.NewTable (table_of_text text) ∷ so_far)) → Lasts c new → ((so_far : List Event) → Logs l₀ l₁ so_far (past.NewTable (table_of_text text) ∷ so_far)) → Leads (Gave (Tracks c) step.Reread) (Tracks new) l₀ l₁ (ReadTable (Ok text) ∷ [])
+Leads-used c new l₀ l₁ text short quiet fits lasts took = Leads-heard (Gave (Tracks c) step.Reread) (Tracks new) l₀ l₁ (ReadTable (Ok text)) used heard (λ p. ap (λ b. record p { past = cond b past.NotRead (past.NewTable (table_of_text text)) ∷ p.past }) (le-ltb TEXT_LIMIT (length text) short)) (λ goal p sound gave. first_is goal p.past step.Reread gave.0) (λ goal p. tt)
   where
-    heard : Hears (Gave (Tracks c) step.Reread) (Tracks new) l₀ l₁ (λ so_far. past.NewTable (table_of_text text) ∷ so_far)
-    heard goal so_far sound gave allowed = record { sound = table_sound goal so_far c (table_of_text text) sound gave.1.fits quiet (distinct_text text); fits = tracks c new goal so_far (past.NewTable (table_of_text text) ∷ so_far) lasts gave.1 (fits goal so_far sound gave.1.fits); log = took so_far }
+    used : List Event → List Event
+    used so_far = past.NewTable (table_of_text text) ∷ so_far
+
+    heard : Hears (Gave (Tracks c) step.Reread) (Tracks new) l₀ l₁ used
+    heard goal p sound gave allowed = record { sound = table_sound goal p.past c (table_of_text text) sound gave.1.fits quiet (distinct_text text); fits = tracks c new goal p (gone_on used p) lasts refl gave.1 (fits goal p.past sound gave.1.fits); log = took p.past }
 
 -- it could not be read, or its table not be taken
 reading_goes : (text : TextRead) (so_far : List Event) → before_reading (reading text ∷ so_far) ≡ so_far
@@ -110,16 +123,19 @@ reading_goes (Ok text) so_far = by (nat_lt TEXT_LIMIT (length text))
     by true = refl
     by false = refl
 
-pub Leads-not_read : (c new : CoreState) (l₀ l₁ : LogState) (text : TextRead) → OnEachTrace c (λ goal so_far. Fits new goal (past.NotRead ∷ so_far)) → Lasts c new → ((so_far : List Event) → Logs l₀ l₁ so_far (past.NotRead ∷ so_far)) → Leads (On (Gave (Tracks c) step.Reread)) (On (Tracks new)) l₀ l₁ (Announce past.NotRead ∷ ReadTable text ∷ [])
-Leads-not_read c new l₀ l₁ text fits lasts took goal p sound gave allowed carried =
-    let goes : past.NotRead ∷ before_reading (reading text ∷ p.past) ≡ past.NotRead ∷ p.past = ap (λ (so_far : List Event). past.NotRead ∷ so_far) (reading_goes text p.past) in
-    let more : is_sound goal (past.NotRead ∷ p.past) ≡ true = sound_met goal past.NotRead p.past refl (ap (is_allowed goal) (sym goes) ∙ allowed) sound in
-    record {
-      in_place = and_from (is_due goal step.Reread p.past) true (first_due goal p.past step.Reread gave.0 refl) refl;
-      sound = ap (is_sound goal) goes ∙ more;
-      fits = subst (Tracks new goal) (sym goes) (tracks c new goal p.past (past.NotRead ∷ p.past) lasts gave.1 (fits goal p.past sound gave.1.fits));
-      log = logged goal (Announce past.NotRead ∷ ReadTable text ∷ []) p l₀ l₁ (ap (is_sound goal) goes ∙ more) (subst (Logs l₀ l₁ p.past) (sym goes) (took p.past));
-    }
+pub Leads-not_read : (c new : CoreState) (l₀ l₁ : LogState) (text : TextRead) → OnEachTrace c (λ goal so_far. Fits new goal (past.NotRead ∷ so_far)) → Lasts c new → ((so_far : List Event) → Logs l₀ l₁ so_far (past.NotRead ∷ so_far)) → Leads (Gave (Tracks c) step.Reread) (Tracks new) l₀ l₁ (Announce past.NotRead ∷ ReadTable text ∷ [])
+Leads-not_read c new l₀ l₁ text fits lasts took goal p sound gave allowed = (
+  tt,
+  λ carried.
+      let goes : past.NotRead ∷ before_reading (reading text ∷ p.past) ≡ past.NotRead ∷ p.past = ap (λ (so_far : List Event). past.NotRead ∷ so_far) (reading_goes text p.past) in
+      let more : is_sound goal (past.NotRead ∷ p.past) ≡ true = sound_met goal past.NotRead p.past refl (ap (is_allowed goal) (sym goes) ∙ allowed) sound in
+      record {
+        in_place = and_from (is_first goal step.Reread p.past) true (first_is goal p.past step.Reread gave.0) refl;
+        sound = ap (is_sound goal) goes ∙ more;
+        fits = tracks c new goal p (point_after (Announce past.NotRead ∷ ReadTable text ∷ []) p) lasts refl gave.1 (subst (Fits new goal) (sym goes) (fits goal p.past sound gave.1.fits));
+        log = logged goal (Announce past.NotRead ∷ ReadTable text ∷ []) p l₀ l₁ (ap (is_sound goal) goes ∙ more) (subst (Logs l₀ l₁ p.past) (sym goes) (took p.past));
+      },
+)
 
 -- ---- init is executed anew
 
@@ -133,16 +149,19 @@ none_handed goal so_far c sound is fits = by so_far (sym fits.wishes.reexec ∙ 
     by (_ ∷ trace) h = refl
 
 -- no text was made: it says so
-pub Leads-not_handed : (c new : CoreState) (l₀ l₁ : LogState) → OnEachTrace c (λ goal so_far. Fits new goal (past.Handed handed.Failed ∷ so_far)) → Lasts c new → ((so_far : List Event) → Logs l₀ l₁ so_far (past.Handed handed.Failed ∷ so_far)) → Leads (On (Gave (Tracks c) step.Reexec)) (On (Tracks new)) l₀ l₁ (Announce (past.Handed handed.Failed) ∷ [])
-Leads-not_handed c new l₀ l₁ fits lasts took goal p sound gave allowed carried =
-    let goes : past.Handed handed.Failed ∷ before_handing p.past ≡ past.Handed handed.Failed ∷ p.past = ap (λ (so_far : List Event). past.Handed handed.Failed ∷ so_far) (none_handed goal p.past c sound gave.0 gave.1.fits) in
-    let more : is_sound goal (past.Handed handed.Failed ∷ p.past) ≡ true = sound_met goal (past.Handed handed.Failed) p.past refl (ap (is_allowed goal) (sym goes) ∙ allowed) sound in
-    record {
-      in_place = and_from (is_due goal step.Reexec p.past) true (first_due goal p.past step.Reexec gave.0 refl) refl;
-      sound = ap (is_sound goal) goes ∙ more;
-      fits = subst (Tracks new goal) (sym goes) (tracks c new goal p.past (past.Handed handed.Failed ∷ p.past) lasts gave.1 (fits goal p.past sound gave.1.fits));
-      log = logged goal (Announce (past.Handed handed.Failed) ∷ []) p l₀ l₁ (ap (is_sound goal) goes ∙ more) (subst (Logs l₀ l₁ p.past) (sym goes) (took p.past));
-    }
+pub Leads-not_handed : (c new : CoreState) (l₀ l₁ : LogState) → OnEachTrace c (λ goal so_far. Fits new goal (past.Handed handed.Failed ∷ so_far)) → Lasts c new → ((so_far : List Event) → Logs l₀ l₁ so_far (past.Handed handed.Failed ∷ so_far)) → Leads (Gave (Tracks c) step.Reexec) (Tracks new) l₀ l₁ (Announce (past.Handed handed.Failed) ∷ [])
+Leads-not_handed c new l₀ l₁ fits lasts took goal p sound gave allowed = (
+  tt,
+  λ carried.
+      let goes : past.Handed handed.Failed ∷ before_handing p.past ≡ past.Handed handed.Failed ∷ p.past = ap (λ (so_far : List Event). past.Handed handed.Failed ∷ so_far) (none_handed goal p.past c sound gave.0 gave.1.fits) in
+      let more : is_sound goal (past.Handed handed.Failed ∷ p.past) ≡ true = sound_met goal (past.Handed handed.Failed) p.past refl (ap (is_allowed goal) (sym goes) ∙ allowed) sound in
+      record {
+        in_place = and_from (is_first goal step.Reexec p.past) true (first_is goal p.past step.Reexec gave.0) refl;
+        sound = ap (is_sound goal) goes ∙ more;
+        fits = tracks c new goal p (point_after (Announce (past.Handed handed.Failed) ∷ []) p) lasts refl gave.1 (subst (Fits new goal) (sym goes) (fits goal p.past sound gave.1.fits));
+        log = logged goal (Announce (past.Handed handed.Failed) ∷ []) p l₀ l₁ (ap (is_sound goal) goes ∙ more) (subst (Logs l₀ l₁ p.past) (sym goes) (took p.past));
+      },
+)
 
 handing_goes : (b : Bool) (so_far : List Event) → before_handing so_far ≡ so_far → before_handing (handed_if b so_far) ≡ so_far
 handing_goes true so_far none = refl
@@ -154,27 +173,52 @@ carrying_goes (handed.Cut bytes) text back p none outcome = ap (λ (so_far : Lis
 carrying_goes (handed.Older generation) text back p none outcome = ap (λ (so_far : List Event). past.Handed (handed.Older generation) ∷ so_far) (handing_goes (came_whole text back) p.past none)
 carrying_goes handed.Failed text back p none outcome = ap (λ (so_far : List Event). past.Handed handed.Failed ∷ so_far) (handing_goes (came_whole text back) p.past none)
 
-carrying_placed : (how : HandOver) (text : List ℕ) (back : TextRead) (goal : Goal) (p : Point) → is_due goal step.Reexec p.past ≡ true → is_outcome how text back ≡ true → has_trace goal (carrying how text back) p ≡ true
-carrying_placed handed.Whole text back goal p due outcome = and_from (is_due goal step.Reexec p.past) true due refl
-carrying_placed (handed.Cut bytes) text back goal p due outcome = and_from (is_refusal (handed.Cut bytes) text back) (is_due goal step.Reexec p.past && true) outcome (and_from (is_due goal step.Reexec p.past) true due refl)
-carrying_placed (handed.Older generation) text back goal p due outcome = and_from (is_refusal (handed.Older generation) text back) (is_due goal step.Reexec p.past && true) outcome (and_from (is_due goal step.Reexec p.past) true due refl)
-carrying_placed handed.Failed text back goal p due outcome = and_from (is_refusal handed.Failed text back) (is_due goal step.Reexec p.past && true) outcome (and_from (is_due goal step.Reexec p.past) true due refl)
+carrying_placed : (how : HandOver) (text : List ℕ) (back : TextRead) (goal : Goal) (p : Point) → is_first goal step.Reexec p.past ≡ true → is_outcome how text back ≡ true → has_trace goal (carrying how text back) p ≡ true
+carrying_placed handed.Whole text back goal p due outcome = and_from (is_first goal step.Reexec p.past) true due refl
+carrying_placed (handed.Cut bytes) text back goal p due outcome = and_from (is_refusal (handed.Cut bytes) text back) (is_first goal step.Reexec p.past && true) outcome (and_from (is_first goal step.Reexec p.past) true due refl)
+carrying_placed (handed.Older generation) text back goal p due outcome = and_from (is_refusal (handed.Older generation) text back) (is_first goal step.Reexec p.past && true) outcome (and_from (is_first goal step.Reexec p.past) true due refl)
+carrying_placed handed.Failed text back goal p due outcome = and_from (is_refusal handed.Failed text back) (is_first goal step.Reexec p.past && true) outcome (and_from (is_first goal step.Reexec p.past) true due refl)
 
-came_back : (how : HandOver) (text : List ℕ) (back : TextRead) → are_carried (carrying how text back) ≡ true → comes_back text back ≡ true
-came_back handed.Whole text back carried = (and_parts (comes_back text back) true carried).0
-came_back (handed.Cut bytes) text back carried = (and_parts (comes_back text back) true carried).0
-came_back (handed.Older generation) text back carried = (and_parts (comes_back text back) true carried).0
-came_back handed.Failed text back carried = (and_parts (comes_back text back) true carried).0
+carrying_generation : (how : HandOver) (text : List ℕ) (back : TextRead) (p : Point) → (point_after (carrying how text back) p).generation ≡ p.generation + 1
+carrying_generation handed.Whole text back p = refl
+carrying_generation (handed.Cut bytes) text back p = refl
+carrying_generation (handed.Older generation) text back p = refl
+carrying_generation handed.Failed text back p = refl
 
--- a text was made and carried, and taken over or refused
-pub Leads-carried : (c new : CoreState) (l₀ l₁ : LogState) (how : HandOver) (text : List ℕ) (back : TextRead) → (KeepsRules c → range.has_short_seconds c ≡ true → comes_back text back ≡ true → Carried c new how text back) → ((so_far : List Event) → Logs l₀ l₁ so_far (past.Handed how ∷ so_far)) → Leads (On (Gave (Tracks c) step.Reexec)) (On (Tracks new)) l₀ l₁ (carrying how text back)
-Leads-carried c new l₀ l₁ how text back carries took goal p sound gave allowed carried =
-    let comes : Carried c new how text back = carries gave.1.kept gave.1.short (came_back how text back carried) in
-    let goes : (point_after (carrying how text back) p).past ≡ past.Handed how ∷ p.past = carrying_goes how text back p (none_handed goal p.past c sound gave.0 gave.1.fits) comes.outcome in
-    let more : is_sound goal (past.Handed how ∷ p.past) ≡ true = sound_met goal (past.Handed how) p.past refl (ap (is_allowed goal) (sym goes) ∙ allowed) sound in
-    record {
-      in_place = carrying_placed how text back goal p (first_due goal p.past step.Reexec gave.0 refl) comes.outcome;
-      sound = ap (is_sound goal) goes ∙ more;
-      fits = subst (Tracks new goal) (sym goes) (tracks c new goal p.past (past.Handed how ∷ p.past) comes.lasts gave.1 (comes.fits goal p.past sound gave.1.fits));
-      log = logged goal (carrying how text back) p l₀ l₁ (ap (is_sound goal) goes ∙ more) (subst (Logs l₀ l₁ p.past) (sym goes) (took p.past));
-    }
+carrying_text : (how : HandOver) (text : List ℕ) (back : TextRead) (goal : Goal) (p : Point) → IsStateText goal p.past (p.generation + 1) text → AreTexts goal (carrying how text back) p
+carrying_text handed.Whole text back goal p says = ((λ carried. says), tt)
+carrying_text (handed.Cut bytes) text back goal p says = ((λ carried. says), tt)
+carrying_text (handed.Older generation) text back goal p says = ((λ carried. says), tt)
+carrying_text handed.Failed text back goal p says = ((λ carried. says), tt)
+
+came_back : (how : HandOver) (text : List ℕ) (back : TextRead) (p : Point) → are_carried (carrying how text back) p ≡ true → comes_back (p.generation + 1) text back ≡ true
+came_back handed.Whole text back p carried = (and_parts (comes_back (p.generation + 1) text back) true carried).0
+came_back (handed.Cut bytes) text back p carried = (and_parts (comes_back (p.generation + 1) text back) true carried).0
+came_back (handed.Older generation) text back p carried = (and_parts (comes_back (p.generation + 1) text back) true carried).0
+came_back handed.Failed text back p carried = (and_parts (comes_back (p.generation + 1) text back) true carried).0
+
+-- init's state was handed on, and its text is that of the next
+pub record HandedOn (c next : CoreState) (text : List ℕ) : Type 0 where
+  pub fits : OnEachTrace c (λ goal so_far. (h : HandOver) → Fits next goal (past.Handed h ∷ so_far))
+  pub own : next.generation ≡ c.generation + 1
+  pub short : range.has_short_seconds next ≡ range.has_short_seconds c
+  pub says : range.has_short_seconds c ≡ true → Says text (state_of next) × IsFit next
+
+-- a text was made and carried, and taken over or refused: init goes on as the next
+pub Leads-carried : (c next new : CoreState) (l₀ l₁ : LogState) (how : HandOver) (text : List ℕ) (back : TextRead) → HandedOn c next text → (IsFit next → Says text (state_of next) → comes_back next.generation text back ≡ true → (new ≡ next) × (is_outcome how text back ≡ true)) → ((so_far : List Event) → Logs l₀ l₁ so_far (past.Handed how ∷ so_far)) → Leads (Gave (Tracks c) step.Reexec) (Tracks new) l₀ l₁ (carrying how text back)
+Leads-carried c next new l₀ l₁ how text back handed comes took goal p sound gave allowed =
+    let said = handed.says gave.1.short in
+    let own : next.generation ≡ p.generation + 1 = handed.own ∙ ap (λ n. n + 1) gave.1.own in
+    let fits : (h : HandOver) → Fits next goal (past.Handed h ∷ p.past) = handed.fits goal p.past sound gave.1.fits in (
+      carrying_text how text back goal p (record { core = next; fits = fits; fit = said.1; own = own; says = said.0 }),
+      λ carried.
+          let (same, outcome) = comes said.1 said.0 (ap (λ n. comes_back n text back) own ∙ came_back how text back p carried) in
+          let goes : (point_after (carrying how text back) p).past ≡ past.Handed how ∷ p.past = carrying_goes how text back p (none_handed goal p.past c sound gave.0 gave.1.fits) outcome in
+          let more : is_sound goal (past.Handed how ∷ p.past) ≡ true = sound_met goal (past.Handed how) p.past refl (ap (is_allowed goal) (sym goes) ∙ allowed) sound in
+          record {
+            in_place = carrying_placed how text back goal p (first_is goal p.past step.Reexec gave.0) outcome;
+            sound = ap (is_sound goal) goes ∙ more;
+            fits = subst (λ s. Tracks s goal (point_after (carrying how text back) p)) (sym same) (record { fits = subst (Fits next goal) (sym goes) (fits how); short = handed.short ∙ gave.1.short; own = own ∙ sym (carrying_generation how text back p) });
+            log = logged goal (carrying how text back) p l₀ l₁ (ap (is_sound goal) goes ∙ more) (subst (Logs l₀ l₁ p.past) (sym goes) (took p.past));
+          },
+    )

@@ -1,5 +1,5 @@
 -- A part of init's work: of one call, of none, and of two parts; and that of what was possible the earlier part was.
-use Rattle.std.proofs.Common.{◌≡◌, refl, sym, ◌∙◌, ap, subst, ℕ, Bool, true, false, ◌==◌, cond, List, [], ◌∷◌, ◌++◌, length, Option, Some, None, Ok, Err}
+use Rattle.std.proofs.Common.{◌≡◌, refl, sym, ◌∙◌, ap, subst, ℕ, Bool, true, false, ◌+◌, ◌==◌, cond, List, [], ◌∷◌, ◌++◌, length, Option, Some, None, Ok, Err}
 use Rattle.std.specs.List.{list_all}
 use Rattle.std.proofs.lemmas.Bool.{false≢true, and_parts, and_from}
 use Rattle.init_words.specs.declared.orders.Answer.{Answer}
@@ -18,7 +18,7 @@ use Rattle.child_host.specs.declared.calls.Reply.TheVariants.{Now, Later}
 use Rattle.child_host.specs.Calls.{HostCall, TextRead}
 use Rattle.run_log.specs.Logs.{LogState}
 use Rattle.host_trace.specs.Point.{Point, last_birth, acted, is_asked_for, answered, ordered, order_for, come, is_last, nudged_if, byte_after, bytes_after, reading, before_reading, before_handing, came_whole, handed_if, announced, is_said, after, point_after, is_in_place}
-use Rattle.host_trace.specs.Leads.{Counted, Logs, meets, is_allowed, comes_back, are_carried, Took, On, Went, Leads, Heard, Hears}
+use Rattle.host_trace.specs.Leads.{AreTexts, Counted, IsStateText, Logs, meets, is_allowed, comes_back, are_carried, gone_on, Took, Went, Leads, Heard, Hears}
 use Rattle.host_trace.specs.Turns.{takes_none}
 use Rattle.host_trace.proofs.Point.{point_after-append, has_trace-append}
 use Rattle.host_trace.proofs.Seconds.{logged, short_then}
@@ -113,59 +113,88 @@ module _ (goal : Goal) where
   calls_allowed [] p h = h
   calls_allowed (call ∷ calls) p h = calls_allowed calls p (after_allowed call (point_after calls p) h)
 
-pub Leads-one : (fitted fit : Goal → Point → Type 0) (old new : LogState) (call : HostCall) → ((goal : Goal) (p : Point) → is_sound goal p.past ≡ true → fitted goal p → is_allowed goal (after call p).past ≡ true → are_carried (call ∷ []) ≡ true → Went fit old new goal p (call ∷ [])) → Leads fitted fit old new (call ∷ [])
-Leads-one fitted fit old new call went = went
-
 -- a call that comes to what was heard, in its place
-pub Leads-heard : (fitted fit : Goal → List Event → Type 0) (old new : LogState) (call : HostCall) (more : List Event → List Event) → Hears fitted fit old new more → ((p : Point) → (after call p).past ≡ more p.past) → ((goal : Goal) (p : Point) → is_sound goal p.past ≡ true → fitted goal p.past → is_in_place goal call [] p.past ≡ true) → Leads (On fitted) (On fit) old new (call ∷ [])
-Leads-heard fitted fit old new call more hears comes place goal p sound fits allowed carried =
-    let heard : Heard fit old new goal p.past (more p.past) = hears goal p.past sound fits (ap (is_allowed goal) (sym (comes p)) ∙ allowed) in
-    let more : is_sound goal (after call p).past ≡ true = ap (is_sound goal) (comes p) ∙ heard.sound in
-    record {
-      in_place = and_from (is_in_place goal call [] p.past) true (place goal p sound fits) refl;
-      sound = more;
-      fits = subst (fit goal) (sym (comes p)) heard.fits;
-      log = logged goal (call ∷ []) p old new more (subst (Logs old new p.past) (sym (comes p)) heard.log);
-    }
+pub Leads-heard : (fitted fit : Goal → Point → Type 0) (old new : LogState) (call : HostCall) (more : List Event → List Event) → Hears fitted fit old new more → ((p : Point) → after call p ≡ gone_on more p) → ((goal : Goal) (p : Point) → is_sound goal p.past ≡ true → fitted goal p → is_in_place goal call [] p.past ≡ true) → ((goal : Goal) (p : Point) → AreTexts goal (call ∷ []) p) → Leads fitted fit old new (call ∷ [])
+Leads-heard fitted fit old new call more hears comes place texts goal p sound fits allowed = (
+  texts goal p,
+  λ carried.
+      let heard : Heard fit old new goal p (gone_on more p) = hears goal p sound fits (ap (λ (q : Point). is_allowed goal q.past) (sym (comes p)) ∙ allowed) in
+      let behind : Heard fit old new goal p (after call p) = subst (Heard fit old new goal p) (sym (comes p)) heard in
+      record {
+        in_place = and_from (is_in_place goal call [] p.past) true (place goal p sound fits) refl;
+        sound = behind.sound;
+        fits = behind.fits;
+        log = logged goal (call ∷ []) p old new behind.sound behind.log;
+      },
+)
 
 -- what was carried came back in each of two parts
-pub carried_parts : (ys xs : List HostCall) → are_carried (ys ++ xs) ≡ true → (are_carried ys ≡ true) × (are_carried xs ≡ true)
-carried_parts [] xs h = (refl, h)
-carried_parts (Carry text back ∷ ys) xs h =
-    let parts = and_parts (comes_back text back) (are_carried (ys ++ xs)) h in
-    let later = carried_parts ys xs parts.1 in
-    (and_from (comes_back text back) (are_carried ys) parts.0 later.0, later.1)
-carried_parts (Start id command reply ∷ ys) xs h = carried_parts ys xs h
-carried_parts (Look id reply ∷ ys) xs h = carried_parts ys xs h
-carried_parts (Signal id sent reply ∷ ys) xs h = carried_parts ys xs h
-carried_parts (Late late ∷ ys) xs h = carried_parts ys xs h
-carried_parts (Clock time ∷ ys) xs h = carried_parts ys xs h
-carried_parts (TakeBytes room taken ∷ ys) xs h = carried_parts ys xs h
-carried_parts (ReadTable text ∷ ys) xs h = carried_parts ys xs h
-carried_parts (Announce happening ∷ ys) xs h = carried_parts ys xs h
-carried_parts (Pause ∷ ys) xs h = carried_parts ys xs h
+pub carried_parts : (ys xs : List HostCall) (p : Point) → are_carried (ys ++ xs) p ≡ true → (are_carried ys (point_after xs p) ≡ true) × (are_carried xs p ≡ true)
+carried_parts [] xs p h = (refl, h)
+carried_parts (Carry text back ∷ ys) xs p h =
+    let parts = and_parts (comes_back ((point_after (ys ++ xs) p).generation + 1) text back) (are_carried (ys ++ xs) p) h in
+    let later = carried_parts ys xs p parts.1 in
+    (and_from (comes_back ((point_after ys (point_after xs p)).generation + 1) text back) (are_carried ys (point_after xs p)) (ap (λ (q : Point). comes_back (q.generation + 1) text back) (sym (point_after-append ys xs p)) ∙ parts.0) later.0, later.1)
+carried_parts (Start id command reply ∷ ys) xs p h = carried_parts ys xs p h
+carried_parts (Look id reply ∷ ys) xs p h = carried_parts ys xs p h
+carried_parts (Signal id sent reply ∷ ys) xs p h = carried_parts ys xs p h
+carried_parts (Late late ∷ ys) xs p h = carried_parts ys xs p h
+carried_parts (Clock time ∷ ys) xs p h = carried_parts ys xs p h
+carried_parts (TakeBytes room taken ∷ ys) xs p h = carried_parts ys xs p h
+carried_parts (ReadTable text ∷ ys) xs p h = carried_parts ys xs p h
+carried_parts (Announce happening ∷ ys) xs p h = carried_parts ys xs p h
+carried_parts (Pause ∷ ys) xs p h = carried_parts ys xs p h
+
+-- each of two parts carried state texts
+texts_then : (goal : Goal) (ys xs : List HostCall) (p : Point) → (are_carried xs p ≡ true → AreTexts goal ys (point_after xs p)) → AreTexts goal xs p → AreTexts goal (ys ++ xs) p
+texts_then goal [] xs p later earlier = earlier
+texts_then goal (Carry text back ∷ ys) xs p later earlier = (
+  λ carried.
+      let parts = carried_parts ys xs p carried in
+      subst (λ (q : Point). IsStateText goal q.past (q.generation + 1) text) (sym (point_after-append ys xs p)) ((later parts.1).0 parts.0),
+  texts_then goal ys xs p (λ carried. (later carried).1) earlier,
+)
+texts_then goal (Start id command reply ∷ ys) xs p later earlier = texts_then goal ys xs p later earlier
+texts_then goal (Look id reply ∷ ys) xs p later earlier = texts_then goal ys xs p later earlier
+texts_then goal (Signal id sent reply ∷ ys) xs p later earlier = texts_then goal ys xs p later earlier
+texts_then goal (Late late ∷ ys) xs p later earlier = texts_then goal ys xs p later earlier
+texts_then goal (Clock time ∷ ys) xs p later earlier = texts_then goal ys xs p later earlier
+texts_then goal (TakeBytes room taken ∷ ys) xs p later earlier = texts_then goal ys xs p later earlier
+texts_then goal (ReadTable text ∷ ys) xs p later earlier = texts_then goal ys xs p later earlier
+texts_then goal (Announce happening ∷ ys) xs p later earlier = texts_then goal ys xs p later earlier
+texts_then goal (Pause ∷ ys) xs p later earlier = texts_then goal ys xs p later earlier
 
 pub Leads-none : (fit : Goal → Point → Type 0) (log : LogState) → Leads fit fit log log []
-Leads-none fit log goal p sound fits allowed carried = record { in_place = refl; sound = sound; fits = fits; log = λ short. Took-none log p.past }
+Leads-none fit log goal p sound fits allowed = (tt, λ carried. record { in_place = refl; sound = sound; fits = fits; log = λ short. Took-none log p.past })
 
 -- ys behind xs
 pub Leads-then : (f₀ f₁ f₂ : Goal → Point → Type 0) (l₀ l₁ l₂ : LogState) (xs ys : List HostCall) → Leads f₀ f₁ l₀ l₁ xs → Leads f₁ f₂ l₁ l₂ ys → Leads f₀ f₂ l₀ l₂ (ys ++ xs)
-Leads-then f₀ f₁ f₂ l₀ l₁ l₂ xs ys one two goal p sound fits allowed carried =
+Leads-then f₀ f₁ f₂ l₀ l₁ l₂ xs ys one two goal p sound fits allowed =
     let joined : point_after (ys ++ xs) p ≡ point_after ys (point_after xs p) = point_after-append ys xs p in
     let later : is_allowed goal (point_after ys (point_after xs p)).past ≡ true = ap (λ (q : Point). is_allowed goal q.past) (sym joined) ∙ allowed in
-    let first : Went f₁ l₀ l₁ goal p xs = one goal p sound fits (calls_allowed goal ys (point_after xs p) later) (carried_parts ys xs carried).1 in
-    let second : Went f₂ l₁ l₂ goal (point_after xs p) ys = two goal (point_after xs p) first.sound first.fits later (carried_parts ys xs carried).0 in
-    record {
-      in_place = has_trace-append goal ys xs p second.in_place first.in_place;
-      sound = ap (λ (q : Point). is_sound goal q.past) joined ∙ second.sound;
-      fits = subst (f₂ goal) (sym joined) second.fits;
-      log = λ short. subst (λ (q : Point). Took l₀ l₂ p.past q.past) (sym joined) (Took-then l₀ l₁ l₂ p.past (point_after xs p).past (point_after ys (point_after xs p)).past (first.log short) (second.log (short_then goal xs p first.sound short)));
-    }
+    let earlier = one goal p sound fits (calls_allowed goal ys (point_after xs p) later) in
+    let behind : are_carried xs p ≡ true → AreTexts goal ys (point_after xs p) × (are_carried ys (point_after xs p) ≡ true → Went f₂ l₁ l₂ goal (point_after xs p) ys) = λ carried. two goal (point_after xs p) (earlier.1 carried).sound (earlier.1 carried).fits later in (
+      texts_then goal ys xs p (λ carried. (behind carried).0) earlier.0,
+      λ carried.
+          let parts = carried_parts ys xs p carried in
+          let first : Went f₁ l₀ l₁ goal p xs = earlier.1 parts.1 in
+          let second : Went f₂ l₁ l₂ goal (point_after xs p) ys = (behind parts.1).1 parts.0 in
+          record {
+            in_place = has_trace-append goal ys xs p second.in_place first.in_place;
+            sound = ap (λ (q : Point). is_sound goal q.past) joined ∙ second.sound;
+            fits = subst (f₂ goal) (sym joined) second.fits;
+            log = λ short. subst (λ (q : Point). Took l₀ l₂ p.past q.past) (sym joined) (Took-then l₀ l₁ l₂ p.past (point_after xs p).past (point_after ys (point_after xs p)).past (first.log short) (second.log (short_then goal xs p first.sound short)));
+          },
+    )
 
 pub Leads-weaken : (fitted fitted' fit fit' : Goal → Point → Type 0) (old new : LogState) (calls : List HostCall) → ((goal : Goal) (p : Point) → fitted' goal p → fitted goal p) → ((goal : Goal) (p : Point) → fit goal p → fit' goal p) → Leads fitted fit old new calls → Leads fitted' fit' old new calls
-Leads-weaken fitted fitted' fit fit' old new calls before behind leads goal p sound fits allowed carried =
-    let went : Went fit old new goal p calls = leads goal p sound (before goal p fits) allowed carried in
-    record { in_place = went.in_place; sound = went.sound; fits = behind goal (point_after calls p) went.fits; log = went.log }
+Leads-weaken fitted fitted' fit fit' old new calls before behind leads goal p sound fits allowed =
+    let led = leads goal p sound (before goal p fits) allowed in (
+      led.0,
+      λ carried.
+          let went : Went fit old new goal p calls = led.1 carried in
+          record { in_place = went.in_place; sound = went.sound; fits = behind goal (point_after calls p) went.fits; log = went.log },
+    )
 
 -- calls that take no bytes leave the bytes of the block under way
 after_over : (call : HostCall) (p : Point) → takes_none call ≡ true → (after call p).over ≡ p.over
@@ -195,35 +224,50 @@ bytes_lates (byte ∷ bytes) p = bytes_lates bytes (byte_after byte p) ∙ by (l
     by true = refl
     by false = refl
 
+pub bytes_generation : (bytes : List ℕ) (p : Point) → (bytes_after bytes p).generation ≡ p.generation
+bytes_generation [] p = refl
+bytes_generation (byte ∷ bytes) p = bytes_generation bytes (byte_after byte p) ∙ by (length (p.over ++ byte ∷ []) == 384)
+  where
+    by : (b : Bool) → (cond b (record p { over = []; past = past.Got (got_of (p.over ++ byte ∷ [])) ∷ p.past }) (record p { over = p.over ++ byte ∷ [] })).generation ≡ p.generation
+    by true = refl
+    by false = refl
+
 pub bytes_counted : (room : ℕ) (taken : TextRead) (count : ℕ) (goal : Goal) (p : Point) → Counted count goal p → Counted count goal (point_after (TakeBytes room taken ∷ []) p)
 bytes_counted room (Ok bytes) count goal p is = bytes_lates bytes p ∙ is
 bytes_counted room (Err fault) count goal p is = is
 
 -- what the calls leave as it is stays beside what they make fit
 pub Leads-beside : (f₀ f₁ K : Goal → Point → Type 0) (old new : LogState) (calls : List HostCall) → ((goal : Goal) (p : Point) → K goal p → K goal (point_after calls p)) → Leads f₀ f₁ old new calls → Leads (λ goal p. f₀ goal p × K goal p) (λ goal p. f₁ goal p × K goal p) old new calls
-Leads-beside f₀ f₁ K old new calls kept leads goal p sound fits allowed carried =
-    let went : Went f₁ old new goal p calls = leads goal p sound fits.0 allowed carried in
-    record { in_place = went.in_place; sound = went.sound; fits = (went.fits, kept goal p fits.1); log = went.log }
+Leads-beside f₀ f₁ K old new calls kept leads goal p sound fits allowed =
+    let led = leads goal p sound fits.0 allowed in (
+      led.0,
+      λ carried.
+          let went : Went f₁ old new goal p calls = led.1 carried in
+          record { in_place = went.in_place; sound = went.sound; fits = (went.fits, kept goal p fits.1); log = went.log },
+    )
 
 pub Leads-frame : (f₀ f₁ : Goal → Point → Type 0) (K : List ℕ → Type 0) (old new : LogState) (calls : List HostCall) → list_all takes_none calls ≡ true → Leads f₀ f₁ old new calls → Leads (λ goal p. f₀ goal p × K p.over) (λ goal p. f₁ goal p × K p.over) old new calls
 Leads-frame f₀ f₁ K old new calls none leads = Leads-beside f₀ f₁ (λ goal p. K p.over) old new calls (λ goal p kept. subst K (sym (over_left calls p none)) kept) leads
 
 -- a call that comes to nothing
-pub Leads-still : (fit : Goal → Point → Type 0) (log : LogState) (call : HostCall) → ((p : Point) → after call p ≡ p) → ((goal : Goal) (so_far : List Event) → is_in_place goal call [] so_far ≡ true) → Leads fit fit log log (call ∷ [])
-Leads-still fit log call still place goal p sound fits allowed carried = record {
-  in_place = and_from (is_in_place goal call [] p.past) true (place goal p.past) refl;
-  sound = ap (λ (q : Point). is_sound goal q.past) (still p) ∙ sound;
-  fits = subst (fit goal) (sym (still p)) fits;
-  log = λ short. subst (λ (q : Point). Took log log p.past q.past) (sym (still p)) (Took-none log p.past);
-}
+pub Leads-still : (fit : Goal → Point → Type 0) (log : LogState) (call : HostCall) → ((p : Point) → after call p ≡ p) → ((goal : Goal) (so_far : List Event) → is_in_place goal call [] so_far ≡ true) → ((goal : Goal) (p : Point) → AreTexts goal (call ∷ []) p) → Leads fit fit log log (call ∷ [])
+Leads-still fit log call still place texts goal p sound fits allowed = (
+  texts goal p,
+  λ carried. record {
+    in_place = and_from (is_in_place goal call [] p.past) true (place goal p.past) refl;
+    sound = ap (λ (q : Point). is_sound goal q.past) (still p) ∙ sound;
+    fits = subst (fit goal) (sym (still p)) fits;
+    log = λ short. subst (λ (q : Point). Took log log p.past q.past) (sym (still p)) (Took-none log p.past);
+  },
+)
 
 -- the same of what needs no call
-pub Hears-none : (fit : Goal → List Event → Type 0) (log : LogState) → Hears fit fit log log (λ so_far. so_far)
-Hears-none fit log goal so_far sound fits allowed = record { sound = sound; fits = fits; log = Logs-none log so_far }
+pub Hears-none : (fit : Goal → Point → Type 0) (log : LogState) → Hears fit fit log log (λ so_far. so_far)
+Hears-none fit log goal p sound fits allowed = record { sound = sound; fits = fits; log = Logs-none log p.past }
 
 -- later behind earlier, where what was possible behind the later was so behind the earlier
-pub Hears-then : (f₀ f₁ f₂ : Goal → List Event → Type 0) (l₀ l₁ l₂ : LogState) (earlier later : List Event → List Event) → ((goal : Goal) (so_far : List Event) → is_allowed goal (later so_far) ≡ true → is_allowed goal so_far ≡ true) → Hears f₀ f₁ l₀ l₁ earlier → Hears f₁ f₂ l₁ l₂ later → Hears f₀ f₂ l₀ l₂ (λ so_far. later (earlier so_far))
-Hears-then f₀ f₁ f₂ l₀ l₁ l₂ earlier later rest one two goal so_far sound fits allowed =
-    let first : Heard f₁ l₀ l₁ goal so_far (earlier so_far) = one goal so_far sound fits (rest goal (earlier so_far) allowed) in
-    let second : Heard f₂ l₁ l₂ goal (earlier so_far) (later (earlier so_far)) = two goal (earlier so_far) first.sound first.fits allowed in
-    record { sound = second.sound; fits = second.fits; log = Logs-then l₀ l₁ l₂ so_far (earlier so_far) (later (earlier so_far)) first.log second.log }
+pub Hears-then : (f₀ f₁ f₂ : Goal → Point → Type 0) (l₀ l₁ l₂ : LogState) (earlier later : List Event → List Event) → ((goal : Goal) (so_far : List Event) → is_allowed goal (later so_far) ≡ true → is_allowed goal so_far ≡ true) → Hears f₀ f₁ l₀ l₁ earlier → Hears f₁ f₂ l₁ l₂ later → Hears f₀ f₂ l₀ l₂ (λ so_far. later (earlier so_far))
+Hears-then f₀ f₁ f₂ l₀ l₁ l₂ earlier later rest one two goal p sound fits allowed =
+    let first : Heard f₁ l₀ l₁ goal p (gone_on earlier p) = one goal p sound fits (rest goal (earlier p.past) allowed) in
+    let second : Heard f₂ l₁ l₂ goal (gone_on earlier p) (gone_on later (gone_on earlier p)) = two goal (gone_on earlier p) first.sound first.fits allowed in
+    record { sound = second.sound; fits = second.fits; log = Logs-then l₀ l₁ l₂ p.past (earlier p.past) (later (earlier p.past)) first.log second.log }

@@ -9,3 +9,4 @@ pub mod Requests
 pub mod Seconds
 pub mod Rows
 pub mod Taking
+pub mod Texts

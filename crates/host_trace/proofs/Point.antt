@@ -7,10 +7,9 @@ use Rattle.init_trace.specs.declared.happenings.Happening.TheVariants as past
 use Rattle.init_trace.specs.declared.steps.Goal.{Goal}
 use Rattle.init_trace.specs.declared.steps.Step.TheVariants as step
 use Rattle.init_trace.specs.Event.{Event}
-use Rattle.init_trace.specs.Due.{is_due}
 use Rattle.child_host.specs.declared.calls.Call.TheVariants.{ReadTable, Carry, Announce}
 use Rattle.child_host.specs.Calls.{HostCall}
-use Rattle.host_trace.specs.Point.{Point, after, point_after, byte_after, bytes_after, was_reading, may_announce, is_in_place, has_trace}
+use Rattle.host_trace.specs.Point.{Point, after, point_after, byte_after, bytes_after, was_reading, is_first, may_announce, is_in_place, has_trace}
 
 -- the later calls go on from where the earlier ones stand: ys behind xs
 pub point_after-append : (ys xs : List HostCall) (p : Point) → point_after (ys ++ xs) p ≡ point_after ys (point_after xs p)
@@ -36,7 +35,7 @@ said_more goal handed.Whole _ earlier more so_far h = absurd (false≢true h)
 said_more goal (handed.Cut bytes) _ earlier more so_far h = absurd (false≢true h)
 said_more goal (handed.Older generation) _ earlier more so_far h = absurd (false≢true h)
 
-said_first : (goal : Goal) (more : List HostCall) (so_far : List Event) → is_due goal step.Reexec so_far ≡ true → may_announce goal (past.Handed handed.Failed) more so_far ≡ true
+said_first : (goal : Goal) (more : List HostCall) (so_far : List Event) → is_first goal step.Reexec so_far ≡ true → may_announce goal (past.Handed handed.Failed) more so_far ≡ true
 said_first goal [] so_far h = h
 said_first goal (Carry text back ∷ more) so_far h = refl
 said_first goal (_ ∷ more) so_far h = h

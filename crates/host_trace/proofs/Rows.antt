@@ -21,7 +21,7 @@ use Rattle.child_host.specs.declared.calls.Call.TheVariants.{Start, Look, Late, 
 use Rattle.child_host.specs.declared.calls.Reply.TheVariants.{Now, Later}
 use Rattle.child_host.specs.Calls.{HostCall, TextRead}
 use Rattle.host_trace.specs.Point.{Point, point_after, has_trace}
-use Rattle.host_trace.specs.Leads.{is_allowed}
+use Rattle.host_trace.specs.Leads.{AreTexts, is_allowed}
 use Rattle.host_trace.specs.Turns.{AreSteps, IsTurn, is_step}
 
 abbrev entry : List ℕ → List Mark → Act → List ℕ → Entry
@@ -31,7 +31,7 @@ abbrev goal : Goal
 goal = record { level = level.L3; grace = 5 }
 
 abbrev opening : Point
-opening = record { over = []; lates = 0; past = past.NewTable (entry (codes "id") (At level.L3 ∷ []) act.Initdefault [] ∷ entry (codes "w") (At level.L3 ∷ []) act.Wait (codes "prep") ∷ entry (codes "r") (At level.L3 ∷ []) act.Respawn (codes "serv") ∷ []) ∷ [] }
+opening = record { over = []; lates = 0; generation = 0; past = past.NewTable (entry (codes "id") (At level.L3 ∷ []) act.Initdefault [] ∷ entry (codes "w") (At level.L3 ∷ []) act.Wait (codes "prep") ∷ entry (codes "r") (At level.L3 ∷ []) act.Respawn (codes "serv") ∷ []) ∷ [] }
 
 -- two turns: the first start fails, the second is answered in the next turn
 abbrev first_steps : List HostCall
@@ -103,7 +103,7 @@ abbrev number_again : List HostCall
 number_again = Start (codes "b") (codes "y") (Now (Born 11)) ∷ Start (codes "a") (codes "x") (Now (Born 11)) ∷ Announce (past.Enter (stage.Run level.L3) 5) ∷ Announce (past.Enter stage.Boot 5) ∷ Announce (past.Enter stage.Sysinit 5) ∷ heard
 
 abbrev two_at_once : Point
-two_at_once = record { over = []; lates = 0; past = past.NewTable (entry (codes "a") (At level.L3 ∷ []) act.Once (codes "x") ∷ entry (codes "b") (At level.L3 ∷ []) act.Once (codes "+y") ∷ []) ∷ [] }
+two_at_once = record { over = []; lates = 0; generation = 0; past = past.NewTable (entry (codes "a") (At level.L3 ∷ []) act.Once (codes "x") ∷ entry (codes "b") (At level.L3 ∷ []) act.Once (codes "+y") ∷ []) ∷ [] }
 
 number_again-in_place : has_trace goal number_again two_at_once ≡ true
 number_again-in_place = refl
@@ -190,3 +190,7 @@ unmade-in_place = refl
 
 unasked-is_not : has_trace goal (Carry text (Ok text) ∷ asked_to_read) opening ≡ false
 unasked-is_not = refl
+
+-- what is carried is a text of init's state
+no_state-is_not : AreTexts goal (Carry (codes "x") (Ok (codes "x")) ∷ asked_anew) opening → ⊥
+no_state-is_not texts = let says = (texts.0 refl).says.1 in cc

@@ -1,5 +1,5 @@
 -- What a part of init's work makes of its core and its log, as far as its host's answers were possible (init(8)).
-use Rattle.std.specs.Prelude.{◌≡◌, ℕ, Bool, true, false, ◌&&◌, ◌||◌, IsTrue, ◌==◌, not, List, [], ◌∷◌, ◌++◌, length, take, reverse, Some, IfSome, is_some, Ok, Err}
+use Rattle.std.specs.Prelude.{◌≡◌, ℕ, Bool, true, false, ◌&&◌, ◌||◌, ◌+◌, IsTrue, ◌==◌, not, List, [], ◌∷◌, ◌++◌, length, take, reverse, Some, IfSome, is_some, Ok, Err}
 use Rattle.std.specs.List.{starts_with}
 use Rattle.initctl_frame.specs.Blocks.{Begun}
 use Rattle.init_trace.specs.declared.happenings.Handed.{Handed as HandOver}
@@ -12,13 +12,15 @@ use Rattle.init_trace.specs.Range.{are_short, is_seconds}
 use Rattle.init_trace.specs.Run.{step_in}
 use Rattle.init_trace.specs.Sound.{is_sound, may_come}
 use Rattle.core_state.specs.State.{CoreState}
-use Rattle.core_state.specs.Fit.{Fits, OnEachTrace, with_step}
-use Rattle.core_state.specs.Rules.{KeepsRules}
+use Rattle.core_state.specs.Fit.{Fits, with_step}
+use Rattle.core_state.specs.Parts.{state_of}
+use Rattle.core_state.specs.Rules.{IsFit}
 use Rattle.state_text.specs.Range as range
+use Rattle.state_text.specs.Refused.{Says}
 use Rattle.run_log.specs.Logs.{LogState}
 use Rattle.child_host.specs.declared.calls.Call.TheVariants.{Carry}
 use Rattle.child_host.specs.Calls.{HostCall, TextRead}
-use Rattle.host_trace.specs.Point.{Point, point_after, has_trace, is_outcome, same_generation}
+use Rattle.host_trace.specs.Point.{Point, point_after, has_trace, is_of_generation}
 
 -- the happening is a step of init's own
 abbrev pub is_own : Event → Bool
@@ -34,15 +36,36 @@ abbrev pub is_allowed : Goal → List Event → Bool
 is_allowed goal [] = true
 is_allowed goal (happening ∷ so_far) = meets goal happening so_far && is_allowed goal so_far
 
--- A text that is carried comes back as it was, or cut, or as that of another generation; or it doesn't come.
-abbrev pub comes_back : List ℕ → TextRead → Bool
-comes_back text (Ok back) = starts_with ◌==◌ text back || not (same_generation text back)
-comes_back text (Err fault) = true
+-- A text that is carried as that of a generation comes back as it was, or cut, or as none of that generation; or it
+-- doesn't come.
+abbrev pub comes_back : ℕ → List ℕ → TextRead → Bool
+comes_back generation text (Ok back) = starts_with ◌==◌ text back || not (is_of_generation generation back)
+comes_back generation text (Err fault) = true
 
-abbrev pub are_carried : List HostCall → Bool
-are_carried [] = true
-are_carried (Carry text back ∷ calls) = comes_back text back && are_carried calls
-are_carried (_ ∷ calls) = are_carried calls
+abbrev pub are_carried : List HostCall → Point → Bool
+are_carried [] p = true
+are_carried (Carry text back ∷ calls) p =
+    comes_back ((point_after calls p).generation + 1) text back && are_carried calls p
+are_carried (_ ∷ calls) p = are_carried calls p
+
+-- The text is that of a state of init's, of the generation: of a core that keeps the rules, and fits the trace
+-- whatever comes of the hand-over.
+pub record IsStateText (goal : Goal) (past : List Event) (generation : ℕ) (text : List ℕ) : Type 0 where
+  pub core : CoreState
+  pub fits : (how : HandOver) → Fits core goal (Handed how ∷ past)
+  pub fit : IsFit core
+  pub own : core.generation ≡ generation
+  pub says : Says text (state_of core)
+
+-- each text that was carried is that of init's state there, a generation more, where those before it came back as they
+-- may
+abbrev pub AreTexts : Goal → List HostCall → Point → Type 0
+AreTexts goal [] p = Unit {0}
+AreTexts goal (Carry text back ∷ calls) p =
+    (IsTrue (are_carried calls p)
+    → IsStateText goal (point_after calls p).past ((point_after calls p).generation + 1) text)
+    × AreTexts goal calls p
+AreTexts goal (_ ∷ calls) p = AreTexts goal calls p
 
 -- What a log took of the happenings that came, the newest first: those that came before it failed, and all as long as
 -- it has not. After it failed it takes nothing.
@@ -69,39 +92,34 @@ Logs old new past now = IsTrue (are_short now) → Took old new past now
 abbrev pub has_short_seconds : Goal → List Event → Bool
 has_short_seconds goal past = is_seconds goal.grace && are_short past
 
--- what fits the trace of a point fits the point
-abbrev pub On : (Goal → List Event → Type 0) → Goal → Point → Type 0
-On fit goal p = fit goal p.past
+-- the point whose trace has gone on
+abbrev pub gone_on : (List Event → List Event) → Point → Point
+gone_on more p = record p { past = more p.past }
 
 -- init gave the step: it was the first due, and what fits now fits the trace with the step's happening
-abbrev pub Gave : (Goal → List Event → Type 0) → Step → Goal → List Event → Type 0
-Gave fit step goal past = (first (due goal past) ≡ step) × fit goal (with_step step past)
+abbrev pub Gave : (Goal → Point → Type 0) → Step → Goal → Point → Type 0
+Gave fit step goal p = (first (due goal p.past) ≡ step) × fit goal (gone_on (with_step step) p)
 
 -- the reader of requests stands after these bytes of the block under way
 pub record IsOver (blocks : Begun) (over : List ℕ) : Type 0 where
   pub count : blocks.count ≡ length over
   pub front : blocks.front ≡ take 16 over
 
--- init's core tracks the trace: it fits, keeps the rules that init is held to, and its seconds are at most an hour
-pub record Tracks (core : CoreState) (goal : Goal) (past : List Event) : Type 0 where
-  pub fits : Fits core goal past
-  pub kept : KeepsRules core
+-- init's core tracks the record: it fits the trace, its seconds are at most an hour, and it is of the record's
+-- generation
+pub record Tracks (core : CoreState) (goal : Goal) (p : Point) : Type 0 where
+  pub fits : Fits core goal p.past
   pub short : range.has_short_seconds core ≡ true
+  pub own : core.generation ≡ p.generation
 
--- a change that keeps the rules, and seconds of an hour at most
+-- a change that keeps seconds of an hour at most, and the generation
 pub record Lasts (c new : CoreState) : Type 0 where
-  pub kept : KeepsRules c → KeepsRules new
   pub short : range.has_short_seconds c ≡ true → range.has_short_seconds new ≡ true
+  pub same : new.generation ≡ c.generation
 
--- what a text that was carried came to
-pub record Carried (c new : CoreState) (how : HandOver) (text : List ℕ) (back : TextRead) : Type 0 where
-  pub outcome : is_outcome how text back ≡ true
-  pub fits : OnEachTrace c (λ goal so_far. Fits new goal (Handed how ∷ so_far))
-  pub lasts : Lasts c new
-
--- the core tracks the trace, and the reader of requests stands where the trace does
+-- the core tracks the record, and the reader of requests stands where it does
 abbrev pub At : CoreState → Begun → Goal → Point → Type 0
-At core blocks goal p = On (Tracks core) goal p × IsOver blocks p.over
+At core blocks goal p = Tracks core goal p × IsOver blocks p.over
 
 -- so many late answers were asked for since the clock was read
 abbrev pub Counted : ℕ → Goal → Point → Type 0
@@ -117,20 +135,20 @@ pub record Went (fit : Goal → Point → Type 0) (old new : LogState) (goal : G
   pub log : IsTrue (has_short_seconds goal p.past) → Took old new p.past (point_after calls p).past
 
 -- so it went from each point whose trace is sound and fitted, where the answers to the calls were possible, and the
--- texts that were carried came back as they may
+-- texts that were carried came back as they may; and those were state texts
 abbrev pub Leads : (Goal → Point → Type 0) → (Goal → Point → Type 0) → LogState → LogState → List HostCall
     → Type 0
 Leads fitted fit old new calls = (goal : Goal) (p : Point) → IsTrue (is_sound goal p.past) → fitted goal p
-    → IsTrue (is_allowed goal (point_after calls p).past) → IsTrue (are_carried calls) → Went fit old new goal p calls
+    → IsTrue (is_allowed goal (point_after calls p).past)
+    → AreTexts goal calls p × (IsTrue (are_carried calls p) → Went fit old new goal p calls)
 
 -- the same of what needs no call: an answer, a round, a request
-pub record Heard (fit : Goal → List Event → Type 0) (old new : LogState) (goal : Goal) (past now : List Event)
-    : Type 0 where
-  pub sound : IsTrue (is_sound goal now)
+pub record Heard (fit : Goal → Point → Type 0) (old new : LogState) (goal : Goal) (p now : Point) : Type 0 where
+  pub sound : IsTrue (is_sound goal now.past)
   pub fits : fit goal now
-  pub log : Logs old new past now
+  pub log : Logs old new p.past now.past
 
-abbrev pub Hears : (Goal → List Event → Type 0) → (Goal → List Event → Type 0) → LogState → LogState
+abbrev pub Hears : (Goal → Point → Type 0) → (Goal → Point → Type 0) → LogState → LogState
     → (List Event → List Event) → Type 0
-Hears fitted fit old new more = (goal : Goal) (past : List Event) → IsTrue (is_sound goal past) → fitted goal past
-    → IsTrue (is_allowed goal (more past)) → Heard fit old new goal past (more past)
+Hears fitted fit old new more = (goal : Goal) (p : Point) → IsTrue (is_sound goal p.past) → fitted goal p
+    → IsTrue (is_allowed goal (more p.past)) → Heard fit old new goal p (gone_on more p)

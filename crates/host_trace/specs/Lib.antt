@@ -3,3 +3,4 @@ pub mod Point
 pub mod Record
 pub mod Requests
 pub mod Turns
+pub mod Texts

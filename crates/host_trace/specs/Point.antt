@@ -20,10 +20,12 @@ use Rattle.init_trace.specs.declared.happenings.Handed.{Handed as HandOver}
 use Rattle.init_trace.specs.declared.happenings.Handed.TheVariants as handed
 use Rattle.init_trace.specs.declared.happenings.Happening.TheVariants as past
 use Rattle.init_trace.specs.declared.steps.Goal.{Goal}
+use Rattle.init_trace.specs.declared.steps.Step.{Step}
 use Rattle.init_trace.specs.declared.steps.Step.TheVariants as step
 use Rattle.init_trace.specs.Event.{Event}
 use Rattle.init_trace.specs.Past.{open_of, table_of}
-use Rattle.init_trace.specs.Due.{is_due}
+use Rattle.init_trace.specs.Due.{due, first, same_step}
+use Rattle.init_trace.specs.Run.{step_in}
 use Rattle.state_text.specs.Reading.{generation_of}
 use Rattle.child_host.specs.declared.calls.Call.TheVariants.{Start, Look, Signal, Late, Clock, TakeBytes, ReadTable, Carry, Announce, Pause}
 use Rattle.child_host.specs.declared.calls.HostFault.{HostFault}
@@ -33,10 +35,11 @@ use Rattle.child_host.specs.Calls.{HostCall, TextRead}
 use Rattle.host_trace.specs.declared.TheConstants.{LATE_LIMIT}
 
 -- where a record stands: the bytes of a block under way, how many late answers were asked for since the clock was read,
--- and the trace
+-- the generation of init's state, and the trace
 pub record Point : Type 0 where
   pub over : List ℕ
   pub lates : ℕ
+  pub generation : ℕ
   pub past : List Event
 
 -- the number of the id's last birth; 0 before the first
@@ -158,7 +161,7 @@ announced past.NotRead so_far = past.NotRead ∷ before_reading so_far
 announced (past.Handed how) so_far = past.Handed how ∷ before_handing so_far
 announced happening so_far = if is_said happening then happening ∷ so_far else so_far
 
--- what a call makes of the trace
+-- what a call makes of the trace; a text that is carried is a generation more
 abbrev pub after : HostCall → Point → Point
 after (Start id command reply) p = record p { past = ordered id ask.Start reply p.past }
 after (Look id reply) p = record p { past = ordered id ask.Look reply p.past }
@@ -168,7 +171,8 @@ after (Late late) p =
 after (Clock time) p = record p { lates = 0; past = clocked time p.past }
 after (TakeBytes room taken) p = taken_after taken p
 after (ReadTable text) p = record p { past = reading text ∷ p.past }
-after (Carry text back) p = record p { past = handed_if (came_whole text back) p.past }
+after (Carry text back) p =
+    record p { generation = p.generation + 1; past = handed_if (came_whole text back) p.past }
 after (Announce happening) p = record p { past = announced happening p.past }
 after Pause p = p
 
@@ -187,12 +191,9 @@ abbrev pub was_reading : List HostCall → Bool
 was_reading (ReadTable text ∷ calls) = true
 was_reading _ = false
 
--- the text names the generation; and the generation that the other names
+-- the text names the generation
 abbrev pub is_of_generation : ℕ → List ℕ → Bool
 is_of_generation generation text = option_map_or (λ g. g == generation) (generation_of text) false
-
-abbrev pub same_generation : List ℕ → List ℕ → Bool
-same_generation text back = option_map_or (λ g. is_of_generation g back) (generation_of text) false
 
 -- What a text that was carried came to, where it was not taken over: it came back cut to so many bytes, or as that of
 -- another generation, or was refused for another cause.
@@ -214,21 +215,31 @@ abbrev pub is_outcome : HandOver → List ℕ → TextRead → Bool
 is_outcome handed.Whole text back = came_whole text back
 is_outcome how text back = is_refusal how text back
 
--- What is announced is one of init's steps, or a step that was due and came to nothing: inittab was read in the call
--- before; the state text was carried in the call before, and refused so; or init was to be executed anew, and no text
--- was made.
+-- the step is the first that is due; and the happening is that step
+abbrev pub is_first : Goal → Step → List Event → Bool
+is_first goal step so_far = same_step step (first (due goal so_far))
+
+abbrev pub is_first_step : Goal → Event → List Event → Bool
+is_first_step goal happening so_far = option_map_or (λ step. is_first goal step so_far) (step_in happening) false
+
+-- What is announced is the step of init's that is the first due, or such a step that came to nothing: inittab was read
+-- in the call before; the state text was carried in the call before, and refused so; or init was to be executed anew,
+-- and no text was made.
 abbrev pub may_announce : Goal → Event → List HostCall → List Event → Bool
 may_announce goal past.NotRead earlier so_far = was_reading earlier
 may_announce goal (past.Handed how) (Carry text back ∷ earlier) so_far = is_refusal how text back
-may_announce goal (past.Handed handed.Failed) earlier so_far = is_due goal step.Reexec so_far
-may_announce goal happening earlier so_far = is_said happening
+may_announce goal (past.Handed handed.Failed) earlier so_far = is_first goal step.Reexec so_far
+may_announce goal happening earlier so_far = is_said happening && is_first_step goal happening so_far
 
--- The call may be made there: a start is of the id's command in the table in force, inittab is read where that is due,
--- and init's state is carried where it is to be executed anew.
+-- The call may be made there: it carries out the step that is the first due, and a start is of the id's command in the
+-- table in force.
 abbrev pub is_in_place : Goal → HostCall → List HostCall → List Event → Bool
-is_in_place goal (Start id command reply) earlier so_far = is_command id command so_far
-is_in_place goal (ReadTable text) earlier so_far = is_due goal step.Reread so_far
-is_in_place goal (Carry text back) earlier so_far = is_due goal step.Reexec so_far
+is_in_place goal (Start id command reply) earlier so_far =
+    is_first goal (step.Order id ask.Start) so_far && is_command id command so_far
+is_in_place goal (Look id reply) earlier so_far = is_first goal (step.Order id ask.Look) so_far
+is_in_place goal (Signal id sent reply) earlier so_far = is_first goal (step.Order id (order_for sent)) so_far
+is_in_place goal (ReadTable text) earlier so_far = is_first goal step.Reread so_far
+is_in_place goal (Carry text back) earlier so_far = is_first goal step.Reexec so_far
 is_in_place goal (Announce happening) earlier so_far = may_announce goal happening earlier so_far
 is_in_place goal _ earlier so_far = true
 

@@ -95,13 +95,13 @@ pub record IsTurn (done : Bool) (calls : List HostCall) : Type 0 where
 -- nothing is due behind the calls: from each point whose trace is sound and fitted, where the answers were possible
 abbrev pub Rests : (Goal → Point → Type 0) → List HostCall → Type 0
 Rests fitted calls = (goal : Goal) (p : Point) → IsTrue (is_sound goal p.past) → fitted goal p
-    → IsTrue (is_allowed goal (point_after calls p).past) → IsTrue (are_carried calls)
+    → IsTrue (is_allowed goal (point_after calls p).past) → IsTrue (are_carried calls p)
     → first (due goal (point_after calls p).past) ≡ Idle
 
 -- behind the calls there is something left to do, or something runs: a core that fits there is not drained
 abbrev pub Undrained : (Goal → Point → Type 0) → List HostCall → Type 0
 Undrained fitted calls = (goal : Goal) (p : Point) → IsTrue (is_sound goal p.past) → fitted goal p
-    → IsTrue (is_allowed goal (point_after calls p).past) → IsTrue (are_carried calls)
+    → IsTrue (is_allowed goal (point_after calls p).past) → IsTrue (are_carried calls p)
     → (core : CoreState) × Fits core goal (point_after calls p).past × (is_drained core ≡ false)
 
 -- So many turns, with a pause behind each. Behind each that is done nothing is due; and where they end when init is

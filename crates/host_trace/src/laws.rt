@@ -1,10 +1,11 @@
-ghost use Rattle.std.specs.Prelude.{◌≡◌, ◌++◌, ℕ, IsTrue, List};
+ghost use Rattle.std.specs.Prelude.{◌≡◌, ◌+◌, ◌++◌, ℕ, IsTrue, List, length};
 ghost use Rattle.initctl_frame.specs.Blocks.{over_of};
 ghost use Rattle.init_trace.specs.declared.steps.Goal.{Goal};
 ghost use Rattle.child_host.specs.Calls.{HostCall};
 ghost use Rattle.host_trace.specs.Point.{Point, point_after, has_trace};
-ghost use Rattle.host_trace.specs.Leads.{are_carried, is_allowed};
+ghost use Rattle.host_trace.specs.Leads.{AreTexts, are_carried, is_allowed};
 ghost use Rattle.host_trace.specs.Requests.{Brings};
+ghost use Rattle.host_trace.specs.Texts.{are_given_back, texts_in};
 
 /// The requests that the calls bring into the trace are those of the blocks that the bytes taken fill, behind bytes
 /// that came before: all of them, in their order, and no others; and the bytes over are those of the whole list. It
@@ -24,6 +25,17 @@ pub fn law_of_parts()
         → IsTrue (has_trace goal (later ++ earlier) p) }
     ensures possible { (goal : Goal) (calls : List HostCall) (p : Point)
         → IsTrue (is_allowed goal (point_after calls p).past) → IsTrue (is_allowed goal p.past) }
-    ensures carried { (later earlier : List HostCall) → IsTrue (are_carried (later ++ earlier))
-        → IsTrue (are_carried later) × IsTrue (are_carried earlier) }
+    ensures carried { (later earlier : List HostCall) (p : Point)
+        → IsTrue (are_carried (later ++ earlier) p)
+        → IsTrue (are_carried later (point_after earlier p)) × IsTrue (are_carried earlier p) }
+{}
+
+/// Each text that a host was given to carry is a generation more. Where each is that of init's state, and comes back as
+/// it was, or cut, or as one that was carried before it, the texts came back as a turn takes them. It does nothing: its
+/// contract is the law.
+pub fn law_of_texts()
+    ensures generation { (calls : List HostCall) (p : Point)
+        → (point_after calls p).generation ≡ p.generation + length (texts_in calls) }
+    ensures carried { (goal : Goal) (calls : List HostCall) (p : Point) → AreTexts goal calls p
+        → IsTrue (are_given_back calls) → IsTrue (are_carried calls p) }
 {}

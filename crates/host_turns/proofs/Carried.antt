@@ -18,17 +18,16 @@ use Rattle.child_table.specs.Lists.{order_in, refusal_of, slot_of}
 use Rattle.core_state.specs.State.{CoreState}
 use Rattle.core_state.specs.Steps.{after_told}
 use Rattle.core_state.specs.Fit.{Fits, OnEachTrace, with_step}
-use Rattle.core_state.specs.Rules.{KeepsRules}
 use Rattle.state_text.specs.Range as range
 use Rattle.core_state.proofs.Recorded.{unreaped_recorded}
 use Rattle.run_log.specs.Logs.{LogState}
 use Rattle.child_host.specs.declared.calls.Call.TheVariants.{Announce}
 use Rattle.child_host.specs.Calls.{HostCall}
 use Rattle.host_trace.specs.Point.{Point, point_after, last_birth, acted, answered, announced, is_said}
-use Rattle.host_trace.specs.Leads.{At, Gave, Hears, Lasts, Leads, Logs, On, Tracks, Went, is_allowed}
+use Rattle.host_trace.specs.Leads.{At, Gave, gone_on, Hears, Lasts, Leads, Logs, Tracks, Went, is_allowed}
 use Rattle.host_trace.proofs.Leading.{Leads-heard, Leads-weaken}
 use Rattle.host_trace.proofs.Taking.{Logs-none}
-use Rattle.host_trace.proofs.Acting.{Hears-answer, Hears-step, Hears-tracks}
+use Rattle.host_trace.proofs.Acting.{Hears-answer, Hears-step, Hears-tracks, tracks}
 use Rattle.host_trace.proofs.Ending.{HasNumber, end_number}
 use Rattle.host_turns.specs.Parts.{AndRests, IsStep, IsStepUnless, Left, Makes, Says, is_end, is_idle}
 use Rattle.host_turns.proofs.Parts.{Makes-map, Makes-none}
@@ -38,24 +37,24 @@ announced_said past.NotRead so_far said = absurd (false≢true said)
 announced_said (past.Handed how) so_far said = absurd (false≢true said)
 announced_said happening so_far said = ap (λ b. cond b (happening ∷ so_far) so_far) said
 
-pub Leads-said : (c : CoreState) (l₀ l₁ : LogState) (made : Step) (happening : Event) → Says made happening → ((so_far : List Event) → Logs l₀ l₁ so_far (happening ∷ so_far)) → Leads (On (Gave (Tracks c) made)) (On (Tracks c)) l₀ l₁ (Announce happening ∷ [])
-Leads-said c l₀ l₁ made happening says took = Leads-heard (Gave (Tracks c) made) (Tracks c) l₀ l₁ (Announce happening) (with_step made) (Hears-step (Tracks c) l₀ l₁ made (λ so_far. subst (Logs l₀ l₁ so_far) (sym (says.step so_far)) (took so_far))) (λ p. announced_said happening p.past says.said ∙ sym (says.step p.past)) (λ goal p sound gave. says.place goal [] p.past)
+pub Leads-said : (c : CoreState) (l₀ l₁ : LogState) (made : Step) (happening : Event) → Says made happening → ((so_far : List Event) → Logs l₀ l₁ so_far (happening ∷ so_far)) → Leads (Gave (Tracks c) made) (Tracks c) l₀ l₁ (Announce happening ∷ [])
+Leads-said c l₀ l₁ made happening says took = Leads-heard (Gave (Tracks c) made) (Tracks c) l₀ l₁ (Announce happening) (with_step made) (Hears-step (Tracks c) l₀ l₁ made (λ so_far. subst (Logs l₀ l₁ so_far) (sym (says.step so_far)) (took so_far))) (λ p. ap (λ l. record p { past = l }) (announced_said happening p.past says.said ∙ sym (says.step p.past))) (λ goal p sound gave. says.place goal [] p.past gave.0) (λ goal p. tt)
 
 -- ---- answers
 
 -- a change to such a core
-pub lasts_as : (c new after : CoreState) → new ≡ after → (KeepsRules c → KeepsRules new) → (range.has_short_seconds c ≡ true → range.has_short_seconds after ≡ true) → Lasts c new
-lasts_as c new after is kept short = record { kept = kept; short = λ h. ap range.has_short_seconds is ∙ short h }
+pub lasts_as : (c new after : CoreState) → new ≡ after → (range.has_short_seconds c ≡ true → range.has_short_seconds after ≡ true) → after.generation ≡ c.generation → Lasts c new
+lasts_as c new after is short same = record { short = λ h. ap range.has_short_seconds is ∙ short h; same = ap (λ (s : CoreState). s.generation) is ∙ same }
 
 -- the core takes the answer, and it is written
-pub Hears-taken : (c new : CoreState) (l₀ l₁ : LogState) (id : List ℕ) (given : Answer) (result : Result (Unit {0}) Refusal) → is_ok result ≡ true → result ≡ refusal_of (order_in id c.slots) given → OnOk result (new ≡ after_told id given c) → (KeepsRules c → KeepsRules new) → ((goal : Goal) (so_far : List Event) → is_sound goal so_far ≡ true → Fits c goal so_far → is_allowed goal (acted id given so_far) ≡ true → Logs l₀ l₁ so_far (past.Told id ∷ acted id given so_far)) → Hears (Tracks c) (Tracks new) l₀ l₁ (answered id given)
-Hears-taken c new l₀ l₁ id given (Ok tt) ok is told kept took = Hears-tracks c new l₀ l₁ (answered id given) (lasts_as c new (after_told id given c) told kept (λ short. short)) (Hears-answer c new l₀ l₁ id given (Ok tt) is told tt took tt)
-Hears-taken c new l₀ l₁ id given (Err why) ok is told kept took = absurd (false≢true ok)
+pub Hears-taken : (c new : CoreState) (l₀ l₁ : LogState) (id : List ℕ) (given : Answer) (result : Result (Unit {0}) Refusal) → is_ok result ≡ true → result ≡ refusal_of (order_in id c.slots) given → OnOk result (new ≡ after_told id given c) → ((goal : Goal) (so_far : List Event) → is_sound goal so_far ≡ true → Fits c goal so_far → is_allowed goal (acted id given so_far) ≡ true → Logs l₀ l₁ so_far (past.Told id ∷ acted id given so_far)) → Hears (Tracks c) (Tracks new) l₀ l₁ (answered id given)
+Hears-taken c new l₀ l₁ id given (Ok tt) ok is told took = Hears-tracks c new l₀ l₁ (answered id given) (lasts_as c new (after_told id given c) told (λ short. short) refl) (Hears-answer c new l₀ l₁ id given (Ok tt) is told tt took tt)
+Hears-taken c new l₀ l₁ id given (Err why) ok is told took = absurd (false≢true ok)
 
 -- it refuses the answer
 pub Hears-refused : (c new : CoreState) (log : LogState) (id : List ℕ) (given : Answer) (result : Result (Unit {0}) Refusal) → is_ok result ≡ false → result ≡ refusal_of (order_in id c.slots) given → OnErr result (new ≡ c) → Hears (Tracks c) (Tracks new) log log (answered id given)
 Hears-refused c new log id given (Ok tt) ok is same = absurd (false≢true (sym ok))
-Hears-refused c new log id given (Err why) ok is same = Hears-tracks c new log log (answered id given) (lasts_as c new c same (subst KeepsRules (sym same)) (λ short. short)) (Hears-answer c new log log id given (Err why) is tt same tt (λ so_far. Logs-none log so_far))
+Hears-refused c new log id given (Err why) ok is same = Hears-tracks c new log log (answered id given) (lasts_as c new c same (λ short. short) refl) (Hears-answer c new log log id given (Err why) is tt same tt (λ so_far. Logs-none log so_far))
 
 -- the number of the child that an end is of
 pub end_known : (goal : Goal) (so_far : List Event) (c : CoreState) (id : List ℕ) (given : Answer) → is_sound goal so_far ≡ true → Fits c goal so_far → is_allowed goal (acted id given so_far) ≡ true → is_end given ≡ true → option_and_then child_number (slot_of id c.slots) ≡ Some (last_birth id so_far)
@@ -67,51 +66,59 @@ end_known goal so_far c id _ sound fits allowed ends = absurd (false≢true ends
 -- ---- steps
 
 -- a step that is only said was said
-pub Makes-said : (old new : Option (List HostCall)) (l₀ l₁ : LogState) (c : CoreState) (given made : Step) (happening : Event) → given ≡ made → is_idle made ≡ false → Says made happening → ((core : CoreState) (s : Step) → Says s happening → Makes old new l₀ l₁ IsStep (On (Gave (Tracks core) s)) (On (Tracks core))) → Makes old new l₀ l₁ (IsStepUnless (is_idle given)) (On (Gave (Tracks c) given)) (On (Tracks c))
+pub Makes-said : (old new : Option (List HostCall)) (l₀ l₁ : LogState) (c : CoreState) (given made : Step) (happening : Event) → given ≡ made → is_idle made ≡ false → Says made happening → ((core : CoreState) (s : Step) → Says s happening → Makes old new l₀ l₁ IsStep (Gave (Tracks core) s) (Tracks core)) → Makes old new l₀ l₁ (IsStepUnless (is_idle given)) (Gave (Tracks c) given) (Tracks c)
 Makes-said old new l₀ l₁ c given made happening is other says said =
-    subst (λ s. Makes old new l₀ l₁ (IsStepUnless (is_idle s)) (On (Gave (Tracks c) s)) (On (Tracks c))) (sym is)
-    (subst (λ b. Makes old new l₀ l₁ (IsStepUnless b) (On (Gave (Tracks c) made)) (On (Tracks c))) (sym other) (said c made says))
+    subst (λ s. Makes old new l₀ l₁ (IsStepUnless (is_idle s)) (Gave (Tracks c) s) (Tracks c)) (sym is)
+    (subst (λ b. Makes old new l₀ l₁ (IsStepUnless b) (Gave (Tracks c) made) (Tracks c)) (sym other) (said c made says))
 
 -- nothing was due
-pub Makes-idle : (now : Option (List HostCall)) (log : LogState) (c : CoreState) (given : Step) → given ≡ step.Idle → Makes now now log log (IsStepUnless (is_idle given)) (On (Gave (Tracks c) given)) (On (Tracks c))
+pub Makes-idle : (now : Option (List HostCall)) (log : LogState) (c : CoreState) (given : Step) → given ≡ step.Idle → Makes now now log log (IsStepUnless (is_idle given)) (Gave (Tracks c) given) (Tracks c)
 Makes-idle now log c given is =
-    subst (λ s. Makes now now log log (IsStepUnless (is_idle s)) (On (Gave (Tracks c) s)) (On (Tracks c))) (sym is)
-    (Makes-map now now log log (IsStepUnless true) (IsStepUnless true) (On (Tracks c)) (On (Tracks c)) (On (Gave (Tracks c) step.Idle)) (On (Tracks c))
-    (Makes-none now log (IsStepUnless true) (On (Tracks c)) refl)
-    (λ calls none leads. (none, Leads-weaken (On (Tracks c)) (On (Gave (Tracks c) step.Idle)) (On (Tracks c)) (On (Tracks c)) log log calls (λ goal p gave. gave.1) (λ goal p fits. fits) leads)))
+    subst (λ s. Makes now now log log (IsStepUnless (is_idle s)) (Gave (Tracks c) s) (Tracks c)) (sym is)
+    (Makes-map now now log log (IsStepUnless true) (IsStepUnless true) (Tracks c) (Tracks c) (Gave (Tracks c) step.Idle) (Tracks c)
+    (Makes-none now log (IsStepUnless true) (Tracks c) refl)
+    (λ calls none leads. (none, Leads-weaken (Tracks c) (Gave (Tracks c) step.Idle) (Tracks c) (Tracks c) log log calls (λ goal p gave. gave.1) (λ goal p fits. fits) leads)))
 
 idle_is : (made : Step) → is_idle made ≡ true → made ≡ step.Idle
 idle_is step.Idle h = refl
 idle_is _ h = absurd (false≢true h)
 
 -- the step was the first due, and was carried out; where it was none, nothing is due still
-pub Makes-stepped : (old new : Option (List HostCall)) (l₀ l₁ : LogState) (c between behind : CoreState) (made : Step) → OnEachTrace c (λ goal so_far. made ≡ first (due goal so_far)) → OnEachTrace c (λ goal so_far. Fits between goal (with_step made so_far)) → Lasts c between → Makes old new l₀ l₁ (IsStepUnless (is_idle made)) (On (Gave (Tracks between) made)) (On (Tracks behind)) → Makes old new l₀ l₁ (IsStepUnless (is_idle made)) (On (Tracks c)) (AndRests (is_idle made) (On (Tracks behind)))
-Makes-stepped old new l₀ l₁ c between behind made due_now fits lasts makes = Makes-map old new l₀ l₁ (IsStepUnless (is_idle made)) (IsStepUnless (is_idle made)) (On (Gave (Tracks between) made)) (On (Tracks behind)) (On (Tracks c)) (AndRests (is_idle made) (On (Tracks behind))) makes
+pub Makes-stepped : (old new : Option (List HostCall)) (l₀ l₁ : LogState) (c between behind : CoreState) (made : Step) → OnEachTrace c (λ goal so_far. made ≡ first (due goal so_far)) → OnEachTrace c (λ goal so_far. Fits between goal (with_step made so_far)) → Lasts c between → Makes old new l₀ l₁ (IsStepUnless (is_idle made)) (Gave (Tracks between) made) (Tracks behind) → Makes old new l₀ l₁ (IsStepUnless (is_idle made)) (Tracks c) (AndRests (is_idle made) (Tracks behind))
+Makes-stepped old new l₀ l₁ c between behind made due_now fits lasts makes = Makes-map old new l₀ l₁ (IsStepUnless (is_idle made)) (IsStepUnless (is_idle made)) (Gave (Tracks between) made) (Tracks behind) (Tracks c) (AndRests (is_idle made) (Tracks behind)) makes
     (λ calls shape leads. (shape, goes calls shape leads))
   where
-    goes : (calls : List HostCall) → IsStepUnless (is_idle made) calls → Leads (On (Gave (Tracks between) made)) (On (Tracks behind)) l₀ l₁ calls → Leads (On (Tracks c)) (AndRests (is_idle made) (On (Tracks behind))) l₀ l₁ calls
-    goes calls shape leads goal p sound fitted allowed carried =
+    goes : (calls : List HostCall) → IsStepUnless (is_idle made) calls → Leads (Gave (Tracks between) made) (Tracks behind) l₀ l₁ calls → Leads (Tracks c) (AndRests (is_idle made) (Tracks behind)) l₀ l₁ calls
+    goes calls shape leads goal p sound fitted allowed =
         let is_first : made ≡ first (due goal p.past) = due_now goal p.past sound fitted.fits in
-        let went : Went (On (Tracks behind)) l₀ l₁ goal p calls = leads goal p sound (sym is_first, record { fits = fits goal p.past sound fitted.fits; kept = lasts.kept fitted.kept; short = lasts.short fitted.short }) allowed carried in
-        record {
-          in_place = went.in_place;
-          sound = went.sound;
-          fits = (
-            went.fits,
-            λ idle.
-                let none : calls ≡ [] = subst (λ b. IsStepUnless b calls) idle shape in
-                ap (λ (l : List HostCall). first (due goal (point_after l p).past)) none ∙ sym is_first ∙ idle_is made idle,
-          );
-          log = went.log;
-        }
+        let led = leads goal p sound (sym is_first, tracks c between goal p (gone_on (with_step made) p) lasts refl fitted (fits goal p.past sound fitted.fits)) allowed in (
+          led.0,
+          λ carried.
+              let went : Went (Tracks behind) l₀ l₁ goal p calls = led.1 carried in
+              record {
+                in_place = went.in_place;
+                sound = went.sound;
+                fits = (
+                  went.fits,
+                  λ idle.
+                      let none : calls ≡ [] = subst (λ b. IsStepUnless b calls) idle shape in
+                      ap (λ (l : List HostCall). first (due goal (point_after l p).past)) none ∙ sym is_first ∙ idle_is made idle,
+                );
+                log = went.log;
+              },
+        )
 
 -- what fits a sound trace counts the children that are not reaped
 pub Leads-left : (fitted : Goal → Point → Type 0) (done : Bool) (c : CoreState) (b : Begun) (l₀ l₁ : LogState) (calls : List HostCall) → Leads fitted (AndRests done (At c b)) l₀ l₁ calls → Leads fitted (Left done c b) l₀ l₁ calls
-Leads-left fitted done c b l₀ l₁ calls leads goal p sound fits allowed carried =
-    let went : Went (AndRests done (At c b)) l₀ l₁ goal p calls = leads goal p sound fits allowed carried in
-    record {
-      in_place = went.in_place;
-      sound = went.sound;
-      fits = record { at = went.fits.0; children = unreaped_recorded goal (point_after calls p).past c went.sound went.fits.0.0.fits; rests = went.fits.1 };
-      log = went.log;
-    }
+Leads-left fitted done c b l₀ l₁ calls leads goal p sound fits allowed =
+    let led = leads goal p sound fits allowed in (
+      led.0,
+      λ carried.
+          let went : Went (AndRests done (At c b)) l₀ l₁ goal p calls = led.1 carried in
+          record {
+            in_place = went.in_place;
+            sound = went.sound;
+            fits = record { at = went.fits.0; children = unreaped_recorded goal (point_after calls p).past c went.sound went.fits.0.0.fits; rests = went.fits.1 };
+            log = went.log;
+          },
+    )

@@ -1,5 +1,5 @@
 -- What comes of a state text that is carried.
-use Rattle.std.proofs.Common.{◌≡◌, refl, sym, ap, ◌∙◌, subst, ℕ, Bool, true, false, ◌==◌, ◌&&◌, ◌||◌, not, nat_lt, List, [], ◌∷◌, ◌++◌, length, drop, append-nil, Option, Some, None, Ok}
+use Rattle.std.proofs.Common.{◌≡◌, refl, sym, ap, ◌∙◌, subst, ℕ, ◌+◌, Bool, true, false, ◌==◌, ◌&&◌, ◌||◌, not, nat_lt, List, [], ◌∷◌, ◌++◌, length, drop, append-nil, Option, Some, None, Ok}
 use Rattle.std.specs.List.{starts_with}
 use Rattle.std.specs.Option.{option_map_or}
 use Rattle.std.proofs.lemmas.Bool.{false≢true, and_from, and_parts, eq-eqb, eqb-true}
@@ -14,7 +14,7 @@ use Rattle.init_trace.specs.declared.steps.Step.TheVariants as step
 use Rattle.init_trace.specs.Event.{Event}
 use Rattle.core_state.specs.Fit.{Fits, OnEachTrace}
 use Rattle.core_state.specs.Parts.{State, state_of}
-use Rattle.core_state.specs.Rules.{IsFit, KeepsRules}
+use Rattle.core_state.specs.Rules.{IsFit}
 use Rattle.core_state.specs.State.{CoreState}
 use Rattle.core_state.specs.Steps.{after_handed_on}
 use Rattle.state_text.specs.Range as range
@@ -24,25 +24,24 @@ use Rattle.state_text.proofs.Prefixes.{generation_said, no_prefix}
 use Rattle.run_log.specs.Logs.{LogState}
 use Rattle.child_host.specs.declared.calls.Call.TheVariants.{Announce, Carry}
 use Rattle.child_host.specs.Calls.{Adds, HostCall, TextRead}
-use Rattle.host_trace.specs.Point.{carrying, is_of_generation, is_outcome, is_refusal, same_generation, same_text}
-use Rattle.host_trace.specs.Leads.{Carried, Gave, Leads, Logs, On, Tracks, comes_back}
-use Rattle.host_trace.proofs.Calling.{Leads-carried}
+use Rattle.host_trace.specs.Point.{carrying, is_of_generation, is_outcome, is_refusal, same_text}
+use Rattle.host_trace.specs.Leads.{Gave, Leads, Logs, Tracks, comes_back}
+use Rattle.host_trace.proofs.Calling.{HandedOn, Leads-carried}
 use Rattle.host_turns.specs.Parts.{ComesTo, IsStep, Makes, Saying}
 use Rattle.host_turns.proofs.Parts.{Makes-one, Makes-two}
 
 -- ---- what came back was taken over
 
--- the generation of a text that says a state
-same_named : (text back : List ℕ) (one other : State) → Says text one → Says back other → same_generation text back ≡ (other.heads.generation == one.heads.generation)
-same_named text back one other says said =
-    ap (λ o. option_map_or (λ g. is_of_generation g back) o false) (generation_said one text says.0 says.1)
-    ∙ ap (λ o. option_map_or (λ n. n == one.heads.generation) o false) (generation_said other back said.0 said.1)
+-- a text that says a state names its generation
+names_own : (back : List ℕ) (other : State) (generation : ℕ) → Says back other → other.heads.generation ≡ generation → is_of_generation generation back ≡ true
+names_own back other generation said own =
+    ap (λ o. option_map_or (λ g. g == generation) o false) (generation_said other back said.0 said.1) ∙ eq-eqb other.heads.generation generation own
 
 begins : (text back : List ℕ) → starts_with ◌==◌ text back ≡ true → text ≡ back ++ drop (length back) text
 begins text back h = (starts_is Decides-eqb text back _ refl).0 h
 
 -- it came back as it was, and so init keeps what it kept
-pub taken_back : (old next : CoreState) (text back : List ℕ) → Says text (state_of old) → IsFit old → comes_back text (Ok back) ≡ true → Says back (state_of next) → next.generation ≡ old.generation → ((core : CoreState) → IsFit core → Says back (state_of core) → core.generation ≡ old.generation → next ≡ core) → (next ≡ old) × (same_text text back ≡ true)
+pub taken_back : (old next : CoreState) (text back : List ℕ) → Says text (state_of old) → IsFit old → comes_back old.generation text (Ok back) ≡ true → Says back (state_of next) → next.generation ≡ old.generation → ((core : CoreState) → IsFit core → Says back (state_of core) → core.generation ≡ old.generation → next ≡ core) → (next ≡ old) × (same_text text back ≡ true)
 taken_back old next text back says fit comes said own only = by (starts_with ◌==◌ text back) refl comes
   where
     whole : starts_with ◌==◌ text back ≡ true → (next ≡ old) × (same_text text back ≡ true)
@@ -52,9 +51,9 @@ taken_back old next text back says fit comes said own only = by (starts_with ◌
         let same : text ≡ back = parts ∙ ap (λ l. back ++ l) none ∙ append-nil back in
         (only old fit (says.0, says.1 ∙ same) refl, subst (λ t. same_text text t ≡ true) same (same_id-self text))
 
-    by : (b : Bool) → starts_with ◌==◌ text back ≡ b → (b || not (same_generation text back)) ≡ true → (next ≡ old) × (same_text text back ≡ true)
+    by : (b : Bool) → starts_with ◌==◌ text back ≡ b → (b || not (is_of_generation old.generation back)) ≡ true → (next ≡ old) × (same_text text back ≡ true)
     by true starts h = whole starts
-    by false starts h = absurd (false≢true (ap not (sym (same_named text back (state_of old) (state_of next) says said ∙ eq-eqb next.generation old.generation own)) ∙ h))
+    by false starts h = absurd (false≢true (ap not (sym (names_own back (state_of next) old.generation said own)) ∙ h))
 
 -- ---- or refused
 
@@ -79,28 +78,21 @@ older_said text back own g says names other = and_from (is_of_generation g back)
 
 -- the state was handed over as a text, which was carried, and what came of it was said
 pub Makes-carried : (old mid new : Option (List HostCall)) (l₀ l₁ : LogState) (c next behind : CoreState) (how : HandOver) (text : List ℕ) (back : TextRead) → Adds old mid (Carry text back) → Saying how mid new
-    → next ≡ after_handed_on c → (KeepsRules c → KeepsRules next) → OnEachTrace c (λ goal so_far. (h : HandOver) → Fits next goal (past.Handed h ∷ so_far))
-    → (KeepsRules c → range.has_short_seconds c ≡ true → Says text (state_of next) × IsFit next) → ComesTo how text back next behind
+    → next ≡ after_handed_on c → OnEachTrace c (λ goal so_far. (h : HandOver) → Fits next goal (past.Handed h ∷ so_far))
+    → (range.has_short_seconds c ≡ true → Says text (state_of next) × IsFit next) → ComesTo how text back next behind
     → ((so_far : List Event) → Logs l₀ l₁ so_far (past.Handed how ∷ so_far))
-    → Makes old new l₀ l₁ IsStep (On (Gave (Tracks c) step.Reexec)) (On (Tracks behind))
-Makes-carried old mid new l₀ l₁ c next behind how text back adds says is kept fits said comes took = by how adds says leads
+    → Makes old new l₀ l₁ IsStep (Gave (Tracks c) step.Reexec) (Tracks behind)
+Makes-carried old mid new l₀ l₁ c next behind how text back adds says is fits said comes took = by how adds says leads
   where
-    came : KeepsRules c → range.has_short_seconds c ≡ true → comes_back text back ≡ true → Carried c behind how text back
-    came rules short carried =
-        let handed_over = said rules short in
-        let (same, outcome) = comes handed_over.1 handed_over.0 carried in
-        record {
-          outcome = outcome;
-          fits = λ goal so_far sound fitted. subst (λ s. Fits s goal (past.Handed how ∷ so_far)) (sym same) (fits goal so_far sound fitted how);
-          lasts = record { kept = λ k. subst KeepsRules (sym same) (kept k); short = λ h. ap range.has_short_seconds (same ∙ is) ∙ h };
-        }
+    handed_on : HandedOn c next text
+    handed_on = record { fits = fits; own = ap (λ (s : CoreState). s.generation) is; short = ap range.has_short_seconds is; says = said }
 
-    leads : Leads (On (Gave (Tracks c) step.Reexec)) (On (Tracks behind)) l₀ l₁ (carrying how text back)
-    leads = Leads-carried c behind l₀ l₁ how text back came took
+    leads : Leads (Gave (Tracks c) step.Reexec) (Tracks behind) l₀ l₁ (carrying how text back)
+    leads = Leads-carried c next behind l₀ l₁ how text back handed_on comes took
 
-    by : (h : HandOver) → Adds old mid (Carry text back) → Saying h mid new → Leads (On (Gave (Tracks c) step.Reexec)) (On (Tracks behind)) l₀ l₁ (carrying h text back)
-        → Makes old new l₀ l₁ IsStep (On (Gave (Tracks c) step.Reexec)) (On (Tracks behind))
-    by handed.Whole first none goes = Makes-one old new l₀ l₁ (Carry text back) IsStep (On (Gave (Tracks c) step.Reexec)) (On (Tracks behind)) (subst (λ t. Adds old t (Carry text back)) (sym none) first) refl goes
-    by (handed.Cut bytes) first second goes = Makes-two old mid new l₀ l₁ (Carry text back) (Announce (past.Handed (handed.Cut bytes))) IsStep (On (Gave (Tracks c) step.Reexec)) (On (Tracks behind)) first second refl goes
-    by (handed.Older generation) first second goes = Makes-two old mid new l₀ l₁ (Carry text back) (Announce (past.Handed (handed.Older generation))) IsStep (On (Gave (Tracks c) step.Reexec)) (On (Tracks behind)) first second refl goes
-    by handed.Failed first second goes = Makes-two old mid new l₀ l₁ (Carry text back) (Announce (past.Handed handed.Failed)) IsStep (On (Gave (Tracks c) step.Reexec)) (On (Tracks behind)) first second refl goes
+    by : (h : HandOver) → Adds old mid (Carry text back) → Saying h mid new → Leads (Gave (Tracks c) step.Reexec) (Tracks behind) l₀ l₁ (carrying h text back)
+        → Makes old new l₀ l₁ IsStep (Gave (Tracks c) step.Reexec) (Tracks behind)
+    by handed.Whole first none goes = Makes-one old new l₀ l₁ (Carry text back) IsStep (Gave (Tracks c) step.Reexec) (Tracks behind) (subst (λ t. Adds old t (Carry text back)) (sym none) first) refl goes
+    by (handed.Cut bytes) first second goes = Makes-two old mid new l₀ l₁ (Carry text back) (Announce (past.Handed (handed.Cut bytes))) IsStep (Gave (Tracks c) step.Reexec) (Tracks behind) first second refl goes
+    by (handed.Older generation) first second goes = Makes-two old mid new l₀ l₁ (Carry text back) (Announce (past.Handed (handed.Older generation))) IsStep (Gave (Tracks c) step.Reexec) (Tracks behind) first second refl goes
+    by handed.Failed first second goes = Makes-two old mid new l₀ l₁ (Carry text back) (Announce (past.Handed handed.Failed)) IsStep (Gave (Tracks c) step.Reexec) (Tracks behind) first second refl goes

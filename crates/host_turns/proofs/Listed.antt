@@ -21,7 +21,7 @@ use Rattle.core_state.specs.declared.news.News.{News}
 use Rattle.core_state.specs.News.{first_news}
 use Rattle.core_state.specs.State.{CoreState}
 use Rattle.core_state.specs.Steps.{after_step}
-use Rattle.core_state.specs.Decide.{or_else, or_idle, level_step, news_step, wished_step, wish_step, stands, signal_step, stop_step, stop_among, has_excluded, limited_step, can_start_slot, start_step, is_owed_slot, start_along, is_over_among, next_stage, enter_step, stage_step, is_idle, all_served, settle_step, can_look_slot, look_among, calm_step, work_step, decide_in, decide}
+use Rattle.core_state.specs.Decide.{or_else, or_idle, level_step, news_step, wished_step, wish_step, stands, signal_step, stop_step, stop_among, has_excluded, limited_step, can_start_slot, start_step, is_owed_slot, start_along, is_over_among, next_stage, enter_step, stage_step, is_idle, all_served, settle_step, can_look_slot, look_among, calm_step, work_step, first_step, decide_in, decide}
 use Rattle.host_turns.specs.Parts.{is_listed}
 
 module _ (table : List Entry) where
@@ -120,7 +120,7 @@ settle_listed c stage.Sysinit = refl
 settle_listed c stage.Boot = refl
 
 decide_in_listed : (c : CoreState) (stage : Option Stage) → is_listed c.table (decide_in stage c) ≡ true
-decide_in_listed c None = refl
+decide_in_listed c None = idle_listed c.table (first_step c) (if_listed c.table (is_quiet c.slots) (Some (step.Enter stage.Sysinit c.goal.grace)) None refl refl)
 decide_in_listed c (Some stage) = idle_listed c.table (or_else (wish_step stage c) (or_else (work_step stage c) (look_among c.slots))) (else_listed c.table (wish_step stage c) (or_else (work_step stage c) (look_among c.slots)) wish (else_listed c.table (work_step stage c) (look_among c.slots) work (look_listed c.table c.slots)))
   where
     wished : Listed c.table (wished_step stage c)

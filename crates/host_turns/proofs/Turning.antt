@@ -17,7 +17,7 @@ use Rattle.host_trace.specs.declared.TheConstants.{LATE_LIMIT}
 use Rattle.host_trace.specs.Point.{Point, point_after}
 use Rattle.host_trace.specs.Record.{Since}
 use Rattle.host_trace.specs.Requests.{Brings}
-use Rattle.host_trace.specs.Leads.{At, Counted, IsOver, Leads, On, Tracks, Went}
+use Rattle.host_trace.specs.Leads.{At, Counted, IsOver, Leads, Tracks, Went}
 use Rattle.host_trace.specs.Turns.{AreSteps, AreTurns, IsTurn, Undrained, are_full, are_lates, are_takes, bytes_taken, has_come, is_room, is_step, takes_none}
 use Rattle.host_trace.proofs.Leading.{Leads-beside, Leads-frame, Leads-still, Leads-then, Leads-weaken, bytes_counted}
 use Rattle.host_trace.proofs.Record.{Since-map, Since-one, Since-then}
@@ -98,7 +98,7 @@ turned done xs ys (time, takes, lates, is, byte_calls, late_calls) steps = recor
 abbrev Counting : (Goal → Point → Type 0) → Goal → Point → Type 0
 Counting fit goal p = fit goal p × Counted 0 goal p
 
-pub turn_made : (done : Bool) (t₀ t₁ t₂ t₃ t₄ : Option (List HostCall)) (l₀ l₁ l₂ l₃ l₄ : LogState) (c₀ c₁ c₂ c₃ c₄ : CoreState) (b₀ b₁ : Begun) → Makes t₀ t₁ l₀ l₁ IsReading (On (Tracks c₀)) (λ goal p. On (Tracks c₁) goal p × Counted 0 goal p) → Makes t₁ t₂ l₁ l₂ (λ calls. are_takes calls ≡ true) (At c₁ b₀) (At c₂ b₁) → Makes t₂ t₃ l₂ l₃ (λ calls. are_lates calls ≡ true) (λ goal p. On (Tracks c₂) goal p × Counted 0 goal p) (On (Tracks c₃)) → Makes t₃ t₄ l₃ l₄ (AreAllSteps done) (On (Tracks c₃)) (AndRests done (On (Tracks c₄))) → Makes t₀ t₄ l₀ l₄ (IsTurn done) (At c₀ b₀) (Left done c₄ b₁)
+pub turn_made : (done : Bool) (t₀ t₁ t₂ t₃ t₄ : Option (List HostCall)) (l₀ l₁ l₂ l₃ l₄ : LogState) (c₀ c₁ c₂ c₃ c₄ : CoreState) (b₀ b₁ : Begun) → Makes t₀ t₁ l₀ l₁ IsReading (Tracks c₀) (λ goal p. Tracks c₁ goal p × Counted 0 goal p) → Makes t₁ t₂ l₁ l₂ (λ calls. are_takes calls ≡ true) (At c₁ b₀) (At c₂ b₁) → Makes t₂ t₃ l₂ l₃ (λ calls. are_lates calls ≡ true) (λ goal p. Tracks c₂ goal p × Counted 0 goal p) (Tracks c₃) → Makes t₃ t₄ l₃ l₄ (AreAllSteps done) (Tracks c₃) (AndRests done (Tracks c₄)) → Makes t₀ t₄ l₀ l₄ (IsTurn done) (At c₀ b₀) (Left done c₄ b₁)
 turn_made done t₀ t₁ t₂ t₃ t₄ l₀ l₁ l₂ l₃ l₄ c₀ c₁ c₂ c₃ c₄ b₀ b₁ clock takes lates steps =
     Makes-map t₀ t₄ l₀ l₄ (IsTurn done) (IsTurn done) (At c₀ b₀) (AndRests done (At c₄ b₁)) (At c₀ b₀) (Left done c₄ b₁)
     (Makes-then t₀ t₃ t₄ l₀ l₃ l₄ HasHeard (AreAllSteps done) (IsTurn done) (At c₀ b₀) (At c₃ b₁) (AndRests done (At c₄ b₁))
@@ -109,11 +109,11 @@ turn_made done t₀ t₁ t₂ t₃ t₄ l₀ l₁ l₂ l₃ l₄ c₀ c₁ c₂ 
     (λ calls turn leads. (turn, Leads-left (At c₀ b₀) done c₄ b₁ l₀ l₄ calls leads))
   where
     clocked : Makes t₀ t₁ l₀ l₁ IsReading (At c₀ b₀) (Counting (At c₁ b₀))
-    clocked = Makes-map t₀ t₁ l₀ l₁ IsReading IsReading (On (Tracks c₀)) (Counting (On (Tracks c₁))) (At c₀ b₀) (Counting (At c₁ b₀)) clock
+    clocked = Makes-map t₀ t₁ l₀ l₁ IsReading IsReading (Tracks c₀) (Counting (Tracks c₁)) (At c₀ b₀) (Counting (At c₁ b₀)) clock
         (λ calls read leads. (
           read,
-          Leads-weaken (At c₀ b₀) (At c₀ b₀) (λ goal p. Counting (On (Tracks c₁)) goal p × IsOver b₀ p.over) (Counting (At c₁ b₀)) l₀ l₁ calls (λ goal p fits. fits) (λ goal p fits. ((fits.0.0, fits.1), fits.0.1))
-              (Leads-frame (On (Tracks c₀)) (Counting (On (Tracks c₁))) (IsOver b₀) l₀ l₁ calls (ap (list_all takes_none) read.1) leads),
+          Leads-weaken (At c₀ b₀) (At c₀ b₀) (λ goal p. Counting (Tracks c₁) goal p × IsOver b₀ p.over) (Counting (At c₁ b₀)) l₀ l₁ calls (λ goal p fits. fits) (λ goal p fits. ((fits.0.0, fits.1), fits.0.1))
+              (Leads-frame (Tracks c₀) (Counting (Tracks c₁)) (IsOver b₀) l₀ l₁ calls (ap (list_all takes_none) read.1) leads),
         ))
 
     taken : Makes t₁ t₂ l₁ l₂ (λ calls. are_takes calls ≡ true) (Counting (At c₁ b₀)) (Counting (At c₂ b₁))
@@ -121,19 +121,19 @@ turn_made done t₀ t₁ t₂ t₃ t₄ l₀ l₁ l₂ l₃ l₄ c₀ c₁ c₂ 
         (λ calls take leads. (take, Leads-beside (At c₁ b₀) (At c₂ b₁) (Counted 0) l₁ l₂ calls (takes_counted 0 calls take) leads))
 
     late : Makes t₂ t₃ l₂ l₃ (λ calls. are_lates calls ≡ true) (Counting (At c₂ b₁)) (At c₃ b₁)
-    late = Makes-map t₂ t₃ l₂ l₃ (λ calls. are_lates calls ≡ true) (λ calls. are_lates calls ≡ true) (Counting (On (Tracks c₂))) (On (Tracks c₃)) (Counting (At c₂ b₁)) (At c₃ b₁) lates
+    late = Makes-map t₂ t₃ l₂ l₃ (λ calls. are_lates calls ≡ true) (λ calls. are_lates calls ≡ true) (Counting (Tracks c₂)) (Tracks c₃) (Counting (At c₂ b₁)) (At c₃ b₁) lates
         (λ calls come leads. (
           come,
-          Leads-weaken (λ goal p. Counting (On (Tracks c₂)) goal p × IsOver b₁ p.over) (Counting (At c₂ b₁)) (At c₃ b₁) (At c₃ b₁) l₂ l₃ calls (λ goal p fits. ((fits.0.0, fits.1), fits.0.1)) (λ goal p fits. fits)
-              (Leads-frame (Counting (On (Tracks c₂))) (On (Tracks c₃)) (IsOver b₁) l₂ l₃ calls (lates_none calls come) leads),
+          Leads-weaken (λ goal p. Counting (Tracks c₂) goal p × IsOver b₁ p.over) (Counting (At c₂ b₁)) (At c₃ b₁) (At c₃ b₁) l₂ l₃ calls (λ goal p fits. ((fits.0.0, fits.1), fits.0.1)) (λ goal p fits. fits)
+              (Leads-frame (Counting (Tracks c₂)) (Tracks c₃) (IsOver b₁) l₂ l₃ calls (lates_none calls come) leads),
         ))
 
     stepped : Makes t₃ t₄ l₃ l₄ (AreAllSteps done) (At c₃ b₁) (AndRests done (At c₄ b₁))
-    stepped = Makes-map t₃ t₄ l₃ l₄ (AreAllSteps done) (AreAllSteps done) (On (Tracks c₃)) (AndRests done (On (Tracks c₄))) (At c₃ b₁) (AndRests done (At c₄ b₁)) steps
+    stepped = Makes-map t₃ t₄ l₃ l₄ (AreAllSteps done) (AreAllSteps done) (Tracks c₃) (AndRests done (Tracks c₄)) (At c₃ b₁) (AndRests done (At c₄ b₁)) steps
         (λ calls all leads. (
           all,
-          Leads-weaken (At c₃ b₁) (At c₃ b₁) (λ goal p. AndRests done (On (Tracks c₄)) goal p × IsOver b₁ p.over) (AndRests done (At c₄ b₁)) l₃ l₄ calls (λ goal p fits. fits) (λ goal p fits. ((fits.0.0, fits.1), fits.0.1))
-              (Leads-frame (On (Tracks c₃)) (AndRests done (On (Tracks c₄))) (IsOver b₁) l₃ l₄ calls (steps_none all.count calls all.step_calls) leads),
+          Leads-weaken (At c₃ b₁) (At c₃ b₁) (λ goal p. AndRests done (Tracks c₄) goal p × IsOver b₁ p.over) (AndRests done (At c₄ b₁)) l₃ l₄ calls (λ goal p fits. fits) (λ goal p fits. ((fits.0.0, fits.1), fits.0.1))
+              (Leads-frame (Tracks c₃) (AndRests done (Tracks c₄)) (IsOver b₁) l₃ l₄ calls (steps_none all.count calls all.step_calls) leads),
         ))
 
 -- ---- turns
@@ -165,16 +165,16 @@ turns_more drain done n t₀ t₁ t₂ t₃ l₀ l₁ l₂ c₀ c c' b b' before
   where
     still : (xs : List HostCall) → Leads (Fresh c₀) (At c b) l₀ l₁ xs → (n ≡ 0) ⊎ (is_drained c ≡ false) → (n ≡ 0) ⊎ Undrained (Fresh c₀) xs
     still xs leads (inl none) = inl none
-    still xs leads (inr busy) = inr (λ goal p sound fits allowed carried. (c, (leads goal p sound fits allowed carried).fits.0.fits, busy))
+    still xs leads (inr busy) = inr (λ goal p sound fits allowed carried. (c, ((leads goal p sound fits allowed).1 carried).fits.0.fits, busy))
 
     paused : (xs ys : List HostCall) → IsLast drain done c₀ n xs × Leads (Fresh c₀) (Left done c' b') l₀ l₂ xs → ys ≡ Pause ∷ [] → AreTurns drain (Fresh c₀) (suc n) (ys ++ xs) × Leads (Fresh c₀) (At c' b') l₀ l₂ (ys ++ xs)
     paused xs ys ((last, earlier, is, made, rested, turns), leads) one =
         let rests : Leads (Fresh c₀) (Left done c' b') l₀ l₂ (last ++ earlier) = subst (Leads (Fresh c₀) (Left done c' b') l₀ l₂) is leads in (
-          (done, last, earlier, (λ i. one i ++ is i), made, (λ ended goal p sound fits allowed carried. (rests goal p sound fits allowed carried).fits.rests ended), rested, turns),
+          (done, last, earlier, (λ i. one i ++ is i), made, (λ ended goal p sound fits allowed carried. ((rests goal p sound fits allowed).1 carried).fits.rests ended), rested, turns),
           subst (λ zs. Leads (Fresh c₀) (At c' b') l₀ l₂ (zs ++ xs)) (sym one)
               (Leads-then (Fresh c₀) (Left done c' b') (At c' b') l₀ l₂ l₂ xs (Pause ∷ []) leads
               (Leads-weaken (Left done c' b') (Left done c' b') (Left done c' b') (At c' b') l₂ l₂ (Pause ∷ []) (λ goal p fits. fits) (λ goal p fits. fits.at)
-              (Leads-still (Left done c' b') l₂ Pause (λ p. refl) (λ goal so_far. refl)))),
+              (Leads-still (Left done c' b') l₂ Pause (λ p. refl) (λ goal so_far. refl) (λ goal p. tt)))),
         )
 
 -- what fits a sound trace counts the children that are not reaped
@@ -182,14 +182,18 @@ pub turns_left : (t₀ t₁ : Option (List HostCall)) (l₀ l₁ : LogState) (Sh
 turns_left t₀ t₁ l₀ l₁ Shape c₀ c b makes = Makes-map t₀ t₁ l₀ l₁ Shape Shape (Fresh c₀) (At c b) (Fresh c₀) (LeftBy c) makes (λ calls shape leads. (shape, counts calls leads))
   where
     counts : (calls : List HostCall) → Leads (Fresh c₀) (At c b) l₀ l₁ calls → Leads (Fresh c₀) (LeftBy c) l₀ l₁ calls
-    counts calls leads goal p sound fits allowed carried =
-        let went : Went (At c b) l₀ l₁ goal p calls = leads goal p sound fits allowed carried in
-        record {
-          in_place = went.in_place;
-          sound = went.sound;
-          fits = (went.fits.0, unreaped_recorded goal (point_after calls p).past c went.sound went.fits.0.fits);
-          log = went.log;
-        }
+    counts calls leads goal p sound fits allowed =
+        let led = leads goal p sound fits allowed in (
+          led.0,
+          λ carried.
+              let went : Went (At c b) l₀ l₁ goal p calls = led.1 carried in
+              record {
+                in_place = went.in_place;
+                sound = went.sound;
+                fits = (went.fits.0, unreaped_recorded goal (point_after calls p).past c went.sound went.fits.0.fits);
+                log = went.log;
+              },
+        )
 
 -- the requests of all bytes
 pub turns_bring : (t₀ t₁ : Option (List HostCall)) (l₀ l₁ : LogState) (Shape : List HostCall → Type 0) (f₀ f₁ : Goal → Point → Type 0) → Makes t₀ t₁ l₀ l₁ Shape f₀ f₁ → Since t₀ t₁ (λ calls. (p : Point) → p.over ≡ [] → Brings [] calls p)

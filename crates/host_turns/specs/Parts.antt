@@ -29,7 +29,7 @@ use Rattle.child_host.specs.Calls.{Adds, HostCall, TextRead}
 use Rattle.host_trace.specs.declared.TheConstants.{STEP_LIMIT}
 use Rattle.host_trace.specs.Point.{Point, is_last, is_outcome, is_said, may_announce}
 use Rattle.host_trace.specs.Record.{Since}
-use Rattle.host_trace.specs.Leads.{At, Leads, On, Tracks, comes_back}
+use Rattle.host_trace.specs.Leads.{At, Leads, Tracks, comes_back}
 use Rattle.host_trace.specs.Turns.{AreSteps, bytes_in, is_room, is_step}
 
 -- where the host tells its calls: those made are of this shape, and what fits before them fits behind them
@@ -75,8 +75,8 @@ pub record AreAllSteps (done : Bool) (calls : List HostCall) : Type 0 where
 -- What came of a text that was carried: init keeps what it kept, and the text was taken over or refused so; where the
 -- text is that of its state, which keeps the rules, and came back as a text that is carried may.
 abbrev pub ComesTo : HandOver → List ℕ → TextRead → CoreState → CoreState → Type 0
-ComesTo how text back old new = IsFit old → IsTextOf text (state_of old) → IsTrue (comes_back text back)
-    → (new ≡ old) × IsTrue (is_outcome how text back)
+ComesTo how text back old new = IsFit old → IsTextOf text (state_of old)
+    → IsTrue (comes_back old.generation text back) → (new ≡ old) × IsTrue (is_outcome how text back)
 
 -- a refusal is announced
 abbrev pub Saying : HandOver → Option (List HostCall) → Option (List HostCall) → Type 0
@@ -92,12 +92,12 @@ is_idle _ = false
 abbrev pub AndRests : Bool → (Goal → Point → Type 0) → Goal → Point → Type 0
 AndRests done fit goal p = fit goal p × (IsTrue done → first (due goal p.past) ≡ step.Idle)
 
--- the step is a happening that is said, whatever came before
+-- the step is a happening that is said, where it is the first due
 pub record Says (made : Step) (happening : Event) : Type 0 where
   pub step : (past : List Event) → with_step made past ≡ happening ∷ past
   pub said : is_said happening ≡ true
-  pub place : (goal : Goal) (earlier : List HostCall) (past : List Event) →
-      may_announce goal happening earlier past ≡ true
+  pub place : (goal : Goal) (earlier : List HostCall) (past : List Event) → first (due goal past) ≡ made
+      → may_announce goal happening earlier past ≡ true
 
 -- What is so behind a turn: init's core tracks the trace, and the reader of requests stands where it does; the children
 -- that the host has not reaped are those of the records, corrected by the answers under way; and where the turn was
@@ -110,11 +110,11 @@ pub record Left (done : Bool) (core : CoreState) (blocks : Begun) (goal : Goal) 
 -- the same behind all turns, wherever the reader of requests stands
 abbrev pub LeftBy : CoreState → Goal → Point → Type 0
 LeftBy core goal p =
-    On (Tracks core) goal p × ((id : List ℕ) (n : ℕ) → is_unreaped id n p.past ≡ is_recorded id n core p.past)
+    Tracks core goal p × ((id : List ℕ) (n : ℕ) → is_unreaped id n p.past ≡ is_recorded id n core p.past)
 
 -- what tracks the trace, where no bytes of a block have come
 abbrev pub Fresh : CoreState → Goal → Point → Type 0
-Fresh core goal p = On (Tracks core) goal p × (p.over ≡ [])
+Fresh core goal p = Tracks core goal p × (p.over ≡ [])
 
 -- the step of a start is of an id that the table has
 abbrev pub is_listed : List Entry → Step → Bool

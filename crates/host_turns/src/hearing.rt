@@ -4,7 +4,7 @@ ghost use Rattle.init_trace.specs.declared.happenings.Happening.TheVariants as h
 ghost use Rattle.child_host.specs.declared.calls.Call.TheVariants.{TakeBytes};
 ghost use Rattle.host_trace.specs.declared.TheConstants.{BYTE_LIMIT, LATE_LIMIT, PIECE};
 ghost use Rattle.host_trace.specs.Point.{come, is_last};
-ghost use Rattle.host_trace.specs.Leads.{At, Counted, Hears, Leads, On, Tracks};
+ghost use Rattle.host_trace.specs.Leads.{At, Counted, Hears, Leads, Tracks};
 ghost use Rattle.host_trace.specs.Turns.{are_lates, are_takes, is_room};
 ghost use Rattle.host_turns.specs.Parts.{IsLate, IsReading, IsTake, Makes};
 
@@ -26,7 +26,7 @@ pub(crate) fn hear_clock<A: Allocator, H: Host, L: Log>(
 )
     ensures { Makes (H.told host.old) (H.told host.new) (L.state log.old)
         (L.state log.new) IsReading
-        (On (Tracks core.old)) (λ goal p. On (Tracks core.new) goal p × Counted 0 goal p) }
+        (Tracks core.old) (λ goal p. Tracks core.new goal p × Counted 0 goal p) }
 {
     if let Ok(reading) = host.clock() {
         core.clock(reading);
@@ -183,8 +183,8 @@ fn hear_late<A: Allocator, H: Host, L: Log>(
     requires { asked < LATE_LIMIT }
     ensures more { result ≡ false → asked + 1 < LATE_LIMIT }
     ensures lates { Makes (H.told host.old) (H.told host.new) (L.state log.old) (L.state log.new)
-        (IsLate asked result) (λ goal p. On (Tracks core.old) goal p × Counted asked goal p)
-        (λ goal p. On (Tracks core.new) goal p × Counted (asked + 1) goal p) }
+        (IsLate asked result) (λ goal p. Tracks core.old goal p × Counted asked goal p)
+        (λ goal p. Tracks core.new goal p × Counted (asked + 1) goal p) }
 {
     let late = host.late();
     let last = is_last(&late, asked);
@@ -203,7 +203,7 @@ pub(crate) fn hear_lates<A: Allocator, H: Host, L: Log>(
 )
     ensures { Makes (H.told host.old) (H.told host.new) (L.state log.old) (L.state log.new)
         (λ calls. are_lates calls ≡ true)
-        (λ goal p. On (Tracks core.old) goal p × Counted 0 goal p) (On (Tracks core.new)) }
+        (λ goal p. Tracks core.old goal p × Counted 0 goal p) (Tracks core.new) }
 {
     let mut asked = 0;
     while !hear_late(core, host, log, asked) {

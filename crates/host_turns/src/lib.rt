@@ -7,10 +7,14 @@
 
 mod answering;
 mod hearing;
+mod laws;
+mod opening;
 mod ordering;
 mod reexecuting;
 mod rereading;
 mod serving;
 mod stepping;
 
+pub use laws::law_of_openings;
+pub use opening::{Opening, serve_from_opening};
 pub use serving::{Served, serve, turn};

@@ -1,7 +1,7 @@
 ghost use Rattle.std.specs.Prelude.{◌≡◌, true, is_some};
 ghost use Rattle.inittab_text.specs.Tables.{entry_of};
 ghost use Rattle.init_trace.specs.declared.steps.Step.TheVariants as step;
-ghost use Rattle.host_trace.specs.Leads.{Gave, On, Tracks};
+ghost use Rattle.host_trace.specs.Leads.{Gave, Tracks};
 ghost use Rattle.host_trace.specs.Point.{order_for};
 ghost use Rattle.host_turns.specs.Parts.{IsStep, Makes, is_listed};
 
@@ -32,7 +32,7 @@ fn start<A: Allocator + Copy, H: Host, L: Log>(
 )
     requires { is_some (entry_of id core.old.table) ≡ true }
     ensures { Makes (H.told host.old) (H.told host.new) (L.state log.old) (L.state log.new)
-        IsStep (On (Gave (Tracks core.old) (step.Order id Ask.Start))) (On (Tracks core.new)) }
+        IsStep (Gave (Tracks core.old) (step.Order id Ask.Start)) (Tracks core.new) }
 {
     let Some(entry) = core.table().get(&id) else {
         unreachable!()
@@ -44,7 +44,7 @@ fn start<A: Allocator + Copy, H: Host, L: Log>(
 
 fn look<A: Allocator, H: Host, L: Log>(core: &mut Core<A>, host: &mut H, log: &mut L, id: Id)
     ensures { Makes (H.told host.old) (H.told host.new) (L.state log.old) (L.state log.new)
-        IsStep (On (Gave (Tracks core.old) (step.Order id Ask.Look))) (On (Tracks core.new)) }
+        IsStep (Gave (Tracks core.old) (step.Order id Ask.Look)) (Tracks core.new) }
 {
     note(log, Happening::Asked(id, Ask::Look));
     let reply = host.look(id);
@@ -59,8 +59,8 @@ fn signal<A: Allocator, H: Host, L: Log>(
     sent: Sig,
 )
     ensures { Makes (H.told host.old) (H.told host.new) (L.state log.old) (L.state log.new)
-        IsStep (On (Gave (Tracks core.old) (step.Order id (order_for sent))))
-        (On (Tracks core.new)) }
+        IsStep (Gave (Tracks core.old) (step.Order id (order_for sent)))
+        (Tracks core.new) }
 {
     note(log, Happening::Asked(id, order_for(&sent)));
     let reply = host.signal(id, sent);
@@ -78,7 +78,7 @@ pub(crate) fn order<A: Allocator + Copy, H: Host, L: Log>(
 )
     requires { is_listed core.old.table (step.Order id ask.now) ≡ true }
     ensures { Makes (H.told host.old) (H.told host.new) (L.state log.old) (L.state log.new)
-        IsStep (On (Gave (Tracks core.old) (step.Order id ask.now))) (On (Tracks core.new)) }
+        IsStep (Gave (Tracks core.old) (step.Order id ask.now)) (Tracks core.new) }
 {
     match *ask {
         Ask::Start => start(alloc, core, host, log, id),

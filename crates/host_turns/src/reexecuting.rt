@@ -10,7 +10,7 @@ ghost use Rattle.state_text.specs.Refused.{IsOther, Says};
 ghost use Rattle.reexec_state.specs.Taken.{NotTaken};
 ghost use Rattle.child_host.specs.Calls.{Adds, TextRead};
 ghost use Rattle.child_host.specs.declared.calls.Call.TheVariants.{Carry};
-ghost use Rattle.host_trace.specs.Leads.{Gave, Logs, On, Tracks};
+ghost use Rattle.host_trace.specs.Leads.{Gave, Logs, Tracks};
 ghost use Rattle.host_trace.specs.Point.{is_outcome};
 ghost use Rattle.host_turns.specs.Parts.{ComesTo, IsStep, Makes, Saying};
 
@@ -102,7 +102,7 @@ fn say<H: Host, L: Log>(host: &mut H, log: &mut L, how: Handed)
 /// No text was made: init goes on as it is.
 fn not_handed<A: Allocator, H: Host, L: Log>(core: &mut Core<A>, host: &mut H, log: &mut L)
     ensures { Makes (H.told host.old) (H.told host.new) (L.state log.old) (L.state log.new)
-        IsStep (On (Gave (Tracks core.old) step.Reexec)) (On (Tracks core.new)) }
+        IsStep (Gave (Tracks core.old) step.Reexec) (Tracks core.new) }
 {
     core.not_handed();
     say(host, log, Handed::Failed);
@@ -116,7 +116,7 @@ pub(crate) fn reexec<A: Allocator + Copy, H: Host, L: Log>(
     log: &mut L,
 )
     ensures { Makes (H.told host.old) (H.told host.new) (L.state log.old) (L.state log.new)
-        IsStep (On (Gave (Tracks core.old) step.Reexec)) (On (Tracks core.new)) }
+        IsStep (Gave (Tracks core.old) step.Reexec) (Tracks core.new) }
 {
     let Ok(text) = hand_over(alloc, core) else {
         return not_handed(core, host, log);

@@ -8,7 +8,7 @@ ghost use Rattle.child_table.specs.Lists.{is_quiet};
 ghost use Rattle.child_host.specs.declared.calls.Call.TheVariants.{ReadTable};
 ghost use Rattle.child_host.specs.Calls.{Adds, TextRead};
 ghost use Rattle.core_state.specs.Fit.{Fits, OnEachTrace};
-ghost use Rattle.host_trace.specs.Leads.{Gave, Lasts, Logs, On, Tracks};
+ghost use Rattle.host_trace.specs.Leads.{Gave, Lasts, Logs, Tracks};
 ghost use Rattle.host_turns.specs.Parts.{IsStep, Makes};
 
 use crate::answering::write;
@@ -60,7 +60,7 @@ fn use_table<A: Allocator + Copy, H: Host, L: Log>(
 ) -> bool
     ensures used { result ≡ true → Makes (H.told host.old) (H.told host.new)
         (L.state log.old) (L.state log.new)
-        IsStep (On (Gave (Tracks core.old) step.Reread)) (On (Tracks core.new)) }
+        IsStep (Gave (Tracks core.old) step.Reread) (Tracks core.new) }
     ensures read { result ≡ false → (text : TextRead)
         × Adds (H.told host.old) (H.told host.new) (ReadTable text) }
     ensures core { result ≡ false → core.new ≡ core.old }
@@ -80,7 +80,7 @@ pub(crate) fn reread<A: Allocator + Copy, H: Host, L: Log>(
     log: &mut L,
 )
     ensures { Makes (H.told host.old) (H.told host.new) (L.state log.old) (L.state log.new)
-        IsStep (On (Gave (Tracks core.old) step.Reread)) (On (Tracks core.new)) }
+        IsStep (Gave (Tracks core.old) step.Reread) (Tracks core.new) }
 {
     if use_table(alloc, core, host, log) {
         return;

@@ -1,7 +1,7 @@
 ghost use Rattle.std.specs.Prelude.{◌≡◌, ◌≤◌, true, false};
 ghost use Rattle.init_trace.specs.declared.steps.Step.{Step};
 ghost use Rattle.core_state.specs.State.{CoreState};
-ghost use Rattle.host_trace.specs.Leads.{Gave, On, Tracks};
+ghost use Rattle.host_trace.specs.Leads.{Gave, Tracks};
 ghost use Rattle.host_turns.specs.Parts.{AndRests, AreAllSteps, IsStep, IsStepUnless, Makes, Says, is_idle, is_listed};
 
 use crate::answering::write;
@@ -25,7 +25,7 @@ fn is_idle(step: &Step) -> bool
 fn say<H: Host, L: Log>(host: &mut H, log: &mut L, happening: Happening)
     ensures { (core : CoreState) (made : Step) → Says made happening
         → Makes (H.told host.old) (H.told host.new) (L.state log.old) (L.state log.new)
-        IsStep (On (Gave (Tracks core) made)) (On (Tracks core)) }
+        IsStep (Gave (Tracks core) made) (Tracks core) }
 {
     write(log, &happening);
     host.announce(&happening);
@@ -41,8 +41,8 @@ fn carry_out<A: Allocator + Copy, H: Host, L: Log>(
 )
     requires { is_listed core.old.table step.now ≡ true }
     ensures { Makes (H.told host.old) (H.told host.new) (L.state log.old) (L.state log.new)
-        (IsStepUnless (is_idle step.now)) (On (Gave (Tracks core.old) step.now))
-        (On (Tracks core.new)) }
+        (IsStepUnless (is_idle step.now)) (Gave (Tracks core.old) step.now)
+        (Tracks core.new) }
 {
     match *step {
         Step::Enter(stage, grace) => say(host, log, Happening::Enter(stage, grace)),
@@ -65,7 +65,7 @@ fn take_step<A: Allocator + Copy, H: Host, L: Log>(
     log: &mut L,
 ) -> bool
     ensures { Makes (H.told host.old) (H.told host.new) (L.state log.old) (L.state log.new)
-        (IsStepUnless result) (On (Tracks core.old)) (AndRests result (On (Tracks core.new))) }
+        (IsStepUnless result) (Tracks core.old) (AndRests result (Tracks core.new)) }
 {
     let step = core.next();
     carry_out(alloc, core, host, log, &step);
@@ -80,7 +80,7 @@ pub(crate) fn take_steps<A: Allocator + Copy, H: Host, L: Log>(
     log: &mut L,
 ) -> bool
     ensures { Makes (H.told host.old) (H.told host.new) (L.state log.old) (L.state log.new)
-        (AreAllSteps result) (On (Tracks core.old)) (AndRests result (On (Tracks core.new))) }
+        (AreAllSteps result) (Tracks core.old) (AndRests result (Tracks core.new)) }
 {
     for made in 0..STEP_LIMIT {
         if take_step(alloc, core, host, log) {

@@ -26,7 +26,7 @@ use Rattle.child_table.specs.Lists.{are_distinct, can_ask, has_slot, is_quiet, o
 use Rattle.init_words.specs.declared.orders.Answer.{Answer}
 use Rattle.init_words.specs.declared.refusals.Refusal.{Refusal}
 use Rattle.init_words.specs.declared.refusals.Refusal.TheVariants.{NotQuiet}
-use Rattle.core_state.specs.Rules.{KeepsRules}
+use Rattle.core_state.specs.Rules.{IsFit}
 use Rattle.core_state.proofs.RulesKept.{adopt_keeps, told_keeps}
 use Rattle.init_trace.specs.declared.happenings.Happening.TheVariants.{NewTable}
 use Rattle.inittab_text.specs.Tables.{has_id, is_distinct}
@@ -73,14 +73,14 @@ pub held_in : (c v : CoreState) → v ≡ c → IsInOrder v.table v.slots → (i
 held_in c v is order id decided = subst (λ (x : CoreState). has_slot id x.slots ≡ true) (sym is) (decide_holds c (subst (λ (x : CoreState). IsInOrder x.table x.slots) is order) id decided)
 
 -- an answer, taken or refused, leaves the rules kept, and so does a table that is adopted
-pub told_kept : (c new : CoreState) → KeepsRules c → (id : List ℕ) (answer : Answer) (result : Result (Unit {0}) Refusal) → result ≡ refusal_of (order_in id c.slots) answer → OnOk result (new ≡ core.after_told id answer c) → OnErr result (new ≡ c) → KeepsRules new
+pub told_kept : (c new : CoreState) → IsFit c → (id : List ℕ) (answer : Answer) (result : Result (Unit {0}) Refusal) → result ≡ refusal_of (order_in id c.slots) answer → OnOk result (new ≡ core.after_told id answer c) → OnErr result (new ≡ c) → IsFit new
 told_kept c new keeps id answer (Ok tt) is told same = rw told (told_keeps c keeps id answer (sym is))
 told_kept c new keeps id answer (Err why) is told same = rw same keeps
 
-pub adopt_kept : (result : Result (Unit {0}) Refusal) (table : List Entry) (old new : CoreState) → OnOk result (new ≡ core.after_adopt table old) → OnOk result (is_distinct table ≡ true) → (is_quiet old.slots ≡ false → result ≡ Err NotQuiet) → OnOk result (KeepsRules old → KeepsRules new)
-adopt_kept (Err why) table old new is distinct busy = tt
-adopt_kept (Ok tt) table old new is distinct busy = λ keeps. rw is (by keeps (is_quiet old.slots) refl)
+pub adopt_kept : (result : Result (Unit {0}) Refusal) (table : List Entry) (old new : CoreState) → OnOk result (new ≡ core.after_adopt table old) → OnOk result (is_distinct table ≡ true) → (is_quiet old.slots ≡ false → result ≡ Err NotQuiet) → OnErr result (new ≡ old) → IsFit old → IsFit new
+adopt_kept (Err why) table old new is distinct busy same fit = rw same fit
+adopt_kept (Ok tt) table old new is distinct busy same fit = rw is (by (is_quiet old.slots) refl)
   where
-    by : KeepsRules old → (b : Bool) → is_quiet old.slots ≡ b → KeepsRules (core.after_adopt table old)
-    by keeps true quiet = adopt_keeps old keeps quiet table distinct
-    by keeps false noisy = let clash : ◌≡◌ {A = Result (Unit {0}) Refusal} (Ok tt) (Err NotQuiet) = busy noisy in absurd (cc)
+    by : (b : Bool) → is_quiet old.slots ≡ b → IsFit (core.after_adopt table old)
+    by true quiet = adopt_keeps old fit quiet table distinct
+    by false noisy = let clash : ◌≡◌ {A = Result (Unit {0}) Refusal} (Ok tt) (Err NotQuiet) = busy noisy in absurd (cc)

@@ -13,12 +13,13 @@ use init_words::{Answer, Ask, GRACE, Id, Level, Memory, Refusal, Stage};
 use initctl_frame::Got;
 use inittab_text::Table;
 use respawn_limit::CLOCK_LIMIT;
-use std::alloc::{Allocator, Global};
+use std::alloc::Allocator;
 use std::marker::Model;
 
-/// Init's decisions: its table, one record an id, the stage, the goal, the time, and what was asked of it.
+/// What a core keeps, and what each of its calls makes of that. Each value may stand here; that the rules of init are
+/// kept is said of a `Core` alone.
 #[derive(Drop)]
-pub struct Core<A: Allocator = Global> {
+pub(crate) struct BareCore<A: Allocator> {
     table: Table<A>,
     slots: Slots<A>,
     stage: Option<Stage>,
@@ -38,7 +39,7 @@ pub struct Core<A: Allocator = Global> {
     starts_from: usize,
 }
 
-impl<A: Allocator> Model for Core<A> {
+impl<A: Allocator> Model for BareCore<A> {
     ghost use Rattle.std.specs.Prelude.{◌≡◌, ◌≤◌, true};
     ghost use Rattle.respawn_limit.specs.declared.TheConstants.{CLOCK_LIMIT};
     ghost use Rattle.child_table.specs.Times.{are_timely};
@@ -69,7 +70,7 @@ impl<A: Allocator> Model for Core<A> {
         × (are_passed c.stage c.starts_from c.table c.slots ≡ true) };
 }
 
-impl<A: Allocator + Copy> Core<A> {
+impl<A: Allocator + Copy> BareCore<A> {
     ghost use Rattle.std.specs.Prelude.{[], ◌∷◌, IfErr, Err, true, false, if◌then◌else◌};
     ghost use Rattle.init_words.specs.declared.refusals.Refusal.TheVariants as refusal;
     ghost use Rattle.init_trace.specs.declared.happenings.Happening.TheVariants.{NewTable};
@@ -78,28 +79,19 @@ impl<A: Allocator + Copy> Core<A> {
     ghost use Rattle.core_state.specs.State.{opening_goal, opening_state};
     ghost use Rattle.core_state.specs.Steps.{after_adopt};
     ghost use Rattle.core_state.specs.Fit.{Fits, OnEachTrace};
-    ghost use Rattle.core_state.specs.Rules.{KeepsRules};
 
-    /// The core before its first stage, with the goal of the level that is given, else of the table's default level,
-    /// else of S.
-    pub fn new(alloc: A, table: Table<A>, level: Option<Level>) -> Result<Core<A>, Memory>
-        ensures state { IfOk result (λ core.
-            core ≡ opening_state table (opening_goal level table)) }
-        ensures fits { IfOk result (λ core.
-            Fits core (opening_goal level table) (NewTable table ∷ [])) }
-        ensures kept { IfOk result (λ core. KeepsRules core) }
-    {
-        Core::new_by_state(alloc, table, level)
-    }
-
-    fn new_by_state(alloc: A, table: Table<A>, level: Option<Level>) -> Result<Core<A>, Memory>
+    pub(crate) fn new_by_state(
+        alloc: A,
+        table: Table<A>,
+        level: Option<Level>,
+    ) -> Result<BareCore<A>, Memory>
         ensures state { IfOk result (λ core.
             core ≡ opening_state table (opening_goal level table)) }
         ensures distinct { is_distinct table ≡ true }
     {
         let level = level.or(table.default_level()).unwrap_or(Level::S);
         let slots = Slots::new(alloc, &table)?;
-        Ok(Core {
+        Ok(BareCore {
             table,
             slots,
             stage: None,
@@ -121,23 +113,7 @@ impl<A: Allocator + Copy> Core<A> {
         })
     }
 
-    /// Another table is in force (telinit(8), `q`): its entries have the records, and children of ids that left it are
-    /// to be stopped. Refused while a start or a signal is not answered (`NotQuiet`), before any memory is taken, and
-    /// for want of memory; a refusal changes nothing.
-    pub fn adopt(&mut self, table: Table<A>) -> Result<(), Refusal>
-        ensures adopted { OnOk result (self.new ≡ after_adopt table self.old) }
-        ensures busy { is_quiet self.old.slots ≡ false → result ≡ Err refusal.NotQuiet }
-        ensures refused { IfErr result (λ why.
-            why ≡ (if is_quiet self.old.slots then refusal.Memory else refusal.NotQuiet)) }
-        ensures unchanged { OnErr result (self.new ≡ self.old) }
-        ensures fits { OnOk result (OnEachTrace self.old (λ goal past.
-            Fits self.new goal (NewTable table ∷ past))) }
-        ensures kept { OnOk result (KeepsRules self.old → KeepsRules self.new) }
-    {
-        self.adopt_by_state(table)
-    }
-
-    fn adopt_by_state(&mut self, table: Table<A>) -> Result<(), Refusal>
+    pub(crate) fn adopt_by_state(&mut self, table: Table<A>) -> Result<(), Refusal>
         ensures distinct { OnOk result (is_distinct table ≡ true) }
         ensures adopted { OnOk result (self.new ≡ after_adopt table self.old) }
         ensures busy { is_quiet self.old.slots ≡ false → result ≡ Err refusal.NotQuiet }
@@ -159,7 +135,7 @@ impl<A: Allocator + Copy> Core<A> {
     }
 }
 
-impl<A: Allocator> Core<A> {
+impl<A: Allocator> BareCore<A> {
     ghost use Rattle.std.specs.Prelude.{◌≤◌, ◌^◌, ◌+◌, IsTrue, IsOk, List, ◌∷◌, ◌<◌, Some, true, false, ℕ};
     ghost use Rattle.init_words.specs.declared.stages.Stage.{Stage};
     ghost use Rattle.init_trace.specs.declared.happenings.Happening.TheVariants as happening;
@@ -168,13 +144,12 @@ impl<A: Allocator> Core<A> {
     ghost use Rattle.init_trace.specs.Run.{is_rest};
     ghost use Rattle.child_table.specs.Order.{IsInOrder};
     ghost use Rattle.child_table.specs.Lists.{are_distinct, can_ask, order_in, refusal_of};
-    ghost use Rattle.core_state.specs.Decide.{decide, wished_step, wish_step, stands, stop_among, calm_step, work_step, is_drained};
+    ghost use Rattle.core_state.specs.Decide.{decide, first_step, or_idle, wished_step, wish_step, stands, stop_among, calm_step, work_step, is_drained};
     ghost use Rattle.core_state.specs.Decide as core;
     ghost use Rattle.core_state.specs.Steps as steps;
     ghost use Rattle.init_trace.specs.declared.happenings.Handed.{Handed};
     ghost use Rattle.core_state.specs.Steps.{after_step, after_told, after_round, after_clock, after_got, after_not_read, after_handed, after_handed_on};
     ghost use Rattle.core_state.specs.Fit.{Fits, OnEachTrace, with_step};
-    ghost use Rattle.core_state.specs.Rules.{KeepsRules};
     ghost use Rattle.core_state.specs.Work.{work_left};
     ghost use Rattle.core_state.specs.Parts.{heads_of};
     ghost use Rattle.core_state.specs.Rebuilding.{core_with};
@@ -182,13 +157,13 @@ impl<A: Allocator> Core<A> {
     ghost use Rattle.respawn_limit.specs.declared.TheConstants.{CLOCK_LIMIT};
 
     /// The core that keeps these, which stand in record order, and no time later than now.
-    pub(crate) fn of(heads: Heads, table: Table<A>, slots: Slots<A>) -> Core<A>
+    pub(crate) fn of(heads: Heads, table: Table<A>, slots: Slots<A>) -> BareCore<A>
         requires clock { heads.time ≤ CLOCK_LIMIT }
         requires timely { are_timely heads.time slots ≡ true }
         requires order { IsInOrder table slots }
         ensures { result ≡ core_with heads table slots }
     {
-        Core {
+        BareCore {
             table,
             slots,
             stage: heads.stage,
@@ -208,7 +183,7 @@ impl<A: Allocator> Core<A> {
     }
 
     /// What it keeps, but for its table and its records.
-    pub fn heads(&self) -> Heads
+    pub(crate) fn heads(&self) -> Heads
         ensures { result ≡ heads_of self.now }
     {
         Heads {
@@ -227,42 +202,42 @@ impl<A: Allocator> Core<A> {
     }
 
     /// The stage in force.
-    pub fn stage(&self) -> Option<Stage>
+    pub(crate) fn stage(&self) -> Option<Stage>
         ensures { result ≡ self.now.stage }
     {
         self.stage
     }
 
     /// The time, in seconds: the greatest reading so far.
-    pub fn time(&self) -> u64
+    pub(crate) fn time(&self) -> u64
         ensures { result ≡ self.now.time }
     {
         self.time
     }
 
     /// The table in force.
-    pub fn table(&self) -> &Table<A>
+    pub(crate) fn table(&self) -> &Table<A>
         ensures { result.now ≡ self.now.table }
     {
         &self.table
     }
 
     /// The records, in record order.
-    pub fn slots(&self) -> &Slots<A>
+    pub(crate) fn slots(&self) -> &Slots<A>
         ensures { result.now ≡ self.now.slots }
     {
         &self.slots
     }
 
     /// The goal: the level to go to, and the seconds between the two signals.
-    pub fn goal(&self) -> Goal
+    pub(crate) fn goal(&self) -> Goal
         ensures { result ≡ self.now.goal }
     {
         self.goal
     }
 
     /// How often init was executed anew since its opening.
-    pub fn generation(&self) -> u64
+    pub(crate) fn generation(&self) -> u64
         ensures { result ≡ self.now.generation }
     {
         self.generation
@@ -270,7 +245,7 @@ impl<A: Allocator> Core<A> {
 
     /// Nothing is left to do and nothing runs: a run level is announced as settled, no record has a child or an order,
     /// no wish stands, and no entry is held.
-    pub fn drained(&self) -> bool
+    pub(crate) fn drained(&self) -> bool
         ensures { result ≡ is_drained self.now }
     {
         match self.stage {
@@ -405,6 +380,16 @@ impl<A: Allocator> Core<A> {
         None
     }
 
+    /// Before the first stage: Sysinit, where no start and no signal is open.
+    fn first_step(&self) -> Step
+        ensures { result ≡ or_idle (first_step self.now) }
+    {
+        if !self.slots.quiet() {
+            return Step::Idle;
+        }
+        Step::Enter(Stage::Sysinit, self.goal.grace)
+    }
+
     fn due_step(&self) -> Step
         ensures step { result ≡ decide self.now }
         ensures distinct { are_distinct self.now.slots ≡ true }
@@ -412,7 +397,7 @@ impl<A: Allocator> Core<A> {
     {
         let slots = self.slots.as_slice();
         let Some(stage) = self.stage else {
-            return Step::Enter(Stage::Sysinit, self.goal.grace);
+            return self.first_step();
         };
         if let Some(step) = self.wish_step(stage) {
             return step;
@@ -486,7 +471,7 @@ impl<A: Allocator> Core<A> {
         }
     }
 
-    fn next_by_state(&mut self) -> Step
+    pub(crate) fn next_by_state(&mut self) -> Step
         ensures step { result ≡ decide self.old }
         ensures state { self.new ≡ after_step result self.old }
         ensures falls { is_rest result ≡ false → work_left self.new < work_left self.old }
@@ -497,41 +482,7 @@ impl<A: Allocator> Core<A> {
         step
     }
 
-    /// What init does next, which counts as done from here on: the first step that is due, Idle where none is. A step
-    /// that reads inittab or executes init anew stays due until it is answered, by `adopt` or `not_read`, and by
-    /// `not_handed`. It takes no memory.
-    ///
-    /// Of every goal and every sound trace that the core fits: it gives the first due step, and fits the trace with
-    /// that step.
-    pub fn next(&mut self) -> Step
-        ensures step { result ≡ decide self.old }
-        ensures state { self.new ≡ after_step result self.old }
-        ensures due { OnEachTrace self.old (λ goal past. result ≡ first (due goal past)) }
-        ensures fits { OnEachTrace self.old (λ goal past.
-            Fits self.new goal (with_step result past)) }
-        // its own steps end: each leaves less to do
-        ensures falls { is_rest result ≡ false → work_left self.new < work_left self.old }
-        ensures kept { KeepsRules self.old → KeepsRules self.new }
-    {
-        self.next_by_state()
-    }
-
-    /// Tells what came of the order that is open for the id: refused where none is open (`NotAsked`), or where it is of
-    /// another kind (`WrongAnswer`); a refusal changes nothing.
-    pub fn answer(&mut self, id: Id, answer: Answer) -> Result<(), Refusal>
-        ensures told { OnOk result (self.new ≡ after_told id answer self.old) }
-        ensures refused { result ≡ refusal_of (order_in id self.old.slots) answer }
-        ensures unchanged { OnErr result (self.new ≡ self.old) }
-        ensures taken { OnEachTrace self.old (λ goal past.
-            answered_of id past ≡ Some answer → IsOk result) }
-        ensures fits { OnEachTrace self.old (λ goal past.
-            answered_of id past ≡ Some answer → Fits self.new goal (happening.Told id ∷ past)) }
-        ensures kept { KeepsRules self.old → KeepsRules self.new }
-    {
-        self.answer_by_state(id, answer)
-    }
-
-    fn answer_by_state(&mut self, id: Id, answer: Answer) -> Result<(), Refusal>
+    pub(crate) fn answer_by_state(&mut self, id: Id, answer: Answer) -> Result<(), Refusal>
         ensures told { OnOk result (self.new ≡ after_told id answer self.old) }
         ensures refused { result ≡ refusal_of (order_in id self.old.slots) answer }
         ensures unchanged { OnErr result (self.new ≡ self.old) }
@@ -545,17 +496,7 @@ impl<A: Allocator> Core<A> {
         Ok(())
     }
 
-    /// A request was heard (telinit(8), initreq.h). Its seconds are at most 3,600.
-    pub fn got(&mut self, request: Got)
-        ensures state { self.new ≡ after_got request self.old }
-        ensures fits { OnEachTrace self.old (λ goal past.
-            Fits self.new goal (happening.Got request ∷ past)) }
-        ensures kept { KeepsRules self.old → KeepsRules self.new }
-    {
-        self.got_by_state(request);
-    }
-
-    fn got_by_state(&mut self, request: Got)
+    pub(crate) fn got_by_state(&mut self, request: Got)
         ensures { self.new ≡ after_got request self.old }
     {
         match request {
@@ -586,51 +527,19 @@ impl<A: Allocator> Core<A> {
         }
     }
 
-    /// Inittab could not be read: the table in force stays.
-    pub fn not_read(&mut self)
-        ensures state { self.new ≡ after_not_read self.old }
-        ensures fits { OnEachTrace self.old (λ goal past.
-            Fits self.new goal (happening.NotRead ∷ past)) }
-        ensures kept { KeepsRules self.old → KeepsRules self.new }
-    {
-        self.not_read_by_state();
-    }
-
-    fn not_read_by_state(&mut self)
+    pub(crate) fn not_read_by_state(&mut self)
         ensures { self.new ≡ after_not_read self.old }
     {
         self.reread = false;
     }
 
-    /// Init was not executed anew: the wish for it is over, whatever came of the hand-over.
-    pub fn not_handed(&mut self)
-        ensures state { self.new ≡ after_handed self.old }
-        ensures fits { OnEachTrace self.old (λ goal past. (how : Handed)
-            → Fits self.new goal (happening.Handed how ∷ past)) }
-        ensures kept { KeepsRules self.old → KeepsRules self.new }
-    {
-        self.not_handed_by_state();
-    }
-
-    fn not_handed_by_state(&mut self)
+    pub(crate) fn not_handed_by_state(&mut self)
         ensures { self.new ≡ after_handed self.old }
     {
         self.reexec = false;
     }
 
-    /// Its state was handed on to the next init, which is a generation more: the wish for it is over, whatever comes of
-    /// the hand-over.
-    pub fn handed_on(&mut self)
-        requires { self.old.generation + 1 < 2 ^ 64 }
-        ensures state { self.new ≡ after_handed_on self.old }
-        ensures fits { OnEachTrace self.old (λ goal past. (how : Handed)
-            → Fits self.new goal (happening.Handed how ∷ past)) }
-        ensures kept { KeepsRules self.old → KeepsRules self.new }
-    {
-        self.handed_on_by_state();
-    }
-
-    fn handed_on_by_state(&mut self)
+    pub(crate) fn handed_on_by_state(&mut self)
         requires { self.old.generation + 1 < 2 ^ 64 }
         ensures { self.new ≡ after_handed_on self.old }
     {
@@ -638,35 +547,14 @@ impl<A: Allocator> Core<A> {
         self.generation += 1;
     }
 
-    /// A round begins: each child is to be looked at, and a signal that missed one may be sent again.
-    pub fn nudge(&mut self)
-        ensures state { self.new ≡ after_round self.old }
-        ensures fits { OnEachTrace self.old (λ goal past.
-            Fits self.new goal (happening.Nudge ∷ past)) }
-        ensures kept { KeepsRules self.old → KeepsRules self.new }
-    {
-        self.nudge_by_state();
-    }
-
-    fn nudge_by_state(&mut self)
+    pub(crate) fn nudge_by_state(&mut self)
         ensures { self.new ≡ after_round self.old }
     {
         self.slots.nudge();
         self.looks_from = 0;
     }
 
-    /// The clock shows this reading, in seconds. The time is the greatest reading; one above 1,000,000,000,000 counts
-    /// as that.
-    pub fn clock(&mut self, reading: u64)
-        ensures state { self.new ≡ after_clock reading self.old }
-        ensures fits { OnEachTrace self.old (λ goal past.
-            Fits self.new goal (happening.Clock reading ∷ past)) }
-        ensures kept { KeepsRules self.old → KeepsRules self.new }
-    {
-        self.clock_by_state(reading);
-    }
-
-    fn clock_by_state(&mut self, reading: u64)
+    pub(crate) fn clock_by_state(&mut self, reading: u64)
         ensures { self.new ≡ after_clock reading self.old }
     {
         self.time = reading.min(CLOCK_LIMIT).max(self.time);

@@ -4,6 +4,7 @@
 //! `answer`, `got`, `adopt`, `clock` and `nudge` tell the core what came of it, and what came from outside.
 #![tactic(auto)]
 
+mod bare;
 mod calling;
 mod cores;
 mod deciding;
@@ -12,8 +13,7 @@ mod rules;
 mod walking;
 
 pub use child_table::{Living, Slot, Stop};
-pub use core_state::{News, law_of_acts, law_of_records};
+pub use core_state::{News, law_agreement, law_of_acts};
 pub use cores::Core;
 pub use init_trace::{Goal, Step};
 pub use rebuilding::Rebuild;
-pub use trace_laws::law_agreement;

@@ -5,6 +5,7 @@ ghost use Rattle.core_state.specs.Rules.{IsFit};
 ghost use Rattle.core_state.specs.State.{CoreState};
 ghost use Rattle.level_core.specs.declared.rebuilding.Rebuild.TheVariants as rebuild;
 
+use crate::bare::BareCore;
 use crate::cores::Core;
 use crate::rules::{is_kept, never_fall};
 use child_table::{Living, Slot, Slots};
@@ -137,11 +138,19 @@ impl<A: Allocator + Copy> Core<A> {
             table,
             records,
         } = parts;
-        Core::made(alloc, heads, table, &records)
+        let bare = BareCore::made(alloc, heads, table, &records)?;
+        Ok(Core::of(bare))
     }
+}
 
+impl<A: Allocator + Copy> BareCore<A> {
     /// The core that keeps these, if they keep the rules.
-    fn made(alloc: A, heads: Heads, table: Table<A>, records: &[Record]) -> Result<Core<A>, Rebuild>
+    fn made(
+        alloc: A,
+        heads: Heads,
+        table: Table<A>,
+        records: &[Record],
+    ) -> Result<BareCore<A>, Rebuild>
         ensures made { IfOk result (λ core.
             (state_of core ≡ record { heads = heads; table = table; records = records.now })
             × IsFit core) }
@@ -153,6 +162,6 @@ impl<A: Allocator + Copy> Core<A> {
             return Err(Rebuild::Unfit);
         }
         let slots = Slots::rebuilt(alloc, slots)?;
-        Ok(Core::of(heads, table, slots))
+        Ok(BareCore::of(heads, table, slots))
     }
 }

@@ -9,7 +9,7 @@ ghost use Rattle.child_table.specs.Lists.{are_distinct, is_slot_of};
 ghost use Rattle.child_table.specs.Times.{is_stop_timely, is_timely};
 ghost use Rattle.core_state.specs.Decide.{has_excluded};
 ghost use Rattle.core_state.specs.Rules as rules;
-ghost use Rattle.core_state.specs.Rules.{has_cause, may_follow, is_order_allowed, is_started, is_start_allowed, are_starts_fit, is_child_excluded, is_stop_judged, is_callable, may_be_signalled, are_marks_due, is_hold_of, is_limiter_kept, is_other_level, is_goal_reached};
+ghost use Rattle.core_state.specs.Rules.{has_cause, may_follow, is_order_allowed, is_started, is_start_allowed, are_starts_in, is_child_excluded, is_stop_judged, is_callable, may_be_signalled, are_marks_due, is_hold_of, is_limiter_kept, is_other_level, is_goal_reached};
 ghost use Rattle.core_state.specs.Rebuilding.{are_heads_kept, is_slot_kept, are_slots_kept, is_kept};
 
 use crate::deciding::{is_owed, is_starting};
@@ -94,7 +94,7 @@ fn is_start_in_turn(owed: bool, stage: Stage, entry: &Entry, slot: &Slot) -> boo
 
 /// Each open start is allowed, and none stands behind an owed entry.
 fn are_starts_along<A: Allocator>(stage: Stage, table: &Table<A>, slots: &[Slot]) -> bool
-    ensures { result ≡ are_starts_fit (Some stage) table.now slots.now }
+    ensures { result ≡ are_starts_in (Some stage) table.now slots.now }
 {
     let mut owed = false;
     for (place, slot) in slots.iter().enumerate() {
@@ -109,8 +109,8 @@ fn are_starts_along<A: Allocator>(stage: Stage, table: &Table<A>, slots: &[Slot]
     true
 }
 
-fn are_starts_fit<A: Allocator>(stage: Option<Stage>, table: &Table<A>, slots: &[Slot]) -> bool
-    ensures { result ≡ are_starts_fit stage table.now slots.now }
+fn are_starts_in<A: Allocator>(stage: Option<Stage>, table: &Table<A>, slots: &[Slot]) -> bool
+    ensures { result ≡ are_starts_in stage table.now slots.now }
 {
     match stage {
         None => !has_start(slots),
@@ -279,7 +279,7 @@ fn are_slots_kept<A: Allocator>(
     ensures { result ≡ are_slots_kept stage table.now now slots.now }
 {
     are_distinct(slots)
-        && are_starts_fit(stage, table, slots)
+        && are_starts_in(stage, table, slots)
         && (!has_start(slots) || !has_excluded(slots))
         && is_each_kept(stage, table, now, slots)
 }

@@ -183,3 +183,16 @@ fn last_generation(rt: HostRuntime) -> Result<(), Fail> {
     assert!(rt; core.generation() == u64::MAX);
     Ok(())
 }
+
+/// No stage yet, and a SIGTERM open for a child whose entry lives in Sysinit.
+const SIGNALLED: &str =
+    "initd-state 1\ngeneration 1\nclock 7\nstage none 0\ngoal 3 5\nflags 00\nwish 00 - 000 000\ntable 1\ns::sysinit:a\nslot s 700 sysinit term due 0000 - -\nend 10\n";
+
+#[test]
+fn a_signal_open_before_the_first_stage(rt: HostRuntime) -> Result<(), Fail> {
+    let mut core = take_over(rt.alloc(), SIGNALLED.as_bytes(), 1)?;
+    assert!(rt; matches!(core.next(), Step::Idle));
+    let text = hand_over(rt.alloc(), &mut core)?;
+    assert!(rt; refused(rt.alloc(), &text, 2) == None);
+    Ok(())
+}

@@ -4,7 +4,7 @@ ghost use Rattle.init_trace.specs.declared.happenings.Handed.{Handed};
 ghost use Rattle.init_trace.specs.declared.happenings.Happening.TheVariants as happening;
 ghost use Rattle.core_state.specs.Fit.{Fits, OnEachTrace};
 ghost use Rattle.core_state.specs.Parts.{record_of, state_of};
-ghost use Rattle.core_state.specs.Rules.{IsFit, KeepsRules};
+ghost use Rattle.core_state.specs.Rules.{IsFit};
 ghost use Rattle.core_state.specs.Steps.{after_handed_on};
 ghost use Rattle.state_text.specs.declared.over.Over.TheVariants as over;
 ghost use Rattle.state_text.specs.Lines.{state_text};
@@ -82,11 +82,11 @@ pub fn hand_over<A: Allocator + Copy, B: Allocator>(
     ensures unchanged { OnErr result (core.new ≡ core.old) }
     ensures fits { OnOk result (OnEachTrace core.old (λ goal past. (how : Handed)
         → Fits core.new goal (happening.Handed how ∷ past))) }
-    ensures kept { OnOk result (KeepsRules core.old → KeepsRules core.new) }
     // What was handed on can be taken over.
-    ensures said { IfOk result (λ text. KeepsRules core.old → has_short_seconds core.old ≡ true
+    ensures said { IfOk result (λ text. has_short_seconds core.old ≡ true
         → Says text.items (state_of core.new) × IsFit core.new) }
 {
+    core.law_of_rules();
     let heads = next_heads(core.heads())?;
     let _ = core.table().len();
     law_of_slots(core.slots().as_slice());

@@ -11,7 +11,7 @@ use Rattle.child_table.specs.declared.children.Stop.TheVariants.{Due, Termed, Ki
 use Rattle.child_table.specs.State.{SlotState, child_number, is_limited_slot}
 use Rattle.child_table.specs.Times.{is_timely, is_stop_timely}
 use Rattle.core_state.specs.Parts.{record_of, state_of}
-use Rattle.core_state.specs.Rules.{KeepsRules, is_hold_of, is_limit_kept, is_limiter_kept, is_unused, never_fall}
+use Rattle.core_state.specs.Rules.{IsFit, is_hold_of, is_limit_kept, is_limiter_kept, is_unused, never_fall}
 use Rattle.core_state.specs.State.{CoreState}
 use Rattle.state_text.specs.Range.{are_starts, has_ranged_ids, has_short_seconds, is_child, is_goal, is_record, is_stage, is_state, is_stop, is_time, passes}
 
@@ -72,7 +72,7 @@ records_ranged now clock (slot ∷ slots) limiters timely ids =
     let own = and_parts (has_ranged_ids slot) (list_all has_ranged_ids slots) ids in
     and_from (is_record (record_of slot)) (list_all is_record (map record_of slots)) (record_ranged now clock slot kept.0 past.0 own.0) (records_ranged now clock slots kept.1 past.1 own.1)
 
-pub state_ranged : (c : CoreState) → KeepsRules c → 1 ≤ c.generation → c.generation < 2 ^ 64 → c.reexec ≡ false → has_short_seconds c ≡ true → is_table c.table ≡ true → list_all has_ranged_ids c.slots ≡ true → is_state (state_of c) ≡ true
+pub state_ranged : (c : CoreState) → IsFit c → 1 ≤ c.generation → c.generation < 2 ^ 64 → c.reexec ≡ false → has_short_seconds c ≡ true → is_table c.table ≡ true → list_all has_ranged_ids c.slots ≡ true → is_state (state_of c) ≡ true
 state_ranged c rules some small reexec seconds table ids =
     let outer = and_parts (is_stage c.stage c.grace && is_goal c.goal) (passes is_goal c.level_wish) seconds in
     let inner = and_parts (is_stage c.stage c.grace) (is_goal c.goal) outer.0 in

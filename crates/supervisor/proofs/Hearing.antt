@@ -118,7 +118,7 @@ pub ready : (goal : Goal) (past : List Event) (happening : Event) (rereads : Boo
 ready goal past (event.NewTable table) rereads core side moment may none =
     let reads = (and_parts (is_reread (first (due goal past))) (is_quiet past && is_distinct table) may).0 in
     ap lists.is_quiet (fit_records core goal past moment.fits) ∙ sym (quiet_same goal past (run_sound goal past moment.runs)) ∙ reread_quiet goal past reads
-ready goal past (event.Handed how) rereads core side moment may none = record { rules = moment.lasts.rules; short = moment.lasts.short; may = sym none }
+ready goal past (event.Handed how) rereads core side moment may none = record { short = moment.lasts.short; may = sym none }
 ready goal past _ rereads core side moment may none = tt
 
 pub sound_then : (goal : Goal) (past : List Event) (happening : Event) (core : CoreState) (side : State) → Moment goal past core side → may_be_said goal happening past ≡ true → is_sound goal (happening ∷ past) ≡ true

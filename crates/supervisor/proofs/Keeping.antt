@@ -21,7 +21,6 @@ use Rattle.init_trace.specs.Range.{is_request}
 use Rattle.init_trace.specs.Wishes.{in_run, level_wish}
 use Rattle.core_state.specs.Decide.{decide}
 use Rattle.core_state.specs.Fit.{Fits, core_read, with_step}
-use Rattle.core_state.specs.Rules.{KeepsRules}
 use Rattle.core_state.specs.State.{CoreState}
 use Rattle.core_state.specs.Steps.{wished, heard_in, after_step, after_adopt, after_clock, after_got, after_not_read, after_round, after_told}
 use Rattle.core_state.proofs.Deciding.{is_read}
@@ -35,9 +34,8 @@ use Rattle.supervisor.specs.Said.{is_said}
 pub kept_is : (core : CoreState) (goal : Goal) (past : List Event) → Fits core goal past → Lasts core goal past → core ≡ kept_at goal past
 kept_is core goal past fits lasts = is_read core goal past fits ∙ (λ i. core_read past (lasts.goal i) (lasts.made i))
 
-lasts_as : (core same : CoreState) (goal : Goal) (past : List Event) → core ≡ same → KeepsRules core → has_short_seconds same ≡ true → same.generation ≡ made_in past → same.goal ≡ kept_goal goal past → Lasts core goal past
-lasts_as core same goal past is rules short made kept = record {
-  rules = rules;
+lasts_as : (core same : CoreState) (goal : Goal) (past : List Event) → core ≡ same → has_short_seconds same ≡ true → same.generation ≡ made_in past → same.goal ≡ kept_goal goal past → Lasts core goal past
+lasts_as core same goal past is short made kept = record {
   short = ap has_short_seconds is ∙ short;
   made = ap (λ (c : CoreState). c.generation) is ∙ made;
   goal = ap (λ (c : CoreState). c.goal) is ∙ kept;
@@ -67,8 +65,8 @@ step_goal Reread core goal past wish kept = kept
 step_goal Reexec core goal past wish kept = kept
 step_goal Idle core goal past wish kept = kept
 
-pub lasts_step : (core new : CoreState) (s : Step) → s ≡ decide core → new ≡ after_step s core → (KeepsRules core → KeepsRules new) → (goal : Goal) (past : List Event) → Fits core goal past → Lasts core goal past → Lasts new goal (with_step s past)
-lasts_step core new s decides is rules goal past fits lasts = lasts_as new (after_step s core) goal (with_step s past) is (rules lasts.rules)
+pub lasts_step : (core new : CoreState) (s : Step) → s ≡ decide core → new ≡ after_step s core → (goal : Goal) (past : List Event) → Fits core goal past → Lasts core goal past → Lasts new goal (with_step s past)
+lasts_step core new s decides is goal past fits lasts = lasts_as new (after_step s core) goal (with_step s past) is
     (subst (λ t. has_short_seconds (after_step t core) ≡ true) (sym decides) (step_lasts core lasts.short))
     (step_made s core past lasts.made)
     (step_goal s core goal past fits.wishes.level lasts.goal)
@@ -124,34 +122,34 @@ got_goal (got.Power kind) core goal past now kept = kept
 got_goal (got.Nothing cause) core goal past now kept = kept
 
 module _ (core new : CoreState) (goal : Goal) (past : List Event) (lasts : Lasts core goal past) where
-  pub lasts_adopt : (table : List Entry) → new ≡ after_adopt table core → (KeepsRules core → KeepsRules new) → Lasts new goal (event.NewTable table ∷ past)
-  lasts_adopt table is rules = lasts_as new (after_adopt table core) goal (event.NewTable table ∷ past) is (rules lasts.rules) lasts.short lasts.made lasts.goal
+  pub lasts_adopt : (table : List Entry) → new ≡ after_adopt table core → Lasts new goal (event.NewTable table ∷ past)
+  lasts_adopt table is = lasts_as new (after_adopt table core) goal (event.NewTable table ∷ past) is lasts.short lasts.made lasts.goal
 
-  pub lasts_not_read : new ≡ after_not_read core → (KeepsRules core → KeepsRules new) → Lasts new goal (event.NotRead ∷ past)
-  lasts_not_read is rules = lasts_as new (after_not_read core) goal (event.NotRead ∷ past) is (rules lasts.rules) lasts.short lasts.made lasts.goal
+  pub lasts_not_read : new ≡ after_not_read core → Lasts new goal (event.NotRead ∷ past)
+  lasts_not_read is = lasts_as new (after_not_read core) goal (event.NotRead ∷ past) is lasts.short lasts.made lasts.goal
 
-  pub lasts_clock : (reading : ℕ) → new ≡ after_clock reading core → (KeepsRules core → KeepsRules new) → Lasts new goal (event.Clock reading ∷ past)
-  lasts_clock reading is rules = lasts_as new (after_clock reading core) goal (event.Clock reading ∷ past) is (rules lasts.rules) lasts.short lasts.made lasts.goal
+  pub lasts_clock : (reading : ℕ) → new ≡ after_clock reading core → Lasts new goal (event.Clock reading ∷ past)
+  lasts_clock reading is = lasts_as new (after_clock reading core) goal (event.Clock reading ∷ past) is lasts.short lasts.made lasts.goal
 
-  pub lasts_nudge : new ≡ after_round core → (KeepsRules core → KeepsRules new) → Lasts new goal (event.Nudge ∷ past)
-  lasts_nudge is rules = lasts_as new (after_round core) goal (event.Nudge ∷ past) is (rules lasts.rules) lasts.short lasts.made lasts.goal
+  pub lasts_nudge : new ≡ after_round core → Lasts new goal (event.Nudge ∷ past)
+  lasts_nudge is = lasts_as new (after_round core) goal (event.Nudge ∷ past) is lasts.short lasts.made lasts.goal
 
   -- whether the answer was taken or not
-  pub lasts_told : {S E : Type 0} (r : Result S E) (id : List ℕ) (answer : Answer) → OnOk r (new ≡ after_told id answer core) → OnErr r (new ≡ core) → (KeepsRules core → KeepsRules new) → Lasts new goal (event.Told id ∷ past)
-  lasts_told (Ok x) id answer is kept rules = lasts_as new (after_told id answer core) goal (event.Told id ∷ past) is (rules lasts.rules) lasts.short lasts.made lasts.goal
-  lasts_told (Err e) id answer is kept rules = lasts_as new core goal (event.Told id ∷ past) kept (rules lasts.rules) lasts.short lasts.made lasts.goal
+  pub lasts_told : {S E : Type 0} (r : Result S E) (id : List ℕ) (answer : Answer) → OnOk r (new ≡ after_told id answer core) → OnErr r (new ≡ core) → Lasts new goal (event.Told id ∷ past)
+  lasts_told (Ok x) id answer is kept = lasts_as new (after_told id answer core) goal (event.Told id ∷ past) is lasts.short lasts.made lasts.goal
+  lasts_told (Err e) id answer is kept = lasts_as new core goal (event.Told id ∷ past) kept lasts.short lasts.made lasts.goal
 
-  pub lasts_got : (request : Request) → Fits core goal past → is_request request ≡ true → new ≡ after_got request core → (KeepsRules core → KeepsRules new) → Lasts new goal (event.Got request ∷ past)
-  lasts_got request fits asks is rules = lasts_as new (after_got request core) goal (event.Got request ∷ past) is (rules lasts.rules)
+  pub lasts_got : (request : Request) → Fits core goal past → is_request request ≡ true → new ≡ after_got request core → Lasts new goal (event.Got request ∷ past)
+  lasts_got request fits asks is = lasts_as new (after_got request core) goal (event.Got request ∷ past) is
       (request_lasts request core asks lasts.short)
       (got_made request core ∙ lasts.made)
       (got_goal request core goal past fits.now.stage lasts.goal)
 
-  pub lasts_hand : (how : HandOver) → new ≡ after_hand how core → KeepsRules new → Lasts new goal (event.Handed how ∷ past)
-  lasts_hand handed.Failed is rules = lasts_as new (after_hand handed.Failed core) goal (event.Handed handed.Failed ∷ past) is rules lasts.short lasts.made lasts.goal
-  lasts_hand handed.Whole is rules = lasts_as new (after_hand handed.Whole core) goal (event.Handed handed.Whole ∷ past) is rules lasts.short (ap (λ n. n + 1) lasts.made) lasts.goal
-  lasts_hand (handed.Cut bytes) is rules = lasts_as new (after_hand (handed.Cut bytes) core) goal (event.Handed (handed.Cut bytes) ∷ past) is rules lasts.short (ap (λ n. n + 1) lasts.made) lasts.goal
-  lasts_hand (handed.Older older) is rules = lasts_as new (after_hand (handed.Older older) core) goal (event.Handed (handed.Older older) ∷ past) is rules lasts.short (ap (λ n. n + 1) lasts.made) lasts.goal
+  pub lasts_hand : (how : HandOver) → new ≡ after_hand how core → Lasts new goal (event.Handed how ∷ past)
+  lasts_hand handed.Failed is = lasts_as new (after_hand handed.Failed core) goal (event.Handed handed.Failed ∷ past) is lasts.short lasts.made lasts.goal
+  lasts_hand handed.Whole is = lasts_as new (after_hand handed.Whole core) goal (event.Handed handed.Whole ∷ past) is lasts.short (ap (λ n. n + 1) lasts.made) lasts.goal
+  lasts_hand (handed.Cut bytes) is = lasts_as new (after_hand (handed.Cut bytes) core) goal (event.Handed (handed.Cut bytes) ∷ past) is lasts.short (ap (λ n. n + 1) lasts.made) lasts.goal
+  lasts_hand (handed.Older older) is = lasts_as new (after_hand (handed.Older older) core) goal (event.Handed (handed.Older older) ∷ past) is lasts.short (ap (λ n. n + 1) lasts.made) lasts.goal
 
 pub lasts_at : (goal : Goal) (past : List Event) (core : CoreState) (happening same : Event) → happening ≡ same → Lasts core goal (same ∷ past) → Lasts core goal (happening ∷ past)
 lasts_at goal past core happening same become lasts = subst (λ h. Lasts core goal (h ∷ past)) (sym become) lasts
@@ -162,4 +160,4 @@ pub lasts_silent : (core : CoreState) (goal : Goal) (past : List Event) (happeni
 lasts_silent core goal past (event.Enter now grace) lasts said not_got not_handed = absurd (false≢true said)
 lasts_silent core goal past (event.Got request) lasts said not_got not_handed = absurd (not_got request refl)
 lasts_silent core goal past (event.Handed how) lasts said not_got not_handed = absurd (not_handed how refl)
-lasts_silent core goal past _ lasts said not_got not_handed = record { rules = lasts.rules; short = lasts.short; made = lasts.made; goal = lasts.goal }
+lasts_silent core goal past _ lasts said not_got not_handed = record { short = lasts.short; made = lasts.made; goal = lasts.goal }

@@ -13,7 +13,6 @@ use Rattle.init_trace.specs.Run.{is_run, is_rest, is_reread}
 use Rattle.child_table.specs.Lists.{is_quiet}
 use Rattle.core_state.specs.State.{CoreState}
 use Rattle.core_state.specs.Fit.{Fits}
-use Rattle.core_state.specs.Rules.{KeepsRules}
 use Rattle.state_text.specs.Range.{has_short_seconds}
 use Rattle.system_side.specs.State.{State}
 use Rattle.system_side.specs.Follows.{Follows}
@@ -28,7 +27,6 @@ use Rattle.supervisor.specs.Simulation.{IsTooLong, RunOver, Scenario, goal_in, h
 -- what can be handed over: the core keeps its rules, its seconds are short, and its generation and its goal are those
 -- of the run so far
 pub record Lasts (core : CoreState) (opening : Goal) (past : List Event) : Type 0 where
-  pub rules : KeepsRules core
   pub short : has_short_seconds core ≡ true
   pub made : core.generation ≡ made_in past
   pub goal : core.goal ≡ kept_goal opening past

@@ -2,7 +2,6 @@
 use Rattle.std.specs.Prelude.{◌≡◌, ◌≢◌, ℕ, true, ◌+◌, ◌<◌, List, [], get_or, length, None}
 use Rattle.init_trace.specs.declared.happenings.Handed.{Handed as HandOver}
 use Rattle.core_state.specs.Parts.{State}
-use Rattle.core_state.specs.Rules.{KeepsRules}
 use Rattle.core_state.specs.State.{CoreState}
 use Rattle.state_text.specs.Range.{has_short_seconds}
 use Rattle.state_text.specs.Refused.{Says}
@@ -27,6 +26,5 @@ IsForeign text generation = (state : State) → Says text state → state.heads.
 
 -- nothing is objected to the hand-over, and what the core keeps can be handed over
 pub record CanHand (how : HandOver) (core : CoreState) : Type 0 where
-  pub rules : KeepsRules core
   pub short : has_short_seconds core ≡ true
   pub may : objection_handed core.generation (length (text_made core)) how ≡ None

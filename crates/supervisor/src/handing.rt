@@ -5,7 +5,7 @@ ghost use Rattle.init_trace.specs.declared.happenings.Happening.TheVariants as h
 ghost use Rattle.init_trace.specs.declared.happenings.Handed.{Handed};
 ghost use Rattle.core_state.specs.Fit.{Fits, OnEachTrace};
 ghost use Rattle.core_state.specs.Parts.{state_of};
-ghost use Rattle.core_state.specs.Rules.{IsFit, KeepsRules};
+ghost use Rattle.core_state.specs.Rules.{IsFit};
 ghost use Rattle.core_state.specs.Steps.{after_handed_on};
 ghost use Rattle.state_text.specs.Range.{has_short_seconds};
 ghost use Rattle.state_text.specs.Refused.{Says};
@@ -77,14 +77,12 @@ pub(crate) fn objection_handed<A: Allocator + Copy>(
 
 /// Writes what the core keeps, for the next init.
 fn make_text<A: Allocator + Copy>(alloc: A, core: &mut Core<A>) -> Result<Vec<u8, A>, Memory>
-    requires rules { KeepsRules core.old }
     requires short { has_short_seconds core.old ≡ true }
     requires next { has_next core.old.generation ≡ true }
     ensures text { IfOk result (λ text. text.items ≡ text_made core.old) }
     ensures state { OnOk result (core.new ≡ after_handed_on core.old) }
     ensures fits { OnOk result (OnEachTrace core.old (λ goal past. (how : Handed)
         → Fits core.new goal (happening.Handed how ∷ past))) }
-    ensures rules { OnOk result (KeepsRules core.new) }
     ensures says { IfOk result (λ text. Says text.items (state_of core.new)) }
     ensures fit { OnOk result (IsFit core.new) }
 {
@@ -162,7 +160,6 @@ pub(crate) fn hand<A: Allocator + Copy>(
     ensures state { OnOk result (core.new ≡ after_hand how core.old) }
     ensures fits { OnOk result (OnEachTrace core.old (λ goal past.
         Fits core.new goal (happening.Handed how ∷ past))) }
-    ensures rules { OnOk result (KeepsRules core.new) }
     ensures made { OnOk result
         (HasTexts (map (λ text. text.items) made.new.items) core.new.generation) }
 {

@@ -11,7 +11,6 @@ ghost use Rattle.inittab_text.specs.Reading.{table_of_text};
 ghost use Rattle.child_table.specs.Lists.{is_quiet};
 ghost use Rattle.core_state.specs.State.{opening_goal};
 ghost use Rattle.core_state.specs.Fit.{Fits, OnEachTrace, with_step};
-ghost use Rattle.core_state.specs.Rules.{KeepsRules};
 ghost use Rattle.core_state.specs.Steps.{after_adopt};
 ghost use Rattle.supervisor.specs.Faults.{Leaves};
 ghost use Rattle.supervisor.specs.Handing.{text_made};
@@ -199,7 +198,6 @@ fn adopt<A: Allocator + Copy>(alloc: A, core: &mut Core<A>, table: &Table<A>) ->
     ensures state { OnOk result (core.new ≡ after_adopt table.now core.old) }
     ensures fits { OnOk result (OnEachTrace core.old (λ goal past.
         Fits core.new goal (NewTable table.now ∷ past))) }
-    ensures rules { OnOk result (KeepsRules core.old → KeepsRules core.new) }
 {
     let copy = table.copy(alloc)?;
     match core.adopt(copy) {

@@ -12,4 +12,4 @@ pub returns-clause-possible : goal.returns-clause-possible
 returns-clause-possible c goal calls p h = calls_allowed goal calls p h
 
 pub returns-clause-carried : goal.returns-clause-carried
-returns-clause-carried c later earlier carried = carried_parts later earlier carried
+returns-clause-carried c later earlier p carried = carried_parts later earlier p carried

@@ -10,5 +10,5 @@ returns g c =
     let new = c.nudge.new.self in
     let old = g.L.Log.state c.args.log.now in
     let now = g.L.Log.state c.note.new.log in
-    Hears-tracks core new old now (λ so_far. past.Nudge ∷ so_far) (round_lasts core new c.nudge.ensures.state c.nudge.ensures.kept)
+    Hears-tracks core new old now (λ so_far. past.Nudge ∷ so_far) (round_lasts core new c.nudge.ensures.state)
     (Hears-told core new old now past.Nudge refl c.nudge.ensures.fits c.note.ensures)

@@ -10,5 +10,5 @@ returns g c asks =
     let new = c.got.new.self in
     let old = g.L.Log.state c.args.log.now in
     let now = g.L.Log.state c.note.new.log in
-    Hears-tracks core new old now (λ so_far. past.Got c.args.request ∷ so_far) (request_lasts core new c.args.request asks c.got.ensures.state c.got.ensures.kept)
+    Hears-tracks core new old now (λ so_far. past.Got c.args.request ∷ so_far) (request_lasts core new c.args.request asks c.got.ensures.state)
     (Hears-told core new old now (past.Got c.args.request) refl c.got.ensures.fits c.note.ensures)

@@ -18,7 +18,7 @@ returns-in_default-clause-takes g c =
     let none : taken ≡ Err c.in_default.field-0 = ap (λ r. front_read r c.take_bytes.new.buffer) is in
     let at = At c.args.core.now c.args.blocks.now in
     Makes-one _ _ log log (TakeBytes room taken) (IsTake c.args.taken 0) at at c.take_bytes.ensures.adds (room, taken, refl, c.requires, ap bytes_in none)
-    (subst (λ t. Leads at at log log (TakeBytes room t ∷ [])) (sym none) (Leads-still at log (TakeBytes room (Err c.in_default.field-0)) (λ p. refl) (λ goal so_far. refl)))
+    (subst (λ t. Leads at at log log (TakeBytes room t ∷ [])) (sym none) (Leads-still at log (TakeBytes room (Err c.in_default.field-0)) (λ p. refl) (λ goal so_far. refl) (λ goal p. tt)))
 
 pub returns-clause-takes : goal.returns-clause-takes
 returns-clause-takes g c =

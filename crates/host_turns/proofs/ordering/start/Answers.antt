@@ -3,7 +3,7 @@ use Rattle.init_words.specs.declared.orders.Ask.TheVariants as ask
 use Rattle.inittab_text.specs.Tables.{entry_of}
 use Rattle.init_trace.specs.declared.steps.Step.TheVariants as step
 use Rattle.child_host.specs.declared.calls.Call.TheVariants.{Start}
-use Rattle.host_trace.specs.Leads.{Gave, On, Tracks}
+use Rattle.host_trace.specs.Leads.{Gave, Tracks}
 use Rattle.host_trace.proofs.Calling.{Hears-order, Leads-start}
 use Rattle.host_turns.specs.Parts.{IsStep}
 use Rattle.host_turns.proofs.Parts.{Makes-one}
@@ -18,7 +18,7 @@ returns g c =
     let old = g.L.Log.state c.args.log.now in
     let new = g.L.Log.state c.hear_reply.new.log in
     let own : entry_of id core.table ≡ Some entry = search rules in
-    Makes-one (g.H.Host.told c.args.host.now) (g.H.Host.told c.start-reply.new.self) old new (Start id c.command.result.now reply) IsStep (On (Gave (Tracks core) (step.Order id ask.Start))) (On (Tracks c.hear_reply.new.core))
+    Makes-one (g.H.Host.told c.args.host.now) (g.H.Host.told c.start-reply.new.self) old new (Start id c.command.result.now reply) IsStep (Gave (Tracks core) (step.Order id ask.Start)) (Tracks c.hear_reply.new.core)
     c.start-reply.ensures.adds refl
     (Leads-start core c.hear_reply.new.core old new id c.command.result.now reply entry own c.command.ensures
     (Hears-order core c.hear_reply.new.core old (g.L.Log.state c.note.new.log) new id ask.Start reply c.note.ensures c.hear_reply.ensures))

@@ -3,7 +3,7 @@ use Rattle.init_trace.specs.declared.happenings.Handed.TheVariants as handed
 use Rattle.init_trace.specs.declared.happenings.Happening.TheVariants as past
 use Rattle.init_trace.specs.declared.steps.Step.TheVariants as step
 use Rattle.child_host.specs.declared.calls.Call.TheVariants.{Announce}
-use Rattle.host_trace.specs.Leads.{Gave, On, Tracks}
+use Rattle.host_trace.specs.Leads.{Gave, Tracks}
 use Rattle.host_trace.proofs.Calling.{Leads-not_handed}
 use Rattle.host_turns.specs.Parts.{IsStep}
 use Rattle.host_turns.proofs.Lasting.{unhanded_lasts}
@@ -16,7 +16,7 @@ returns g c =
     let new = c.not_handed.new.self in
     let log = g.L.Log.state c.args.log.now in
     let now_log = g.L.Log.state c.say.new.log in
-    Makes-one (g.H.Host.told c.args.host.now) (g.H.Host.told c.say.new.host) log now_log (Announce (past.Handed handed.Failed)) IsStep (On (Gave (Tracks core) step.Reexec)) (On (Tracks new))
+    Makes-one (g.H.Host.told c.args.host.now) (g.H.Host.told c.say.new.host) log now_log (Announce (past.Handed handed.Failed)) IsStep (Gave (Tracks core) step.Reexec) (Tracks new)
     c.say.ensures.said refl
     (Leads-not_handed core new log now_log (λ goal so_far sound fits. c.not_handed.ensures.fits goal so_far sound fits handed.Failed)
-    (unhanded_lasts core new c.not_handed.ensures.state c.not_handed.ensures.kept) c.say.ensures.log)
+    (unhanded_lasts core new c.not_handed.ensures.state) c.say.ensures.log)

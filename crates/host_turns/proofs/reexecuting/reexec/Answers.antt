@@ -12,5 +12,5 @@ returns g c =
     let is : c.in-Ok.text.items ≡ c.deref.result.now = search rules in
     Makes-carried (g.H.Host.told c.args.host.now) (g.H.Host.told c.carry-how.new.host) (g.H.Host.told c.say.new.host) (g.L.Log.state c.args.log.now) (g.L.Log.state c.say.new.log)
     c.args.core.now next c.carry-how.new.core c.carry-how.result c.deref.result.now back adds c.say.ensures.said
-    c.in-Ok.ensures.state c.in-Ok.ensures.kept c.in-Ok.ensures.fits
-    (λ kept short. subst (λ text. Says text (state_of next) × IsFit next) is (c.in-Ok.ensures.said kept short)) comes c.say.ensures.log
+    c.in-Ok.ensures.state c.in-Ok.ensures.fits
+    (λ short. subst (λ text. Says text (state_of next) × IsFit next) is (c.in-Ok.ensures.said short)) comes c.say.ensures.log

@@ -2,7 +2,7 @@ use Rattle.std.proofs.Common.{rules, ◌≡◌, refl, sym, subst, ◌∷◌, [],
 use Rattle.init_trace.specs.declared.steps.Step.TheVariants as step
 use Rattle.child_host.specs.declared.calls.Call.TheVariants.{ReadTable}
 use Rattle.child_host.specs.Calls.{text_read}
-use Rattle.host_trace.specs.Leads.{Gave, Leads, On, Tracks}
+use Rattle.host_trace.specs.Leads.{Gave, Leads, Tracks}
 use Rattle.host_trace.proofs.Calling.{Leads-used}
 use Rattle.host_turns.specs.Parts.{IsStep}
 use Rattle.host_turns.proofs.Parts.{Makes-one}
@@ -16,8 +16,8 @@ returns-clause-used g c took =
     let now_log = g.L.Log.state c.use_text.new.log in
     let text = text_read (λ held. held.items) c.read_table.result in
     let is : text ≡ Ok c.deref.result.now = search rules in
-    let before = On (Gave (Tracks core) step.Reread) in
-    Makes-one (g.H.Host.told c.args.host.now) (g.H.Host.told c.read_table.new.self) log now_log (ReadTable text) IsStep before (On (Tracks new))
+    let before = Gave (Tracks core) step.Reread in
+    Makes-one (g.H.Host.told c.args.host.now) (g.H.Host.told c.read_table.new.self) log now_log (ReadTable text) IsStep before (Tracks new)
     c.read_table.ensures.adds refl
-    (subst (λ t. Leads before (On (Tracks new)) log now_log (ReadTable t ∷ [])) (sym is)
+    (subst (λ t. Leads before (Tracks new) log now_log (ReadTable t ∷ [])) (sym is)
     (Leads-used core new log now_log c.deref.result.now (c.use_text.ensures.short took) (c.use_text.ensures.quiet took) (c.use_text.ensures.fits took) (c.use_text.ensures.lasts took) (c.use_text.ensures.took took)))

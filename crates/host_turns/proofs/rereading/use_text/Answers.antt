@@ -18,4 +18,4 @@ returns-clause-fits g c taken =
 pub returns-clause-lasts : goal.returns-clause-lasts
 returns-clause-lasts g c taken =
     let works : is_err c.adopt.result ≡ false = search rules in
-    adopt_lasts c.args.core.now c.adopt.new.self c.in-Ok.table (was_ok c.adopt.result _ works c.adopt.ensures.adopted) (was_ok c.adopt.result _ works c.adopt.ensures.kept)
+    adopt_lasts c.args.core.now c.adopt.new.self c.in-Ok.table (was_ok c.adopt.result _ works c.adopt.ensures.adopted)

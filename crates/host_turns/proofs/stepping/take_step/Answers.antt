@@ -1,5 +1,5 @@
 use Rattle.std.proofs.Common.{◌∙◌, sym, ap, subst}
-use Rattle.host_trace.specs.Leads.{On, Tracks}
+use Rattle.host_trace.specs.Leads.{Tracks}
 use Rattle.host_turns.specs.Parts.{AndRests, IsStepUnless, Makes, is_listed}
 use Rattle.host_turns.proofs.Carried.{Makes-stepped}
 use Rattle.host_turns.proofs.Listed.{decide_listed, table_kept}
@@ -19,5 +19,5 @@ returns g c =
     let now_told = g.H.Host.told c.carry_out.new.host in
     let log = g.L.Log.state c.args.log.now in
     let now_log = g.L.Log.state c.carry_out.new.log in
-    subst (λ idle. Makes told now_told log now_log (IsStepUnless idle) (On (Tracks c.args.core.now)) (AndRests idle (On (Tracks c.carry_out.new.core)))) (sym c.is_idle.ensures)
-    (Makes-stepped told now_told log now_log c.args.core.now c.next-step.new.self c.carry_out.new.core c.next-step.result c.next-step.ensures.due c.next-step.ensures.fits (step_lasts c.args.core.now c.next-step.new.self c.next-step.result c.next-step.ensures.step c.next-step.ensures.state c.next-step.ensures.kept) c.carry_out.ensures)
+    subst (λ idle. Makes told now_told log now_log (IsStepUnless idle) (Tracks c.args.core.now) (AndRests idle (Tracks c.carry_out.new.core))) (sym c.is_idle.ensures)
+    (Makes-stepped told now_told log now_log c.args.core.now c.next-step.new.self c.carry_out.new.core c.next-step.result c.next-step.ensures.due c.next-step.ensures.fits (step_lasts c.args.core.now c.next-step.new.self c.next-step.result c.next-step.ensures.step c.next-step.ensures.state) c.carry_out.ensures)

@@ -14,7 +14,7 @@ returns-in_ok-adopt-in-NewTable-clause-fits g c goal past moment may =
 pub returns-in_ok-adopt-in-NewTable-clause-lasts : goal.returns-in_ok-adopt-in-NewTable-clause-lasts
 returns-in_ok-adopt-in-NewTable-clause-lasts g c goal past moment may =
     lasts_at goal past c.adopt.new.core c.args.happening.now (event.NewTable c.in-NewTable.table) c.in-NewTable.is
-    (lasts_adopt c.args.core.now c.adopt.new.core goal past moment.lasts c.in-NewTable.table c.in_ok-adopt-in-NewTable.ensures.state c.in_ok-adopt-in-NewTable.ensures.rules)
+    (lasts_adopt c.args.core.now c.adopt.new.core goal past moment.lasts c.in-NewTable.table c.in_ok-adopt-in-NewTable.ensures.state)
 
 pub returns-in-NotRead-clause-fits : goal.returns-in-NotRead-clause-fits
 returns-in-NotRead-clause-fits g c goal past moment may =
@@ -22,7 +22,7 @@ returns-in-NotRead-clause-fits g c goal past moment may =
 
 pub returns-in-NotRead-clause-lasts : goal.returns-in-NotRead-clause-lasts
 returns-in-NotRead-clause-lasts g c goal past moment may =
-    lasts_at goal past c.not_read.new.self c.args.happening.now event.NotRead c.in-NotRead.is (lasts_not_read c.args.core.now c.not_read.new.self goal past moment.lasts c.not_read.ensures.state c.not_read.ensures.kept)
+    lasts_at goal past c.not_read.new.self c.args.happening.now event.NotRead c.in-NotRead.is (lasts_not_read c.args.core.now c.not_read.new.self goal past moment.lasts c.not_read.ensures.state)
 
 pub returns-in-Some-clause-fits : goal.returns-in-Some-clause-fits
 returns-in-Some-clause-fits g c goal past moment may =
@@ -33,7 +33,7 @@ pub returns-in-Some-clause-lasts : goal.returns-in-Some-clause-lasts
 returns-in-Some-clause-lasts g c goal past moment may =
     lasts_at goal past c.answer-in-Some.new.self c.args.happening.now (event.Told c.in-Told.id) c.in-Told.is
     (lasts_told c.args.core.now c.answer-in-Some.new.self goal past moment.lasts c.answer-in-Some.result c.in-Told.id c.in-Some.answer
-    c.answer-in-Some.ensures.told c.answer-in-Some.ensures.unchanged c.answer-in-Some.ensures.kept)
+    c.answer-in-Some.ensures.told c.answer-in-Some.ensures.unchanged)
 
 -- an answer is under way
 pub returns-in_default-answer-clause-fits : goal.returns-in_default-answer-clause-fits
@@ -51,7 +51,7 @@ returns-in-Clock-clause-fits g c goal past moment may =
 pub returns-in-Clock-clause-lasts : goal.returns-in-Clock-clause-lasts
 returns-in-Clock-clause-lasts g c goal past moment may =
     lasts_at goal past c.clock.new.self c.args.happening.now (event.Clock c.in-Clock.reading) c.in-Clock.is
-    (lasts_clock c.args.core.now c.clock.new.self goal past moment.lasts c.in-Clock.reading c.clock.ensures.state c.clock.ensures.kept)
+    (lasts_clock c.args.core.now c.clock.new.self goal past moment.lasts c.in-Clock.reading c.clock.ensures.state)
 
 pub returns-in-Nudge-clause-fits : goal.returns-in-Nudge-clause-fits
 returns-in-Nudge-clause-fits g c goal past moment may =
@@ -59,7 +59,7 @@ returns-in-Nudge-clause-fits g c goal past moment may =
 
 pub returns-in-Nudge-clause-lasts : goal.returns-in-Nudge-clause-lasts
 returns-in-Nudge-clause-lasts g c goal past moment may =
-    lasts_at goal past c.nudge.new.self c.args.happening.now event.Nudge c.in-Nudge.is (lasts_nudge c.args.core.now c.nudge.new.self goal past moment.lasts c.nudge.ensures.state c.nudge.ensures.kept)
+    lasts_at goal past c.nudge.new.self c.args.happening.now event.Nudge c.in-Nudge.is (lasts_nudge c.args.core.now c.nudge.new.self goal past moment.lasts c.nudge.ensures.state)
 
 pub returns-in-Got-clause-fits : goal.returns-in-Got-clause-fits
 returns-in-Got-clause-fits g c goal past moment may =
@@ -68,7 +68,7 @@ returns-in-Got-clause-fits g c goal past moment may =
 pub returns-in-Got-clause-lasts : goal.returns-in-Got-clause-lasts
 returns-in-Got-clause-lasts g c goal past moment may =
     lasts_at goal past c.got.new.self c.args.happening.now (event.Got c.in-Got.request) c.in-Got.is
-    (lasts_got c.args.core.now c.got.new.self goal past moment.lasts c.in-Got.request moment.fits (subst (λ h. is_in_range h ≡ true) c.in-Got.is c.requires.ranged) c.got.ensures.state c.got.ensures.kept)
+    (lasts_got c.args.core.now c.got.new.self goal past moment.lasts c.in-Got.request moment.fits (subst (λ h. is_in_range h ≡ true) c.in-Got.is c.requires.ranged) c.got.ensures.state)
 
 pub returns-in_ok-hand-in-Handed-clause-fits : goal.returns-in_ok-hand-in-Handed-clause-fits
 returns-in_ok-hand-in-Handed-clause-fits g c goal past moment may =
@@ -77,7 +77,7 @@ returns-in_ok-hand-in-Handed-clause-fits g c goal past moment may =
 pub returns-in_ok-hand-in-Handed-clause-lasts : goal.returns-in_ok-hand-in-Handed-clause-lasts
 returns-in_ok-hand-in-Handed-clause-lasts g c goal past moment may =
     lasts_at goal past c.hand.new.core c.args.happening.now (event.Handed c.in-Handed.how) c.in-Handed.is
-    (lasts_hand c.args.core.now c.hand.new.core goal past moment.lasts c.in-Handed.how c.in_ok-hand-in-Handed.ensures.state c.in_ok-hand-in-Handed.ensures.rules)
+    (lasts_hand c.args.core.now c.hand.new.core goal past moment.lasts c.in-Handed.how c.in_ok-hand-in-Handed.ensures.state)
 
 pub returns-in_default : goal.returns-in_default
 returns-in_default g c = record {

@@ -18,7 +18,7 @@ returns-in_default-clause-ok g c goal past before =
       more,
       at_rest goal next c.next-step.result c.is_reread-rereads.result c.steps.core c.next-step.new.self c.steps.side moment
           (c.next-step.ensures.due goal next sound moment.fits) c.in_default.ensures.none c.is_reread-rereads.ensures (c.next-step.ensures.fits goal next sound moment.fits)
-          (lasts_step c.steps.core c.next-step.new.self c.next-step.result c.next-step.ensures.step c.next-step.ensures.state c.next-step.ensures.kept goal next moment.fits moment.lasts),
+          (lasts_step c.steps.core c.next-step.new.self c.next-step.result c.next-step.ensures.step c.next-step.ensures.state goal next moment.fits moment.lasts),
       goes,
       written,
     )
@@ -62,23 +62,23 @@ steps-smaller g c = c.next-step.ensures.falls c.in-Some.ensures.some.0
 pub steps-preserved : goal.steps-preserved
 steps-preserved g c =
     let moved = moment_step c.steps.core c.next-step.new.self c.steps.side c.take.new.self c.next-step.result c.in-Some.happening c.next-step.ensures.due c.next-step.ensures.fits c.in-Some.ensures.some.1 c.in_ok-take.ensures.ok
-    (lasts_step c.steps.core c.next-step.new.self c.next-step.result c.next-step.ensures.step c.next-step.ensures.state c.next-step.ensures.kept) in
+    (lasts_step c.steps.core c.next-step.new.self c.next-step.result c.next-step.ensures.step c.next-step.ensures.state) in
     record {
       generation = ap (λ (core : CoreState). core.generation) c.next-step.ensures.state ∙ same_generation c.next-step.result c.steps.core ∙ c.steps.invariant.generation;
       some = let (goal, past, moment) = c.steps.invariant.some in (goal, c.in-Some.happening ∷ past, moved goal past moment);
       all = λ goal past before. went_step c.steps.core c.next-step.new.self c.steps.side c.take.new.self c.next-step.result c.in-Some.happening c.next-step.ensures.due c.next-step.ensures.fits c.in-Some.ensures.some.1 c.in_ok-take.ensures.ok
-          (lasts_step c.steps.core c.next-step.new.self c.next-step.result c.next-step.ensures.step c.next-step.ensures.state c.next-step.ensures.kept)
+          (lasts_step c.steps.core c.next-step.new.self c.next-step.result c.next-step.ensures.step c.next-step.ensures.state)
           (g.W.Write.contents c.args.out.now) (g.W.Write.contents c.steps.out) (g.W.Write.contents c.write_happening.new.out) c.in_ok-write_happening.ensures.ok goal past (c.steps.invariant.all goal past before);
     }
 
 pub steps-preserved-in_ok-take : goal.steps-preserved-in_ok-take
 steps-preserved-in_ok-take g c =
     let moved = moment_step c.steps.core c.next-step.new.self c.steps.side c.take.new.self c.next-step.result c.in-Some.happening c.next-step.ensures.due c.next-step.ensures.fits c.in-Some.ensures.some.1 c.in_ok-take.ensures.ok
-    (lasts_step c.steps.core c.next-step.new.self c.next-step.result c.next-step.ensures.step c.next-step.ensures.state c.next-step.ensures.kept) in
+    (lasts_step c.steps.core c.next-step.new.self c.next-step.result c.next-step.ensures.step c.next-step.ensures.state) in
     record {
       generation = ap (λ (core : CoreState). core.generation) c.next-step.ensures.state ∙ same_generation c.next-step.result c.steps.core ∙ c.steps.invariant.generation;
       some = let (goal, past, moment) = c.steps.invariant.some in (goal, c.in-Some.happening ∷ past, moved goal past moment);
       all = λ goal past before. went_step c.steps.core c.next-step.new.self c.steps.side c.take.new.self c.next-step.result c.in-Some.happening c.next-step.ensures.due c.next-step.ensures.fits c.in-Some.ensures.some.1 c.in_ok-take.ensures.ok
-          (lasts_step c.steps.core c.next-step.new.self c.next-step.result c.next-step.ensures.step c.next-step.ensures.state c.next-step.ensures.kept)
+          (lasts_step c.steps.core c.next-step.new.self c.next-step.result c.next-step.ensures.step c.next-step.ensures.state)
           (g.W.Write.contents c.args.out.now) (g.W.Write.contents c.steps.out) (g.W.Write.contents c.write_happening.new.out) c.in_ok-write_happening.ensures.ok goal past (c.steps.invariant.all goal past before);
     }

@@ -1,8 +1,10 @@
+use Rattle.std.proofs.Common.{subst}
 use Rattle.level_core.proofs.Kept.{adopt_kept, adopted_fits}
+use Rattle.core_state.specs.Fit.{Fits, OnEachTrace}
 use Rattle.level_core.proofs.cores.Core.adopt.Goals as goal
 
-pub returns-clause-fits : goal.returns-clause-fits
-returns-clause-fits g c = adopted_fits c.adopt_by_state.result c.args.table c.args.self.now c.adopt_by_state.new.self c.adopt_by_state.ensures.adopted c.adopt_by_state.ensures.distinct
+pub invariant_of-self : goal.invariant_of-self
+invariant_of-self g c = adopt_kept c.adopt_by_state.result c.args.table c.self.inside.bare c.adopt_by_state.new.self c.adopt_by_state.ensures.adopted c.adopt_by_state.ensures.distinct c.adopt_by_state.ensures.busy c.adopt_by_state.ensures.unchanged c.self.invariant
 
-pub returns-clause-kept : goal.returns-clause-kept
-returns-clause-kept g c = adopt_kept c.adopt_by_state.result c.args.table c.args.self.now c.adopt_by_state.new.self c.adopt_by_state.ensures.adopted c.adopt_by_state.ensures.distinct c.adopt_by_state.ensures.busy
+pub returns-clause-fits : goal.returns-clause-fits
+returns-clause-fits g c = rw (← c.self.view_is) (adopted_fits c.adopt_by_state.result c.args.table c.self.inside.bare c.adopt_by_state.new.self c.adopt_by_state.ensures.adopted c.adopt_by_state.ensures.distinct)

@@ -1,0 +1,22 @@
+-- What comes back of the texts that a host was given to carry (telinit(8), `u`).
+use Rattle.std.specs.Prelude.{ℕ, Bool, true, ◌&&◌, ◌||◌, ◌==◌, List, [], ◌∷◌, Ok, Err}
+use Rattle.std.specs.List.{list_any, starts_with}
+use Rattle.child_host.specs.declared.calls.Call.TheVariants.{Carry}
+use Rattle.child_host.specs.Calls.{HostCall, TextRead}
+use Rattle.host_trace.specs.Point.{same_text}
+
+-- the texts that were carried, the newest first
+abbrev pub texts_in : List HostCall → List (List ℕ)
+texts_in [] = []
+texts_in (Carry text back ∷ calls) = text ∷ texts_in calls
+texts_in (_ ∷ calls) = texts_in calls
+
+-- it comes back as it was, or cut, or one comes that was carried before it; or none comes
+abbrev pub is_given_back : List (List ℕ) → List ℕ → TextRead → Bool
+is_given_back before text (Ok back) = starts_with ◌==◌ text back || list_any (same_text back) before
+is_given_back before text (Err fault) = true
+
+abbrev pub are_given_back : List HostCall → Bool
+are_given_back [] = true
+are_given_back (Carry text back ∷ calls) = is_given_back (texts_in calls) text back && are_given_back calls
+are_given_back (_ ∷ calls) = are_given_back calls

@@ -1,0 +1,15 @@
+use Rattle.std.proofs.Common.{sym, ap, subst, ◌∙◌}
+use Rattle.std.specs.List.{list_any}
+use Rattle.child_table.specs.State.{SlotState}
+use Rattle.child_table.specs.Stopping.{is_due, IsFirstTermed}
+use Rattle.core_state.specs.State.{CoreState}
+use Rattle.level_core.specs.Signals.{is_past}
+use Rattle.level_core.proofs.Excluded.{none_near}
+use Rattle.level_core.proofs.bare.BareCore.stop_step.Goals as goal
+
+pub returns : goal.returns
+returns g c =
+    let first = subst (λ (x : CoreState). IsFirstTermed x.slots c.first_termed.result) c.self.view_is c.first_termed.ensures in
+    let due = ap (λ (x : CoreState). list_any (λ (slot : SlotState). is_due slot.stop) x.slots) (sym c.self.view_is) ∙ sym c.has_due.ensures ∙ c.if-has_due.false in
+    let past = ap (λ (x : CoreState). is_past x.grace x.time c.first_termed.result) (sym c.self.view_is) ∙ sym c.is_past.ensures ∙ c.if-is_past.false in
+    sym (none_near c.args.self.now.grace c.args.self.now.time c.args.self.now.slots c.first_termed.result first due past)
