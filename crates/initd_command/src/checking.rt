@@ -10,26 +10,26 @@ use crate::reports::{report, report_bytes, report_made, report_memory, report_un
 use init_trace::{HappeningIn, ReadFault, print, print_one, read};
 use init_words::Memory;
 use itoa::Buffer;
-use program_edge::{DEVICE_FAULT, DONE, REFUSED, UNLAWFUL, read_file};
+use path_texts::Texts;
+use program_edge::{DEVICE_FAULT, DONE, REFUSED, UNLAWFUL};
 use std::alloc::{AllocError, Global};
 use std::io::Write;
-use std::rt::Files;
 use text_lines::newlines;
 use trace_check::{Verdict, check};
 
 /// Reads the trace of a path and judges it.
-pub(crate) fn check_file<R: Files, W: Write, E: Write>(
-    rt: &R,
+pub(crate) fn check_file<T: Texts, W: Write, E: Write>(
+    texts: &T,
     alloc: Global,
     path: &str,
     out: &mut W,
     err: &mut E,
 ) -> u8
     ensures { (ending : Ending) × (result ≡ status_of ending)
-        × EndsCheck path.now ending (W.contents out.old) (W.contents out.new)
+        × EndsCheck (T.text_at texts.now) path.now ending (W.contents out.old) (W.contents out.new)
         × Reports ending (E.contents err.old) (E.contents err.new) }
 {
-    match read_file(rt, alloc, path) {
+    match texts.read(alloc, path) {
         Ok(text) => check_text(alloc, &text, out, err),
         Err(error) => report_unread(alloc, path, &error, err),
     }

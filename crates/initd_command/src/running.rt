@@ -9,7 +9,8 @@ use crate::reports::{NO_MEMORY, report, report_fault, report_unread};
 use crate::serving::serve_files;
 use init_words::Level;
 use initd_options::{Simulation, WordFault, Words, read_words};
-use program_edge::{DEVICE_FAULT, DONE, REFUSED, read_file};
+use path_texts::Texts;
+use program_edge::{DEVICE_FAULT, DONE, REFUSED};
 use std::alloc::Global;
 use std::io::Write;
 use std::process::Processes;
@@ -39,19 +40,27 @@ pub const USAGE: &str =
 /// run used up its turns, 4 where a file can't be read, the trace or the output fails or memory runs out. The trace of
 /// a simulated run, the verdict on a trace, or the faults of the inittab of a run are written on `out`, and a fault is
 /// reported on `err`.
-pub fn run_words<R, W, E>(rt: &R, alloc: Global, words: Vec<String>, out: &mut W, err: &mut E) -> u8
+pub fn run_words<R, T, W, E>(
+    rt: &R,
+    texts: &T,
+    alloc: Global,
+    words: Vec<String>,
+    out: &mut W,
+    err: &mut E,
+) -> u8
 where
     R: Processes + Files + Clock + Print + Eprint + Clone + Drop,
+    T: Texts,
     W: Write,
     E: Write,
     ensures { (ending : Ending) × (result ≡ status_of ending)
-        × EndsBy (map string_bytes words.items) ending (W.contents out.old) (W.contents out.new)
+        × EndsBy (T.text_at texts.now) (map string_bytes words.items) ending (W.contents out.old) (W.contents out.new)
         × Reports ending (E.contents err.old) (E.contents err.new) }
 {
     match read_words(alloc, words.as_slice()) {
-        Ok(Words::Simulate(said)) => simulate_files(rt, alloc, &said, out, err),
-        Ok(Words::Check(path)) => check_file(rt, alloc, path.as_str(), out, err),
-        Ok(Words::Run(said)) => serve_files(rt, alloc, &said, out, err),
+        Ok(Words::Simulate(said)) => simulate_files(texts, alloc, &said, out, err),
+        Ok(Words::Check(path)) => check_file(texts, alloc, path.as_str(), out, err),
+        Ok(Words::Run(said)) => serve_files(rt, texts, alloc, &said, out, err),
         Err(WordFault::Usage) => {
             report(USAGE, err);
             REFUSED
@@ -64,24 +73,24 @@ where
 }
 
 /// Reads the two files, the inittab first, and runs init over them.
-fn simulate_files<R: Files, W: Write, E: Write>(
-    rt: &R,
+fn simulate_files<T: Texts, W: Write, E: Write>(
+    texts: &T,
     alloc: Global,
     said: &Simulation,
     out: &mut W,
     err: &mut E,
 ) -> u8
     ensures { (ending : Ending) × (result ≡ status_of ending)
-        × EndsFiles (run_of said.now) ending (W.contents out.old) (W.contents out.new)
+        × EndsFiles (T.text_at texts.now) (run_of said.now) ending (W.contents out.old) (W.contents out.new)
         × Reports ending (E.contents err.old) (E.contents err.new) }
 {
     let table = said.table.as_str();
-    let inittab = match read_file(rt, alloc, table) {
+    let inittab = match texts.read(alloc, table) {
         Ok(inittab) => inittab,
         Err(error) => return report_unread(alloc, table, &error, err),
     };
     let path = said.script.as_str();
-    match read_file(rt, alloc, path) {
+    match texts.read(alloc, path) {
         Ok(script) => run(alloc, &inittab, said.level, &script, out, err),
         Err(error) => report_unread(alloc, path, &error, err),
     }

@@ -11,7 +11,8 @@ use initd_options::Serving;
 use inittab_text::{LineFault, Table, TableFault, read};
 use level_core::Core;
 use os_host::OsHost;
-use program_edge::{DEVICE_FAULT, DONE, LIMIT_REACHED, read_file};
+use path_texts::Texts;
+use program_edge::{DEVICE_FAULT, DONE, LIMIT_REACHED};
 use run_log::{Log, LogFault, StreamLog};
 use std::alloc::{AllocError, Allocator, Global};
 use std::fs::File;
@@ -67,8 +68,9 @@ impl<F: Write + Drop> Write for TraceFile<F> {
 }
 
 /// Runs init over the operating system: reads the inittab, creates the trace anew, and makes the turns.
-pub(crate) fn serve_files<R, W: Write, E: Write>(
+pub(crate) fn serve_files<R, T: Texts, W: Write, E: Write>(
     rt: &R,
+    texts: &T,
     alloc: Global,
     said: &Serving,
     out: &mut W,
@@ -77,11 +79,11 @@ pub(crate) fn serve_files<R, W: Write, E: Write>(
 where
     R: Processes + Files + Clock + Print + Eprint + Clone + Drop,
     ensures { (ending : Ending) × (result ≡ status_of ending)
-        × EndsService (service_of said.now) ending (W.contents out.old) (W.contents out.new)
+        × EndsService (T.text_at texts.now) (service_of said.now) ending (W.contents out.old) (W.contents out.new)
         × Reports ending (E.contents err.old) (E.contents err.new) }
 {
     let path = said.inittab.as_str();
-    match read_file(rt, alloc, path) {
+    match texts.read(alloc, path) {
         Ok(text) => open_text(rt, alloc, said, &text, out, err),
         Err(error) => report_unread(alloc, path, &error, err),
     }

@@ -24,15 +24,15 @@ abbrev pub wants_usage : List (List ℕ) → Bool
 wants_usage words = is_empty words || list_any is_help words
 
 -- the script of the path was added to the scripts
-abbrev pub AddsScript : List ℕ → List ScriptText → List ScriptText → Type 0
-AddsScript path old new = (script : ScriptText) × IsScriptAt path script × (new ≡ old ++ script ∷ [])
+abbrev pub AddsScript : (List ℕ → Option (List ℕ)) → List ℕ → List ScriptText → List ScriptText → Type 0
+AddsScript text_at path old new = (script : ScriptText) × IsScriptAt text_at path script × (new ≡ old ++ script ∷ [])
 
 -- a script for each path, in order
-abbrev pub AreScripts : List (List ℕ) → List ScriptText → Type 0
-AreScripts [] [] = Unit {0}
-AreScripts [] (s ∷ scripts) = ⊥
-AreScripts (path ∷ paths) [] = ⊥
-AreScripts (path ∷ paths) (s ∷ scripts) = IsScriptAt path s × AreScripts paths scripts
+abbrev pub AreScripts : (List ℕ → Option (List ℕ)) → List (List ℕ) → List ScriptText → Type 0
+AreScripts text_at [] [] = Unit {0}
+AreScripts text_at [] (s ∷ scripts) = ⊥
+AreScripts text_at (path ∷ paths) [] = ⊥
+AreScripts text_at (path ∷ paths) (s ∷ scripts) = IsScriptAt text_at path s × AreScripts text_at paths scripts
 
 -- a writer gained the text of a plan of the scripts
 abbrev pub PrintsPlan : List ScriptText → Option (List ℕ) → Option (List ℕ) → Type 0
@@ -44,12 +44,12 @@ PrintsPlanPart scripts old new =
     (plan : List PlannedText) × IsPlan scripts plan × AppendsPrefix old new (plan_text plan)
 
 -- a writer gained the text of a plan of scripts of these paths
-abbrev pub PrintsLinks : List (List ℕ) → Option (List ℕ) → Option (List ℕ) → Type 0
-PrintsLinks paths old new = (scripts : List ScriptText) × AreScripts paths scripts × PrintsPlan scripts old new
+abbrev pub PrintsLinks : (List ℕ → Option (List ℕ)) → List (List ℕ) → Option (List ℕ) → Option (List ℕ) → Type 0
+PrintsLinks text_at paths old new = (scripts : List ScriptText) × AreScripts text_at paths scripts × PrintsPlan scripts old new
 
 -- a writer gained a prefix of the text of a plan of scripts of these paths
-abbrev pub PrintsPart : List (List ℕ) → Option (List ℕ) → Option (List ℕ) → Type 0
-PrintsPart paths old new = (scripts : List ScriptText) × AreScripts paths scripts × PrintsPlanPart scripts old new
+abbrev pub PrintsPart : (List ℕ → Option (List ℕ)) → List (List ℕ) → Option (List ℕ) → Option (List ℕ) → Type 0
+PrintsPart text_at paths old new = (scripts : List ScriptText) × AreScripts text_at paths scripts × PrintsPlanPart scripts old new
 
 -- 4 for want of memory, 1 for another fault of the plan
 abbrev pub plan_status : {A : Type 0} → PlanFault A → ℕ
@@ -64,11 +64,11 @@ abbrev pub HasNoPlan : List ScriptText → Type 0
 HasNoPlan scripts = (found : PlanFault Global) × IsRefused scripts found × (plan_status found ≡ 1)
 
 -- one of the files is refused for its name or its header
-abbrev pub HasRefused : List (List ℕ) → Type 0
-HasRefused paths =
-    (path : List ℕ) × Contains paths path × (found : FileFault) × IsNoScriptAt path found × (file_status found ≡ 1)
+abbrev pub HasRefused : (List ℕ → Option (List ℕ)) → List (List ℕ) → Type 0
+HasRefused text_at paths =
+    (path : List ℕ) × Contains paths path × (found : FileFault) × IsNoScriptAt text_at path found × (file_status found ≡ 1)
 
 -- why a run on these words is refused: the usage is wanted, a file is refused, or the scripts have no plan
-abbrev pub IsRefusedRun : List (List ℕ) → Type 0
-IsRefusedRun words = (wants_usage words ≡ true) ⊎ HasRefused words
-    ⊎ ((scripts : List ScriptText) × AreScripts words scripts × HasNoPlan scripts)
+abbrev pub IsRefusedRun : (List ℕ → Option (List ℕ)) → List (List ℕ) → Type 0
+IsRefusedRun text_at words = (wants_usage words ≡ true) ⊎ HasRefused text_at words
+    ⊎ ((scripts : List ScriptText) × AreScripts text_at words scripts × HasNoPlan scripts)

@@ -1,10 +1,13 @@
 -- The scripts of files.
-use Rattle.std.specs.Prelude.{◌≡◌, ℕ, Bool, true, false, ◌==◌, if◌then◌else◌, List, [], ◌∷◌, None, Err, Ok}
+use Rattle.std.specs.Prelude.{◌≡◌, ℕ, Bool, true, false, ◌==◌, if◌then◌else◌, List, [], ◌∷◌, Option, None, Err, Ok, IsSome}
 use Rattle.std.specs.List.{list_any}
+use Rattle.std.specs.IoError.{error_kind}
+use Rattle.std.specs.declared.io.ErrorKind.TheVariants.{OutOfMemory}
 use Rattle.lsb_header.specs.declared.faults.HeaderFault.{HeaderFault}
 use Rattle.lsb_header.specs.declared.faults.HeaderFault.TheVariants as header_fault
 use Rattle.lsb_header.specs.Headers.{header_read}
 use Rattle.lsb_header.specs.Places.{second_line}
+use Rattle.path_texts.specs.Known.{IsTextAt}
 use Rattle.rc_links.specs.Names.{is_name}
 use Rattle.rc_links.specs.ScriptText.{ScriptText}
 use Rattle.rclinks_command.specs.declared.files.FileFault.{FileFault}
@@ -25,9 +28,10 @@ pub record IsScriptOf (name text : List ℕ) (script : ScriptText) : Type 0 wher
   pub fit : is_name name ≡ true
   pub read : header_read text ≡ Ok script.header
 
--- the script of a file at this path, named by the path's last part, whatever text is read from it
-abbrev pub IsScriptAt : List ℕ → ScriptText → Type 0
-IsScriptAt path script = (text : List ℕ) × IsScriptOf (last_part path) text script
+-- the script of the text at this path, named by the path's last part
+abbrev pub IsScriptAt : (List ℕ → Option (List ℕ)) → List ℕ → ScriptText → Type 0
+IsScriptAt text_at path script =
+    (text : List ℕ) × IsTextAt text_at path text × IsScriptOf (last_part path) text script
 
 -- the fault of a file with this text, whose header has this one: a keyword that stands twice, with the second's line
 abbrev pub refusal_of : List ℕ → HeaderFault → FileFault
@@ -46,13 +50,13 @@ IsNoScript name text (fault.Header found line) =
     (is_name name ≡ true) × (header_read text ≡ Err found) × (refusal_of text found ≡ fault.Header found line)
 IsNoScript name text fault.Memory = Unit {0}
 
--- why the file at this path gives no script, whatever text is read from it
-abbrev pub IsNoScriptAt : List ℕ → FileFault → Type 0
-IsNoScriptAt path (fault.Unread error) = Unit {0}
-IsNoScriptAt path fault.Name = is_name (last_part path) ≡ false
-IsNoScriptAt path (fault.Header found line) =
-    (text : List ℕ) × IsNoScript (last_part path) text (fault.Header found line)
-IsNoScriptAt path fault.Memory = Unit {0}
+-- why the text at this path gives no script
+abbrev pub IsNoScriptAt : (List ℕ → Option (List ℕ)) → List ℕ → FileFault → Type 0
+IsNoScriptAt text_at path (fault.Unread error) = IsSome (text_at path) → error_kind error ≡ OutOfMemory
+IsNoScriptAt text_at path fault.Name = is_name (last_part path) ≡ false
+IsNoScriptAt text_at path (fault.Header found line) =
+    (text : List ℕ) × IsTextAt text_at path text × IsNoScript (last_part path) text (fault.Header found line)
+IsNoScriptAt text_at path fault.Memory = Unit {0}
 
 -- 1 for a name or a header that is refused, 4 for a file that is not read and for want of memory
 abbrev pub file_status : FileFault → ℕ

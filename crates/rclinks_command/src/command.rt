@@ -8,11 +8,11 @@ ghost use Rattle.rclinks_command.specs.Files.{IsNoScriptAt, file_status};
 
 use crate::files::{FileFault, script_of};
 use init_words::Memory;
+use path_texts::Texts;
 use program_edge::{DEVICE_FAULT, DONE, REFUSED, tell_usage, write_text};
 use rc_links::{Plan, PlanFault, Script, plan};
 use std::alloc::Global;
 use std::io::Write;
-use std::rt::Files;
 
 /// What is told of words that are no command line, and where help is asked for.
 pub const USAGE: &str = "rclinks: usage: rclinks FILE..\n";
@@ -25,36 +25,36 @@ struct Refusal<'w> {
 }
 
 /// Adds the script of a path.
-fn add_script<R: Files>(
-    rt: &R,
+fn add_script<T: Texts>(
+    texts: &T,
     alloc: Global,
     scripts: &mut Vec<Script>,
     path: &str,
 ) -> Result<(), FileFault>
-    ensures added { OnOk result (AddsScript path.now scripts.old.items scripts.new.items) }
-    ensures fault { IfErr result (IsNoScriptAt path.now) }
+    ensures added { OnOk result (AddsScript (T.text_at texts.now) path.now scripts.old.items scripts.new.items) }
+    ensures fault { IfErr result (IsNoScriptAt (T.text_at texts.now) path.now) }
 {
-    let script = script_of(rt, alloc, path)?;
+    let script = script_of(texts, alloc, path)?;
     scripts.push(script).map_err(Memory::from)?;
     Ok(())
 }
 
 /// Reads the scripts of the paths, in order, up to the first that gives none.
-fn scripts_of<'w, R: Files>(
-    rt: &R,
+fn scripts_of<'w, T: Texts>(
+    texts: &T,
     alloc: Global,
     words: &'w [String],
 ) -> Result<Vec<Script>, Refusal<'w>>
     ensures scripts { IfOk result (λ scripts.
-        AreScripts (map string_bytes words.now) scripts.items) }
+        AreScripts (T.text_at texts.now) (map string_bytes words.now) scripts.items) }
     ensures path { IfErr result (λ refusal.
         Contains (map string_bytes words.now) refusal.path.now) }
-    ensures fault { IfErr result (λ refusal. IsNoScriptAt refusal.path.now refusal.fault) }
+    ensures fault { IfErr result (λ refusal. IsNoScriptAt (T.text_at texts.now) refusal.path.now refusal.fault) }
 {
     let mut scripts = Vec::new(alloc);
     for word in words {
         let path = word.as_str();
-        if let Err(fault) = add_script(rt, alloc, &mut scripts, path) {
+        if let Err(fault) = add_script(texts, alloc, &mut scripts, path) {
             return Err(Refusal { fault, path });
         }
     }
@@ -184,8 +184,8 @@ fn wants_usage(words: &[String]) -> bool
 /// `out`, 1 where there are no words or one is `--help` or `-h`, or where a script's name or header or the plan is
 /// refused, 4 where a file can't be read, the output fails or memory runs out. The first fault ends the run and is told
 /// on `err`.
-pub fn run_words<R: Files, W: Write, E: Write>(
-    rt: &R,
+pub fn run_words<T: Texts, W: Write, E: Write>(
+    texts: &T,
     alloc: Global,
     words: &[String],
     out: &mut W,
@@ -195,19 +195,21 @@ pub fn run_words<R: Files, W: Write, E: Write>(
     ensures usage { wants_usage (map string_bytes words.now) ≡ true → result ≡ REFUSED }
     // The links of all of the files were written.
     ensures done { result ≡ DONE →
-        PrintsLinks (map string_bytes words.now) (W.contents out.old) (W.contents out.new) }
+        PrintsLinks (T.text_at texts.now) (map string_bytes words.now) (W.contents out.old)
+        (W.contents out.new) }
     ensures silent { result ≡ DONE → err.new ≡ err.old }
     // The usage was wanted, a file was refused, or the scripts have no plan.
-    ensures refused { result ≡ REFUSED → IsRefusedRun (map string_bytes words.now) }
+    ensures refused { result ≡ REFUSED → IsRefusedRun (T.text_at texts.now) (map string_bytes words.now) }
     ensures quiet { result ≡ REFUSED → out.new ≡ out.old }
     // Nothing was written, or a prefix of the links, which may be the whole.
     ensures part { (out.new ≡ out.old)
-        ⊎ PrintsPart (map string_bytes words.now) (W.contents out.old) (W.contents out.new) }
+        ⊎ PrintsPart (T.text_at texts.now) (map string_bytes words.now) (W.contents out.old)
+        (W.contents out.new) }
 {
     if wants_usage(words) {
         return tell_usage(USAGE, err);
     }
-    match scripts_of(rt, alloc, words) {
+    match scripts_of(texts, alloc, words) {
         Ok(scripts) => print_plan(alloc, scripts.as_slice(), out, err),
         Err(refusal) => tell_file(&refusal, err),
     }

@@ -4,11 +4,11 @@ ghost use Rattle.rclinks_command.specs.Files.{IsNoScript, IsNoScriptAt, IsScript
 
 use init_words::Memory;
 use lsb_header::{HeaderFault, read, second_line};
-use program_edge::{DEVICE_FAULT, REFUSED, read_file};
+use path_texts::Texts;
+use program_edge::{DEVICE_FAULT, REFUSED};
 use rc_links::{Script, is_name};
 use std::alloc::Global;
 use std::io;
-use std::rt::Files;
 
 /// Why a file gives no script.
 #[derive(Clone, Copy, Debug)]
@@ -94,11 +94,11 @@ fn script_in(alloc: Global, name: &[u8], text: &[u8]) -> Result<Script, FileFaul
 }
 
 /// Reads the script of a path.
-pub(crate) fn script_of<R: Files>(rt: &R, alloc: Global, path: &str) -> Result<Script, FileFault>
-    ensures script { IfOk result (IsScriptAt path.now) }
-    ensures fault { IfErr result (IsNoScriptAt path.now) }
+pub(crate) fn script_of<T: Texts>(texts: &T, alloc: Global, path: &str) -> Result<Script, FileFault>
+    ensures script { IfOk result (IsScriptAt (T.text_at texts.now) path.now) }
+    ensures fault { IfErr result (IsNoScriptAt (T.text_at texts.now) path.now) }
 {
-    match read_file(rt, alloc, path) {
+    match texts.read(alloc, path) {
         Ok(text) => script_in(alloc, last_part(path.as_bytes()), text.as_slice()),
         Err(error) => Err(FileFault::Unread(error)),
     }

@@ -23,46 +23,46 @@ no_turns true true is = cc
 no_turns true false is = cc
 
 -- an ending of what was read
-ends_by : (words : List (List ℕ)) (said : Said) → read_of words ≡ Some said → (ending : Ending) (old new : Option (List ℕ))
-    → EndsSaid said ending old new → EndsBy words ending old new
-ends_by words said is done old new ends = (said, is, ends)
-ends_by words (runs run) is usage old new ends = absurd ends.2
-ends_by words (judges path) is usage old new ends = absurd (no_usage ends.1.0 (first_breach (reverse ends.1.0)) old new ends.1.3)
-ends_by words (serves service) is usage old new ends =
-    let turned = ends.1.1 in absurd (no_turns turned.0.logged (service.drain && turned.0.drained) turned.1)
-ends_by words (serves service) is no_memory old new ends = ends.1.1
-ends_by words (runs run) is no_memory old new ends = absurd ends.2
-ends_by words (judges path) is no_memory old new ends = ends.1
-ends_by words said is (unread path why) old new ends = (said, is, ends)
-ends_by words said is (stopped script f) old new ends = (said, is, ends)
-ends_by words said is unflushed old new ends = (said, is, ends)
-ends_by words said is lawful old new ends = (said, is, ends)
-ends_by words said is (unlawful message) old new ends = (said, is, ends)
-ends_by words said is (torn line) old new ends = (said, is, ends)
-ends_by words said is unwritten old new ends = (said, is, ends)
-ends_by words said is drained old new ends = (said, is, ends)
-ends_by words said is limited old new ends = (said, is, ends)
-ends_by words said is unlogged old new ends = (said, is, ends)
-ends_by words said is (uncreated path why) old new ends = (said, is, ends)
-ends_by words said is untold old new ends = (said, is, ends)
+ends_by : (text_at : List ℕ → Option (List ℕ)) (words : List (List ℕ)) (said : Said) → read_of words ≡ Some said → (ending : Ending) (old new : Option (List ℕ))
+    → EndsSaid text_at said ending old new → EndsBy text_at words ending old new
+ends_by text_at words said is done old new ends = (said, is, ends)
+ends_by text_at words (runs run) is usage old new ends = absurd ends.4
+ends_by text_at words (judges path) is usage old new ends = absurd (no_usage ends.2.0 (first_breach (reverse ends.2.0)) old new ends.2.3)
+ends_by text_at words (serves service) is usage old new ends =
+    let turned = ends.2.1 in absurd (no_turns turned.0.logged (service.drain && turned.0.drained) turned.1)
+ends_by text_at words (serves service) is no_memory old new ends = ends.2.1
+ends_by text_at words (runs run) is no_memory old new ends = absurd ends.4
+ends_by text_at words (judges path) is no_memory old new ends = ends.2
+ends_by text_at words said is (unread path why) old new ends = (said, is, ends)
+ends_by text_at words said is (stopped script f) old new ends = (said, is, ends)
+ends_by text_at words said is unflushed old new ends = (said, is, ends)
+ends_by text_at words said is lawful old new ends = (said, is, ends)
+ends_by text_at words said is (unlawful message) old new ends = (said, is, ends)
+ends_by text_at words said is (torn line) old new ends = (said, is, ends)
+ends_by text_at words said is unwritten old new ends = (said, is, ends)
+ends_by text_at words said is drained old new ends = (said, is, ends)
+ends_by text_at words said is limited old new ends = (said, is, ends)
+ends_by text_at words said is unlogged old new ends = (said, is, ends)
+ends_by text_at words said is (uncreated path why) old new ends = (said, is, ends)
+ends_by text_at words said is untold old new ends = (said, is, ends)
 
 pub returns-in-Ok-Simulate : goal.returns-in-Ok-Simulate
 returns-in-Ok-Simulate g c =
     let (ending, status, ends, reported) = c.simulate_files.ensures in
     let is : read_of (map string_bytes c.args.words.items) ≡ Some (runs (run_of c.in-Ok-Simulate.said)) = search rules in
-    (ending, status, ends_by _ (runs (run_of c.in-Ok-Simulate.said)) is ending (g.W.Write.contents c.args.out.now) (g.W.Write.contents c.simulate_files.new.out) ends, reported)
+    (ending, status, ends_by (g.T.Texts.text_at c.args.texts.now) _ (runs (run_of c.in-Ok-Simulate.said)) is ending (g.W.Write.contents c.args.out.now) (g.W.Write.contents c.simulate_files.new.out) ends, reported)
 
 pub returns-in-Ok-Check : goal.returns-in-Ok-Check
 returns-in-Ok-Check g c =
     let (ending, status, ends, reported) = c.check_file.ensures in
     let is : read_of (map string_bytes c.args.words.items) ≡ Some (judges c.as_str.result.now) = search rules in
-    (ending, status, ends_by _ (judges c.as_str.result.now) is ending (g.W.Write.contents c.args.out.now) (g.W.Write.contents c.check_file.new.out) ends, reported)
+    (ending, status, ends_by (g.T.Texts.text_at c.args.texts.now) _ (judges c.as_str.result.now) is ending (g.W.Write.contents c.args.out.now) (g.W.Write.contents c.check_file.new.out) ends, reported)
 
 pub returns-in-Ok-Run : goal.returns-in-Ok-Run
 returns-in-Ok-Run g c =
     let (ending, status, ends, reported) = c.serve_files.ensures in
     let is : read_of (map string_bytes c.args.words.items) ≡ Some (serves (service_of c.in-Ok-Run.said)) = search rules in
-    (ending, status, ends_by _ (serves (service_of c.in-Ok-Run.said)) is ending (g.W.Write.contents c.args.out.now) (g.W.Write.contents c.serve_files.new.out) ends, reported)
+    (ending, status, ends_by (g.T.Texts.text_at c.args.texts.now) _ (serves (service_of c.in-Ok-Run.said)) is ending (g.W.Write.contents c.args.out.now) (g.W.Write.contents c.serve_files.new.out) ends, reported)
 
 pub returns-in-Err-Usage : goal.returns-in-Err-Usage
 returns-in-Err-Usage g c =

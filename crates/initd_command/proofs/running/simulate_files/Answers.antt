@@ -13,6 +13,6 @@ returns-in-Err g c =
 -- the script was not read
 pub returns : goal.returns
 returns g c =
-    let (why, reported) = c.report_unread-in-Err-read_file.ensures.reported in
+    let (why, reported) = c.report_unread-in-Err-read.ensures.reported in
     let path : c.as_str-path.result.now ≡ string_bytes c.args.said.now.script = search rules in
-    (unread c.as_str-path.result.now why, c.report_unread-in-Err-read_file.ensures.status, (inr path, Keeps-refl (g.W.Write.contents c.args.out.now)), reported)
+    (unread c.as_str-path.result.now why, c.report_unread-in-Err-read.ensures.status, (inr path, Keeps-refl (g.W.Write.contents c.args.out.now)), reported)

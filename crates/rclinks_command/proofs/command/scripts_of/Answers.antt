@@ -15,6 +15,6 @@ loop-word-preserved g c = λ more rest.
     let n = c.loop-word.word-index in
     let cut = cut_at words n c.word-item.result c.loop-word-test.true c.word-item.is in
     let added = c.in_default.ensures.added in
-    let here = subst (λ path. IsScriptAt path added.0) c.as_str-path.ensures.value added.1 in
+    let here = subst (λ path. IsScriptAt (g.T.Texts.text_at c.args.texts.now) path added.0) c.as_str-path.ensures.value added.1 in
     let whole = append_assoc c.loop-word.scripts.items (added.0 ∷ []) more in
     rw (added.2, whole) (c.loop-word.invariant (added.0 ∷ more) (rw cut.0 (here, rest)))

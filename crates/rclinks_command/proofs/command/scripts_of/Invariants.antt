@@ -5,4 +5,5 @@ use Rattle.rclinks_command.proofs.command.scripts_of.Given as goal
 
 abbrev pub invariant-loop-word : goal.invariant-loop-word
 invariant-loop-word g l =
-    (more : List ScriptText) → AreScripts (map string_bytes (drop l.word-index l.words)) more → AreScripts (map string_bytes l.words) (l.scripts.items ++ more)
+    let text_at = g.T.Texts.text_at l.texts in
+    (more : List ScriptText) → AreScripts text_at (map string_bytes (drop l.word-index l.words)) more → AreScripts text_at (map string_bytes l.words) (l.scripts.items ++ more)

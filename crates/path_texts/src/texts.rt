@@ -1,0 +1,34 @@
+ghost use Rattle.std.specs.Prelude.{◌≡◌, ℕ, List, Option, IfOk, IfErr, IsSome};
+ghost use Rattle.std.specs.IoError.{error_kind};
+ghost use Rattle.path_texts.specs.Known.{IsTextAt};
+
+use program_edge::read_file;
+use std::alloc::Allocator;
+use std::io;
+use std::io::ErrorKind;
+use std::rt::Files;
+
+/// What reads the text at a path.
+///
+/// A contract sees of it the text that stands at a path, where it is known. It may be known of no path.
+pub trait Texts {
+    /// The text at a path; None where it isn't known.
+    ghost text_at: { Self → List ℕ → Option (List ℕ) };
+
+    /// The text at a path, in memory of `alloc`. A text that is known is refused only for want of memory.
+    fn read<A: Allocator>(&self, alloc: A, path: &str) -> io::Result<Vec<u8, A>>
+        ensures text { IfOk result (λ text. IsTextAt (text_at self.now) path.now text.items) }
+        ensures refused { IfErr result (λ why. IsSome (text_at self.now path.now)
+            → error_kind why ≡ ErrorKind.OutOfMemory) };
+}
+
+/// The files of the operating system. Nothing is known of their texts.
+impl<R: Files> Texts for R {
+    ghost use Rattle.std.specs.Prelude.{None};
+
+    ghost text_at = { λ _ _. None };
+
+    fn read<A: Allocator>(&self, alloc: A, path: &str) -> io::Result<Vec<u8, A>> {
+        read_file(self, alloc, path)
+    }
+}
