@@ -1,8 +1,7 @@
 -- Before the first stage no order is open in a sound trace.
-use Rattle.std.proofs.Common.{◌≡◌, refl, sym, ◌∙◌, ap, ℕ, Bool, true, not, cond, List, [], ◌∷◌, filter, Option, Some, None}
+use Rattle.std.proofs.Common.{◌≡◌, refl, sym, ap, ℕ, true, not, cond, List, [], ◌∷◌, filter, Some, None}
 use Rattle.std.specs.List.{list_any}
 use Rattle.std.proofs.lemmas.Option.{none-some}
-use Rattle.init_words.specs.declared.entries.Entry.{Entry}
 use Rattle.init_words.specs.declared.orders.Ask.{Ask}
 use Rattle.init_words.specs.declared.orders.Ask.TheVariants.{Start, Look, Term, Kill}
 use Rattle.init_words.specs.Ids.{same_id}

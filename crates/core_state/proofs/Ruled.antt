@@ -23,7 +23,7 @@ use Rattle.init_trace.specs.Wanted.{is_order}
 use Rattle.init_trace.specs.Wishes.{in_run}
 use Rattle.child_table.specs.State.{SlotState, is_act}
 use Rattle.child_table.specs.Judging.{is_excluded}
-use Rattle.child_table.specs.Lists.{is_slot_of, are_distinct, is_busy}
+use Rattle.child_table.specs.Lists.{is_slot_of, are_distinct}
 use Rattle.child_table.specs.Order.{IsInOrder}
 use Rattle.child_table.specs.Times.{is_timely, are_timely}
 use Rattle.child_table.proofs.Found.{is_listed, others, rest_distinct}
@@ -31,7 +31,7 @@ use Rattle.core_state.specs.Decide.{is_owed_slot}
 use Rattle.core_state.specs.Rules.{has_cause, is_birth_known, allows_order, is_order_allowed, is_started, is_start_allowed, are_starts_along, are_starts_in, are_starts_free, is_excluded_in, is_stop_judged, are_marks_due, is_limiter_kept, is_other_level, is_goal_reached, IsFit}
 use Rattle.core_state.specs.State.{CoreState}
 use Rattle.core_state.proofs.Each.{Each, each_from, each_fails, each_all, each_both, each_less}
-use Rattle.core_state.proofs.RuledStarts.{started_busy, none_busy, along_rest}
+use Rattle.core_state.proofs.RuledStarts.{along_rest}
 use Rattle.core_state.proofs.RuledRecord.{IsRuled}
 
 -- what the rules say of a record, with what follows from all of them: its action is the table's, the child of an open

@@ -11,7 +11,6 @@ use Rattle.initctl_frame.specs.declared.requests.Got.TheVariants as got
 use Rattle.init_trace.specs.declared.steps.Goal.{Goal}
 use Rattle.child_table.specs.State.{SlotState}
 use Rattle.child_table.specs.Changes.{after_nudge}
-use Rattle.child_table.specs.Lists.{is_busy}
 use Rattle.child_table.proofs.Ordered.{order_map}
 use Rattle.child_table.proofs.Timely.{timely_map, timely_later}
 use Rattle.core_state.specs.Rules.{is_started, is_other_level, is_goal_reached, IsFit}

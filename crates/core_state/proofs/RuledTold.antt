@@ -15,7 +15,7 @@ use Rattle.init_words.proofs.Tests.{any_filtered, falsely}
 use Rattle.init_trace.specs.Wanted.{is_order}
 use Rattle.child_table.specs.State.{SlotState}
 use Rattle.child_table.specs.Changes.{after_answer, is_over}
-use Rattle.child_table.specs.Lists.{is_slot_of, slot_of, order_of, order_in, is_busy, changed, with_changed, without, refusal_of, is_over_of, after_told}
+use Rattle.child_table.specs.Lists.{is_slot_of, slot_of, order_of, order_in, changed, with_changed, without, refusal_of, is_over_of, after_told}
 use Rattle.child_table.specs.Order.{IsInOrder}
 use Rattle.child_table.specs.Times.{are_timely}
 use Rattle.child_table.proofs.Changed.{id-after_answer}

@@ -32,7 +32,6 @@ use Rattle.core_state.specs.Steps.{is_boot, wished, is_named, after_step, after_
 use Rattle.core_state.proofs.Ruled.{all_kept, heads_kept, kept_by}
 use Rattle.core_state.proofs.RuledAsked.{start_all_ruled, child_ruled, hold_ruled}
 use Rattle.core_state.proofs.RuledMade.{opening_ruled, entered_ruled, adopted_ruled, called_ruled}
-use Rattle.core_state.proofs.RuledStarts.{none_started}
 use Rattle.core_state.proofs.RuledTold.{answer_ruled}
 use Rattle.core_state.proofs.RuledWalk.{walk_kept}
 

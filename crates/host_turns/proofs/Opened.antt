@@ -1,5 +1,5 @@
 -- A run from its opening.
-use Rattle.std.proofs.Common.{◌≡◌, refl, sym, subst, ℕ, zero, suc, ◌⊎◌, inl, inr, Bool, true, false, List, [], ◌∷◌, ◌++◌, Option}
+use Rattle.std.proofs.Common.{◌≡◌, refl, sym, subst, ℕ, zero, suc, inl, inr, Bool, true, List, [], ◌∷◌, Option}
 use Rattle.init_words.specs.declared.entries.Entry.{Entry}
 use Rattle.init_words.specs.declared.levels.Level.{Level}
 use Rattle.inittab_text.specs.Tables.{is_distinct}
@@ -17,7 +17,7 @@ use Rattle.host_trace.specs.Turns.{AreTurns}
 use Rattle.host_trace.proofs.Record.{Since-map}
 use Rattle.host_trace.proofs.Taking.{Took-then}
 use Rattle.host_turns.specs.Parts.{Fresh, LeftBy, Makes}
-use Rattle.host_turns.specs.Opening.{IsOpening, IsOpeningOf, LeadsFrom, OpeningState, Opens, WentFrom, opening_point}
+use Rattle.host_turns.specs.Opening.{IsOpening, IsOpeningOf, LeadsFrom, OpeningState, Opens, opening_point}
 
 -- turns that are said of what fitted are said of what is narrower
 turns_narrower : (drain : Bool) (f g : Goal → Point → Type 0) → ((goal : Goal) (p : Point) → g goal p → f goal p) → (n : ℕ) (calls : List HostCall) → AreTurns drain f n calls → AreTurns drain g n calls
@@ -51,18 +51,20 @@ opened told now_told l₀ l₁ l₂ level table drain drained n core new fresh d
     leads : (calls : List HostCall) → Leads (Fresh core) (LeftBy new) l₁ l₂ calls → LeadsFrom level table drained l₀ l₂ calls
     leads calls all allowed =
         let led = all (opening_goal level table) (opening_point table) distinct fresh allowed in
-        let past = (point_after calls (opening_point table)).past in
-        (led.0, (λ carried.
-            let went : Went (LeftBy new) l₁ l₂ (opening_goal level table) (opening_point table) calls = led.1 carried in
-            record {
-              in_place = went.in_place;
-              sound = went.sound;
-              unbroken = lawful_unbroken past (sound_lawful (opening_goal level table) past went.sound);
-              core = new;
-              fits = went.fits;
-              rests = ends;
-              log = Took-then l₀ l₁ l₂ [] (NewTable table ∷ []) past (took refl) (went.log refl);
-            }))
+        let past = (point_after calls (opening_point table)).past in (
+          led.0,
+          (λ carried.
+              let went : Went (LeftBy new) l₁ l₂ (opening_goal level table) (opening_point table) calls = led.1 carried in
+              record {
+                in_place = went.in_place;
+                sound = went.sound;
+                unbroken = lawful_unbroken past (sound_lawful (opening_goal level table) past went.sound);
+                core = new;
+                fits = went.fits;
+                rests = ends;
+                log = Took-then l₀ l₁ l₂ [] (NewTable table ∷ []) past (took refl) (went.log refl);
+              }),
+        )
 
 -- of an opening, the log and the turns
 pub opened_by : (told now_told : Option (List HostCall)) (l₀ l₁ l₂ : LogState) (drain drained : Bool) (n : ℕ) (o : OpeningState) (new : CoreState)

@@ -1,12 +1,7 @@
 -- Parts of a turn, one behind the other.
-use Rattle.std.proofs.Common.{◌≡◌, refl, sym, ◌∙◌, subst, ℕ, suc, ◌+◌, ◌≤◌, true, false, inl, inr, List, [], ◌∷◌, ◌++◌, Option, arith}
-use Rattle.std.specs.List.{list_all}
-use Rattle.std.proofs.lemmas.Bool.{and_from}
-use Rattle.std.proofs.lemmas.List.Folds.{list_all-append}
-use Rattle.init_trace.specs.declared.happenings.Happening.TheVariants as past
+use Rattle.std.proofs.Common.{◌≡◌, refl, sym, subst, ℕ, suc, ◌+◌, ◌≤◌, true, false, inl, inr, List, [], ◌∷◌, ◌++◌, Option, arith}
 use Rattle.init_trace.specs.declared.steps.Goal.{Goal}
 use Rattle.run_log.specs.Logs.{LogState}
-use Rattle.child_host.specs.declared.calls.Call.TheVariants.{Announce}
 use Rattle.child_host.specs.Calls.{HostCall, Adds}
 use Rattle.host_trace.specs.Point.{Point}
 use Rattle.host_trace.specs.Leads.{Leads}

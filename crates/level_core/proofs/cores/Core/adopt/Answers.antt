@@ -1,6 +1,4 @@
-use Rattle.std.proofs.Common.{subst}
 use Rattle.level_core.proofs.Kept.{adopt_kept, adopted_fits}
-use Rattle.core_state.specs.Fit.{Fits, OnEachTrace}
 use Rattle.level_core.proofs.cores.Core.adopt.Goals as goal
 
 pub invariant_of-self : goal.invariant_of-self

@@ -1,4 +1,4 @@
-use Rattle.std.proofs.Common.{◌∙◌, rules, sym, ap}
+use Rattle.std.proofs.Common.{◌∙◌, rules, ap}
 use Rattle.child_table.specs.Lists.{order_in, refusal_of}
 use Rattle.core_state.specs.State.{CoreState}
 use Rattle.core_state.proofs.Hearing.{answer_taken, fits_told}
