@@ -174,7 +174,7 @@ carrying_goes (handed.Older generation) text back p none outcome = ap (λ (so_fa
 carrying_goes handed.Failed text back p none outcome = ap (λ (so_far : List Event). past.Handed handed.Failed ∷ so_far) (handing_goes (came_whole text back) p.past none)
 
 carrying_placed : (how : HandOver) (text : List ℕ) (back : TextRead) (goal : Goal) (p : Point) → is_first goal step.Reexec p.past ≡ true → is_outcome how text back ≡ true → has_trace goal (carrying how text back) p ≡ true
-carrying_placed handed.Whole text back goal p due outcome = and_from (is_first goal step.Reexec p.past) true due refl
+carrying_placed handed.Whole text back goal p due outcome = and_from (came_whole text back && true) (is_first goal step.Reexec p.past && true) (and_from (came_whole text back) true outcome refl) (and_from (is_first goal step.Reexec p.past) true due refl)
 carrying_placed (handed.Cut bytes) text back goal p due outcome = and_from (is_refusal (handed.Cut bytes) text back) (is_first goal step.Reexec p.past && true) outcome (and_from (is_first goal step.Reexec p.past) true due refl)
 carrying_placed (handed.Older generation) text back goal p due outcome = and_from (is_refusal (handed.Older generation) text back) (is_first goal step.Reexec p.past && true) outcome (and_from (is_first goal step.Reexec p.past) true due refl)
 carrying_placed handed.Failed text back goal p due outcome = and_from (is_refusal handed.Failed text back) (is_first goal step.Reexec p.past && true) outcome (and_from (is_first goal step.Reexec p.past) true due refl)

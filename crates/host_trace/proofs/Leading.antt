@@ -20,7 +20,7 @@ use Rattle.run_log.specs.Logs.{LogState}
 use Rattle.host_trace.specs.Point.{Point, last_birth, acted, is_asked_for, answered, ordered, order_for, come, is_last, nudged_if, byte_after, bytes_after, reading, before_reading, before_handing, came_whole, handed_if, announced, is_said, after, point_after, is_in_place}
 use Rattle.host_trace.specs.Leads.{AreTexts, Counted, IsStateText, meets, is_allowed, comes_back, are_carried, gone_on, Took, Went, Leads, Heard, Hears}
 use Rattle.host_trace.specs.Turns.{takes_none}
-use Rattle.host_trace.proofs.Point.{point_after-append, has_trace-append}
+use Rattle.host_trace.proofs.Point.{point_after-append, has_trace-append, has_trace-one}
 use Rattle.host_trace.proofs.Seconds.{logged, short_then}
 use Rattle.host_trace.proofs.Taking.{Logs-none, Logs-then, Took-none, Took-then}
 
@@ -121,7 +121,7 @@ Leads-heard fitted fit old new call more hears comes place texts goal p sound fi
       let heard : Heard fit old new goal p (gone_on more p) = hears goal p sound fits (ap (λ (q : Point). is_allowed goal q.past) (sym (comes p)) ∙ allowed) in
       let behind : Heard fit old new goal p (after call p) = subst (Heard fit old new goal p) (sym (comes p)) heard in
       record {
-        in_place = and_from (is_in_place goal call [] p.past) true (place goal p sound fits) refl;
+        in_place = has_trace-one goal call p (ap (λ (q : Point). q.generation) (comes p)) (place goal p sound fits);
         sound = behind.sound;
         fits = behind.fits;
         log = logged goal (call ∷ []) p old new behind.sound behind.log;
@@ -254,7 +254,7 @@ pub Leads-still : (fit : Goal → Point → Type 0) (log : LogState) (call : Hos
 Leads-still fit log call still place texts goal p sound fits allowed = (
   texts goal p,
   λ carried. record {
-    in_place = and_from (is_in_place goal call [] p.past) true (place goal p.past) refl;
+    in_place = has_trace-one goal call p (ap (λ (q : Point). q.generation) (still p)) (place goal p.past);
     sound = ap (λ (q : Point). is_sound goal q.past) (still p) ∙ sound;
     fits = subst (fit goal) (sym (still p)) fits;
     log = λ short. subst (λ (q : Point). Took log log p.past q.past) (sym (still p)) (Took-none log p.past);

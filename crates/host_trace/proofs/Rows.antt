@@ -180,7 +180,20 @@ cut_elsewhere-is_not = refl
 not_cut-is_not : has_trace goal (Announce (past.Handed (handed.Cut 28)) ∷ anew (Ok text)) opening ≡ false
 not_cut-is_not = refl
 
+-- what is not said is that it was refused for another cause; nor is nothing said, or something between
+cut_as_none-is_not : has_trace goal (Announce (past.Handed handed.Failed) ∷ anew (Ok (codes "init"))) opening ≡ false
+cut_as_none-is_not = refl
+
+cut_unsaid-is_not : has_trace goal (anew (Ok (codes "init"))) opening ≡ false
+cut_unsaid-is_not = refl
+
+cut_said_late-is_not : has_trace goal (Announce (past.Handed handed.Failed) ∷ Pause ∷ anew (Ok (codes "init"))) opening ≡ false
+cut_said_late-is_not = refl
+
 -- it was refused for another cause, though it came back whole: that stands for the hand-over
+failed-in_place : has_trace goal (Announce (past.Handed handed.Failed) ∷ anew (Ok text)) opening ≡ true
+failed-in_place = refl
+
 failed-is : (point_after (Announce (past.Handed handed.Failed) ∷ anew (Ok text)) opening).past ≡ past.Handed handed.Failed ∷ (point_after asked_anew opening).past
 failed-is = refl
 

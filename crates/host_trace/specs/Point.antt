@@ -135,6 +135,11 @@ abbrev pub came_whole : List ℕ → TextRead → Bool
 came_whole text (Ok back) = same_text text back
 came_whole text (Err fault) = false
 
+-- it came back cut: it begins so, and goes on
+abbrev pub came_cut : List ℕ → TextRead → Bool
+came_cut text (Ok back) = starts_with ◌==◌ text back && nat_lt (length back) (length text)
+came_cut text (Err fault) = false
+
 -- a state text that came back as it was is taken over: the next init goes on
 abbrev pub handed_if : Bool → List Event → List Event
 handed_if true so_far = past.Handed handed.Whole ∷ so_far
@@ -195,14 +200,13 @@ was_reading _ = false
 abbrev pub is_of_generation : ℕ → List ℕ → Bool
 is_of_generation generation text = option_map_or (λ g. g == generation) (generation_of text) false
 
--- What a text that was carried came to, where it was not taken over: it came back cut to so many bytes, or as that of
--- another generation, or was refused for another cause.
+-- What a text that was carried came to, where it was not taken over: it came back cut, to so many bytes; or as that of
+-- another generation; or it was refused for another cause than that it came back cut.
 abbrev pub is_refusal : HandOver → List ℕ → TextRead → Bool
-is_refusal (handed.Cut bytes) text (Ok back) =
-    starts_with ◌==◌ text back && length back == bytes && nat_lt bytes (length text)
+is_refusal (handed.Cut bytes) text (Ok back) = came_cut text (Ok back) && length back == bytes
 is_refusal (handed.Older generation) text (Ok back) =
     is_of_generation generation back && not (is_of_generation generation text)
-is_refusal handed.Failed text back = true
+is_refusal handed.Failed text back = not (came_cut text back)
 is_refusal _ text back = false
 
 -- the calls by which a text was carried, and what came of it was said
@@ -243,8 +247,19 @@ is_in_place goal (Carry text back) earlier so_far = is_first goal step.Reexec so
 is_in_place goal (Announce happening) earlier so_far = may_announce goal happening earlier so_far
 is_in_place goal _ earlier so_far = true
 
--- the calls have a trace: each was made in its place
+-- so was each call
+abbrev pub are_in_place : Goal → List HostCall → Point → Bool
+are_in_place goal [] p = true
+are_in_place goal (call ∷ calls) p =
+    is_in_place goal call calls (point_after calls p).past && are_in_place goal calls p
+
+-- what came of each text that was carried is told: it came back as it was, or the next call says what became of it
+abbrev pub tells_outcomes : List HostCall → Bool
+tells_outcomes [] = true
+tells_outcomes (Announce (past.Handed how) ∷ Carry text back ∷ calls) = tells_outcomes calls
+tells_outcomes (Carry text back ∷ calls) = came_whole text back && tells_outcomes calls
+tells_outcomes (_ ∷ calls) = tells_outcomes calls
+
+-- the calls have a trace: each was made in its place, and what came of each text that was carried is told
 abbrev pub has_trace : Goal → List HostCall → Point → Bool
-has_trace goal [] p = true
-has_trace goal (call ∷ calls) p =
-    is_in_place goal call calls (point_after calls p).past && has_trace goal calls p
+has_trace goal calls p = tells_outcomes calls && are_in_place goal calls p

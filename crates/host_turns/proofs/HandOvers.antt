@@ -1,8 +1,8 @@
 -- What comes of a state text that is carried.
-use Rattle.std.proofs.Common.{◌≡◌, refl, sym, ap, ◌∙◌, subst, ℕ, Bool, true, false, ◌==◌, ◌&&◌, ◌||◌, not, nat_lt, List, [], ◌∷◌, ◌++◌, length, drop, append-nil, Option, Some, Ok}
+use Rattle.std.proofs.Common.{◌≡◌, refl, sym, ap, ◌∙◌, subst, ℕ, ◌+◌, Bool, true, false, ◌==◌, ◌&&◌, ◌||◌, not, nat_lt, List, [], ◌∷◌, ◌++◌, length, drop, append-nil, Option, Some, None, Ok, arith, length-append}
 use Rattle.std.specs.List.{starts_with}
 use Rattle.std.specs.Option.{option_map_or}
-use Rattle.std.proofs.lemmas.Bool.{false≢true, and_from, and_parts, eq-eqb, eqb-true}
+use Rattle.std.proofs.lemmas.Bool.{false≢true, and_from, and_parts, eq-eqb, eqb-true, ltb-true}
 use Rattle.std.proofs.lemmas.Bool.Decides.{Decides-eqb}
 use Rattle.std.proofs.lemmas.Option.{same_Some}
 use Rattle.std.proofs.lemmas.Slice.Eq.{starts_is}
@@ -19,12 +19,13 @@ use Rattle.core_state.specs.State.{CoreState}
 use Rattle.core_state.specs.Steps.{after_handed_on}
 use Rattle.state_text.specs.Range as range
 use Rattle.state_text.specs.Reading.{generation_of}
-use Rattle.state_text.specs.Refused.{IsOther, Says}
+use Rattle.state_text.specs.Refused.{IsCut, IsOther, Says}
+use Rattle.state_text.proofs.Ends.{whole_ends}
 use Rattle.state_text.proofs.Prefixes.{generation_said, no_prefix}
 use Rattle.run_log.specs.Logs.{LogState}
 use Rattle.child_host.specs.declared.calls.Call.TheVariants.{Announce, Carry}
 use Rattle.child_host.specs.Calls.{Adds, HostCall, TextRead}
-use Rattle.host_trace.specs.Point.{carrying, is_of_generation, is_outcome, same_text}
+use Rattle.host_trace.specs.Point.{came_cut, carrying, is_of_generation, is_outcome, is_refusal, same_text}
 use Rattle.host_trace.specs.Leads.{Gave, Leads, Logs, Tracks, comes_back}
 use Rattle.host_trace.proofs.Calling.{HandedOn, Leads-carried}
 use Rattle.host_turns.specs.Parts.{ComesTo, IsStep, Makes, Saying}
@@ -57,10 +58,17 @@ taken_back old next text back says fit comes said own only = by (starts_with ◌
 
 -- ---- or refused
 
-pub cut_said : (text back : List ℕ) → (starts_with ◌==◌ text back && nat_lt (length back) (length text)) ≡ true → is_outcome (handed.Cut (length back)) text (Ok back) ≡ true
-cut_said text back cut =
-    let parts = and_parts (starts_with ◌==◌ text back) (nat_lt (length back) (length text)) cut in
-    and_from (starts_with ◌==◌ text back && length back == length back) (nat_lt (length back) (length text)) (and_from (starts_with ◌==◌ text back) (length back == length back) parts.0 (eq-eqb (length back) (length back) refl)) parts.1
+-- what was not told to be cut is no proper prefix of a state's text
+pub failed_said : (text back : List ℕ) (state : State) → Says text state → (IsCut back → ⊥) → is_outcome handed.Failed text (Ok back) ≡ true
+failed_said text back state says never = by (came_cut text (Ok back)) refl
+  where
+    by : (b : Bool) → came_cut text (Ok back) ≡ b → not b ≡ true
+    by true cut =
+        let parts = and_parts (starts_with ◌==◌ text back) (nat_lt (length back) (length text)) cut in
+        let whole : text ≡ back ++ drop (length back) text = begins text back parts.0 in
+        let less = ltb-true (length back) (length text) parts.1 in
+        absurd (never (λ is. omega (arith, less, ap length whole, length-append back (drop (length back) text), ap length (whole_ends text back (drop (length back) text) state says (sym whole) is))))
+    by false cut = refl
 
 pub older_said : (text back : List ℕ) (own g : ℕ) → generation_of text ≡ Some own → generation_of back ≡ Some g → IsOther back own → is_outcome (handed.Older g) text (Ok back) ≡ true
 older_said text back own g says names other = and_from (is_of_generation g back) (not (is_of_generation g text))

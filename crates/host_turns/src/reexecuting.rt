@@ -6,7 +6,8 @@ ghost use Rattle.init_trace.specs.declared.steps.Step.TheVariants as step;
 ghost use Rattle.init_trace.specs.Event.{Event};
 ghost use Rattle.core_state.specs.Parts.{State};
 ghost use Rattle.state_text.specs.Reading.{generation_of};
-ghost use Rattle.state_text.specs.Refused.{IsOther, Says};
+ghost use Rattle.state_text.specs.declared.over.Over.TheVariants as over;
+ghost use Rattle.state_text.specs.Refused.{IsCut, IsOther, Says};
 ghost use Rattle.reexec_state.specs.Taken.{NotTaken};
 ghost use Rattle.child_host.specs.Calls.{Adds, TextRead};
 ghost use Rattle.child_host.specs.declared.calls.Call.TheVariants.{Carry};
@@ -44,10 +45,10 @@ fn older_back(back: &[u8]) -> Handed
     }
 }
 
-/// Why what came back of the text was not taken over, as it is said.
+/// Why what came back of the text was not taken over, as it is said. A text that came back cut is refused for that.
 fn refused(text: &[u8], back: &[u8], why: Over) -> Handed
     ensures { (state : State) → Says text.now state
-        → NotTaken back.now state.heads.generation why
+        → NotTaken back.now state.heads.generation why → (IsCut back.now → why ≡ over.Cut)
         → IsTrue (is_outcome result text.now (Ok back.now)) }
 {
     match why {

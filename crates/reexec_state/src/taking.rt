@@ -1,10 +1,10 @@
-ghost use Rattle.std.specs.Prelude.{◌≡◌, IfOk, IfErr};
+ghost use Rattle.std.specs.Prelude.{◌≡◌, Err, IfOk, IfErr};
 ghost use Rattle.std.specs.Result.{MatchResult};
 ghost use Rattle.core_state.specs.Parts.{state_of};
 ghost use Rattle.core_state.specs.Rules.{IsFit};
 ghost use Rattle.core_state.specs.State.{CoreState};
 ghost use Rattle.state_text.specs.declared.over.Over.TheVariants as over;
-ghost use Rattle.state_text.specs.Refused.{Says};
+ghost use Rattle.state_text.specs.Refused.{IsCut, IsOtherVersion, Says};
 ghost use Rattle.reexec_state.specs.Taken.{NotTaken};
 
 use level_core::{Core, Rebuild};
@@ -25,6 +25,10 @@ pub fn take_over<A: Allocator + Copy>(
     ensures only { (core : CoreState) → IsFit core → Says text.now (state_of core)
         → core.generation ≡ generation
         → MatchResult result (λ taken. taken ≡ core) (λ why. why ≡ over.Memory) }
+    // A text that is cut, as every proper prefix of one that was handed over is, is told for that alone, with memory or
+    // without; so is one of another version.
+    ensures cut { IsCut text.now → result ≡ Err over.Cut }
+    ensures version { IsOtherVersion text.now → result ≡ Err over.Version }
     ensures refused { IfErr result (λ why. NotTaken text.now generation why) }
 {
     let parts = read_state(alloc, text, generation)?;

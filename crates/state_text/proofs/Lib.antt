@@ -6,6 +6,7 @@ mod LineForms
 mod Whole
 mod Bodies
 mod Taken
+pub mod Ends
 pub mod Prefixes
 mod Written
 pub mod Ranged

@@ -14,7 +14,7 @@ use Rattle.core_state.specs.Parts.{State}
 use Rattle.state_text.specs.Lines.{body_lines, end_line, slot_line, state_text, text_of_lines, version_line}
 use Rattle.state_text.specs.Range.{is_record, is_state, is_time}
 use Rattle.state_text.specs.Reading.{end_line_read, end_split, line_read, slot_line_read, table_read, version_read}
-use Rattle.state_text.specs.Refused.{BeginsAsKnown, IsBody, Refused, RefusedBody, Says, SaysNone, Whole, is_line}
+use Rattle.state_text.specs.Refused.{BeginsAsKnown, IsBody, IsCut, IsOtherVersion, Refused, RefusedBody, Says, SaysNone, Whole, is_line}
 use Rattle.state_text.proofs.Bodies.{body_lines_are, heads_text, lost, newlines_are, split_back, split_own, state_parts, steps_of, to_heads, version_own}
 use Rattle.state_text.proofs.LineForms.{end_line_form, slot_front}
 use Rattle.state_text.proofs.Whole.{records_text, table_text}
@@ -87,13 +87,21 @@ whole_of text body last at =
     let split = split_own text body last at in
     record { lines = split.lines; last = last; are_lines = split.are; is_last = split.is; begins = split.begins; whole = split.whole }
 
-pub cut_refused : (text : List ℕ) → end_split text ≡ None → Whole text → ⊥
+pub cut_refused : (text : List ℕ) → end_split text ≡ None → IsCut text
 cut_refused text none whole = lost _ (sym none ∙ split_back whole.lines whole.last text whole.are_lines whole.is_last whole.begins whole.whole)
 
 known_of : (text body last rest : List ℕ) → end_split text ≡ Some (body, last) → version_read body ≡ Some rest → BeginsAsKnown text (rest ++ (last ++ 10 ∷ []))
 known_of text body last rest at read =
     let split = split_own text body last at in
     sym (append_assoc version_line (10 ∷ rest) (last ++ 10 ∷ [])) ∙ ap (λ b. b ++ (last ++ 10 ∷ [])) (version_own body rest read ∙ sym split.body_is) ∙ split.whole
+
+-- of another version is the body
+pub other_body : (text body last : List ℕ) → end_split text ≡ Some (body, last) → IsOtherVersion text → version_read body ≡ None
+other_body text body last at other = by (version_read body) refl
+  where
+    by : (o : Option (List ℕ)) → version_read body ≡ o → o ≡ None
+    by None is = refl
+    by (Some rest) is = absurd (other.1 (rest ++ (last ++ 10 ∷ [])) (known_of text body last rest at is))
 
 falsely : false ≡ true → ⊥
 falsely e = cc

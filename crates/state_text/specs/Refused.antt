@@ -34,6 +34,13 @@ SaysNone text = (state : State) → is_state state ≡ true → state_text state
 abbrev pub BeginsAsKnown : List ℕ → List ℕ → Type 0
 BeginsAsKnown text rest = version_line ++ 10 ∷ rest ≡ text
 
+-- the text is not whole; it is whole, and its first line is another
+abbrev pub IsCut : List ℕ → Type 0
+IsCut text = Whole text → ⊥
+
+abbrev pub IsOtherVersion : List ℕ → Type 0
+IsOtherVersion text = Whole text × ((rest : List ℕ) → BeginsAsKnown text rest → ⊥)
+
 -- the text is that of a state of another generation
 pub record IsOther (text : List ℕ) (generation : ℕ) : Type 0 where
   pub state : State
@@ -42,8 +49,8 @@ pub record IsOther (text : List ℕ) (generation : ℕ) : Type 0 where
 
 -- the first check that a text fails: it is cut; another version; a line; another generation
 abbrev pub Refused : List ℕ → ℕ → Over → Type 0
-Refused text generation Cut = Whole text → ⊥
-Refused text generation Version = Whole text × ((rest : List ℕ) → BeginsAsKnown text rest → ⊥)
+Refused text generation Cut = IsCut text
+Refused text generation Version = IsOtherVersion text
 Refused text generation (Line number) = Whole text × ((rest : List ℕ) × BeginsAsKnown text rest) × SaysNone text
 Refused text generation Generation = IsOther text generation
 Refused text generation Memory = Unit {0}

@@ -1,11 +1,11 @@
-ghost use Rattle.std.specs.Prelude.{◌≡◌, ◌≢◌, ◌∷◌, List, true, false, None, Some, IfOk, IfErr, IfSome, IfNone, OnOk, ◌++◌, []};
+ghost use Rattle.std.specs.Prelude.{◌≡◌, ◌≢◌, ◌∷◌, List, true, false, None, Some, Err, IfOk, IfErr, IfSome, IfNone, OnOk, ◌++◌, []};
 ghost use Rattle.std.specs.Option.{option_map};
 ghost use Rattle.std.specs.Result.{MatchResult};
 ghost use Rattle.text_lines.specs.Lines.{cut};
 ghost use Rattle.core_state.specs.Parts.{State};
 ghost use Rattle.state_text.specs.Lines.{state_text};
 ghost use Rattle.state_text.specs.Reading.{end_split, Unread, times_read, places_read, flags_read, heads_made, heads_read, table_read, version_read, generation_of, line_read, slot_line_read, end_line_read, OnLine};
-ghost use Rattle.state_text.specs.Refused.{AreRecords, NoRecords, IsBody, RefusedBody, Says, Refused};
+ghost use Rattle.state_text.specs.Refused.{AreRecords, NoRecords, IsBody, IsCut, IsOtherVersion, RefusedBody, Says, Refused};
 
 use crate::fields::{
     Wishes, read_clock_line, read_end_line, read_flags_line, read_generation_line, read_goal_line,
@@ -191,6 +191,7 @@ fn behind_version(text: &[u8]) -> Option<&[u8]>
 /// What the lines before the last say.
 fn read_body<A: Allocator + Copy>(alloc: A, text: &[u8]) -> Result<Parts<A>, Over>
     ensures ok { IfOk result (λ parts. IsBody text.now parts) }
+    ensures version { version_read text.now ≡ None → result ≡ Err Over.Version }
     ensures err { IfErr result (λ why. RefusedBody text.now why) }
 {
     let rest = behind_version(text).ok_or(Over::Version)?;
@@ -228,6 +229,9 @@ pub fn read_state<A: Allocator + Copy>(
     // No other state has the text, and one that has it is read.
     ensures only { (state : State) → Says text.now state → state.heads.generation ≡ generation
         → MatchResult result (λ parts. parts ≡ state) (λ why. why ≡ Over.Memory) }
+    // The first two checks want no memory.
+    ensures cut { IsCut text.now → result ≡ Err Over.Cut }
+    ensures version { IsOtherVersion text.now → result ≡ Err Over.Version }
     ensures refused { IfErr result (λ why. Refused text.now generation why) }
 {
     let (body, last) = split_end(text).ok_or(Over::Cut)?;

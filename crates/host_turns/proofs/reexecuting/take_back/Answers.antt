@@ -14,5 +14,6 @@ pub returns-in-Err : goal.returns-in-Err
 returns-in-Err g c fit says comes = (
   refl,
   c.refused.ensures (state_of c.args.core.now) says
-      (subst (λ generation. NotTaken c.args.back.now generation c.in-Err.why) c.generation.ensures c.in-Err.ensures.refused),
+      (subst (λ generation. NotTaken c.args.back.now generation c.in-Err.why) c.generation.ensures c.in-Err.ensures.refused)
+      (λ cut. let is = c.in-Err.ensures.cut cut in cc),
 )
