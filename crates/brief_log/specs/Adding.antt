@@ -2,7 +2,7 @@
 use Rattle.std.specs.Prelude.{◌≡◌, List, ◌++◌, reverse, [], Option, Some, None, IfSome}
 use Rattle.init_trace.specs.Event.{Event}
 use Rattle.trace_brief.specs.declared.held.Held.{Held}
-use Rattle.trace_brief.specs.Holding.{look_events, round_events, reading_events, written_of, absorbed}
+use Rattle.trace_brief.specs.Holding.{look_events, round_events, reading_events, written_of, held_back}
 
 -- what is told is told still, and has gained these at its end
 abbrev pub Adds : Option (List Event) → Option (List Event) → List Event → Type 0
@@ -30,4 +30,4 @@ firsts_by happening held None = held_first held ++ written_of happening
 firsts_by happening held (Some next) = []
 
 abbrev pub newly_first : Event → Held → List Event
-newly_first happening held = firsts_by happening held (absorbed happening held)
+newly_first happening held = firsts_by happening held (held_back happening held)

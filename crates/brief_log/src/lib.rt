@@ -9,7 +9,7 @@ ghost use Rattle.init_words.specs.declared.orders.Ask.TheVariants.{Look};
 ghost use Rattle.init_trace.specs.declared.happenings.Happening.TheVariants.{Asked, Still};
 ghost use Rattle.init_trace.specs.Range.{is_in_range, is_short};
 ghost use Rattle.trace_brief.specs.Brief.{brief_of};
-ghost use Rattle.trace_brief.specs.Holding.{Holds, look_events, round_events, reading_events, written_of, passed, next_held};
+ghost use Rattle.trace_brief.specs.Holding.{Holds, look_events, round_events, reading_events, written_of, held_behind, next_held};
 ghost use Rattle.brief_log.specs.Adding.{Adds, Front, AddsFront, held_first, newly_first};
 
 use init_trace::{Happening, HappeningIn, law_of_ranges};
@@ -99,7 +99,7 @@ fn write_look<L: Log>(log: &mut L, look: &Option<HeldLook>) -> Result<(), LogFau
     match look {
         None => Ok(()),
         Some(HeldLook::Ordered(id)) => write_order(log, *id),
-        Some(HeldLook::Quiet(id)) => {
+        Some(HeldLook::FoundNothing(id)) => {
             write_order(log, *id)?;
             write_still(log, *id)
         }
@@ -172,14 +172,14 @@ impl<L: Log> BriefLog<L> {
         ensures err { OnErr result (is_in_range happening.now ≡ true
             → AddsFront (L.state self.old.log).taken (L.state self.new.log).taken (newly_first happening.now self.old.held)) }
     {
-        match self.held.absorbed(happening) {
+        match self.held.held_back(happening) {
             Some(held) => {
                 self.held = held;
                 Ok(())
             }
             None => {
                 write_all(&mut self.log, &self.held, happening)?;
-                self.held = Held::passed(happening);
+                self.held = Held::held_behind(happening);
                 Ok(())
             }
         }
