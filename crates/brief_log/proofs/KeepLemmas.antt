@@ -1,5 +1,5 @@
 -- What a brief log has written and holds behind a happening that it took or refused, and at its end.
-use Rattle.std.proofs.Common.{◌≡◌, sym, ◌∙◌, ap, subst, List, [], ◌∷◌, ◌++◌, reverse, Option, Some, None, Ok, Err, OnOk, OnErr, append-nil}
+use Rattle.std.proofs.Common.{◌≡◌, sym, ◌∙◌, ap, subst, List, [], ◌∷◌, ◌++◌, reverse, Option, Some, None, Ok, Err, OnOk, OnErr}
 use Rattle.std.specs.declared.result.Result.{Result}
 use Rattle.std.proofs.lemmas.List.{reverse-reverse}
 use Rattle.init_trace.specs.Event.{Event}
