@@ -1,5 +1,5 @@
-//! A log of the brief form of a trace: it holds back what a later happening may leave out or change, and hands the rest to
-//! another log.
+//! A log of the brief form of a trace: it holds back what a later happening may leave out or change, and hands the rest
+//! to another log.
 #![tactic(auto)]
 
 ghost use Rattle.std.specs.Prelude.{◌≡◌, ◌++◌, ◌∷◌, [], List, true, false, is_err, reverse, Some, OnOk, OnErr};
@@ -54,7 +54,9 @@ fn hand<L: Log, B: Allocator>(log: &mut L, happening: &HappeningIn<B>) -> Result
 fn write_reading<L: Log>(log: &mut L, reading: Option<u64>) -> Result<(), LogFault>
     requires { (L.state log.old).failed ≡ false }
     ensures flag { (L.state log.new).failed ≡ is_err result }
-    ensures ok { OnOk result (Adds (L.state log.old).taken (L.state log.new).taken (reading_events reading)) }
+    ensures ok { OnOk result (Adds
+        (L.state log.old).taken (L.state log.new).taken
+        (reading_events reading)) }
     ensures err { OnErr result (Adds (L.state log.old).taken (L.state log.new).taken []) }
 {
     match reading {
@@ -70,7 +72,9 @@ fn write_reading<L: Log>(log: &mut L, reading: Option<u64>) -> Result<(), LogFau
 fn write_round<L: Log>(log: &mut L, round: bool) -> Result<(), LogFault>
     requires { (L.state log.old).failed ≡ false }
     ensures flag { (L.state log.new).failed ≡ is_err result }
-    ensures ok { OnOk result (Adds (L.state log.old).taken (L.state log.new).taken (round_events round)) }
+    ensures ok { OnOk result (Adds
+        (L.state log.old).taken (L.state log.new).taken
+        (round_events round)) }
     ensures err { OnErr result (Adds (L.state log.old).taken (L.state log.new).taken []) }
 {
     if !round {
@@ -84,7 +88,9 @@ fn write_round<L: Log>(log: &mut L, round: bool) -> Result<(), LogFault>
 fn write_order<L: Log>(log: &mut L, id: Id) -> Result<(), LogFault>
     requires { (L.state log.old).failed ≡ false }
     ensures flag { (L.state log.new).failed ≡ is_err result }
-    ensures ok { OnOk result (Adds (L.state log.old).taken (L.state log.new).taken (Asked id Look ∷ [])) }
+    ensures ok { OnOk result (Adds
+        (L.state log.old).taken (L.state log.new).taken
+        (Asked id Look ∷ [])) }
     ensures err { OnErr result (Adds (L.state log.old).taken (L.state log.new).taken []) }
 {
     let happening: HappeningIn<Global> = Happening::Asked(id, Ask::Look);
@@ -95,7 +101,9 @@ fn write_order<L: Log>(log: &mut L, id: Id) -> Result<(), LogFault>
 fn write_still<L: Log>(log: &mut L, id: Id) -> Result<(), LogFault>
     requires { (L.state log.old).failed ≡ false }
     ensures flag { (L.state log.new).failed ≡ is_err result }
-    ensures ok { OnOk result (Adds (L.state log.old).taken (L.state log.new).taken (Still id ∷ [])) }
+    ensures ok { OnOk result (Adds
+        (L.state log.old).taken (L.state log.new).taken
+        (Still id ∷ [])) }
     ensures err { OnErr result (Adds (L.state log.old).taken (L.state log.new).taken []) }
 {
     let happening: HappeningIn<Global> = Happening::Still(id);
@@ -106,8 +114,12 @@ fn write_still<L: Log>(log: &mut L, id: Id) -> Result<(), LogFault>
 fn write_look<L: Log>(log: &mut L, look: &Option<HeldLook>) -> Result<(), LogFault>
     requires { (L.state log.old).failed ≡ false }
     ensures flag { (L.state log.new).failed ≡ is_err result }
-    ensures ok { OnOk result (Adds (L.state log.old).taken (L.state log.new).taken (reverse (look_events look.now))) }
-    ensures err { OnErr result (AddsFront (L.state log.old).taken (L.state log.new).taken (reverse (look_events look.now))) }
+    ensures ok { OnOk result (Adds
+        (L.state log.old).taken (L.state log.new).taken
+        (reverse (look_events look.now))) }
+    ensures err { OnErr result (AddsFront
+        (L.state log.old).taken (L.state log.new).taken
+        (reverse (look_events look.now))) }
 {
     match look {
         None => Ok(()),
@@ -123,8 +135,12 @@ fn write_look<L: Log>(log: &mut L, look: &Option<HeldLook>) -> Result<(), LogFau
 fn write_held<L: Log>(log: &mut L, held: &Held) -> Result<(), LogFault>
     requires { (L.state log.old).failed ≡ false }
     ensures flag { (L.state log.new).failed ≡ is_err result }
-    ensures ok { OnOk result (Adds (L.state log.old).taken (L.state log.new).taken (held_first held.now)) }
-    ensures err { OnErr result (AddsFront (L.state log.old).taken (L.state log.new).taken (held_first held.now)) }
+    ensures ok { OnOk result (Adds
+        (L.state log.old).taken (L.state log.new).taken
+        (held_first held.now)) }
+    ensures err { OnErr result (AddsFront
+        (L.state log.old).taken (L.state log.new).taken
+        (held_first held.now)) }
 {
     write_reading(log, held.reading)?;
     write_round(log, held.round)?;
@@ -155,9 +171,13 @@ fn write_all<L: Log, B: Allocator>(
     requires { (L.state log.old).failed ≡ false }
     ensures flag { (L.state log.new).failed ≡ is_err result }
     ensures ok { OnOk result (is_in_range happening.now ≡ true
-        → Adds (L.state log.old).taken (L.state log.new).taken (held_first held.now ++ written_of happening.now)) }
+        → Adds
+        (L.state log.old).taken (L.state log.new).taken
+        (held_first held.now ++ written_of happening.now)) }
     ensures err { OnErr result (is_in_range happening.now ≡ true
-        → AddsFront (L.state log.old).taken (L.state log.new).taken (held_first held.now ++ written_of happening.now)) }
+        → AddsFront
+        (L.state log.old).taken (L.state log.new).taken
+        (held_first held.now ++ written_of happening.now)) }
 {
     write_held(log, held)?;
     write_new(log, happening)
@@ -235,8 +255,8 @@ impl<L: Log> Log for BriefLog<L> {
 
     ghost state = { λ (log : Brief L). record { taken = None; failed = (L.state log.log).failed } };
 
-    /// Takes a happening: holds it back, or hands the log what was held and then the happening. It tells nothing of what
-    /// it took by its state; of each trace that it took, its clauses say that what is written and held is the brief form.
+    /// Takes a happening: holds it back, or hands the log what was held and then the happening. What it took isn't told
+    /// by its state: of each trace that it took, its clauses say that what is written and held is the brief form.
     fn take<B: Allocator>(&mut self, happening: &HappeningIn<B>) -> Result<(), LogFault>
         requires { (L.state self.old.log).failed ≡ false }
         ensures flag { (L.state self.new.log).failed ≡ is_err result }

@@ -110,8 +110,10 @@ const ROWS: &[Row] = &[
     },
     // What came between keeps a look, and so does another id.
     Row {
-        trace: "ask a look / death 10 / still a / told a / ask a look / still b / told a / ask a look / still a / told b",
-        brief: "ask a look / death 10 / still a / told a / ask a look / still b / told a / ask a look / still a / told b",
+        trace: "ask a look / death 10 / still a / told a / ask a look / still b / told a / \
+                ask a look / still a / told b",
+        brief: "ask a look / death 10 / still a / told a / ask a look / still b / told a / \
+                ask a look / still a / told b",
         verdicts: LAWFUL,
         held: 0,
     },

@@ -12,24 +12,17 @@ const TRACE: &str =
      clock 100 / nudge / ask a look / still a / told a / clock 101 / nudge / ask a look / death 10 / \
      reaped a 10 killed / told a / ask a start / birth a 11 / told a / clock 102 / nudge / ask a look / still a";
 
-const BRIEF: &[u8] =
-    b"use 1\na:3:respawn:x\nenter 3 5\nask a start\nbirth a 10\ntold a\nsettle 3\n\
+const BRIEF: &[u8] = b"use 1\na:3:respawn:x\nenter 3 5\nask a start\nbirth a 10\ntold a\nsettle 3\n\
 clock 101\nnudge\nask a look\ndeath 10\n\
 reaped a 10 killed\ntold a\nask a start\nbirth a 11\ntold a\nclock 102\nnudge\nask a look\nstill a\n";
 
 /// The writer took what it has room for, and the log all where that is the whole text.
-fn is_streamed_in(
-    alloc: Global,
-    trace: &[HappeningIn<Global>],
-    room: usize,
-    fails: bool,
-) -> bool {
+fn is_streamed_in(alloc: Global, trace: &[HappeningIn<Global>], room: usize, fails: bool) -> bool {
     let (log, all) = finished(
         StreamLog::new(alloc, Slow::new(alloc, room, fails, false)),
         trace,
     );
-    all == (room >= BRIEF.len())
-        && log.writer().taken.as_slice() == &BRIEF[..room.min(BRIEF.len())]
+    all == (room >= BRIEF.len()) && log.writer().taken.as_slice() == &BRIEF[..room.min(BRIEF.len())]
 }
 
 fn is_streamed(alloc: Global, room: usize, fails: bool) -> bool {
@@ -55,11 +48,7 @@ fn is_past<'a>(alloc: Global, list: &[HappeningIn<&'a LocalHeap>], all: bool) ->
 }
 
 /// How many happenings a log on the heap took; `None` where they are no past of the brief form.
-fn listed_on(
-    alloc: Global,
-    heap: &LocalHeap,
-    trace: &[HappeningIn<Global>],
-) -> Option<usize> {
+fn listed_on(alloc: Global, heap: &LocalHeap, trace: &[HappeningIn<Global>]) -> Option<usize> {
     let (log, all) = finished(ListLog::new(heap), trace);
     if !is_past(alloc, log.list(), all) {
         return None;
@@ -95,5 +84,8 @@ fn a_list_that_cannot_grow_ends_the_log(rt: HostRuntime) {
             _ => parts = parts.saturating_add(1),
         }
     }
-    assert!(rt; none > 0 && parts > 0 && whole > 0, "{none} {parts} {whole}");
+    assert!(rt;
+        none > 0 && parts > 0 && whole > 0,
+        "{none} {parts} {whole}"
+    );
 }

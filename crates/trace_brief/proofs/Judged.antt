@@ -27,7 +27,7 @@ use Rattle.init_words.proofs.Same.{same_id-is}
 use Rattle.init_words.proofs.Tests.{any_same, is_none-is}
 use Rattle.trace_laws.proofs.Orders.{told_same, told_other, told_known, reaped_other}
 use Rattle.trace_brief.specs.Brief.{in_look, with_telling, with_reading, with_early_reading, with_round, with_event, brief_of}
-use Rattle.trace_brief.specs.Readings.{are_looks_free, law_of, first_broken}
+use Rattle.trace_brief.specs.Readings.{are_looks_free, law_broken_by, first_broken}
 use Rattle.trace_brief.proofs.Lasting.{grace_lasting, asked_lasting}
 use Rattle.trace_brief.proofs.Alike.{Alike, alike_self, alike_then, alike_cons, same_by, same_table, same_stage, same_unreaped, same_excluded}
 use Rattle.trace_brief.proofs.Shorter.{Free, undone_none, alike_free, alike_readings, alike_early, alike_rounds}
@@ -211,12 +211,12 @@ abbrev sooner : Option ℕ → Option ℕ → Option ℕ
 sooner None later = later
 sooner (Some law) later = Some law
 
-law_step : (o : Option Fault) (place : ℕ) (law : Option ℕ) → law_of (earlier o (breach_at place law)) ≡ sooner (law_of o) law
+law_step : (o : Option Fault) (place : ℕ) (law : Option ℕ) → law_broken_by (earlier o (breach_at place law)) ≡ sooner (law_broken_by o) law
 law_step None place None = refl
 law_step None place (Some law) = refl
 law_step (Some fault) place law = refl
 
-law_cons : (happening : Event) (past : List Event) → law_of (first_breach (happening ∷ past)) ≡ sooner (law_of (first_breach past)) (broken happening past)
+law_cons : (happening : Event) (past : List Event) → law_broken_by (first_breach (happening ∷ past)) ≡ sooner (law_broken_by (first_breach past)) (broken happening past)
 law_cons happening past = law_step (first_breach past) (length past) (broken happening past)
 
 sooner_none : (o : Option ℕ) → sooner o None ≡ o
@@ -224,32 +224,32 @@ sooner_none None = refl
 sooner_none (Some law) = refl
 
 -- a happening that breaks no law leaves the first breach
-law_quiet : (happening : Event) (past : List Event) → broken happening past ≡ None → law_of (first_breach (happening ∷ past)) ≡ law_of (first_breach past)
-law_quiet happening past none = law_cons happening past ∙ ap (sooner (law_of (first_breach past))) none ∙ sooner_none (law_of (first_breach past))
+law_quiet : (happening : Event) (past : List Event) → broken happening past ≡ None → law_broken_by (first_breach (happening ∷ past)) ≡ law_broken_by (first_breach past)
+law_quiet happening past none = law_cons happening past ∙ ap (sooner (law_broken_by (first_breach past))) none ∙ sooner_none (law_broken_by (first_breach past))
 
-law_same : (happening : Event) (past brief : List Event) → broken happening past ≡ broken happening brief → law_of (first_breach past) ≡ law_of (first_breach brief) → law_of (first_breach (happening ∷ past)) ≡ law_of (first_breach (happening ∷ brief))
+law_same : (happening : Event) (past brief : List Event) → broken happening past ≡ broken happening brief → law_broken_by (first_breach past) ≡ law_broken_by (first_breach brief) → law_broken_by (first_breach (happening ∷ past)) ≡ law_broken_by (first_breach (happening ∷ brief))
 law_same happening past brief law rest = law_cons happening past ∙ ap₂ sooner rest law ∙ sym (law_cons happening brief)
 
-tell_law : (i : List ℕ) (brief : List Event) → law_of (first_breach (Told i ∷ brief)) ≡ law_of (first_breach (with_telling i brief))
+tell_law : (i : List ℕ) (brief : List Event) → law_broken_by (first_breach (Told i ∷ brief)) ≡ law_broken_by (first_breach (with_telling i brief))
 tell_law i (Still j ∷ Asked k Look ∷ brief) = split (same_id i j && same_id i k && not (in_look brief)) where
-  split : (b : Bool) → law_of (first_breach (Told i ∷ Still j ∷ Asked k Look ∷ brief)) ≡ law_of (first_breach (cond b brief (Told i ∷ Still j ∷ Asked k Look ∷ brief)))
+  split : (b : Bool) → law_broken_by (first_breach (Told i ∷ Still j ∷ Asked k Look ∷ brief)) ≡ law_broken_by (first_breach (cond b brief (Told i ∷ Still j ∷ Asked k Look ∷ brief)))
   split true = law_quiet (Told i) (Still j ∷ Asked k Look ∷ brief) refl ∙ law_quiet (Still j) (Asked k Look ∷ brief) refl ∙ law_quiet (Asked k Look) brief refl
   split false = refl
 tell_law i brief = refl
 
-read_law : (reading : ℕ) (brief : List Event) → law_of (first_breach (Clock reading ∷ brief)) ≡ law_of (first_breach (with_reading reading brief))
+read_law : (reading : ℕ) (brief : List Event) → law_broken_by (first_breach (Clock reading ∷ brief)) ≡ law_broken_by (first_breach (with_reading reading brief))
 read_law reading (Clock before ∷ brief) = law_quiet (Clock reading) (Clock before ∷ brief) refl ∙ law_quiet (Clock before) brief refl ∙ sym (law_quiet (Clock (max reading before)) brief refl)
 read_law reading brief = refl
 
-early_law : (reading : ℕ) (brief : List Event) → law_of (first_breach (Clock reading ∷ brief)) ≡ law_of (first_breach (with_early_reading reading brief))
+early_law : (reading : ℕ) (brief : List Event) → law_broken_by (first_breach (Clock reading ∷ brief)) ≡ law_broken_by (first_breach (with_early_reading reading brief))
 early_law reading (Nudge ∷ brief) = law_quiet (Clock reading) (Nudge ∷ brief) refl ∙ law_quiet Nudge brief refl ∙ sym (law_quiet (Clock reading) brief refl) ∙ read_law reading brief ∙ sym (law_quiet Nudge (with_reading reading brief) refl)
 early_law reading brief = read_law reading brief
 
-round_law : (brief : List Event) → law_of (first_breach (Nudge ∷ brief)) ≡ law_of (first_breach (with_round brief))
+round_law : (brief : List Event) → law_broken_by (first_breach (Nudge ∷ brief)) ≡ law_broken_by (first_breach (with_round brief))
 round_law (Nudge ∷ brief) = law_quiet Nudge (Nudge ∷ brief) refl
 round_law brief = refl
 
-then_law : (happening : Event) (brief : List Event) → law_of (first_breach (happening ∷ brief)) ≡ law_of (first_breach (with_event happening brief))
+then_law : (happening : Event) (brief : List Event) → law_broken_by (first_breach (happening ∷ brief)) ≡ law_broken_by (first_breach (with_event happening brief))
 then_law (Told i) brief = tell_law i brief
 then_law (Clock reading) brief = early_law reading brief
 then_law Nudge brief = round_law brief

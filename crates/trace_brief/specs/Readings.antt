@@ -25,10 +25,10 @@ are_looks_free (Asked id Look ∷ past) = is_none (open_of id past) && not (is_u
 are_looks_free (_ ∷ past) = are_looks_free past
 
 -- the law that a breach breaks
-abbrev pub law_of : Option Fault → Option ℕ
-law_of None = None
-law_of (Some fault) = Some fault.law
+abbrev pub law_broken_by : Option Fault → Option ℕ
+law_broken_by None = None
+law_broken_by (Some fault) = Some fault.law
 
 -- the law that the first breach of a trace breaks
 abbrev pub first_broken : List Event → Option ℕ
-first_broken trace = law_of (first_breach trace)
+first_broken trace = law_broken_by (first_breach trace)

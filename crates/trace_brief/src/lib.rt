@@ -1,6 +1,6 @@
-//! Brief traces: a trace without its idle rounds and without the looks that found nothing. The brief form of a sound trace
-//! is sound, so it can be judged in place of the trace. It can't be replayed: the looks that were left out were due, so a
-//! brief trace is in general no run of first due steps.
+//! Brief traces: a trace without its idle rounds and without the looks that found nothing. The brief form of a sound
+//! trace is sound, so it can be judged in place of the trace. It can't be replayed: the looks that were left out were
+//! due, so a brief trace is in general no run of first due steps.
 #![tactic(auto)]
 
 mod held;
@@ -22,15 +22,15 @@ pub use held::{Held, HeldLook};
 
 /// The laws of brief traces. It does nothing: its contract says them.
 pub fn law_of_brief()
-    // Of any trace at all: what is no look, telling, reading of the clock or round stays, in its order; nothing more can
-    // be left out.
+    // Of any trace at all: what is no look, telling, reading of the clock or round stays, in its order; nothing more
+    // can be left out.
     ensures lasting { (trace : List Event)
         → lasting_events trace ≡ lasting_events (brief_of trace) }
     ensures short { (trace : List Event) → IsBrief (brief_of trace) }
     ensures twice { (trace : List Event) → brief_of (brief_of trace) ≡ brief_of trace }
 
-    // Of a trace whose looks are free, sound or not: its brief form is lawful exactly if it is, and the first breaches of
-    // both break the same law. The looks of every sound trace are free.
+    // Of a trace whose looks are free, sound or not: its brief form is lawful exactly if it is, and the first breaches
+    // of both break the same law. The looks of every sound trace are free.
     ensures free { (goal : Goal) (trace : List Event)
         → IsTrue (is_sound goal trace) → IsTrue (are_looks_free trace) }
     ensures judged { (trace : List Event)
