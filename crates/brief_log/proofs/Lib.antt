@@ -1,3 +1,3 @@
 pub mod AddLemmas
 pub mod Writing
-pub mod TellLemmas
+pub mod KeepLemmas

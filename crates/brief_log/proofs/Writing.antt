@@ -5,25 +5,25 @@ use Rattle.init_trace.specs.declared.happenings.Happening.TheVariants.{Clock, Nu
 use Rattle.init_trace.specs.Event.{Event}
 use Rattle.trace_brief.specs.declared.held.Held.{Held}
 use Rattle.trace_brief.specs.declared.held.HeldLook.{HeldLook}
-use Rattle.trace_brief.specs.declared.held.HeldLook.TheVariants.{Ordered, Quiet}
+use Rattle.trace_brief.specs.declared.held.HeldLook.TheVariants.{Ordered, FoundNothing}
 use Rattle.trace_brief.specs.Brief.{brief_of}
-use Rattle.trace_brief.specs.Holding.{look_events, round_events, reading_events, held_events, absorbed, written_of, Holds, next_held, newly_by, newly_written}
+use Rattle.trace_brief.specs.Holding.{look_events, round_events, reading_events, held_events, held_back, written_of, Holds, next_held, newly_by, newly_written}
 use Rattle.trace_brief.proofs.HoldLemmas.{holds_next}
-use Rattle.brief_log.specs.Adding.{Front, held_first, firsts_by, newly_first}
+use Rattle.brief_log.specs.Adding.{Front, held_first, newly_first_by, newly_first}
 
 turned : (reading : Option ℕ) (round : Bool) (look : Option HeldLook) → reverse (reading_events reading ++ round_events round ++ reverse (look_events look)) ≡ look_events look ++ round_events round ++ reading_events reading
 turned None false None = refl
 turned None false (Some (Ordered i)) = refl
-turned None false (Some (Quiet i)) = refl
+turned None false (Some (FoundNothing i)) = refl
 turned None true None = refl
 turned None true (Some (Ordered i)) = refl
-turned None true (Some (Quiet i)) = refl
+turned None true (Some (FoundNothing i)) = refl
 turned (Some r) false None = refl
 turned (Some r) false (Some (Ordered i)) = refl
-turned (Some r) false (Some (Quiet i)) = refl
+turned (Some r) false (Some (FoundNothing i)) = refl
 turned (Some r) true None = refl
 turned (Some r) true (Some (Ordered i)) = refl
-turned (Some r) true (Some (Quiet i)) = refl
+turned (Some r) true (Some (FoundNothing i)) = refl
 
 held_turned : (held : Held) → reverse (held_first held) ≡ held_events held
 held_turned held = turned held.reading held.round held.look
@@ -33,12 +33,12 @@ one_turned (Clock reading) = refl
 one_turned Nudge = refl
 one_turned _ = refl
 
-firsts_turned : (happening : Event) (held : Held) (o : Option Held) → reverse (firsts_by happening held o) ≡ newly_by happening held o
+firsts_turned : (happening : Event) (held : Held) (o : Option Held) → reverse (newly_first_by happening held o) ≡ newly_by happening held o
 firsts_turned happening held None = reverse-append (held_first held) (written_of happening) ∙ ap₂ (λ xs ys. xs ++ ys) (one_turned happening) (held_turned held)
 firsts_turned happening held (Some next) = refl
 
 written_turned : (happening : Event) (held : Held) (before : List Event) → reverse (before ++ newly_first happening held) ≡ newly_written happening held ++ reverse before
-written_turned happening held before = reverse-append before (newly_first happening held) ∙ ap (λ xs. xs ++ reverse before) (firsts_turned happening held (absorbed happening held))
+written_turned happening held before = reverse-append before (newly_first happening held) ∙ ap (λ xs. xs ++ reverse before) (firsts_turned happening held (held_back happening held))
 
 pub kept_next : (happening : Event) (held : Held) (before trace : List Event) → Holds held (reverse before) trace → Holds (next_held happening held) (reverse (before ++ newly_first happening held)) (happening ∷ trace)
 kept_next happening held before trace holds =
@@ -52,4 +52,10 @@ kept_end held before trace holds = reverse-append before (held_first held) ∙ a
 pub kept_front : (happening : Event) (held : Held) (before now trace : List Event) → Holds held (reverse before) trace → Front before now (newly_first happening held) → (later : List Event) × (later ++ reverse now ≡ brief_of (happening ∷ trace))
 kept_front happening held before now trace holds front = (held_events (next_held happening held) ++ reverse front.rest, append_assoc (held_events (next_held happening held)) (reverse front.rest) (reverse now) ∙ ap (λ xs. held_events (next_held happening held) ++ xs) joined ∙ (kept_next happening held before trace holds).brief) where
   joined : reverse front.rest ++ reverse now ≡ reverse (before ++ newly_first happening held)
+  joined = sym (reverse-append now front.rest) ∙ ap reverse (ap (λ xs. xs ++ front.rest) front.gained ∙ append_assoc before front.first front.rest ∙ ap (λ xs. before ++ xs) front.all)
+
+-- the same at the end
+pub kept_part : (held : Held) (before now trace : List Event) → Holds held (reverse before) trace → Front before now (held_first held) → (later : List Event) × (later ++ reverse now ≡ brief_of trace)
+kept_part held before now trace holds front = (reverse front.rest, joined ∙ kept_end held before trace holds) where
+  joined : reverse front.rest ++ reverse now ≡ reverse (before ++ held_first held)
   joined = sym (reverse-append now front.rest) ∙ ap reverse (ap (λ xs. xs ++ front.rest) front.gained ∙ append_assoc before front.first front.rest ∙ ap (λ xs. before ++ xs) front.all)

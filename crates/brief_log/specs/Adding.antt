@@ -2,13 +2,13 @@
 use Rattle.std.specs.Prelude.{◌≡◌, List, ◌++◌, reverse, [], Option, Some, None, IfSome}
 use Rattle.init_trace.specs.Event.{Event}
 use Rattle.trace_brief.specs.declared.held.Held.{Held}
-use Rattle.trace_brief.specs.Holding.{look_events, round_events, reading_events, written_of, absorbed}
+use Rattle.trace_brief.specs.Holding.{look_events, round_events, reading_events, written_of, held_back}
 
 -- what is told is told still, and has gained these at its end
 abbrev pub Adds : Option (List Event) → Option (List Event) → List Event → Type 0
 Adds old new more = IfSome old (λ before. new ≡ Some (before ++ more))
 
--- some of these, from the first on
+-- some of these, from the first on, were added
 pub record Front (before now more : List Event) : Type 0 where
   pub first : List Event
   pub rest : List Event
@@ -23,11 +23,11 @@ AddsFront old new more = IfSome old (λ before. (now : List Event) × (new ≡ S
 abbrev pub held_first : Held → List Event
 held_first held = reading_events held.reading ++ round_events held.round ++ reverse (look_events held.look)
 
--- what a brief log writes for a happening, the oldest first: nothing where it is held, else all that was held, and the
+-- what is written for a happening, the oldest first: nothing where it is held back, else all that was held, and the
 -- happening unless it is a reading or a round
-abbrev pub firsts_by : Event → Held → Option Held → List Event
-firsts_by happening held None = held_first held ++ written_of happening
-firsts_by happening held (Some next) = []
+abbrev pub newly_first_by : Event → Held → Option Held → List Event
+newly_first_by happening held None = held_first held ++ written_of happening
+newly_first_by happening held (Some next) = []
 
 abbrev pub newly_first : Event → Held → List Event
-newly_first happening held = firsts_by happening held (absorbed happening held)
+newly_first happening held = newly_first_by happening held (held_back happening held)

@@ -1,27 +1,40 @@
-//! A log of the brief form of a trace: it holds back what a later happening may take out or change, and hands the rest
+//! A log of the brief form of a trace: it holds back what a later happening may leave out or change, and hands the rest
 //! to another log.
 #![tactic(auto)]
 
-ghost use Rattle.std.specs.Prelude.{◌≡◌, ◌++◌, ◌∷◌, [], List, Bool, Some, None, true, false, is_err, reverse, OnOk, OnErr, IfSome};
-ghost use Rattle.init_trace.specs.Event.{Event};
-ghost use Rattle.trace_brief.specs.declared.held.Held.{Held};
+ghost use Rattle.std.specs.Prelude.{◌≡◌, ◌++◌, ◌∷◌, [], List, true, false, is_err, reverse, Some, OnOk, OnErr};
 ghost use Rattle.init_words.specs.declared.orders.Ask.TheVariants.{Look};
 ghost use Rattle.init_trace.specs.declared.happenings.Happening.TheVariants.{Asked, Still};
+ghost use Rattle.init_trace.specs.Event.{Event};
 ghost use Rattle.init_trace.specs.Range.{is_in_range, is_short};
+ghost use Rattle.run_log.specs.Logs.{LogState};
 ghost use Rattle.trace_brief.specs.Brief.{brief_of};
-ghost use Rattle.trace_brief.specs.Holding.{Holds, look_events, round_events, reading_events, written_of, passed, next_held};
-ghost use Rattle.brief_log.specs.Adding.{Adds, Front, AddsFront, held_first, newly_first};
+ghost use Rattle.trace_brief.specs.Holding.{look_events, round_events, reading_events, written_of, next_held};
+ghost use Rattle.brief_log.specs.Adding.{Adds, AddsFront, held_first, newly_first};
+ghost use Rattle.brief_log.specs.Keeping.{TakesTrace, WritesPast, Grows};
 
 use init_trace::{Happening, HappeningIn, law_of_ranges};
 use init_words::{Ask, Id};
 use run_log::{Log, LogFault};
 use std::alloc::{Allocator, Global};
+use std::marker::Model;
 use trace_brief::{Held, HeldLook};
 
-/// A log of a brief trace.
+/// A log of a brief trace, in front of another log. It holds back at most four happenings: a reading of the clock, a
+/// round, the order of a look, and that the look found nothing. It takes no memory.
+///
+/// It is taken apart by `finish`, which writes what is held, or by `into_log`.
 pub struct BriefLog<L> {
-    pub log: L,
-    pub held: Held,
+    log: L,
+    held: Held,
+}
+
+impl<L> Model for BriefLog<L> {
+    ghost use Rattle.brief_log.specs.Keeping.{Brief};
+
+    ghost Value = { Brief L };
+
+    ghost view = { λ log. record { log = log.log; held = log.held } };
 }
 
 /// Hands the log one happening.
@@ -41,7 +54,9 @@ fn hand<L: Log, B: Allocator>(log: &mut L, happening: &HappeningIn<B>) -> Result
 fn write_reading<L: Log>(log: &mut L, reading: Option<u64>) -> Result<(), LogFault>
     requires { (L.state log.old).failed ≡ false }
     ensures flag { (L.state log.new).failed ≡ is_err result }
-    ensures ok { OnOk result (Adds (L.state log.old).taken (L.state log.new).taken (reading_events reading)) }
+    ensures ok { OnOk result (Adds
+        (L.state log.old).taken (L.state log.new).taken
+        (reading_events reading)) }
     ensures err { OnErr result (Adds (L.state log.old).taken (L.state log.new).taken []) }
 {
     match reading {
@@ -57,7 +72,9 @@ fn write_reading<L: Log>(log: &mut L, reading: Option<u64>) -> Result<(), LogFau
 fn write_round<L: Log>(log: &mut L, round: bool) -> Result<(), LogFault>
     requires { (L.state log.old).failed ≡ false }
     ensures flag { (L.state log.new).failed ≡ is_err result }
-    ensures ok { OnOk result (Adds (L.state log.old).taken (L.state log.new).taken (round_events round)) }
+    ensures ok { OnOk result (Adds
+        (L.state log.old).taken (L.state log.new).taken
+        (round_events round)) }
     ensures err { OnErr result (Adds (L.state log.old).taken (L.state log.new).taken []) }
 {
     if !round {
@@ -71,7 +88,9 @@ fn write_round<L: Log>(log: &mut L, round: bool) -> Result<(), LogFault>
 fn write_order<L: Log>(log: &mut L, id: Id) -> Result<(), LogFault>
     requires { (L.state log.old).failed ≡ false }
     ensures flag { (L.state log.new).failed ≡ is_err result }
-    ensures ok { OnOk result (Adds (L.state log.old).taken (L.state log.new).taken (Asked id Look ∷ [])) }
+    ensures ok { OnOk result (Adds
+        (L.state log.old).taken (L.state log.new).taken
+        (Asked id Look ∷ [])) }
     ensures err { OnErr result (Adds (L.state log.old).taken (L.state log.new).taken []) }
 {
     let happening: HappeningIn<Global> = Happening::Asked(id, Ask::Look);
@@ -82,7 +101,9 @@ fn write_order<L: Log>(log: &mut L, id: Id) -> Result<(), LogFault>
 fn write_still<L: Log>(log: &mut L, id: Id) -> Result<(), LogFault>
     requires { (L.state log.old).failed ≡ false }
     ensures flag { (L.state log.new).failed ≡ is_err result }
-    ensures ok { OnOk result (Adds (L.state log.old).taken (L.state log.new).taken (Still id ∷ [])) }
+    ensures ok { OnOk result (Adds
+        (L.state log.old).taken (L.state log.new).taken
+        (Still id ∷ [])) }
     ensures err { OnErr result (Adds (L.state log.old).taken (L.state log.new).taken []) }
 {
     let happening: HappeningIn<Global> = Happening::Still(id);
@@ -93,13 +114,17 @@ fn write_still<L: Log>(log: &mut L, id: Id) -> Result<(), LogFault>
 fn write_look<L: Log>(log: &mut L, look: &Option<HeldLook>) -> Result<(), LogFault>
     requires { (L.state log.old).failed ≡ false }
     ensures flag { (L.state log.new).failed ≡ is_err result }
-    ensures ok { OnOk result (Adds (L.state log.old).taken (L.state log.new).taken (reverse (look_events look.now))) }
-    ensures err { OnErr result (AddsFront (L.state log.old).taken (L.state log.new).taken (reverse (look_events look.now))) }
+    ensures ok { OnOk result (Adds
+        (L.state log.old).taken (L.state log.new).taken
+        (reverse (look_events look.now))) }
+    ensures err { OnErr result (AddsFront
+        (L.state log.old).taken (L.state log.new).taken
+        (reverse (look_events look.now))) }
 {
     match look {
         None => Ok(()),
         Some(HeldLook::Ordered(id)) => write_order(log, *id),
-        Some(HeldLook::Quiet(id)) => {
+        Some(HeldLook::FoundNothing(id)) => {
             write_order(log, *id)?;
             write_still(log, *id)
         }
@@ -110,8 +135,12 @@ fn write_look<L: Log>(log: &mut L, look: &Option<HeldLook>) -> Result<(), LogFau
 fn write_held<L: Log>(log: &mut L, held: &Held) -> Result<(), LogFault>
     requires { (L.state log.old).failed ≡ false }
     ensures flag { (L.state log.new).failed ≡ is_err result }
-    ensures ok { OnOk result (Adds (L.state log.old).taken (L.state log.new).taken (held_first held.now)) }
-    ensures err { OnErr result (AddsFront (L.state log.old).taken (L.state log.new).taken (held_first held.now)) }
+    ensures ok { OnOk result (Adds
+        (L.state log.old).taken (L.state log.new).taken
+        (held_first held.now)) }
+    ensures err { OnErr result (AddsFront
+        (L.state log.old).taken (L.state log.new).taken
+        (held_first held.now)) }
 {
     write_reading(log, held.reading)?;
     write_round(log, held.round)?;
@@ -142,19 +171,23 @@ fn write_all<L: Log, B: Allocator>(
     requires { (L.state log.old).failed ≡ false }
     ensures flag { (L.state log.new).failed ≡ is_err result }
     ensures ok { OnOk result (is_in_range happening.now ≡ true
-        → Adds (L.state log.old).taken (L.state log.new).taken (held_first held.now ++ written_of happening.now)) }
+        → Adds
+        (L.state log.old).taken (L.state log.new).taken
+        (held_first held.now ++ written_of happening.now)) }
     ensures err { OnErr result (is_in_range happening.now ≡ true
-        → AddsFront (L.state log.old).taken (L.state log.new).taken (held_first held.now ++ written_of happening.now)) }
+        → AddsFront
+        (L.state log.old).taken (L.state log.new).taken
+        (held_first held.now ++ written_of happening.now)) }
 {
     write_held(log, held)?;
     write_new(log, happening)
 }
 
 impl<L: Log> BriefLog<L> {
-    /// A brief log over a log that took nothing.
+    /// A brief log in front of a log that took nothing.
     pub fn new(log: L) -> BriefLog<L>
         ensures log { result.log ≡ log }
-        ensures held { result.held ≡ record { reading = None; round = false; look = None; within = false } }
+        ensures nothing { (L.state log).taken ≡ Some [] → TakesTrace L.state result [] }
     {
         BriefLog {
             log,
@@ -162,95 +195,84 @@ impl<L: Log> BriefLog<L> {
         }
     }
 
-    /// Takes a happening: it holds it back, or hands the log what was held and then the happening.
-    pub fn take_brief<B: Allocator>(&mut self, happening: &HappeningIn<B>) -> Result<(), LogFault>
+    /// Holds a happening back, or hands the log what was held and then the happening.
+    fn step<B: Allocator>(&mut self, happening: &HappeningIn<B>) -> Result<(), LogFault>
         requires { (L.state self.old.log).failed ≡ false }
         ensures flag { (L.state self.new.log).failed ≡ is_err result }
         ensures held { OnOk result (self.new.held ≡ next_held happening.now self.old.held) }
-        ensures ok { OnOk result (is_in_range happening.now ≡ true
-            → Adds (L.state self.old.log).taken (L.state self.new.log).taken (newly_first happening.now self.old.held)) }
-        ensures err { OnErr result (is_in_range happening.now ≡ true
-            → AddsFront (L.state self.old.log).taken (L.state self.new.log).taken (newly_first happening.now self.old.held)) }
+        ensures ok { OnOk result (is_in_range happening.now ≡ true → Adds
+            (L.state self.old.log).taken
+            (L.state self.new.log).taken
+            (newly_first happening.now self.old.held)) }
+        ensures err { OnErr result (is_in_range happening.now ≡ true → AddsFront
+            (L.state self.old.log).taken
+            (L.state self.new.log).taken
+            (newly_first happening.now self.old.held)) }
     {
-        match self.held.absorbed(happening) {
+        match self.held.hold_back(happening) {
             Some(held) => {
                 self.held = held;
                 Ok(())
             }
             None => {
                 write_all(&mut self.log, &self.held, happening)?;
-                self.held = Held::passed(happening);
+                self.held = Held::behind(happening);
                 Ok(())
             }
         }
     }
 
-    /// Hands the log all that is held: behind it the log has the whole brief form.
+    /// Hands the log all that is held, and gives it back. Its happenings are then the brief form of the trace; where it
+    /// fails, a past of that.
     pub fn finish(self) -> (L, Result<(), LogFault>)
         requires { (L.state self.log).failed ≡ false }
-        ensures ok { OnOk result.1 (Adds (L.state self.log).taken (L.state result.0).taken (held_first self.held)) }
+        ensures flag { (L.state result.0).failed ≡ is_err result.1 }
+        ensures ok { OnOk result.1 ((trace : List Event)
+            → TakesTrace L.state self trace
+            → (L.state result.0).taken ≡ Some (reverse (brief_of trace))) }
+        ensures err { OnErr result.1 ((trace : List Event)
+            → TakesTrace L.state self trace → WritesPast (L.state result.0).taken trace) }
+        ensures kept { Grows (L.state self.log).taken (L.state result.0).taken }
     {
         let BriefLog { mut log, held } = self;
         let written = write_held(&mut log, &held);
         (log, written)
     }
-}
 
-/// A log that tells which traces it took, the newest happening first.
-pub trait TellingLog {
-    /// It took this trace, and kept it in its form; once it has failed, up to the happening that it refused.
-    ghost tells: { Self → List Event → Type 0 };
-
-    /// Whether it has failed.
-    ghost stopped: { Self → Bool };
-
-    /// Takes a happening. A log that could not has failed from then on, and is handed nothing more.
-    fn take<B: Allocator>(&mut self, happening: &HappeningIn<B>) -> Result<(), LogFault>
-        requires { stopped self.old ≡ false }
-        ensures flag { stopped self.new ≡ is_err result }
-        ensures ok { OnOk result ((trace : List Event) → is_in_range happening.now ≡ true
-            → tells self.old trace → tells self.new (happening.now ∷ trace)) }
-        ensures err { OnErr result ((trace : List Event) → is_in_range happening.now ≡ true
-            → tells self.old trace → tells self.new trace) };
-}
-
-impl<L: Log> TellingLog for BriefLog<L> {
-    ghost use Rattle.brief_log.specs.Telling.{TellsBrief};
-
-    ghost tells = { λ log trace. TellsBrief (L.state log.log).failed (L.state log.log).taken log.held trace };
-
-    ghost stopped = { λ log. (L.state log.log).failed };
-
-    fn take<B: Allocator>(&mut self, happening: &HappeningIn<B>) -> Result<(), LogFault> {
-        self.take_brief(happening)
+    /// The log as it is, also one that has failed. What is held is not written.
+    pub fn into_log(self) -> L
+        ensures { result ≡ self.log }
+    {
+        let BriefLog { log, held: _ } = self;
+        log
     }
 }
 
 impl<L: Log> Log for BriefLog<L> {
+    ghost use Rattle.std.specs.Prelude.{None};
     ghost use Rattle.run_log.specs.Logs.{LogState, Gains, Stays};
+    ghost use Rattle.brief_log.specs.Keeping.{Brief};
 
-    ghost state = { λ log. record { taken = None; failed = (L.state log.log).failed } };
+    ghost state = { λ (log : Brief L). record { taken = None; failed = (L.state log.log).failed } };
 
-    /// Takes a happening. It tells none of what it took: its clauses say what it wrote and holds.
-    fn take<B: Allocator>(&mut self, happening: &HappeningIn<B>) -> Result<(), LogFault> {
-        self.take_brief(happening)
+    /// Takes a happening: holds it back, or hands the log what was held and then the happening. What it took isn't told
+    /// by its state: of each trace that it took, its clauses say that what is written and held is the brief form.
+    fn take<B: Allocator>(&mut self, happening: &HappeningIn<B>) -> Result<(), LogFault>
+        requires { (L.state self.old.log).failed ≡ false }
+        ensures flag { (L.state self.new.log).failed ≡ is_err result }
+        ensures ok { OnOk result (is_in_range happening.now ≡ true → (trace : List Event)
+            → TakesTrace L.state self.old trace
+            → TakesTrace L.state self.new (happening.now ∷ trace)) }
+        ensures err { OnErr result (is_in_range happening.now ≡ true → (trace : List Event)
+            → TakesTrace L.state self.old trace
+            → WritesPast (L.state self.new.log).taken (happening.now ∷ trace)) }
+        ensures kept { is_in_range happening.now ≡ true
+            → Grows (L.state self.old.log).taken (L.state self.new.log).taken }
+    {
+        self.step(happening)
     }
 
     fn failed(&self) -> bool {
         self.log.failed()
     }
 }
-
-/// What a brief log has written, `before` the oldest first, and holds, is the brief form of what it took: behind each
-/// happening that it takes; whole once what is held is written; and a past of it where a part alone was. It does
-/// nothing: its contract says so.
-pub fn law_of_writing()
-    ensures next { (happening : Event) (held : Held) (before trace : List Event)
-        → Holds held (reverse before) trace
-        → Holds (next_held happening held) (reverse (before ++ newly_first happening held)) (happening ∷ trace) }
-    ensures end { (held : Held) (before trace : List Event)
-        → Holds held (reverse before) trace → reverse (before ++ held_first held) ≡ brief_of trace }
-    ensures front { (happening : Event) (held : Held) (before now trace : List Event)
-        → Holds held (reverse before) trace → Front before now (newly_first happening held)
-        → (later : List Event) × (later ++ reverse now ≡ brief_of (happening ∷ trace)) }
-{}

@@ -13,12 +13,12 @@ use Rattle.init_trace.specs.Spells.{untold_hits, has_untold_miss, told_at, tells
 use Rattle.init_trace.specs.Timing.{start_times, hold_times}
 use Rattle.init_trace.specs.Due.{wants_look}
 use Rattle.trace_laws.proofs.Orders.{told_same, told_other, same_has}
-use Rattle.trace_brief.specs.Readings.{is_spoken, spoken}
-use Rattle.trace_brief.proofs.Spoken.{table_spoken, stage_spoken, unreaped_spoken}
+use Rattle.trace_brief.specs.Readings.{is_lasting, lasting_events}
+use Rattle.trace_brief.proofs.Lasting.{table_lasting, stage_lasting, unreaped_lasting}
 
 -- what init reads off the one is what it reads off the other; a look may be wanted by the second alone
 pub record Alike (past brief : List Event) : Type 0 where
-  pub said : spoken past ≡ spoken brief
+  pub said : lasting_events past ≡ lasting_events brief
   pub time : time_of past ≡ time_of brief
   pub starts : (id : List ℕ) → start_times id past ≡ start_times id brief
   pub holds : (id : List ℕ) → hold_times id past ≡ hold_times id brief
@@ -56,24 +56,24 @@ alike_then a b c x y = record {
   looks = λ id h. y.looks id (x.looks id h);
 }
 
--- a reading of the spoken happenings alone
-pub same_by : {X : Type 0} (f : List Event → X) → ((past : List Event) → f past ≡ f (spoken past)) → (past brief : List Event) → spoken past ≡ spoken brief → f past ≡ f brief
+-- what is read off the lasting happenings alone
+pub same_by : {X : Type 0} (f : List Event → X) → ((past : List Event) → f past ≡ f (lasting_events past)) → (past brief : List Event) → lasting_events past ≡ lasting_events brief → f past ≡ f brief
 same_by f by past brief said = by past ∙ ap f said ∙ sym (by brief)
 
-pub same_table : (past brief : List Event) → spoken past ≡ spoken brief → table_of past ≡ table_of brief
-same_table past brief said = same_by table_of table_spoken past brief said
+pub same_table : (past brief : List Event) → lasting_events past ≡ lasting_events brief → table_of past ≡ table_of brief
+same_table past brief said = same_by table_of table_lasting past brief said
 
-pub same_stage : (past brief : List Event) → spoken past ≡ spoken brief → stage_of past ≡ stage_of brief
-same_stage past brief said = same_by stage_of stage_spoken past brief said
+pub same_stage : (past brief : List Event) → lasting_events past ≡ lasting_events brief → stage_of past ≡ stage_of brief
+same_stage past brief said = same_by stage_of stage_lasting past brief said
 
-pub same_unreaped : (past brief : List Event) → spoken past ≡ spoken brief → unreaped_children past ≡ unreaped_children brief
-same_unreaped past brief said = same_by unreaped_children unreaped_spoken past brief said
+pub same_unreaped : (past brief : List Event) → lasting_events past ≡ lasting_events brief → unreaped_children past ≡ unreaped_children brief
+same_unreaped past brief said = same_by unreaped_children unreaped_lasting past brief said
 
-pub same_excluded : (past brief : List Event) → spoken past ≡ spoken brief → (child : Child) → is_excluded past child ≡ is_excluded brief child
+pub same_excluded : (past brief : List Event) → lasting_events past ≡ lasting_events brief → (child : Child) → is_excluded past child ≡ is_excluded brief child
 same_excluded past brief said child = ap (λ table. not (may_live (entry_of child.id table) child.act (stage_of past))) (same_table past brief said) ∙ ap (λ now. not (may_live (entry_of child.id (table_of brief)) child.act now)) (same_stage past brief said)
 
-said_cons : (happening : Event) (past brief : List Event) → spoken past ≡ spoken brief → spoken (happening ∷ past) ≡ spoken (happening ∷ brief)
-said_cons happening past brief said = ap (λ rest. cond (is_spoken happening) (happening ∷ rest) rest) said
+said_cons : (happening : Event) (past brief : List Event) → lasting_events past ≡ lasting_events brief → lasting_events (happening ∷ past) ≡ lasting_events (happening ∷ brief)
+said_cons happening past brief said = ap (λ rest. cond (is_lasting happening) (happening ∷ rest) rest) said
 
 time_cons : (happening : Event) (past brief : List Event) → time_of past ≡ time_of brief → time_of (happening ∷ past) ≡ time_of (happening ∷ brief)
 time_cons (Clock reading) past brief same = ap (max (min reading CLOCK_LIMIT)) same
@@ -98,7 +98,7 @@ told_alike id i there other before less same rest = split (same_id id i) refl wh
   split true own = told_same id i there before own ∙ ap (filter (is_of id)) same ∙ sym (told_same id i other less own)
   split false differ = told_other id i there before differ ∙ rest ∙ sym (told_other id i other less differ)
 
-newborn_cons : (i : List ℕ) (n : ℕ) (past brief : List Event) → spoken past ≡ spoken brief → newborn i n past ≡ newborn i n brief
+newborn_cons : (i : List ℕ) (n : ℕ) (past brief : List Event) → lasting_events past ≡ lasting_events brief → newborn i n past ≡ newborn i n brief
 newborn_cons i n past brief said = ap (λ table. let child : Child = record { id = i; number = n; act = act_of i table } in child) (same_table past brief said)
 
 kept_cons : (id : List ℕ) (happening : Event) (past brief : List Event) → Alike past brief → filter (is_of id) (kept_children (happening ∷ past)) ≡ filter (is_of id) (kept_children (happening ∷ brief))
@@ -141,7 +141,7 @@ misses_cons id (Told i) past brief same = ap (λ b. not (same_id id i) && b) sam
 misses_cons id (Miss i) past brief same = ap (λ b. same_id id i || b) same
 misses_cons id _ past brief same = same
 
-in_cons : (child : Child) (happening : Event) (past brief : List Event) → spoken past ≡ spoken brief → in_spell child happening past ≡ in_spell child happening brief
+in_cons : (child : Child) (happening : Event) (past brief : List Event) → lasting_events past ≡ lasting_events brief → in_spell child happening past ≡ in_spell child happening brief
 in_cons child happening past brief said = ap (λ b. b && not (is_birth_of child.id happening)) (same_excluded (happening ∷ past) (happening ∷ brief) (said_cons happening past brief said) child)
 
 tells_cons : (child : Child) (happening : Event) (past brief : List Event) → Alike past brief → tells_hits child happening past ≡ tells_hits child happening brief

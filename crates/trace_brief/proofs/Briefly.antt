@@ -18,15 +18,15 @@ use Rattle.init_words.proofs.Same.{same_id-is}
 use Rattle.init_words.proofs.Tests.{any_same}
 use Rattle.trace_laws.proofs.Keeps.{sound_ind}
 use Rattle.trace_laws.proofs.Laws.{sound_lawful}
-use Rattle.trace_brief.specs.Readings.{is_spoken, spoken}
-use Rattle.trace_brief.specs.Brief.{in_look, tell, read, read_early, begin_round, then_brief, brief_of}
-use Rattle.trace_brief.proofs.Spoken.{dead_spoken}
+use Rattle.trace_brief.specs.Readings.{is_lasting, lasting_events}
+use Rattle.trace_brief.specs.Brief.{in_look, with_telling, with_reading, with_early_reading, with_round, with_event, brief_of}
+use Rattle.trace_brief.proofs.Lasting.{dead_lasting}
 use Rattle.trace_brief.proofs.Alike.{Alike, alike_self, alike_then, alike_cons, same_by, same_unreaped}
 use Rattle.trace_brief.proofs.Shorter.{alike_look, alike_readings, alike_early, alike_rounds}
 use Rattle.trace_brief.proofs.SameDues.{quiet_same, due_alike}
 
 dead_same : (past brief : List Event) → Alike past brief → (id : List ℕ) (n : ℕ) → is_dead id n past ≡ is_dead id n brief
-dead_same past brief a id n = same_by (is_dead id n) (dead_spoken id n) past brief a.said
+dead_same past brief a id n = same_by (is_dead id n) (dead_lasting id n) past brief a.said
 
 living_same : (past brief : List Event) → Alike past brief → (n : ℕ) → is_living n past ≡ is_living n brief
 living_same past brief a n =
@@ -70,7 +70,7 @@ one_id goal i j k brief first second =
     let Q : List ℕ → Type 0 = λ x. is_sound goal (Told i ∷ Still j ∷ Asked x Look ∷ brief) ≡ true → Stands goal (Told i ∷ Still j ∷ Asked x Look ∷ brief) brief in
     subst Q second (subst P first (alike_look goal i brief))
 
-tell_stands : (goal : Goal) (i : List ℕ) (brief : List Event) → is_sound goal (Told i ∷ brief) ≡ true → Stands goal (Told i ∷ brief) (tell i brief)
+tell_stands : (goal : Goal) (i : List ℕ) (brief : List Event) → is_sound goal (Told i ∷ brief) ≡ true → Stands goal (Told i ∷ brief) (with_telling i brief)
 tell_stands goal i (Still j ∷ Asked k Look ∷ brief) h = split (same_id i j) (same_id i k) (in_look brief) refl refl where
   whole : List Event
   whole = Told i ∷ Still j ∷ Asked k Look ∷ brief
@@ -83,21 +83,21 @@ tell_stands goal i (Still j ∷ Asked k Look ∷ brief) h = split (same_id i j) 
 tell_stands goal i brief h = (h, alike_self (Told i ∷ brief))
 
 -- each reading of the clock, and each round, computes to what comes before it
-read_stands : (goal : Goal) (reading : ℕ) (brief : List Event) → is_sound goal (Clock reading ∷ brief) ≡ true → Stands goal (Clock reading ∷ brief) (read reading brief)
+read_stands : (goal : Goal) (reading : ℕ) (brief : List Event) → is_sound goal (Clock reading ∷ brief) ≡ true → Stands goal (Clock reading ∷ brief) (with_reading reading brief)
 read_stands goal reading (Clock before ∷ brief) h = (h, alike_readings reading before brief)
 read_stands goal reading brief h = (h, alike_self (Clock reading ∷ brief))
 
-early_stands : (goal : Goal) (reading : ℕ) (brief : List Event) → is_sound goal (Clock reading ∷ brief) ≡ true → Stands goal (Clock reading ∷ brief) (read_early reading brief)
+early_stands : (goal : Goal) (reading : ℕ) (brief : List Event) → is_sound goal (Clock reading ∷ brief) ≡ true → Stands goal (Clock reading ∷ brief) (with_early_reading reading brief)
 early_stands goal reading (Nudge ∷ brief) h =
     let rest = read_stands goal reading brief h in
-    (rest.0, alike_then (Clock reading ∷ Nudge ∷ brief) (Nudge ∷ Clock reading ∷ brief) (Nudge ∷ read reading brief) (alike_early reading brief) (alike_cons Nudge (Clock reading ∷ brief) (read reading brief) rest.1))
+    (rest.0, alike_then (Clock reading ∷ Nudge ∷ brief) (Nudge ∷ Clock reading ∷ brief) (Nudge ∷ with_reading reading brief) (alike_early reading brief) (alike_cons Nudge (Clock reading ∷ brief) (with_reading reading brief) rest.1))
 early_stands goal reading brief h = read_stands goal reading brief h
 
-round_stands : (goal : Goal) (brief : List Event) → is_sound goal (Nudge ∷ brief) ≡ true → Stands goal (Nudge ∷ brief) (begin_round brief)
+round_stands : (goal : Goal) (brief : List Event) → is_sound goal (Nudge ∷ brief) ≡ true → Stands goal (Nudge ∷ brief) (with_round brief)
 round_stands goal (Nudge ∷ brief) h = (h, alike_rounds brief)
 round_stands goal brief h = (h, alike_self (Nudge ∷ brief))
 
-then_stands : (goal : Goal) (happening : Event) (brief : List Event) → is_sound goal (happening ∷ brief) ≡ true → Stands goal (happening ∷ brief) (then_brief happening brief)
+then_stands : (goal : Goal) (happening : Event) (brief : List Event) → is_sound goal (happening ∷ brief) ≡ true → Stands goal (happening ∷ brief) (with_event happening brief)
 then_stands goal (Told i) brief h = tell_stands goal i brief h
 then_stands goal (Clock reading) brief h = early_stands goal reading brief h
 then_stands goal Nudge brief h = round_stands goal brief h
@@ -112,37 +112,37 @@ brief_stands goal past h = sound_ind goal (λ before. Stands goal before (brief_
   next happening before may sound rest =
       let whole = sound_cons goal happening (brief_of before) (may_alike goal happening before (brief_of before) rest.1 may) rest.0 in
       let last = then_stands goal happening (brief_of before) whole in
-      (last.0, alike_then (happening ∷ before) (happening ∷ brief_of before) (then_brief happening (brief_of before)) (alike_cons happening before (brief_of before) rest.1) last.1)
+      (last.0, alike_then (happening ∷ before) (happening ∷ brief_of before) (with_event happening (brief_of before)) (alike_cons happening before (brief_of before) rest.1) last.1)
 
--- what no soundness is asked for: the spoken happenings, the clock, the times of starts and holds
-same_tell : {X : Type 0} (f : List Event → X) → ((i j k : List ℕ) (past : List Event) → f (Told i ∷ Still j ∷ Asked k Look ∷ past) ≡ f past) → (i : List ℕ) (brief : List Event) → f (Told i ∷ brief) ≡ f (tell i brief)
+-- what no soundness is asked for: the lasting happenings, the clock, the times of starts and holds
+same_tell : {X : Type 0} (f : List Event → X) → ((i j k : List ℕ) (past : List Event) → f (Told i ∷ Still j ∷ Asked k Look ∷ past) ≡ f past) → (i : List ℕ) (brief : List Event) → f (Told i ∷ brief) ≡ f (with_telling i brief)
 same_tell f look i (Still j ∷ Asked k Look ∷ brief) = split (same_id i j && same_id i k && not (in_look brief)) where
   split : (b : Bool) → f (Told i ∷ Still j ∷ Asked k Look ∷ brief) ≡ f (cond b brief (Told i ∷ Still j ∷ Asked k Look ∷ brief))
   split true = look i j k brief
   split false = refl
 same_tell f look i brief = refl
 
-said_read : (reading : ℕ) (brief : List Event) → spoken brief ≡ spoken (read reading brief)
+said_read : (reading : ℕ) (brief : List Event) → lasting_events brief ≡ lasting_events (with_reading reading brief)
 said_read reading (Clock before ∷ brief) = refl
 said_read reading brief = refl
 
-said_early : (reading : ℕ) (brief : List Event) → spoken brief ≡ spoken (read_early reading brief)
+said_early : (reading : ℕ) (brief : List Event) → lasting_events brief ≡ lasting_events (with_early_reading reading brief)
 said_early reading (Nudge ∷ brief) = said_read reading brief
 said_early reading brief = said_read reading brief
 
-said_round : (brief : List Event) → spoken brief ≡ spoken (begin_round brief)
+said_round : (brief : List Event) → lasting_events brief ≡ lasting_events (with_round brief)
 said_round (Nudge ∷ brief) = refl
 said_round brief = refl
 
-said_then : (happening : Event) (brief : List Event) → spoken (happening ∷ brief) ≡ spoken (then_brief happening brief)
-said_then (Told i) brief = same_tell spoken (λ i j k past. refl) i brief
+said_then : (happening : Event) (brief : List Event) → lasting_events (happening ∷ brief) ≡ lasting_events (with_event happening brief)
+said_then (Told i) brief = same_tell lasting_events (λ i j k past. refl) i brief
 said_then (Clock reading) brief = said_early reading brief
 said_then Nudge brief = said_round brief
 said_then _ brief = refl
 
-pub brief_said : (past : List Event) → spoken past ≡ spoken (brief_of past)
+pub brief_said : (past : List Event) → lasting_events past ≡ lasting_events (brief_of past)
 brief_said [] = refl
-brief_said (happening ∷ past) = ap (λ rest. cond (is_spoken happening) (happening ∷ rest) rest) (brief_said past) ∙ said_then happening (brief_of past)
+brief_said (happening ∷ past) = ap (λ rest. cond (is_lasting happening) (happening ∷ rest) rest) (brief_said past) ∙ said_then happening (brief_of past)
 
 pub brief_lawful : (goal : Goal) (past : List Event) → is_sound goal past ≡ true → is_lawful (brief_of past) ≡ true
 brief_lawful goal past h = sound_lawful goal (brief_of past) (brief_stands goal past h).0

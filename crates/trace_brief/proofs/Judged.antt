@@ -26,9 +26,9 @@ use Rattle.trace_laws.proofs.Keeps.{asked_free, free_told, sound_holds, sound_in
 use Rattle.init_words.proofs.Same.{same_id-is}
 use Rattle.init_words.proofs.Tests.{any_same, is_none-is}
 use Rattle.trace_laws.proofs.Orders.{told_same, told_other, told_known, reaped_other}
-use Rattle.trace_brief.specs.Brief.{in_look, tell, read, read_early, begin_round, then_brief, brief_of}
-use Rattle.trace_brief.specs.Readings.{are_looks_free}
-use Rattle.trace_brief.proofs.Spoken.{grace_spoken, asked_spoken}
+use Rattle.trace_brief.specs.Brief.{in_look, with_telling, with_reading, with_early_reading, with_round, with_event, brief_of}
+use Rattle.trace_brief.specs.Readings.{are_looks_free, law_broken_by, first_broken}
+use Rattle.trace_brief.proofs.Lasting.{grace_lasting, asked_lasting}
 use Rattle.trace_brief.proofs.Alike.{Alike, alike_self, alike_then, alike_cons, same_by, same_table, same_stage, same_unreaped, same_excluded}
 use Rattle.trace_brief.proofs.Shorter.{Free, undone_none, alike_free, alike_readings, alike_early, alike_rounds}
 use Rattle.trace_brief.proofs.SameDues.{all_same, owed_same, held_same, full_same, excluded_any}
@@ -76,7 +76,7 @@ look_frees i j k past first second h =
           let R : List ℕ → Type 0 = λ x. Free x past in
           subst R (sym (same_id-is id i same ∙ second)) (free_by k past (is_none-is (open_of k past) two.0) (not-true (is_untold k past) two.1))
 
-tell_frees : (i : List ℕ) (brief : List Event) → are_looks_free (Told i ∷ brief) ≡ true → Frees (Told i ∷ brief) (tell i brief)
+tell_frees : (i : List ℕ) (brief : List Event) → are_looks_free (Told i ∷ brief) ≡ true → Frees (Told i ∷ brief) (with_telling i brief)
 tell_frees i (Still j ∷ Asked k Look ∷ brief) h = split (same_id i j) (same_id i k) (in_look brief) refl refl where
   whole : List Event
   whole = Told i ∷ Still j ∷ Asked k Look ∷ brief
@@ -88,21 +88,21 @@ tell_frees i (Still j ∷ Asked k Look ∷ brief) h = split (same_id i j) (same_
   split false c d first second = (alike_self whole, h)
 tell_frees i brief h = (alike_self (Told i ∷ brief), h)
 
-read_frees : (reading : ℕ) (brief : List Event) → are_looks_free brief ≡ true → Frees (Clock reading ∷ brief) (read reading brief)
+read_frees : (reading : ℕ) (brief : List Event) → are_looks_free brief ≡ true → Frees (Clock reading ∷ brief) (with_reading reading brief)
 read_frees reading (Clock before ∷ brief) h = (alike_readings reading before brief, h)
 read_frees reading brief h = (alike_self (Clock reading ∷ brief), h)
 
-early_frees : (reading : ℕ) (brief : List Event) → are_looks_free brief ≡ true → Frees (Clock reading ∷ brief) (read_early reading brief)
+early_frees : (reading : ℕ) (brief : List Event) → are_looks_free brief ≡ true → Frees (Clock reading ∷ brief) (with_early_reading reading brief)
 early_frees reading (Nudge ∷ brief) h =
     let rest = read_frees reading brief h in
-    (alike_then (Clock reading ∷ Nudge ∷ brief) (Nudge ∷ Clock reading ∷ brief) (Nudge ∷ read reading brief) (alike_early reading brief) (alike_cons Nudge (Clock reading ∷ brief) (read reading brief) rest.0), rest.1)
+    (alike_then (Clock reading ∷ Nudge ∷ brief) (Nudge ∷ Clock reading ∷ brief) (Nudge ∷ with_reading reading brief) (alike_early reading brief) (alike_cons Nudge (Clock reading ∷ brief) (with_reading reading brief) rest.0), rest.1)
 early_frees reading brief h = read_frees reading brief h
 
-round_frees : (brief : List Event) → are_looks_free brief ≡ true → Frees (Nudge ∷ brief) (begin_round brief)
+round_frees : (brief : List Event) → are_looks_free brief ≡ true → Frees (Nudge ∷ brief) (with_round brief)
 round_frees (Nudge ∷ brief) h = (alike_rounds brief, h)
 round_frees brief h = (alike_self (Nudge ∷ brief), h)
 
-then_frees : (happening : Event) (brief : List Event) → are_looks_free (happening ∷ brief) ≡ true → Frees (happening ∷ brief) (then_brief happening brief)
+then_frees : (happening : Event) (brief : List Event) → are_looks_free (happening ∷ brief) ≡ true → Frees (happening ∷ brief) (with_event happening brief)
 then_frees (Told i) brief h = tell_frees i brief h
 then_frees (Clock reading) brief h = early_frees reading brief h
 then_frees Nudge brief h = round_frees brief h
@@ -123,7 +123,7 @@ brief_frees [] h = (alike_self [], refl)
 brief_frees (happening ∷ past) h =
     let before = brief_frees past (free_rest happening past h) in
     let last = then_frees happening (brief_of past) (free_cons happening past (brief_of past) before.0 h before.1) in
-    (alike_then (happening ∷ past) (happening ∷ brief_of past) (then_brief happening (brief_of past)) (alike_cons happening past (brief_of past) before.0) last.0, last.1)
+    (alike_then (happening ∷ past) (happening ∷ brief_of past) (with_event happening (brief_of past)) (alike_cons happening past (brief_of past) before.0) last.0, last.1)
 
 -- each law at a happening, off the one and off the other
 placed_same : (id : List ℕ) (past brief : List Event) → Alike past brief → is_placed id past ≡ is_placed id brief
@@ -137,7 +137,7 @@ gone_same past brief a = excluded_any past brief a (unreaped_children past) (unr
 
 unreaped_served : (level : Level) (past brief : List Event) → Alike past brief → (e : Entry) → is_served level (unreaped_children past) past e ≡ is_served level (unreaped_children brief) brief e
 unreaped_served level past brief a e =
-    ap₂ (λ owed asked. not owed && (not (names (At level) e.levels.items) || served_by e.act asked (has_child e.id (unreaped_children past) || is_held e.id past))) (owed_same past brief a e) (same_by (is_asked e.id) (asked_spoken e.id) past brief a.said)
+    ap₂ (λ owed asked. not owed && (not (names (At level) e.levels.items) || served_by e.act asked (has_child e.id (unreaped_children past) || is_held e.id past))) (owed_same past brief a e) (same_by (is_asked e.id) (asked_lasting e.id) past brief a.said)
     ∙ ap₂ (λ there held. not (is_owed e brief) && (not (names (At level) e.levels.items) || served_by e.act (is_asked e.id brief) (has_child e.id there || held))) (same_unreaped past brief a.said) (held_same past brief a e.id)
 
 level_settled : (level : Level) (past brief : List Event) → Alike past brief → is_settled level (unreaped_children past) past ≡ is_settled level (unreaped_children brief) brief
@@ -161,7 +161,7 @@ term_same id past brief a = any_same (λ child. is_of id child && is_excluded pa
 kill_one : (id : List ℕ) (past brief : List Event) → Alike past brief → (child : Child) → (is_of id child && is_excluded past child && list_any (is_ripe (grace_of past) (time_of past)) (spell_hits child past)) ≡ (is_of id child && is_excluded brief child && list_any (is_ripe (grace_of brief) (time_of brief)) (spell_hits child brief))
 kill_one id past brief a child =
     ap₂ (λ out hits. is_of id child && out && list_any (is_ripe (grace_of past) (time_of past)) hits) (same_excluded past brief a.said child) (a.spell child)
-    ∙ ap₂ (λ grace now. is_of id child && is_excluded brief child && list_any (is_ripe grace now) (spell_hits child brief)) (same_by grace_of grace_spoken past brief a.said) a.time
+    ∙ ap₂ (λ grace now. is_of id child && is_excluded brief child && list_any (is_ripe grace now) (spell_hits child brief)) (same_by grace_of grace_lasting past brief a.said) a.time
 
 kill_same : (id : List ℕ) (past brief : List Event) → Alike past brief → may_kill id past ≡ may_kill id brief
 kill_same id past brief a = any_same (λ child. is_of id child && is_excluded past child && list_any (is_ripe (grace_of past) (time_of past)) (spell_hits child past)) (λ child. is_of id child && is_excluded brief child && list_any (is_ripe (grace_of brief) (time_of brief)) (spell_hits child brief)) (kill_one id past brief a) (unreaped_children past) ∙ ap (list_any (λ child. is_of id child && is_excluded brief child && list_any (is_ripe (grace_of brief) (time_of brief)) (spell_hits child brief))) (same_unreaped past brief a.said)
@@ -178,26 +178,26 @@ broken_same (Asked id Kill) past brief a = ap (λ b. cond (not b) (Some 7) None)
 broken_same _ past brief a = refl
 
 -- what is left out breaks no law
-tell_lawful : (i : List ℕ) (brief : List Event) → is_lawful (Told i ∷ brief) ≡ is_lawful (tell i brief)
+tell_lawful : (i : List ℕ) (brief : List Event) → is_lawful (Told i ∷ brief) ≡ is_lawful (with_telling i brief)
 tell_lawful i (Still j ∷ Asked k Look ∷ brief) = split (same_id i j && same_id i k && not (in_look brief)) where
   split : (b : Bool) → is_lawful brief ≡ is_lawful (cond b brief (Told i ∷ Still j ∷ Asked k Look ∷ brief))
   split true = refl
   split false = refl
 tell_lawful i brief = refl
 
-read_lawful : (reading : ℕ) (brief : List Event) → is_lawful brief ≡ is_lawful (read reading brief)
+read_lawful : (reading : ℕ) (brief : List Event) → is_lawful brief ≡ is_lawful (with_reading reading brief)
 read_lawful reading (Clock before ∷ brief) = refl
 read_lawful reading brief = refl
 
-early_lawful : (reading : ℕ) (brief : List Event) → is_lawful brief ≡ is_lawful (read_early reading brief)
+early_lawful : (reading : ℕ) (brief : List Event) → is_lawful brief ≡ is_lawful (with_early_reading reading brief)
 early_lawful reading (Nudge ∷ brief) = read_lawful reading brief
 early_lawful reading brief = read_lawful reading brief
 
-round_lawful : (brief : List Event) → is_lawful brief ≡ is_lawful (begin_round brief)
+round_lawful : (brief : List Event) → is_lawful brief ≡ is_lawful (with_round brief)
 round_lawful (Nudge ∷ brief) = refl
 round_lawful brief = refl
 
-then_lawful : (happening : Event) (brief : List Event) → is_lawful (happening ∷ brief) ≡ is_lawful (then_brief happening brief)
+then_lawful : (happening : Event) (brief : List Event) → is_lawful (happening ∷ brief) ≡ is_lawful (with_event happening brief)
 then_lawful (Told i) brief = tell_lawful i brief
 then_lawful (Clock reading) brief = early_lawful reading brief
 then_lawful Nudge brief = round_lawful brief
@@ -207,21 +207,16 @@ pub brief_judged : (past : List Event) → are_looks_free past ≡ true → is_l
 brief_judged [] h = refl
 brief_judged (happening ∷ past) h = ap₂ (λ law rest. is_none law && rest) (broken_same happening past (brief_of past) (brief_frees past (free_rest happening past h)).0) (brief_judged past (free_rest happening past h)) ∙ then_lawful happening (brief_of past)
 
--- the law that a breach breaks
-abbrev law_of : Option Fault → Option ℕ
-law_of None = None
-law_of (Some fault) = Some fault.law
-
 abbrev sooner : Option ℕ → Option ℕ → Option ℕ
 sooner None later = later
 sooner (Some law) later = Some law
 
-law_step : (o : Option Fault) (place : ℕ) (law : Option ℕ) → law_of (earlier o (breach_at place law)) ≡ sooner (law_of o) law
+law_step : (o : Option Fault) (place : ℕ) (law : Option ℕ) → law_broken_by (earlier o (breach_at place law)) ≡ sooner (law_broken_by o) law
 law_step None place None = refl
 law_step None place (Some law) = refl
 law_step (Some fault) place law = refl
 
-law_cons : (happening : Event) (past : List Event) → law_of (first_breach (happening ∷ past)) ≡ sooner (law_of (first_breach past)) (broken happening past)
+law_cons : (happening : Event) (past : List Event) → law_broken_by (first_breach (happening ∷ past)) ≡ sooner (law_broken_by (first_breach past)) (broken happening past)
 law_cons happening past = law_step (first_breach past) (length past) (broken happening past)
 
 sooner_none : (o : Option ℕ) → sooner o None ≡ o
@@ -229,38 +224,38 @@ sooner_none None = refl
 sooner_none (Some law) = refl
 
 -- a happening that breaks no law leaves the first breach
-law_quiet : (happening : Event) (past : List Event) → broken happening past ≡ None → law_of (first_breach (happening ∷ past)) ≡ law_of (first_breach past)
-law_quiet happening past none = law_cons happening past ∙ ap (sooner (law_of (first_breach past))) none ∙ sooner_none (law_of (first_breach past))
+law_quiet : (happening : Event) (past : List Event) → broken happening past ≡ None → law_broken_by (first_breach (happening ∷ past)) ≡ law_broken_by (first_breach past)
+law_quiet happening past none = law_cons happening past ∙ ap (sooner (law_broken_by (first_breach past))) none ∙ sooner_none (law_broken_by (first_breach past))
 
-law_same : (happening : Event) (past brief : List Event) → broken happening past ≡ broken happening brief → law_of (first_breach past) ≡ law_of (first_breach brief) → law_of (first_breach (happening ∷ past)) ≡ law_of (first_breach (happening ∷ brief))
+law_same : (happening : Event) (past brief : List Event) → broken happening past ≡ broken happening brief → law_broken_by (first_breach past) ≡ law_broken_by (first_breach brief) → law_broken_by (first_breach (happening ∷ past)) ≡ law_broken_by (first_breach (happening ∷ brief))
 law_same happening past brief law rest = law_cons happening past ∙ ap₂ sooner rest law ∙ sym (law_cons happening brief)
 
-tell_law : (i : List ℕ) (brief : List Event) → law_of (first_breach (Told i ∷ brief)) ≡ law_of (first_breach (tell i brief))
+tell_law : (i : List ℕ) (brief : List Event) → law_broken_by (first_breach (Told i ∷ brief)) ≡ law_broken_by (first_breach (with_telling i brief))
 tell_law i (Still j ∷ Asked k Look ∷ brief) = split (same_id i j && same_id i k && not (in_look brief)) where
-  split : (b : Bool) → law_of (first_breach (Told i ∷ Still j ∷ Asked k Look ∷ brief)) ≡ law_of (first_breach (cond b brief (Told i ∷ Still j ∷ Asked k Look ∷ brief)))
+  split : (b : Bool) → law_broken_by (first_breach (Told i ∷ Still j ∷ Asked k Look ∷ brief)) ≡ law_broken_by (first_breach (cond b brief (Told i ∷ Still j ∷ Asked k Look ∷ brief)))
   split true = law_quiet (Told i) (Still j ∷ Asked k Look ∷ brief) refl ∙ law_quiet (Still j) (Asked k Look ∷ brief) refl ∙ law_quiet (Asked k Look) brief refl
   split false = refl
 tell_law i brief = refl
 
-read_law : (reading : ℕ) (brief : List Event) → law_of (first_breach (Clock reading ∷ brief)) ≡ law_of (first_breach (read reading brief))
+read_law : (reading : ℕ) (brief : List Event) → law_broken_by (first_breach (Clock reading ∷ brief)) ≡ law_broken_by (first_breach (with_reading reading brief))
 read_law reading (Clock before ∷ brief) = law_quiet (Clock reading) (Clock before ∷ brief) refl ∙ law_quiet (Clock before) brief refl ∙ sym (law_quiet (Clock (max reading before)) brief refl)
 read_law reading brief = refl
 
-early_law : (reading : ℕ) (brief : List Event) → law_of (first_breach (Clock reading ∷ brief)) ≡ law_of (first_breach (read_early reading brief))
-early_law reading (Nudge ∷ brief) = law_quiet (Clock reading) (Nudge ∷ brief) refl ∙ law_quiet Nudge brief refl ∙ sym (law_quiet (Clock reading) brief refl) ∙ read_law reading brief ∙ sym (law_quiet Nudge (read reading brief) refl)
+early_law : (reading : ℕ) (brief : List Event) → law_broken_by (first_breach (Clock reading ∷ brief)) ≡ law_broken_by (first_breach (with_early_reading reading brief))
+early_law reading (Nudge ∷ brief) = law_quiet (Clock reading) (Nudge ∷ brief) refl ∙ law_quiet Nudge brief refl ∙ sym (law_quiet (Clock reading) brief refl) ∙ read_law reading brief ∙ sym (law_quiet Nudge (with_reading reading brief) refl)
 early_law reading brief = read_law reading brief
 
-round_law : (brief : List Event) → law_of (first_breach (Nudge ∷ brief)) ≡ law_of (first_breach (begin_round brief))
+round_law : (brief : List Event) → law_broken_by (first_breach (Nudge ∷ brief)) ≡ law_broken_by (first_breach (with_round brief))
 round_law (Nudge ∷ brief) = law_quiet Nudge (Nudge ∷ brief) refl
 round_law brief = refl
 
-then_law : (happening : Event) (brief : List Event) → law_of (first_breach (happening ∷ brief)) ≡ law_of (first_breach (then_brief happening brief))
+then_law : (happening : Event) (brief : List Event) → law_broken_by (first_breach (happening ∷ brief)) ≡ law_broken_by (first_breach (with_event happening brief))
 then_law (Told i) brief = tell_law i brief
 then_law (Clock reading) brief = early_law reading brief
 then_law Nudge brief = round_law brief
 then_law happening brief = refl
 
-pub breach_same : (past : List Event) → are_looks_free past ≡ true → law_of (first_breach past) ≡ law_of (first_breach (brief_of past))
+pub breach_same : (past : List Event) → are_looks_free past ≡ true → first_broken past ≡ first_broken (brief_of past)
 breach_same [] h = refl
 breach_same (happening ∷ past) h = law_same happening past (brief_of past) (broken_same happening past (brief_of past) (brief_frees past (free_rest happening past h)).0) (breach_same past (free_rest happening past h)) ∙ then_law happening (brief_of past)
 

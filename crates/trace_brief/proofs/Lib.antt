@@ -1,5 +1,5 @@
 mod Rows
-pub mod Spoken
+pub mod Lasting
 pub mod Alike
 pub mod Shorter
 pub mod SameDues

@@ -38,6 +38,9 @@ idle_rounds-is_sound = refl
 idle_rounds-brief : brief_of idle_rounds ≡ Nudge ∷ Clock 102 ∷ settled
 idle_rounds-brief = refl
 
+idle_rounds-brief_sound : is_sound (opening level.L3) (brief_of idle_rounds) ≡ true
+idle_rounds-brief_sound = refl
+
 -- the round in which a child is found dead keeps its look
 abbrev found_dead : List Event
 found_dead = Told (codes "r") ∷ Reaped (codes "r") 10 (Exit 1) ∷ Asked (codes "r") Look ∷ Nudge ∷ Clock 103 ∷ Death 10 ∷ idle_rounds
@@ -70,6 +73,9 @@ killed = Asked (codes "r") Kill ∷ Told (codes "r") ∷ Still (codes "r") ∷ A
 
 killed-is_sound : is_sound (opening level.L3) killed ≡ true
 killed-is_sound = refl
+
+killed-brief : brief_of killed ≡ Asked (codes "r") Kill ∷ Nudge ∷ Clock 111 ∷ Told (codes "r") ∷ Hit (codes "r") ∷ brief_of missed
+killed-brief = refl
 
 killed-brief_sound : is_sound (opening level.L3) (brief_of killed) ≡ true
 killed-brief_sound = refl

@@ -31,7 +31,7 @@ use Rattle.init_trace.specs.Due.{step_if, steps_if, none_excluded, due_first, du
 use Rattle.init_words.proofs.Tests.{same_tests, or_either, any_same}
 use Rattle.trace_laws.proofs.Orders.{same_has}
 use Rattle.trace_laws.proofs.Settling.{same_any}
-use Rattle.trace_brief.proofs.Spoken.{grace_spoken, asked_spoken, called_spoken, goal_spoken, reexec_spoken, reread_spoken, heard_spoken, power_spoken, letter_spoken, booted_spoken, announced_spoken, left_spoken}
+use Rattle.trace_brief.proofs.Lasting.{grace_lasting, asked_lasting, called_lasting, goal_lasting, reexec_lasting, reread_lasting, heard_lasting, power_lasting, letter_lasting, booted_lasting, announced_lasting, left_lasting}
 use Rattle.trace_brief.proofs.Alike.{Alike, same_by, same_table, same_stage, same_excluded}
 
 pub all_same : {X : Type 0} (p q : X → Bool) → ((x : X) → p x ≡ q x) → (xs : List X) → list_all p xs ≡ list_all q xs
@@ -55,7 +55,7 @@ excluded_any past brief a xs ys same = any_same (is_excluded past) (is_excluded 
 wanted_same : (past brief : List Event) → Alike past brief → (e : Entry) → is_wanted e past ≡ is_wanted e brief
 wanted_same past brief a e =
     ap₂ (λ now idle. starts_in e now && wanted_by e.act idle (not (is_asked e.id past)) (is_called e past)) (same_stage past brief a.said) (ap₂ (λ child order. not child && not (is_order Start order)) (has_kept past brief a e.id) (a.orders e.id))
-    ∙ ap₂ (λ asked called. starts_now e brief && wanted_by e.act (nothing_runs e.id brief) (not asked) called) (same_by (is_asked e.id) (asked_spoken e.id) past brief a.said) (same_by (is_called e) (called_spoken e) past brief a.said)
+    ∙ ap₂ (λ asked called. starts_now e brief && wanted_by e.act (nothing_runs e.id brief) (not asked) called) (same_by (is_asked e.id) (asked_lasting e.id) past brief a.said) (same_by (is_called e) (called_lasting e) past brief a.said)
 
 pub owed_same : (past brief : List Event) → Alike past brief → (e : Entry) → is_owed e past ≡ is_owed e brief
 owed_same past brief a e =
@@ -65,7 +65,7 @@ owed_same past brief a e =
 pub stop_same : (past brief : List Event) → Alike past brief → (child : Child) → stop_due child past ≡ stop_due child brief
 stop_same past brief a child =
     ap₂ (λ out missed. cond (out && not missed) (stop_by (grace_of past) (time_of past) (spell_hits child past)) None) (same_excluded past brief a.said child) (a.missed child)
-    ∙ ap₂ (λ grace hits. cond (is_excluded brief child && not (is_missed child brief)) (stop_by grace (time_of past) hits) None) (same_by grace_of grace_spoken past brief a.said) (a.spell child)
+    ∙ ap₂ (λ grace hits. cond (is_excluded brief child && not (is_missed child brief)) (stop_by grace (time_of past) hits) None) (same_by grace_of grace_lasting past brief a.said) (a.spell child)
     ∙ ap (λ now. cond (is_excluded brief child && not (is_missed child brief)) (stop_by (grace_of brief) now (spell_hits child brief)) None) a.time
 
 pub quiet_same : (past brief : List Event) → Alike past brief → is_quiet past ≡ is_quiet brief
@@ -75,25 +75,25 @@ idle_same : (past brief : List Event) → Alike past brief → is_idle past ≡ 
 idle_same past brief a = ap (λ orders. not (list_any (λ (order : Open). true) orders)) a.listed
 
 wish_same : (past brief : List Event) → Alike past brief → level_wish past ≡ level_wish brief
-wish_same past brief a = ap₂ other_than (same_stage past brief a.said) (same_by heard_level heard_spoken past brief a.said)
+wish_same past brief a = ap₂ other_than (same_stage past brief a.said) (same_by heard_level heard_lasting past brief a.said)
 
 power_same : (past brief : List Event) → Alike past brief → (kind : PowerKind) → keeps_power kind past ≡ keeps_power kind brief
-power_same past brief a kind = same_by (keeps_power kind) (power_spoken kind) past brief a.said
+power_same past brief a kind = same_by (keeps_power kind) (power_lasting kind) past brief a.said
 
 letter_same : (past brief : List Event) → Alike past brief → (letter : Letter) → keeps_letter letter past ≡ keeps_letter letter brief
-letter_same past brief a letter = same_by (keeps_letter letter) (letter_spoken letter) past brief a.said
+letter_same past brief a letter = same_by (keeps_letter letter) (letter_lasting letter) past brief a.said
 
 news_same : (past brief : List Event) → Alike past brief → keeps_news past ≡ keeps_news brief
 news_same past brief a = ap₂ (λ b c. b || c) (any_same (λ kind. keeps_power kind past) (λ kind. keeps_power kind brief) (power_same past brief a) powers) (any_same (λ letter. keeps_letter letter past) (λ letter. keeps_letter letter brief) (letter_same past brief a) letters)
 
 stands_same : (past brief : List Event) → Alike past brief → wish_stands past ≡ wish_stands brief
 stands_same past brief a =
-    ap₂ (λ reexec reread. reexec || reread || is_some (level_wish past) || in_run (stage_of past) && keeps_news past) (same_by wants_reexec reexec_spoken past brief a.said) (same_by wants_reread reread_spoken past brief a.said)
+    ap₂ (λ reexec reread. reexec || reread || is_some (level_wish past) || in_run (stage_of past) && keeps_news past) (same_by wants_reexec reexec_lasting past brief a.said) (same_by wants_reread reread_lasting past brief a.said)
     ∙ ap₂ (λ wish now. wants_reexec brief || wants_reread brief || is_some wish || in_run now && keeps_news past) (wish_same past brief a) (same_stage past brief a.said)
     ∙ ap (λ news. wants_reexec brief || wants_reread brief || is_some (level_wish brief) || in_run (stage_of brief) && news) (news_same past brief a)
 
 goal_same : (past brief : List Event) → Alike past brief → (opening : Goal) → goal_of opening past ≡ goal_of opening brief
-goal_same past brief a opening = same_by (goal_of opening) (goal_spoken opening) past brief a.said
+goal_same past brief a opening = same_by (goal_of opening) (goal_lasting opening) past brief a.said
 
 -- 1
 first_by : (goal : Goal) (o : Option Stage) (past brief : List Event) → Alike past brief → due_first goal o past ≡ due_first goal o brief
@@ -105,10 +105,10 @@ first_same goal past brief a = ap (λ now. due_first goal now past) (same_stage 
 
 -- 2, 3
 reexec_same : (past brief : List Event) → Alike past brief → due_reexec past ≡ due_reexec brief
-reexec_same past brief a = ap₂ (λ quiet wants. step_if (quiet && wants) step.Reexec) (quiet_same past brief a) (same_by wants_reexec reexec_spoken past brief a.said)
+reexec_same past brief a = ap₂ (λ quiet wants. step_if (quiet && wants) step.Reexec) (quiet_same past brief a) (same_by wants_reexec reexec_lasting past brief a.said)
 
 reread_same : (past brief : List Event) → Alike past brief → due_reread past ≡ due_reread brief
-reread_same past brief a = ap₂ (λ quiet wants. step_if (quiet && wants) step.Reread) (quiet_same past brief a) (same_by wants_reread reread_spoken past brief a.said)
+reread_same past brief a = ap₂ (λ quiet wants. step_if (quiet && wants) step.Reread) (quiet_same past brief a) (same_by wants_reread reread_lasting past brief a.said)
 
 -- 4
 enter_by : (o : Option Goal) (past brief : List Event) → was_booted past ≡ was_booted brief → enter_level o past ≡ enter_level o brief
@@ -118,7 +118,7 @@ enter_by (Some wish) past brief same = ap (λ been. step.Enter (cond (not (same_
 level_same : (past brief : List Event) → Alike past brief → due_level past ≡ due_level brief
 level_same past brief a =
     ap₂ (λ quiet wish. steps_if quiet (enter_level wish past)) (quiet_same past brief a) (wish_same past brief a)
-    ∙ ap (steps_if (is_quiet brief)) (enter_by (level_wish brief) past brief (same_by was_booted booted_spoken past brief a.said))
+    ∙ ap (steps_if (is_quiet brief)) (enter_by (level_wish brief) past brief (same_by was_booted booted_lasting past brief a.said))
 
 -- 5
 powers_by : (kinds : List PowerKind) (past brief : List Event) → Alike past brief → power_steps kinds past ≡ power_steps kinds brief
@@ -137,7 +137,7 @@ calls_same past brief a =
 -- 6
 records_same : (past brief : List Event) → Alike past brief → record_ids past ≡ record_ids brief
 records_same past brief a =
-    ap₂ (λ table left. ids_of table ++ filter (λ id. has_child id (known_children past)) left) (same_table past brief a.said) (same_by left_ids left_spoken past brief a.said)
+    ap₂ (λ table left. ids_of table ++ filter (λ id. has_child id (known_children past)) left) (same_table past brief a.said) (same_by left_ids left_lasting past brief a.said)
     ∙ ap (λ left. ids_of (table_of brief) ++ left) (filter_alike (λ id. has_child id (known_children past)) (λ id. has_child id (known_children brief)) (has_known past brief a) (left_ids brief))
 
 stops_filtered : (id : List ℕ) (children : List Child) (past : List Event) → stops_of id children past ≡ stops_of id (filter (is_of id) children) past
@@ -216,7 +216,7 @@ stage_same goal past brief a =
 -- 9
 served_same : (level : Level) (past brief : List Event) → Alike past brief → (e : Entry) → is_served level (known_children past) past e ≡ is_served level (known_children brief) brief e
 served_same level past brief a e =
-    ap₂ (λ owed asked. not owed && (not (names (At level) e.levels.items) || served_by e.act asked (has_child e.id (known_children past) || is_held e.id past))) (owed_same past brief a e) (same_by (is_asked e.id) (asked_spoken e.id) past brief a.said)
+    ap₂ (λ owed asked. not owed && (not (names (At level) e.levels.items) || served_by e.act asked (has_child e.id (known_children past) || is_held e.id past))) (owed_same past brief a e) (same_by (is_asked e.id) (asked_lasting e.id) past brief a.said)
     ∙ ap₂ (λ child held. not (is_owed e brief) && (not (names (At level) e.levels.items) || served_by e.act (is_asked e.id brief) (child || held))) (has_known past brief a e.id) (held_same past brief a e.id)
 
 settled_same : (level : Level) (past brief : List Event) → Alike past brief → is_settled level (known_children past) past ≡ is_settled level (known_children brief) brief
@@ -233,7 +233,7 @@ settle_by (Some _) past brief a = refl
 settle_same : (past brief : List Event) → Alike past brief → due_settle past ≡ due_settle brief
 settle_same past brief a =
     ap₂ (λ stands idle. steps_if (not stands && idle && not (is_announced past)) (settle_step (stage_of past) past)) (stands_same past brief a) (idle_same past brief a)
-    ∙ ap₂ (λ announced now. steps_if (not (wish_stands brief) && is_idle brief && not announced) (settle_step now past)) (same_by is_announced announced_spoken past brief a.said) (same_stage past brief a.said)
+    ∙ ap₂ (λ announced now. steps_if (not (wish_stands brief) && is_idle brief && not announced) (settle_step now past)) (same_by is_announced announced_lasting past brief a.said) (same_stage past brief a.said)
     ∙ ap (steps_if (not (wish_stands brief) && is_idle brief && not (is_announced brief))) (settle_by (stage_of brief) past brief a)
 
 -- 10: each look that is due behind the one is due behind the other

@@ -1,51 +1,52 @@
--- The brief form of a trace: without looks that found nothing, and of rounds and readings of the clock with nothing else
--- between them only the last round and the greatest reading.
+-- The brief form of a trace. Left out are the looks that found nothing; and of readings of the clock and rounds with
+-- nothing else between them, all but the greatest reading and one round.
 use Rattle.std.specs.Prelude.{◌≡◌, ℕ, Bool, true, false, not, ◌&&◌, if◌then◌else◌, max, List, [], ◌∷◌}
 use Rattle.init_words.specs.declared.orders.Ask.TheVariants.{Look}
 use Rattle.init_words.specs.Ids.{same_id}
 use Rattle.init_trace.specs.declared.happenings.Happening.TheVariants.{Asked, Still, Told, Clock, Nudge}
 use Rattle.init_trace.specs.Event.{Event}
 
--- the newest happening belongs to a look
+-- the newest happening is the order of a look, or that a look found nothing
 abbrev pub in_look : List Event → Bool
 in_look (Asked id Look ∷ past) = true
 in_look (Still id ∷ past) = true
 in_look _ = false
 
--- behind a brief trace, what the system did for the id is told: where that ends a look that found nothing, and came
--- within no other look, the look is left out
-abbrev pub tell : List ℕ → List Event → List Event
-tell id (Still i ∷ Asked j Look ∷ brief) =
+-- what the system did for the id is told: a look that found nothing is left out with its telling, unless it was ordered
+-- right behind another look's order or answer
+abbrev pub with_telling : List ℕ → List Event → List Event
+with_telling id (Still i ∷ Asked j Look ∷ brief) =
     if same_id id i && same_id id j && not (in_look brief) then brief else Told id ∷ Still i ∷ Asked j Look ∷ brief
-tell id brief = Told id ∷ brief
+with_telling id brief = Told id ∷ brief
 
 -- the clock is read: of two readings the greater stays
-abbrev pub read : ℕ → List Event → List Event
-read reading (Clock before ∷ brief) = Clock (max reading before) ∷ brief
-read reading brief = Clock reading ∷ brief
+abbrev pub with_reading : ℕ → List Event → List Event
+with_reading reading (Clock before ∷ brief) = Clock (max reading before) ∷ brief
+with_reading reading brief = Clock reading ∷ brief
 
 -- a reading goes before a round
-abbrev pub read_early : ℕ → List Event → List Event
-read_early reading (Nudge ∷ brief) = Nudge ∷ read reading brief
-read_early reading brief = read reading brief
+abbrev pub with_early_reading : ℕ → List Event → List Event
+with_early_reading reading (Nudge ∷ brief) = Nudge ∷ with_reading reading brief
+with_early_reading reading brief = with_reading reading brief
 
 -- a round begins: of two, one stays
-abbrev pub begin_round : List Event → List Event
-begin_round (Nudge ∷ brief) = Nudge ∷ brief
-begin_round brief = Nudge ∷ brief
+abbrev pub with_round : List Event → List Event
+with_round (Nudge ∷ brief) = Nudge ∷ brief
+with_round brief = Nudge ∷ brief
 
--- a happening behind a brief trace
-abbrev pub then_brief : Event → List Event → List Event
-then_brief (Told id) brief = tell id brief
-then_brief (Clock reading) brief = read_early reading brief
-then_brief Nudge brief = begin_round brief
-then_brief happening brief = happening ∷ brief
+-- what a brief trace is with one more happening
+abbrev pub with_event : Event → List Event → List Event
+with_event (Told id) brief = with_telling id brief
+with_event (Clock reading) brief = with_early_reading reading brief
+with_event Nudge brief = with_round brief
+with_event happening brief = happening ∷ brief
 
+-- the brief form of a trace
 abbrev pub brief_of : List Event → List Event
 brief_of [] = []
-brief_of (happening ∷ past) = then_brief happening (brief_of past)
+brief_of (happening ∷ past) = with_event happening (brief_of past)
 
 -- nothing of the trace can be left out: each happening stands behind its past as it came
 abbrev pub IsBrief : List Event → Type 0
 IsBrief [] = Unit {0}
-IsBrief (happening ∷ past) = (then_brief happening past ≡ happening ∷ past) × IsBrief past
+IsBrief (happening ∷ past) = (with_event happening past ≡ happening ∷ past) × IsBrief past

@@ -1,4 +1,4 @@
--- What is held back of a brief trace, since a later happening may take it out or change it, and what is written.
+-- What a log of brief traces holds back, since a later happening may leave it out or change it, and what it writes.
 use Rattle.std.specs.Prelude.{ℕ, Bool, true, false, not, ◌&&◌, ◌≡◌, if◌then◌else◌, max, List, [], ◌∷◌, ◌++◌, Option, Some, None, is_none, is_some}
 use Rattle.init_words.specs.declared.orders.Ask.TheVariants.{Look}
 use Rattle.init_words.specs.Ids.{same_id}
@@ -6,14 +6,14 @@ use Rattle.init_trace.specs.declared.happenings.Happening.TheVariants.{Asked, St
 use Rattle.init_trace.specs.Event.{Event}
 use Rattle.trace_brief.specs.declared.held.Held.{Held}
 use Rattle.trace_brief.specs.declared.held.HeldLook.{HeldLook}
-use Rattle.trace_brief.specs.declared.held.HeldLook.TheVariants.{Ordered, Quiet}
+use Rattle.trace_brief.specs.declared.held.HeldLook.TheVariants.{Ordered, FoundNothing}
 use Rattle.trace_brief.specs.Brief.{in_look, brief_of}
 
 -- the held happenings, the newest first: at most a look, a round and a reading
 abbrev pub look_events : Option HeldLook → List Event
 look_events None = []
 look_events (Some (Ordered id)) = Asked id Look ∷ []
-look_events (Some (Quiet id)) = Still id ∷ Asked id Look ∷ []
+look_events (Some (FoundNothing id)) = Still id ∷ Asked id Look ∷ []
 
 abbrev pub round_events : Bool → List Event
 round_events true = Nudge ∷ []
@@ -30,70 +30,72 @@ held_events held = look_events held.look ++ round_events held.round ++ reading_e
 abbrev pub is_bare : Held → Bool
 is_bare held = not held.round && is_none held.reading
 
-abbrev pub newer : ℕ → Option ℕ → ℕ
-newer reading None = reading
-newer reading (Some before) = max reading before
+-- the newest happening is a reading or a round
+abbrev pub is_round_or_reading : List Event → Bool
+is_round_or_reading (Clock reading ∷ past) = true
+is_round_or_reading (Nudge ∷ past) = true
+is_round_or_reading _ = false
 
--- what is held behind a happening for which nothing is written; none where something is
-abbrev pub absorbed_by : Event → Option HeldLook → Held → Option Held
-absorbed_by (Clock reading) None held = Some (record held { reading = Some (newer reading held.reading) })
-absorbed_by Nudge None held = Some (record held { round = true })
-absorbed_by (Asked id Look) None held =
+-- the newest happenings are a look that may yet be left out
+abbrev pub ends_look : List Event → Bool
+ends_look (Asked id Look ∷ past) = not (in_look past)
+ends_look (Still i ∷ Asked j Look ∷ past) = same_id i j && not (in_look past)
+ends_look _ = false
+
+-- no later happening changes what was written, the newest first: it ends in no round or reading, and where none is held
+-- either, in no look that may yet be left out; a look is held only where it may be
+pub record Settled (held : Held) (written : List Event) : Type 0 where
+  pub no_round : is_round_or_reading written ≡ false
+  pub within : is_bare held ≡ true → held.within ≡ in_look written
+  pub no_look : is_bare held ≡ true → ends_look written ≡ false
+  pub not_nested : is_some held.look ≡ true → (is_bare held && held.within) ≡ false
+
+-- what is held and what was written are the brief form of the trace
+pub record Holds (held : Held) (written trace : List Event) : Type 0 where
+  pub brief : held_events held ++ written ≡ brief_of trace
+  pub settled : Settled held written
+
+abbrev pub greater_reading : ℕ → Option ℕ → ℕ
+greater_reading reading None = reading
+greater_reading reading (Some before) = max reading before
+
+-- what is held with a happening that is held back; none where it is not
+abbrev pub held_back_by : Event → Option HeldLook → Held → Option Held
+held_back_by (Clock reading) None held = Some (record held { reading = Some (greater_reading reading held.reading) })
+held_back_by Nudge None held = Some (record held { round = true })
+held_back_by (Asked id Look) None held =
     if is_bare held && held.within then None else Some (record held { look = Some (Ordered id) })
-absorbed_by (Still id) (Some (Ordered i)) held =
-    if same_id id i then Some (record held { look = Some (Quiet i) }) else None
-absorbed_by (Told id) (Some (Quiet i)) held = if same_id id i then Some (record held { look = None }) else None
-absorbed_by _ _ held = None
+held_back_by (Still id) (Some (Ordered i)) held =
+    if same_id id i then Some (record held { look = Some (FoundNothing i) }) else None
+held_back_by (Told id) (Some (FoundNothing i)) held =
+    if same_id id i then Some (record held { look = None }) else None
+held_back_by _ _ held = None
 
-abbrev pub absorbed : Event → Held → Option Held
-absorbed happening held = absorbed_by happening held.look held
+abbrev pub held_back : Event → Held → Option Held
+held_back happening held = held_back_by happening held.look held
 
--- what is held once all that was held is written, and the happening too, unless it is a reading or a round
-abbrev pub passed : Event → Held
-passed (Clock reading) = record { reading = Some reading; round = false; look = None; within = true }
-passed Nudge = record { reading = None; round = true; look = None; within = true }
-passed happening = record { reading = None; round = false; look = None; within = in_look (happening ∷ []) }
+-- what is held behind a happening that is not: nothing, or it alone where it is a reading or a round
+abbrev pub held_behind : Event → Held
+held_behind (Clock reading) = record { reading = Some reading; round = false; look = None; within = true }
+held_behind Nudge = record { reading = None; round = true; look = None; within = true }
+held_behind happening = record { reading = None; round = false; look = None; within = in_look (happening ∷ []) }
 
 abbrev pub written_of : Event → List Event
 written_of (Clock reading) = []
 written_of Nudge = []
 written_of happening = happening ∷ []
 
--- the newest happening is a reading or a round
-abbrev pub is_late : List Event → Bool
-is_late (Clock reading ∷ past) = true
-is_late (Nudge ∷ past) = true
-is_late _ = false
-
--- a telling would leave out a look at the end, or would if it came to nothing
-abbrev pub ends_look : List Event → Bool
-ends_look (Asked id Look ∷ past) = not (in_look past)
-ends_look (Still i ∷ Asked j Look ∷ past) = same_id i j && not (in_look past)
-ends_look _ = false
-
--- what was written, the newest first, is not changed any more behind what is held
-pub record Settled (held : Held) (written : List Event) : Type 0 where
-  pub late : is_late written ≡ false
-  pub within : is_bare held ≡ true → held.within ≡ in_look written
-  pub apart : is_bare held ≡ true → ends_look written ≡ false
-  pub under : is_some held.look ≡ true → (is_bare held && held.within) ≡ false
-
--- what is held and what was written are the brief form of a trace
-pub record Holds (held : Held) (written trace : List Event) : Type 0 where
-  pub brief : held_events held ++ written ≡ brief_of trace
-  pub settled : Settled held written
-
--- what is held behind a happening, and what is written for it, the newest first
+-- what is held behind each happening, and what is written for it, the newest first
 abbrev pub next_by : Event → Option Held → Held
-next_by happening None = passed happening
+next_by happening None = held_behind happening
 next_by happening (Some held) = held
 
 abbrev pub next_held : Event → Held → Held
-next_held happening held = next_by happening (absorbed happening held)
+next_held happening held = next_by happening (held_back happening held)
 
 abbrev pub newly_by : Event → Held → Option Held → List Event
 newly_by happening held None = written_of happening ++ held_events held
 newly_by happening held (Some next) = []
 
 abbrev pub newly_written : Event → Held → List Event
-newly_written happening held = newly_by happening held (absorbed happening held)
+newly_written happening held = newly_by happening held (held_back happening held)

@@ -1,24 +1,34 @@
--- What of a trace a brief form keeps whole.
-use Rattle.std.specs.Prelude.{Bool, true, false, not, ◌&&◌, List, [], ◌∷◌, filter, is_none}
+-- What a brief form never changes, when the looks of a trace are free, and which law a trace breaks first.
+use Rattle.std.specs.Prelude.{ℕ, Bool, true, false, not, ◌&&◌, List, [], ◌∷◌, filter, Option, Some, None, is_none}
 use Rattle.init_words.specs.declared.orders.Ask.TheVariants.{Look}
 use Rattle.init_trace.specs.declared.happenings.Happening.TheVariants.{Asked, Still, Told, Clock, Nudge}
 use Rattle.init_trace.specs.Event.{Event}
 use Rattle.init_trace.specs.Past.{open_of, is_untold}
+use Rattle.init_trace.specs.Lawful.{Fault, first_breach}
 
--- no look, telling, reading of the clock or round
-abbrev pub is_spoken : Event → Bool
-is_spoken (Asked i Look) = false
-is_spoken (Still i) = false
-is_spoken (Told i) = false
-is_spoken (Clock reading) = false
-is_spoken Nudge = false
-is_spoken _ = true
+-- the happening is never left out: it is no look, telling, reading of the clock or round
+abbrev pub is_lasting : Event → Bool
+is_lasting (Asked i Look) = false
+is_lasting (Still i) = false
+is_lasting (Told i) = false
+is_lasting (Clock reading) = false
+is_lasting Nudge = false
+is_lasting _ = true
 
-abbrev pub spoken : List Event → List Event
-spoken past = filter is_spoken past
+abbrev pub lasting_events : List Event → List Event
+lasting_events past = filter is_lasting past
 
--- each look is ordered where no order of its id is open and nothing of it is untold
+-- the looks of a trace are free: each was ordered where no order of its id was open and no act for it untold
 abbrev pub are_looks_free : List Event → Bool
 are_looks_free [] = true
 are_looks_free (Asked id Look ∷ past) = is_none (open_of id past) && not (is_untold id past) && are_looks_free past
 are_looks_free (_ ∷ past) = are_looks_free past
+
+-- the law that a breach breaks
+abbrev pub law_broken_by : Option Fault → Option ℕ
+law_broken_by None = None
+law_broken_by (Some fault) = Some fault.law
+
+-- the law that the first breach of a trace breaks
+abbrev pub first_broken : List Event → Option ℕ
+first_broken trace = law_broken_by (first_breach trace)

@@ -1,27 +1,31 @@
 ghost use Rattle.std.specs.Prelude.{◌≡◌, None, Some, false, if◌then◌else◌};
 ghost use Rattle.init_words.specs.Ids.{same_id};
-ghost use Rattle.trace_brief.specs.Holding.{absorbed, absorbed_by, passed, is_bare, newer};
+ghost use Rattle.trace_brief.specs.Holding.{held_back, held_back_by, held_behind, is_bare, greater_reading};
 
 use init_trace::{Happening, HappeningIn};
 use init_words::{Ask, Id};
 use std::alloc::Allocator;
 
-/// A look that is held back.
+/// A look that is held back: it is left out where its telling comes next.
 #[derive(Clone, Copy)]
 pub enum HeldLook {
-    /// It is ordered.
+    /// It was ordered.
     Ordered(Id),
-    /// It found nothing, which is not told.
-    Quiet(Id),
+    /// It was ordered, and found nothing.
+    FoundNothing(Id),
 }
 
-/// What is held back of a brief trace: at most a reading, a round behind it and a look behind that.
+/// What is held back of a brief trace, the oldest first: at most a reading of the clock, a round, and a look, whose
+/// order and finding are two happenings.
 #[derive(Clone, Copy)]
 pub struct Held {
+    /// The clock's reading, in seconds since 1970.
     pub reading: Option<u64>,
+    /// A round began.
     pub round: bool,
     pub look: Option<HeldLook>,
-    /// What was written last belongs to a look. It counts only where no reading and no round is held.
+    /// What was written last is the order of a look, or that one found nothing. It counts only where no reading and no
+    /// round is held.
     pub within: bool,
 }
 
@@ -45,17 +49,18 @@ impl Held {
         !self.round && self.reading.is_none()
     }
 
-    /// What is held behind a happening for which nothing has to be written; none where something has.
-    pub fn absorbed<A: Allocator>(&self, happening: &HappeningIn<A>) -> Option<Held>
-        ensures { result ≡ absorbed happening.now self.now }
+    /// What is held with a happening that is held back; none where all that is held must be written, and the happening
+    /// behind it.
+    pub fn hold_back<A: Allocator>(&self, happening: &HappeningIn<A>) -> Option<Held>
+        ensures { result ≡ held_back happening.now self.now }
     {
         match &self.look {
-            None => self.absorbed_first(happening),
+            None => self.hold_first(happening),
             Some(HeldLook::Ordered(own)) => match happening {
-                Happening::Still(id) => self.if_same(id, own, Some(HeldLook::Quiet(*own))),
+                Happening::Still(id) => self.if_same(id, own, Some(HeldLook::FoundNothing(*own))),
                 _ => None,
             },
-            Some(HeldLook::Quiet(own)) => match happening {
+            Some(HeldLook::FoundNothing(own)) => match happening {
                 Happening::Told(id) => self.if_same(id, own, None),
                 _ => None,
             },
@@ -63,12 +68,12 @@ impl Held {
     }
 
     /// The same where no look is held.
-    fn absorbed_first<A: Allocator>(&self, happening: &HappeningIn<A>) -> Option<Held>
-        ensures { result ≡ absorbed_by happening.now None self.now }
+    fn hold_first<A: Allocator>(&self, happening: &HappeningIn<A>) -> Option<Held>
+        ensures { result ≡ held_back_by happening.now None self.now }
     {
         match happening {
             Happening::Clock(reading) => Some(Held {
-                reading: Some(newer(*reading, self.reading)),
+                reading: Some(greater_reading(*reading, self.reading)),
                 ..*self
             }),
             Happening::Nudge => Some(Held {
@@ -88,7 +93,8 @@ impl Held {
 
     /// With this look in place of the one that is held, where the two ids are one.
     fn if_same(&self, id: &Id, own: &Id, look: Option<HeldLook>) -> Option<Held>
-        ensures { result ≡ if same_id id.now own.now then Some (record self.now { look = look }) else None }
+        ensures { result ≡ if same_id id.now own.now
+            then Some (record self.now { look = look }) else None }
     {
         if *id == *own {
             Some(self.with_look(look))
@@ -103,9 +109,9 @@ impl Held {
         Held { look, ..*self }
     }
 
-    /// What is held once all that was held is written, and the happening too, unless it is a reading or a round.
-    pub fn passed<A: Allocator>(happening: &HappeningIn<A>) -> Held
-        ensures { result ≡ passed happening.now }
+    /// What is held behind a happening that is not held back: it is written, unless it is a reading or a round.
+    pub fn behind<A: Allocator>(happening: &HappeningIn<A>) -> Held
+        ensures { result ≡ held_behind happening.now }
     {
         match happening {
             Happening::Clock(reading) => Held {
@@ -130,8 +136,8 @@ impl Held {
 }
 
 /// The greater of a reading and one before it, where there is one.
-fn newer(reading: u64, before: Option<u64>) -> u64
-    ensures { result ≡ newer reading before }
+fn greater_reading(reading: u64, before: Option<u64>) -> u64
+    ensures { result ≡ greater_reading reading before }
 {
     match before {
         None => reading,

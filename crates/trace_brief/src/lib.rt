@@ -1,4 +1,6 @@
-//! Brief traces: a trace without its idle rounds, which is sound where the whole one is.
+//! Brief traces: a trace without its idle rounds and without the looks that found nothing. The brief form of a sound
+//! trace is sound, so it can be judged in place of the trace. It can't be replayed: the looks that were left out were
+//! due, so a brief trace is in general no run of first due steps.
 #![tactic(auto)]
 
 mod held;
@@ -6,12 +8,12 @@ mod held;
 ghost use Rattle.std.specs.Prelude.{◌≡◌, ℕ, IsTrue, false, List, [], ◌∷◌, ◌++◌, None};
 ghost use Rattle.init_trace.specs.declared.steps.Goal.{Goal};
 ghost use Rattle.init_trace.specs.Event.{Event};
-ghost use Rattle.init_trace.specs.Past.{Child, table_of, stage_of, time_of, unreaped_children, has_child, known_children, open_orders};
+ghost use Rattle.init_trace.specs.Past.{Child, time_of, unreaped_children, has_child, known_children, open_orders};
 ghost use Rattle.init_trace.specs.Spells.{stop_due};
 ghost use Rattle.init_trace.specs.Timing.{is_held, is_full};
 ghost use Rattle.init_trace.specs.Sound.{is_sound};
 ghost use Rattle.init_trace.specs.Lawful.{is_lawful, first_breach};
-ghost use Rattle.trace_brief.specs.Readings.{are_looks_free, spoken};
+ghost use Rattle.trace_brief.specs.Readings.{are_looks_free, lasting_events, first_broken};
 ghost use Rattle.trace_brief.specs.Brief.{brief_of, IsBrief};
 ghost use Rattle.trace_brief.specs.declared.held.Held.{Held};
 ghost use Rattle.trace_brief.specs.Holding.{Holds, next_held, newly_written};
@@ -20,29 +22,36 @@ pub use held::{Held, HeldLook};
 
 /// The laws of brief traces. It does nothing: its contract says them.
 pub fn law_of_brief()
-    // of any trace at all: each happening that is no look, telling, reading of the clock or round stands, in its order
-    ensures said { (trace : List Event) → spoken trace ≡ spoken (brief_of trace) }
-    // nothing more can be left out of it
+    // Of any trace at all: what is no look, telling, reading of the clock or round stays, in its order; nothing more
+    // can be left out.
+    ensures lasting { (trace : List Event)
+        → lasting_events trace ≡ lasting_events (brief_of trace) }
     ensures short { (trace : List Event) → IsBrief (brief_of trace) }
     ensures twice { (trace : List Event) → brief_of (brief_of trace) ≡ brief_of trace }
-    // of a trace whose looks are free, as those of every sound one are, sound or not: its brief form is lawful exactly
-    // if it is
+
+    // Of a trace whose looks are free, sound or not: its brief form is lawful exactly if it is, and the first breaches
+    // of both break the same law. The looks of every sound trace are free.
     ensures free { (goal : Goal) (trace : List Event)
         → IsTrue (is_sound goal trace) → IsTrue (are_looks_free trace) }
     ensures judged { (trace : List Event)
         → IsTrue (are_looks_free trace) → is_lawful trace ≡ is_lawful (brief_of trace) }
-    // of a sound trace: its brief form is sound, for the same opening goal, and so breaks no law
+    ensures breach { (trace : List Event)
+        → IsTrue (are_looks_free trace) → first_broken trace ≡ first_broken (brief_of trace) }
+
+    // Of a sound trace: its brief form is sound for the same opening goal, and so breaks no law.
     ensures sound { (goal : Goal) (trace : List Event)
         → IsTrue (is_sound goal trace) → IsTrue (is_sound goal (brief_of trace)) }
     ensures lawful { (goal : Goal) (trace : List Event)
         → IsTrue (is_sound goal trace) → IsTrue (is_lawful (brief_of trace)) }
     ensures unbroken { (goal : Goal) (trace : List Event)
         → IsTrue (is_sound goal trace) → first_breach (brief_of trace) ≡ None }
-    // and init reads the same off it
+
+    // And init reads the same off it.
     ensures time { (goal : Goal) (trace : List Event)
         → IsTrue (is_sound goal trace) → time_of trace ≡ time_of (brief_of trace) }
     ensures unreaped { (goal : Goal) (trace : List Event)
-        → IsTrue (is_sound goal trace) → unreaped_children trace ≡ unreaped_children (brief_of trace) }
+        → IsTrue (is_sound goal trace)
+        → unreaped_children trace ≡ unreaped_children (brief_of trace) }
     ensures orders { (goal : Goal) (trace : List Event)
         → IsTrue (is_sound goal trace) → open_orders trace ≡ open_orders (brief_of trace) }
     ensures known { (goal : Goal) (trace : List Event) (id : List ℕ)
@@ -59,8 +68,12 @@ pub fn law_of_brief()
 /// What is held back and what was written are the brief form of what came: at the beginning, and behind each happening.
 /// It does nothing: its contract says so.
 pub fn law_of_held()
-    ensures first { Holds (record { reading = None; round = false; look = None; within = false }) [] [] }
+    ensures first { Holds
+        (record { reading = None; round = false; look = None; within = false }) [] [] }
     ensures next { (happening : Event) (held : Held) (written trace : List Event)
         → Holds held written trace
-        → Holds (next_held happening held) (newly_written happening held ++ written) (happening ∷ trace) }
+        → Holds
+        (next_held happening held)
+        (newly_written happening held ++ written)
+        (happening ∷ trace) }
 {}

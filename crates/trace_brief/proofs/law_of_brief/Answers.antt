@@ -5,7 +5,7 @@ use Rattle.trace_brief.proofs.Alike.{same_unreaped}
 use Rattle.trace_brief.proofs.SameDues.{has_known, stop_same, held_same, full_same}
 use Rattle.trace_brief.proofs.Briefly.{brief_said, brief_stands, brief_lawful}
 use Rattle.trace_brief.proofs.Short.{is_brief, brief_twice}
-use Rattle.trace_brief.proofs.Judged.{brief_judged, sound_frees}
+use Rattle.trace_brief.proofs.Judged.{brief_judged, breach_same, sound_frees}
 use Rattle.trace_brief.proofs.law_of_brief.Goals as goal
 
 pub returns-clause-free : goal.returns-clause-free
@@ -14,14 +14,17 @@ returns-clause-free c = sound_frees
 pub returns-clause-judged : goal.returns-clause-judged
 returns-clause-judged c = brief_judged
 
+pub returns-clause-breach : goal.returns-clause-breach
+returns-clause-breach c = breach_same
+
 pub returns-clause-short : goal.returns-clause-short
 returns-clause-short c = is_brief
 
 pub returns-clause-twice : goal.returns-clause-twice
 returns-clause-twice c = brief_twice
 
-pub returns-clause-said : goal.returns-clause-said
-returns-clause-said c = brief_said
+pub returns-clause-lasting : goal.returns-clause-lasting
+returns-clause-lasting c = brief_said
 
 pub returns-clause-sound : goal.returns-clause-sound
 returns-clause-sound c goal trace h = (brief_stands goal trace h).0

@@ -1,0 +1,136 @@
+-- What is read off the happenings other than looks, tellings, readings of the clock and rounds alone.
+use Rattle.std.proofs.Common.{◌≡◌, refl, ◌∙◌, ap, ℕ, ◌==◌, not, ◌&&◌, ◌||◌, List, [], ◌∷◌, ◌++◌, filter}
+use Rattle.std.specs.List.{list_any}
+use Rattle.init_words.specs.declared.entries.Entry.{Entry}
+use Rattle.init_words.specs.declared.levels.Letter.{Letter}
+use Rattle.init_words.specs.declared.levels.Mark.TheVariants.{OnCall}
+use Rattle.init_words.specs.declared.stages.Stage.TheVariants.{Boot}
+use Rattle.init_words.specs.declared.orders.Ask.TheVariants.{Start, Look}
+use Rattle.init_words.specs.declared.orders.PowerKind.{PowerKind}
+use Rattle.init_words.specs.Ids.{same_id}
+use Rattle.init_words.specs.Actions.{is_called_by, is_ondemand}
+use Rattle.init_words.specs.Levels.{names, same_letter}
+use Rattle.init_words.specs.Orders.{same_power}
+use Rattle.inittab_text.specs.Tables.{has_id, ids_of}
+use Rattle.initctl_frame.specs.declared.requests.Got.TheVariants as got
+use Rattle.init_trace.specs.declared.happenings.Happening.TheVariants.{NewTable, NotRead, Enter, Call, Power, Asked, Settle, Birth, Death, Reaped, Got, Handed}
+use Rattle.init_trace.specs.declared.steps.Goal.{Goal}
+use Rattle.init_trace.specs.Event.{Event}
+use Rattle.init_trace.specs.Past.{table_of, stage_of, grace_of, is_child, unreaped_children, is_dead}
+use Rattle.init_trace.specs.Wanted.{brings, is_asked, is_called, starts_in}
+use Rattle.init_trace.specs.Wishes.{is_level, goal_of, wants_reexec, wants_reread, heard_level, keeps_power, keeps_letter, was_booted}
+use Rattle.init_trace.specs.Due.{left_ids, is_announced}
+use Rattle.trace_brief.specs.Readings.{lasting_events}
+
+pub table_lasting : (past : List Event) → table_of past ≡ table_of (lasting_events past)
+table_lasting [] = refl
+table_lasting (NewTable table ∷ past) = refl
+table_lasting (Asked i Look ∷ past) = table_lasting past
+table_lasting (_ ∷ past) = table_lasting past
+
+pub stage_lasting : (past : List Event) → stage_of past ≡ stage_of (lasting_events past)
+stage_lasting [] = refl
+stage_lasting (Enter stage grace ∷ past) = refl
+stage_lasting (Asked i Look ∷ past) = stage_lasting past
+stage_lasting (_ ∷ past) = stage_lasting past
+
+pub grace_lasting : (past : List Event) → grace_of past ≡ grace_of (lasting_events past)
+grace_lasting [] = refl
+grace_lasting (Enter stage grace ∷ past) = refl
+grace_lasting (Asked i Look ∷ past) = grace_lasting past
+grace_lasting (_ ∷ past) = grace_lasting past
+
+pub unreaped_lasting : (past : List Event) → unreaped_children past ≡ unreaped_children (lasting_events past)
+unreaped_lasting [] = refl
+unreaped_lasting (Birth i n ∷ past) = rw (table_lasting past, unreaped_lasting past) refl
+unreaped_lasting (Reaped i n status ∷ past) = ap (filter (λ child. not (is_child i n child))) (unreaped_lasting past)
+unreaped_lasting (Asked i Look ∷ past) = unreaped_lasting past
+unreaped_lasting (_ ∷ past) = unreaped_lasting past
+
+pub dead_lasting : (id : List ℕ) (n : ℕ) (past : List Event) → is_dead id n past ≡ is_dead id n (lasting_events past)
+dead_lasting id n [] = refl
+dead_lasting id n (Death m ∷ past) = ap (λ b. n == m || b) (dead_lasting id n past)
+dead_lasting id n (Birth i m ∷ past) = ap (λ b. not (same_id id i && n == m) && b) (dead_lasting id n past)
+dead_lasting id n (Asked i Look ∷ past) = dead_lasting id n past
+dead_lasting id n (_ ∷ past) = dead_lasting id n past
+
+pub asked_lasting : (id : List ℕ) (past : List Event) → is_asked id past ≡ is_asked id (lasting_events past)
+asked_lasting id [] = refl
+asked_lasting id (Enter stage grace ∷ past) = refl
+asked_lasting id (NewTable table ∷ past) = ap (λ before. not (brings id table before) && is_asked id past) (table_lasting past) ∙ ap (λ b. not (brings id table (table_of (lasting_events past))) && b) (asked_lasting id past)
+asked_lasting id (Asked i Start ∷ past) = ap (λ b. same_id id i || b) (asked_lasting id past)
+asked_lasting id (Asked i Look ∷ past) = asked_lasting id past
+asked_lasting id (_ ∷ past) = asked_lasting id past
+
+pub called_lasting : (e : Entry) (past : List Event) → is_called e past ≡ is_called e (lasting_events past)
+called_lasting e [] = refl
+called_lasting e (Enter stage grace ∷ past) = refl
+called_lasting e (NewTable table ∷ past) = refl
+called_lasting e (Power kind ∷ past) = ap (λ now. is_called_by kind e.act && starts_in e now || is_called e past) (stage_lasting past) ∙ ap (λ b. is_called_by kind e.act && starts_in e (stage_of (lasting_events past)) || b) (called_lasting e past)
+called_lasting e (Call letter ∷ past) = ap (λ now. is_ondemand e.act && names (OnCall letter) e.levels.items && starts_in e now || is_called e past) (stage_lasting past) ∙ ap (λ b. is_ondemand e.act && names (OnCall letter) e.levels.items && starts_in e (stage_of (lasting_events past)) || b) (called_lasting e past)
+called_lasting e (Asked i Start ∷ past) = ap (λ b. not (same_id e.id i) && b) (called_lasting e past)
+called_lasting e (Asked i Look ∷ past) = called_lasting e past
+called_lasting e (_ ∷ past) = called_lasting e past
+
+pub goal_lasting : (opening : Goal) (past : List Event) → goal_of opening past ≡ goal_of opening (lasting_events past)
+goal_lasting opening [] = refl
+goal_lasting opening (Got (got.Level l s) ∷ past) = refl
+goal_lasting opening (Asked i Look ∷ past) = goal_lasting opening past
+goal_lasting opening (_ ∷ past) = goal_lasting opening past
+
+pub reexec_lasting : (past : List Event) → wants_reexec past ≡ wants_reexec (lasting_events past)
+reexec_lasting [] = refl
+reexec_lasting (Handed how ∷ past) = refl
+reexec_lasting (Got got.Reexec ∷ past) = refl
+reexec_lasting (Asked i Look ∷ past) = reexec_lasting past
+reexec_lasting (_ ∷ past) = reexec_lasting past
+
+pub reread_lasting : (past : List Event) → wants_reread past ≡ wants_reread (lasting_events past)
+reread_lasting [] = refl
+reread_lasting (NewTable table ∷ past) = refl
+reread_lasting (NotRead ∷ past) = refl
+reread_lasting (Got got.Reload ∷ past) = refl
+reread_lasting (Got (got.Level l s) ∷ past) = ap (λ now. not (is_level l now) || wants_reread past) (stage_lasting past) ∙ ap (λ b. not (is_level l (stage_of (lasting_events past))) || b) (reread_lasting past)
+reread_lasting (Asked i Look ∷ past) = reread_lasting past
+reread_lasting (_ ∷ past) = reread_lasting past
+
+pub heard_lasting : (past : List Event) → heard_level past ≡ heard_level (lasting_events past)
+heard_lasting [] = refl
+heard_lasting (Enter stage grace ∷ past) = refl
+heard_lasting (Got (got.Level l s) ∷ past) = refl
+heard_lasting (Asked i Look ∷ past) = heard_lasting past
+heard_lasting (_ ∷ past) = heard_lasting past
+
+pub power_lasting : (kind : PowerKind) (past : List Event) → keeps_power kind past ≡ keeps_power kind (lasting_events past)
+power_lasting kind [] = refl
+power_lasting kind (Power k ∷ past) = ap (λ b. not (same_power kind k) && b) (power_lasting kind past)
+power_lasting kind (Got (got.Power k) ∷ past) = ap (λ b. same_power kind k || b) (power_lasting kind past)
+power_lasting kind (Asked i Look ∷ past) = power_lasting kind past
+power_lasting kind (_ ∷ past) = power_lasting kind past
+
+pub letter_lasting : (letter : Letter) (past : List Event) → keeps_letter letter past ≡ keeps_letter letter (lasting_events past)
+letter_lasting letter [] = refl
+letter_lasting letter (Call l ∷ past) = ap (λ b. not (same_letter letter l) && b) (letter_lasting letter past)
+letter_lasting letter (Got (got.Call l) ∷ past) = ap (λ b. same_letter letter l || b) (letter_lasting letter past)
+letter_lasting letter (Asked i Look ∷ past) = letter_lasting letter past
+letter_lasting letter (_ ∷ past) = letter_lasting letter past
+
+pub booted_lasting : (past : List Event) → was_booted past ≡ was_booted (lasting_events past)
+booted_lasting [] = refl
+booted_lasting (Enter Boot grace ∷ past) = refl
+booted_lasting (Asked i Look ∷ past) = booted_lasting past
+booted_lasting (_ ∷ past) = booted_lasting past
+
+pub announced_lasting : (past : List Event) → is_announced past ≡ is_announced (lasting_events past)
+announced_lasting [] = refl
+announced_lasting (Settle level ∷ past) = refl
+announced_lasting (Enter stage grace ∷ past) = refl
+announced_lasting (NewTable table ∷ past) = refl
+announced_lasting (Asked i Look ∷ past) = announced_lasting past
+announced_lasting (_ ∷ past) = announced_lasting past
+
+pub left_lasting : (past : List Event) → left_ids past ≡ left_ids (lasting_events past)
+left_lasting [] = refl
+left_lasting (NewTable table ∷ past) = ap (λ before. filter (λ id. not (list_any (has_id id) table)) (ids_of before ++ left_ids past)) (table_lasting past) ∙ ap (λ ids. filter (λ id. not (list_any (has_id id) table)) (ids_of (table_of (lasting_events past)) ++ ids)) (left_lasting past)
+left_lasting (Asked i Look ∷ past) = left_lasting past
+left_lasting (_ ∷ past) = left_lasting past
