@@ -79,7 +79,8 @@ pub(crate) fn serve_files<R, T: Texts, W: Write, E: Write>(
 where
     R: Processes + Files + Clock + Print + Eprint + Clone + Drop,
     ensures { (ending : Ending) × (result ≡ status_of ending)
-        × EndsService (T.text_at texts.now) (service_of said.now) ending (W.contents out.old) (W.contents out.new)
+        × EndsService (T.text_at texts.now) (service_of said.now) ending
+        (W.contents out.old) (W.contents out.new)
         × Reports ending (E.contents err.old) (E.contents err.new) }
 {
     let path = said.inittab.as_str();
