@@ -57,7 +57,7 @@ LeadsFrom level table drained old new calls =
     → AreTexts (opening_goal level table) calls (opening_point table)
     × (IsTrue (are_carried calls (opening_point table)) → WentFrom level table drained old new calls)
 
--- where the host tells its calls: they are those of so many turns, and so it went
+-- the calls made, which are those told where the host tells them, are those of so many turns, and so it went
 abbrev pub Opens : Option (List HostCall) → Option (List HostCall) → LogState → LogState → Option Level → List Entry
     → Bool → ℕ → Bool → Type 0
 Opens told now_told old new level table drain turns drained = Since told now_told (λ calls.

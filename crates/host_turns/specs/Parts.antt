@@ -32,7 +32,8 @@ use Rattle.host_trace.specs.Record.{Since}
 use Rattle.host_trace.specs.Leads.{At, Leads, Tracks, comes_back}
 use Rattle.host_trace.specs.Turns.{AreSteps, bytes_in, is_room, is_step}
 
--- where the host tells its calls: those made are of this shape, and what fits before them fits behind them
+-- the calls made are of this shape, and what fits before them fits behind them; where the host tells its calls, they
+-- are those
 abbrev pub Makes : Option (List HostCall) → Option (List HostCall) → LogState → LogState → (List HostCall → Type 0)
     → (Goal → Point → Type 0) → (Goal → Point → Type 0) → Type 0
 Makes told now_told log now_log Shape fitted fit =

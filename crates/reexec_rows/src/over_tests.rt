@@ -1,7 +1,7 @@
 //! States and their texts, worked out by hand.
 
 use crate::states::{INITTAB, SETTLED, settle};
-use init_words::Level;
+use init_words::{Answer, Id, Level, Stage};
 use initctl_frame::Got;
 use inittab_text::read;
 use level_core::{Core, Step};
@@ -185,14 +185,19 @@ fn last_generation(rt: HostRuntime) -> Result<(), Fail> {
 }
 
 /// No stage yet, and a SIGTERM open for a child whose entry lives in Sysinit.
-const SIGNALLED: &str =
-    "initd-state 1\ngeneration 1\nclock 7\nstage none 0\ngoal 3 5\nflags 00\nwish 00 - 000 000\ntable 1\ns::sysinit:a\nslot s 700 sysinit term due 0000 - -\nend 10\n";
+const SIGNALLED: &str = "initd-state 1\ngeneration 1\nclock 7\nstage none 0\ngoal 3 5\nflags 00\n\
+    wish 00 - 000 000\ntable 1\ns::sysinit:a\nslot s 700 sysinit term due 0000 - -\nend 10\n";
 
+/// Sysinit is entered at a quiet point alone: the signal is answered first, and until then what is handed over is taken.
 #[test]
 fn a_signal_open_before_the_first_stage(rt: HostRuntime) -> Result<(), Fail> {
     let mut core = take_over(rt.alloc(), SIGNALLED.as_bytes(), 1)?;
     assert!(rt; matches!(core.next(), Step::Idle));
     let text = hand_over(rt.alloc(), &mut core)?;
-    assert!(rt; refused(rt.alloc(), &text, 2) == None);
+    let mut core = take_over(rt.alloc(), &text, 2)?;
+    assert!(rt; matches!(core.next(), Step::Idle));
+    let id = Id::read(b"s").ok_or("no id")?;
+    core.answer(id, Answer::Hit)?;
+    assert!(rt; matches!(core.next(), Step::Enter(Stage::Sysinit, 5)));
     Ok(())
 }
