@@ -2,7 +2,7 @@
 -- operating system.
 use Rattle.std.specs.Prelude.{◌≡◌, ◌⊎◌, ℕ, List, Option, Some, None}
 use Rattle.std.specs.Io.KnownBytes.{Keeps}
-use Rattle.path_texts.specs.Known.{IsTextAt}
+use Rattle.path_texts.specs.Known.{IsTextAt, KnownTexts}
 use Rattle.supervisor.specs.declared.running.SimFault.{SimFault}
 use Rattle.supervisor.specs.Simulation.{Done, Ends, Scenario, scenario}
 use Rattle.initd_options.specs.CommandLine.{Run, Said, judges, read_of, runs, serves}
@@ -18,19 +18,19 @@ EndsRun s unflushed old new = Done s old new ⊎ ((f : SimFault) × Ends s f old
 EndsRun s _ old new = ⊥
 
 -- how a run ends of files: one is not read and nothing written, or the run ends over what was read
-abbrev pub EndsFiles : (List ℕ → Option (List ℕ)) → Run → Ending → Option (List ℕ) → Option (List ℕ) → Type 0
+abbrev pub EndsFiles : KnownTexts → Run → Ending → Option (List ℕ) → Option (List ℕ) → Type 0
 EndsFiles text_at run (unread path why) old new = ((path ≡ run.table) ⊎ (path ≡ run.script)) × Keeps old new
 EndsFiles text_at run ending old new = (inittab script : List ℕ) × IsTextAt text_at run.table inittab
     × IsTextAt text_at run.script script × EndsRun (scenario run.level inittab script) ending old new
 
 -- how a command line ends that was read
-abbrev pub EndsSaid : (List ℕ → Option (List ℕ)) → Said → Ending → Option (List ℕ) → Option (List ℕ) → Type 0
+abbrev pub EndsSaid : KnownTexts → Said → Ending → Option (List ℕ) → Option (List ℕ) → Type 0
 EndsSaid text_at (runs run) ending old new = EndsFiles text_at run ending old new
 EndsSaid text_at (judges path) ending old new = EndsCheck text_at path ending old new
 EndsSaid text_at (serves service) ending old new = EndsService text_at service ending old new
 
 -- how words end: they are no command line or want memory, and nothing is written, or they end by what they say
-abbrev pub EndsBy : (List ℕ → Option (List ℕ)) → List (List ℕ) → Ending → Option (List ℕ) → Option (List ℕ) → Type 0
+abbrev pub EndsBy : KnownTexts → List (List ℕ) → Ending → Option (List ℕ) → Option (List ℕ) → Type 0
 EndsBy text_at words usage old new = (read_of words ≡ None) × Keeps old new
 EndsBy text_at words no_memory old new = Keeps old new
 EndsBy text_at words ending old new = (said : Said) × (read_of words ≡ Some said) × EndsSaid text_at said ending old new

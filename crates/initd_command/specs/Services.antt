@@ -3,7 +3,7 @@
 use Rattle.std.specs.Prelude.{◌≡◌, ◌≤◌, ◌<◌, ◌&&◌, ℕ, Bool, true, false, List, ◌++◌, flat_map, length, codes, Option, Some}
 use Rattle.std.specs.Io.KnownBytes.{Appends, Keeps}
 use Rattle.program_edge.specs.Writing.{AppendsPrefix}
-use Rattle.path_texts.specs.Known.{IsTextAt}
+use Rattle.path_texts.specs.Known.{IsTextAt, KnownTexts}
 use Rattle.inittab_text.specs.declared.faults.LineFault.{LineFault}
 use Rattle.inittab_text.specs.declared.reading.TheConstants.{TEXT_LIMIT}
 use Rattle.inittab_text.specs.Faults.{line_fault_text}
@@ -51,7 +51,7 @@ EndsOver service inittab ending old new =
     (length inittab ≤ TEXT_LIMIT) × EndsTold service (faults_text (faults_of_text inittab)) ending old new
 
 -- how a run ends: its inittab is not read and nothing written, or it ends over what was read
-abbrev pub EndsService : (List ℕ → Option (List ℕ)) → Service → Ending → Option (List ℕ) → Option (List ℕ) → Type 0
+abbrev pub EndsService : KnownTexts → Service → Ending → Option (List ℕ) → Option (List ℕ) → Type 0
 EndsService text_at service (unread path why) old new = (path ≡ service.inittab) × Keeps old new
 EndsService text_at service ending old new =
     (inittab : List ℕ) × IsTextAt text_at service.inittab inittab × EndsOver service inittab ending old new

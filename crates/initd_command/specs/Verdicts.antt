@@ -3,7 +3,7 @@ use Rattle.std.specs.Prelude.{◌≡◌, ℕ, true, ◌+◌, ◌==◌, if◌then
 use Rattle.std.specs.Option.{option_map_or}
 use Rattle.std.specs.Io.KnownBytes.{Appends, Keeps}
 use Rattle.program_edge.specs.Writing.{AppendsPrefix}
-use Rattle.path_texts.specs.Known.{IsTextAt}
+use Rattle.path_texts.specs.Known.{IsTextAt, KnownTexts}
 use Rattle.text_lines.specs.Lines.{newlines}
 use Rattle.init_trace.specs.Event.{Event}
 use Rattle.init_trace.specs.Lawful.{Fault, first_breach}
@@ -77,6 +77,6 @@ EndsTrace text ending old new =
     (trace : List Event) × (are_in_range trace ≡ true) × (trace_text trace ≡ text) × EndsVerdict trace ending old new
 
 -- how the text at a path ends: it is not read, or it ends so
-abbrev pub EndsCheck : (List ℕ → Option (List ℕ)) → List ℕ → Ending → Option (List ℕ) → Option (List ℕ) → Type 0
+abbrev pub EndsCheck : KnownTexts → List ℕ → Ending → Option (List ℕ) → Option (List ℕ) → Type 0
 EndsCheck text_at path (unread told why) old new = (told ≡ path) × Keeps old new
 EndsCheck text_at path ending old new = (text : List ℕ) × IsTextAt text_at path text × EndsTrace text ending old new

@@ -54,7 +54,8 @@ where
     W: Write,
     E: Write,
     ensures { (ending : Ending) × (result ≡ status_of ending)
-        × EndsBy (T.text_at texts.now) (map string_bytes words.items) ending (W.contents out.old) (W.contents out.new)
+        × EndsBy (T.text_at texts.now) (map string_bytes words.items) ending
+        (W.contents out.old) (W.contents out.new)
         × Reports ending (E.contents err.old) (E.contents err.new) }
 {
     match read_words(alloc, words.as_slice()) {
@@ -81,7 +82,8 @@ fn simulate_files<T: Texts, W: Write, E: Write>(
     err: &mut E,
 ) -> u8
     ensures { (ending : Ending) × (result ≡ status_of ending)
-        × EndsFiles (T.text_at texts.now) (run_of said.now) ending (W.contents out.old) (W.contents out.new)
+        × EndsFiles (T.text_at texts.now) (run_of said.now) ending
+        (W.contents out.old) (W.contents out.new)
         × Reports ending (E.contents err.old) (E.contents err.new) }
 {
     let table = said.table.as_str();

@@ -4,12 +4,11 @@ ghost use Rattle.initd_options.specs.Options.{service_of};
 ghost use Rattle.initd_command.specs.Services.{EndsOver, EndsService, EndsTold, IsServed, end_of, fault_line, faults_text};
 
 use crate::reports::{report, report_fault, report_memory, report_uncreated, report_unread, tell};
-use host_turns::{Served, serve};
-use init_trace::{Happening, HappeningIn};
+use host_turns::{Opening, Served};
+use init_trace::HappeningIn;
 use init_words::Memory;
 use initd_options::Serving;
 use inittab_text::{LineFault, Table, TableFault, read};
-use level_core::Core;
 use os_host::OsHost;
 use path_texts::Texts;
 use program_edge::{DEVICE_FAULT, DONE, LIMIT_REACHED};
@@ -79,7 +78,8 @@ pub(crate) fn serve_files<R, T: Texts, W: Write, E: Write>(
 where
     R: Processes + Files + Clock + Print + Eprint + Clone + Drop,
     ensures { (ending : Ending) × (result ≡ status_of ending)
-        × EndsService (T.text_at texts.now) (service_of said.now) ending (W.contents out.old) (W.contents out.new)
+        × EndsService (T.text_at texts.now) (service_of said.now) ending
+        (W.contents out.old) (W.contents out.new)
         × Reports ending (E.contents err.old) (E.contents err.new) }
 {
     let path = said.inittab.as_str();
@@ -132,7 +132,7 @@ where
         return report_memory(err);
     };
     match opened(rt, alloc, said, table) {
-        Ok(mut init) => open_trace(rt, alloc, said, &mut init, &text, out, err),
+        Ok(init) => open_trace(rt, alloc, said, init, &text, out, err),
         Err(Memory) => report_memory(err),
     }
 }
@@ -142,7 +142,7 @@ fn open_trace<R, W: Write, E: Write>(
     rt: &R,
     alloc: Global,
     said: &Serving,
-    init: &mut Init<R>,
+    init: Init<R>,
     text: &[u8],
     out: &mut W,
     err: &mut E,
@@ -168,10 +168,8 @@ where
 /// What a run is made of.
 #[derive(Drop)]
 struct Init<R: Processes + Files + Clock + Print + Eprint + Drop> {
-    core: Core,
+    opening: Opening,
     host: OsHost<R>,
-    /// The table in force at the opening.
-    opening: HappeningIn<Global>,
 }
 
 /// Init at its opening.
@@ -179,11 +177,9 @@ fn opened<R>(rt: &R, alloc: Global, said: &Serving, table: Table) -> Result<Init
 where
     R: Processes + Files + Clock + Print + Eprint + Clone + Drop,
 {
-    let opening = Happening::NewTable(table.copy(alloc)?);
     Ok(Init {
-        core: Core::new(alloc, table, said.level)?,
+        opening: Opening::new(alloc, table, said.level)?,
         host: host_of(rt, alloc, said)?,
-        opening,
     })
 }
 
@@ -203,7 +199,7 @@ where
 fn run<R, L: Log, W: Write, E: Write>(
     alloc: Global,
     said: &Serving,
-    init: &mut Init<R>,
+    init: Init<R>,
     text: &[u8],
     log: &mut L,
     out: &mut W,
@@ -223,23 +219,14 @@ where
     tell_end(&served, said.drain, err)
 }
 
-/// Makes the turns of a run.
-fn make_turns<R, L: Log>(alloc: Global, said: &Serving, init: &mut Init<R>, log: &mut L) -> Served
+/// Makes the turns of a run, from its opening on.
+fn make_turns<R, L: Log>(alloc: Global, said: &Serving, init: Init<R>, log: &mut L) -> Served
 where
     R: Processes + Files + Clock + Print + Eprint + Clone + Drop,
     ensures { IsServed (service_of said.now) result }
 {
-    if !log.failed() {
-        let _ = log.take(&init.opening);
-    }
-    serve(
-        alloc,
-        &mut init.core,
-        &mut init.host,
-        log,
-        said.turns,
-        said.drain,
-    )
+    let Init { opening, mut host } = init;
+    opening.serve(alloc, &mut host, log, said.turns, said.drain)
 }
 
 /// Reports how a run ended, and gives the exit status.

@@ -94,6 +94,7 @@ where
     add_trace(text)?;
     answers(
         rt,
+        rt,
         alloc,
         "simulate large-table large-script",
         0,

@@ -1,4 +1,5 @@
 use initd_command::{USAGE, run_words};
+use path_texts::{KeptTexts, Texts};
 use program_trials::{Slow, line_words};
 use std::alloc::{AllocError, Global};
 use std::fs;
@@ -8,8 +9,9 @@ use std::rt::{Clock, Files};
 use std::test::Fail;
 
 /// The exit status of a line.
-fn status_of<R, W: Write>(
+fn status_of<R, T: Texts, W: Write>(
     rt: &R,
+    texts: &T,
     alloc: Global,
     line: &str,
     out: &mut W,
@@ -19,24 +21,31 @@ where
     R: Processes + Files + Clock + Print + Eprint + Clone + Drop,
 {
     let words = line_words(alloc, line)?;
-    Ok(run_words(rt, alloc, words, out, err))
+    Ok(run_words(rt, texts, alloc, words, out, err))
 }
 
 /// The same, with a line `--` and what is reported added to what is written.
-fn answer<R>(rt: &R, alloc: Global, line: &str, out: &mut Vec<u8>) -> Result<u8, AllocError>
+fn answer<R, T: Texts>(
+    rt: &R,
+    texts: &T,
+    alloc: Global,
+    line: &str,
+    out: &mut Vec<u8>,
+) -> Result<u8, AllocError>
 where
     R: Processes + Files + Clock + Print + Eprint + Clone + Drop,
 {
     let mut err: Vec<u8> = Vec::new(alloc);
-    let status = status_of(rt, alloc, line, out, &mut err)?;
+    let status = status_of(rt, texts, alloc, line, out, &mut err)?;
     out.extend_from_slice(b"--\n")?;
     out.extend_from_slice(&err)?;
     Ok(status)
 }
 
 /// The words of a line end with this status, and write and report this.
-pub(crate) fn answers<R>(
+pub(crate) fn answers<R, T: Texts>(
     rt: &R,
+    texts: &T,
     alloc: Global,
     line: &str,
     status: u8,
@@ -46,7 +55,7 @@ where
     R: Processes + Files + Clock + Print + Eprint + Clone + Drop + Abort,
 {
     let mut out: Vec<u8> = Vec::new(alloc);
-    let ended = answer(rt, alloc, line, &mut out)?;
+    let ended = answer(rt, texts, alloc, line, &mut out)?;
     assert!(rt;
         ended == status && out.as_slice() == want.as_bytes(),
         "at {line:?}"
@@ -69,7 +78,7 @@ where
 {
     fs::write(rt, "row-table", inittab)?;
     fs::write(rt, "row-script", script)?;
-    answers(rt, alloc, line, status, want)?;
+    answers(rt, rt, alloc, line, status, want)?;
     fs::remove_file(rt, "row-table")?;
     fs::remove_file(rt, "row-script")?;
     Ok(())
@@ -279,6 +288,94 @@ fn command_lines(rt: HostRuntime) -> Result<(), Fail> {
     Ok(())
 }
 
+/// The same over texts that are kept in memory at the paths `tab` and `said`.
+fn answers_over_kept<R>(
+    rt: &R,
+    alloc: Global,
+    inittab: &[u8],
+    script: &[u8],
+    line: &str,
+    status: u8,
+    want: &str,
+) -> Result<(), Fail>
+where
+    R: Processes + Files + Clock + Print + Eprint + Clone + Drop + Abort,
+{
+    let mut kept = KeptTexts::new(alloc);
+    kept.keep("tab", inittab)?;
+    kept.keep("said", script)?;
+    answers(rt, &kept, alloc, line, status, want)
+}
+
+/// An inittab, a script or a trace, a command line, its status, and what is written and reported.
+const OVER_KEPT: &[(&[u8], &[u8], &str, u8, &str)] = &[
+    (
+        b"id:3:initdefault:\n",
+        b"nudge\n",
+        "simulate tab said",
+        0,
+        "use 1\nid:3:initdefault:\nenter sysinit 5\nenter boot 5\nenter 3 5\nsettle 3\nnudge\n--\n",
+    ),
+    (
+        b"",
+        b"",
+        "simulate absent said",
+        4,
+        "--\ninitd: cannot read absent: entity not found\n",
+    ),
+    (
+        b"",
+        b"",
+        "simulate tab absent",
+        4,
+        "--\ninitd: cannot read absent: entity not found\n",
+    ),
+    (
+        b"",
+        b"use 0\nenter sysinit 5\nenter S 5\nsettle S\n",
+        "check said",
+        0,
+        "lawful\n--\n",
+    ),
+    (
+        b"",
+        b"settle 3\n",
+        "check said",
+        2,
+        "unlawful: happening 0, law 5\n--\nline 1: settle 3: the level is not settled\n",
+    ),
+    (
+        b"",
+        b"",
+        "check absent",
+        4,
+        "--\ninitd: cannot read absent: entity not found\n",
+    ),
+    // A run over the operating system, without a child, whose inittab alone is kept.
+    (
+        b"a:S:off:\nb:S:once\n",
+        b"",
+        "run --inittab tab --initctl row-absent --turns 9 --drain --pause 0.01",
+        0,
+        "initd: inittab line 2: too few fields\n--\n",
+    ),
+    (
+        b"",
+        b"",
+        "run --inittab absent",
+        4,
+        "--\ninitd: cannot read absent: entity not found\n",
+    ),
+];
+
+#[test]
+fn command_lines_over_kept_texts(rt: HostRuntime) -> Result<(), Fail> {
+    for (inittab, script, line, status, want) in OVER_KEPT {
+        answers_over_kept(&rt, rt.alloc(), inittab, script, line, *status, want)?;
+    }
+    Ok(())
+}
+
 /// Words that are no command line.
 const FAULTY: &[&str] = &[
     "",
@@ -328,7 +425,7 @@ where
     R: Processes + Files + Clock + Print + Eprint + Clone + Drop + Abort,
 {
     let mut out: Vec<u8> = Vec::new(alloc);
-    let ended = answer(rt, alloc, line, &mut out)?;
+    let ended = answer(rt, rt, alloc, line, &mut out)?;
     let has_forms = out.as_slice().starts_with(FORMS_REPORTED.as_bytes());
     let is_whole = out.len() == "--\n".len() + USAGE.len();
     assert!(rt; ended == 1 && has_forms && is_whole, "at {line:?}");
@@ -355,7 +452,7 @@ where
     R: Processes + Files + Clock + Print + Eprint + Clone + Drop + Abort,
 {
     let mut err: Vec<u8> = Vec::new(alloc);
-    let status = status_of(rt, alloc, "simulate empty empty", out, &mut err)?;
+    let status = status_of(rt, rt, alloc, "simulate empty empty", out, &mut err)?;
     let taken = out.room.min(SETTLED.len());
     assert!(rt; status == 4 && out.taken.as_slice() == &SETTLED[..taken]);
     assert!(rt; err.as_slice() == b"initd: the trace could not be written\n".as_slice());

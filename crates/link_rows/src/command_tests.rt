@@ -1,6 +1,7 @@
 //! Runs of rclinks. The cases are rows of the words, the status, what is written on standard output, and what is told
 //! on standard error.
 
+use path_texts::Texts;
 use program_trials::{Slow, words_of};
 use rclinks_command::run_words;
 use std::alloc::Global;
@@ -10,11 +11,12 @@ use std::rt::Files;
 use std::test::Fail;
 
 /// A run's words, status, what is written on standard output, and what is told on standard error.
-type Row = (&'static [&'static str], u8, &'static [u8], &'static [u8]);
+pub(crate) type Row = (&'static [&'static str], u8, &'static [u8], &'static [u8]);
 
 /// Runs the words, with a writer of so much room, which may be one that can't be flushed.
-fn words_are_run<R: Files + Abort>(
-    rt: &R,
+fn words_are_run<T: Texts>(
+    rt: &impl Abort,
+    texts: &T,
     alloc: Global,
     words: &[String],
     room: usize,
@@ -23,24 +25,25 @@ fn words_are_run<R: Files + Abort>(
 ) {
     let mut out = Slow::new(alloc, room, true, is_stuck);
     let mut err: Vec<u8> = Vec::new(alloc);
-    let status = run_words(rt, alloc, words, &mut out, &mut err);
+    let status = run_words(texts, alloc, words, &mut out, &mut err);
     assert!(rt; (status, out.taken.as_slice(), err.as_slice()) == (row.1, row.2, row.3));
 }
 
-fn is_run<R: Files + Abort>(
-    rt: &R,
+pub(crate) fn is_run<T: Texts>(
+    rt: &impl Abort,
+    texts: &T,
     alloc: Global,
     room: usize,
     is_stuck: bool,
     row: &Row,
 ) -> Result<(), Fail> {
     let words = words_of(alloc, row.0)?;
-    words_are_run(rt, alloc, words.as_slice(), room, is_stuck, row);
+    words_are_run(rt, texts, alloc, words.as_slice(), room, is_stuck, row);
     Ok(())
 }
 
 /// Room for all that is written.
-const ROOM: usize = 1000;
+pub(crate) const ROOM: usize = 1000;
 
 /// Paths, and the texts of the files there: scripts that start at runlevel 3, and then files whose header is bad.
 const FILES: &[(&str, &str)] = &[
@@ -90,7 +93,7 @@ const FILES: &[(&str, &str)] = &[
 ];
 
 /// A script that provides `net` and requires nothing.
-const NET: &str =
+pub(crate) const NET: &str =
     "### BEGIN INIT INFO\n# Provides: net\n# Required-Start: \n# Default-Start: 3\n### END INIT INFO\n";
 
 const USAGE: &[u8] = b"rclinks: usage: rclinks FILE..\n";
@@ -241,7 +244,7 @@ fn remove_files(rt: &impl Files) -> Result<(), Fail> {
 fn runs_are_told(rt: HostRuntime) -> Result<(), Fail> {
     write_files(&rt)?;
     for row in RUNS {
-        is_run(&rt, rt.alloc(), ROOM, false, row)?;
+        is_run(&rt, &rt, rt.alloc(), ROOM, false, row)?;
     }
     remove_files(&rt)
 }
@@ -291,7 +294,7 @@ fn write_all_deep(rt: &impl Files, alloc: Global) -> Result<(), Fail> {
 #[test]
 fn a_deep_plan_is_told(rt: HostRuntime) -> Result<(), Fail> {
     write_all_deep(&rt, rt.alloc())?;
-    is_run(&rt, rt.alloc(), ROOM, false, TOO_DEEP)?;
+    is_run(&rt, &rt, rt.alloc(), ROOM, false, TOO_DEEP)?;
     for path in DEEP {
         fs::remove_file(&rt, *path)?;
     }
@@ -334,7 +337,7 @@ const SLOW: &[(usize, bool, Row)] = &[
 fn a_write_fault_is_told(rt: HostRuntime) -> Result<(), Fail> {
     fs::write(&rt, "slow-net", NET)?;
     for (room, is_stuck, row) in SLOW {
-        is_run(&rt, rt.alloc(), *room, *is_stuck, row)?;
+        is_run(&rt, &rt, rt.alloc(), *room, *is_stuck, row)?;
     }
     fs::remove_file(&rt, "slow-net")?;
     Ok(())

@@ -6,4 +6,6 @@ mod command_tests;
 #[cfg(test)]
 mod headers_tests;
 #[cfg(test)]
+mod kept_tests;
+#[cfg(test)]
 mod plans_tests;

@@ -15,7 +15,7 @@ fn status_of(
     err: &mut Vec<u8>,
 ) -> Result<u8, AllocError> {
     let words = line_words(rt.alloc(), line)?;
-    Ok(run_words(rt, rt.alloc(), words, out, err))
+    Ok(run_words(rt, rt, rt.alloc(), words, out, err))
 }
 
 /// The same, where what is reported is added to `out` too.

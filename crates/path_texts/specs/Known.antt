@@ -2,8 +2,12 @@
 use Rattle.std.specs.Prelude.{◌≡◌, ℕ, if◌then◌else◌, List, [], ◌∷◌, Option, Some, None, IfSome}
 use Rattle.std.specs.Str.{bytes_eq}
 
+-- the text at each path, where it is known
+abbrev pub KnownTexts : Type 0
+KnownTexts = List ℕ → Option (List ℕ)
+
 -- the text is the one at the path, where that is known
-abbrev pub IsTextAt : (List ℕ → Option (List ℕ)) → List ℕ → List ℕ → Type 0
+abbrev pub IsTextAt : KnownTexts → List ℕ → List ℕ → Type 0
 IsTextAt text_at path text = IfSome (text_at path) (λ known. text ≡ known)
 
 -- a text that is kept, and its path
@@ -11,10 +15,10 @@ pub record Kept : Type 0 where
   pub path : List ℕ
   pub text : List ℕ
 
-abbrev pub kept_in : List ℕ → List ℕ → Kept
-kept_in path text = record { path = path; text = text }
+abbrev pub kept_at : List ℕ → List ℕ → Kept
+kept_at path text = record { path = path; text = text }
 
 -- the first text that is kept at the path
-abbrev pub text_in : List Kept → List ℕ → Option (List ℕ)
+abbrev pub text_in : List Kept → KnownTexts
 text_in [] path = None
 text_in (kept ∷ others) path = if bytes_eq kept.path path then Some kept.text else text_in others path

@@ -1,5 +1,5 @@
-ghost use Rattle.std.specs.Prelude.{◌≡◌, ◌∷◌, ◌++◌, [], string_bytes, OnOk, OnErr};
-ghost use Rattle.path_texts.specs.Known.{kept_in};
+ghost use Rattle.std.specs.Prelude.{◌≡◌, ◌∷◌, ◌++◌, [], OnOk, OnErr};
+ghost use Rattle.path_texts.specs.Known.{kept_at};
 
 use crate::texts::Texts;
 use std::alloc::{AllocError, Allocator, Global};
@@ -9,12 +9,12 @@ use std::marker::Model;
 
 /// A text and its path.
 #[derive(Drop)]
-pub(crate) struct KeptText {
-    path: String,
-    text: Vec<u8>,
+pub(crate) struct KeptText<A: Allocator> {
+    path: String<A>,
+    text: Vec<u8, A>,
 }
 
-impl Model for KeptText {
+impl<A: Allocator> Model for KeptText<A> {
     ghost use Rattle.std.specs.Prelude.{string_bytes};
     ghost use Rattle.path_texts.specs.Known.{Kept};
 
@@ -23,13 +23,13 @@ impl Model for KeptText {
     ghost view = { λ k. record { path = string_bytes k.path; text = k.text.items } };
 }
 
-/// Texts that are kept in memory, each at its path.
+/// Texts that are kept in memory, each at its path. All of them are known. They serve tests: no program keeps any.
 #[derive(Drop)]
-pub struct KeptTexts {
-    texts: Vec<KeptText>,
+pub struct KeptTexts<A: Allocator = Global> {
+    texts: Vec<KeptText<A>, A>,
 }
 
-impl Model for KeptTexts {
+impl<A: Allocator> Model for KeptTexts<A> {
     ghost use Rattle.std.specs.Prelude.{List};
     ghost use Rattle.path_texts.specs.Known.{Kept};
 
@@ -38,9 +38,9 @@ impl Model for KeptTexts {
     ghost view = { λ k. k.texts.items };
 }
 
-impl KeptTexts {
-    /// No texts.
-    pub fn new(alloc: Global) -> KeptTexts
+impl<A: Allocator + Copy> KeptTexts<A> {
+    /// No texts. It takes no memory.
+    pub fn new(alloc: A) -> KeptTexts<A>
         ensures { result ≡ [] }
     {
         KeptTexts {
@@ -48,23 +48,34 @@ impl KeptTexts {
         }
     }
 
-    /// Keeps one more text. Of two at one path the first is the one that stands there.
-    pub fn keep(&mut self, path: String, text: Vec<u8>) -> Result<(), AllocError>
-        ensures ok { OnOk result (self.new ≡ self.old ++ kept_in (string_bytes path) text.items ∷ []) }
+    /// Keeps one more text. Of two at one path the first stands there. Where memory is wanting nothing changes.
+    pub fn keep(&mut self, path: &str, text: &[u8]) -> Result<(), AllocError>
+        ensures ok { OnOk result (self.new ≡ self.old ++ kept_at path.now text.now ∷ []) }
         ensures err { OnErr result (self.new ≡ self.old) }
     {
+        let alloc = *self.texts.allocator();
+        let path = String::from_str(alloc, path)?;
+        let text = Vec::from_slice(alloc, text)?;
         self.texts.push(KeptText { path, text })?;
         Ok(())
     }
 }
 
-impl Texts for KeptTexts {
-    ghost use Rattle.std.specs.Prelude.{List};
+impl<A: Allocator> Texts for KeptTexts<A> {
+    ghost use Rattle.std.specs.Prelude.{◌≡◌, List, Some, None, IfOk, IfErr, IsSome};
+    ghost use Rattle.std.specs.IoError.{error_kind};
     ghost use Rattle.path_texts.specs.Known.{Kept, text_in};
 
     ghost text_at = { λ (kept : List Kept) path. text_in kept path };
 
-    fn read<A: Allocator>(&self, alloc: A, path: &str) -> io::Result<Vec<u8, A>> {
+    /// The text that is kept at the path. One at which none is kept is refused as not found.
+    fn read<B: Allocator>(&self, alloc: B, path: &str) -> io::Result<Vec<u8, B>>
+        ensures text { IfOk result (λ text. text_in self.now path.now ≡ Some text.items) }
+        ensures refused { IfErr result (λ why. IsSome (text_in self.now path.now)
+            → error_kind why ≡ ErrorKind.OutOfMemory) }
+        ensures absent { IfErr result (λ why. text_in self.now path.now ≡ None
+            → error_kind why ≡ ErrorKind.NotFound) }
+    {
         for kept in &self.texts {
             if kept.path.as_str() == path {
                 return Ok(Vec::from_slice(alloc, kept.text.as_slice())?);

@@ -1,6 +1,6 @@
-ghost use Rattle.std.specs.Prelude.{◌≡◌, ℕ, List, Option, IfOk, IfErr, IsSome};
+ghost use Rattle.std.specs.Prelude.{◌≡◌, IfOk, IfErr, IsSome};
 ghost use Rattle.std.specs.IoError.{error_kind};
-ghost use Rattle.path_texts.specs.Known.{IsTextAt};
+ghost use Rattle.path_texts.specs.Known.{IsTextAt, KnownTexts};
 
 use program_edge::read_file;
 use std::alloc::Allocator;
@@ -13,7 +13,7 @@ use std::rt::Files;
 /// A contract sees of it the text that stands at a path, where it is known. It may be known of no path.
 pub trait Texts {
     /// The text at a path; None where it isn't known.
-    ghost text_at: { Self → List ℕ → Option (List ℕ) };
+    ghost text_at: { Self → KnownTexts };
 
     /// The text at a path, in memory of `alloc`. A text that is known is refused only for want of memory.
     fn read<A: Allocator>(&self, alloc: A, path: &str) -> io::Result<Vec<u8, A>>

@@ -5,6 +5,7 @@ use Rattle.std.specs.Str.{bytes_eq}
 use Rattle.std.specs.Io.KnownBytes.{Appends}
 use Rattle.std.specs.declared.alloc.Global.{Global}
 use Rattle.program_edge.specs.Writing.{AppendsPrefix}
+use Rattle.path_texts.specs.Known.{KnownTexts}
 use Rattle.lsb_header.specs.Forms.{is_empty}
 use Rattle.rc_links.specs.Links.{plan_text}
 use Rattle.rc_links.specs.PlannedText.{PlannedText}
@@ -24,11 +25,11 @@ abbrev pub wants_usage : List (List ℕ) → Bool
 wants_usage words = is_empty words || list_any is_help words
 
 -- the script of the path was added to the scripts
-abbrev pub AddsScript : (List ℕ → Option (List ℕ)) → List ℕ → List ScriptText → List ScriptText → Type 0
+abbrev pub AddsScript : KnownTexts → List ℕ → List ScriptText → List ScriptText → Type 0
 AddsScript text_at path old new = (script : ScriptText) × IsScriptAt text_at path script × (new ≡ old ++ script ∷ [])
 
 -- a script for each path, in order
-abbrev pub AreScripts : (List ℕ → Option (List ℕ)) → List (List ℕ) → List ScriptText → Type 0
+abbrev pub AreScripts : KnownTexts → List (List ℕ) → List ScriptText → Type 0
 AreScripts text_at [] [] = Unit {0}
 AreScripts text_at [] (s ∷ scripts) = ⊥
 AreScripts text_at (path ∷ paths) [] = ⊥
@@ -44,12 +45,14 @@ PrintsPlanPart scripts old new =
     (plan : List PlannedText) × IsPlan scripts plan × AppendsPrefix old new (plan_text plan)
 
 -- a writer gained the text of a plan of scripts of these paths
-abbrev pub PrintsLinks : (List ℕ → Option (List ℕ)) → List (List ℕ) → Option (List ℕ) → Option (List ℕ) → Type 0
-PrintsLinks text_at paths old new = (scripts : List ScriptText) × AreScripts text_at paths scripts × PrintsPlan scripts old new
+abbrev pub PrintsLinks : KnownTexts → List (List ℕ) → Option (List ℕ) → Option (List ℕ) → Type 0
+PrintsLinks text_at paths old new =
+    (scripts : List ScriptText) × AreScripts text_at paths scripts × PrintsPlan scripts old new
 
 -- a writer gained a prefix of the text of a plan of scripts of these paths
-abbrev pub PrintsPart : (List ℕ → Option (List ℕ)) → List (List ℕ) → Option (List ℕ) → Option (List ℕ) → Type 0
-PrintsPart text_at paths old new = (scripts : List ScriptText) × AreScripts text_at paths scripts × PrintsPlanPart scripts old new
+abbrev pub PrintsPart : KnownTexts → List (List ℕ) → Option (List ℕ) → Option (List ℕ) → Type 0
+PrintsPart text_at paths old new =
+    (scripts : List ScriptText) × AreScripts text_at paths scripts × PrintsPlanPart scripts old new
 
 -- 4 for want of memory, 1 for another fault of the plan
 abbrev pub plan_status : {A : Type 0} → PlanFault A → ℕ
@@ -64,11 +67,12 @@ abbrev pub HasNoPlan : List ScriptText → Type 0
 HasNoPlan scripts = (found : PlanFault Global) × IsRefused scripts found × (plan_status found ≡ 1)
 
 -- one of the files is refused for its name or its header
-abbrev pub HasRefused : (List ℕ → Option (List ℕ)) → List (List ℕ) → Type 0
+abbrev pub HasRefused : KnownTexts → List (List ℕ) → Type 0
 HasRefused text_at paths =
-    (path : List ℕ) × Contains paths path × (found : FileFault) × IsNoScriptAt text_at path found × (file_status found ≡ 1)
+    (path : List ℕ) × Contains paths path × (found : FileFault) × IsNoScriptAt text_at path found
+    × (file_status found ≡ 1)
 
 -- why a run on these words is refused: the usage is wanted, a file is refused, or the scripts have no plan
-abbrev pub IsRefusedRun : (List ℕ → Option (List ℕ)) → List (List ℕ) → Type 0
+abbrev pub IsRefusedRun : KnownTexts → List (List ℕ) → Type 0
 IsRefusedRun text_at words = (wants_usage words ≡ true) ⊎ HasRefused text_at words
     ⊎ ((scripts : List ScriptText) × AreScripts text_at words scripts × HasNoPlan scripts)

@@ -1,5 +1,5 @@
 -- The scripts of files.
-use Rattle.std.specs.Prelude.{◌≡◌, ℕ, Bool, true, false, ◌==◌, if◌then◌else◌, List, [], ◌∷◌, Option, None, Err, Ok, IsSome}
+use Rattle.std.specs.Prelude.{◌≡◌, ℕ, Bool, true, false, ◌==◌, if◌then◌else◌, List, [], ◌∷◌, None, Err, Ok, IsSome}
 use Rattle.std.specs.List.{list_any}
 use Rattle.std.specs.IoError.{error_kind}
 use Rattle.std.specs.declared.io.ErrorKind.TheVariants.{OutOfMemory}
@@ -7,7 +7,7 @@ use Rattle.lsb_header.specs.declared.faults.HeaderFault.{HeaderFault}
 use Rattle.lsb_header.specs.declared.faults.HeaderFault.TheVariants as header_fault
 use Rattle.lsb_header.specs.Headers.{header_read}
 use Rattle.lsb_header.specs.Places.{second_line}
-use Rattle.path_texts.specs.Known.{IsTextAt}
+use Rattle.path_texts.specs.Known.{IsTextAt, KnownTexts}
 use Rattle.rc_links.specs.Names.{is_name}
 use Rattle.rc_links.specs.ScriptText.{ScriptText}
 use Rattle.rclinks_command.specs.declared.files.FileFault.{FileFault}
@@ -29,7 +29,7 @@ pub record IsScriptOf (name text : List ℕ) (script : ScriptText) : Type 0 wher
   pub read : header_read text ≡ Ok script.header
 
 -- the script of the text at this path, named by the path's last part
-abbrev pub IsScriptAt : (List ℕ → Option (List ℕ)) → List ℕ → ScriptText → Type 0
+abbrev pub IsScriptAt : KnownTexts → List ℕ → ScriptText → Type 0
 IsScriptAt text_at path script =
     (text : List ℕ) × IsTextAt text_at path text × IsScriptOf (last_part path) text script
 
@@ -51,7 +51,7 @@ IsNoScript name text (fault.Header found line) =
 IsNoScript name text fault.Memory = Unit {0}
 
 -- why the text at this path gives no script
-abbrev pub IsNoScriptAt : (List ℕ → Option (List ℕ)) → List ℕ → FileFault → Type 0
+abbrev pub IsNoScriptAt : KnownTexts → List ℕ → FileFault → Type 0
 IsNoScriptAt text_at path (fault.Unread error) = IsSome (text_at path) → error_kind error ≡ OutOfMemory
 IsNoScriptAt text_at path fault.Name = is_name (last_part path) ≡ false
 IsNoScriptAt text_at path (fault.Header found line) =

@@ -31,7 +31,8 @@ fn add_script<T: Texts>(
     scripts: &mut Vec<Script>,
     path: &str,
 ) -> Result<(), FileFault>
-    ensures added { OnOk result (AddsScript (T.text_at texts.now) path.now scripts.old.items scripts.new.items) }
+    ensures added { OnOk result (AddsScript (T.text_at texts.now) path.now
+        scripts.old.items scripts.new.items) }
     ensures fault { IfErr result (IsNoScriptAt (T.text_at texts.now) path.now) }
 {
     let script = script_of(texts, alloc, path)?;
@@ -49,7 +50,8 @@ fn scripts_of<'w, T: Texts>(
         AreScripts (T.text_at texts.now) (map string_bytes words.now) scripts.items) }
     ensures path { IfErr result (λ refusal.
         Contains (map string_bytes words.now) refusal.path.now) }
-    ensures fault { IfErr result (λ refusal. IsNoScriptAt (T.text_at texts.now) refusal.path.now refusal.fault) }
+    ensures fault { IfErr result (λ refusal.
+        IsNoScriptAt (T.text_at texts.now) refusal.path.now refusal.fault) }
 {
     let mut scripts = Vec::new(alloc);
     for word in words {
@@ -199,7 +201,8 @@ pub fn run_words<T: Texts, W: Write, E: Write>(
         (W.contents out.new) }
     ensures silent { result ≡ DONE → err.new ≡ err.old }
     // The usage was wanted, a file was refused, or the scripts have no plan.
-    ensures refused { result ≡ REFUSED → IsRefusedRun (T.text_at texts.now) (map string_bytes words.now) }
+    ensures refused { result ≡ REFUSED
+        → IsRefusedRun (T.text_at texts.now) (map string_bytes words.now) }
     ensures quiet { result ≡ REFUSED → out.new ≡ out.old }
     // Nothing was written, or a prefix of the links, which may be the whole.
     ensures part { (out.new ≡ out.old)

@@ -1,6 +1,7 @@
 use Rattle.std.proofs.Common.{◌≡◌, rules, Bool, true, false, List, ℕ, Option, Some, None, map, string_bytes, refl, reverse}
 use Rattle.std.specs.Prelude.{◌&&◌}
 use Rattle.std.proofs.KnownBytes.{Keeps-refl}
+use Rattle.path_texts.specs.Known.{KnownTexts}
 use Rattle.initd_options.specs.CommandLine.{Said, judges, read_of, run_of, runs, serves}
 use Rattle.initd_command.specs.Endings.{Ending, done, drained, lawful, limited, no_memory, stopped, torn, uncreated, unflushed, unlawful, unlogged, unread, untold, unwritten, usage}
 use Rattle.initd_options.specs.Options.{service_of}
@@ -23,7 +24,7 @@ no_turns true true is = cc
 no_turns true false is = cc
 
 -- an ending of what was read
-ends_by : (text_at : List ℕ → Option (List ℕ)) (words : List (List ℕ)) (said : Said) → read_of words ≡ Some said → (ending : Ending) (old new : Option (List ℕ))
+ends_by : (text_at : KnownTexts) (words : List (List ℕ)) (said : Said) → read_of words ≡ Some said → (ending : Ending) (old new : Option (List ℕ))
     → EndsSaid text_at said ending old new → EndsBy text_at words ending old new
 ends_by text_at words said is done old new ends = (said, is, ends)
 ends_by text_at words (runs run) is usage old new ends = absurd ends.4
