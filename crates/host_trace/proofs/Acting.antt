@@ -35,7 +35,7 @@ use Rattle.core_state.proofs.Hearing.{fits_act, fits_told}
 use Rattle.core_state.proofs.Reading.{quiet_same}
 use Rattle.run_log.specs.Logs.{LogState}
 use Rattle.host_trace.specs.Point.{Point, last_birth, acted, is_asked_for, answered}
-use Rattle.host_trace.specs.Leads.{is_own, is_allowed, gone_on, Logs, Gave, Heard, Hears, Lasts, Tracks}
+use Rattle.host_trace.specs.Leads.{is_own, is_allowed, gone_on, Logs, Gave, Hears, Lasts, Tracks}
 use Rattle.host_trace.proofs.Leading.{allowed_rest, allowed_first}
 
 -- a trace stays sound with what may come

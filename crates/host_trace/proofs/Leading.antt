@@ -18,7 +18,7 @@ use Rattle.child_host.specs.declared.calls.Reply.TheVariants.{Now, Later}
 use Rattle.child_host.specs.Calls.{HostCall, TextRead}
 use Rattle.run_log.specs.Logs.{LogState}
 use Rattle.host_trace.specs.Point.{Point, last_birth, acted, is_asked_for, answered, ordered, order_for, come, is_last, nudged_if, byte_after, bytes_after, reading, before_reading, before_handing, came_whole, handed_if, announced, is_said, after, point_after, is_in_place}
-use Rattle.host_trace.specs.Leads.{AreTexts, Counted, IsStateText, Logs, meets, is_allowed, comes_back, are_carried, gone_on, Took, Went, Leads, Heard, Hears}
+use Rattle.host_trace.specs.Leads.{AreTexts, Counted, IsStateText, meets, is_allowed, comes_back, are_carried, gone_on, Took, Went, Leads, Heard, Hears}
 use Rattle.host_trace.specs.Turns.{takes_none}
 use Rattle.host_trace.proofs.Point.{point_after-append, has_trace-append, has_trace-one}
 use Rattle.host_trace.proofs.Seconds.{logged, short_then}
