@@ -135,7 +135,7 @@ abbrev pub came_whole : List ℕ → TextRead → Bool
 came_whole text (Ok back) = same_text text back
 came_whole text (Err fault) = false
 
--- it came back cut: it begins so, and goes on
+-- it came back cut: what came is a proper prefix of it
 abbrev pub came_cut : List ℕ → TextRead → Bool
 came_cut text (Ok back) = starts_with ◌==◌ text back && nat_lt (length back) (length text)
 came_cut text (Err fault) = false
@@ -247,7 +247,7 @@ is_in_place goal (Carry text back) earlier so_far = is_first goal step.Reexec so
 is_in_place goal (Announce happening) earlier so_far = may_announce goal happening earlier so_far
 is_in_place goal _ earlier so_far = true
 
--- so was each call
+-- each call was made where it may be
 abbrev pub are_in_place : Goal → List HostCall → Point → Bool
 are_in_place goal [] p = true
 are_in_place goal (call ∷ calls) p =

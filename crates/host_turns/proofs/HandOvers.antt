@@ -1,5 +1,5 @@
 -- What comes of a state text that is carried.
-use Rattle.std.proofs.Common.{◌≡◌, refl, sym, ap, ◌∙◌, subst, ℕ, ◌+◌, Bool, true, false, ◌==◌, ◌&&◌, ◌||◌, not, nat_lt, List, [], ◌∷◌, ◌++◌, length, drop, append-nil, Option, Some, None, Ok, arith, length-append}
+use Rattle.std.proofs.Common.{◌≡◌, refl, sym, ap, ◌∙◌, subst, ℕ, Bool, true, false, ◌==◌, ◌||◌, not, nat_lt, List, [], ◌∷◌, ◌++◌, length, drop, append-nil, Option, Some, Ok, arith, length-append}
 use Rattle.std.specs.List.{starts_with}
 use Rattle.std.specs.Option.{option_map_or}
 use Rattle.std.proofs.lemmas.Bool.{false≢true, and_from, and_parts, eq-eqb, eqb-true, ltb-true}
@@ -25,7 +25,7 @@ use Rattle.state_text.proofs.Prefixes.{generation_said, no_prefix}
 use Rattle.run_log.specs.Logs.{LogState}
 use Rattle.child_host.specs.declared.calls.Call.TheVariants.{Announce, Carry}
 use Rattle.child_host.specs.Calls.{Adds, HostCall, TextRead}
-use Rattle.host_trace.specs.Point.{came_cut, carrying, is_of_generation, is_outcome, is_refusal, same_text}
+use Rattle.host_trace.specs.Point.{came_cut, carrying, is_of_generation, is_outcome, same_text}
 use Rattle.host_trace.specs.Leads.{Gave, Leads, Logs, Tracks, comes_back}
 use Rattle.host_trace.proofs.Calling.{HandedOn, Leads-carried}
 use Rattle.host_turns.specs.Parts.{ComesTo, IsStep, Makes, Saying}

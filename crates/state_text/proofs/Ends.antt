@@ -1,5 +1,5 @@
 -- No line of a state's text but the last begins with `end `: so no text that is cut short is whole.
-use Rattle.std.proofs.Common.{◌≡◌, ℕ, zero, suc, ◌+◌, ◌/◌, ◌%◌, ◌<◌, Bool, true, false, cond, not, ◌&&◌, ◌==◌, nat_lt, List, [], ◌∷◌, ◌++◌, length, drop, map, codes, decimal, refl, sym, ap, ◌∙◌, subst, arith, lit<, length-append}
+use Rattle.std.proofs.Common.{◌≡◌, ℕ, zero, suc, ◌+◌, ◌/◌, ◌%◌, ◌<◌, Bool, true, false, cond, not, ◌==◌, nat_lt, List, [], ◌∷◌, ◌++◌, length, drop, map, codes, decimal, refl, sym, ap, ◌∙◌, subst, arith, lit<, length-append}
 use Rattle.std.specs.Fmt.{digit_glyph, digits, digits_onto}
 use Rattle.std.specs.List.{list_all, starts_with}
 use Rattle.std.proofs.lemmas.Bool.{and_parts, and_from, ne_eqb, not-true, or_from}
@@ -18,7 +18,7 @@ use Rattle.inittab_text.proofs.WriteLemmas.{parts}
 use Rattle.inittab_text.specs.Written.{fields_written, is_written, levels_written}
 use Rattle.core_state.specs.declared.parts.Record.{Record}
 use Rattle.core_state.specs.Parts.{State}
-use Rattle.state_text.specs.Lines.{body_lines, end_line, head_lines, slot_line, table_line, text_of_lines, version_line}
+use Rattle.state_text.specs.Lines.{body_lines, end_line, slot_line, text_of_lines}
 use Rattle.state_text.specs.Range.{is_state}
 use Rattle.state_text.specs.Refused.{Says, Whole, is_line}
 use Rattle.state_text.proofs.Bodies.{body_lines_are, state_parts}

@@ -1,19 +1,14 @@
 -- A whole text, part by part: what is read of the text of a state, and that nothing else is.
-use Rattle.std.proofs.Common.{◌≡◌, ◌≢◌, ℕ, ◌-◌, ◌<◌, ◌^◌, true, ◌&&◌, List, [], ◌∷◌, ◌++◌, length, take, map, append-nil, Option, Some, None, refl, sym, ap, ◌∙◌, arith, lit<, length-append}
+use Rattle.std.proofs.Common.{◌≡◌, ◌≢◌, ℕ, ◌<◌, ◌^◌, true, ◌&&◌, List, [], ◌∷◌, ◌++◌, length, map, append-nil, Option, Some, None, refl, sym, ap, ◌∙◌, arith, lit<, length-append}
 use Rattle.std.specs.List.{list_all}
-use Rattle.std.specs.Option.{option_map}
 use Rattle.std.proofs.lemmas.Bool.{and_parts, and_from, lt-ltb}
 use Rattle.std.proofs.lemmas.List.{append_assoc}
 use Rattle.std.proofs.lemmas.List.Folds.{list_all-append}
 use Rattle.std.proofs.lemmas.Option.{option_and_then_some, some_pair_parts}
-use Rattle.text_lines.specs.Lines.{after_lines, newlines}
-use Rattle.text_lines.proofs.PieceLemmas.{after_lines-front, take-front}
 use Rattle.init_words.specs.declared.entries.Entry.{Entry}
 use Rattle.inittab_text.proofs.Entries.{table_parts}
 use Rattle.inittab_text.proofs.LineLemmas.{begun_back, begun_own}
-use Rattle.inittab_text.proofs.ReadLemmas.{option_map_some}
-use Rattle.inittab_text.proofs.WriteLemmas.{table_written-text, text_of-table_written}
-use Rattle.inittab_text.specs.Written.{table_begun, fields_written, is_table, table_written, text_of}
+use Rattle.inittab_text.specs.Written.{table_begun, fields_written, is_table, text_of}
 use Rattle.core_state.specs.declared.parts.Record.{Record}
 use Rattle.state_text.specs.Lines.{slot_line, table_line, text_of_lines}
 use Rattle.state_text.specs.Range.{is_record}
