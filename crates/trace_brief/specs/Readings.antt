@@ -1,10 +1,14 @@
--- What a brief form never changes, when the looks of a trace are free, and which law a trace breaks first.
-use Rattle.std.specs.Prelude.{ℕ, Bool, true, false, not, ◌&&◌, List, [], ◌∷◌, filter, Option, Some, None, is_none}
+-- What a brief form never changes, when the looks of a trace are free, which law a trace breaks first, and what it is to
+-- read the same off a trace and its brief form.
+use Rattle.std.specs.Prelude.{◌≡◌, ℕ, Bool, IsTrue, true, false, not, ◌&&◌, List, [], ◌∷◌, filter, Option, Some, None, is_none}
 use Rattle.init_words.specs.declared.orders.Ask.TheVariants.{Look}
 use Rattle.init_trace.specs.declared.happenings.Happening.TheVariants.{Asked, Still, Told, Clock, Nudge}
+use Rattle.init_trace.specs.declared.steps.Goal.{Goal}
 use Rattle.init_trace.specs.Event.{Event}
 use Rattle.init_trace.specs.Past.{open_of, is_untold}
+use Rattle.init_trace.specs.Sound.{is_sound}
 use Rattle.init_trace.specs.Lawful.{Fault, first_breach}
+use Rattle.trace_brief.specs.Brief.{brief_of}
 
 -- the happening is never left out: it is no look, telling, reading of the clock or round
 abbrev pub is_lasting : Event → Bool
@@ -32,3 +36,8 @@ law_broken_by (Some fault) = Some fault.law
 -- the law that the first breach of a trace breaks
 abbrev pub first_broken : List Event → Option ℕ
 first_broken trace = law_broken_by (first_breach trace)
+
+-- the same is read off each sound trace and off its brief form
+abbrev pub ReadsSame : {X : Type 0} → (List Event → X) → Type 0
+ReadsSame reading =
+    (goal : Goal) (trace : List Event) → IsTrue (is_sound goal trace) → reading trace ≡ reading (brief_of trace)

@@ -13,7 +13,7 @@ ghost use Rattle.init_trace.specs.Spells.{stop_due};
 ghost use Rattle.init_trace.specs.Timing.{is_held, is_full};
 ghost use Rattle.init_trace.specs.Sound.{is_sound};
 ghost use Rattle.init_trace.specs.Lawful.{is_lawful, first_breach};
-ghost use Rattle.trace_brief.specs.Readings.{are_looks_free, lasting_events, first_broken};
+ghost use Rattle.trace_brief.specs.Readings.{are_looks_free, lasting_events, first_broken, ReadsSame};
 ghost use Rattle.trace_brief.specs.Brief.{brief_of, IsBrief};
 ghost use Rattle.trace_brief.specs.declared.held.Held.{Held};
 ghost use Rattle.trace_brief.specs.Holding.{Holds, next_held, newly_written};
@@ -47,22 +47,13 @@ pub fn law_of_brief()
         → IsTrue (is_sound goal trace) → first_breach (brief_of trace) ≡ None }
 
     // And init reads the same off it.
-    ensures time { (goal : Goal) (trace : List Event)
-        → IsTrue (is_sound goal trace) → time_of trace ≡ time_of (brief_of trace) }
-    ensures unreaped { (goal : Goal) (trace : List Event)
-        → IsTrue (is_sound goal trace)
-        → unreaped_children trace ≡ unreaped_children (brief_of trace) }
-    ensures orders { (goal : Goal) (trace : List Event)
-        → IsTrue (is_sound goal trace) → open_orders trace ≡ open_orders (brief_of trace) }
-    ensures known { (goal : Goal) (trace : List Event) (id : List ℕ)
-        → IsTrue (is_sound goal trace)
-        → has_child id (known_children trace) ≡ has_child id (known_children (brief_of trace)) }
-    ensures stops { (goal : Goal) (trace : List Event) (child : Child)
-        → IsTrue (is_sound goal trace) → stop_due child trace ≡ stop_due child (brief_of trace) }
-    ensures held { (goal : Goal) (trace : List Event) (id : List ℕ)
-        → IsTrue (is_sound goal trace) → is_held id trace ≡ is_held id (brief_of trace) }
-    ensures full { (goal : Goal) (trace : List Event) (id : List ℕ)
-        → IsTrue (is_sound goal trace) → is_full id trace ≡ is_full id (brief_of trace) }
+    ensures time { ReadsSame time_of }
+    ensures unreaped { ReadsSame unreaped_children }
+    ensures orders { ReadsSame open_orders }
+    ensures known { (id : List ℕ) → ReadsSame (λ trace. has_child id (known_children trace)) }
+    ensures stops { (child : Child) → ReadsSame (stop_due child) }
+    ensures held { (id : List ℕ) → ReadsSame (is_held id) }
+    ensures full { (id : List ℕ) → ReadsSame (is_full id) }
 {}
 
 /// What is held back and what was written are the brief form of what came: at the beginning, and behind each happening.

@@ -45,13 +45,13 @@ pub returns-clause-orders : goal.returns-clause-orders
 returns-clause-orders c goal trace h = (brief_stands goal trace h).1.listed
 
 pub returns-clause-known : goal.returns-clause-known
-returns-clause-known c goal trace id h = has_known trace (brief_of trace) (brief_stands goal trace h).1 id
+returns-clause-known c id goal trace h = has_known trace (brief_of trace) (brief_stands goal trace h).1 id
 
 pub returns-clause-stops : goal.returns-clause-stops
-returns-clause-stops c goal trace child h = stop_same trace (brief_of trace) (brief_stands goal trace h).1 child
+returns-clause-stops c child goal trace h = stop_same trace (brief_of trace) (brief_stands goal trace h).1 child
 
 pub returns-clause-held : goal.returns-clause-held
-returns-clause-held c goal trace id h = held_same trace (brief_of trace) (brief_stands goal trace h).1 id
+returns-clause-held c id goal trace h = held_same trace (brief_of trace) (brief_stands goal trace h).1 id
 
 pub returns-clause-full : goal.returns-clause-full
-returns-clause-full c goal trace id h = full_same trace (brief_of trace) (brief_stands goal trace h).1 id
+returns-clause-full c id goal trace h = full_same trace (brief_of trace) (brief_stands goal trace h).1 id
