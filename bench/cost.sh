@@ -1,7 +1,7 @@
 #!/bin/bash
 # What a line of a script costs `initd simulate` over tables of 16, 128 and 512 respawn entries, and what 60 turns cost
 # `initd run` over 500 children that sleep, in processor time.
-# usage: docs/cost.sh INITD     (the program, as `rt run` leaves it in crates/initd/out/initd)
+# usage: bench/cost.sh INITD     (the program, as `rt run` leaves it in crates/initd/out/initd)
 set -eu
 initd=$(realpath "$1")
 folder=$(mktemp -d)
