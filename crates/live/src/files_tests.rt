@@ -1,6 +1,6 @@
 //! The channel of requests, the inittab and the text of init's state.
 
-use crate::hosts::{Paths, SystemHost, host_of, pausing};
+use crate::hosts::{Paths, SystemHost, host_of};
 use child_host::{Host, HostFault};
 use linked_list_allocator::LocalHeap;
 use std::alloc::Global;
@@ -153,19 +153,5 @@ fn a_state_is_put_in_place_whole(rt: HostRuntime) -> Result<(), Fail> {
     assert!(rt; is_carried(&mut host, rt.alloc(), b"first, a long text"));
     assert!(rt; is_carried(&mut host, rt.alloc(), b"second"));
     assert!(rt; stays(&rt, &mut host) && fs::remove_file(&rt, "p.state").is_ok());
-    Ok(())
-}
-
-const PAUSE_PATHS: &Paths = &Paths {
-    inittab: "z.tab",
-    channel: "z.fifo",
-    state: "z.state",
-};
-
-#[test]
-fn a_pause_that_fails_is_a_fault(rt: HostRuntime) -> Result<(), Fail> {
-    let mut host = pausing(&rt, PAUSE_PATHS, "x")?;
-    host.pause();
-    assert!(rt; host.faults() == 1);
     Ok(())
 }

@@ -2,11 +2,15 @@
 #![tactic(auto)]
 
 #[cfg(test)]
+mod again;
+#[cfg(test)]
 mod children_tests;
 #[cfg(test)]
 mod files_tests;
 #[cfg(test)]
 mod hosts;
+#[cfg(test)]
+mod pause_tests;
 #[cfg(test)]
 mod run_tests;
 #[cfg(test)]

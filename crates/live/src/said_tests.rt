@@ -1,13 +1,13 @@
 //! What a host says on standard output and on standard error. The test runs itself again, with its streams in files.
 
+use crate::again::{Again, is_again, is_said};
 use crate::hosts::{Paths, SystemHost, host_of, id_of};
 use child_host::Host;
 use init_trace::{Handed, Happening};
 use init_words::{Id, Level, Stage};
 use std::alloc::Global;
-use std::process::{Abort, Command};
+use std::process::Abort;
 use std::test::Fail;
-use std::{env, fs};
 
 const PATHS: &Paths = &Paths {
     inittab: "u.tab",
@@ -48,36 +48,6 @@ end
 
 const ERR: &str = "initd: r: /bin/nosuch: not found\nend\n";
 
-/// A line that runs this test again.
-fn line_of(rt: &HostRuntime, alloc: Global) -> Result<String, Fail> {
-    let program = env::args(rt)?.next().ok_or("no program")?;
-    Ok(format!(in alloc; "SAID=1 exec {program} said_tests::what_is_said > said.out 2> said.err")?)
-}
-
-fn run_line(rt: &HostRuntime, alloc: Global, line: &str) -> Result<(), Fail> {
-    let mut command = Command::new(alloc, "sh")?;
-    run_command(rt, &mut command, line)
-}
-
-fn run_command(rt: &HostRuntime, command: &mut Command, line: &str) -> Result<(), Fail> {
-    command.arg("-c")?.arg(line)?.status(rt)?;
-    Ok(())
-}
-
-/// Runs this test again.
-fn run_again(rt: &HostRuntime, alloc: Global) -> Result<(), Fail> {
-    let line = line_of(rt, alloc)?;
-    run_line(rt, alloc, line.as_str())
-}
-
-/// The file has this text, and behind it at most what ends the run of a test.
-fn is_text(rt: &HostRuntime, path: &str, want: &str) -> bool {
-    match fs::read_to_string(rt, path) {
-        Ok(text) => text.as_str().starts_with(want) && fs::remove_file(rt, path).is_ok(),
-        Err(_) => false,
-    }
-}
-
 /// Says it, and ends both streams.
 fn say_all(rt: &HostRuntime) -> Result<(), Fail> {
     let mut host = host_of(rt, rt.alloc(), PATHS)?;
@@ -87,12 +57,18 @@ fn say_all(rt: &HostRuntime) -> Result<(), Fail> {
     Ok(())
 }
 
+const AGAIN: &Again = &Again {
+    test: "said_tests::what_is_said",
+    files: &["said.out", "said.err"],
+    out: OUT,
+    err: ERR,
+};
+
 #[test]
 fn what_is_said(rt: HostRuntime) -> Result<(), Fail> {
-    if env::var(&rt, "SAID").is_ok() {
+    if is_again(&rt) {
         return say_all(&rt);
     }
-    run_again(&rt, rt.alloc())?;
-    assert!(rt; is_text(&rt, "said.out", OUT) && is_text(&rt, "said.err", ERR));
+    assert!(rt; is_said(&rt, rt.alloc(), AGAIN)?);
     Ok(())
 }

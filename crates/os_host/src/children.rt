@@ -92,16 +92,7 @@ impl<R: Processes, A: Allocator + Copy> Children<R, A> {
 /// Runs kill(1) on the child of the number.
 fn send_term<A: Allocator + Copy>(rt: &impl Processes, alloc: A, number: u32) -> io::Result<bool> {
     let line = format!(in alloc; "kill -TERM {number}")?;
-    run_line(rt, alloc, line.as_str())
-}
-
-/// Runs a line in a shell, waits for it, and gives whether it succeeded.
-pub(crate) fn run_line<A: Allocator + Copy>(
-    rt: &impl Processes,
-    alloc: A,
-    line: &str,
-) -> io::Result<bool> {
-    let status = shell_command(alloc, line)?.status(rt)?;
+    let status = shell_command(alloc, line.as_str())?.status(rt)?;
     Ok(status.success())
 }
 

@@ -6,6 +6,7 @@ mod children;
 mod commands;
 mod os_hosts;
 mod paths;
+mod pauses;
 
 pub use announcements::announcement_text;
 pub use os_hosts::OsHost;

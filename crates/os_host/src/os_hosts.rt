@@ -1,33 +1,33 @@
 ghost use Rattle.std.specs.Prelude.{◌≡◌, IfOk, OnErr, IsErr};
 
 use crate::announcements::announcement_text;
-use crate::children::{Children, run_line, say_not_born};
+use crate::children::{Children, say_not_born};
 use crate::paths::Paths;
+use crate::pauses::{Pauses, has_stirred};
 use child_host::{Host, HostFault, Reply, counted, is_failed_reply};
 use init_trace::HappeningIn;
 use init_words::{Answer, ChildNo, Id, Memory, Sig};
 use std::alloc::{Allocator, Global};
-use std::io;
 use std::io::ErrorKind;
 use std::marker::Model;
 use std::process::Processes;
 use std::rt::{Clock, Files};
 use std::time::SystemTime;
+use std::{io, thread};
 
 /// A host that asks the operating system. It tells nothing of its calls, and answers each order at once.
 ///
 /// A process text is executed by `sh` where it has a character that a shell reads; any other is split at blanks and
 /// tabs and started directly. A start for an id that has a child is refused. A child is looked at by waitpid(2) with
-/// WNOHANG; SIGTERM is sent by kill(1) in `sh`, SIGKILL directly, and a pause is a sleep(1) in `sh`. Requests are read
-/// from the channel file's first byte on. The clock gives the seconds since the beginning of 1970.
+/// WNOHANG; SIGTERM is sent by kill(1) in `sh`, SIGKILL directly. A pause starts nothing and does not fail. Requests are
+/// read from the channel file's first byte on. The clock gives the seconds since the beginning of 1970.
 #[derive(Drop)]
 pub struct OsHost<R: Processes + Files + Clock + Print + Eprint + Drop, A: Allocator = Global> {
     rt: R,
     alloc: A,
     children: Children<R, A>,
     paths: Paths<A>,
-    /// The line that a shell runs to pause.
-    pause: String<A>,
+    pauses: Pauses,
     faults: u64,
 }
 
@@ -41,7 +41,8 @@ impl<R: Processes + Files + Clock + Print + Eprint + Drop, A: Allocator> Model f
 
 impl<R: Processes + Files + Clock + Print + Eprint + Drop, A: Allocator + Copy> OsHost<R, A> {
     /// A host without children, over the paths of the inittab, of the channel of requests and of the text of init's
-    /// state. A text of the state is written to the path with `.new` behind it before it is put in its place.
+    /// state. A text of the state is written to the path with `.new` behind it before it is put in its place. Each of
+    /// its pauses lasts a second.
     pub fn new(
         rt: R,
         alloc: A,
@@ -56,16 +57,19 @@ impl<R: Processes + Files + Clock + Print + Eprint + Drop, A: Allocator + Copy> 
             alloc,
             children: Children::new(alloc),
             paths: Paths::new(alloc, inittab, channel, state)?,
-            pause: String::from_str(alloc, "sleep 1")?,
+            pauses: Pauses::of_a_second(),
             faults: 0,
         })
     }
 
-    /// The host with another length of its pauses, as sleep(1) reads it; `1` is a second.
+    /// The host with pauses of at most this length in seconds, a decimal of 0.01 to 60 with at most two digits behind
+    /// the point; any other text leaves them as they are. Since the last pause a child may have been born or reaped, a
+    /// signal sent or bytes taken: then the next one lasts a thousandth of the length, and else twice as long as the
+    /// last, but no longer than the length.
     pub fn with_pause(mut self, length: &str) -> Result<OsHost<R, A>, Memory>
         ensures { IfOk result (λ host. host.faults ≡ self.faults) }
     {
-        self.pause = format!(in self.alloc; "sleep {length}")?;
+        self.pauses.grow_to(length);
         Ok(self)
     }
 }
@@ -122,18 +126,21 @@ impl<R: Processes + Files + Clock + Print + Eprint + Drop, A: Allocator + Copy> 
                 Reply::Now(Answer::NotBorn)
             }
         };
+        self.pauses.note(has_stirred(&reply));
         self.faults = counted(self.faults, is_failed_reply(&reply));
         reply
     }
 
     fn look(&mut self, id: Id) -> Reply {
         let reply = Reply::Now(self.children.look(&id));
+        self.pauses.note(has_stirred(&reply));
         self.faults = counted(self.faults, is_failed_reply(&reply));
         reply
     }
 
     fn signal(&mut self, id: Id, signal: Sig) -> Reply {
         let reply = Reply::Now(self.children.signal(&self.rt, &id, signal));
+        self.pauses.note(has_stirred(&reply));
         self.faults = counted(self.faults, is_failed_reply(&reply));
         reply
     }
@@ -150,6 +157,7 @@ impl<R: Processes + Files + Clock + Print + Eprint + Drop, A: Allocator + Copy> 
 
     fn take_bytes(&mut self, buffer: &mut [u8]) -> Result<usize, HostFault> {
         let taken = told(self.paths.take_bytes(&self.rt, buffer));
+        self.pauses.note(matches!(taken, Ok(count) if count > 0));
         self.faults = counted(self.faults, taken.is_err());
         taken
     }
@@ -176,9 +184,7 @@ impl<R: Processes + Files + Clock + Print + Eprint + Drop, A: Allocator + Copy> 
     }
 
     fn pause(&mut self) {
-        let slept = run_line(&self.rt, self.alloc, self.pause.as_str());
-        let paused = matches!(slept, Ok(true));
-        self.faults = counted(self.faults, !paused);
+        thread::sleep(&self.rt, self.pauses.next());
     }
 
     fn faults(&self) -> u64 {
