@@ -5,14 +5,15 @@ use std::process::Command;
 use std::test::Fail;
 use std::{env, fs};
 
-/// A run of a test by itself, and what stands at the front of what it writes.
+/// A run of a test by itself, and what it writes.
 pub(crate) struct Again {
     /// The name of the test, behind its crate's.
     pub(crate) test: &'static str,
     /// The files of its standard output and its standard error.
-    pub(crate) files: &'static [&'static str; 2],
     pub(crate) out: &'static str,
     pub(crate) err: &'static str,
+    /// The files that are looked at, with the front of each one's text.
+    pub(crate) said: &'static [(&'static str, &'static str)],
 }
 
 /// This run is one that a test made of itself.
@@ -23,8 +24,7 @@ pub(crate) fn is_again(rt: &HostRuntime) -> bool {
 /// A line that runs the test again.
 fn line_of(rt: &HostRuntime, alloc: Global, again: &Again) -> Result<String, Fail> {
     let program = env::args(rt)?.next().ok_or("no program")?;
-    let Again { test, files, .. } = again;
-    let [out, err] = files;
+    let Again { test, out, err, .. } = again;
     Ok(format!(in alloc; "AGAIN=1 PATH=/nowhere exec {program} {test} > {out} 2> {err}")?)
 }
 
@@ -41,11 +41,19 @@ fn is_text(rt: &HostRuntime, path: &str, want: &str) -> bool {
     }
 }
 
+fn are_texts(rt: &HostRuntime, said: &[(&str, &str)]) -> bool {
+    for (path, want) in said {
+        if !is_text(rt, path, want) {
+            return false;
+        }
+    }
+    true
+}
+
 /// Runs the test again, and gives whether it wrote that.
 pub(crate) fn is_said(rt: &HostRuntime, alloc: Global, again: &Again) -> Result<bool, Fail> {
     let line = line_of(rt, alloc, again)?;
     let mut command = Command::new(alloc, "sh")?;
     run_line(rt, &mut command, line.as_str())?;
-    let [out, err] = again.files;
-    Ok(is_text(rt, out, again.out) && is_text(rt, err, again.err))
+    Ok(are_texts(rt, again.said))
 }

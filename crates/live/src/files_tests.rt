@@ -22,9 +22,12 @@ const CHANNEL: &[(Option<&str>, &[&[u8]])] = &[
     (None, &[b""]),
     (Some("abcdef"), &[b"abcd", b"ef", b""]),
     (Some("abcdefgh"), &[b"gh", b""]),
-    (Some("abc"), &[b"", b""]),
+    (Some("abc"), &[b"abc", b""]),
+    (Some("abcd"), &[b"d", b""]),
+    (Some(""), &[b"", b""]),
+    (Some("efg"), &[b"efg", b""]),
     (None, &[b""]),
-    (Some("abcdefghij"), &[b"ij", b""]),
+    (Some("abcdefghij"), &[b"abcd", b"efgh", b"ij", b""]),
 ];
 
 /// Makes the channel have this text, or not be there.

@@ -15,3 +15,9 @@ mod pause_tests;
 mod run_tests;
 #[cfg(test)]
 mod said_tests;
+#[cfg(test)]
+mod time_tests;
+#[cfg(test)]
+mod timed;
+#[cfg(test)]
+mod trouble_tests;

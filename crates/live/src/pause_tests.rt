@@ -31,9 +31,9 @@ fn pause_all(rt: &HostRuntime) -> Result<(), Fail> {
 
 const AGAIN: &Again = &Again {
     test: "pause_tests::no_pause_needs_a_program",
-    files: &["z.out", "z.err"],
-    out: "",
-    err: "end\n",
+    out: "z.out",
+    err: "z.err",
+    said: &[("z.err", "end\n")],
 };
 
 #[test]

@@ -59,9 +59,9 @@ fn say_all(rt: &HostRuntime) -> Result<(), Fail> {
 
 const AGAIN: &Again = &Again {
     test: "said_tests::what_is_said",
-    files: &["said.out", "said.err"],
-    out: OUT,
-    err: ERR,
+    out: "said.out",
+    err: "said.err",
+    said: &[("said.out", OUT), ("said.err", ERR)],
 };
 
 #[test]

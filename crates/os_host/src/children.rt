@@ -1,4 +1,5 @@
 use crate::commands::{command_of, needs_shell, shell_command};
+use crate::troubles::Trouble;
 use indexmap::IndexMap;
 use init_words::{Answer, Id, Sig, Status};
 use std::alloc::Allocator;
@@ -12,6 +13,7 @@ use text_lines::next_word;
 #[derive(Drop)]
 pub(crate) struct Children<R: Processes, A: Allocator> {
     alloc: A,
+    stopping: Trouble,
     handles: IndexMap<Id, Child<R::Started>, BuildHasherDefault<FoldHasher>, A>,
 }
 
@@ -20,6 +22,7 @@ impl<R: Processes, A: Allocator + Copy> Children<R, A> {
     pub(crate) fn new(alloc: A) -> Children<R, A> {
         Children {
             alloc,
+            stopping: Trouble::new("send TERM to", "TERM was sent"),
             handles: IndexMap::new(alloc),
         }
     }
@@ -66,7 +69,10 @@ impl<R: Processes, A: Allocator + Copy> Children<R, A> {
     }
 
     /// Sends the id's child the signal.
-    pub(crate) fn signal(&mut self, rt: &R, id: &Id, signal: Sig) -> Answer {
+    pub(crate) fn signal(&mut self, rt: &R, id: &Id, signal: Sig) -> Answer
+    where
+        R: Eprint,
+    {
         let sent = match signal {
             Sig::Term => self.term(rt, id),
             Sig::Kill => self.kill(id),
@@ -74,11 +80,16 @@ impl<R: Processes, A: Allocator + Copy> Children<R, A> {
         if sent { Answer::Hit } else { Answer::Miss }
     }
 
-    fn term(&self, rt: &R, id: &Id) -> bool {
-        match self.handles.get(id) {
-            Some(child) => matches!(send_term(rt, self.alloc, child.id()), Ok(true)),
-            None => false,
-        }
+    fn term(&mut self, rt: &R, id: &Id) -> bool
+    where
+        R: Eprint,
+    {
+        let Some(child) = self.handles.get(id) else {
+            return false;
+        };
+        let sent = send_term(rt, self.alloc, child.id());
+        self.stopping.tell(rt, shown(id.as_bytes()), &sent);
+        sent.is_ok()
     }
 
     fn kill(&mut self, id: &Id) -> bool {
@@ -90,10 +101,14 @@ impl<R: Processes, A: Allocator + Copy> Children<R, A> {
 }
 
 /// Runs kill(1) on the child of the number.
-fn send_term<A: Allocator + Copy>(rt: &impl Processes, alloc: A, number: u32) -> io::Result<bool> {
+fn send_term<A: Allocator + Copy>(rt: &impl Processes, alloc: A, number: u32) -> io::Result<()> {
     let line = format!(in alloc; "kill -TERM {number}")?;
     let status = shell_command(alloc, line.as_str())?.status(rt)?;
-    Ok(status.success())
+    if status.success() {
+        Ok(())
+    } else {
+        Err(io::Error::other("kill failed"))
+    }
 }
 
 /// How a child ended that has this status.

@@ -7,6 +7,8 @@ mod commands;
 mod os_hosts;
 mod paths;
 mod pauses;
+mod steady_clocks;
+mod troubles;
 
 pub use announcements::announcement_text;
 pub use os_hosts::OsHost;

@@ -4,6 +4,8 @@ use crate::announcements::announcement_text;
 use crate::children::{Children, say_not_born};
 use crate::paths::Paths;
 use crate::pauses::{Pauses, has_stirred};
+use crate::steady_clocks::SteadyClock;
+use crate::troubles::Trouble;
 use child_host::{Host, HostFault, Reply, counted, is_failed_reply};
 use init_trace::HappeningIn;
 use init_words::{Answer, ChildNo, Id, Memory, Sig};
@@ -12,7 +14,6 @@ use std::io::ErrorKind;
 use std::marker::Model;
 use std::process::Processes;
 use std::rt::{Clock, Files};
-use std::time::SystemTime;
 use std::{io, thread};
 
 /// A host that asks the operating system. It tells nothing of its calls, and answers each order at once.
@@ -20,7 +21,9 @@ use std::{io, thread};
 /// A process text is executed by `sh` where it has a character that a shell reads; any other is split at blanks and
 /// tabs and started directly. A start for an id that has a child is refused. A child is looked at by waitpid(2) with
 /// WNOHANG; SIGTERM is sent by kill(1) in `sh`, SIGKILL directly. A pause starts nothing and does not fail. Requests are
-/// read from the channel file's first byte on. The clock gives the seconds since the beginning of 1970.
+/// read from the channel file's first byte on, and anew where it is shorter than what was read. The clock gives the
+/// seconds since the beginning of 1970 at its first reading, and goes on from there by the monotonic clock. What fails
+/// is told on standard error once when it begins and once when it is over.
 #[derive(Drop)]
 pub struct OsHost<R: Processes + Files + Clock + Print + Eprint + Drop, A: Allocator = Global> {
     rt: R,
@@ -28,6 +31,8 @@ pub struct OsHost<R: Processes + Files + Clock + Print + Eprint + Drop, A: Alloc
     children: Children<R, A>,
     paths: Paths<A>,
     pauses: Pauses,
+    clock: SteadyClock,
+    saying: Trouble,
     faults: u64,
 }
 
@@ -58,6 +63,8 @@ impl<R: Processes + Files + Clock + Print + Eprint + Drop, A: Allocator + Copy> 
             children: Children::new(alloc),
             paths: Paths::new(alloc, inittab, channel, state)?,
             pauses: Pauses::of_a_second(),
+            clock: SteadyClock::new(),
+            saying: Trouble::new("write", "written"),
             faults: 0,
         })
     }
@@ -74,20 +81,17 @@ impl<R: Processes + Files + Clock + Print + Eprint + Drop, A: Allocator + Copy> 
     }
 }
 
-/// The seconds since the beginning of 1970.
-fn seconds(rt: &impl Clock) -> io::Result<u64> {
-    match SystemTime::now(rt)?.duration_since(SystemTime::UNIX_EPOCH) {
-        Ok(time) => Ok(time.as_secs()),
-        Err(_) => Err(io::Error::from(ErrorKind::InvalidData)),
-    }
-}
-
-/// Prints what init says of the happening, at once; false where that failed.
-fn say<A: Allocator, B: Allocator>(rt: &impl Print, alloc: A, happening: &HappeningIn<B>) -> bool {
-    match announcement_text(alloc, happening) {
-        Ok(text) => rt.write_all(text.as_slice()).is_ok(),
-        Err(_) => false,
-    }
+/// Prints what init says of the happening, at once, and gives how many bytes that are.
+fn say<A: Allocator, B: Allocator>(
+    rt: &impl Print,
+    alloc: A,
+    happening: &HappeningIn<B>,
+) -> io::Result<usize> {
+    let Ok(text) = announcement_text(alloc, happening) else {
+        return Err(io::Error::from(ErrorKind::OutOfMemory));
+    };
+    rt.write_all(text.as_slice())?;
+    Ok(text.len())
 }
 
 /// The host's fault for an error of the system.
@@ -150,7 +154,7 @@ impl<R: Processes + Files + Clock + Print + Eprint + Drop, A: Allocator + Copy> 
     }
 
     fn clock(&mut self) -> Result<u64, HostFault> {
-        let reading = told(seconds(&self.rt));
+        let reading = told(self.clock.seconds(&self.rt));
         self.faults = counted(self.faults, reading.is_err());
         reading
     }
@@ -180,7 +184,10 @@ impl<R: Processes + Files + Clock + Print + Eprint + Drop, A: Allocator + Copy> 
 
     fn announce<B: Allocator>(&mut self, happening: &HappeningIn<B>) {
         let said = say(&self.rt, self.alloc, happening);
-        self.faults = counted(self.faults, !said);
+        if !matches!(said, Ok(0)) {
+            self.saying.tell(&self.rt, "standard output", &said);
+        }
+        self.faults = counted(self.faults, said.is_err());
     }
 
     fn pause(&mut self) {

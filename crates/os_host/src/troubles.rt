@@ -1,0 +1,44 @@
+use std::io;
+
+/// Whether it was told that something fails.
+#[derive(Drop)]
+pub(crate) struct Trouble {
+    /// What can't be done, as `read`.
+    doing: &'static str,
+    /// That it was done, as `read`.
+    done: &'static str,
+    told: bool,
+}
+
+impl Trouble {
+    /// Nothing failed yet.
+    pub(crate) fn new(doing: &'static str, done: &'static str) -> Trouble {
+        Trouble {
+            doing,
+            done,
+            told: false,
+        }
+    }
+
+    /// Says on standard error that it failed, where it didn't fail the last time, and that it is over, where it did.
+    pub(crate) fn tell<T>(&mut self, rt: &impl Eprint, what: &str, outcome: &io::Result<T>) {
+        match outcome {
+            Ok(_) => self.tell_over(rt, what),
+            Err(error) => self.tell_begun(rt, what, error),
+        }
+    }
+
+    fn tell_begun(&mut self, rt: &impl Eprint, what: &str, error: &io::Error) {
+        if !self.told {
+            let _ = eprintln!(rt; "initd: cannot {} {what}: {error}", self.doing);
+        }
+        self.told = true;
+    }
+
+    fn tell_over(&mut self, rt: &impl Eprint, what: &str) {
+        if self.told {
+            let _ = eprintln!(rt; "initd: {what}: {} again", self.done);
+        }
+        self.told = false;
+    }
+}
