@@ -16,8 +16,4 @@ mod run_tests;
 #[cfg(test)]
 mod said_tests;
 #[cfg(test)]
-mod time_tests;
-#[cfg(test)]
-mod timed;
-#[cfg(test)]
 mod trouble_tests;
