@@ -20,10 +20,10 @@ use std::{io, thread};
 ///
 /// A process text is executed by `sh` where it has a character that a shell reads; any other is split at blanks and
 /// tabs and started directly. A start for an id that has a child is refused. A child is looked at by waitpid(2) with
-/// WNOHANG; SIGTERM is sent by kill(1) in `sh`, SIGKILL directly. A pause starts nothing and does not fail. Requests are
-/// read from the channel file's first byte on, and anew where it is shorter than what was read. The clock gives the
-/// seconds since the beginning of 1970 at its first reading, and goes on from there by the monotonic clock. What fails
-/// is told on standard error once when it begins and once when it is over.
+/// WNOHANG; SIGTERM is sent by kill(1) in `sh`, SIGKILL directly. A pause starts nothing and does not fail. Requests
+/// are read from the channel file's first byte on, and anew where it is shorter than what was read. The clock gives
+/// the seconds since the beginning of 1970 at its first reading, and goes on from there by the monotonic clock. What
+/// fails is told on standard error once when it begins and once when it is over.
 #[derive(Drop)]
 pub struct OsHost<R: Processes + Files + Clock + Print + Eprint + Drop, A: Allocator = Global> {
     rt: R,
