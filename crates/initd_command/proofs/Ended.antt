@@ -1,10 +1,13 @@
 -- What a run left, where its writer was only flushed since.
-use Rattle.std.proofs.Common.{Result, Ok, Err, IfErr, OnOk, ◌⊎◌, inl, inr, List, ℕ, Option}
-use Rattle.std.specs.Io.KnownBytes.{Keeps}
+use Rattle.std.proofs.Common.{◌≡◌, refl, sym, ap₂, Result, Ok, Err, IfErr, OnOk, ◌⊎◌, inl, inr, Bool, true, false, ◌&&◌, List, ℕ, Option}
+use Rattle.std.specs.Io.KnownBytes.{Appends, Keeps}
 use Rattle.std.proofs.KnownBytes.{Appends-kept, Keeps-trans}
 use Rattle.supervisor.specs.declared.running.SimFault.{SimFault}
 use Rattle.supervisor.specs.declared.running.SimFault.TheVariants as fault
 use Rattle.supervisor.specs.Simulation.{Done, Ends, Scenario, past_text}
+use Rattle.host_turns.specs.declared.serving.Served.{Served}
+use Rattle.initd_options.specs.Options.{Service}
+use Rattle.initd_command.specs.Services.{EndsTold, IsServed, end_at, end_of}
 
 pub done_kept : (s : Scenario) (old mid new : Option (List ℕ)) → Done s old mid → Keeps mid new → Done s old new
 done_kept s old mid new (past, rested, written) kept = (past, rested, Appends-kept old mid new (past_text past) written kept)
@@ -29,3 +32,13 @@ pub either_kept : (s : Scenario) (old mid new : Option (List ℕ)) → Done s ol
     → Done s old new ⊎ ((f : SimFault) × Ends s f old new)
 either_kept s old mid new (inl done) kept = inl (done_kept s old mid new done kept)
 either_kept s old mid new (inr (f, ends)) kept = inr (f, ends_kept s f old mid new ends kept)
+
+-- a run whose turns were made ends as they did
+pub told_ends : (service : Service) (told : List ℕ) (old new : Option (List ℕ)) (served : Served) → IsServed service served → Appends old new told
+    → EndsTold service told (end_of service.drain served) old new
+told_ends service told old new served is appends = by served.logged (service.drain && served.drained) refl refl
+  where
+    by : (logged over : Bool) → served.logged ≡ logged → (service.drain && served.drained) ≡ over → EndsTold service told (end_at logged over) old new
+    by false over l o = (served, sym (ap₂ end_at l o), is, appends)
+    by true true l o = (served, sym (ap₂ end_at l o), is, appends)
+    by true false l o = (served, sym (ap₂ end_at l o), is, appends)
