@@ -1,7 +1,7 @@
 -- What a brief log has written and holds of the trace that it took.
 use Rattle.std.specs.Prelude.{◌≡◌, List, ◌++◌, reverse, Option, Some, IfSome}
 use Rattle.init_trace.specs.Event.{Event}
-use Rattle.run_log.specs.Logs.{LogState}
+use Rattle.trace_log.specs.Logs.{LogState}
 use Rattle.trace_brief.specs.declared.held.Held.{Held}
 use Rattle.trace_brief.specs.Brief.{brief_of}
 use Rattle.trace_brief.specs.Holding.{Holds}

@@ -7,7 +7,7 @@ ghost use Rattle.init_words.specs.declared.orders.Ask.TheVariants.{Look};
 ghost use Rattle.init_trace.specs.declared.happenings.Happening.TheVariants.{Asked, Still};
 ghost use Rattle.init_trace.specs.Event.{Event};
 ghost use Rattle.init_trace.specs.Range.{is_in_range, is_short};
-ghost use Rattle.run_log.specs.Logs.{LogState};
+ghost use Rattle.trace_log.specs.Logs.{LogState};
 ghost use Rattle.trace_brief.specs.Brief.{brief_of};
 ghost use Rattle.trace_brief.specs.Holding.{look_events, round_events, reading_events, written_of, next_held};
 ghost use Rattle.brief_log.specs.Adding.{Adds, AddsFront, held_first, newly_first};
@@ -15,10 +15,10 @@ ghost use Rattle.brief_log.specs.Keeping.{TakesTrace, WritesPast, Grows};
 
 use init_trace::{Happening, HappeningIn, law_of_ranges};
 use init_words::{Ask, Id};
-use run_log::{Log, LogFault};
 use std::alloc::{Allocator, Global};
 use std::marker::Model;
 use trace_brief::{Held, HeldLook};
+use trace_log::{Log, LogFault};
 
 /// A log of a brief trace, in front of another log. It holds back at most four happenings: a reading of the clock, a
 /// round, the order of a look, and that the look found nothing. It takes no memory.
@@ -250,7 +250,7 @@ impl<L: Log> BriefLog<L> {
 
 impl<L: Log> Log for BriefLog<L> {
     ghost use Rattle.std.specs.Prelude.{None};
-    ghost use Rattle.run_log.specs.Logs.{LogState, Gains, Stays};
+    ghost use Rattle.trace_log.specs.Logs.{LogState, Gains, Stays};
     ghost use Rattle.brief_log.specs.Keeping.{Brief};
 
     ghost state = { λ (log : Brief L). record { taken = None; failed = (L.state log.log).failed } };

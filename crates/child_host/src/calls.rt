@@ -22,7 +22,7 @@ pub enum HostFault {
     /// A file, the clock or the output failed.
     #[error("a device failed")]
     Device,
-    /// Want of memory.
+    /// Out of memory.
     #[error("out of memory")]
     Memory,
 }

@@ -10,7 +10,7 @@ use Rattle.init_words.specs.declared.orders.Ask.TheVariants.{Start, Look, Term, 
 use Rattle.init_words.specs.declared.orders.Answer.{Answer}
 use Rattle.init_words.specs.declared.orders.Answer.TheVariants.{Born, NotBorn, Ended, Alive, NoLook, Hit, Miss}
 use Rattle.child_table.specs.State.{SlotState}
-use Rattle.child_table.specs.declared.children.Living.{Living}
+use Rattle.child_table.specs.declared.children.KnownChild.{KnownChild}
 use Rattle.child_table.specs.declared.children.Stop.{Stop}
 use Rattle.child_table.specs.declared.children.Stop.TheVariants.{Due}
 use Rattle.child_table.specs.Indexing.{child_of, termed_of, moves_child, moves_stop}
@@ -41,7 +41,7 @@ id-after_judge table stage slot = child slot.child
     by true = refl
     by false = refl
 
-    child : (child : Option Living) → (judged_child stage table child slot).id ≡ slot.id
+    child : (child : Option KnownChild) → (judged_child stage table child slot).id ≡ slot.id
     child None = refl
     child (Some living) = by (is_excluded stage living.act (entry_of slot.id table))
 
@@ -52,7 +52,7 @@ order-after_judge table stage slot = child slot.child
     by true = refl
     by false = refl
 
-    child : (child : Option Living) → (judged_child stage table child slot).order ≡ slot.order
+    child : (child : Option KnownChild) → (judged_child stage table child slot).order ≡ slot.order
     child None = refl
     child (Some living) = by (is_excluded stage living.act (entry_of slot.id table))
 
@@ -95,7 +95,7 @@ child-after_judge table stage slot = child slot.child
     by true = refl
     by false = refl
 
-    child : (child : Option Living) → child_of (judged_child stage table child slot) ≡ child_of slot
+    child : (child : Option KnownChild) → child_of (judged_child stage table child slot) ≡ child_of slot
     child None = refl
     child (Some living) = by (is_excluded stage living.act (entry_of slot.id table))
 
@@ -110,7 +110,7 @@ timely_judge now table stage slot all = child slot.child
     by true = let parts = timely_parts now slot all in timely_from now (judged true slot) parts.0 (due_timely now slot.stop parts.1)
     by false = timely_from now (judged false slot) (timely_parts now slot all).0 refl
 
-    child : (child : Option Living) → is_timely now (judged_child stage table child slot) ≡ true
+    child : (child : Option KnownChild) → is_timely now (judged_child stage table child slot) ≡ true
     child None = all
     child (Some living) = by (is_excluded stage living.act (entry_of slot.id table))
 

@@ -7,7 +7,7 @@ use Rattle.std.specs.Prelude.{Vec}
 use Rattle.std.proofs.lemmas.List.Sums.{sum_by-cons, length-filter, count_by-le-length}
 use Rattle.std.proofs.lemmas.List.{length-map, length_push, length-take-le, take_more}
 use Rattle.init_words.specs.Ids.{same_id}
-use Rattle.child_table.specs.declared.keyed.Keyed.{Keyed}
+use Rattle.child_table.specs.declared.index.Keyed.{Keyed}
 use Rattle.child_table.specs.State.{SlotState}
 use Rattle.child_table.specs.Lists.{is_slot_of, are_distinct, slot_of, changed, with_changed, without}
 use Rattle.child_table.specs.Indexing.{keys_of, are_sorted, AreKeysOf, IsIndex, passes, without_id}

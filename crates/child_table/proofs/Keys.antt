@@ -6,9 +6,9 @@ use Rattle.std.proofs.lemmas.Bool.{and_parts, or_from, not-true, le-ltb, eq-eqb}
 use Rattle.std.proofs.lemmas.List.Sums.{sum_by-cons}
 use Rattle.init_words.specs.Ids.{same_id}
 use Rattle.init_words.proofs.Same.{same_id-is}
-use Rattle.child_table.specs.declared.keyed.Found.TheVariants as found
-use Rattle.child_table.specs.declared.keyed.Keyed.{Keyed}
-use Rattle.child_table.specs.declared.children.Living.{Living}
+use Rattle.child_table.specs.declared.index.Found.TheVariants as found
+use Rattle.child_table.specs.declared.index.Keyed.{Keyed}
+use Rattle.child_table.specs.declared.children.KnownChild.{KnownChild}
 use Rattle.child_table.specs.declared.children.Stop.{Stop}
 use Rattle.child_table.specs.declared.children.Stop.TheVariants.{Due, Termed, Killed}
 use Rattle.child_table.specs.State.{SlotState}
@@ -22,7 +22,7 @@ use Rattle.child_table.proofs.Indexes.{count-slot, HasOwnIds}
 pub own_child : HasOwnIds child_of
 own_child slot = by slot.child
   where
-    by : (o : Option Living) → IfSome (option_map (λ (child : Living). record { key = child.number; id = slot.id }) o) (λ (c : Keyed). c.id ≡ slot.id)
+    by : (o : Option KnownChild) → IfSome (option_map (λ (child : KnownChild). record { key = child.number; id = slot.id }) o) (λ (c : Keyed). c.id ≡ slot.id)
     by None = tt
     by (Some child) = refl
 
@@ -44,14 +44,14 @@ count_slots key_of test p same (slot ∷ slots) = count-slot key_of test slot sl
 numbered : (n : ℕ) (slot : SlotState) → passes (λ c. c.key == n) (child_of slot) ≡ cond (is_numbered n slot.child) 1 0
 numbered n slot = by slot.child
   where
-    by : (o : Option Living) → passes (λ c. c.key == n) (option_map (λ (child : Living). record { key = child.number; id = slot.id }) o) ≡ cond (is_numbered n o) 1 0
+    by : (o : Option KnownChild) → passes (λ c. c.key == n) (option_map (λ (child : KnownChild). record { key = child.number; id = slot.id }) o) ≡ cond (is_numbered n o) 1 0
     by None = refl
     by (Some child) = refl
 
 numbered_id : (n : ℕ) (id : List ℕ) (slot : SlotState) → passes (λ c. c.key == n && same_id id c.id) (child_of slot) ≡ cond (is_numbered n slot.child && same_id id slot.id) 1 0
 numbered_id n id slot = by slot.child
   where
-    by : (o : Option Living) → passes (λ c. c.key == n && same_id id c.id) (option_map (λ (child : Living). record { key = child.number; id = slot.id }) o) ≡ cond (is_numbered n o && same_id id slot.id) 1 0
+    by : (o : Option KnownChild) → passes (λ c. c.key == n && same_id id c.id) (option_map (λ (child : KnownChild). record { key = child.number; id = slot.id }) o) ≡ cond (is_numbered n o && same_id id slot.id) 1 0
     by None = refl
     by (Some child) = refl
 

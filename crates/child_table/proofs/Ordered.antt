@@ -9,7 +9,7 @@ use Rattle.init_words.specs.declared.orders.Answer.{Answer}
 use Rattle.init_words.specs.declared.orders.Answer.TheVariants.{Born, NotBorn, Ended, Alive, NoLook, Hit, Miss}
 use Rattle.init_words.specs.declared.stages.Stage.{Stage}
 use Rattle.inittab_text.specs.Tables.{entry_of}
-use Rattle.child_table.specs.declared.children.Living.{Living}
+use Rattle.child_table.specs.declared.children.KnownChild.{KnownChild}
 use Rattle.child_table.specs.State.{SlotState, new_slot}
 use Rattle.child_table.specs.Order.{IsInOrder}
 use Rattle.child_table.specs.Changes.{after_order, after_answer, is_over}
@@ -21,14 +21,14 @@ use Rattle.child_table.proofs.Changed.{id-after_answer}
 
 -- records that no table has
 abbrev pub are_left : List SlotState → Bool
-are_left slots = list_all (λ (slot : SlotState). is_none slot.act) slots
+are_left slots = list_all (λ (slot : SlotState). is_none slot.table_act) slots
 
 -- a change that keeps the ids and the table's actions keeps the order
-pub order_map : (change : SlotState → SlotState) → ((s : SlotState) → (change s).id ≡ s.id) → ((s : SlotState) → (change s).act ≡ s.act) → (table : List Entry) (slots : List SlotState) → IsInOrder table slots → IsInOrder table (map change slots)
+pub order_map : (change : SlotState → SlotState) → ((s : SlotState) → (change s).id ≡ s.id) → ((s : SlotState) → (change s).table_act ≡ s.table_act) → (table : List Entry) (slots : List SlotState) → IsInOrder table slots → IsInOrder table (map change slots)
 order_map change ids acts [] [] h = refl
 order_map change ids acts [] (slot ∷ slots) h =
-    let parts = and_parts (is_none slot.act) (are_left slots) h in
-    and_from (is_none (change slot).act) (are_left (map change slots)) (ap is_none (acts slot) ∙ parts.0) (order_map change ids acts [] slots parts.1)
+    let parts = and_parts (is_none slot.table_act) (are_left slots) h in
+    and_from (is_none (change slot).table_act) (are_left (map change slots)) (ap is_none (acts slot) ∙ parts.0) (order_map change ids acts [] slots parts.1)
 order_map change ids acts (e ∷ table) [] h = absurd h
 order_map change ids acts (e ∷ table) (slot ∷ slots) h = (ids slot ∙ h.0, acts slot ∙ h.1, order_map change ids acts table slots h.2)
 
@@ -40,16 +40,16 @@ kept_by_one field id change keeps s = by (is_slot_of id s)
     by true = keeps s
     by false = refl
 
-pub order_changed : (id : List ℕ) (change : SlotState → SlotState) → ((s : SlotState) → (change s).id ≡ s.id) → ((s : SlotState) → (change s).act ≡ s.act) → (table : List Entry) (slots : List SlotState) → IsInOrder table slots → IsInOrder table (with_changed id change slots)
-order_changed id change ids acts table slots h = order_map (changed id change) (kept_by_one (λ s. s.id) id change ids) (kept_by_one (λ s. s.act) id change acts) table slots h
+pub order_changed : (id : List ℕ) (change : SlotState → SlotState) → ((s : SlotState) → (change s).id ≡ s.id) → ((s : SlotState) → (change s).table_act ≡ s.table_act) → (table : List Entry) (slots : List SlotState) → IsInOrder table slots → IsInOrder table (with_changed id change slots)
+order_changed id change ids acts table slots h = order_map (changed id change) (kept_by_one (λ s. s.id) id change ids) (kept_by_one (λ s. s.table_act) id change acts) table slots h
 
-pub act-after_order : (ask : Ask) (now : ℕ) (slot : SlotState) → (after_order ask now slot).act ≡ slot.act
+pub act-after_order : (ask : Ask) (now : ℕ) (slot : SlotState) → (after_order ask now slot).table_act ≡ slot.table_act
 act-after_order Start now slot = refl
 act-after_order Look now slot = refl
 act-after_order Term now slot = refl
 act-after_order Kill now slot = refl
 
-pub act-after_answer : (answer : Answer) (now : ℕ) (slot : SlotState) → (after_answer answer now slot).act ≡ slot.act
+pub act-after_answer : (answer : Answer) (now : ℕ) (slot : SlotState) → (after_answer answer now slot).table_act ≡ slot.table_act
 act-after_answer (Born n) now slot = refl
 act-after_answer NotBorn now slot = refl
 act-after_answer (Ended status) now slot = refl
@@ -58,14 +58,14 @@ act-after_answer NoLook now slot = refl
 act-after_answer Hit now slot = refl
 act-after_answer Miss now slot = refl
 
-pub act-after_judge : (table : List Entry) (stage : Stage) (slot : SlotState) → (after_judge table stage slot).act ≡ slot.act
+pub act-after_judge : (table : List Entry) (stage : Stage) (slot : SlotState) → (after_judge table stage slot).table_act ≡ slot.table_act
 act-after_judge table stage slot = child slot.child
   where
-    by : (b : Bool) → (judged b slot).act ≡ slot.act
+    by : (b : Bool) → (judged b slot).table_act ≡ slot.table_act
     by true = refl
     by false = refl
 
-    child : (child : Option Living) → (judged_child stage table child slot).act ≡ slot.act
+    child : (child : Option KnownChild) → (judged_child stage table child slot).table_act ≡ slot.table_act
     child None = refl
     child (Some living) = by (is_excluded stage living.act (entry_of slot.id table))
 
@@ -73,14 +73,14 @@ act-after_judge table stage slot = child slot.child
 left_without : (id : List ℕ) (slots : List SlotState) → are_left slots ≡ true → are_left (without id slots) ≡ true
 left_without id [] h = refl
 left_without id (slot ∷ slots) h =
-    let parts = and_parts (is_none slot.act) (are_left slots) h in
+    let parts = and_parts (is_none slot.table_act) (are_left slots) h in
     kept (not (is_slot_of id slot)) parts.0 (left_without id slots parts.1)
   where
-    kept : (b : Bool) → is_none slot.act ≡ true → are_left (without id slots) ≡ true → are_left (cond b (slot ∷ without id slots) (without id slots)) ≡ true
-    kept true own later = and_from (is_none slot.act) (are_left (without id slots)) own later
+    kept : (b : Bool) → is_none slot.table_act ≡ true → are_left (without id slots) ≡ true → are_left (cond b (slot ∷ without id slots) (without id slots)) ≡ true
+    kept true own later = and_from (is_none slot.table_act) (are_left (without id slots)) own later
     kept false own later = later
 
-order_without : (id : List ℕ) (found : SlotState) (table : List Entry) (slots : List SlotState) → slot_of id slots ≡ Some found → is_none found.act ≡ true → IsInOrder table slots → IsInOrder table (without id slots)
+order_without : (id : List ℕ) (found : SlotState) (table : List Entry) (slots : List SlotState) → slot_of id slots ≡ Some found → is_none found.table_act ≡ true → IsInOrder table slots → IsInOrder table (without id slots)
 order_without id found [] slots is none h = left_without id slots h
 order_without id found (e ∷ table) [] is none h = absurd h
 order_without id found (e ∷ table) (slot ∷ slots) is none h = here (is_slot_of id slot) is (λ later. order_without id found table slots later none h.2)
@@ -88,11 +88,11 @@ order_without id found (e ∷ table) (slot ∷ slots) is none h = here (is_slot_
     here : (b : Bool) → cond b (Some slot) (slot_of id slots) ≡ Some found → (slot_of id slots ≡ Some found → IsInOrder table (without id slots)) → IsInOrder (e ∷ table) (cond (not b) (slot ∷ without id slots) (without id slots))
     here true is later =
         let same : slot ≡ found = cc in
-        let gone : is_none (Some e.act) ≡ true = ap is_none (sym h.1) ∙ ap (λ (s : SlotState). is_none s.act) same ∙ none in
+        let gone : is_none (Some e.act) ≡ true = ap is_none (sym h.1) ∙ ap (λ (s : SlotState). is_none s.table_act) same ∙ none in
         absurd (cc)
     here false is later = (h.0, h.1, later is)
 
-pub over_none : (answer : Answer) (slot : SlotState) → is_over answer slot ≡ true → is_none slot.act ≡ true
+pub over_none : (answer : Answer) (slot : SlotState) → is_over answer slot ≡ true → is_none slot.table_act ≡ true
 over_none (Ended status) slot h = h
 over_none (Born n) slot h = absurd (cc)
 over_none NotBorn slot h = absurd (cc)
@@ -120,7 +120,7 @@ left_made : (slots : List SlotState) → are_left (map left_over slots) ≡ true
 left_made [] = refl
 left_made (slot ∷ slots) = left_made slots
 
-adopted_act : (e : Entry) (before : Option SlotState) → (adopted e before).act ≡ Some e.act
+adopted_act : (e : Entry) (before : Option SlotState) → (adopted e before).table_act ≡ Some e.act
 adopted_act e None = refl
 adopted_act e (Some slot) = refl
 
@@ -136,11 +136,11 @@ order_new [] = refl
 order_new (e ∷ table) = (refl, refl, order_new table)
 
 -- the record at the place of an entry is its own
-pub order_at : (table : List Entry) (slots : List SlotState) (place : ℕ) (e : Entry) (slot : SlotState) → IsInOrder table slots → slice_get table place ≡ Some e → slice_get slots place ≡ Some slot → (slot.id ≡ e.id) × (slot.act ≡ Some e.act)
+pub order_at : (table : List Entry) (slots : List SlotState) (place : ℕ) (e : Entry) (slot : SlotState) → IsInOrder table slots → slice_get table place ≡ Some e → slice_get slots place ≡ Some slot → (slot.id ≡ e.id) × (slot.table_act ≡ Some e.act)
 order_at [] slots place e slot h at_e at_slot = absurd (cc)
 order_at (first ∷ table) [] place e slot h at_e at_slot = absurd h
 order_at (first ∷ table) (head ∷ slots) zero e slot h at_e at_slot =
     let same_e : first ≡ e = cc in
     let same_slot : head ≡ slot = cc in
-    (ap (λ (s : SlotState). s.id) (sym same_slot) ∙ h.0 ∙ ap (λ (x : Entry). x.id) same_e, ap (λ (s : SlotState). s.act) (sym same_slot) ∙ h.1 ∙ ap (λ (x : Entry). Some x.act) same_e)
+    (ap (λ (s : SlotState). s.id) (sym same_slot) ∙ h.0 ∙ ap (λ (x : Entry). x.id) same_e, ap (λ (s : SlotState). s.table_act) (sym same_slot) ∙ h.1 ∙ ap (λ (x : Entry). Some x.act) same_e)
 order_at (first ∷ table) (head ∷ slots) (suc place) e slot h at_e at_slot = order_at table slots place e slot h.2 at_e at_slot

@@ -8,8 +8,8 @@ use Rattle.std.proofs.lemmas.List.{get_or-drop}
 use Rattle.std.proofs.lemmas.Option.{slice_get-get_or}
 use Rattle.init_words.specs.Ids.{same_id}
 use Rattle.init_words.proofs.Same.{same_id-self}
-use Rattle.child_table.specs.declared.keyed.Found.TheVariants as found
-use Rattle.child_table.specs.declared.keyed.Keyed.{Keyed}
+use Rattle.child_table.specs.declared.index.Found.TheVariants as found
+use Rattle.child_table.specs.declared.index.Keyed.{Keyed}
 use Rattle.child_table.specs.Indexing.{are_sorted, is_at, IsFound}
 
 abbrev pub is_below : ℕ → Keyed → Bool

@@ -12,15 +12,15 @@ abbrev pub adopted : Entry → Option SlotState → SlotState
 adopted e None = new_slot e
 adopted e (Some slot) = record slot {
   id = e.id;
-  act = Some e.act;
-  asked = slot.asked && is_act e.act slot.act;
+  table_act = Some e.act;
+  asked = slot.asked && is_act e.act slot.table_act;
   called = false;
   limiter = unused;
 }
 
 -- the record of an id that isn't in the table: it keeps its child alone
 abbrev pub left_over : SlotState → SlotState
-left_over slot = record slot { act = None; asked = false; called = false; limiter = unused }
+left_over slot = record slot { table_act = None; asked = false; called = false; limiter = unused }
 
 -- it stays for its child's sake
 abbrev pub is_left_over : List Entry → SlotState → Bool

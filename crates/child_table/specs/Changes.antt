@@ -21,7 +21,7 @@ allows (HoldUntil end) = false
 -- allows where it holds; any other is about a child
 abbrev pub can_be_asked : Ask → ℕ → SlotState → Bool
 can_be_asked Start now slot =
-    is_none slot.order && is_some slot.act && is_none slot.child
+    is_none slot.order && is_some slot.table_act && is_none slot.child
     && (not (is_limited_slot slot) || allows (may_of slot.limiter now))
 can_be_asked ask now slot = is_none slot.order && is_some slot.child
 
@@ -62,7 +62,7 @@ after_hit _ now stop = stop
 abbrev pub after_answer : Answer → ℕ → SlotState → SlotState
 after_answer (Born number) now slot = record slot {
   order = None;
-  child = Some (record { number = number; act = slot.act });
+  child = Some (record { number = number; act = slot.table_act });
   stop = None;
   look = false;
 }
@@ -79,5 +79,5 @@ after_answer _ now slot = record slot { order = None }
 
 -- the answer ends the record: its child ended, and the table doesn't have the id
 abbrev pub is_over : Answer → SlotState → Bool
-is_over (Ended status) slot = is_none slot.act
+is_over (Ended status) slot = is_none slot.table_act
 is_over _ slot = false

@@ -3,20 +3,20 @@ use Rattle.std.specs.Prelude.{◌≡◌, ◌≤◌, ℕ, Bool, true, false, ◌=
 use Rattle.std.specs.Option.{option_map}
 use Rattle.std.specs.List.{list_any, count_by, filter_map}
 use Rattle.std.specs.Vec.{vec_capacity}
-use Rattle.child_table.specs.declared.children.Living.{Living}
+use Rattle.child_table.specs.declared.children.KnownChild.{KnownChild}
 use Rattle.child_table.specs.declared.children.Stop.{Stop}
 use Rattle.child_table.specs.declared.children.Stop.TheVariants.{Termed}
 use Rattle.init_words.specs.declared.orders.Answer.{Answer}
 use Rattle.init_words.specs.declared.orders.Answer.TheVariants.{Born, Ended, Hit}
 use Rattle.init_words.specs.Ids.{same_id}
-use Rattle.child_table.specs.declared.keyed.Keyed.{Keyed}
-use Rattle.child_table.specs.declared.keyed.Found.{Found}
-use Rattle.child_table.specs.declared.keyed.Found.TheVariants as found
+use Rattle.child_table.specs.declared.index.Keyed.{Keyed}
+use Rattle.child_table.specs.declared.index.Found.{Found}
+use Rattle.child_table.specs.declared.index.Found.TheVariants as found
 use Rattle.child_table.specs.State.{SlotState}
 
 -- the number of the child, and the time of the SIGTERM to it, if that was its last signal
 abbrev pub child_of : SlotState → Option Keyed
-child_of slot = option_map (λ (child : Living). record { key = child.number; id = slot.id }) slot.child
+child_of slot = option_map (λ (child : KnownChild). record { key = child.number; id = slot.id }) slot.child
 
 abbrev pub termed_at : List ℕ → Option Stop → Option Keyed
 termed_at id (Some (Termed time)) = Some (record { key = time; id = id })

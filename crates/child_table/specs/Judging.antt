@@ -6,7 +6,7 @@ use Rattle.init_words.specs.declared.actions.Act.{Act}
 use Rattle.init_words.specs.declared.stages.Stage.{Stage}
 use Rattle.init_words.specs.Entries.{lives_of}
 use Rattle.inittab_text.specs.Tables.{entry_of}
-use Rattle.child_table.specs.declared.children.Living.{Living}
+use Rattle.child_table.specs.declared.children.KnownChild.{KnownChild}
 use Rattle.child_table.specs.declared.children.Stop.TheVariants.{Due}
 use Rattle.child_table.specs.State.{SlotState, is_act}
 
@@ -22,7 +22,7 @@ judged true slot = record slot { stop = option_or slot.stop (Some Due) }
 judged false slot = record slot { stop = None; missed = false }
 
 -- a record without child stays
-abbrev pub judged_child : Stage → List Entry → Option Living → SlotState → SlotState
+abbrev pub judged_child : Stage → List Entry → Option KnownChild → SlotState → SlotState
 judged_child stage table None slot = slot
 judged_child stage table (Some child) slot =
     judged (is_excluded stage child.act (entry_of slot.id table)) slot

@@ -9,7 +9,7 @@ use Rattle.init_words.specs.declared.refusals.Refusal.{Refusal}
 use Rattle.init_words.specs.declared.refusals.Refusal.TheVariants.{NotAsked, WrongAnswer}
 use Rattle.init_words.specs.Ids.{same_id}
 use Rattle.init_words.specs.Orders.{same_ask, answers}
-use Rattle.child_table.specs.declared.children.Living.{Living}
+use Rattle.child_table.specs.declared.children.KnownChild.{KnownChild}
 use Rattle.child_table.specs.State.{SlotState}
 use Rattle.child_table.specs.Changes.{can_be_asked, after_answer, is_over}
 
@@ -49,7 +49,7 @@ abbrev pub order_in : List ℕ → List SlotState → Option Ask
 order_in id slots = order_of (slot_of id slots)
 
 -- the first id whose child has the number
-abbrev pub is_numbered : ℕ → Option Living → Bool
+abbrev pub is_numbered : ℕ → Option KnownChild → Bool
 is_numbered number None = false
 is_numbered number (Some child) = child.number == number
 

@@ -5,6 +5,6 @@ use Rattle.init_words.specs.declared.entries.Entry.{Entry}
 use Rattle.child_table.specs.State.{SlotState}
 
 abbrev pub IsInOrder : List Entry → List SlotState → Type 0
-IsInOrder [] slots = list_all (λ (slot : SlotState). is_none slot.act) slots ≡ true
+IsInOrder [] slots = list_all (λ (slot : SlotState). is_none slot.table_act) slots ≡ true
 IsInOrder (e ∷ table) [] = ⊥
-IsInOrder (e ∷ table) (slot ∷ slots) = (slot.id ≡ e.id) × (slot.act ≡ Some e.act) × IsInOrder table slots
+IsInOrder (e ∷ table) (slot ∷ slots) = (slot.id ≡ e.id) × (slot.table_act ≡ Some e.act) × IsInOrder table slots

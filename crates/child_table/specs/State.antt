@@ -6,7 +6,7 @@ use Rattle.init_words.specs.declared.actions.Act.{Act}
 use Rattle.init_words.specs.declared.orders.Ask.{Ask}
 use Rattle.init_words.specs.Actions.{is_limited, same_act}
 use Rattle.respawn_limit.specs.State.{LimiterState, unused}
-use Rattle.child_table.specs.declared.children.Living.{Living}
+use Rattle.child_table.specs.declared.children.KnownChild.{KnownChild}
 use Rattle.child_table.specs.declared.children.Stop.{Stop}
 
 -- the id, and the table's action for it, none where the table doesn't have it; its child, the order that is not
@@ -15,8 +15,8 @@ use Rattle.child_table.specs.declared.children.Stop.{Stop}
 -- and the last hold
 pub record SlotState : Type 0 where
   pub id : List ℕ
-  pub act : Option Act
-  pub child : Option Living
+  pub table_act : Option Act
+  pub child : Option KnownChild
   pub order : Option Ask
   pub stop : Option Stop
   pub asked : Bool
@@ -29,7 +29,7 @@ pub record SlotState : Type 0 where
 abbrev pub new_slot : Entry → SlotState
 new_slot e = record {
   id = e.id;
-  act = Some e.act;
+  table_act = Some e.act;
   child = None;
   order = None;
   stop = None;
@@ -42,9 +42,9 @@ new_slot e = record {
 
 -- the number of the child, and its action at its birth
 abbrev pub child_number : SlotState → Option ℕ
-child_number slot = option_map (λ (child : Living). child.number) slot.child
+child_number slot = option_map (λ (child : KnownChild). child.number) slot.child
 
-abbrev pub act_born_with : Option Living → Option Act
+abbrev pub act_born_with : Option KnownChild → Option Act
 act_born_with None = None
 act_born_with (Some child) = child.act
 
@@ -62,4 +62,4 @@ is_limited_act None = false
 is_limited_act (Some act) = is_limited act
 
 abbrev pub is_limited_slot : SlotState → Bool
-is_limited_slot slot = is_limited_act slot.act
+is_limited_slot slot = is_limited_act slot.table_act

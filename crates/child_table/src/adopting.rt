@@ -6,8 +6,8 @@ ghost use Rattle.child_table.specs.Times.{is_timely};
 ghost use Rattle.child_table.specs.Lists.{slot_of, are_distinct};
 ghost use Rattle.child_table.specs.Adopting.{adopted, left_one, entry_slots, left_slots, after_adopt};
 
-use crate::by_id::Slots;
-use crate::records::Slot;
+use crate::record::Slot;
+use crate::records::Slots;
 use init_words::Memory;
 use inittab_text::Table;
 use std::alloc::Allocator;
@@ -27,7 +27,7 @@ impl<A: Allocator + Copy> Slots<A> {
     }
 
     /// Another table was read: its entries have the records now, and those of other ids stay where they have a child.
-    /// On want of memory nothing is changed. A table has no id twice.
+    /// Where memory runs out nothing is changed. A table has no id twice.
     pub fn adopt(&mut self, table: &Table<A>) -> Result<(), Memory>
         ensures adopted { OnOk result (self.new ≡ after_adopt table.now self.old) }
         ensures unchanged { OnErr result (self.new ≡ self.old) }

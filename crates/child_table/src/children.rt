@@ -2,7 +2,7 @@ use init_words::{Act, ChildNo};
 
 /// A child that init knows of.
 #[derive(Clone, Copy, Debug, PartialEq, Eq)]
-pub struct Living {
+pub struct KnownChild {
     pub number: ChildNo,
     /// The action that its id had in the table when it was born.
     pub act: Option<Act>,

@@ -4,7 +4,7 @@ ghost use Rattle.child_table.specs.State.{SlotState};
 ghost use Rattle.child_table.specs.Counting.{counts_of, plus, minus, IsWithin, AreSmall};
 ghost use Rattle.child_table.specs.Stopping.{is_due};
 
-use crate::records::Slot;
+use crate::record::Slot;
 
 /// How many records there are of some kinds.
 #[derive(Clone, Copy)]

@@ -6,13 +6,13 @@
 #![tactic(auto)]
 
 mod adopting;
-mod by_id;
 mod children;
 mod counts;
-mod keyed;
+mod index;
 mod rebuilding;
+mod record;
 mod records;
 
-pub use by_id::Slots;
-pub use children::{Living, Stop};
-pub use records::{Slot, is_excluded};
+pub use children::{KnownChild, Stop};
+pub use record::{Slot, is_excluded};
+pub use records::Slots;

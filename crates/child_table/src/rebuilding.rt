@@ -3,8 +3,8 @@ ghost use Rattle.respawn_limit.specs.declared.TheConstants.{CLOCK_LIMIT};
 ghost use Rattle.child_table.specs.Lists.{are_distinct};
 ghost use Rattle.child_table.specs.Times.{are_timely};
 
-use crate::by_id::Slots;
-use crate::records::Slot;
+use crate::record::Slot;
+use crate::records::Slots;
 use init_words::Memory;
 use std::alloc::Allocator;
 

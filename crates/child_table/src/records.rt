@@ -1,448 +1,390 @@
-ghost use Rattle.std.specs.Prelude.{◌≡◌, ◌≤◌, length, is_some, true, option_copied};
-ghost use Rattle.std.specs.List.Sorted.{IsNonDecreasing};
-ghost use Rattle.respawn_limit.specs.declared.TheConstants.{STARTS, CLOCK_LIMIT};
-ghost use Rattle.respawn_limit.specs.Window.{may_of, is_held};
-ghost use Rattle.child_table.specs.Judging.{is_excluded};
-ghost use Rattle.child_table.specs.Changes.{after_hit};
+ghost use Rattle.std.specs.Prelude.{◌≡◌, ◌≤◌, ◌++◌, [], ◌∷◌, not, is_some, map, length, slice_get, option_copied, IfOk, IfSome, OnOk, OnErr, None, true};
+ghost use Rattle.init_words.specs.declared.orders.Ask.{Ask};
+ghost use Rattle.respawn_limit.specs.declared.TheConstants.{CLOCK_LIMIT};
 
-use crate::children::{Living, Stop};
-use init_words::{Act, Answer, Ask, ChildNo, Entry, Id, Stage, lives};
+use crate::counts::{Counts, count_due, count_excluded};
+use crate::index::{
+    Found, Keyed, child_of, first_key, forget, index_termed, make_room, moves_child, moves_stop,
+    note, put, termed_of, with_key,
+};
+use crate::record::Slot;
+use indexmap::IndexMap;
+use init_words::{Answer, Ask, ChildNo, Id, Memory, Refusal, Stage};
 use inittab_text::Table;
-use respawn_limit::{Limiter, May};
-use std::alloc::Allocator;
+use std::alloc::{Allocator, Global};
+use std::hash::{BuildHasherDefault, FoldHasher};
 use std::marker::Model;
 
-/// What init keeps of one id.
+/// Init's records, one an id, in record order: those of the table's entries, then those of ids that left the table and
+/// still have a child. A contract sees them as a list.
+///
+/// Each time that a call is given is a reading of one clock, in seconds, at most `CLOCK_LIMIT`.
 #[derive(Drop)]
-pub struct Slot {
-    id: Id,
-    act: Option<Act>,
-    child: Option<Living>,
-    order: Option<Ask>,
-    stop: Option<Stop>,
-    asked: bool,
-    called: bool,
-    look: bool,
-    missed: bool,
-    limiter: Limiter,
+pub struct Slots<A: Allocator = Global> {
+    records: IndexMap<Id, Slot, BuildHasherDefault<FoldHasher>, A>,
+    counts: Counts,
+    // The children by their numbers, sorted, and the times of SIGTERMs that were the last signal, with room for one of
+    // each a record.
+    children: Vec<Keyed, A>,
+    termed: Vec<Keyed, A>,
 }
 
-impl Model for Slot {
+impl<A: Allocator> Model for Slots<A> {
+    ghost use Rattle.std.specs.Prelude.{◌≡◌, List, true};
+    ghost use Rattle.indexmap.specs.IndexMap.{keys, values};
+    ghost use Rattle.respawn_limit.specs.declared.TheConstants.{CLOCK_LIMIT};
     ghost use Rattle.child_table.specs.State.{SlotState};
+    ghost use Rattle.child_table.specs.Lists.{slot_ids};
+    ghost use Rattle.child_table.specs.Times.{are_timely};
+    ghost use Rattle.child_table.specs.Counting.{counts_of};
+    ghost use Rattle.child_table.specs.Indexing.{child_of, termed_of, IsIndex};
 
-    ghost Value = { SlotState };
+    ghost Value = { List SlotState };
 
-    ghost view = { λ slot. record {
-      id = slot.id;
-      act = slot.act;
-      child = slot.child;
-      order = slot.order;
-      stop = slot.stop;
-      asked = slot.asked;
-      called = slot.called;
-      look = slot.look;
-      missed = slot.missed;
-      limiter = slot.limiter;
-    } };
+    ghost view = { λ slots. values slots.records };
+
+    ghost invariant = { λ slots. (keys slots.records ≡ slot_ids (values slots.records))
+        × (are_timely CLOCK_LIMIT (values slots.records) ≡ true)
+        × (slots.counts ≡ counts_of (values slots.records))
+        × IsIndex child_of (values slots.records) slots.children
+        × IsIndex termed_of (values slots.records) slots.termed };
 }
 
-impl Slot {
-    ghost use Rattle.child_table.specs.State.{child_number, birth_act, is_limited_slot};
-
-    /// The record that keeps these: what its readers give makes it anew. It takes no memory.
-    pub fn of(
-        id: Id,
-        table_act: Option<Act>,
-        child: Option<Living>,
-        order: Option<Ask>,
-        stop: Option<Stop>,
-        asked: bool,
-        called: bool,
-        look: bool,
-        missed: bool,
-        starts: &[u64],
-        held_until: Option<u64>,
-    ) -> Slot
-        requires few { length starts.now ≤ STARTS }
-        requires ordered { IsNonDecreasing starts.now }
-        ensures { result ≡ record {
-          id = id;
-          act = table_act;
-          child = child;
-          order = order;
-          stop = stop;
-          asked = asked;
-          called = called;
-          look = look;
-          missed = missed;
-          limiter = record { starts = starts.now; held = held_until };
-        } }
+impl<A: Allocator + Copy> Slots<A> {
+    /// No records. It takes no memory.
+    pub(crate) fn empty(alloc: A) -> Slots<A>
+        ensures { result ≡ [] }
     {
-        Slot {
-            id,
-            act: table_act,
-            asked,
-            called,
-            look,
-            missed,
-            child,
-            order,
-            stop,
-            limiter: Limiter::of(starts, held_until),
+        Slots {
+            records: IndexMap::new(alloc),
+            counts: Counts::none(),
+            children: Vec::new(alloc),
+            termed: Vec::new(alloc),
         }
     }
 
-    /// The id of inittab(5) that the record is of.
-    pub fn id(&self) -> Id
-        ensures { result ≡ self.now.id }
+    /// No records, with room for some.
+    pub(crate) fn with_room(alloc: A, room: usize) -> Result<Slots<A>, Memory>
+        ensures { IfOk result (λ slots. slots ≡ []) }
     {
-        self.id
+        Ok(Slots {
+            records: IndexMap::with_capacity(alloc, room)?,
+            counts: Counts::none(),
+            children: Vec::with_capacity(alloc, room)?,
+            termed: Vec::with_capacity(alloc, room)?,
+        })
     }
 
-    /// The table's action for the id, none where the table doesn't have it.
-    pub fn table_act(&self) -> Option<Act>
-        ensures { result ≡ self.now.act }
-    {
-        self.act
-    }
-
-    /// The number of its child.
-    pub fn child(&self) -> Option<ChildNo>
-        ensures { result ≡ child_number self.now }
-    {
-        match self.child {
-            Some(child) => Some(child.number),
-            None => None,
-        }
-    }
-
-    /// It has a child.
-    pub fn has_child(&self) -> bool
-        ensures { result ≡ is_some self.now.child }
-    {
-        self.child.is_some()
-    }
-
-    /// The action that the id had in the table when its child was born.
-    pub fn act(&self) -> Option<Act>
-        ensures { result ≡ birth_act self.now }
-    {
-        self.child?.act
-    }
-
-    /// The order that is not answered yet.
-    pub fn order(&self) -> Option<Ask>
-        ensures { result ≡ self.now.order }
-    {
-        self.order
-    }
-
-    /// How far the stopping of its child has come, none where it isn't to be stopped.
-    pub fn stop(&self) -> Option<Stop>
-        ensures { result ≡ self.now.stop }
-    {
-        self.stop
-    }
-
-    /// A start was ordered since its entry began to count.
-    pub fn asked(&self) -> bool
-        ensures { result ≡ self.now.asked }
-    {
-        self.asked
-    }
-
-    /// A letter or the power called its entry, and no start was ordered since.
-    pub fn called(&self) -> bool
-        ensures { result ≡ self.now.called }
-    {
-        self.called
-    }
-
-    /// A round began since its child was last looked at.
-    pub fn look(&self) -> bool
-        ensures { result ≡ self.now.look }
-    {
-        self.look
-    }
-
-    /// A signal could not be sent to its child in this round.
-    pub fn missed(&self) -> bool
-        ensures { result ≡ self.now.missed }
-    {
-        self.missed
-    }
-
-    /// The times of the last starts that the respawn limit counts, in seconds, oldest first: ten at most.
-    pub fn starts(&self) -> &[u64]
-        ensures value { result.now ≡ self.now.limiter.starts }
-        ensures few { length result.now ≤ STARTS }
-        ensures ordered { IsNonDecreasing result.now }
-    {
-        self.limiter.starts()
-    }
-
-    /// The end of the last hold, in seconds, past or not.
-    pub fn held_until(&self) -> Option<u64>
-        ensures { result ≡ self.now.limiter.held }
-    {
-        self.limiter.held_until()
-    }
-
-    /// A hold stands now: the time, in seconds, is less than its end.
-    pub fn held(&self, now: u64) -> bool
-        ensures { result ≡ is_held self.now.limiter.held now }
-    {
-        self.limiter.held(now)
-    }
-
-    /// Whether the respawn limit allows a start now, a time in seconds, and else until when it is to wait (init(8)).
-    pub fn may(&self, now: u64) -> May
-        requires { now ≤ CLOCK_LIMIT }
-        ensures { result ≡ may_of self.now.limiter now }
-    {
-        self.limiter.may(now)
-    }
-
-    /// The respawn limit holds for its entry (init(8)).
-    pub fn is_limited(&self) -> bool
-        ensures { result ≡ is_limited_slot self.now }
-    {
-        self.act == Some(Act::Respawn)
+    /// The allocator that the records stand on.
+    pub(crate) fn allocator(&self) -> A {
+        *self.records.allocator()
     }
 }
 
-// What the calls of `Slots` make of one record.
-impl Slot {
-    ghost use Rattle.child_table.specs.State.{SlotState, new_slot};
-    ghost use Rattle.child_table.specs.Times.{is_timely};
-    ghost use Rattle.child_table.specs.Changes.{can_be_asked, after_order, after_hold, after_call, after_enter, after_nudge, after_answer, is_over};
+impl<A: Allocator> Slots<A> {
+    ghost use Rattle.std.specs.List.{list_any};
+    ghost use Rattle.child_table.specs.State.{SlotState};
+    ghost use Rattle.child_table.specs.Lists.{is_busy, are_distinct, slot_of, has_slot, can_ask, order_in, id_of_child, is_quiet, with_changed, without, refusal_of, is_over_in, after_told};
+    ghost use Rattle.child_table.specs.Times.{is_timely, are_timely};
+    ghost use Rattle.child_table.specs.Changes.{after_order, after_hold, after_call, after_enter, after_nudge, after_answer};
     ghost use Rattle.child_table.specs.Judging.{after_judge};
-    ghost use Rattle.child_table.specs.Lists.{is_busy};
-    ghost use Rattle.child_table.specs.Stopping.{is_due};
-    ghost use Rattle.child_table.specs.Adopting.{adopted, left_over, is_left_over};
+    ghost use Rattle.child_table.specs.Stopping.{is_due, IsFirstTermed};
 
-    /// The record of an entry of which nothing was asked yet.
-    pub(crate) fn new(entry: &Entry) -> Slot
-        ensures { result ≡ new_slot entry.now }
+    /// How many records there are. No id has two, and no time that they keep is above the clock's limit.
+    pub fn len(&self) -> usize
+        ensures value { result ≡ length self.now }
+        ensures distinct { are_distinct self.now ≡ true }
+        ensures timely { are_timely CLOCK_LIMIT self.now ≡ true }
     {
-        Slot {
-            id: entry.id,
-            act: Some(entry.act),
-            child: None,
-            order: None,
-            stop: None,
-            asked: false,
-            called: false,
-            look: false,
-            missed: false,
-            limiter: Limiter::new(),
+        self.records.len()
+    }
+
+    /// The record at a place, counted from 0 in record order.
+    pub fn at(&self, place: usize) -> Option<&Slot>
+        ensures value { option_copied result ≡ slice_get self.now place }
+        ensures timely { IfSome result (λ slot. is_timely CLOCK_LIMIT slot.now ≡ true) }
+    {
+        let (_, slot) = self.records.get_index(place)?;
+        Some(slot)
+    }
+
+    /// The records in their order. No id has two.
+    pub fn as_slice(&self) -> &[Slot]
+        ensures value { result.now ≡ self.now }
+        ensures distinct { are_distinct self.now ≡ true }
+    {
+        // `len` says that no id has two, as `values` doesn't.
+        let _ = self.len();
+        self.records.values().as_slice()
+    }
+
+    /// The record of an id.
+    pub fn by_id(&self, id: &Id) -> Option<&Slot>
+        ensures value { option_copied result ≡ slot_of id.now self.now }
+        ensures timely { IfSome result (λ slot. is_timely CLOCK_LIMIT slot.now ≡ true) }
+    {
+        self.records.get(id)
+    }
+
+    /// The id of the first record whose child has the number.
+    pub fn by_child(&self, number: ChildNo) -> Option<Id>
+        ensures { result ≡ id_of_child number self.now }
+    {
+        match with_key(self.children.as_slice(), u64::from(number.0)) {
+            Found::None => None,
+            Found::One(id) => Some(id),
+            // The system gave the number anew, and the end of the child that had it before isn't told yet.
+            Found::Several => self.first_with(number),
         }
     }
 
-    /// The order may be given about it now.
-    pub(crate) fn can_be_asked(&self, ask: Ask, now: u64) -> bool
-        requires { now ≤ CLOCK_LIMIT }
-        ensures { result ≡ can_be_asked ask now self.now }
+    fn first_with(&self, number: ChildNo) -> Option<Id>
+        ensures { result ≡ id_of_child number self.now }
     {
-        match ask {
-            Ask::Start => self.can_be_started(now),
-            Ask::Look | Ask::Term | Ask::Kill => self.order.is_none() && self.child.is_some(),
+        let slot = self
+            .records
+            .values()
+            .find(|slot| slot.child() == Some(number))?;
+        Some(slot.id())
+    }
+
+    /// No start and no signal is unanswered; looks may be.
+    pub fn quiet(&self) -> bool
+        ensures { result ≡ is_quiet self.now }
+    {
+        self.counts.busy == 0
+    }
+
+    /// No order at all is open.
+    pub fn is_idle(&self) -> bool
+        ensures { result ≡ not (list_any (λ (slot : SlotState). is_some slot.order) self.now) }
+    {
+        self.counts.orders == 0
+    }
+
+    /// A child is to be stopped.
+    pub fn has_excluded(&self) -> bool
+        ensures { result ≡ list_any (λ (slot : SlotState). is_some slot.stop) self.now }
+    {
+        self.counts.excluded != 0
+    }
+
+    /// A child is to be stopped, and no signal was sent to it yet.
+    pub fn has_due(&self) -> bool
+        ensures { result ≡ list_any (λ (slot : SlotState). is_due slot.stop) self.now }
+    {
+        self.counts.due != 0
+    }
+
+    /// The earliest time, in seconds, at which a child that is to be stopped got its last signal, a SIGTERM.
+    pub fn first_termed(&self) -> Option<u64>
+        ensures { IsFirstTermed self.now result }
+    {
+        first_key(self.termed.as_slice())
+    }
+
+    /// The order may be given about the id now: none is open, and a start is that of an entry without child, which the
+    /// respawn limit allows now; any other order is about a child.
+    pub fn can_ask(&self, id: &Id, ask: Ask, now: u64) -> bool
+        requires { now ≤ CLOCK_LIMIT }
+        ensures { result ≡ can_ask id.now ask now self.now }
+    {
+        match self.by_id(id) {
+            Some(slot) => slot.can_be_asked(ask, now),
+            None => false,
         }
     }
 
-    fn can_be_started(&self, now: u64) -> bool
-        requires { now ≤ CLOCK_LIMIT }
-        ensures { result ≡ can_be_asked Ask.Start now self.now }
-    {
-        self.order.is_none()
-            && self.act.is_some()
-            && self.child.is_none()
-            && (!self.is_limited() || self.may(now) == May::Yes)
-    }
-
-    pub(crate) fn note_order(&mut self, ask: Ask, now: u64)
-        requires allowed { can_be_asked ask now self.old ≡ true }
+    /// An order was given about an id, as `can_ask` allows.
+    pub fn ask(&mut self, id: Id, ask: Ask, now: u64)
+        requires allowed { can_ask id ask now self.old ≡ true }
         requires limit { now ≤ CLOCK_LIMIT }
-        requires timely { is_timely now self.old ≡ true }
-        ensures { self.new ≡ after_order ask now self.old }
+        requires timely { are_timely now self.old ≡ true }
+        ensures { self.new ≡ with_changed id (after_order ask now) self.old }
     {
-        self.order = Some(ask);
-        match ask {
-            Ask::Start => {
-                self.asked = true;
-                self.called = false;
-                if self.act == Some(Act::Respawn) {
-                    self.limiter.note(now);
-                }
-            }
-            Ask::Look => self.look = false,
-            Ask::Term | Ask::Kill => {}
-        }
+        // `len` says that the records are few enough to count, as `get_mut` doesn't.
+        let _ = self.records.len();
+        let Some(slot) = self.records.get_mut(&id) else {
+            unreachable!()
+        };
+        self.counts.subtract(Counts::of(slot));
+        slot.note_order(ask, now);
+        self.counts.add(Counts::of(slot));
     }
 
-    pub(crate) fn note_hold(&mut self, now: u64)
+    /// An answer about an id came, at this time: refused where no order is open for the id (`NotAsked`), or where its
+    /// order is of another kind (`WrongAnswer`). A refusal changes nothing. A record whose child ended is gone where
+    /// the table doesn't have the id.
+    pub fn told(&mut self, id: Id, answer: Answer, now: u64) -> Result<(), Refusal>
         requires { now ≤ CLOCK_LIMIT }
-        ensures { self.new ≡ after_hold now self.old }
+        ensures told { OnOk result (self.new ≡ after_told id answer now self.old) }
+        ensures refused { result ≡ refusal_of (order_in id self.old) answer }
+        ensures unchanged { OnErr result (self.new ≡ self.old) }
     {
-        self.limiter.hold(now);
+        self.refusal(&id, &answer)?;
+        self.note_told(id, answer, now);
+        Ok(())
     }
 
-    pub(crate) fn note_call(&mut self)
-        ensures { self.new ≡ after_call self.old }
+    fn note_told(&mut self, id: Id, answer: Answer, now: u64)
+        requires known { has_slot id self.old ≡ true }
+        requires limit { now ≤ CLOCK_LIMIT }
+        ensures { self.new ≡ after_told id answer now self.old }
     {
-        self.called = true;
-    }
-
-    pub(crate) fn note_enter(&mut self)
-        ensures { self.new ≡ after_enter self.old }
-    {
-        self.asked = false;
-        self.called = false;
-        self.limiter.clear();
-    }
-
-    pub(crate) fn note_nudge(&mut self)
-        ensures { self.new ≡ after_nudge self.old }
-    {
-        self.look = self.child.is_some() || self.look;
-        self.missed = false;
-    }
-
-    pub(crate) fn note_answer(&mut self, answer: Answer, now: u64)
-        ensures { self.new ≡ after_answer answer now self.old }
-    {
-        let order = self.order;
-        self.order = None;
-        match answer {
-            Answer::Born(number) => {
-                self.child = Some(Living {
-                    number,
-                    act: self.act,
-                });
-                self.stop = None;
-                self.look = false;
-            }
-            Answer::Ended(_) => {
-                self.child = None;
-                self.stop = None;
-                self.look = false;
-                self.missed = false;
-            }
-            Answer::Hit => {
-                self.stop = after_hit(order, now, self.stop);
-                self.missed = false;
-            }
-            Answer::Miss => self.missed = true,
-            Answer::NotBorn | Answer::Alive | Answer::NoLook => {}
-        }
-    }
-
-    /// Its open order is a start or a signal.
-    pub(crate) fn is_busy(&self) -> bool
-        ensures { result ≡ is_busy self.now.order }
-    {
-        match self.order {
-            None | Some(Ask::Look) => false,
-            Some(Ask::Start | Ask::Term | Ask::Kill) => true,
-        }
-    }
-
-    /// Its child is to be stopped, and no signal was sent to it yet.
-    pub(crate) fn is_due(&self) -> bool
-        ensures { result ≡ is_due self.now.stop }
-    {
-        matches!(self.stop, Some(Stop::Due))
-    }
-
-    /// The answer ends the record: its child ended, and the table doesn't have its id.
-    pub(crate) fn is_over(&self, answer: Answer) -> bool
-        ensures { result ≡ is_over answer self.now }
-    {
-        match answer {
-            Answer::Ended(_) => self.act.is_none(),
-            _ => false,
-        }
-    }
-
-    pub(crate) fn judge<A: Allocator>(&mut self, table: &Table<A>, stage: Stage)
-        ensures { self.new ≡ after_judge table.now stage self.old }
-    {
-        let Some(child) = self.child else {
-            return;
-        };
-        if is_excluded(child.act, table.get(&self.id), stage) {
-            self.stop = self.stop.or(Some(Stop::Due));
+        if self.is_over(&id, &answer) {
+            self.remove(id);
         } else {
-            self.stop = None;
-            self.missed = false;
+            self.note_answer(id, answer, now);
         }
     }
 
-    /// The record of an entry of another table, after the record that its id had before.
-    pub(crate) fn adopted(entry: &Entry, before: Option<&Slot>) -> Slot
-        ensures { result ≡ adopted entry.now (option_copied before.entry) }
+    /// Why an answer about the id is refused, if it is.
+    fn refusal(&self, id: &Id, answer: &Answer) -> Result<(), Refusal>
+        ensures { result ≡ refusal_of (order_in id.now self.now) answer.now }
     {
-        let Some(slot) = before else {
-            return Slot::new(entry);
+        let Some(slot) = self.by_id(id) else {
+            return Err(Refusal::NotAsked);
         };
-        Slot {
-            id: entry.id,
-            act: Some(entry.act),
-            child: slot.child,
-            order: slot.order,
-            stop: slot.stop,
-            asked: slot.asked && slot.act == Some(entry.act),
-            called: false,
-            look: slot.look,
-            missed: slot.missed,
-            limiter: Limiter::new(),
+        let Some(ask) = slot.order() else {
+            return Err(Refusal::NotAsked);
+        };
+        if answer.answers(ask) {
+            Ok(())
+        } else {
+            Err(Refusal::WrongAnswer)
         }
     }
 
-    /// It stays without an entry in another table, for its child's sake.
-    pub(crate) fn is_left_over<A: Allocator>(&self, table: &Table<A>) -> bool
-        ensures { result ≡ is_left_over table.now self.now }
+    /// The answer ends the record of the id.
+    fn is_over(&self, id: &Id, answer: &Answer) -> bool
+        ensures { result ≡ is_over_in id.now answer.now self.now }
     {
-        self.child.is_some() && table.get(&self.id).is_none()
-    }
-
-    /// The record as it stays without an entry.
-    pub(crate) fn left_over(&self) -> Slot
-        ensures { result ≡ left_over self.now }
-    {
-        Slot {
-            id: self.id,
-            act: None,
-            child: self.child,
-            order: self.order,
-            stop: self.stop,
-            asked: false,
-            called: false,
-            look: self.look,
-            missed: self.missed,
-            limiter: Limiter::new(),
+        match self.by_id(id) {
+            Some(slot) => slot.is_over(*answer),
+            None => false,
         }
     }
-}
 
-/// The stop after a signal was sent, by the order that was open.
-fn after_hit(order: Option<Ask>, now: u64, stop: Option<Stop>) -> Option<Stop>
-    ensures { result ≡ after_hit order now stop }
-{
-    match order {
-        Some(Ask::Term) => Some(Stop::Termed(now)),
-        Some(Ask::Kill) => Some(Stop::Killed(now)),
-        _ => stop,
+    fn note_answer(&mut self, id: Id, answer: Answer, now: u64)
+        requires known { has_slot id self.old ≡ true }
+        requires limit { now ≤ CLOCK_LIMIT }
+        ensures { self.new ≡ with_changed id (after_answer answer now) self.old }
+    {
+        // `len` says that the records are few enough to count, as `get_mut` doesn't.
+        let _ = self.records.len();
+        let Some(slot) = self.records.get_mut(&id) else {
+            unreachable!()
+        };
+        self.counts.subtract(Counts::of(slot));
+        slot.note_answer(answer, now);
+        self.counts.add(Counts::of(slot));
+        let child = child_of(slot);
+        let termed = termed_of(slot);
+        note(&mut self.children, &id, moves_child(&answer), child);
+        note(&mut self.termed, &id, moves_stop(&answer), termed);
     }
-}
 
-/// A child that was born with this action is to be stopped: its id has no entry, or one with another action, or one
-/// whose child may not live in the stage.
-pub fn is_excluded(born: Option<Act>, found: Option<&Entry>, stage: Stage) -> bool
-    ensures { result ≡ is_excluded stage born (option_copied found.entry) }
-{
-    match found {
-        None => true,
-        Some(entry) => !(born == Some(entry.act) && lives(entry, stage)),
+    fn remove(&mut self, id: Id)
+        ensures { self.new ≡ without id self.old }
+    {
+        if let Some(slot) = self.records.shift_remove(&id) {
+            self.counts.subtract(Counts::of(&slot));
+            forget(&mut self.children, id);
+            forget(&mut self.termed, id);
+        }
+    }
+
+    /// A respawning entry, of which there is a record, is held from now on (init(8)).
+    pub fn hold(&mut self, id: Id, now: u64)
+        requires known { has_slot id self.old ≡ true }
+        requires limit { now ≤ CLOCK_LIMIT }
+        ensures { self.new ≡ with_changed id (after_hold now) self.old }
+    {
+        let Some(slot) = self.records.get_mut(&id) else {
+            unreachable!()
+        };
+        slot.note_hold(now);
+    }
+
+    /// A letter or the power called an entry, of which there is a record.
+    pub fn called(&mut self, id: Id)
+        requires known { has_slot id self.old ≡ true }
+        ensures { self.new ≡ with_changed id after_call self.old }
+    {
+        let Some(slot) = self.records.get_mut(&id) else {
+            unreachable!()
+        };
+        slot.note_call();
+    }
+
+    /// A stage was entered: nothing was asked, called, counted or held in it yet.
+    pub fn entered(&mut self)
+        ensures { self.new ≡ map after_enter self.old }
+    {
+        // All are kept: `retain` says what is written to each, as `values_mut` doesn't.
+        self.records.retain(
+            |_id: &Id, slot: &mut Slot| -> bool
+                ensures { (result ≡ true) × (slot.new ≡ after_enter slot.old) }
+            {
+                slot.note_enter();
+                true
+            },
+        );
+    }
+
+    /// A round began: each child is to be looked at.
+    pub fn nudge(&mut self)
+        ensures { self.new ≡ map after_nudge self.old }
+    {
+        self.records.retain(
+            |_id: &Id, slot: &mut Slot| -> bool
+                ensures { (result ≡ true) × (slot.new ≡ after_nudge slot.old) }
+            {
+                slot.note_nudge();
+                true
+            },
+        );
+    }
+
+    /// The children are judged by the table and the stage: those that they exclude are to be stopped, and no other.
+    pub fn judge(&mut self, table: &Table<A>, stage: Stage)
+        ensures { self.new ≡ map (after_judge table.now stage) self.old }
+    {
+        self.records.retain(
+            |_id: &Id, slot: &mut Slot| -> bool
+                ensures { (result ≡ true)
+                    × (slot.new ≡ after_judge table.entry.now stage slot.old) }
+            {
+                slot.judge(table, stage);
+                true
+            },
+        );
+        let slots = self.records.values().as_slice();
+        self.counts.excluded = count_excluded(slots);
+        self.counts.due = count_due(slots);
+        index_termed(&mut self.termed, slots);
+    }
+
+    /// Adds the record of an id that has none after the others.
+    pub(crate) fn push(&mut self, slot: Slot) -> Result<(), Memory>
+        requires new { slot_of slot.id self.old ≡ None }
+        requires timely { is_timely CLOCK_LIMIT slot ≡ true }
+        ensures pushed { OnOk result (self.new ≡ self.old ++ slot ∷ []) }
+        ensures unchanged { OnErr result (self.new ≡ self.old) }
+    {
+        let id = slot.id();
+        let counts = Counts::of(&slot);
+        let child = child_of(&slot);
+        let termed = termed_of(&slot);
+        let records = self.records.len() + 1;
+        make_room(&mut self.children, records)?;
+        make_room(&mut self.termed, records)?;
+        self.records.insert(id, slot)?;
+        // `len` says that the records are few enough to count, as `insert` doesn't.
+        let _ = self.records.len();
+        self.counts.add(counts);
+        put(&mut self.children, child);
+        put(&mut self.termed, termed);
+        Ok(())
     }
 }

@@ -31,7 +31,7 @@ program_app name =
     let named = new_app name in
     record named { top = record named.top { no_binary_name = true } }
 
--- `new` is `old` with the argument behind all that it has
+-- `new` is `old` with the argument after all that it has
 abbrev pub Adds : Command → Rule → Command → Type 0
 Adds old rule new =
     (app_of new ≡ with_rule (app_of old) rule) × ((out-Command new).has_globals ≡ (out-Command old).has_globals)

@@ -15,7 +15,7 @@ pub enum WordFault {
     /// They are no command line of the program. A request for help is none.
     #[error("not a command line")]
     Usage,
-    /// Want of memory.
+    /// Out of memory.
     #[error("out of memory")]
     Memory,
 }
@@ -31,7 +31,7 @@ impl From<AllocError> for WordFault {
     }
 }
 
-/// The fault of words that clap refused: want of memory where that was the reason, else usage.
+/// The fault of words that clap refused: lack of memory where that was the reason, else usage.
 pub fn word_fault(error: &Error) -> WordFault
     ensures usage { result ≡ WordFault.Usage → kind_of error.now ≢ ErrorKind.OutOfMemory }
     ensures memory { result ≡ WordFault.Memory → kind_of error.now ≡ ErrorKind.OutOfMemory }
@@ -60,7 +60,7 @@ pub fn program_line<'a>(alloc: Global, name: &'a str) -> Command<'a>
     Command::new(alloc, name).no_binary_name(true)
 }
 
-/// A command line with a word that has to be there, behind its other arguments. It fails for want of memory alone, as
+/// A command line with a word that has to be there, after its other arguments. It fails for lack of memory alone, as
 /// those below.
 pub fn with_word<'a>(
     alloc: Global,

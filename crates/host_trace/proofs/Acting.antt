@@ -26,14 +26,14 @@ use Rattle.init_trace.specs.Sound.{is_sound, may_come}
 use Rattle.trace_laws.proofs.Records.{open_in_records}
 use Rattle.trace_laws.proofs.Runs.{first_due}
 use Rattle.child_table.specs.Lists as lists
-use Rattle.core_state.specs.State.{CoreState}
-use Rattle.core_state.specs.Steps.{after_told}
-use Rattle.core_state.specs.Fit.{Fits, OnEachTrace, with_step, records_of}
-use Rattle.core_state.proofs.Acts.{found_record, no_record}
-use Rattle.core_state.proofs.Fitted.{fit_records}
-use Rattle.core_state.proofs.Hearing.{fits_act, fits_told}
-use Rattle.core_state.proofs.Reading.{quiet_same}
-use Rattle.run_log.specs.Logs.{LogState}
+use Rattle.core_model.specs.State.{CoreState}
+use Rattle.core_model.specs.Steps.{after_told}
+use Rattle.core_model.specs.Fit.{Fits, OnEachTrace, with_step, records_of}
+use Rattle.core_model.proofs.Acts.{found_record, no_record}
+use Rattle.core_model.proofs.Fitted.{fit_records}
+use Rattle.core_model.proofs.Hearing.{fits_act, fits_told}
+use Rattle.core_model.proofs.Reading.{quiet_same}
+use Rattle.trace_log.specs.Logs.{LogState}
 use Rattle.host_trace.specs.Point.{Point, last_birth, acted, is_asked_for, answered}
 use Rattle.host_trace.specs.Leads.{is_own, is_allowed, gone_on, Logs, Gave, Hears, Lasts, Tracks}
 use Rattle.host_trace.proofs.Leading.{allowed_rest, allowed_first}

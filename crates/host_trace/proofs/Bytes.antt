@@ -14,8 +14,8 @@ use Rattle.init_trace.specs.declared.steps.Goal.{Goal}
 use Rattle.init_trace.specs.Event.{Event}
 use Rattle.init_trace.specs.Sound.{is_sound}
 use Rattle.child_host.specs.declared.calls.Call.TheVariants.{TakeBytes}
-use Rattle.core_state.specs.State.{CoreState}
-use Rattle.run_log.specs.Logs.{LogState}
+use Rattle.core_model.specs.State.{CoreState}
+use Rattle.trace_log.specs.Logs.{LogState}
 use Rattle.host_trace.specs.Point.{Point, byte_after, bytes_after}
 use Rattle.host_trace.specs.Requests.{requested, Continues}
 use Rattle.host_trace.specs.Leads.{is_allowed, gone_on, Logs, Took, At, IsOver, Went, Leads, Heard, Hears, Tracks}

@@ -24,15 +24,15 @@ use Rattle.init_trace.specs.Sound.{is_sound}
 use Rattle.init_trace.specs.Wishes.{wants_reexec}
 use Rattle.trace_laws.proofs.Runs.{same_step-self}
 use Rattle.child_table.specs.Lists as lists
-use Rattle.core_state.specs.State.{CoreState}
-use Rattle.core_state.specs.Fit.{Fits, OnEachTrace, with_step}
-use Rattle.core_state.specs.Parts.{state_of}
-use Rattle.core_state.specs.Rules.{IsFit}
-use Rattle.core_state.proofs.Decided.{reexec_wished}
-use Rattle.core_state.proofs.Deciding.{decide_due}
+use Rattle.core_model.specs.State.{CoreState}
+use Rattle.core_model.specs.Fit.{Fits, OnEachTrace, with_step}
+use Rattle.core_model.specs.Parts.{state_of}
+use Rattle.core_model.specs.Rules.{IsFit}
+use Rattle.core_model.proofs.Decided.{reexec_wished}
+use Rattle.core_model.proofs.Deciding.{decide_due}
 use Rattle.state_text.specs.Range as range
-use Rattle.state_text.specs.Refused.{Says}
-use Rattle.run_log.specs.Logs.{LogState}
+use Rattle.state_text.specs.Refused.{IsTextOf}
+use Rattle.trace_log.specs.Logs.{LogState}
 use Rattle.child_host.specs.declared.calls.Call.TheVariants.{Start, Late, Clock, ReadTable, Announce}
 use Rattle.child_host.specs.declared.calls.HostFault.{HostFault}
 use Rattle.child_host.specs.declared.calls.Reply.{Reply}
@@ -202,10 +202,10 @@ pub record HandedOn (c next : CoreState) (text : List ℕ) : Type 0 where
   pub fits : OnEachTrace c (λ goal so_far. (h : HandOver) → Fits next goal (past.Handed h ∷ so_far))
   pub own : next.generation ≡ c.generation + 1
   pub short : range.has_short_seconds next ≡ range.has_short_seconds c
-  pub says : range.has_short_seconds c ≡ true → Says text (state_of next) × IsFit next
+  pub says : range.has_short_seconds c ≡ true → IsTextOf text (state_of next) × IsFit next
 
 -- a text was made and carried, and taken over or refused: init goes on as the next
-pub Leads-carried : (c next new : CoreState) (l₀ l₁ : LogState) (how : HandOver) (text : List ℕ) (back : TextRead) → HandedOn c next text → (IsFit next → Says text (state_of next) → comes_back next.generation text back ≡ true → (new ≡ next) × (is_outcome how text back ≡ true)) → ((so_far : List Event) → Logs l₀ l₁ so_far (past.Handed how ∷ so_far)) → Leads (Gave (Tracks c) step.Reexec) (Tracks new) l₀ l₁ (carrying how text back)
+pub Leads-carried : (c next new : CoreState) (l₀ l₁ : LogState) (how : HandOver) (text : List ℕ) (back : TextRead) → HandedOn c next text → (IsFit next → IsTextOf text (state_of next) → comes_back next.generation text back ≡ true → (new ≡ next) × (is_outcome how text back ≡ true)) → ((so_far : List Event) → Logs l₀ l₁ so_far (past.Handed how ∷ so_far)) → Leads (Gave (Tracks c) step.Reexec) (Tracks new) l₀ l₁ (carrying how text back)
 Leads-carried c next new l₀ l₁ how text back handed comes took goal p sound gave allowed =
     let said = handed.says gave.1.short in
     let own : next.generation ≡ p.generation + 1 = handed.own ∙ ap (λ n. n + 1) gave.1.own in

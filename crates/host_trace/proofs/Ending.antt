@@ -20,11 +20,11 @@ use Rattle.trace_laws.proofs.Records.{child_in_records}
 use Rattle.trace_laws.proofs.Tests.{is_order-is}
 use Rattle.child_table.specs.State.{SlotState, child_number}
 use Rattle.child_table.specs.Lists as lists
-use Rattle.core_state.specs.State.{CoreState}
-use Rattle.core_state.specs.Fit.{Fits, child_known, living, record_of}
-use Rattle.core_state.proofs.Acts.{found_record, child_some}
-use Rattle.core_state.proofs.Fitted.{fit_records}
-use Rattle.core_state.proofs.Reading.{any_found}
+use Rattle.core_model.specs.State.{CoreState}
+use Rattle.core_model.specs.Fit.{Fits, child_known, living, record_of}
+use Rattle.core_model.proofs.Acts.{found_record, child_some}
+use Rattle.core_model.proofs.Fitted.{fit_records}
+use Rattle.core_model.proofs.Reading.{any_found}
 use Rattle.host_trace.specs.Point.{last_birth, acted}
 use Rattle.host_trace.specs.Leads.{is_allowed}
 use Rattle.host_trace.proofs.Leading.{allowed_first}

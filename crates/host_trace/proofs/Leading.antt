@@ -16,8 +16,8 @@ use Rattle.child_host.specs.declared.calls.Call.TheVariants.{Start, Look, Signal
 use Rattle.child_host.specs.declared.calls.Reply.{Reply}
 use Rattle.child_host.specs.declared.calls.Reply.TheVariants.{Now, Later}
 use Rattle.child_host.specs.Calls.{HostCall, TextRead}
-use Rattle.run_log.specs.Logs.{LogState}
-use Rattle.host_trace.specs.Point.{Point, last_birth, acted, is_asked_for, answered, ordered, order_for, come, is_last, nudged_if, byte_after, bytes_after, reading, before_reading, before_handing, came_whole, handed_if, announced, is_said, after, point_after, is_in_place}
+use Rattle.trace_log.specs.Logs.{LogState}
+use Rattle.host_trace.specs.Point.{Point, last_birth, acted, is_asked_for, answered, ordered, order_for, come, is_last, nudged_if, byte_after, bytes_after, reading, before_reading, before_handing, came_whole, handed_if, announced, is_announcement, after, point_after, is_in_place}
 use Rattle.host_trace.specs.Leads.{AreTexts, Counted, IsStateText, meets, is_allowed, comes_back, are_carried, gone_on, Took, Went, Leads, Heard, Hears}
 use Rattle.host_trace.specs.Turns.{takes_none}
 use Rattle.host_trace.proofs.Point.{point_after-append, has_trace-append, has_trace-one}
@@ -93,7 +93,7 @@ module _ (goal : Goal) where
   announced_allowed : (happening : Event) (so_far : List Event) → is_allowed goal (announced happening so_far) ≡ true → is_allowed goal so_far ≡ true
   announced_allowed past.NotRead so_far h = before_allowed so_far (allowed_rest past.NotRead (before_reading so_far) h)
   announced_allowed (past.Handed how) so_far h = handing_allowed so_far (allowed_rest (past.Handed how) (before_handing so_far) h)
-  announced_allowed happening so_far h = said_allowed happening (is_said happening) so_far h
+  announced_allowed happening so_far h = said_allowed happening (is_announcement happening) so_far h
 
   pub after_allowed : (call : HostCall) (p : Point) → is_allowed goal (after call p).past ≡ true → is_allowed goal p.past ≡ true
   after_allowed (Start id command reply) p h = ordered_allowed id ask.Start reply p.past h

@@ -31,9 +31,9 @@ use Rattle.child_host.specs.declared.calls.Call.TheVariants.{Start, Look, Signal
 use Rattle.child_host.specs.declared.calls.Reply.{Reply}
 use Rattle.child_host.specs.declared.calls.Reply.TheVariants.{Now, Later}
 use Rattle.child_host.specs.Calls.{HostCall, TextRead}
-use Rattle.run_log.specs.Logs.{LogState}
-use Rattle.host_trace.specs.Leads.{Logs, Took, has_short_seconds}
-use Rattle.host_trace.specs.Point.{Point, after, acted, announced, answered, before_handing, before_reading, byte_after, bytes_after, came_whole, come, handed_if, is_asked_for, is_last, is_said, nudged_if, order_for, ordered, point_after, reading}
+use Rattle.trace_log.specs.Logs.{LogState}
+use Rattle.host_trace.specs.Leads.{Logs, Took, are_seconds_short}
+use Rattle.host_trace.specs.Point.{Point, after, acted, announced, answered, before_handing, before_reading, byte_after, bytes_after, came_whole, come, handed_if, is_asked_for, is_last, is_announcement, nudged_if, order_for, ordered, point_after, reading}
 
 -- ---- a request
 
@@ -147,16 +147,16 @@ handed_requests : (b : Bool) (so_far : List Event) → Requests so_far → Reque
 handed_requests true so_far all = all
 handed_requests false so_far all = all
 
-said_request : (happening : Event) → is_said happening ≡ true → is_short_request happening ≡ true
+said_request : (happening : Event) → is_announcement happening ≡ true → is_short_request happening ≡ true
 said_request (past.Got request) said = absurd (false≢true said)
 said_request _ said = refl
 
 announced_requests : (happening : Event) (so_far : List Event) → Requests so_far → Requests (announced happening so_far)
 announced_requests past.NotRead so_far all = before_requests so_far all
 announced_requests (past.Handed how) so_far all = handing_requests so_far all
-announced_requests happening so_far all = by (is_said happening) refl
+announced_requests happening so_far all = by (is_announcement happening) refl
   where
-    by : (b : Bool) → is_said happening ≡ b → Requests (cond b (happening ∷ so_far) so_far)
+    by : (b : Bool) → is_announcement happening ≡ b → Requests (cond b (happening ∷ so_far) so_far)
     by true said = and_from (is_short_request happening) (list_all is_short_request so_far) (said_request happening said) all
     by false said = all
 
@@ -195,15 +195,15 @@ given_short before given bytes is = (and_parts (list_all is_request before) (lis
 
 -- ---- the trace of a record
 
-short_after : (goal : Goal) (calls : List HostCall) (p : Point) → is_sound goal (point_after calls p).past ≡ true → has_short_seconds goal p.past ≡ true → are_short (point_after calls p).past ≡ true
+short_after : (goal : Goal) (calls : List HostCall) (p : Point) → is_sound goal (point_after calls p).past ≡ true → are_seconds_short goal p.past ≡ true → are_short (point_after calls p).past ≡ true
 short_after goal calls p sound short =
     let parts = and_parts (is_seconds goal.grace) (are_short p.past) short in
     sound_short goal (point_after calls p).past parts.0 sound (calls_requests calls p (requests_of p.past parts.1))
 
 -- what is logged of a sound trace with short seconds is logged
-pub logged : (goal : Goal) (calls : List HostCall) (p : Point) (old new : LogState) → is_sound goal (point_after calls p).past ≡ true → Logs old new p.past (point_after calls p).past → has_short_seconds goal p.past ≡ true → Took old new p.past (point_after calls p).past
+pub logged : (goal : Goal) (calls : List HostCall) (p : Point) (old new : LogState) → is_sound goal (point_after calls p).past ≡ true → Logs old new p.past (point_after calls p).past → are_seconds_short goal p.past ≡ true → Took old new p.past (point_after calls p).past
 logged goal calls p old new sound logs short = logs (short_after goal calls p sound short)
 
 -- so the next calls are made where it is so too
-pub short_then : (goal : Goal) (calls : List HostCall) (p : Point) → is_sound goal (point_after calls p).past ≡ true → has_short_seconds goal p.past ≡ true → has_short_seconds goal (point_after calls p).past ≡ true
+pub short_then : (goal : Goal) (calls : List HostCall) (p : Point) → is_sound goal (point_after calls p).past ≡ true → are_seconds_short goal p.past ≡ true → are_seconds_short goal (point_after calls p).past ≡ true
 short_then goal calls p sound short = and_from (is_seconds goal.grace) (are_short (point_after calls p).past) (and_parts (is_seconds goal.grace) (are_short p.past) short).0 (short_after goal calls p sound short)

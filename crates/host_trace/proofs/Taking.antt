@@ -7,8 +7,8 @@ use Rattle.std.proofs.lemmas.List.Folds.{list_all-append}
 use Rattle.std.proofs.lemmas.Option.{none-some, same_Some}
 use Rattle.init_trace.specs.Event.{Event}
 use Rattle.init_trace.specs.Range.{is_in_range, is_short, are_short}
-use Rattle.run_log.specs.declared.faults.LogFault.{LogFault}
-use Rattle.run_log.specs.Logs.{LogState, Gains, Stays}
+use Rattle.trace_log.specs.declared.faults.LogFault.{LogFault}
+use Rattle.trace_log.specs.Logs.{LogState, Gains, Stays}
 use Rattle.host_trace.specs.Leads.{Logs, Takes, Took}
 
 -- where nothing came, the log is as it was

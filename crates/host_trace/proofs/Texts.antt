@@ -6,7 +6,7 @@ use Rattle.std.proofs.lemmas.Bool.{false≢true, and_from, and_parts, or_left, o
 use Rattle.init_words.proofs.Same.{same_id-is}
 use Rattle.init_words.proofs.Tests.{or_either}
 use Rattle.init_trace.specs.declared.steps.Goal.{Goal}
-use Rattle.core_state.specs.Parts.{state_of}
+use Rattle.core_model.specs.Parts.{state_of}
 use Rattle.state_text.specs.Reading.{generation_of}
 use Rattle.state_text.proofs.Prefixes.{generation_said}
 use Rattle.child_host.specs.declared.calls.Call.TheVariants.{Start, Look, Signal, Late, Clock, TakeBytes, ReadTable, Carry, Announce, Pause}

@@ -11,13 +11,13 @@ use Rattle.init_trace.specs.Due.{due, first}
 use Rattle.init_trace.specs.Range.{are_short, is_seconds}
 use Rattle.init_trace.specs.Run.{step_in}
 use Rattle.init_trace.specs.Sound.{is_sound, may_come}
-use Rattle.core_state.specs.State.{CoreState}
-use Rattle.core_state.specs.Fit.{Fits, with_step}
-use Rattle.core_state.specs.Parts.{state_of}
-use Rattle.core_state.specs.Rules.{IsFit}
+use Rattle.core_model.specs.State.{CoreState}
+use Rattle.core_model.specs.Fit.{Fits, with_step}
+use Rattle.core_model.specs.Parts.{state_of}
+use Rattle.core_model.specs.Rules.{IsFit}
 use Rattle.state_text.specs.Range as range
-use Rattle.state_text.specs.Refused.{Says}
-use Rattle.run_log.specs.Logs.{LogState}
+use Rattle.state_text.specs.Refused.{IsTextOf}
+use Rattle.trace_log.specs.Logs.{LogState}
 use Rattle.child_host.specs.declared.calls.Call.TheVariants.{Carry}
 use Rattle.child_host.specs.Calls.{HostCall, TextRead}
 use Rattle.host_trace.specs.Point.{Point, point_after, has_trace, is_of_generation}
@@ -30,11 +30,11 @@ is_own happening = is_some (step_in happening)
 -- The system and the edge did what they may do: each happening that is not a step of init's own may come where it
 -- stands.
 abbrev pub meets : Goal → Event → List Event → Bool
-meets goal happening so_far = is_own happening || may_come goal happening so_far
+meets goal happening past = is_own happening || may_come goal happening past
 
 abbrev pub is_allowed : Goal → List Event → Bool
 is_allowed goal [] = true
-is_allowed goal (happening ∷ so_far) = meets goal happening so_far && is_allowed goal so_far
+is_allowed goal (happening ∷ past) = meets goal happening past && is_allowed goal past
 
 -- A text that is carried as that of a generation comes back as it was, or cut, or as none of that generation; or it
 -- doesn't come.
@@ -55,7 +55,7 @@ pub record IsStateText (goal : Goal) (past : List Event) (generation : ℕ) (tex
   pub fits : (how : HandOver) → Fits core goal (Handed how ∷ past)
   pub fit : IsFit core
   pub own : core.generation ≡ generation
-  pub says : Says text (state_of core)
+  pub says : IsTextOf text (state_of core)
 
 -- each text that was carried is that of init's state there, a generation more, where those before it came back as they
 -- may
@@ -89,8 +89,8 @@ abbrev pub Logs : LogState → LogState → List Event → List Event → Type 0
 Logs old new past now = IsTrue (are_short now) → Took old new past now
 
 -- the seconds that the trace and its opening goal name are at most an hour
-abbrev pub has_short_seconds : Goal → List Event → Bool
-has_short_seconds goal past = is_seconds goal.grace && are_short past
+abbrev pub are_seconds_short : Goal → List Event → Bool
+are_seconds_short goal past = is_seconds goal.grace && are_short past
 
 -- the point whose trace has gone on
 abbrev pub gone_on : (List Event → List Event) → Point → Point
@@ -121,7 +121,7 @@ pub record Lasts (c new : CoreState) : Type 0 where
 abbrev pub At : CoreState → Begun → Goal → Point → Type 0
 At core blocks goal p = Tracks core goal p × IsOver blocks p.over
 
--- so many late answers were asked for since the clock was read
+-- the given number of late answers were asked for since the clock was read
 abbrev pub Counted : ℕ → Goal → Point → Type 0
 Counted lates goal p = p.lates ≡ lates
 
@@ -132,7 +132,7 @@ pub record Went (fit : Goal → Point → Type 0) (old new : LogState) (goal : G
   pub in_place : IsTrue (has_trace goal calls p)
   pub sound : IsTrue (is_sound goal (point_after calls p).past)
   pub fits : fit goal (point_after calls p)
-  pub log : IsTrue (has_short_seconds goal p.past) → Took old new p.past (point_after calls p).past
+  pub log : IsTrue (are_seconds_short goal p.past) → Took old new p.past (point_after calls p).past
 
 -- so it went from each point whose trace is sound and fitted, where the answers to the calls were possible, and the
 -- texts that were carried came back as they may; and those were state texts

@@ -15,10 +15,11 @@ use Rattle.init_words.specs.Orders.{answers}
 use Rattle.inittab_text.specs.declared.reading.TheConstants.{TEXT_LIMIT}
 use Rattle.inittab_text.specs.Reading.{table_of_text}
 use Rattle.inittab_text.specs.Tables.{entry_of}
+use Rattle.initctl_frame.specs.declared.frames.TheConstants.{BLOCK}
 use Rattle.initctl_frame.specs.Frames.{got_of}
 use Rattle.init_trace.specs.declared.happenings.Handed.{Handed as HandOver}
 use Rattle.init_trace.specs.declared.happenings.Handed.TheVariants as handed
-use Rattle.init_trace.specs.declared.happenings.Happening.TheVariants as past
+use Rattle.init_trace.specs.declared.happenings.Happening.TheVariants as happened
 use Rattle.init_trace.specs.declared.steps.Goal.{Goal}
 use Rattle.init_trace.specs.declared.steps.Step.{Step}
 use Rattle.init_trace.specs.declared.steps.Step.TheVariants as step
@@ -45,62 +46,62 @@ pub record Point : Type 0 where
 -- the number of the id's last birth; 0 before the first
 abbrev pub last_birth : List ℕ → List Event → ℕ
 last_birth id [] = 0
-last_birth id (past.Birth i number ∷ so_far) = if same_id id i then number else last_birth id so_far
-last_birth id (_ ∷ so_far) = last_birth id so_far
+last_birth id (happened.Birth i number ∷ past) = if same_id id i then number else last_birth id past
+last_birth id (_ ∷ past) = last_birth id past
 
 -- the act that an answer is; an end is a death and a reaping, of the child that was born last
 abbrev pub acted : List ℕ → Answer → List Event → List Event
-acted id (answer.Born number) so_far = past.Birth id number ∷ so_far
-acted id answer.NotBorn so_far = past.NoBirth id ∷ so_far
-acted id (answer.Ended status) so_far =
-    past.Reaped id (last_birth id so_far) status ∷ past.Death (last_birth id so_far) ∷ so_far
-acted id answer.Alive so_far = past.Still id ∷ so_far
-acted id answer.NoLook so_far = past.NoLook id ∷ so_far
-acted id answer.Hit so_far = past.Hit id ∷ so_far
-acted id answer.Miss so_far = past.Miss id ∷ so_far
+acted id (answer.Born number) past = happened.Birth id number ∷ past
+acted id answer.NotBorn past = happened.NoBirth id ∷ past
+acted id (answer.Ended status) past =
+    happened.Reaped id (last_birth id past) status ∷ happened.Death (last_birth id past) ∷ past
+acted id answer.Alive past = happened.Still id ∷ past
+acted id answer.NoLook past = happened.NoLook id ∷ past
+acted id answer.Hit past = happened.Hit id ∷ past
+acted id answer.Miss past = happened.Miss id ∷ past
 
 -- the id has an open order of the answer's kind: init takes no other answer
 abbrev pub is_asked_for : List ℕ → Answer → List Event → Bool
-is_asked_for id given so_far = option_map_or (answers given) (open_of id so_far) false
+is_asked_for id given past = option_map_or (answers given) (open_of id past) false
 
 -- an answer that was asked for is its act, and that it was told; any other is nothing
 abbrev pub answered : List ℕ → Answer → List Event → List Event
-answered id given so_far =
-    if is_asked_for id given so_far then past.Told id ∷ acted id given so_far else so_far
+answered id given past =
+    if is_asked_for id given past then happened.Told id ∷ acted id given past else past
 
 -- an order and its reply; one that comes later counts as done when it is given
 abbrev pub replied : List ℕ → Reply → List Event → List Event
-replied id (Now given) so_far = answered id given so_far
-replied id Later so_far = so_far
+replied id (Now given) past = answered id given past
+replied id Later past = past
 
 abbrev pub ordered : List ℕ → Ask → Reply → List Event → List Event
-ordered id ask reply so_far = replied id reply (past.Asked id ask ∷ so_far)
+ordered id ask reply past = replied id reply (happened.Asked id ask ∷ past)
 
 abbrev pub order_for : Sig → Ask
 order_for signal.Term = ask.Term
 order_for signal.Kill = ask.Kill
 
--- what came late; the round begins behind the call that gave nothing, or the last that a turn may make
+-- what came late; the round begins after the call that gave nothing, or the last that a turn may make
 abbrev pub come : Option (List ℕ × Answer) → List Event → List Event
-come (Some late) so_far = answered late.0 late.1 so_far
-come None so_far = so_far
+come (Some late) past = answered late.0 late.1 past
+come None past = past
 
 abbrev pub is_last : Option (List ℕ × Answer) → ℕ → Bool
 is_last late lates = is_none late || lates + 1 == LATE_LIMIT
 
 abbrev pub nudged_if : Bool → List Event → List Event
-nudged_if true so_far = past.Nudge ∷ so_far
-nudged_if false so_far = so_far
+nudged_if true past = happened.Nudge ∷ past
+nudged_if false past = past
 
 -- a reading of the clock; one that failed is none
 abbrev pub clocked : Result ℕ HostFault → List Event → List Event
-clocked (Ok reading) so_far = past.Clock reading ∷ so_far
-clocked (Err fault) so_far = so_far
+clocked (Ok reading) past = happened.Clock reading ∷ past
+clocked (Err fault) past = past
 
 -- a byte more: the block that it fills is a request
 abbrev pub filled : List ℕ → Point → Point
 filled over p =
-    if length over == 384 then record p { over = []; past = past.Got (got_of over) ∷ p.past }
+    if length over == BLOCK then record p { over = []; past = happened.Got (got_of over) ∷ p.past }
     else record p { over = over }
 
 abbrev pub byte_after : ℕ → Point → Point
@@ -117,14 +118,14 @@ taken_after (Err fault) p = p
 
 -- a reading of inittab is the use of its table, or that it could not be read: that it failed, or is too long
 abbrev pub reading : TextRead → Event
-reading (Ok text) = if nat_lt TEXT_LIMIT (length text) then past.NotRead else past.NewTable (table_of_text text)
-reading (Err fault) = past.NotRead
+reading (Ok text) = if nat_lt TEXT_LIMIT (length text) then happened.NotRead else happened.NewTable (table_of_text text)
+reading (Err fault) = happened.NotRead
 
 -- the past before the reading of inittab that stands newest
 abbrev pub before_reading : List Event → List Event
-before_reading (past.NewTable table ∷ so_far) = so_far
-before_reading (past.NotRead ∷ so_far) = so_far
-before_reading so_far = so_far
+before_reading (happened.NewTable table ∷ past) = past
+before_reading (happened.NotRead ∷ past) = past
+before_reading past = past
 
 -- two texts are one
 abbrev pub same_text : List ℕ → List ℕ → Bool
@@ -142,29 +143,29 @@ came_cut text (Err fault) = false
 
 -- a state text that came back as it was is taken over: the next init goes on
 abbrev pub handed_if : Bool → List Event → List Event
-handed_if true so_far = past.Handed handed.Whole ∷ so_far
-handed_if false so_far = so_far
+handed_if true past = happened.Handed handed.Whole ∷ past
+handed_if false past = past
 
 -- the past before the hand-over that stands newest
 abbrev pub before_handing : List Event → List Event
-before_handing (past.Handed how ∷ so_far) = so_far
-before_handing so_far = so_far
+before_handing (happened.Handed how ∷ past) = past
+before_handing past = past
 
 -- these are announced as they happen
-abbrev pub is_said : Event → Bool
-is_said (past.Enter stage grace) = true
-is_said (past.Call letter) = true
-is_said (past.Power kind) = true
-is_said (past.Hold id) = true
-is_said (past.Settle level) = true
-is_said _ = false
+abbrev pub is_announcement : Event → Bool
+is_announcement (happened.Enter stage grace) = true
+is_announcement (happened.Call letter) = true
+is_announcement (happened.Power kind) = true
+is_announcement (happened.Hold id) = true
+is_announcement (happened.Settle level) = true
+is_announcement _ = false
 
 -- What is announced stands in the trace: steps of init; that inittab could not be read, which stands for the reading,
--- whose table was not taken; and that init was not executed anew, which stands for the hand-over, which was not taken.
+-- whose table was not taken; and that init was not re-executed, which stands for the hand-over, which was not taken.
 abbrev pub announced : Event → List Event → List Event
-announced past.NotRead so_far = past.NotRead ∷ before_reading so_far
-announced (past.Handed how) so_far = past.Handed how ∷ before_handing so_far
-announced happening so_far = if is_said happening then happening ∷ so_far else so_far
+announced happened.NotRead past = happened.NotRead ∷ before_reading past
+announced (happened.Handed how) past = happened.Handed how ∷ before_handing past
+announced happening past = if is_announcement happening then happening ∷ past else past
 
 -- what a call makes of the trace; a text that is carried is a generation more
 abbrev pub after : HostCall → Point → Point
@@ -188,8 +189,8 @@ point_after (call ∷ calls) p = after call (point_after calls p)
 
 -- the text is the command of the id's entry in the table in force
 abbrev pub is_command : List ℕ → List ℕ → List Event → Bool
-is_command id text so_far =
-    option_map_or (λ e. same_text text (command_of e)) (entry_of id (table_of so_far)) false
+is_command id text past =
+    option_map_or (λ e. same_text text (command_of e)) (entry_of id (table_of past)) false
 
 -- inittab was read in the call before
 abbrev pub was_reading : List HostCall → Bool
@@ -200,8 +201,8 @@ was_reading _ = false
 abbrev pub is_of_generation : ℕ → List ℕ → Bool
 is_of_generation generation text = option_map_or (λ g. g == generation) (generation_of text) false
 
--- What a text that was carried came to, where it was not taken over: it came back cut, to so many bytes; or as that of
--- another generation; or it was refused for another cause than that it came back cut.
+-- What a text that was carried came to, where it was not taken over: it came back cut, to the given number of bytes; or
+-- as that of another generation; or it was refused for another cause than that it came back cut.
 abbrev pub is_refusal : HandOver → List ℕ → TextRead → Bool
 is_refusal (handed.Cut bytes) text (Ok back) = came_cut text (Ok back) && length back == bytes
 is_refusal (handed.Older generation) text (Ok back) =
@@ -212,7 +213,7 @@ is_refusal _ text back = false
 -- the calls by which a text was carried, and what came of it was said
 abbrev pub carrying : HandOver → List ℕ → TextRead → List HostCall
 carrying handed.Whole text back = Carry text back ∷ []
-carrying how text back = Announce (past.Handed how) ∷ Carry text back ∷ []
+carrying how text back = Announce (happened.Handed how) ∷ Carry text back ∷ []
 
 -- the text came back as it was and was taken, or was refused so
 abbrev pub is_outcome : HandOver → List ℕ → TextRead → Bool
@@ -221,31 +222,31 @@ is_outcome how text back = is_refusal how text back
 
 -- the step is the first that is due; and the happening is that step
 abbrev pub is_first : Goal → Step → List Event → Bool
-is_first goal step so_far = same_step step (first (due goal so_far))
+is_first goal step past = same_step step (first (due goal past))
 
 abbrev pub is_first_step : Goal → Event → List Event → Bool
-is_first_step goal happening so_far = option_map_or (λ step. is_first goal step so_far) (step_in happening) false
+is_first_step goal happening past = option_map_or (λ step. is_first goal step past) (step_in happening) false
 
 -- What is announced is the step of init's that is the first due, or such a step that came to nothing: inittab was read
--- in the call before; the state text was carried in the call before, and refused so; or init was to be executed anew,
+-- in the call before; the state text was carried in the call before, and refused so; or init was to be re-executed,
 -- and no text was made.
 abbrev pub may_announce : Goal → Event → List HostCall → List Event → Bool
-may_announce goal past.NotRead earlier so_far = was_reading earlier
-may_announce goal (past.Handed how) (Carry text back ∷ earlier) so_far = is_refusal how text back
-may_announce goal (past.Handed handed.Failed) earlier so_far = is_first goal step.Reexec so_far
-may_announce goal happening earlier so_far = is_said happening && is_first_step goal happening so_far
+may_announce goal happened.NotRead earlier past = was_reading earlier
+may_announce goal (happened.Handed how) (Carry text back ∷ earlier) past = is_refusal how text back
+may_announce goal (happened.Handed handed.Failed) earlier past = is_first goal step.Reexec past
+may_announce goal happening earlier past = is_announcement happening && is_first_step goal happening past
 
 -- The call may be made there: it carries out the step that is the first due, and a start is of the id's command in the
 -- table in force.
 abbrev pub is_in_place : Goal → HostCall → List HostCall → List Event → Bool
-is_in_place goal (Start id command reply) earlier so_far =
-    is_first goal (step.Order id ask.Start) so_far && is_command id command so_far
-is_in_place goal (Look id reply) earlier so_far = is_first goal (step.Order id ask.Look) so_far
-is_in_place goal (Signal id sent reply) earlier so_far = is_first goal (step.Order id (order_for sent)) so_far
-is_in_place goal (ReadTable text) earlier so_far = is_first goal step.Reread so_far
-is_in_place goal (Carry text back) earlier so_far = is_first goal step.Reexec so_far
-is_in_place goal (Announce happening) earlier so_far = may_announce goal happening earlier so_far
-is_in_place goal _ earlier so_far = true
+is_in_place goal (Start id command reply) earlier past =
+    is_first goal (step.Order id ask.Start) past && is_command id command past
+is_in_place goal (Look id reply) earlier past = is_first goal (step.Order id ask.Look) past
+is_in_place goal (Signal id sent reply) earlier past = is_first goal (step.Order id (order_for sent)) past
+is_in_place goal (ReadTable text) earlier past = is_first goal step.Reread past
+is_in_place goal (Carry text back) earlier past = is_first goal step.Reexec past
+is_in_place goal (Announce happening) earlier past = may_announce goal happening earlier past
+is_in_place goal _ earlier past = true
 
 -- each call was made where it may be
 abbrev pub are_in_place : Goal → List HostCall → Point → Bool
@@ -256,7 +257,7 @@ are_in_place goal (call ∷ calls) p =
 -- what came of each text that was carried is told: it came back as it was, or the next call says what became of it
 abbrev pub tells_outcomes : List HostCall → Bool
 tells_outcomes [] = true
-tells_outcomes (Announce (past.Handed how) ∷ Carry text back ∷ calls) = tells_outcomes calls
+tells_outcomes (Announce (happened.Handed how) ∷ Carry text back ∷ calls) = tells_outcomes calls
 tells_outcomes (Carry text back ∷ calls) = came_whole text back && tells_outcomes calls
 tells_outcomes (_ ∷ calls) = tells_outcomes calls
 

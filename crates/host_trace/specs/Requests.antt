@@ -10,10 +10,10 @@ use Rattle.host_trace.specs.Point.{Point, bytes_after, point_after}
 
 -- a trace with these requests, the first first
 abbrev pub requested : List Request → List Event → List Event
-requested [] so_far = so_far
-requested (request ∷ requests) so_far = requested requests (Got request ∷ so_far)
+requested [] past = past
+requested (request ∷ requests) past = requested requests (Got request ∷ past)
 
--- These bytes, behind bytes of which those of the point are over, fill the blocks that they fill in the whole list: the
+-- These bytes, after bytes of which those of the point are over, fill the blocks that they fill in the whole list: the
 -- requests of these are heard, in their order, and the bytes over are those of the whole.
 pub record Continues (before bytes : List ℕ) (p : Point) : Type 0 where
   pub requests : List Request
@@ -23,15 +23,15 @@ pub record Continues (before bytes : List ℕ) (p : Point) : Type 0 where
 -- the requests of a trace, and the bytes that calls took, the first first
 abbrev pub requests_in : List Event → List Request
 requests_in [] = []
-requests_in (Got request ∷ so_far) = requests_in so_far ++ request ∷ []
-requests_in (_ ∷ so_far) = requests_in so_far
+requests_in (Got request ∷ past) = requests_in past ++ request ∷ []
+requests_in (_ ∷ past) = requests_in past
 
 abbrev pub bytes_of : List HostCall → List ℕ
 bytes_of [] = []
 bytes_of (TakeBytes room (Ok bytes) ∷ calls) = bytes_of calls ++ bytes
 bytes_of (_ ∷ calls) = bytes_of calls
 
--- of these calls, whose bytes come behind others, the requests are those of all bytes that the others' are not
+-- of these calls, whose bytes come after others, the requests are those of all bytes that the others' are not
 pub record Brings (before : List ℕ) (calls : List HostCall) (p : Point) : Type 0 where
   pub requests : List Request
   pub gots : gots_of (before ++ bytes_of calls) ≡ gots_of before ++ requests

@@ -6,9 +6,9 @@ use Rattle.init_trace.specs.declared.steps.Goal.{Goal}
 use Rattle.init_trace.specs.declared.steps.Step.TheVariants.{Idle}
 use Rattle.init_trace.specs.Due.{due, first}
 use Rattle.init_trace.specs.Sound.{is_sound}
-use Rattle.core_state.specs.State.{CoreState}
-use Rattle.core_state.specs.Decide.{is_drained}
-use Rattle.core_state.specs.Fit.{Fits}
+use Rattle.core_model.specs.State.{CoreState}
+use Rattle.core_model.specs.Decide.{is_drained}
+use Rattle.core_model.specs.Fit.{Fits}
 use Rattle.child_host.specs.declared.calls.Call.TheVariants.{Start, Look, Signal, Late, Clock, TakeBytes, ReadTable, Carry, Announce, Pause}
 use Rattle.child_host.specs.declared.calls.HostFault.{HostFault}
 use Rattle.child_host.specs.Calls.{HostCall, TextRead}
@@ -59,7 +59,7 @@ are_lates (Late None ∷ calls) = list_all has_come calls && nat_lt (length call
 are_lates calls = list_all has_come calls && length calls == LATE_LIMIT
 
 -- The calls that carry out one step: an order, what is said of it, a reading of inittab, or the carrying of the state
--- text; and behind one of these two, if it came to nothing, that this was said.
+-- text; and after one of these two, if it came to nothing, that this was said.
 abbrev pub is_step : List HostCall → Bool
 is_step (Start id command reply ∷ []) = true
 is_step (Look id reply ∷ []) = true
@@ -71,7 +71,7 @@ is_step (Announce NotRead ∷ ReadTable text ∷ []) = true
 is_step (Announce (Handed how) ∷ Carry text back ∷ []) = true
 is_step _ = false
 
--- so many steps, one behind the other
+-- the given number of steps, one after the other
 abbrev pub AreSteps : ℕ → List HostCall → Type 0
 AreSteps zero calls = calls ≡ []
 AreSteps (suc n) calls = (last before : List HostCall) × (calls ≡ last ++ before)
@@ -92,20 +92,20 @@ pub record IsTurn (done : Bool) (calls : List HostCall) : Type 0 where
   pub most : count ≤ STEP_LIMIT
   pub ended : IsTrue done ⊎ (count ≡ STEP_LIMIT)
 
--- nothing is due behind the calls: from each point whose trace is sound and fitted, where the answers were possible
+-- nothing is due after the calls: from each point whose trace is sound and fitted, where the answers were possible
 abbrev pub Rests : (Goal → Point → Type 0) → List HostCall → Type 0
 Rests fitted calls = (goal : Goal) (p : Point) → IsTrue (is_sound goal p.past) → fitted goal p
     → IsTrue (is_allowed goal (point_after calls p).past) → IsTrue (are_carried calls p)
     → first (due goal (point_after calls p).past) ≡ Idle
 
--- behind the calls there is something left to do, or something runs: a core that fits there is not drained
+-- after the calls there is something left to do, or something runs: a core that fits there is not drained
 abbrev pub Undrained : (Goal → Point → Type 0) → List HostCall → Type 0
 Undrained fitted calls = (goal : Goal) (p : Point) → IsTrue (is_sound goal p.past) → fitted goal p
     → IsTrue (is_allowed goal (point_after calls p).past) → IsTrue (are_carried calls p)
     → (core : CoreState) × Fits core goal (point_after calls p).past × (is_drained core ≡ false)
 
--- So many turns, with a pause behind each. Behind each that is done nothing is due; and where they end when init is
--- drained, none but the last left it so.
+-- The given number of turns, with a pause after each. After each that is done nothing is due; and where they end when
+-- init is drained, none but the last left it so.
 abbrev pub AreTurns : Bool → (Goal → Point → Type 0) → ℕ → List HostCall → Type 0
 AreTurns drain fitted zero calls = calls ≡ []
 AreTurns drain fitted (suc n) calls = (done : Bool) × (last before : List HostCall) × (calls ≡ Pause ∷ (last ++ before))

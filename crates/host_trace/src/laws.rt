@@ -7,7 +7,7 @@ ghost use Rattle.host_trace.specs.Leads.{AreTexts, are_carried, is_allowed};
 ghost use Rattle.host_trace.specs.Requests.{Brings};
 ghost use Rattle.host_trace.specs.Texts.{are_given_back, texts_in};
 
-/// The requests that the calls bring into the trace are those of the blocks that the bytes taken fill, behind bytes
+/// The requests that the calls bring into the trace are those of the blocks that the bytes taken fill, after bytes
 /// that came before: all of them, in their order, and no others; and the bytes over are those of the whole list. It
 /// does nothing: its contract is the law.
 pub fn law_of_requests()

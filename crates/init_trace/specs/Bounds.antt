@@ -12,7 +12,7 @@ use Rattle.init_trace.specs.Spells.{Signal, spell_hits}
 use Rattle.init_trace.specs.Timing.{start_times, hold_times}
 use Rattle.init_trace.specs.Lawful.{is_limited_id}
 
--- the tenth time of a list of times, and each behind it, is at least two minutes before now
+-- the tenth time of a list of times, and each after it, is at least two minutes before now
 abbrev pub is_spaced : ℕ → List ℕ → Bool
 is_spaced now times = list_all (λ started. nat_le (started + WINDOW) now) (drop (STARTS - 1) times)
 

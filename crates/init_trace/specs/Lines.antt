@@ -92,7 +92,7 @@ words_of Nudge = codes "nudge" ∷ []
 words_of (Got request) = codes "got" ∷ got_words request
 words_of (Handed how) = codes "handed" ∷ handed_words how
 
--- words, each behind a blank
+-- words, each after a blank
 abbrev pub words_behind : List (List ℕ) → List ℕ
 words_behind words = flat_map (λ word. 32 ∷ word) words
 
@@ -101,12 +101,12 @@ abbrev pub line_of_words : List (List ℕ) → List ℕ
 line_of_words [] = 10 ∷ []
 line_of_words (word ∷ words) = word ++ words_behind words ++ 10 ∷ []
 
--- the lines of a table behind its happening
+-- the lines of a table after its happening
 abbrev pub table_lines : Event → List ℕ
 table_lines (NewTable table) = text_of table
 table_lines _ = []
 
--- the text of a happening: its line, and behind a table's the lines of the table
+-- the text of a happening: its line, and after a table's the lines of the table
 abbrev pub event_text : Event → List ℕ
 event_text happening = line_of_words (words_of happening) ++ table_lines happening
 

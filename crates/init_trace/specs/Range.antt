@@ -72,7 +72,7 @@ is_short _ = true
 abbrev pub are_short : List Event → Bool
 are_short trace = list_all is_short trace
 
--- a happening and the text behind it
+-- a happening and the text after it
 abbrev pub Begun : Type 0
 Begun = Event × List ℕ
 

@@ -198,7 +198,7 @@ entries_brought _ = None
 abbrev pub words_in : List ℕ → List (List ℕ)
 words_in line = pieces_of 32 line
 
--- the use of the table of the next so many lines
+-- the use of the table of the next given number of lines
 abbrev pub use_begun : ℕ → List ℕ → Option Begun
 use_begun count text = option_map (λ parts. (NewTable parts.0, parts.1)) (table_begun count text)
 
@@ -206,6 +206,6 @@ abbrev pub begun_by : Option ℕ → List ℕ → List ℕ → Option Begun
 begun_by None line text = option_map (λ happening. (happening, text)) (words_read (words_in line))
 begun_by (Some count) line text = use_begun count text
 
--- the first happening of a text, and the text behind it
+-- the first happening of a text, and the text after it
 abbrev pub begun : List ℕ → Option Begun
 begun text = option_and_then (λ parts. begun_by (entries_brought (words_in parts.0)) parts.0 parts.1) (cut 10 text)

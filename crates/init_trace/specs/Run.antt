@@ -9,7 +9,7 @@ use Rattle.init_trace.specs.Event.{Event}
 use Rattle.init_trace.specs.Due.{due, first, same_step}
 use Rattle.init_trace.specs.Sound.{may_come}
 
--- init waits for the world: nothing is due, or inittab is to be read, or init to be executed anew
+-- init waits for the world: nothing is due, or inittab is to be read, or init to be re-executed
 abbrev pub is_rest : Step → Bool
 is_rest step.Idle = true
 is_rest step.Reread = true

@@ -10,7 +10,7 @@ pub enum Happening<T = Table> {
     NewTable(T),
     /// Inittab was to be read again and could not be.
     NotRead,
-    /// A stage begins, with so many seconds between the two signals that stop a child.
+    /// A stage begins, with the given number of seconds between the two signals that stop a child.
     Enter(Stage, u16),
     /// The ondemand entries of a letter are called.
     Call(Letter),
@@ -55,7 +55,7 @@ pub enum Happening<T = Table> {
 pub enum Handed {
     /// The text came back whole and was taken.
     Whole,
-    /// Only so many of its bytes came back.
+    /// Only the given number of its bytes came back.
     Cut(u64),
     /// An older text came back, of this generation.
     Older(u64),

@@ -6,7 +6,7 @@ ghost use Rattle.init_trace.specs.Lines.{stage_word, order_word, power_word, cau
 use crate::happenings::{Handed, Happening, HappeningIn};
 use init_words::{Ask, Memory, PowerKind, Stage, Status};
 use initctl_frame::{Cause, Got};
-use inittab_text::{Table, write};
+use inittab_text::Table;
 use itoa::Buffer;
 use std::alloc::Allocator;
 
@@ -42,7 +42,7 @@ fn cause_number(why: Cause) -> u8
     }
 }
 
-/// Appends the words, each behind a blank. Where memory is wanted, a part of it may be appended.
+/// Appends the words, each after a blank. Where memory runs out, a part of it may be appended.
 fn put_words<A: Allocator>(text: &mut Vec<u8, A>, words: &[&[u8]]) -> Result<(), Memory>
     ensures { OnOk result (text.new.items ≡ text.old.items
         ++ words_behind (map (λ word. word.now) words.now)) }
@@ -54,7 +54,7 @@ fn put_words<A: Allocator>(text: &mut Vec<u8, A>, words: &[&[u8]]) -> Result<(),
     Ok(())
 }
 
-/// Appends a line of these words. Where memory is wanted, a part of it may be appended.
+/// Appends a line of these words. Where memory runs out, a part of it may be appended.
 fn put_line<A: Allocator>(text: &mut Vec<u8, A>, first: &[u8], rest: &[&[u8]]) -> Result<(), Memory>
     ensures { OnOk result (text.new.items ≡ text.old.items
         ++ line_of_words (first.now ∷ map (λ word. word.now) rest.now)) }
@@ -168,7 +168,7 @@ fn put_entries<A: Allocator + Copy, B: Allocator>(
 ) -> Result<(), Memory>
     ensures { OnOk result (text.new.items ≡ text.old.items ++ text_of table.now) }
 {
-    let lines = write(*text.allocator(), table)?;
+    let lines = inittab_text::write(*text.allocator(), table)?;
     text.extend_from_slice(&lines)?;
     Ok(())
 }
@@ -230,7 +230,7 @@ pub fn print_table<A: Allocator + Copy, B: Allocator>(
     Ok(text)
 }
 
-/// The text of one happening: a line, and behind a table's the lines of the table.
+/// The text of one happening: a line, and after a table's the lines of the table.
 pub fn print_one<A: Allocator + Copy, B: Allocator>(
     alloc: A,
     happening: &HappeningIn<B>,

@@ -17,7 +17,7 @@ use text_lines::cut;
 pub enum ReadFault {
     /// No happening's text begins at the line of this number, counted from 1.
     Line(u64),
-    /// Want of memory.
+    /// Out of memory.
     Memory,
 }
 
@@ -43,10 +43,10 @@ impl From<AllocError> for ReadFault {
     }
 }
 
-/// A happening, and the text behind it.
+/// A happening, and the text after it.
 type Found<'a, A> = Option<(HappeningIn<A>, &'a [u8])>;
 
-/// The table of the next so many lines of a text.
+/// The table of the next given number of lines of a text.
 fn first_table<A: Allocator + Copy>(
     alloc: A,
     count: usize,
@@ -72,7 +72,7 @@ fn first_by_words<A: Allocator + Copy>(alloc: A, text: &[u8]) -> Result<Found<'_
     }
 }
 
-/// The first happening of a text, and the text behind it; None where the text begins with that of no happening. The
+/// The first happening of a text, and the text after it; None where the text begins with that of no happening. The
 /// lines of a table belong to its `use`.
 pub fn first_happening<A: Allocator + Copy>(
     alloc: A,

@@ -3,7 +3,7 @@ use init_words::{Ask, Id, Letter, Level, PowerKind, Stage};
 /// What init does next.
 #[derive(Clone, Copy)]
 pub enum Step {
-    /// Enter a stage, with so many seconds between the two signals that stop a child.
+    /// Enter a stage, with the given number of seconds between the two signals that stop a child.
     Enter(Stage, u16),
     /// Call the ondemand entries of a letter.
     Call(Letter),
@@ -17,7 +17,7 @@ pub enum Step {
     Hold(Id),
     /// Announce that the runlevel is settled.
     Settle(Level),
-    /// Execute init anew, and keep its state.
+    /// Re-execute init, and keep its state.
     Reexec,
     /// Nothing is due.
     Idle,

@@ -1,4 +1,4 @@
--- A short list in a field of fixed room: its items, and blanks behind them.
+-- A short list in a field of fixed room: its items, and blanks after them.
 use Rattle.std.proofs.Common.{◌≡◌, ◌≤◌, ◌-◌, ◌++◌, ℕ, List, length, take, drop, replicate, arith, length-take-le, take-append-drop}
 
 pub take-padded : {X : Type 0} (room : ℕ) (blank : X) (n : ℕ) (xs : List X) → n ≤ room → length xs ≡ room

@@ -123,7 +123,7 @@ fn is_id(text: &[u8]) -> bool
     is_all_id_bytes(text)
 }
 
-/// The text with zeros behind it.
+/// The text with zeros after it.
 fn padded<const N: usize>(text: &[u8]) -> [u8; N]
     requires { length text.now ≤ N }
     ensures { result ≡ text.now ++ replicate (N - length text.now) 0 }

@@ -45,7 +45,7 @@ impl Answer {
     }
 }
 
-/// The two signals that stop a child (init(8)). Nothing takes or gives one yet: a host that sends them will.
+/// The two signals that stop a child (init(8)).
 #[derive(Clone, Copy, Debug, PartialEq, Eq)]
 pub enum Sig {
     Term,

@@ -1,7 +1,7 @@
 use std::alloc::{AllocError, AllocFailed};
 use std::fmt;
 
-/// Want of memory.
+/// Out of memory.
 #[derive(Clone, Copy, Debug, PartialEq, Eq)]
 pub struct Memory;
 
@@ -36,7 +36,7 @@ pub enum Refusal {
     WrongAnswer,
     /// A start or a signal is not answered yet, so no table is adopted.
     NotQuiet,
-    /// Want of memory for the records of a table.
+    /// Lack of memory for the records of a table.
     Memory,
 }
 

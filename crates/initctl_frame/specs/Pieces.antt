@@ -6,7 +6,7 @@ use Rattle.initctl_frame.specs.declared.requests.Got.{Got}
 abbrev pub filled : List Got → List Got → List Got
 filled places gots = take (length places) gots ++ drop (length gots) places
 
--- the room is the places filled with these requests, and so many of them are there
+-- the room is the places filled with these requests, and the given number of them are there
 pub record Fills (places gots : List Got) (count : ℕ) (room : List Got) : Type 0 where
   pub as_many : count ≡ min (length places) (length gots)
   pub in_front : room ≡ filled places gots

@@ -145,7 +145,7 @@ fn block_of_ints(command: u8, runlevel: u8, sleeptime: u16) -> [u8; BLOCK]
     ])
 }
 
-/// The bytes with zeros behind them.
+/// The bytes with zeros after them.
 fn padded<const N: usize>(bytes: &[u8]) -> [u8; N]
     requires { length bytes.now ≤ N }
     ensures { result ≡ bytes.now ++ replicate (N - length bytes.now) 0 }

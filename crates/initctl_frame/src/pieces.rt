@@ -21,7 +21,7 @@ pub fn read_pieces(pieces: &[&[u8]], room: &mut [Got]) -> usize
     count
 }
 
-/// Feeds the whole piece, and puts its requests behind the `count` that are there.
+/// Feeds the whole piece, and puts its requests after the `count` that are there.
 fn read_piece(blocks: &mut Blocks, piece: &[u8], room: &mut [Got], count: usize) -> usize
     requires { count ≤ length room.old }
     ensures within { result ≤ length room.new }
@@ -41,7 +41,7 @@ fn read_piece(blocks: &mut Blocks, piece: &[u8], room: &mut [Got], count: usize)
     count
 }
 
-/// Puts a request behind the `count` that are there, where a place is left, and gives how many there are then.
+/// Puts a request after the `count` that are there, where a place is left, and gives how many there are then.
 fn put(room: &mut [Got], count: usize, got: Option<Got>) -> usize
     requires { count ≤ length room.old }
     ensures within { result ≤ length room.new }

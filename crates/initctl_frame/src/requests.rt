@@ -4,13 +4,13 @@ use init_words::{Letter, Level, PowerKind};
 /// What init got by a request block (initreq.h, telinit(8)).
 #[derive(Clone, Copy, Debug, PartialEq, Eq)]
 pub enum Got {
-    /// Go to the runlevel, with so many seconds between the two signals that stop a child, 0 to 3,600.
+    /// Go to the runlevel, with the given number of seconds between the two signals that stop a child, 0 to 3,600.
     Level(Level, u16),
     /// Start the ondemand entries of the letter.
     Call(Letter),
     /// Read inittab again.
     Reload,
-    /// Execute init anew, and keep its state.
+    /// Re-execute init, and keep its state.
     Reexec,
     /// News of the power.
     Power(PowerKind),

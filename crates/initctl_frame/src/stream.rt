@@ -17,14 +17,15 @@ pub struct Blocks {
 
 impl Model for Blocks {
     ghost use Rattle.std.specs.Prelude.{◌≡◌, ◌<◌, length, min};
+    ghost use Rattle.initctl_frame.specs.declared.frames.TheConstants.{BLOCK, FRONT};
     ghost use Rattle.initctl_frame.specs.Blocks.{Begun};
 
     ghost Value = { Begun };
 
     ghost view = { λ blocks. record { count = blocks.count; front = blocks.front.items } };
 
-    ghost invariant = { λ blocks. (blocks.count < 384)
-        × (length blocks.front.items ≡ min blocks.count 16) };
+    ghost invariant = { λ blocks. (blocks.count < BLOCK)
+        × (length blocks.front.items ≡ min blocks.count FRONT) };
 }
 
 impl Blocks {
@@ -44,11 +45,11 @@ impl Blocks {
     /// and what the block asks for where it is full.
     pub fn feed(&mut self, piece: &[u8]) -> (usize, Option<Got>)
         // To the end of the block under way, or to its own end: so a piece with bytes in it gets on.
-        ensures taken { result.0 ≡ min (length piece.now) (384 - self.old.count) }
+        ensures taken { result.0 ≡ min (length piece.now) (BLOCK - self.old.count) }
         ensures progress { 0 < length piece.now → 0 < result.0 }
 
         // A request is given exactly where the block is full, and it is the next of those of all bytes so far.
-        ensures full { IsSome result.1 ↔ (384 ≤ self.old.count + length piece.now) }
+        ensures full { IsSome result.1 ↔ (BLOCK ≤ self.old.count + length piece.now) }
         ensures stands { (bytes : List ℕ) → Stands self.old bytes
             → Stands self.new (bytes ++ take result.0 piece.now) }
         ensures got { (bytes : List ℕ) → Stands self.old bytes
@@ -73,7 +74,7 @@ impl Blocks {
     /// How many bytes of the block under way have come, 0 to 383.
     pub fn rest(&self) -> usize
         ensures count { result ≡ self.now.count }
-        ensures partial { result < 384 }
+        ensures partial { result < BLOCK }
         ensures over { (bytes : List ℕ) → Stands self.now bytes → result ≡ length (over_of bytes) }
     {
         self.count

@@ -2,7 +2,7 @@
 #![tactic(auto)]
 
 use initd_command::{USAGE, run_words};
-use program_edge::{tell_unread, words};
+use program_io::{report_unread_words, words};
 use std::process::ExitCode;
 
 fn main(rt: HostRuntime) -> ExitCode {
@@ -15,7 +15,7 @@ fn main(rt: HostRuntime) -> ExitCode {
             &mut rt.stdout(),
             &mut rt.stderr(),
         ),
-        Err(error) => tell_unread("initd", USAGE, &error, &mut rt.stderr()),
+        Err(error) => report_unread_words("initd", USAGE, &error, &mut rt.stderr()),
     };
     ExitCode::from(status)
 }

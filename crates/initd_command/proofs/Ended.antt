@@ -2,11 +2,11 @@
 use Rattle.std.proofs.Common.{◌≡◌, refl, sym, ap₂, Result, Ok, Err, IfErr, OnOk, ◌⊎◌, inl, inr, Bool, true, false, ◌&&◌, List, ℕ, Option}
 use Rattle.std.specs.Io.KnownBytes.{Appends, Keeps}
 use Rattle.std.proofs.KnownBytes.{Appends-kept, Keeps-trans}
-use Rattle.supervisor.specs.declared.running.SimFault.{SimFault}
-use Rattle.supervisor.specs.declared.running.SimFault.TheVariants as fault
-use Rattle.supervisor.specs.Simulation.{Done, Ends, Scenario, past_text}
-use Rattle.host_turns.specs.declared.serving.Served.{Served}
-use Rattle.initd_options.specs.Options.{Service}
+use Rattle.simulator.specs.declared.running.SimFault.{SimFault}
+use Rattle.simulator.specs.declared.running.SimFault.TheVariants as fault
+use Rattle.simulator.specs.Simulation.{Done, Ends, Scenario, past_text}
+use Rattle.supervisor.specs.declared.serving.Served.{Served}
+use Rattle.initd_options.specs.Options.{RunSaid}
 use Rattle.initd_command.specs.Services.{EndsTold, IsServed, end_at, end_of}
 
 pub done_kept : (s : Scenario) (old mid new : Option (List ℕ)) → Done s old mid → Keeps mid new → Done s old new
@@ -34,7 +34,7 @@ either_kept s old mid new (inl done) kept = inl (done_kept s old mid new done ke
 either_kept s old mid new (inr (f, ends)) kept = inr (f, ends_kept s f old mid new ends kept)
 
 -- a run whose turns were made ends as they did
-pub told_ends : (service : Service) (told : List ℕ) (old new : Option (List ℕ)) (served : Served) → IsServed service served → Appends old new told
+pub told_ends : (service : RunSaid) (told : List ℕ) (old new : Option (List ℕ)) (served : Served) → IsServed service served → Appends old new told
     → EndsTold service told (end_of service.drain served) old new
 told_ends service told old new served is appends = by served.logged (service.drain && served.drained) refl refl
   where

@@ -1,20 +1,20 @@
 -- How a command line of initd ends: its exit status, what was written, and what is reported of it.
 use Rattle.std.specs.Prelude.{◌⊎◌, ℕ, List, [], ◌++◌, codes, decimal, Option}
 use Rattle.std.specs.Io.KnownBytes.{Keeps}
-use Rattle.program_edge.specs.Writing.{AppendsPrefix}
-use Rattle.program_edge.specs.declared.statuses.TheConstants.{DONE, REFUSED, UNLAWFUL, LIMIT_REACHED, DEVICE_FAULT}
-use Rattle.supervisor.specs.declared.running.SimFault.{SimFault}
-use Rattle.supervisor.specs.declared.running.SimFault.TheVariants as fault
-use Rattle.supervisor.specs.Faults.{fault_text}
-use Rattle.system_side.specs.declared.objections.Objection.{Objection}
-use Rattle.system_side.specs.Objections.{objection_text}
+use Rattle.program_io.specs.Writing.{AppendsPrefix}
+use Rattle.program_io.specs.declared.statuses.TheConstants.{DONE, REFUSED, UNLAWFUL, LIMIT_REACHED, DEVICE_FAULT}
+use Rattle.simulator.specs.declared.running.SimFault.{SimFault}
+use Rattle.simulator.specs.declared.running.SimFault.TheVariants as fault
+use Rattle.simulator.specs.Faults.{fault_text}
+use Rattle.simulated_system.specs.declared.objections.Objection.{Objection}
+use Rattle.simulated_system.specs.Objections.{objection_text}
 use Rattle.initd_command.specs.Lines.{line_at, line_told}
-use Rattle.initd_command.specs.declared.checking.TheConstants.{UNWRITTEN}
+use Rattle.initd_command.specs.declared.check.TheConstants.{UNWRITTEN}
 use Rattle.initd_command.specs.declared.reports.TheConstants.{NO_MEMORY}
-use Rattle.initd_command.specs.declared.running.TheConstants.{USAGE}
-use Rattle.initd_command.specs.declared.serving.TheConstants.{LIMITED, UNLOGGED, UNTOLD}
+use Rattle.initd_command.specs.declared.command.TheConstants.{USAGE}
+use Rattle.initd_command.specs.declared.run.TheConstants.{LIMITED, UNLOGGED, UNTOLD}
 
--- done; the words are no command line, or want memory; the file of a path was not read, and why; the run over this
+-- done; the words are no command line, or memory ran out; the file of a path was not read, and why; the run over this
 -- script ended before its end; the writer could not be flushed; a trace is lawful, or unlawful, of which this is told;
 -- its line of this number is none; the verdict could not be written; a run over the operating system is drained, or
 -- made all its turns; its trace was not written whole, or the file of its path not created, and why; the faults of its
@@ -69,7 +69,7 @@ abbrev pub reason_of : List ℕ → SimFault → List ℕ
 reason_of script (fault.Forbidden number why) = reason_message (line_at number script) why
 reason_of script _ = []
 
--- the fault of a run over this script, and behind it the reason of one for a line that may not come
+-- the fault of a run over this script, and after it the reason of one for a line that may not come
 abbrev pub fault_message : List ℕ → SimFault → List ℕ
 fault_message script f = codes "initd: " ++ fault_text f ++ codes "\n" ++ reason_of script f
 

@@ -4,13 +4,13 @@ use Rattle.std.specs.List.{starts_with}
 use Rattle.std.specs.Option.{option_map_or}
 use Rattle.text_lines.specs.Lines.{after_lines, cut}
 
--- what stands before the first newline
-abbrev pub first_line : List ℕ → List ℕ
-first_line text = option_map_or (λ parts. parts.0) (cut 10 text) text
+-- the text before the first newline
+abbrev pub front_line : List ℕ → List ℕ
+front_line text = option_map_or (λ parts. parts.0) (cut 10 text) text
 
 -- the line of this number, counted from 1
 abbrev pub line_at : ℕ → List ℕ → List ℕ
-line_at number text = option_map_or first_line (after_lines (number - 1) text) []
+line_at number text = option_map_or front_line (after_lines (number - 1) text) []
 
 -- a script line as it is told: of a table the first word alone
 abbrev pub line_told : List ℕ → List ℕ

@@ -3,33 +3,33 @@
 use Rattle.std.specs.Prelude.{◌≡◌, ◌⊎◌, ℕ, List, Option, Some, None}
 use Rattle.std.specs.Io.KnownBytes.{Keeps}
 use Rattle.path_texts.specs.Known.{IsTextAt, KnownTexts}
-use Rattle.supervisor.specs.declared.running.SimFault.{SimFault}
-use Rattle.supervisor.specs.Simulation.{Done, Ends, Scenario, scenario}
-use Rattle.initd_options.specs.CommandLine.{Run, Said, judges, read_of, runs, serves}
+use Rattle.simulator.specs.declared.running.SimFault.{SimFault}
+use Rattle.simulator.specs.Simulation.{Done, Ends, Scenario, scenario}
+use Rattle.initd_options.specs.CommandLine.{SimulateSaid, Said, judges, read_of, simulates, runs}
 use Rattle.initd_command.specs.Endings.{Ending, done, usage, no_memory, unread, stopped, unflushed}
-use Rattle.initd_command.specs.Services.{EndsService}
+use Rattle.initd_command.specs.Services.{EndsRun}
 use Rattle.initd_command.specs.Verdicts.{EndsCheck}
 
 -- how a run may end
-abbrev pub EndsRun : Scenario → Ending → Option (List ℕ) → Option (List ℕ) → Type 0
-EndsRun s done old new = Done s old new
-EndsRun s (stopped script f) old new = (script ≡ s.script) × Ends s f old new
-EndsRun s unflushed old new = Done s old new ⊎ ((f : SimFault) × Ends s f old new)
-EndsRun s _ old new = ⊥
+abbrev pub EndsSimulation : Scenario → Ending → Option (List ℕ) → Option (List ℕ) → Type 0
+EndsSimulation s done old new = Done s old new
+EndsSimulation s (stopped script f) old new = (script ≡ s.script) × Ends s f old new
+EndsSimulation s unflushed old new = Done s old new ⊎ ((f : SimFault) × Ends s f old new)
+EndsSimulation s _ old new = ⊥
 
 -- how a run ends of files: one is not read and nothing written, or the run ends over what was read
-abbrev pub EndsFiles : KnownTexts → Run → Ending → Option (List ℕ) → Option (List ℕ) → Type 0
-EndsFiles text_at run (unread path why) old new = ((path ≡ run.table) ⊎ (path ≡ run.script)) × Keeps old new
-EndsFiles text_at run ending old new = (inittab script : List ℕ) × IsTextAt text_at run.table inittab
-    × IsTextAt text_at run.script script × EndsRun (scenario run.level inittab script) ending old new
+abbrev pub EndsSimulate : KnownTexts → SimulateSaid → Ending → Option (List ℕ) → Option (List ℕ) → Type 0
+EndsSimulate text_at run (unread path why) old new = ((path ≡ run.table) ⊎ (path ≡ run.script)) × Keeps old new
+EndsSimulate text_at run ending old new = (inittab script : List ℕ) × IsTextAt text_at run.table inittab
+    × IsTextAt text_at run.script script × EndsSimulation (scenario run.level inittab script) ending old new
 
 -- how a command line ends that was read
 abbrev pub EndsSaid : KnownTexts → Said → Ending → Option (List ℕ) → Option (List ℕ) → Type 0
-EndsSaid text_at (runs run) ending old new = EndsFiles text_at run ending old new
+EndsSaid text_at (simulates run) ending old new = EndsSimulate text_at run ending old new
 EndsSaid text_at (judges path) ending old new = EndsCheck text_at path ending old new
-EndsSaid text_at (serves service) ending old new = EndsService text_at service ending old new
+EndsSaid text_at (runs service) ending old new = EndsRun text_at service ending old new
 
--- how words end: they are no command line or want memory, and nothing is written, or they end by what they say
+-- how words end: they are no command line or memory ran out, and nothing is written, or they end by what they say
 abbrev pub EndsBy : KnownTexts → List (List ℕ) → Ending → Option (List ℕ) → Option (List ℕ) → Type 0
 EndsBy text_at words usage old new = (read_of words ≡ None) × Keeps old new
 EndsBy text_at words no_memory old new = Keeps old new

@@ -2,14 +2,14 @@
 use Rattle.std.specs.Prelude.{◌≡◌, ℕ, true, ◌+◌, ◌==◌, if◌then◌else◌, List, [], ◌++◌, take, reverse, slice_get, codes, decimal, Option, Some, None}
 use Rattle.std.specs.Option.{option_map_or}
 use Rattle.std.specs.Io.KnownBytes.{Appends, Keeps}
-use Rattle.program_edge.specs.Writing.{AppendsPrefix}
+use Rattle.program_io.specs.Writing.{AppendsPrefix}
 use Rattle.path_texts.specs.Known.{IsTextAt, KnownTexts}
 use Rattle.text_lines.specs.Lines.{newlines}
 use Rattle.init_trace.specs.Event.{Event}
 use Rattle.init_trace.specs.Lawful.{Fault, first_breach}
 use Rattle.init_trace.specs.Lines.{event_text, trace_text}
 use Rattle.init_trace.specs.Range.{are_in_range, Stops}
-use Rattle.initd_command.specs.Lines.{first_line}
+use Rattle.initd_command.specs.Lines.{front_line}
 use Rattle.initd_command.specs.Endings.{Ending, no_memory, unread, lawful, unlawful, torn, unwritten}
 
 abbrev pub fault_at : ℕ → ℕ → Fault
@@ -43,7 +43,7 @@ message_of number line why =
 abbrev pub breach_message : List Event → Fault → List ℕ
 breach_message trace fault =
     message_of (newlines (trace_text (take fault.place trace)) + 1)
-    (option_map_or (λ happening. first_line (event_text happening)) (slice_get trace fault.place) [])
+    (option_map_or (λ happening. front_line (event_text happening)) (slice_get trace fault.place) [])
     (law_text fault.law)
 
 -- how a lawful trace ends, and one with this breach

@@ -1,10 +1,11 @@
 //! The work of `initd`: the files that its words name, the run that they ask for, and what is reported of a fault.
 #![tactic(auto)]
 
-mod checking;
+mod check;
+mod command;
 mod lines;
 mod reports;
-mod running;
-mod serving;
+mod run;
+mod simulate;
 
-pub use running::{USAGE, run_words};
+pub use command::{USAGE, run_words};

@@ -1,11 +1,11 @@
 ghost use Rattle.std.specs.Prelude.{◌≡◌};
-ghost use Rattle.initd_command.specs.Lines.{first_line, line_at, line_told};
+ghost use Rattle.initd_command.specs.Lines.{front_line, line_at, line_told};
 
 use text_lines::{after_lines, cut};
 
-/// What stands before the first newline.
-pub(crate) fn first_line(text: &[u8]) -> &[u8]
-    ensures { result.now ≡ first_line text.now }
+/// The text before the first newline.
+pub(crate) fn front_line(text: &[u8]) -> &[u8]
+    ensures { result.now ≡ front_line text.now }
 {
     match cut(b'\n', text) {
         Some((line, _)) => line,
@@ -18,7 +18,7 @@ pub(crate) fn line_at(number: u64, text: &[u8]) -> &[u8]
     ensures { result.now ≡ line_at number text.now }
 {
     match after_lines(number.saturating_sub(1) as usize, text) {
-        Some(rest) => first_line(rest),
+        Some(rest) => front_line(rest),
         None => &[],
     }
 }

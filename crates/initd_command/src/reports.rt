@@ -1,15 +1,15 @@
 ghost use Rattle.std.specs.Prelude.{◌≡◌, true, ℕ, List, OnOk, OnErr, string_bytes, IfOk, ◌++◌};
 ghost use Rattle.std.specs.Io.KnownBytes.{Appends};
-ghost use Rattle.program_edge.specs.Writing.{AppendsPrefix};
+ghost use Rattle.program_io.specs.Writing.{AppendsPrefix};
 ghost use Rattle.initd_command.specs.Endings.{ReportsText, created_message, fault_message, fault_status, file_message, reason_message};
 
 use crate::lines::{line_at, line_told};
-use program_edge::{DEVICE_FAULT, REFUSED, write_text};
+use program_io::{DEVICE_FAULT, REFUSED, write_text};
+use simulated_system::Objection;
+use simulator::SimFault;
 use std::alloc::{AllocError, Global};
 use std::io;
 use std::io::Write;
-use supervisor::SimFault;
-use system_side::Objection;
 
 /// What is reported where memory runs out, also for the message itself.
 pub(crate) const NO_MEMORY: &str = "initd: out of memory\n";
@@ -134,7 +134,7 @@ pub(crate) fn report_made<E: Write>(message: Result<String, AllocError>, err: &m
     }
 }
 
-/// The same of lines that may not be text.
+/// Reports lines that may not be text, or that there was no memory to make them.
 fn report_lines<E: Write>(message: Result<Vec<u8>, AllocError>, err: &mut E)
     ensures made { IfOk message (λ text.
         AppendsPrefix (E.contents err.old) (E.contents err.new) text.items) }
@@ -154,7 +154,7 @@ pub(crate) fn report<E: Write>(text: &str, err: &mut E)
     report_bytes(text.as_bytes(), err);
 }
 
-/// The same of bytes.
+/// Writes bytes as far as the writer takes them.
 pub(crate) fn report_bytes<E: Write>(text: &[u8], err: &mut E)
     ensures { AppendsPrefix (E.contents err.old) (E.contents err.new) text.now }
 {

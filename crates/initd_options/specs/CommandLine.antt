@@ -5,9 +5,9 @@ use Rattle.std.specs.Str.{bytes_eq}
 use Rattle.clap.specs.Words.{App, Row, Text, fault_of, new_app, subcommand_of, with_subcommand}
 use Rattle.command_words.specs.CommandLines.{program_app, value_rule, with_rules, word_rule}
 use Rattle.init_words.specs.declared.levels.Level.{Level}
-use Rattle.initd_options.specs.Options.{Service, run_line, service_of, service_said}
+use Rattle.initd_options.specs.Options.{RunSaid, run_line, run_of, run_said}
 use Rattle.initd_options.specs.Values.{level_said, value_said}
-use Rattle.initd_options.specs.declared.command.Simulation.{Simulation}
+use Rattle.initd_options.specs.declared.command.SimulateWords.{SimulateWords}
 use Rattle.initd_options.specs.declared.command.Words.{Words}
 use Rattle.initd_options.specs.declared.command.Words.TheVariants.{Simulate, Check, Run as Serve}
 
@@ -26,28 +26,28 @@ command_line =
     with_subcommand (with_subcommand (with_subcommand required simulate_line.top) check_line.top) run_line.top
 
 -- the level to go to, if one is given, and the paths of the inittab and the script
-pub record Run : Type 0 where
+pub record SimulateSaid : Type 0 where
   pub level : Option Level
   pub table : Text
   pub script : Text
 
 -- a simulated run of init, the path of a trace that is judged, or a run over the operating system
 pub data Said : Type 0 where
-  runs : Run → Said
+  simulates : SimulateSaid → Said
   judges : Text → Said
-  serves : Service → Said
+  runs : RunSaid → Said
 
-abbrev pub run_of : Simulation → Run
-run_of words = record { level = words.level; table = string_bytes words.table; script = string_bytes words.script }
+abbrev pub simulation_of : SimulateWords → SimulateSaid
+simulation_of words = record { level = words.level; table = string_bytes words.table; script = string_bytes words.script }
 
 abbrev pub said_of : Words → Said
-said_of (Simulate words) = runs (run_of words)
+said_of (Simulate words) = simulates (simulation_of words)
 said_of (Check trace) = judges (string_bytes trace)
-said_of (Serve said) = serves (service_of said)
+said_of (Serve said) = runs (run_of said)
 
--- what the words behind `simulate` say
-abbrev pub words_said : List Row → Option Run
-words_said rows =
+-- what the words after `simulate` say
+abbrev pub simulation_said : List Row → Option SimulateSaid
+simulation_said rows =
     option_map (λ level. record {
       level = level;
       table = value_said (codes "table") rows;
@@ -55,23 +55,23 @@ words_said rows =
     })
     (level_said rows)
 
--- what the words behind `check` say
+-- what the words after `check` say
 abbrev pub trace_said : List Row → Said
 trace_said rows = judges (value_said (codes "trace") rows)
 
-abbrev pub served_by : Option (Text × List Row) → Option Said
-served_by None = None
-served_by (Some entered) = if bytes_eq entered.0 (codes "run") then option_map serves (service_said entered.1) else None
+abbrev pub run_said_by : Option (Text × List Row) → Option Said
+run_said_by None = None
+run_said_by (Some entered) = if bytes_eq entered.0 (codes "run") then option_map runs (run_said entered.1) else None
 
 abbrev pub judged_by : Option (Text × List Row) → Option Said
 judged_by None = None
 judged_by (Some entered) =
-    if bytes_eq entered.0 (codes "check") then Some (trace_said entered.1) else served_by (Some entered)
+    if bytes_eq entered.0 (codes "check") then Some (trace_said entered.1) else run_said_by (Some entered)
 
 abbrev pub said_by : Option (Text × List Row) → Option Said
 said_by None = None
 said_by (Some entered) =
-    if bytes_eq entered.0 (codes "simulate") then option_map runs (words_said entered.1) else judged_by (Some entered)
+    if bytes_eq entered.0 (codes "simulate") then option_map simulates (simulation_said entered.1) else judged_by (Some entered)
 
 -- what words say; where the command line has a fault in them, nothing
 abbrev pub read_of : List Text → Option Said

@@ -8,7 +8,7 @@ use Rattle.command_words.specs.CommandLines.{default_rule, switch_rule, value_ru
 use Rattle.init_words.specs.declared.levels.Level.{Level}
 use Rattle.text_lines.specs.Lines.{cut}
 use Rattle.text_lines.specs.Numbers.{number_read}
-use Rattle.initd_options.specs.declared.options.Serving.{Serving}
+use Rattle.initd_options.specs.declared.options.RunWords.{RunWords}
 use Rattle.initd_options.specs.Values.{level_said, value_said}
 
 -- the paths of the inittab, of the channel of requests, of the trace, which may be left out, and of the text of init's
@@ -33,7 +33,7 @@ turns_read word = option_and_then (λ turns. if nat_lt 0 turns then Some turns e
 abbrev pub digit_read : ℕ → Option ℕ
 digit_read byte = if is_ascii_digit byte then Some (byte - 48) else None
 
--- the hundredths of one or two digits behind a point
+-- the hundredths of one or two digits after a point
 abbrev pub part_read : List ℕ → Option ℕ
 part_read (tenth ∷ []) = option_map (λ t. t * 10) (digit_read tenth)
 part_read (tenth ∷ hundredth ∷ []) =
@@ -60,7 +60,7 @@ is_pause word = is_length (hundredths_read word)
 
 -- the paths, that of a trace if one is given, the level to go to if one is, the greatest number of turns, whether the
 -- run ends where it is drained, and the seconds of a pause
-pub record Service : Type 0 where
+pub record RunSaid : Type 0 where
   pub inittab : Text
   pub initctl : Text
   pub state : Text
@@ -70,8 +70,8 @@ pub record Service : Type 0 where
   pub drain : Bool
   pub pause : Text
 
-abbrev pub service_of : Serving → Service
-service_of said = record {
+abbrev pub run_of : RunWords → RunSaid
+run_of said = record {
   inittab = string_bytes said.inittab;
   initctl = string_bytes said.initctl;
   state = string_bytes said.state;
@@ -82,7 +82,7 @@ service_of said = record {
   pause = string_bytes said.pause;
 }
 
-abbrev pub service_with : List Row → Option Level → ℕ → Service
+abbrev pub service_with : List Row → Option Level → ℕ → RunSaid
 service_with rows level turns = record {
   inittab = value_said (codes "inittab") rows;
   initctl = value_said (codes "initctl") rows;
@@ -94,9 +94,9 @@ service_with rows level turns = record {
   pause = value_said (codes "pause") rows;
 }
 
--- what the words behind `run` say; nothing where the level, the turns or the pause are none
-abbrev pub service_said : List Row → Option Service
-service_said rows =
+-- what the words after `run` say; nothing where the level, the turns or the pause are none
+abbrev pub run_said : List Row → Option RunSaid
+run_said rows =
     option_and_then
     (λ level. option_and_then
     (λ turns. if is_pause (value_said (codes "pause") rows) then Some (service_with rows level turns) else None)

@@ -3,7 +3,7 @@ use Rattle.std.specs.Prelude.{List, [], codes, Option, Some, None, unwrap_or, op
 use Rattle.clap.specs.Words.{Row, Text, first_of}
 use Rattle.init_words.specs.declared.levels.Level.{Level}
 use Rattle.init_words.specs.Levels.{level_read}
-use Rattle.program_edge.specs.Arguments.{only_byte}
+use Rattle.program_io.specs.Arguments.{only_byte}
 
 -- the value that is given to an argument, or its default
 abbrev pub value_said : Text → List Row → Text

@@ -1,19 +1,19 @@
 ghost use Rattle.std.specs.Prelude.{◌≡◌, map, option_map, string_bytes, IfOk, IsErrOf};
 ghost use Rattle.clap.specs.Words.{FailsBy, app_of, fault_of, found_of, rows_of, subcommand_of, subcommand_rows_of};
 ghost use Rattle.command_words.specs.CommandLines.{IsLine};
-ghost use Rattle.initd_options.specs.CommandLine.{check_line, command_line, judged_by, read_of, runs, said_by, said_of, served_by, simulate_line, trace_said, words_said};
+ghost use Rattle.initd_options.specs.CommandLine.{check_line, command_line, judged_by, read_of, simulates, said_by, said_of, run_said_by, simulate_line, trace_said, simulation_said};
 ghost use Rattle.initd_options.specs.Values.{level_said, level_word_read};
 
-use crate::options::{Serving, read_run, run_line};
+use crate::options::{RunWords, read_run, run_line};
 use clap::{ArgMatches, Command, Error};
 use command_words::{WordFault, program_line, value_of, with_value, with_word, word_fault};
 use init_words::Level;
-use program_edge::only_byte;
+use program_io::only_byte;
 use std::alloc::{AllocError, Global};
 
 /// What a command line of `initd simulate` says.
 #[derive(Debug, Drop)]
-pub struct Simulation {
+pub struct SimulateWords {
     /// The runlevel to go to, where one is given.
     pub level: Option<Level>,
     /// The path of the inittab(5).
@@ -26,11 +26,11 @@ pub struct Simulation {
 #[derive(Debug, Drop)]
 pub enum Words {
     /// Run init over an inittab and a script.
-    Simulate(Simulation),
+    Simulate(SimulateWords),
     /// Judge the trace of this path.
     Check(String),
     /// Run init over the operating system.
-    Run(Serving),
+    Run(RunWords),
 }
 
 /// Reads a command line, without the program's name in front.
@@ -48,7 +48,7 @@ pub fn read_words(alloc: Global, words: &[String]) -> Result<Words, WordFault>
     }
 }
 
-/// The command line behind `initd simulate`.
+/// The command line after `initd simulate`.
 fn simulate_line<'a>(alloc: Global) -> Result<Command<'a>, AllocError>
     ensures { IfOk result (IsLine simulate_line) }
 {
@@ -58,7 +58,7 @@ fn simulate_line<'a>(alloc: Global) -> Result<Command<'a>, AllocError>
     with_word(alloc, line, "script")
 }
 
-/// The command line behind `initd check`.
+/// The command line after `initd check`.
 fn check_line<'a>(alloc: Global) -> Result<Command<'a>, AllocError>
     ensures { IfOk result (IsLine check_line) }
 {
@@ -112,7 +112,7 @@ fn read_check(alloc: Global, matches: &ArgMatches) -> Result<Option<Words>, Allo
 /// The same, where `check` was not entered either.
 fn read_serving(alloc: Global, matches: &ArgMatches) -> Result<Option<Words>, AllocError>
     ensures { IfOk result (λ said.
-        option_map said_of said ≡ served_by (subcommand_rows_of matches.now)) }
+        option_map said_of said ≡ run_said_by (subcommand_rows_of matches.now)) }
 {
     match matches.subcommand_matches("run") {
         Some(run) => Ok(read_run(alloc, run)?.map(Words::Run)),
@@ -128,12 +128,12 @@ fn read_trace(alloc: Global, matches: &ArgMatches) -> Result<Words, AllocError>
 
 fn read_simulate(alloc: Global, matches: &ArgMatches) -> Result<Option<Words>, AllocError>
     ensures { IfOk result (λ said.
-        option_map said_of said ≡ option_map runs (words_said (rows_of (found_of matches.now)))) }
+        option_map said_of said ≡ option_map simulates (simulation_said (rows_of (found_of matches.now)))) }
 {
     let Some(level) = read_level_option(matches) else {
         return Ok(None);
     };
-    Ok(Some(Words::Simulate(Simulation {
+    Ok(Some(Words::Simulate(SimulateWords {
         level,
         table: String::from_str(alloc, value_of(matches, "table"))?,
         script: String::from_str(alloc, value_of(matches, "script"))?,

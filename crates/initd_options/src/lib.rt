@@ -4,6 +4,6 @@
 mod command;
 mod options;
 
-pub use command::{Simulation, Words, read_words};
+pub use command::{SimulateWords, Words, read_words};
 pub use command_words::WordFault;
-pub use options::Serving;
+pub use options::RunWords;

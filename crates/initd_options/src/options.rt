@@ -1,7 +1,7 @@
 ghost use Rattle.std.specs.Prelude.{◌≡◌, ◌<◌, false, codes, option_map, string_bytes, IfOk, IfSome};
 ghost use Rattle.clap.specs.Words.{first_of, found_of, rows_of};
 ghost use Rattle.command_words.specs.CommandLines.{IsLine};
-ghost use Rattle.initd_options.specs.Options.{digit_read, hundredths_read, is_pause, part_read, run_line, service_of, service_said, turns_read};
+ghost use Rattle.initd_options.specs.Options.{digit_read, hundredths_read, is_pause, part_read, run_line, run_of, run_said, turns_read};
 
 use crate::command::read_level_option;
 use clap::{ArgMatches, Command};
@@ -12,12 +12,12 @@ use text_lines::{cut, read_below};
 
 /// What a command line of `initd run` says.
 #[derive(Debug, Drop)]
-pub struct Serving {
+pub struct RunWords {
     /// The path of the inittab(5).
     pub inittab: String,
     /// The path of the channel of requests (initreq.h).
     pub initctl: String,
-    /// The path of the text of init's state, by which init executes itself anew.
+    /// The path of the text of init's state, by which init re-executes itself.
     pub state: String,
     /// The path of the trace, where one is to be written.
     pub trace: Option<String>,
@@ -37,7 +37,7 @@ const TURNS_LIMIT: u64 = 1_000_000_000;
 /// The longest pause, in hundredths of a second.
 const PAUSE_LIMIT: u64 = 6_000;
 
-/// The command line behind `initd run`.
+/// The command line after `initd run`.
 pub(crate) fn run_line<'a>(alloc: Global) -> Result<Command<'a>, AllocError>
     ensures { IfOk result (IsLine run_line) }
 {
@@ -52,10 +52,10 @@ pub(crate) fn run_line<'a>(alloc: Global) -> Result<Command<'a>, AllocError>
     with_default(alloc, line, "pause", "1")
 }
 
-/// What the words behind `run` say; None where a value is none of its kind.
-pub(crate) fn read_run(alloc: Global, matches: &ArgMatches) -> Result<Option<Serving>, AllocError>
+/// What the words after `run` say; None where a value is none of its kind.
+pub(crate) fn read_run(alloc: Global, matches: &ArgMatches) -> Result<Option<RunWords>, AllocError>
     ensures { IfOk result (λ said.
-        option_map service_of said ≡ service_said (rows_of (found_of matches.now))) }
+        option_map run_of said ≡ run_said (rows_of (found_of matches.now))) }
 {
     let Some(level) = read_level_option(matches) else {
         return Ok(None);
@@ -66,7 +66,7 @@ pub(crate) fn read_run(alloc: Global, matches: &ArgMatches) -> Result<Option<Ser
     if !is_pause(value_of(matches, "pause")) {
         return Ok(None);
     }
-    Ok(Some(Serving {
+    Ok(Some(RunWords {
         inittab: String::from_str(alloc, value_of(matches, "inittab"))?,
         initctl: String::from_str(alloc, value_of(matches, "initctl"))?,
         state: String::from_str(alloc, value_of(matches, "state"))?,
@@ -97,7 +97,7 @@ fn read_turns(word: &str) -> Option<u64>
     if turns > 0 { Some(turns) } else { None }
 }
 
-/// The word is a decimal number of seconds, 0.01 to 60, with at most two digits behind a point.
+/// The word is a decimal number of seconds, 0.01 to 60, with at most two digits after a point.
 fn is_pause(word: &str) -> bool
     ensures { result ≡ is_pause word.now }
 {
@@ -118,7 +118,7 @@ fn read_hundredths(word: &[u8]) -> Option<u64>
     Some(seconds * 100 + read_part(part)?)
 }
 
-/// The hundredths of one or two digits behind a point.
+/// The hundredths of one or two digits after a point.
 fn read_part(digits: &[u8]) -> Option<u64>
     ensures bound { IfSome result (λ part. part < 100) }
     ensures value { result ≡ part_read digits.now }

@@ -22,7 +22,7 @@ without_repeats (mark ∷ marks) = mark ∷ filter (λ other. not (same_mark mar
 abbrev pub marks_of : List ℕ → List Mark
 marks_of field = without_repeats (filter_map mark_read field)
 
--- the marks with one more behind them, unless it is there already
+-- the marks with one more after them, unless it is there already
 abbrev pub with_mark : List Mark → Option Mark → List Mark
 with_mark marks None = marks
 with_mark marks (Some mark) = if names mark marks then marks else marks ++ mark ∷ []

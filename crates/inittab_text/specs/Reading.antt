@@ -17,7 +17,7 @@ abbrev pub faults_at : ℕ → Result (Option Entry) LineKind → List LineFault
 faults_at number (Ok kept) = []
 faults_at number (Err kind) = record { line = number; kind = kind } ∷ []
 
--- the entries, with those of the lines behind them
+-- the entries, with those of the lines after them
 abbrev pub entries_from : List Entry → List (List ℕ) → List Entry
 entries_from before [] = before
 entries_from before (line ∷ lines) = entries_from (entries_after before (verdict_of before line)) lines

@@ -37,7 +37,7 @@ text_of table = flat_map line_of table
 abbrev pub table_written : List ℕ → Option (List Entry)
 table_written text = if bytes_eq (text_of (table_of_text text)) text then Some (table_of_text text) else None
 
--- the table of the next so many lines, and the text behind them
+-- the table of the next given number of lines, and the text after them
 abbrev pub table_begun : ℕ → List ℕ → Option (List Entry × List ℕ)
 table_begun count text =
     option_and_then

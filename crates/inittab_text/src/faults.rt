@@ -40,7 +40,7 @@ pub struct LineFault {
 pub enum TableFault {
     /// The text has over 65,536 bytes.
     TooLong,
-    /// Want of memory.
+    /// Out of memory.
     Memory,
 }
 

@@ -107,7 +107,7 @@ impl<A: Allocator> Table<A> {
         entry
     }
 
-    /// Adds an entry behind the others.
+    /// Adds an entry after the others.
     pub(crate) fn push(&mut self, entry: Entry) -> Result<(), Memory>
         requires new { entry_of entry.id self.old ≡ None }
         requires written { is_written entry ≡ true }

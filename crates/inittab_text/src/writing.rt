@@ -32,7 +32,7 @@ fn levels_written(act: Act, marks: &[Mark]) -> ArrayVec<u8, MARK_LIMIT>
     field
 }
 
-/// Appends a field and the byte that ends it. Where memory is wanted, a part of it may be appended.
+/// Appends a field and the byte that ends it. Where memory runs out, a part of it may be appended.
 fn write_field<A: Allocator>(text: &mut Vec<u8, A>, field: &[u8], end: u8) -> Result<(), Memory>
     ensures ok { OnOk result (text.new.items ≡ text.old.items ++ (field.now ++ end ∷ [])) }
     ensures err { OnErr result (take (length text.old.items) text.new.items ≡ text.old.items) }
@@ -42,7 +42,7 @@ fn write_field<A: Allocator>(text: &mut Vec<u8, A>, field: &[u8], end: u8) -> Re
     Ok(())
 }
 
-/// Appends an entry's line. Where memory is wanted, a part of it may be appended.
+/// Appends an entry's line. Where memory runs out, a part of it may be appended.
 fn write_fields<A: Allocator>(text: &mut Vec<u8, A>, entry: &Entry) -> Result<(), Memory>
     ensures ok { OnOk result (text.new.items ≡ text.old.items ++ line_of entry.now) }
     ensures err { OnErr result (take (length text.old.items) text.new.items ≡ text.old.items) }

@@ -62,7 +62,8 @@ pub fn read_written<A: Allocator + Copy>(alloc: A, text: &[u8]) -> Result<Option
     table_written(alloc, text)
 }
 
-/// The table of the next so many lines of a text, and the text behind them; `None` where they are none of a table.
+/// The table of the next given number of lines of a text, and the text after them; `None` where they are none of a
+/// table.
 pub fn table_begun<A: Allocator + Copy>(
     alloc: A,
     count: usize,

@@ -9,8 +9,8 @@ use Rattle.child_table.specs.State.{SlotState}
 use Rattle.child_table.specs.Changes.{after_call}
 use Rattle.child_table.specs.Lists.{slot_of, has_slot, changed, with_changed}
 use Rattle.child_table.specs.Order.{IsInOrder}
-use Rattle.core_state.specs.Steps.{called_if, with_called}
-use Rattle.core_state.proofs.RuledMade.{called_id}
+use Rattle.core_model.specs.Steps.{called_if, with_called}
+use Rattle.core_model.proofs.RuledMade.{called_id}
 
 -- an entry of the table has a record
 found : (id : List ℕ) (slot : SlotState) (slots : List SlotState) (b : Bool) → is_some (slot_of id slots) ≡ true → is_some (cond b (Some slot) (slot_of id slots)) ≡ true

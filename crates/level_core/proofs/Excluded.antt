@@ -9,8 +9,8 @@ use Rattle.child_table.specs.State.{SlotState}
 use Rattle.child_table.specs.Stopping.{is_due, is_termed, is_termed_before, IsFirstTermed}
 use Rattle.init_trace.specs.declared.steps.Step.TheVariants.{Order}
 use Rattle.init_words.specs.declared.orders.Ask.TheVariants.{Kill}
-use Rattle.core_state.specs.Decide.{signal_step, stop_among, has_excluded, stands, calm_step, work_step}
-use Rattle.core_state.specs.State.{CoreState}
+use Rattle.core_model.specs.Decide.{signal_step, stop_among, has_excluded, stands, calm_step, work_step}
+use Rattle.core_model.specs.State.{CoreState}
 use Rattle.level_core.specs.Signals.{is_past}
 
 module _ (grace now : ℕ) where

@@ -12,22 +12,22 @@ use Rattle.child_table.proofs.Changed.{timely_judge, timely_enter, id-after_judg
 use Rattle.child_table.proofs.Ordered.{order_map, order_adopt, act-after_judge}
 use Rattle.child_table.proofs.Adopted.{timely_adopt}
 use Rattle.child_table.proofs.Timely.{timely_map}
-use Rattle.core_state.proofs.RuledMade.{called_act, called_id}
-use Rattle.core_state.specs.Steps.{judged_in, called_if, with_called}
-use Rattle.core_state.specs.Steps as core
-use Rattle.core_state.specs.State.{CoreState}
-use Rattle.core_state.specs.Fit.{Fits, OnEachTrace}
-use Rattle.core_state.specs.Decide.{decide}
-use Rattle.core_state.proofs.Allowed.{decide_allowed, decide_holds}
-use Rattle.core_state.proofs.Hearing.{fits_adopt}
+use Rattle.core_model.proofs.RuledMade.{called_act, called_id}
+use Rattle.core_model.specs.Steps.{judged_in, called_if, with_called}
+use Rattle.core_model.specs.Steps as core
+use Rattle.core_model.specs.State.{CoreState}
+use Rattle.core_model.specs.Fit.{Fits, OnEachTrace}
+use Rattle.core_model.specs.Decide.{decide}
+use Rattle.core_model.proofs.Allowed.{decide_allowed, decide_holds}
+use Rattle.core_model.proofs.Hearing.{fits_adopt}
 use Rattle.init_trace.specs.declared.steps.Step.TheVariants.{Order, Hold}
 use Rattle.init_words.specs.declared.orders.Ask.{Ask}
 use Rattle.child_table.specs.Lists.{are_distinct, can_ask, has_slot, is_quiet, order_in, refusal_of}
 use Rattle.init_words.specs.declared.orders.Answer.{Answer}
 use Rattle.init_words.specs.declared.refusals.Refusal.{Refusal}
 use Rattle.init_words.specs.declared.refusals.Refusal.TheVariants.{NotQuiet}
-use Rattle.core_state.specs.Rules.{IsFit}
-use Rattle.core_state.proofs.RulesKept.{adopt_keeps, told_keeps}
+use Rattle.core_model.specs.Rules.{IsFit}
+use Rattle.core_model.proofs.RulesKept.{adopt_keeps, told_keeps}
 use Rattle.init_trace.specs.declared.happenings.Happening.TheVariants.{NewTable}
 use Rattle.inittab_text.specs.Tables.{has_id, is_distinct}
 use Rattle.std.specs.List.{list_any}

@@ -18,12 +18,12 @@ use Rattle.child_table.specs.State.{SlotState}
 use Rattle.child_table.specs.Changes.{after_order, after_hold, after_nudge, after_answer, can_be_asked}
 use Rattle.child_table.specs.Lists.{is_slot_of, are_distinct, slot_of, can_ask_of, can_ask, order_of, order_in, refusal_of, is_over_of, with_changed, after_told}
 use Rattle.child_table.proofs.Found.{is_listed, others, rest_distinct}
-use Rattle.core_state.specs.Decide.{is_wanted_slot, is_owed_slot}
-use Rattle.core_state.specs.Steps.{called_if, with_called}
-use Rattle.core_state.proofs.Each.{Each, each_always, each_less, each_own}
-use Rattle.core_state.proofs.RuledAnswer.{is_answered}
-use Rattle.core_state.proofs.RuledTold.{found_with}
-use Rattle.level_core.specs.Places.{is_seen_slot, are_seen, is_passed_slot, is_passed_in, are_passed, is_at, brings_nothing}
+use Rattle.core_model.specs.Decide.{is_wanted_slot, is_owed_slot}
+use Rattle.core_model.specs.Steps.{called_if, with_called}
+use Rattle.core_model.proofs.Each.{Each, each_always, each_less, each_own}
+use Rattle.core_model.proofs.RuledAnswer.{is_answered}
+use Rattle.core_model.proofs.RuledTold.{found_with}
+use Rattle.level_core.specs.Places.{is_seen_slot, are_seen, is_passed_slot, is_passed_in, are_passed, is_place, brings_nothing}
 use Rattle.level_core.proofs.Places.{KeepsSeen, KeepsPassed, seen_map, passed_map, seen_changed, passed_changed}
 
 -- rounds, holds and calls
@@ -97,19 +97,19 @@ all_free id ask now slots distinct other can = at (slot_of id slots) refl
     at (Some slot) is = each_own id (λ s. is_none s.order) slots distinct (found_with id (λ s. is_none s.order) slots slot is (free_for ask now slot other (ap (can_ask_of ask now) (sym is) ∙ can)))
 
 -- a change of the record at the place leaves those before it
-listed_at : (id : List ℕ) (slots : List SlotState) (i : ℕ) → is_at id i slots ≡ true → is_listed id slots ≡ true
+listed_at : (id : List ℕ) (slots : List SlotState) (i : ℕ) → is_place id i slots ≡ true → is_listed id slots ≡ true
 listed_at id [] i at = absurd (false≢true at)
 listed_at id (slot ∷ slots) zero at = or_left (is_slot_of id slot) (is_listed id slots) at
 listed_at id (slot ∷ slots) (suc i) at = or_right (is_slot_of id slot) (is_listed id slots) (listed_at id slots i at)
 
-other_before : (id : List ℕ) (slot : SlotState) (slots : List SlotState) (i : ℕ) → are_distinct (slot ∷ slots) ≡ true → is_at id i slots ≡ true → is_slot_of id slot ≡ false
+other_before : (id : List ℕ) (slot : SlotState) (slots : List SlotState) (i : ℕ) → are_distinct (slot ∷ slots) ≡ true → is_place id i slots ≡ true → is_slot_of id slot ≡ false
 other_before id slot slots i distinct at = by (is_slot_of id slot) refl
   where
     by : (b : Bool) → is_slot_of id slot ≡ b → b ≡ false
     by true is = absurd (false≢true (sym (others id slot slots distinct is) ∙ listed_at id slots i at))
     by false is = refl
 
-passed_at : (stage : Option Stage) (id : List ℕ) (change : SlotState → SlotState) (table : List Entry) (slots : List SlotState) (i : ℕ) → are_distinct slots ≡ true → is_at id i slots ≡ true → are_passed stage i table slots ≡ true → are_passed stage i table (with_changed id change slots) ≡ true
+passed_at : (stage : Option Stage) (id : List ℕ) (change : SlotState → SlotState) (table : List Entry) (slots : List SlotState) (i : ℕ) → are_distinct slots ≡ true → is_place id i slots ≡ true → are_passed stage i table slots ≡ true → are_passed stage i table (with_changed id change slots) ≡ true
 passed_at stage id change [] slots i distinct at passed = passed
 passed_at stage id change (e ∷ table) [] i distinct at passed = passed
 passed_at stage id change (e ∷ table) (slot ∷ slots) zero distinct at passed = refl
@@ -117,13 +117,13 @@ passed_at stage id change (e ∷ table) (slot ∷ slots) (suc i) distinct at pas
     let parts = and_parts (is_passed_in stage e slot) (are_passed stage i table slots) passed in
     rw (other_before id slot slots i distinct at) (and_from (is_passed_in stage e slot) (are_passed stage i table (with_changed id change slots)) parts.0 (passed_at stage id change table slots i (rest_distinct slot slots distinct) at parts.1))
 
-pub passed_ordered : (stage : Option Stage) (id : List ℕ) (ask : Ask) (now : ℕ) (table : List Entry) (slots : List SlotState) (i : ℕ) (kept : Bool) → kept ≡ (not (same_ask Start ask) || is_at id i slots) → are_distinct slots ≡ true → can_ask id ask now slots ≡ true → are_passed stage i table slots ≡ true
+pub passed_ordered : (stage : Option Stage) (id : List ℕ) (ask : Ask) (now : ℕ) (table : List Entry) (slots : List SlotState) (i : ℕ) (kept : Bool) → kept ≡ (not (same_ask Start ask) || is_place id i slots) → are_distinct slots ≡ true → can_ask id ask now slots ≡ true → are_passed stage i table slots ≡ true
     → are_passed stage (cond kept i 0) table (with_changed id (after_order ask now) slots) ≡ true
 passed_ordered stage id ask now table slots i false is distinct can passed = refl
 passed_ordered stage id ask now table slots i true is distinct can passed = by (same_ask Start ask) refl
   where
     by : (b : Bool) → same_ask Start ask ≡ b → are_passed stage i table (with_changed id (after_order ask now) slots) ≡ true
-    by true start = passed_at stage id (after_order ask now) table slots i distinct (sym (is ∙ ap (λ b. not b || is_at id i slots) start)) passed
+    by true start = passed_at stage id (after_order ask now) table slots i distinct (sym (is ∙ ap (λ b. not b || is_place id i slots) start)) passed
     by false other = passed_changed stage id (after_order ask now) table slots i
         (each_less (λ slot. is_slot_of id slot ≡ true → is_none slot.order ≡ true) (λ slot. is_slot_of id slot ≡ true → KeepsPassed stage (after_order ask now) slot) (λ slot free own. order_passes stage ask now slot other (free own)) slots (all_free id ask now slots distinct other can)) passed
 

@@ -7,8 +7,8 @@ use Rattle.init_words.specs.declared.entries.Entry.{Entry}
 use Rattle.init_words.specs.declared.stages.Stage.{Stage}
 use Rattle.child_table.specs.State.{SlotState}
 use Rattle.child_table.specs.Lists.{is_slot_of, changed, with_changed}
-use Rattle.core_state.specs.Decide.{is_wanted_slot, is_owed_slot, start_along, look_among}
-use Rattle.core_state.proofs.Each.{Each, each_always, each_less}
+use Rattle.core_model.specs.Decide.{is_wanted_slot, is_owed_slot, start_along, look_among}
+use Rattle.core_model.proofs.Each.{Each, each_always, each_less}
 use Rattle.level_core.specs.Places.{is_seen_slot, are_seen, is_passed_slot, is_passed_in, are_passed}
 use Rattle.level_core.proofs.Pairs.{pair_at}
 

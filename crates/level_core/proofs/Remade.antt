@@ -5,8 +5,8 @@ use Rattle.std.specs.Option.{option_map}
 use Rattle.init_words.specs.declared.entries.Entry.{Entry}
 use Rattle.inittab_text.proofs.Entries.{drop-slice_get}
 use Rattle.child_table.specs.State.{SlotState}
-use Rattle.core_state.specs.declared.parts.Record.{Record}
-use Rattle.core_state.specs.Rebuilding.{slot_from, slots_along, is_whole, is_for, are_whole, slot_read}
+use Rattle.core_model.specs.declared.parts.Record.{Record}
+use Rattle.core_model.specs.Rebuilding.{slot_from, slots_along, is_whole, is_for, are_whole, slot_read}
 
 past_end : {X : Type 0} (xs : List X) (i : ℕ) → slice_get xs i ≡ None → (drop i xs ≡ []) × (drop (i + 1) xs ≡ [])
 past_end [] i none = (drop-nil i, drop-nil (i + 1))

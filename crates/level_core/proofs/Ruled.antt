@@ -8,9 +8,9 @@ use Rattle.init_words.specs.declared.stages.Stage.{Stage}
 use Rattle.respawn_limit.specs.declared.TheConstants.{STARTS}
 use Rattle.respawn_limit.specs.State.{LimiterState}
 use Rattle.child_table.specs.State.{SlotState}
-use Rattle.core_state.specs.Decide.{is_owed_slot}
-use Rattle.core_state.specs.Rules.{is_started, is_start_allowed, are_starts_along, is_hold_of, is_limit_kept}
-use Rattle.core_state.proofs.Falls.{never_from_ordered}
+use Rattle.core_model.specs.Decide.{is_owed_slot}
+use Rattle.core_model.specs.Rules.{is_started, is_start_allowed, are_starts_along, is_hold_of, is_limit_kept}
+use Rattle.core_model.proofs.Falls.{never_from_ordered}
 use Rattle.level_core.proofs.Pairs.{pair_at, no_pair_at, no_pair_past}
 
 -- behind an owed entry no start is open

@@ -4,7 +4,7 @@ use Rattle.init_words.specs.declared.entries.Entry.{Entry}
 use Rattle.init_words.specs.declared.stages.Stage.{Stage}
 use Rattle.init_trace.specs.declared.steps.Step.{Step}
 use Rattle.child_table.specs.State.{SlotState}
-use Rattle.core_state.specs.Decide.{start_along, start_step, is_owed_slot}
+use Rattle.core_model.specs.Decide.{start_along, start_step, is_owed_slot}
 use Rattle.level_core.proofs.Pairs.{pair_at, no_pair_at, no_pair_past}
 
 module _ (stage : Stage) (now : ℕ) (table : List Entry) (slots : List SlotState) (i : ℕ)

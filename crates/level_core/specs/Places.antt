@@ -8,7 +8,7 @@ use Rattle.init_words.specs.declared.orders.Answer.{Answer}
 use Rattle.init_words.specs.declared.orders.Answer.TheVariants.{Born, Alive, NoLook}
 use Rattle.child_table.specs.State.{SlotState}
 use Rattle.child_table.specs.Lists.{is_slot_of}
-use Rattle.core_state.specs.Decide.{is_wanted_slot, is_owed_slot}
+use Rattle.core_model.specs.Decide.{is_wanted_slot, is_owed_slot}
 
 -- the record has no child that is to be looked at, whatever order is open
 abbrev pub is_seen_slot : SlotState → Bool
@@ -34,8 +34,8 @@ are_passed stage place table slots =
     list_all (λ (p : Entry × SlotState). is_passed_in stage p.0 p.1) (take place (zip table slots))
 
 -- the record at the place is that of the id
-abbrev pub is_at : List ℕ → ℕ → List SlotState → Bool
-is_at id place slots = option_map_or (is_slot_of id) (slice_get slots place) false
+abbrev pub is_place : List ℕ → ℕ → List SlotState → Bool
+is_place id place slots = option_map_or (is_slot_of id) (slice_get slots place) false
 
 -- after the answer the id has a child: it brings neither a start nor a look
 abbrev pub brings_nothing : Answer → Bool

@@ -7,7 +7,7 @@ use crate::walking::{
     start_among, stop_among,
 };
 use child_table::Slots;
-use core_state::{Heads, News};
+use core_model::{Heads, News};
 use init_trace::{Goal, Step};
 use init_words::{Answer, Ask, GRACE, Id, Level, Memory, Refusal, Stage};
 use initctl_frame::Got;
@@ -44,7 +44,7 @@ impl<A: Allocator> Model for BareCore<A> {
     ghost use Rattle.respawn_limit.specs.declared.TheConstants.{CLOCK_LIMIT};
     ghost use Rattle.child_table.specs.Times.{are_timely};
     ghost use Rattle.child_table.specs.Order.{IsInOrder};
-    ghost use Rattle.core_state.specs.State.{CoreState};
+    ghost use Rattle.core_model.specs.State.{CoreState};
     ghost use Rattle.level_core.specs.Places.{are_seen, are_passed};
 
     ghost Value = { CoreState };
@@ -76,9 +76,9 @@ impl<A: Allocator + Copy> BareCore<A> {
     ghost use Rattle.init_trace.specs.declared.happenings.Happening.TheVariants.{NewTable};
     ghost use Rattle.inittab_text.specs.Tables.{is_distinct};
     ghost use Rattle.child_table.specs.Lists.{is_quiet};
-    ghost use Rattle.core_state.specs.State.{opening_goal, opening_state};
-    ghost use Rattle.core_state.specs.Steps.{after_adopt};
-    ghost use Rattle.core_state.specs.Fit.{Fits, OnEachTrace};
+    ghost use Rattle.core_model.specs.State.{opening_goal, opening_state};
+    ghost use Rattle.core_model.specs.Steps.{after_adopt};
+    ghost use Rattle.core_model.specs.Fit.{Fits, OnEachTrace};
 
     pub(crate) fn new_by_state(
         alloc: A,
@@ -144,15 +144,15 @@ impl<A: Allocator> BareCore<A> {
     ghost use Rattle.init_trace.specs.Run.{is_rest};
     ghost use Rattle.child_table.specs.Order.{IsInOrder};
     ghost use Rattle.child_table.specs.Lists.{are_distinct, can_ask, order_in, refusal_of};
-    ghost use Rattle.core_state.specs.Decide.{decide, first_step, or_idle, wished_step, wish_step, stands, stop_among, calm_step, work_step, is_drained};
-    ghost use Rattle.core_state.specs.Decide as core;
-    ghost use Rattle.core_state.specs.Steps as steps;
+    ghost use Rattle.core_model.specs.Decide.{decide, first_step, or_idle, wished_step, wish_step, stands, stop_among, calm_step, work_step, is_drained};
+    ghost use Rattle.core_model.specs.Decide as core;
+    ghost use Rattle.core_model.specs.Steps as steps;
     ghost use Rattle.init_trace.specs.declared.happenings.Handed.{Handed};
-    ghost use Rattle.core_state.specs.Steps.{after_step, after_told, after_round, after_clock, after_got, after_not_read, after_handed, after_handed_on};
-    ghost use Rattle.core_state.specs.Fit.{Fits, OnEachTrace, with_step};
-    ghost use Rattle.core_state.specs.Work.{work_left};
-    ghost use Rattle.core_state.specs.Parts.{heads_of};
-    ghost use Rattle.core_state.specs.Rebuilding.{core_with};
+    ghost use Rattle.core_model.specs.Steps.{after_step, after_told, after_round, after_clock, after_got, after_not_read, after_handed, after_handed_on};
+    ghost use Rattle.core_model.specs.Fit.{Fits, OnEachTrace, with_step};
+    ghost use Rattle.core_model.specs.Work.{work_left};
+    ghost use Rattle.core_model.specs.Parts.{heads_of};
+    ghost use Rattle.core_model.specs.Rebuilding.{core_with};
     ghost use Rattle.child_table.specs.Times.{are_timely};
     ghost use Rattle.respawn_limit.specs.declared.TheConstants.{CLOCK_LIMIT};
 
@@ -236,7 +236,7 @@ impl<A: Allocator> BareCore<A> {
         self.goal
     }
 
-    /// How often init was executed anew since its opening.
+    /// How often init was re-executed since its opening.
     pub(crate) fn generation(&self) -> u64
         ensures { result ≡ self.now.generation }
     {
@@ -408,7 +408,7 @@ impl<A: Allocator> BareCore<A> {
         look_among(slots, self.looks_from).unwrap_or(Step::Idle)
     }
 
-    /// Both places go on behind all records that are seen, and all entries that are passed.
+    /// Both places go on after all records that are seen, and all entries that are passed.
     fn pass(&mut self)
         ensures { self.new ≡ self.old }
     {

@@ -2,7 +2,7 @@ ghost use Rattle.std.specs.Prelude.{◌≡◌, ◌<◌, length, slice_get, true,
 ghost use Rattle.child_table.specs.Changes.{after_call};
 ghost use Rattle.child_table.specs.Lists.{has_slot, with_changed};
 ghost use Rattle.child_table.specs.Order.{IsInOrder};
-ghost use Rattle.core_state.specs.Steps.{is_named, with_called, judged_in};
+ghost use Rattle.core_model.specs.Steps.{is_named, with_called, judged_in};
 
 use child_table::Slots;
 use init_trace::Step;

@@ -2,7 +2,7 @@ ghost use Rattle.std.specs.Prelude.{◌≡◌, IfOk, OnOk, OnErr};
 
 use crate::bare::BareCore;
 use child_table::Slots;
-use core_state::Heads;
+use core_model::Heads;
 use init_trace::{Goal, Step};
 use init_words::{Answer, Id, Level, Memory, Refusal, Stage};
 use initctl_frame::Got;
@@ -18,8 +18,8 @@ pub struct Core<A: Allocator = Global> {
 }
 
 impl<A: Allocator> Model for Core<A> {
-    ghost use Rattle.core_state.specs.State.{CoreState};
-    ghost use Rattle.core_state.specs.Rules.{IsFit};
+    ghost use Rattle.core_model.specs.State.{CoreState};
+    ghost use Rattle.core_model.specs.Rules.{IsFit};
 
     ghost Value = { CoreState };
 
@@ -33,9 +33,9 @@ impl<A: Allocator + Copy> Core<A> {
     ghost use Rattle.init_words.specs.declared.refusals.Refusal.TheVariants as refusal;
     ghost use Rattle.init_trace.specs.declared.happenings.Happening.TheVariants.{NewTable};
     ghost use Rattle.child_table.specs.Lists.{is_quiet};
-    ghost use Rattle.core_state.specs.State.{opening_goal, opening_state};
-    ghost use Rattle.core_state.specs.Steps.{after_adopt};
-    ghost use Rattle.core_state.specs.Fit.{Fits, OnEachTrace};
+    ghost use Rattle.core_model.specs.State.{opening_goal, opening_state};
+    ghost use Rattle.core_model.specs.Steps.{after_adopt};
+    ghost use Rattle.core_model.specs.Fit.{Fits, OnEachTrace};
 
     /// The core before its first stage, with the goal of the level that is given, else of the table's default level,
     /// else of S.
@@ -51,7 +51,7 @@ impl<A: Allocator + Copy> Core<A> {
 
     /// Another table is in force (telinit(8), `q`): its entries have the records, and children of ids that left it are
     /// to be stopped. Refused while a start or a signal is not answered (`NotQuiet`), before any memory is taken, and
-    /// for want of memory; a refusal changes nothing.
+    /// for lack of memory; a refusal changes nothing.
     pub fn adopt(&mut self, table: Table<A>) -> Result<(), Refusal>
         ensures adopted { OnOk result (self.new ≡ after_adopt table self.old) }
         ensures busy { is_quiet self.old.slots ≡ false → result ≡ Err refusal.NotQuiet }
@@ -73,12 +73,12 @@ impl<A: Allocator> Core<A> {
     ghost use Rattle.init_trace.specs.Due.{due, first};
     ghost use Rattle.init_trace.specs.Run.{is_rest};
     ghost use Rattle.child_table.specs.Lists.{order_in, refusal_of};
-    ghost use Rattle.core_state.specs.Decide.{decide, is_drained};
-    ghost use Rattle.core_state.specs.Steps.{after_step, after_told, after_round, after_clock, after_got, after_not_read, after_handed, after_handed_on};
-    ghost use Rattle.core_state.specs.Fit.{Fits, OnEachTrace, with_step};
-    ghost use Rattle.core_state.specs.Rules.{IsFit};
-    ghost use Rattle.core_state.specs.Work.{work_left};
-    ghost use Rattle.core_state.specs.Parts.{heads_of};
+    ghost use Rattle.core_model.specs.Decide.{decide, is_drained};
+    ghost use Rattle.core_model.specs.Steps.{after_step, after_told, after_round, after_clock, after_got, after_not_read, after_handed, after_handed_on};
+    ghost use Rattle.core_model.specs.Fit.{Fits, OnEachTrace, with_step};
+    ghost use Rattle.core_model.specs.Rules.{IsFit};
+    ghost use Rattle.core_model.specs.Work.{work_left};
+    ghost use Rattle.core_model.specs.Parts.{heads_of};
 
     /// The core that keeps these.
     pub(crate) fn of(bare: BareCore<A>) -> Core<A>
@@ -137,7 +137,7 @@ impl<A: Allocator> Core<A> {
         self.bare.goal()
     }
 
-    /// How often init was executed anew since its opening.
+    /// How often init was re-executed since its opening.
     pub fn generation(&self) -> u64
         ensures { result ≡ self.now.generation }
     {
@@ -154,7 +154,7 @@ impl<A: Allocator> Core<A> {
 
     /// What init does next, which counts as done from here on: the first step that is due, Idle where none is. A step
     /// that reads inittab or executes init anew stays due until it is answered, by `adopt` or `not_read`, and by
-    /// `not_handed`. It takes no memory.
+    /// `handed_on` or `not_handed`. It takes no memory.
     ///
     /// Of every goal and every sound trace that the core fits: it gives the first due step, and fits the trace with
     /// that step.
@@ -202,7 +202,7 @@ impl<A: Allocator> Core<A> {
         self.bare.not_read_by_state();
     }
 
-    /// Init was not executed anew: the wish for it is over, whatever came of the hand-over.
+    /// Init was not re-executed: the wish for it is over, whatever came of the hand-over.
     pub fn not_handed(&mut self)
         ensures state { self.new ≡ after_handed self.old }
         ensures fits { OnEachTrace self.old (λ goal past. (how : Handed)

@@ -12,8 +12,8 @@ mod rebuilding;
 mod rules;
 mod walking;
 
-pub use child_table::{Living, Slot, Stop};
-pub use core_state::{News, law_agreement, law_of_acts};
+pub use child_table::{KnownChild, Slot, Stop};
+pub use core_model::{News, law_agreement, law_of_acts};
 pub use cores::Core;
 pub use init_trace::{Goal, Step};
 pub use rebuilding::Rebuild;

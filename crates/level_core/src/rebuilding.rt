@@ -1,15 +1,15 @@
 ghost use Rattle.std.specs.Prelude.{◌≡◌, ◌≢◌, Err, IfOk, OnOk, option_copied, true, false};
-ghost use Rattle.core_state.specs.Parts.{state_of};
-ghost use Rattle.core_state.specs.Rebuilding.{living_of, is_whole, is_for, slot_read, slots_along, are_whole};
-ghost use Rattle.core_state.specs.Rules.{IsFit};
-ghost use Rattle.core_state.specs.State.{CoreState};
+ghost use Rattle.core_model.specs.Parts.{state_of};
+ghost use Rattle.core_model.specs.Rebuilding.{living_of, is_whole, is_for, slot_read, slots_along, are_whole};
+ghost use Rattle.core_model.specs.Rules.{IsFit};
+ghost use Rattle.core_model.specs.State.{CoreState};
 ghost use Rattle.level_core.specs.declared.rebuilding.Rebuild.TheVariants as rebuild;
 
 use crate::bare::BareCore;
 use crate::cores::Core;
 use crate::rules::{is_kept, never_fall};
-use child_table::{Living, Slot, Slots};
-use core_state::{Heads, Parts, Record};
+use child_table::{KnownChild, Slot, Slots};
+use core_model::{Heads, Parts, Record};
 use init_words::{Act, ChildNo, Entry, Memory};
 use inittab_text::Table;
 use std::alloc::{AllocError, AllocFailed, Allocator};
@@ -19,7 +19,7 @@ use std::alloc::{AllocError, AllocFailed, Allocator};
 pub enum Rebuild {
     /// No init comes to such a state.
     Unfit,
-    /// Want of memory.
+    /// Out of memory.
     Memory,
 }
 
@@ -56,11 +56,11 @@ impl<T: Drop> From<AllocFailed<T>> for Rebuild {
     }
 }
 
-fn living_of(number: Option<ChildNo>, act: Option<Act>) -> Option<Living>
+fn living_of(number: Option<ChildNo>, act: Option<Act>) -> Option<KnownChild>
     ensures { result ≡ living_of number act }
 {
     let number = number?;
-    Some(Living { number, act })
+    Some(KnownChild { number, act })
 }
 
 /// The number of the child and the action that it was born with are there both, or neither is, and the starts never

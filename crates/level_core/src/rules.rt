@@ -7,14 +7,14 @@ ghost use Rattle.respawn_limit.specs.declared.TheConstants.{CLOCK_LIMIT};
 ghost use Rattle.init_trace.specs.Wishes.{in_run};
 ghost use Rattle.child_table.specs.Lists.{are_distinct, is_slot_of};
 ghost use Rattle.child_table.specs.Times.{is_stop_timely, is_timely};
-ghost use Rattle.core_state.specs.Decide.{has_excluded};
-ghost use Rattle.core_state.specs.Rules as rules;
-ghost use Rattle.core_state.specs.Rules.{has_cause, may_follow, is_order_allowed, is_started, is_start_allowed, are_starts_in, is_child_excluded, is_stop_judged, is_callable, may_be_signalled, are_marks_due, is_hold_of, is_limiter_kept, is_other_level, is_goal_reached};
-ghost use Rattle.core_state.specs.Rebuilding.{are_heads_kept, is_slot_kept, are_slots_kept, is_kept};
+ghost use Rattle.core_model.specs.Decide.{has_excluded};
+ghost use Rattle.core_model.specs.Rules as rules;
+ghost use Rattle.core_model.specs.Rules.{has_cause, may_follow, is_order_allowed, is_started, is_start_allowed, are_starts_in, is_child_excluded, is_stop_judged, is_callable, may_be_signalled, are_marks_due, is_hold_of, is_limiter_kept, is_other_level, is_goal_reached};
+ghost use Rattle.core_model.specs.Rebuilding.{are_heads_kept, is_slot_kept, are_slots_kept, is_kept};
 
 use crate::deciding::{is_owed, is_starting};
 use child_table::{Slot, Stop, is_excluded};
-use core_state::Heads;
+use core_model::Heads;
 use init_trace::Goal;
 use init_words::{Act, Ask, Entry, Id, PowerKind, Stage, starts};
 use inittab_text::Table;
@@ -80,7 +80,7 @@ fn is_start_allowed(stage: Stage, entry: &Entry, slot: &Slot) -> bool
     !is_starting(slot) || (slot.asked() && starts(entry, stage))
 }
 
-/// Behind an owed entry no start is open, and before it each open one is allowed.
+/// After an owed entry no start is open, and before it each open one is allowed.
 fn is_start_in_turn(owed: bool, stage: Stage, entry: &Entry, slot: &Slot) -> bool
     ensures { result ≡ (if owed then not (is_started slot.now)
         else is_start_allowed stage entry.now slot.now) }
@@ -92,7 +92,7 @@ fn is_start_in_turn(owed: bool, stage: Stage, entry: &Entry, slot: &Slot) -> boo
     }
 }
 
-/// Each open start is allowed, and none stands behind an owed entry.
+/// Each open start is allowed, and none stands after an owed entry.
 fn are_starts_along<A: Allocator>(stage: Stage, table: &Table<A>, slots: &[Slot]) -> bool
     ensures { result ≡ are_starts_in (Some stage) table.now slots.now }
 {

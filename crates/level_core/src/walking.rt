@@ -1,9 +1,9 @@
 ghost use Rattle.std.specs.Prelude.{◌≡◌, ◌≤◌, true, Some, if◌then◌else◌, not, ◌||◌};
 ghost use Rattle.std.specs.List.{list_any};
-ghost use Rattle.core_state.specs.Decide.{stop_among, start_among, all_done, all_served, look_among, is_busy_slot};
+ghost use Rattle.core_model.specs.Decide.{stop_among, start_among, all_done, all_served, look_among, is_busy_slot};
 ghost use Rattle.respawn_limit.specs.declared.TheConstants.{CLOCK_LIMIT};
 ghost use Rattle.init_words.specs.Orders.{same_ask};
-ghost use Rattle.level_core.specs.Places.{are_seen, are_passed, is_at};
+ghost use Rattle.level_core.specs.Places.{are_seen, are_passed, is_place};
 
 use crate::deciding::{
     can_look, is_done, is_owed, is_passed, is_seen, is_served, is_start, start_step, stop_step,
@@ -27,8 +27,8 @@ pub(crate) fn stop_among(grace: u16, now: u64, slots: &[Slot]) -> Option<Step>
 }
 
 /// The record at the place is that of the id.
-fn is_at<A: Allocator>(slots: &Slots<A>, place: usize, id: &Id) -> bool
-    ensures { result ≡ is_at id.now place slots.now }
+fn is_place<A: Allocator>(slots: &Slots<A>, place: usize, id: &Id) -> bool
+    ensures { result ≡ is_place id.now place slots.now }
 {
     match slots.at(place) {
         Some(slot) => *id == slot.id(),
@@ -38,9 +38,9 @@ fn is_at<A: Allocator>(slots: &Slots<A>, place: usize, id: &Id) -> bool
 
 /// An order about the id leaves the entries before the place passed: it is no start, or the id's record stands there.
 pub(crate) fn leaves_passed<A: Allocator>(slots: &Slots<A>, place: usize, id: &Id, ask: Ask) -> bool
-    ensures { result ≡ (not (same_ask Ask.Start ask) || is_at id.now place slots.now) }
+    ensures { result ≡ (not (same_ask Ask.Start ask) || is_place id.now place slots.now) }
 {
-    !is_start(ask) || is_at(slots, place, id)
+    !is_start(ask) || is_place(slots, place, id)
 }
 
 /// The place, if it is kept, else the first.

@@ -21,7 +21,7 @@ is_begin line = bytes_eq (trim_end line) (codes "### BEGIN INIT INFO")
 unfoldable pub is_end : List ℕ → Bool
 is_end line = bytes_eq (trim_end line) (codes "### END INIT INFO")
 
--- the lines behind the first that begins a header, and the number of that line; the first line here has this number
+-- the lines after the first that begins a header, and the number of that line; the first line here has this number
 abbrev pub begun : ℕ → List (List ℕ) → Option (ℕ × List (List ℕ))
 begun number [] = None
 begun number (line ∷ lines) = if is_begin line then Some (number, lines) else begun (number + 1) lines
@@ -31,7 +31,7 @@ abbrev pub block_of : List (List ℕ) → List (List ℕ)
 block_of [] = []
 block_of (line ∷ lines) = if is_end line then [] else line ∷ block_of lines
 
--- the lines of the header in the text behind the line that begins it
+-- the lines of the header in the text after the line that begins it
 abbrev pub block_in : List ℕ → List (List ℕ)
 block_in body = block_of (lines_of body)
 
@@ -60,7 +60,7 @@ block_fault seen number [] = None
 block_fault seen number (line ∷ lines) =
     option_or (line_fault seen number line) (block_fault (seen_after seen line) (number + 1) lines)
 
--- what stands behind the colon of the line of this keyword
+-- the text after the colon of the line of this keyword
 abbrev pub args_of : Keyword → List (List ℕ) → Option (List ℕ)
 args_of keyword [] = None
 args_of keyword (line ∷ lines) = option_or (args_in keyword line) (args_of keyword lines)
@@ -75,7 +75,7 @@ level_in (code ∷ other ∷ word) = None
 abbrev pub levels_of : List (List ℕ) → List Level
 levels_of words = filter_map level_in words
 
--- what the lines behind a description add to it: indented comments, each with a blank before it
+-- what the lines after a description add to it: indented comments, each with a blank before it
 abbrev pub continued : List (List ℕ) → List ℕ
 continued [] = []
 continued (line ∷ lines) =

@@ -12,7 +12,7 @@ abbrev pub is_empty : {X : Type 0} → List X → Bool
 is_empty [] = true
 is_empty (x ∷ xs) = false
 
--- a '#', with nothing behind it but blanks and tabs
+-- a '#', with nothing after it but blanks and tabs
 abbrev pub is_empty_comment : List ℕ → Bool
 is_empty_comment [] = false
 is_empty_comment (b ∷ rest) = b == 35 && list_all is_blank rest
@@ -23,12 +23,12 @@ is_wide [] = false
 is_wide (b ∷ []) = b == 9
 is_wide (b ∷ c ∷ rest) = b == 9 || (b == 32 && c == 32)
 
--- a '#', and behind it a tab or two blanks
+-- a '#', and after it a tab or two blanks
 abbrev pub is_indented : List ℕ → Bool
 is_indented [] = false
 is_indented (b ∷ rest) = b == 35 && is_wide rest
 
--- what stands behind a '#' and one blank
+-- the text after a '#' and one blank
 abbrev pub body_of : List ℕ → Option (List ℕ)
 body_of [] = None
 body_of (a ∷ []) = None
@@ -38,7 +38,7 @@ body_of (a ∷ b ∷ rest) = if a == 35 && b == 32 then Some rest else None
 abbrev pub is_word : List ℕ → Bool
 is_word text = not (is_empty text) && not (list_any is_blank text)
 
--- the word before the first colon of a line "# keyword: args", and what stands behind the colon
+-- the word before the first colon of a line "# keyword: args", and the text after the colon
 unfoldable pub field_of : List ℕ → Option (List ℕ × List ℕ)
 field_of line =
     option_and_then (λ body. option_and_then (λ parts. if is_word parts.0 then Some parts else None) (cut 58 body))
@@ -48,11 +48,11 @@ field_of line =
 unfoldable pub is_line : List ℕ → Bool
 is_line line = is_utf8 line && (is_empty_comment line || is_indented line || is_some (field_of line))
 
--- the keyword of a line that has one of the nine, and what stands behind its colon
+-- the keyword of a line that has one of the nine, and the text after its colon
 unfoldable pub known_of : List ℕ → Option (Keyword × List ℕ)
 known_of line = option_and_then (λ parts. option_map (λ k. (k, parts.1)) (keyword_read parts.0)) (field_of line)
 
--- what stands behind the colon of a line of this keyword
+-- the text after the colon of a line of this keyword
 unfoldable pub args_in : Keyword → List ℕ → Option (List ℕ)
 args_in keyword line =
     option_and_then (λ parts. if same_keyword keyword parts.0 then Some parts.1 else None) (known_of line)

@@ -10,7 +10,7 @@ use Rattle.lsb_header.specs.Forms.{is_empty}
 use Rattle.text_lines.specs.Lines.{lines_of, trim, words_of}
 use Rattle.lsb_header.specs.Blocks.{args_of, begun, block_fault, block_of, description_of, is_end, levels_of}
 
--- the text behind the colon of a keyword's line, and nothing where there is none
+-- the text after the colon of a keyword's line, and nothing where there is none
 abbrev pub text_at : Keyword → List (List ℕ) → List ℕ
 text_at keyword block = unwrap_or (args_of keyword block) []
 
@@ -33,7 +33,7 @@ abbrev pub checked : Option HeaderFault → List (List ℕ) → Result HeaderTex
 checked (Some found) block = Err found
 checked None block = if is_empty (header_of block).provides then Err fault.NoProvides else Ok (header_of block)
 
--- the header behind the line of this number
+-- the header after the line of this number
 abbrev pub read_behind : Option (ℕ × List (List ℕ)) → Result HeaderText HeaderFault
 read_behind None = Err fault.NoBegin
 read_behind (Some (number, lines)) =

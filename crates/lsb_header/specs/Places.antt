@@ -6,7 +6,7 @@ use Rattle.lsb_header.specs.declared.keywords.Keyword.{Keyword}
 use Rattle.lsb_header.specs.Blocks.{begun, block_of}
 use Rattle.lsb_header.specs.Forms.{args_in}
 
--- the number of the first line of this keyword, and the lines behind it; the first of the lines has this number
+-- the number of the first line of this keyword, and the lines after it; the first of the lines has this number
 abbrev pub next_line : Keyword → ℕ → List (List ℕ) → Option (ℕ × List (List ℕ))
 next_line keyword number [] = None
 next_line keyword number (line ∷ lines) =

@@ -22,7 +22,7 @@ fn is_end(line: &[u8]) -> bool
     without_tail(line) == b"### END INIT INFO".as_slice()
 }
 
-/// The text behind the line that begins the header, and the number of that line.
+/// The text after the line that begins the header, and the number of that line.
 pub(crate) fn begun(text: &[u8]) -> Option<(usize, &[u8])>
     ensures value { option_map (λ parts. (parts.0, lines_of parts.1.now)) result
         ≡ begun 1 (lines_of text.now) }

@@ -17,7 +17,7 @@ pub enum HeaderFault {
     Twice(Keyword),
     /// Provides is absent, or names nothing.
     NoProvides,
-    /// Want of memory.
+    /// Out of memory.
     Memory,
 }
 

@@ -5,7 +5,7 @@ ghost use Rattle.lsb_header.specs.Forms.{args_in, body_of, field_of, is_empty_co
 use crate::keywords::Keyword;
 use text_lines::{cut, has_blank, is_all_blank, is_utf8};
 
-/// A `#`, with nothing behind it but blanks and tabs.
+/// A `#`, with nothing after it but blanks and tabs.
 pub(crate) fn is_empty_comment(line: &[u8]) -> bool
     ensures { result ≡ is_empty_comment line.now }
 {
@@ -26,7 +26,7 @@ fn is_wide(text: &[u8]) -> bool
     }
 }
 
-/// A `#`, and behind it a tab or two blanks.
+/// A `#`, and after it a tab or two blanks.
 pub(crate) fn is_indented(line: &[u8]) -> bool
     ensures { result ≡ is_indented line.now }
 {
@@ -36,7 +36,7 @@ pub(crate) fn is_indented(line: &[u8]) -> bool
     }
 }
 
-/// What stands behind `#` and one blank.
+/// The text after `#` and one blank.
 fn body_of(line: &[u8]) -> Option<&[u8]>
     ensures { option_map (λ body. body.now) result ≡ body_of line.now }
 {
@@ -53,7 +53,7 @@ fn is_word(text: &[u8]) -> bool
     !text.is_empty() && !has_blank(text)
 }
 
-/// The word before the first colon of a line `# keyword: args`, and what stands behind the colon.
+/// The word before the first colon of a line `# keyword: args`, and the text after the colon.
 #[tactic(auto, unfolding(crate::specs::Forms::field_of))]
 fn field_of(line: &[u8]) -> Option<(&[u8], &[u8])>
     ensures { option_map (λ parts. (parts.0.now, parts.1.now)) result ≡ field_of line.now }
@@ -75,7 +75,7 @@ pub(crate) fn is_line(line: &[u8]) -> bool
     is_utf8(line) && (is_empty_comment(line) || is_indented(line) || field_of(line).is_some())
 }
 
-/// The keyword of a line that has one of the nine, and what stands behind its colon.
+/// The keyword of a line that has one of the nine, and the text after its colon.
 #[tactic(auto, unfolding(crate::specs::Forms::known_of))]
 pub(crate) fn known_of(line: &[u8]) -> Option<(Keyword, &[u8])>
     ensures { option_map (λ parts. (parts.0, parts.1.now)) result ≡ known_of line.now }
@@ -85,7 +85,7 @@ pub(crate) fn known_of(line: &[u8]) -> Option<(Keyword, &[u8])>
     Some((keyword, args))
 }
 
-/// What stands behind the colon of a line of this keyword.
+/// The text after the colon of a line of this keyword.
 #[tactic(auto, unfolding(crate::specs::Forms::args_in))]
 pub(crate) fn args_in(keyword: Keyword, line: &[u8]) -> Option<&[u8]>
     ensures { option_map (λ args. args.now) result ≡ args_in keyword line.now }

@@ -112,7 +112,7 @@ impl<A: Allocator> Header<A> {
     }
 }
 
-/// The words behind the colon of a keyword's line.
+/// The words after the colon of a keyword's line.
 fn names_of<A: Allocator + Copy>(
     alloc: A,
     keyword: Keyword,

@@ -13,7 +13,7 @@ use init_words::{Level, Memory};
 use std::alloc::Allocator;
 use text_lines::{next_word, trimmed};
 
-/// What stands behind the colon of the header's line of this keyword.
+/// The text after the colon of the header's line of this keyword.
 fn find_args(keyword: Keyword, body: &[u8]) -> Option<&[u8]>
     ensures { option_map (λ args. args.now) result ≡ args_of keyword (block_in body.now) }
 {
@@ -27,7 +27,7 @@ fn find_args(keyword: Keyword, body: &[u8]) -> Option<&[u8]>
     None
 }
 
-/// The same, and nothing where there is no such line.
+/// The text after the colon of the line of this keyword; nothing where there is no such line.
 pub(crate) fn args_of(keyword: Keyword, body: &[u8]) -> &[u8]
     ensures { result.now ≡ unwrap_or (args_of keyword (block_in body.now)) [] }
 {

@@ -8,7 +8,7 @@ use crate::forms::args_in;
 use crate::keywords::Keyword;
 
 /// The number of the next line of a keyword in what is left of a header, after the line of this number, and the text
-/// behind it.
+/// after it.
 fn next_line(keyword: Keyword, before: usize, body: &[u8]) -> Option<(usize, &[u8])>
     requires { before + length body.now < 2 ^ 64 }
     ensures value { option_map (λ at. (at.0, block_in at.1.now)) result

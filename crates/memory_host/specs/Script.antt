@@ -33,7 +33,7 @@ abbrev pub tale : Bool → List HostCall → Option (List HostCall)
 tale true calls = Some (reverse calls)
 tale false calls = None
 
--- what stays of a piece of bytes behind the room that there is for it
+-- what stays of a piece of bytes after the room that there is for it
 abbrev pub left_of : ℕ → TextRead → List TextRead
 left_of room (Ok bytes) = if nat_lt room (length bytes) then Ok (drop room bytes) ∷ [] else []
 left_of room (Err fault) = []

@@ -68,7 +68,7 @@ fn plain_command<A: Allocator + Copy>(
     Ok(Some(command))
 }
 
-/// Adds the words of a text to a command's arguments. Where memory is wanted, some of them may be added.
+/// Adds the words of a text to a command's arguments. Where memory runs out, some of them may be added.
 fn add_words<A: Allocator + Copy>(command: &mut Command<A>, text: &[u8]) -> Result<(), AllocError>
     requires { IsUtf8 text.now }
     ensures { OnOk result (words_in (Some command.new)

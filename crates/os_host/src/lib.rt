@@ -1,4 +1,5 @@
-//! A host that asks the operating system: real children, the channel of requests, the inittab, the text of init's state.
+//! A host that asks the operating system: real children, the channel of requests, the inittab, the text of init's
+//! state.
 #![tactic(auto)]
 
 mod announcements;

@@ -46,7 +46,7 @@ impl<R: Processes + Files + Clock + Print + Eprint + Drop, A: Allocator> Model f
 
 impl<R: Processes + Files + Clock + Print + Eprint + Drop, A: Allocator + Copy> OsHost<R, A> {
     /// A host without children, over the paths of the inittab, of the channel of requests and of the text of init's
-    /// state. A text of the state is written to the path with `.new` behind it before it is put in its place. Each of
+    /// state. A text of the state is written to the path with `.new` after it before it is put in its place. Each of
     /// its pauses lasts a second.
     pub fn new(
         rt: R,
@@ -69,7 +69,7 @@ impl<R: Processes + Files + Clock + Print + Eprint + Drop, A: Allocator + Copy> 
         })
     }
 
-    /// The host with pauses of at most this length in seconds, a decimal of 0.01 to 60 with at most two digits behind
+    /// The host with pauses of at most this length in seconds, a decimal of 0.01 to 60 with at most two digits after
     /// the point; any other text leaves them as they are. Since the last pause a child may have been born or reaped, a
     /// signal sent or bytes taken: then the next one lasts a thousandth of the length, and else twice as long as the
     /// last, but no longer than the length.
@@ -103,7 +103,7 @@ fn fault_of(error: &io::Error) -> HostFault {
 }
 
 /// What the system gave, or the fault that its error is.
-fn told<T>(outcome: io::Result<T>) -> Result<T, HostFault>
+fn host_result<T>(outcome: io::Result<T>) -> Result<T, HostFault>
     ensures ok { IfOk result (λ value. outcome ≡ Ok value) }
     ensures err { OnErr result (IsErr outcome) }
 {
@@ -154,20 +154,20 @@ impl<R: Processes + Files + Clock + Print + Eprint + Drop, A: Allocator + Copy> 
     }
 
     fn clock(&mut self) -> Result<u64, HostFault> {
-        let reading = told(self.clock.seconds(&self.rt));
+        let reading = host_result(self.clock.seconds(&self.rt));
         self.faults = counted(self.faults, reading.is_err());
         reading
     }
 
     fn take_bytes(&mut self, buffer: &mut [u8]) -> Result<usize, HostFault> {
-        let taken = told(self.paths.take_bytes(&self.rt, buffer));
+        let taken = host_result(self.paths.take_bytes(&self.rt, buffer));
         self.pauses.note(matches!(taken, Ok(count) if count > 0));
         self.faults = counted(self.faults, taken.is_err());
         taken
     }
 
     fn read_table<B: Allocator + Copy>(&mut self, alloc: B) -> Result<Vec<u8, B>, HostFault> {
-        let text = told(self.paths.read_table(&self.rt, alloc));
+        let text = host_result(self.paths.read_table(&self.rt, alloc));
         self.faults = counted(self.faults, text.is_err());
         text
     }
@@ -177,7 +177,7 @@ impl<R: Processes + Files + Clock + Print + Eprint + Drop, A: Allocator + Copy> 
         alloc: B,
         text: &[u8],
     ) -> Result<Vec<u8, B>, HostFault> {
-        let back = told(self.paths.carry(&self.rt, alloc, text));
+        let back = host_result(self.paths.carry(&self.rt, alloc, text));
         self.faults = counted(self.faults, back.is_err());
         back
     }

@@ -2,7 +2,7 @@ ghost use Rattle.std.specs.Prelude.{◌≤◌, length, IfOk};
 
 use crate::troubles::Trouble;
 use init_words::Memory;
-use program_edge::{read_file, write_text};
+use program_io::{read_file, write_text};
 use std::alloc::Allocator;
 use std::fs::{File, OpenFile};
 use std::io::{ErrorKind, Read, Seek, SeekFrom};

@@ -34,7 +34,7 @@ impl Pauses {
     }
 
     /// Pauses that grow from a thousandth of this length up to it. A length that is no decimal of 0.01 to 60 with at
-    /// most two digits behind the point leaves them as they are.
+    /// most two digits after the point leaves them as they are.
     pub(crate) fn grow_to(&mut self, length: &str) {
         let Some(hundredths) = read_hundredths(length.as_bytes()) else {
             return;
@@ -51,7 +51,7 @@ impl Pauses {
         self.stirred = self.stirred || stirred;
     }
 
-    /// The length of the pause that is due: behind a turn in which something happened the shortest, and else twice the
+    /// The length of the pause that is due: after a turn in which something happened the shortest, and else twice the
     /// one before, up to the longest.
     pub(crate) fn next(&mut self) -> Duration {
         let length = if self.stirred {
@@ -73,7 +73,7 @@ pub(crate) fn has_stirred(reply: &Reply) -> bool {
     }
 }
 
-/// The hundredths of a second of a decimal of at most two digits behind the point.
+/// The hundredths of a second of a decimal of at most two digits after the point.
 fn read_hundredths(word: &[u8]) -> Option<u64> {
     let Some((whole, part)) = cut(b'.', word) else {
         return Some(read_below(word, 61)?.saturating_mul(100));
@@ -82,7 +82,7 @@ fn read_hundredths(word: &[u8]) -> Option<u64> {
     Some(seconds.saturating_mul(100).saturating_add(read_part(part)?))
 }
 
-/// The hundredths of one or two digits behind a point.
+/// The hundredths of one or two digits after a point.
 fn read_part(digits: &[u8]) -> Option<u64> {
     match digits {
         [tenth] => Some(read_digit(*tenth)?.saturating_mul(10)),

@@ -48,7 +48,7 @@ impl<A: Allocator + Copy> KeptTexts<A> {
         }
     }
 
-    /// Keeps one more text. Of two at one path the first stands there. Where memory is wanting nothing changes.
+    /// Keeps one more text. Of two at one path the first stands there. Where memory runs out nothing changes.
     pub fn keep(&mut self, path: &str, text: &[u8]) -> Result<(), AllocError>
         ensures ok { OnOk result (self.new ≡ self.old ++ kept_at path.now text.now ∷ []) }
         ensures err { OnErr result (self.new ≡ self.old) }

@@ -2,7 +2,7 @@ ghost use Rattle.std.specs.Prelude.{◌≡◌, IfOk, IfErr, IsSome};
 ghost use Rattle.std.specs.IoError.{error_kind};
 ghost use Rattle.path_texts.specs.Known.{IsTextAt, KnownTexts};
 
-use program_edge::read_file;
+use program_io::read_file;
 use std::alloc::Allocator;
 use std::io;
 use std::io::ErrorKind;
@@ -15,7 +15,7 @@ pub trait Texts {
     /// The text at a path; None where it isn't known.
     ghost text_at: { Self → KnownTexts };
 
-    /// The text at a path, in memory of `alloc`. A text that is known is refused only for want of memory.
+    /// The text at a path, in memory of `alloc`. A text that is known is refused only for lack of memory.
     fn read<A: Allocator>(&self, alloc: A, path: &str) -> io::Result<Vec<u8, A>>
         ensures text { IfOk result (λ text. IsTextAt (text_at self.now) path.now text.items) }
         ensures refused { IfErr result (λ why. IsSome (text_at self.now path.now)

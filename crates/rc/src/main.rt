@@ -2,14 +2,14 @@
 //! System Initialization).
 #![tactic(auto)]
 
-use program_edge::{tell_unread, words};
+use program_io::{report_unread_words, words};
 use rc_command::{USAGE, run_words};
 use std::process::ExitCode;
 
 fn main(rt: HostRuntime) -> ExitCode {
     let status = match words(&rt, rt.alloc()) {
         Ok(words) => run_words(&rt, rt.alloc(), words, &mut rt.stdout(), &mut rt.stderr()),
-        Err(error) => tell_unread("rc", USAGE, &error, &mut rt.stderr()),
+        Err(error) => report_unread_words("rc", USAGE, &error, &mut rt.stderr()),
     };
     ExitCode::from(status)
 }

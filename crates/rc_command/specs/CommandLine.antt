@@ -7,7 +7,7 @@ use Rattle.clap.specs.Words.{App, Row, Text, fault_of, first_of, matches_of}
 use Rattle.command_words.specs.CommandLines.{program_app, with_rules, word_rule}
 use Rattle.init_words.specs.declared.levels.Level.{Level}
 use Rattle.init_words.specs.Levels.{level_read}
-use Rattle.program_edge.specs.Arguments.{only_byte}
+use Rattle.program_io.specs.Arguments.{only_byte}
 use Rattle.rc_command.specs.declared.command.Words.{Words}
 use Rattle.rc_links.specs.Names.{is_name_byte}
 

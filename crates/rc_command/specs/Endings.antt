@@ -1,7 +1,7 @@
 -- What is written of a run of `rc`.
 use Rattle.std.specs.Prelude.{◌≡◌, ℕ, List, length, Option}
 use Rattle.std.specs.Io.KnownBytes.{Appends}
-use Rattle.program_edge.specs.Writing.{AppendsPrefix}
+use Rattle.program_io.specs.Writing.{AppendsPrefix}
 use Rattle.rc_driver.specs.declared.runs.RcAnswer.{RcAnswer}
 use Rattle.rc_driver.specs.Report.{report}
 use Rattle.rc_driver.specs.Runs.{rc_run}

@@ -6,7 +6,7 @@ ghost use Rattle.rc_command.specs.CommandLine.{command_line, is_dir, level_of, p
 use clap::{ArgMatches, Command, Error};
 use command_words::{WordFault, program_line, value_of, with_word, word_fault};
 use init_words::Level;
-use program_edge::only_byte;
+use program_io::only_byte;
 use rc_links::is_name_byte;
 use std::alloc::{AllocError, Global};
 

@@ -6,8 +6,8 @@ use crate::command::{Words, read_words};
 use crate::folders::{folder_of, names_in, previous_names};
 use command_words::WordFault;
 use os_host::OsHost;
-use program_edge::{
-    DEVICE_FAULT, DONE, LIMIT_REACHED, REFUSED, tell_no_memory, tell_usage, write_text,
+use program_io::{
+    DEVICE_FAULT, DONE, LIMIT_REACHED, REFUSED, report_no_memory, report_usage, write_text,
 };
 use rc_driver::{Rc, RunEnd, run_links};
 use std::alloc::Global;
@@ -47,8 +47,8 @@ where
 {
     match read_words(alloc, words.as_slice()) {
         Ok(said) => run(rt, alloc, &said, out, err),
-        Err(WordFault::Usage) => tell_usage(USAGE, err),
-        Err(WordFault::Memory) => tell_no_memory("rc", err),
+        Err(WordFault::Usage) => report_usage(USAGE, err),
+        Err(WordFault::Memory) => report_no_memory("rc", err),
     }
 }
 
@@ -62,15 +62,15 @@ where
 {
     let dir = said.dir.as_str();
     let Ok(path) = folder_of(alloc, dir, said.new) else {
-        return tell_no_memory("rc", err);
+        return report_no_memory("rc", err);
     };
     let previous = match previous_names(rt, alloc, dir, said.previous) {
         Ok(previous) => previous,
-        Err(error) => return tell_unlisted(dir, &error, err),
+        Err(error) => return report_unlisted(dir, &error, err),
     };
     match names_in(rt, alloc, path.as_str()) {
         Ok(names) => run_names(rt, alloc, path.as_str(), &previous, &names, out, err),
-        Err(error) => tell_unlisted(path.as_str(), &error, err),
+        Err(error) => report_unlisted(path.as_str(), &error, err),
     }
 }
 
@@ -91,20 +91,20 @@ where
     ensures part { (out.new ≡ out.old) ⊎ ReportsPart (W.contents out.old) (W.contents out.new) }
 {
     let Ok(mut rc) = Rc::new(alloc, previous, names) else {
-        return tell_no_memory("rc", err);
+        return report_no_memory("rc", err);
     };
     let Ok(own) = rt.clone() else {
-        return tell_no_memory("rc", err);
+        return report_no_memory("rc", err);
     };
     let Ok(mut host) = OsHost::new(own, alloc, "", "", "") else {
-        return tell_no_memory("rc", err);
+        return report_no_memory("rc", err);
     };
     let ended = run_links(alloc, &mut rc, &mut host, path, PAUSES_LIMIT, out);
-    tell_end(ended, err)
+    report_end(ended, err)
 }
 
 /// Reports how a run ended, where it wasn't done, and gives the exit status.
-fn tell_end<E: Write>(ended: RunEnd, err: &mut E) -> u8
+fn report_end<E: Write>(ended: RunEnd, err: &mut E) -> u8
     ensures statuses { (result ≡ DONE) ⊎ (result ≡ LIMIT_REACHED) ⊎ (result ≡ DEVICE_FAULT) }
     ensures done { result ≡ DONE → ended ≡ RunEnd.Done }
 {
@@ -125,7 +125,7 @@ fn tell<E: Write>(status: u8, line: &str, err: &mut E) -> u8
 }
 
 /// Reports that a folder was not listed, and gives the exit status.
-fn tell_unlisted<E: Write>(path: &str, error: &io::Error, err: &mut E) -> u8
+fn report_unlisted<E: Write>(path: &str, error: &io::Error, err: &mut E) -> u8
     ensures { result ≡ DEVICE_FAULT }
 {
     let _ = writeln!(err, "rc: cannot list {path}: {error}");

@@ -17,7 +17,7 @@ is_link letter (first ∷ tens ∷ ones ∷ name) =
     first == letter && is_ascii_digit tens && is_ascii_digit ones && is_name name
 is_link letter _ = false
 
--- the other name is a link with the letter, and has the same part as this one behind the digits
+-- the other name is a link with the letter, and has the same part as this one after the digits
 abbrev pub is_link_like : ℕ → List ℕ → List ℕ → Bool
 is_link_like letter link other = is_link letter other && bytes_eq (drop 3 other) (drop 3 link)
 

@@ -6,14 +6,14 @@ use Rattle.rc_driver.specs.declared.runs.Arg.TheVariants as arg
 use Rattle.rc_driver.specs.Links.{start_links, stop_links}
 
 -- a link and the argument that it is run with
-abbrev pub Script : Type 0
-Script = List ℕ × Arg
+abbrev pub LinkRun : Type 0
+LinkRun = List ℕ × Arg
 
-abbrev pub with_arg : Arg → List (List ℕ) → List Script
+abbrev pub with_arg : Arg → List (List ℕ) → List LinkRun
 with_arg given links = map (λ link. (link, given)) links
 
 -- the scripts by the names in the previous folder and in the new one: K links to stop, then S links to start
-abbrev pub rc_run : List (List ℕ) → List (List ℕ) → List Script
+abbrev pub rc_run : List (List ℕ) → List (List ℕ) → List LinkRun
 rc_run previous new = with_arg arg.Stop (stop_links new) ++ with_arg arg.Start (start_links previous new)
 
 -- the texts that names borrow
@@ -21,10 +21,10 @@ abbrev pub texts_of : List (Bor (List ℕ)) → List (List ℕ)
 texts_of names = map (λ name. name.now) names
 
 -- the scripts of links that are borrowed
-abbrev pub scripts_of : List (Bor (List ℕ) × Arg) → List Script
+abbrev pub scripts_of : List (Bor (List ℕ) × Arg) → List LinkRun
 scripts_of held = map (λ s. (s.0.now, s.1)) held
 
 -- the scripts that are not handed out yet, and whether the answer to the last one that was is missing
 pub record RcState : Type 0 where
-  pub left : List Script
+  pub left : List LinkRun
   pub waits : Bool

@@ -4,7 +4,7 @@ use Rattle.rc_driver.specs.declared.runs.RcStep.{RcStep}
 use Rattle.rc_driver.specs.declared.runs.RcStep.TheVariants as step
 use Rattle.rc_driver.specs.Runs.{RcState}
 
--- the first script that is left is handed out; while the answer to the one before is missing none is, and behind the
+-- the first script that is left is handed out; while the answer to the one before is missing none is, and after the
 -- last none is left
 abbrev pub Steps : RcState → RcStep → RcState → Type 0
 Steps old (step.Run link given) new =

@@ -1,7 +1,7 @@
 ghost use Rattle.std.specs.Prelude.{◌≡◌, ◌++◌, string_bytes, None, IfOk, IfErr, IfSome, OnOk, OnErr};
 ghost use Rattle.std.specs.Io.KnownBytes.{Appends};
-ghost use Rattle.program_edge.specs.Writing.{AppendsPrefix};
-ghost use Rattle.rc_driver.specs.Report.{Advances, Stops, Went, arg_word, command_text};
+ghost use Rattle.program_io.specs.Writing.{AppendsPrefix};
+ghost use Rattle.rc_driver.specs.Report.{Advances, Stops, WritesEnds, arg_word, command_text};
 ghost use Rattle.rc_driver.specs.Report.{end_text, exit_text, line_of, script_text, status_text};
 
 use crate::progress::run_script;
@@ -9,7 +9,7 @@ use crate::runs::{Arg, Rc, RcAnswer, RcStep};
 use child_host::Host;
 use init_words::Status;
 use itoa::Buffer;
-use program_edge::write_text;
+use program_io::write_text;
 use std::alloc::{AllocError, Allocator};
 use std::io;
 use std::io::Write;
@@ -23,7 +23,7 @@ pub enum RunEnd {
     Limit,
     /// A line could not be written.
     Write,
-    /// Want of memory.
+    /// Out of memory.
     Memory,
 }
 
@@ -45,7 +45,7 @@ fn write_one<W: Write>(out: &mut W, text: &[u8]) -> io::Result<()>
     write_text(out, text)
 }
 
-/// Writes two texts, one behind the other.
+/// Writes two texts, one after the other.
 fn write_two<W: Write>(out: &mut W, first: &[u8], second: &[u8]) -> io::Result<()>
     ensures ok { OnOk result
         (Appends (W.contents out.old) (W.contents out.new) (first.now ++ second.now)) }
@@ -57,7 +57,7 @@ fn write_two<W: Write>(out: &mut W, first: &[u8], second: &[u8]) -> io::Result<(
     Ok(())
 }
 
-/// Writes three texts, one behind the other.
+/// Writes three texts, one after the other.
 fn write_three<W: Write>(out: &mut W, first: &[u8], second: &[u8], third: &[u8]) -> io::Result<()>
     ensures ok { OnOk result (Appends (W.contents out.old) (W.contents out.new)
         (first.now ++ (second.now ++ third.now))) }
@@ -186,7 +186,7 @@ fn run_next<'n, A: Allocator + Copy, B: Allocator, H: Host, W: Write>(
     out: &mut W,
 ) -> Option<RunEnd>
     ensures ended { IfSome result (λ ended.
-        Went rc.old (W.contents out.old) ended rc.new (W.contents out.new)) }
+        WritesEnds rc.old (W.contents out.old) ended rc.new (W.contents out.new)) }
     ensures more { result ≡ None →
         Advances rc.old (W.contents out.old) rc.new (W.contents out.new) }
 {
@@ -220,7 +220,7 @@ pub fn run_links<'n, A: Allocator + Copy, B: Allocator, H: Host, W: Write>(
     limit: u32,
     out: &mut W,
 ) -> RunEnd
-    ensures { Went rc.old (W.contents out.old) result rc.new (W.contents out.new) }
+    ensures { WritesEnds rc.old (W.contents out.old) result rc.new (W.contents out.new) }
 {
     let mut pauses = limit;
     loop {

@@ -37,7 +37,7 @@ fn is_link(letter: u8, link: &[u8]) -> bool
     }
 }
 
-/// What stands behind the letter and the digits of a link.
+/// The text after the letter and the digits of a link.
 fn service(link: &[u8]) -> &[u8]
     ensures { result.now ≡ drop 3 link.now }
 {

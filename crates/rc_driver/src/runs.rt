@@ -80,7 +80,7 @@ impl<'n, A: Allocator + Copy> Rc<'n, A> {
     /// The run of the scripts of a level, from the names in the folder of the previous level and in that of the new
     /// one. A link is `S` or `K`, two digits, and one or more bytes of `A-Z a-z 0-9 . _ -`; other names are passed
     /// over. The K links of the new folder are stopped in byte order, then its S links are started in byte order, but
-    /// not those that run already: the previous folder has an S link with the same part behind the digits, and the new
+    /// not those that run already: the previous folder has an S link with the same part after the digits, and the new
     /// one no such K link.
     pub fn new(alloc: A, previous: &[String], new: &'n [String]) -> Result<Rc<'n, A>, Memory>
         ensures { IfOk result (λ rc. rc ≡ record {
@@ -100,7 +100,7 @@ impl<'n, A: Allocator + Copy> Rc<'n, A> {
 }
 
 impl<'n, A: Allocator> Rc<'n, A> {
-    /// The next script, once the one before was answered; `Waiting` until then, and `Done` behind the last.
+    /// The next script, once the one before was answered; `Waiting` until then, and `Done` after the last.
     pub fn next(&mut self) -> RcStep<'n>
         ensures { Steps self.old result self.new }
     {

@@ -7,7 +7,7 @@ use Rattle.std.specs.Str.{bytes_eq}
 use Rattle.std.proofs.lemmas.Slice.Eq.{bytes_eq-Decides}
 use Rattle.std.proofs.lemmas.Bool.{true≢false}
 use Rattle.rc_links.specs.ScriptText.{ScriptText}
-use Rattle.rc_links.specs.Scripts.{has_name, place_from, place_of, is_named, is_system, doubled, double_from, missing_of, missing_from}
+use Rattle.rc_links.specs.Scripts.{has_name, place_from, place_of, has_script, is_system, doubled, double_from, missing_of, missing_from}
 
 -- two names are the same from both sides
 pub bytes_eq-sym : (a b : List ℕ) → bytes_eq a b ≡ bytes_eq b a
@@ -95,15 +95,15 @@ named-next_by true false o n is = is
 named-next_by false true o n is = refl
 named-next_by false false o n is = is
 
-is_named-last : (before : List ScriptText) (s : ScriptText) (bs : List ℕ) → is_named (before ++ s ∷ []) bs ≡ is_named before bs || bytes_eq s.name bs
-is_named-last [] s bs = or_false (bytes_eq s.name bs)
-is_named-last (x ∷ before) s bs = rw (is_named-last before s bs) (sym (or_assoc (bytes_eq x.name bs) (is_named before bs) (bytes_eq s.name bs)))
+has_script-last : (before : List ScriptText) (s : ScriptText) (bs : List ℕ) → has_script (before ++ s ∷ []) bs ≡ has_script before bs || bytes_eq s.name bs
+has_script-last [] s bs = or_false (bytes_eq s.name bs)
+has_script-last (x ∷ before) s bs = rw (has_script-last before s bs) (sym (or_assoc (bytes_eq x.name bs) (has_script before bs) (bytes_eq s.name bs)))
 
-pub named-next : (before : List ScriptText) (s : ScriptText) (bs : List ℕ) (o : Option ℕ) (n : ℕ) → is_some o ≡ is_named before bs → is_some (if bytes_eq s.name bs then Some n else o) ≡ is_named (before ++ s ∷ []) bs
-named-next before s bs o n is = named-next_by (is_named before bs) (bytes_eq s.name bs) o n is ∙ sym (is_named-last before s bs)
+pub named-next : (before : List ScriptText) (s : ScriptText) (bs : List ℕ) (o : Option ℕ) (n : ℕ) → is_some o ≡ has_script before bs → is_some (if bytes_eq s.name bs then Some n else o) ≡ has_script (before ++ s ∷ []) bs
+named-next before s bs o n is = named-next_by (has_script before bs) (bytes_eq s.name bs) o n is ∙ sym (has_script-last before s bs)
 
 -- what is doubled, by tables of what stands before
-pub doubled-is : (f h : List ℕ → Option ℕ) (before : List ScriptText) (s : ScriptText) → ((bs : List ℕ) → f bs ≡ place_of before bs) → ((bs : List ℕ) → is_some (h bs) ≡ is_named before bs)
+pub doubled-is : (f h : List ℕ → Option ℕ) (before : List ScriptText) (s : ScriptText) → ((bs : List ℕ) → f bs ≡ place_of before bs) → ((bs : List ℕ) → is_some (h bs) ≡ has_script before bs)
     → option_or (find (λ name. is_some (f name)) s.header.provides) (if is_some (h s.name) then Some s.name else None) ≡ doubled before s
 doubled-is f h before s places names =
     rw (find-ext (λ name. is_some (f name)) (λ name. is_some (place_of before name)) s.header.provides (λ name. ap is_some (places name)), names s.name) refl

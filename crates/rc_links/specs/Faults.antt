@@ -1,5 +1,6 @@
 -- What one step of planning is refused for.
 use Rattle.std.specs.Prelude.{string_bytes, ◌≡◌, ◌⊎◌, ℕ, ◌<◌, List, Option, Some, None, IfSome, map}
+use Rattle.rc_links.specs.declared.planning.TheConstants.{NUMBER_LIMIT}
 use Rattle.rc_links.specs.declared.needs.Phase.{Phase}
 use Rattle.rc_links.specs.declared.faults.PlanFault.{PlanFault}
 use Rattle.rc_links.specs.declared.faults.PlanFault.TheVariants as fault
@@ -13,7 +14,7 @@ pub data Wrong : Type 0 where
   Round : List (List ℕ) → Wrong
   Deep : Wrong
 
--- what a fault says is wrong, and nothing for want of memory
+-- what a fault says is wrong, and nothing for lack of memory
 abbrev pub wrong_of : {A : Type 0} → PlanFault A → Option Wrong
 wrong_of (fault.DoubleProvide name) = Some (Double (string_bytes name))
 wrong_of (fault.Missing name) = Some (Missing (string_bytes name))
@@ -31,7 +32,7 @@ IsRound turn scripts wrong = (names : List (List ℕ)) × (wrong ≡ Round names
 
 -- one of the two numbers is too great
 abbrev pub IsTooDeep : ℕ → ℕ → Wrong → Type 0
-IsTooDeep start stop wrong = (wrong ≡ Deep) × ((99 < start) ⊎ (99 < stop))
+IsTooDeep start stop wrong = (wrong ≡ Deep) × ((NUMBER_LIMIT < start) ⊎ (NUMBER_LIMIT < stop))
 
 -- one of the numbers is too great
 abbrev pub IsAnyDeep : List ℕ → List ℕ → Wrong → Type 0

@@ -1,6 +1,7 @@
 -- What a plan of scripts says, and why scripts have none (LSB Core 5.0).
 use Rattle.std.specs.Prelude.{string_bytes, ◌≡◌, ◌⊎◌, ℕ, ◌<◌, ◌≤◌, List, [], ◌∷◌, map, get_or, length, Some, None}
 use Rattle.std.specs.List.{AllByRecursion}
+use Rattle.rc_links.specs.declared.planning.TheConstants.{NUMBER_LIMIT}
 use Rattle.rc_links.specs.declared.needs.Phase.{Phase}
 use Rattle.rc_links.specs.declared.needs.Phase.TheVariants as phase
 use Rattle.rc_links.specs.declared.faults.PlanFault.{PlanFault}
@@ -22,13 +23,13 @@ pub record AreLeast (turn : Phase) (scripts : List ScriptText) (numbers : List �
 
 -- a number is too great for a link's two digits
 abbrev pub IsDeep : List ℕ → Type 0
-IsDeep numbers = (place : ℕ) × (99 < get_or numbers place 0)
+IsDeep numbers = (place : ℕ) × (NUMBER_LIMIT < get_or numbers place 0)
 
 -- a script's numbers fit into a link's two digits
 abbrev pub IsShort : PlannedText → Type 0
-IsShort s = (s.start ≤ 99) × (s.stop ≤ 99)
+IsShort s = (s.start ≤ NUMBER_LIMIT) × (s.stop ≤ NUMBER_LIMIT)
 
--- the plan has the scripts in their order, with their runlevels and their least numbers, none above 99
+-- the plan has the scripts in their order, with their runlevels and their least numbers, none above the limit
 pub record IsPlan (scripts : List ScriptText) (plan : List PlannedText) : Type 0 where
   pub provided : IsProvided scripts
   pub names : map (λ s. s.name) plan ≡ map (λ s. s.name) scripts

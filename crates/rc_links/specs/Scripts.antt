@@ -23,14 +23,14 @@ abbrev pub place_of : List ScriptText → List ℕ → Option ℕ
 place_of scripts name = place_from 0 scripts name
 
 -- a script has the name
-abbrev pub is_named : List ScriptText → List ℕ → Bool
-is_named scripts name = list_any (λ (s : ScriptText). bytes_eq s.name name) scripts
+abbrev pub has_script : List ScriptText → List ℕ → Bool
+has_script scripts name = list_any (λ (s : ScriptText). bytes_eq s.name name) scripts
 
 -- what a script provides though an earlier one does, or its name if an earlier one has it
 abbrev pub doubled : List ScriptText → ScriptText → Option (List ℕ)
 doubled before s =
     option_or (find (λ name. is_some (place_of before name)) s.header.provides)
-    (if is_named before s.name then Some s.name else None)
+    (if has_script before s.name then Some s.name else None)
 
 -- the first name that is provided twice, or stands twice
 abbrev pub double_from : List ScriptText → List ScriptText → Option (List ℕ)

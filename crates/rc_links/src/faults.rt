@@ -15,7 +15,7 @@ pub enum PlanFault<A: Allocator = Global> {
     Cycle(Vec<String<A>, A>),
     /// A number would be above 99.
     TooDeep,
-    /// Want of memory.
+    /// Out of memory.
     Memory,
 }
 

@@ -15,7 +15,7 @@ fn has_name_bytes(name: &[u8]) -> bool
     name.iter().all(|byte| is_name_byte(*byte))
 }
 
-/// A name that a link may have behind its digits: one or more such bytes.
+/// A name that a link may have after its digits: one or more such bytes.
 pub fn is_name(name: &[u8]) -> bool
     ensures { result ≡ is_name name.now }
 {

@@ -6,7 +6,7 @@ ghost use Rattle.rc_links.specs.Scripts.{need, named, needs_of};
 ghost use Rattle.rc_links.specs.Tables.{HasPlaces, needs_by, place_in};
 
 use crate::scripts::Script;
-use crate::tables::{Table, place_at};
+use crate::tables::{Providers, place_at};
 use init_words::Memory;
 use std::alloc::Allocator;
 
@@ -32,7 +32,7 @@ fn add_name<A: Allocator>(
     edges: &mut Vec<(usize, usize), A>,
     phase: Phase,
     place: usize,
-    table: &Table<'_, A>,
+    table: &Providers<'_, A>,
     name: &[u8],
 ) -> Result<(), Memory>
     ensures { OnOk result (edges.new.items ≡
@@ -50,7 +50,7 @@ fn add_names<A: Allocator, B: Allocator>(
     edges: &mut Vec<(usize, usize), A>,
     phase: Phase,
     place: usize,
-    table: &Table<'_, A>,
+    table: &Providers<'_, A>,
     names: &[String<B>],
 ) -> Result<(), Memory>
     ensures { OnOk result (edges.new.items ≡
@@ -68,7 +68,7 @@ fn add_script<A: Allocator>(
     phase: Phase,
     place: usize,
     script: &Script<A>,
-    table: &Table<'_, A>,
+    table: &Providers<'_, A>,
 ) -> Result<(), Memory>
     ensures { OnOk result (edges.new.items ≡
         edges.old.items ++ needs_by phase place table.now (named phase script.now.header)) }
@@ -91,7 +91,7 @@ pub(crate) fn needs<A: Allocator + Copy>(
     alloc: A,
     phase: Phase,
     scripts: &[Script<A>],
-    table: &Table<'_, A>,
+    table: &Providers<'_, A>,
 ) -> Result<Vec<(usize, usize), A>, Memory>
     requires { HasPlaces scripts.now table.now }
     ensures needs { IfOk result (λ edges. edges.items ≡ needs_of phase scripts.now) }

@@ -10,7 +10,7 @@ use crate::faults::PlanFault;
 use crate::needs::{Phase, needs};
 use crate::plans::{Plan, Planned};
 use crate::scripts::Script;
-use crate::tables::{Table, check_missing, table_of};
+use crate::tables::{Providers, check_missing, table_of};
 use init_words::Memory;
 use link_numbers::ordered;
 use std::alloc::Allocator;
@@ -83,7 +83,7 @@ fn order_of<A: Allocator + Copy>(
     alloc: A,
     phase: Phase,
     scripts: &[Script<A>],
-    table: &Table<'_, A>,
+    table: &Providers<'_, A>,
 ) -> Result<Result<Vec<usize, A>, Vec<usize, A>>, Memory>
     requires { HasPlaces scripts.now table.now }
     ensures least { IfOk result (λ order. IfOk order (λ ns. AreLeast phase scripts.now ns.items)) }
@@ -103,7 +103,7 @@ fn numbered<A: Allocator + Copy>(
     alloc: A,
     phase: Phase,
     scripts: &[Script<A>],
-    table: &Table<'_, A>,
+    table: &Providers<'_, A>,
 ) -> Result<Vec<usize, A>, PlanFault<A>>
     requires { HasPlaces scripts.now table.now }
     ensures least { IfOk result (λ numbers. AreLeast phase scripts.now numbers.items) }
@@ -117,8 +117,8 @@ fn numbered<A: Allocator + Copy>(
 
 /// A number as a link has it, where it is not too great.
 fn link_number(number: usize) -> Option<u8>
-    ensures some { IfSome result (λ given. (given ≡ number) × (number ≤ 99)) }
-    ensures deep { IfNone result (99 < number) }
+    ensures some { IfSome result (λ given. (given ≡ number) × (number ≤ NUMBER_LIMIT)) }
+    ensures deep { IfNone result (NUMBER_LIMIT < number) }
 {
     if number > NUMBER_LIMIT {
         return None;
@@ -185,7 +185,7 @@ fn planned_all<A: Allocator + Copy>(
 fn plan_by<A: Allocator + Copy>(
     alloc: A,
     scripts: &[Script<A>],
-    table: &Table<'_, A>,
+    table: &Providers<'_, A>,
 ) -> Result<Plan<A>, PlanFault<A>>
     requires places { HasPlaces scripts.now table.now }
     requires single { double_from [] scripts.now ≡ None }

@@ -12,10 +12,10 @@ use std::alloc::Allocator;
 use std::hash::{BuildHasherDefault, FoldHasher};
 
 /// The places of names.
-pub(crate) type Table<'a, A> = IndexMap<&'a [u8], usize, BuildHasherDefault<FoldHasher>, A>;
+pub(crate) type Providers<'a, A> = IndexMap<&'a [u8], usize, BuildHasherDefault<FoldHasher>, A>;
 
 /// The place of a name.
-pub(crate) fn place_at<A: Allocator>(table: &Table<'_, A>, name: &[u8]) -> Option<usize>
+pub(crate) fn place_at<A: Allocator>(table: &Providers<'_, A>, name: &[u8]) -> Option<usize>
     ensures { result ≡ place_in table.now name.now }
 {
     table.get(name).copied()
@@ -23,7 +23,7 @@ pub(crate) fn place_at<A: Allocator>(table: &Table<'_, A>, name: &[u8]) -> Optio
 
 /// Gives a name this place.
 fn set_place<'a, A: Allocator + Clone>(
-    table: &mut Table<'a, A>,
+    table: &mut Providers<'a, A>,
     name: &'a [u8],
     place: usize,
 ) -> Result<(), Memory>
@@ -35,7 +35,7 @@ fn set_place<'a, A: Allocator + Clone>(
 
 /// Gives each name that a script provides its place.
 fn add_provided<'a, A: Allocator + Clone>(
-    table: &mut Table<'a, A>,
+    table: &mut Providers<'a, A>,
     script: &'a Script<A>,
     place: usize,
 ) -> Result<(), Memory>
@@ -49,7 +49,7 @@ fn add_provided<'a, A: Allocator + Clone>(
 
 /// The first of the names that the table has.
 fn first_known<'s, A: Allocator, B: Allocator>(
-    table: &Table<'_, A>,
+    table: &Providers<'_, A>,
     names: &'s [String<B>],
 ) -> Option<&'s str>
     ensures { option_map (λ name. name.now) result
@@ -66,8 +66,8 @@ fn first_known<'s, A: Allocator, B: Allocator>(
 /// The first of a script's provided names that is known, or else its own name if it is known as a script's.
 fn doubled<'s, A: Allocator>(
     script: &'s Script<A>,
-    provided: &Table<'_, A>,
-    names: &Table<'_, A>,
+    provided: &Providers<'_, A>,
+    names: &Providers<'_, A>,
 ) -> Option<&'s str>
     ensures { option_map (λ name. name.now) result ≡ known_again provided.now names.now script.now }
 {
@@ -83,8 +83,8 @@ fn doubled<'s, A: Allocator>(
 /// Gives a script's provided names and its own name this place, where none of them has one.
 fn add_script<'a, A: Allocator + Copy>(
     alloc: A,
-    provided: &mut Table<'a, A>,
-    names: &mut Table<'a, A>,
+    provided: &mut Providers<'a, A>,
+    names: &mut Providers<'a, A>,
     script: &'a Script<A>,
     place: usize,
 ) -> Result<(), PlanFault<A>>
@@ -106,8 +106,8 @@ fn add_script<'a, A: Allocator + Copy>(
 /// Gives the names of each script the script's place.
 fn add_scripts<'a, A: Allocator + Copy>(
     alloc: A,
-    provided: &mut Table<'a, A>,
-    names: &mut Table<'a, A>,
+    provided: &mut Providers<'a, A>,
+    names: &mut Providers<'a, A>,
     scripts: &'a [Script<A>],
 ) -> Result<(), PlanFault<A>>
     requires provided { HasNone provided.old }
@@ -126,7 +126,7 @@ fn add_scripts<'a, A: Allocator + Copy>(
 pub(crate) fn table_of<A: Allocator + Copy>(
     alloc: A,
     scripts: &[Script<A>],
-) -> Result<Table<'_, A>, PlanFault<A>>
+) -> Result<Providers<'_, A>, PlanFault<A>>
     ensures single { IfOk result (λ table. double_from [] scripts.now ≡ None) }
     ensures places { IfOk result (λ table. HasPlaces scripts.now table) }
     ensures double { IfErr result (Says (IsDouble (double_from [] scripts.now))) }
@@ -169,7 +169,7 @@ fn is_system(name: &[u8]) -> bool
 
 /// The first of the names that no script provides, those of the system apart.
 fn missing_in<'s, A: Allocator, B: Allocator>(
-    table: &Table<'_, A>,
+    table: &Providers<'_, A>,
     names: &'s [String<B>],
 ) -> Option<&'s str>
     ensures { option_map (λ name. name.now) result
@@ -184,7 +184,7 @@ fn missing_in<'s, A: Allocator, B: Allocator>(
 }
 
 /// The first name that a script requires and no script provides.
-fn missing_of<'s, A: Allocator>(table: &Table<'_, A>, script: &'s Script<A>) -> Option<&'s str>
+fn missing_of<'s, A: Allocator>(table: &Providers<'_, A>, script: &'s Script<A>) -> Option<&'s str>
     ensures { option_map (λ name. name.now) result ≡ unknown_of table.now script.now }
 {
     let header = script.header();
@@ -198,7 +198,7 @@ fn missing_of<'s, A: Allocator>(table: &Table<'_, A>, script: &'s Script<A>) -> 
 pub(crate) fn check_missing<A: Allocator + Copy>(
     alloc: A,
     scripts: &[Script<A>],
-    table: &Table<'_, A>,
+    table: &Providers<'_, A>,
 ) -> Result<(), PlanFault<A>>
     requires { HasPlaces scripts.now table.now }
     ensures whole { OnOk result (missing_from scripts.now scripts.now ≡ None) }

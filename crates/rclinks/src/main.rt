@@ -2,7 +2,7 @@
 //! headers allow (LSB Core 5.0).
 #![tactic(auto)]
 
-use program_edge::{tell_unread, words};
+use program_io::{report_unread_words, words};
 use rclinks_command::{USAGE, run_words};
 use std::process::ExitCode;
 
@@ -18,7 +18,7 @@ fn main(rt: HostRuntime) -> ExitCode {
                 &mut rt.stderr(),
             )
         }
-        Err(error) => tell_unread("rclinks", USAGE, &error, &mut rt.stderr()),
+        Err(error) => report_unread_words("rclinks", USAGE, &error, &mut rt.stderr()),
     };
     ExitCode::from(status)
 }

@@ -4,7 +4,7 @@ use Rattle.std.specs.List.{list_any}
 use Rattle.std.specs.Str.{bytes_eq}
 use Rattle.std.specs.Io.KnownBytes.{Appends}
 use Rattle.std.specs.declared.alloc.Global.{Global}
-use Rattle.program_edge.specs.Writing.{AppendsPrefix}
+use Rattle.program_io.specs.Writing.{AppendsPrefix}
 use Rattle.path_texts.specs.Known.{KnownTexts}
 use Rattle.lsb_header.specs.Forms.{is_empty}
 use Rattle.rc_links.specs.Links.{plan_text}
@@ -54,7 +54,7 @@ abbrev pub PrintsPart : KnownTexts → List (List ℕ) → Option (List ℕ) →
 PrintsPart text_at paths old new =
     (scripts : List ScriptText) × AreScripts text_at paths scripts × PrintsPlanPart scripts old new
 
--- 4 for want of memory, 1 for another fault of the plan
+-- 4 for lack of memory, 1 for another fault of the plan
 abbrev pub plan_status : {A : Type 0} → PlanFault A → ℕ
 plan_status (plan_fault.DoubleProvide name) = 1
 plan_status (plan_fault.Missing name) = 1

@@ -17,7 +17,7 @@ use Rattle.rclinks_command.specs.declared.files.FileFault.TheVariants as fault
 abbrev pub is_slash : ℕ → Bool
 is_slash b = b == 47
 
--- what stands behind the last '/' of a path, or the whole path where it has none
+-- the text after the last '/' of a path, or the whole path where it has none
 abbrev pub last_part : List ℕ → List ℕ
 last_part [] = []
 last_part (b ∷ path) = if list_any is_slash (b ∷ path) then last_part path else b ∷ path
@@ -58,7 +58,7 @@ IsNoScriptAt text_at path (fault.Header found line) =
     (text : List ℕ) × IsTextAt text_at path text × IsNoScript (last_part path) text (fault.Header found line)
 IsNoScriptAt text_at path fault.Memory = Unit {0}
 
--- 1 for a name or a header that is refused, 4 for a file that is not read and for want of memory
+-- 1 for a name or a header that is refused, 4 for a file that is not read and for lack of memory
 abbrev pub file_status : FileFault → ℕ
 file_status (fault.Unread error) = 4
 file_status fault.Name = 1

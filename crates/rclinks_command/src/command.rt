@@ -1,7 +1,7 @@
 ghost use Rattle.std.specs.Prelude.{◌≡◌, ◌⊎◌, ◌++◌, true, map, string_bytes, Contains, IfOk, IfErr, OnOk};
 ghost use Rattle.std.specs.List.{list_any};
 ghost use Rattle.std.specs.Io.KnownBytes.{Appends};
-ghost use Rattle.program_edge.specs.Writing.{AppendsPrefix};
+ghost use Rattle.program_io.specs.Writing.{AppendsPrefix};
 ghost use Rattle.rc_links.specs.Links.{plan_text};
 ghost use Rattle.rclinks_command.specs.Command.{AddsScript, AreScripts, HasNoPlan, IsRefusedRun, PrintsLinks, PrintsPart, PrintsPlan, PrintsPlanPart, is_help, plan_status, wants_usage};
 ghost use Rattle.rclinks_command.specs.Files.{IsNoScriptAt, file_status};
@@ -9,8 +9,8 @@ ghost use Rattle.rclinks_command.specs.Files.{IsNoScriptAt, file_status};
 use crate::files::{FileFault, script_of};
 use init_words::Memory;
 use path_texts::Texts;
-use program_edge::{DEVICE_FAULT, DONE, REFUSED, tell_usage, write_text};
-use rc_links::{Plan, PlanFault, Script, plan};
+use program_io::{DEVICE_FAULT, DONE, REFUSED, report_usage, write_text};
+use rc_links::{Plan, PlanFault, Script};
 use std::alloc::Global;
 use std::io::Write;
 
@@ -65,7 +65,7 @@ fn scripts_of<'w, T: Texts>(
 
 /// Writes why a file gives no script: a line that is always the same, and one that says the reason, the line of the
 /// file that it is about, and what to write in its place.
-fn tell_reason<E: Write>(path: &str, fault: &FileFault, err: &mut E) {
+fn report_reason<E: Write>(path: &str, fault: &FileFault, err: &mut E) {
     let _ = match fault {
         FileFault::Unread(error) => {
             writeln!(
@@ -89,15 +89,15 @@ fn tell_reason<E: Write>(path: &str, fault: &FileFault, err: &mut E) {
 }
 
 /// Tells a file that gives no script, and gives the exit status.
-fn tell_file<E: Write>(refusal: &Refusal, err: &mut E) -> u8
+fn report_file<E: Write>(refusal: &Refusal, err: &mut E) -> u8
     ensures { result ≡ file_status refusal.now.fault }
 {
-    tell_reason(refusal.path, &refusal.fault, err);
+    report_reason(refusal.path, &refusal.fault, err);
     refusal.fault.status()
 }
 
 /// Tells a fault of the plan, and gives the exit status.
-fn tell_fault<E: Write>(fault: &PlanFault, err: &mut E) -> u8
+fn report_fault<E: Write>(fault: &PlanFault, err: &mut E) -> u8
     ensures { result ≡ plan_status fault.now }
 {
     let _ = writeln!(err, "rclinks: {fault}");
@@ -132,7 +132,7 @@ fn print_links<W: Write, E: Write>(alloc: Global, plan: &Plan, out: &mut W, err:
 {
     match plan.print(alloc) {
         Ok(text) => write_links(text.as_slice(), out, err),
-        Err(_) => tell_fault(&PlanFault::Memory, err),
+        Err(_) => report_fault(&PlanFault::Memory, err),
     }
 }
 
@@ -147,9 +147,9 @@ fn print_plan<W: Write, E: Write>(alloc: Global, scripts: &[Script], out: &mut W
         (W.contents out.new) }
     ensures silent { result ≡ DONE → err.new ≡ err.old }
 {
-    match plan(alloc, scripts) {
+    match rc_links::plan(alloc, scripts) {
         Ok(plan) => print_links(alloc, &plan, out, err),
-        Err(fault) => tell_fault(&fault, err),
+        Err(fault) => report_fault(&fault, err),
     }
 }
 
@@ -210,10 +210,10 @@ pub fn run_words<T: Texts, W: Write, E: Write>(
         (W.contents out.new) }
 {
     if wants_usage(words) {
-        return tell_usage(USAGE, err);
+        return report_usage(USAGE, err);
     }
     match scripts_of(texts, alloc, words) {
         Ok(scripts) => print_plan(alloc, scripts.as_slice(), out, err),
-        Err(refusal) => tell_file(&refusal, err),
+        Err(refusal) => report_file(&refusal, err),
     }
 }

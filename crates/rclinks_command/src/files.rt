@@ -3,9 +3,9 @@ ghost use Rattle.rc_links.specs.Names.{is_name};
 ghost use Rattle.rclinks_command.specs.Files.{IsNoScript, IsNoScriptAt, IsScriptAt, IsScriptOf, file_status, last_part, refusal_of};
 
 use init_words::Memory;
-use lsb_header::{HeaderFault, read, second_line};
+use lsb_header::{HeaderFault, second_line};
 use path_texts::Texts;
-use program_edge::{DEVICE_FAULT, REFUSED};
+use program_io::{DEVICE_FAULT, REFUSED};
 use rc_links::{Script, is_name};
 use std::alloc::Global;
 use std::io;
@@ -19,7 +19,7 @@ pub(crate) enum FileFault {
     Name,
     /// Its header is refused; with the number of the line that the fault is about, where the fault itself has none.
     Header(HeaderFault, Option<usize>),
-    /// Want of memory.
+    /// Out of memory.
     Memory,
 }
 
@@ -46,7 +46,7 @@ impl FileFault {
     }
 }
 
-/// What stands behind the last `/` of a path, or the whole path where it has none.
+/// The text after the last `/` of a path, or the whole path where it has none.
 fn last_part(path: &[u8]) -> &[u8]
     ensures { result.now ≡ last_part path.now }
 {
@@ -87,7 +87,7 @@ fn script_in(alloc: Global, name: &[u8], text: &[u8]) -> Result<Script, FileFaul
     if !is_name(name) {
         return Err(FileFault::Name);
     }
-    match read(alloc, text) {
+    match lsb_header::read(alloc, text) {
         Ok(header) => Ok(Script::new(name_of(alloc, name)?, header)),
         Err(fault) => Err(refusal_of(text, fault)),
     }

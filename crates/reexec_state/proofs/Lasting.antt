@@ -10,10 +10,10 @@ use Rattle.init_trace.specs.declared.steps.Goal.{Goal}
 use Rattle.init_trace.specs.declared.steps.Step.{Step}
 use Rattle.init_trace.specs.declared.steps.Step.TheVariants.{Enter, Call, Power, Reread, Order, Hold, Settle, Reexec, Idle}
 use Rattle.init_trace.specs.Range.{is_request}
-use Rattle.core_state.specs.State.{CoreState}
-use Rattle.core_state.specs.Decide.{decide}
-use Rattle.core_state.specs.Steps.{after_step, after_got, heard_in, wished}
-use Rattle.core_state.proofs.Decided.{EachPasses, decided}
+use Rattle.core_model.specs.State.{CoreState}
+use Rattle.core_model.specs.Decide.{decide}
+use Rattle.core_model.specs.Steps.{after_step, after_got, heard_in, wished}
+use Rattle.core_model.proofs.Decided.{EachPasses, decided}
 use Rattle.state_text.specs.Range.{has_short_seconds, is_goal, is_seconds, is_stage, passes}
 
 -- the seconds of a step

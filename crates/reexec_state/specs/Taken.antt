@@ -1,16 +1,16 @@
 -- Why a text is not taken over.
 use Rattle.std.specs.Prelude.{◌≡◌, ◌≢◌, ℕ, List}
-use Rattle.core_state.specs.Parts.{State, state_of}
-use Rattle.core_state.specs.Rules.{IsFit}
-use Rattle.core_state.specs.State.{CoreState}
+use Rattle.core_model.specs.Parts.{SavedState, state_of}
+use Rattle.core_model.specs.Rules.{IsFit}
+use Rattle.core_model.specs.State.{CoreState}
 use Rattle.state_text.specs.declared.over.Over.{Over}
 use Rattle.state_text.specs.declared.over.Over.TheVariants.{Unfit}
-use Rattle.state_text.specs.Refused.{Says, Refused}
+use Rattle.state_text.specs.Refused.{IsTextOf, Refused}
 
 -- the text is that of a state of the generation, and no core that keeps the rules has that state
 pub record IsUnfit (text : List ℕ) (generation : ℕ) : Type 0 where
-  pub state : State
-  pub says : Says text state
+  pub state : SavedState
+  pub says : IsTextOf text state
   pub own : state.heads.generation ≡ generation
   pub unfit : (core : CoreState) → IsFit core → state_of core ≢ state
 

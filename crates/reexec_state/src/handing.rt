@@ -2,23 +2,23 @@ ghost use Rattle.std.specs.List.{list_all};
 ghost use Rattle.std.specs.Prelude.{◌≡◌, true, map, ◌+◌, ◌^◌, ◌==◌, ◌∷◌, if◌then◌else◌, false, Err, IfOk, IfErr, OnOk, OnErr};
 ghost use Rattle.init_trace.specs.declared.happenings.Handed.{Handed};
 ghost use Rattle.init_trace.specs.declared.happenings.Happening.TheVariants as happening;
-ghost use Rattle.core_state.specs.Fit.{Fits, OnEachTrace};
-ghost use Rattle.core_state.specs.Parts.{record_of, state_of};
-ghost use Rattle.core_state.specs.Rules.{IsFit};
-ghost use Rattle.core_state.specs.Steps.{after_handed_on};
+ghost use Rattle.core_model.specs.Fit.{Fits, OnEachTrace};
+ghost use Rattle.core_model.specs.Parts.{record_of, state_of};
+ghost use Rattle.core_model.specs.Rules.{IsFit};
+ghost use Rattle.core_model.specs.Steps.{after_handed_on};
 ghost use Rattle.state_text.specs.declared.over.Over.TheVariants as over;
 ghost use Rattle.state_text.specs.Lines.{state_text};
 ghost use Rattle.state_text.specs.Range.{has_ranged_ids, has_short_seconds};
-ghost use Rattle.state_text.specs.Refused.{Says};
+ghost use Rattle.state_text.specs.Refused.{IsTextOf};
 
 use child_table::Slot;
-use core_state::Heads;
+use core_model::Heads;
 use init_words::Memory;
 use level_core::Core;
 use state_text::{Over, write_state};
 use std::alloc::Allocator;
 
-/// The heads that the next init begins with: it is a generation more, and its wish to be executed anew is over.
+/// The heads that the next init begins with: it is a generation more, and its wish to be re-executed is over.
 fn next_heads(heads: Heads) -> Result<Heads, Over>
     ensures next { IfOk result (λ next.
         next ≡ record heads { generation = heads.generation + 1; reexec = false }) }
@@ -68,7 +68,7 @@ fn text_of<A: Allocator + Copy, B: Allocator>(
 }
 
 /// Hands init's state on: the text is that of the state that the next init begins with, which is a generation more and
-/// no longer wishes to be executed anew. Refused where there is no greater generation (`Worn`), and for want of memory;
+/// no longer wishes to be re-executed. Refused where there is no greater generation (`Worn`), and for lack of memory;
 /// a refusal changes nothing.
 pub fn hand_over<A: Allocator + Copy, B: Allocator>(
     alloc: A,
@@ -84,7 +84,7 @@ pub fn hand_over<A: Allocator + Copy, B: Allocator>(
         → Fits core.new goal (happening.Handed how ∷ past))) }
     // What was handed on can be taken over.
     ensures said { IfOk result (λ text. has_short_seconds core.old ≡ true
-        → Says text.items (state_of core.new) × IsFit core.new) }
+        → IsTextOf text.items (state_of core.new) × IsFit core.new) }
 {
     core.law_of_rules();
     let heads = next_heads(core.heads())?;

@@ -1,4 +1,4 @@
-//! Init executed anew (telinit(8), `u`): its state is handed over as a text, and the next init takes it over.
+//! Init re-executed (telinit(8), `u`): its state is handed over as a text, and the next init takes it over.
 #![tactic(auto)]
 
 mod handing;

@@ -1,10 +1,10 @@
 ghost use Rattle.std.specs.Prelude.{◌≡◌, Err, IfOk, IfErr};
 ghost use Rattle.std.specs.Result.{MatchResult};
-ghost use Rattle.core_state.specs.Parts.{state_of};
-ghost use Rattle.core_state.specs.Rules.{IsFit};
-ghost use Rattle.core_state.specs.State.{CoreState};
+ghost use Rattle.core_model.specs.Parts.{state_of};
+ghost use Rattle.core_model.specs.Rules.{IsFit};
+ghost use Rattle.core_model.specs.State.{CoreState};
 ghost use Rattle.state_text.specs.declared.over.Over.TheVariants as over;
-ghost use Rattle.state_text.specs.Refused.{IsCut, IsOtherVersion, Says};
+ghost use Rattle.state_text.specs.Refused.{IsCut, IsOtherVersion, IsTextOf};
 ghost use Rattle.reexec_state.specs.Taken.{NotTaken};
 
 use level_core::{Core, Rebuild};
@@ -18,11 +18,11 @@ pub fn take_over<A: Allocator + Copy>(
     text: &[u8],
     generation: u64,
 ) -> Result<Core<A>, Over>
-    ensures taken { IfOk result (λ core. Says text.now (state_of core)) }
+    ensures taken { IfOk result (λ core. IsTextOf text.now (state_of core)) }
     ensures kept { IfOk result (λ core. IsFit core) }
     ensures generation { IfOk result (λ core. core.generation ≡ generation) }
     // Where the text is that of a core that keeps the rules, that core is taken over.
-    ensures only { (core : CoreState) → IsFit core → Says text.now (state_of core)
+    ensures only { (core : CoreState) → IsFit core → IsTextOf text.now (state_of core)
         → core.generation ≡ generation
         → MatchResult result (λ taken. taken ≡ core) (λ why. why ≡ over.Memory) }
     // A text that is cut, as every proper prefix of one that was handed over is, is told for that alone, with memory or

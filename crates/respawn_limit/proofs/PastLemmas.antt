@@ -10,9 +10,9 @@ use Rattle.std.proofs.lemmas.List.Sums.{sum_by-append, sum_by_push}
 use Rattle.respawn_limit.specs.declared.TheConstants.{HOLD, STARTS, WINDOW}
 use Rattle.respawn_limit.specs.declared.May.TheVariants.{Yes, HoldUntil}
 use Rattle.respawn_limit.specs.State.{LimiterState}
-use Rattle.respawn_limit.specs.Window.{is_recent, is_full, answer, may_of, last_ten, with_start, Remembers}
-use Rattle.respawn_limit.specs.Past.{Event, Noted, HeldAt, Cleared, times_noted, hold_end, last_reading, is_yes, may_follow, is_run, is_no_clear, StandsAfter, ElevenStartsTakeTwoMinutes, NoStartWhileHeld}
-use Rattle.respawn_limit.proofs.WindowLemmas.{count_all, answer-last_ten, Remembers-push}
+use Rattle.respawn_limit.specs.Window.{is_recent, is_full, answer, may_of, last_starts, with_start, Remembers}
+use Rattle.respawn_limit.specs.Past.{Event, Noted, HeldAt, Cleared, times_noted, hold_end, last_reading, is_yes, may_follow, is_run, is_no_clear, StandsAfter, StartsKeepPace, NoStartWhileHeld}
+use Rattle.respawn_limit.proofs.WindowLemmas.{count_all, answer-last_starts, Remembers-push}
 
 -- it remembers all starts that it was told of
 pub Remembers-StandsAfter : (limiter : LimiterState) (past : List Event) → StandsAfter limiter past
@@ -25,16 +25,16 @@ pub may_of-StandsAfter : (limiter : LimiterState) (past : List Event) (now : ℕ
     → may_of limiter now ≡ answer (times_noted past) (hold_end past) now
 may_of-StandsAfter limiter past now stands =
     ap (λ (l : LimiterState). may_of l now) stands.state
-    ∙ answer-last_ten (times_noted past) (hold_end past) now stands.ordered
+    ∙ answer-last_starts (times_noted past) (hold_end past) now stands.ordered
 
 -- one more start, no earlier than those that are kept
 pub StandsAfter-Noted : (limiter new : LimiterState) (past : List Event) (now : ℕ) → StandsAfter limiter past
     → All (λ start. start ≤ now) limiter.starts → new ≡ with_start limiter now → StandsAfter new (Noted now ∷ past)
 StandsAfter-Noted limiter new past now stands late is =
-    let known : Remembers (last_ten (limiter.starts ++ now ∷ [])) (times_noted past ++ now ∷ []) =
+    let known : Remembers (last_starts (limiter.starts ++ now ∷ [])) (times_noted past ++ now ∷ []) =
     Remembers-push limiter.starts (times_noted past) now (Remembers-StandsAfter limiter past stands) late in
     record {
-      state = is ∙ same_state (last_ten (limiter.starts ++ now ∷ [])) (last_ten (times_noted past ++ now ∷ [])) limiter.held (hold_end past)
+      state = is ∙ same_state (last_starts (limiter.starts ++ now ∷ [])) (last_starts (times_noted past ++ now ∷ [])) limiter.held (hold_end past)
           known.last (ap (λ (l : LimiterState). l.held) stands.state);
       ordered = known.ordered;
     }
@@ -182,7 +182,7 @@ not_both : (b : Bool) → b ≡ true → b ≡ false → ⊥
 not_both b is isnt = cc
 
 -- eleven starts take two minutes
-pub eleven_starts : ElevenStartsTakeTwoMinutes
+pub eleven_starts : StartsKeepPace
 eleven_starts later between earlier first last run kept nine =
     let past : List Event = Noted first ∷ earlier in
     let rest : List Event = between ++ past in

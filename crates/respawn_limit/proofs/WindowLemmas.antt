@@ -10,7 +10,7 @@ use Rattle.std.proofs.lemmas.List.Elements.{All-head, All-tail, All-from_get_or,
 use Rattle.std.proofs.lemmas.List.Sums.{sum_by-cons, sum_by-take-drop, count_by-le-length}
 use Rattle.std.proofs.lemmas.List.Sorted.{IsNonDecreasingBy-push, IsNonDecreasingBy-drop}
 use Rattle.respawn_limit.specs.declared.TheConstants.{STARTS}
-use Rattle.respawn_limit.specs.Window.{is_recent, is_full, last_ten, answer, window_answer, Remembers}
+use Rattle.respawn_limit.specs.Window.{is_recent, is_full, last_starts, answer, window_answer, Remembers}
 
 -- all pass a test
 pub count_all : (p : ℕ → Bool) (xs : List ℕ) → AllPass p xs → count_by p xs ≡ length xs
@@ -105,13 +105,13 @@ full_by_last k now noted ordered some = elim (cases_lt k (length noted)) [
 ]
 
 -- the window is full by the last ten where it is full by all
-pub is_full-last_ten : (noted : List ℕ) (now : ℕ) → IsNonDecreasing noted → is_full (last_ten noted) now ≡ is_full noted now
-is_full-last_ten noted now ordered = full_by_last STARTS now noted ordered (omega arith)
+pub is_full-last_starts : (noted : List ℕ) (now : ℕ) → IsNonDecreasing noted → is_full (last_starts noted) now ≡ is_full noted now
+is_full-last_starts noted now ordered = full_by_last STARTS now noted ordered (omega arith)
 
 -- so is the answer
-pub window_answer-last_ten : (noted : List ℕ) (now : ℕ) → IsNonDecreasing noted
-    → window_answer (last_ten noted) now ≡ window_answer noted now
-window_answer-last_ten noted now ordered = rw (is_full-last_ten noted now ordered) refl
+pub window_answer-last_starts : (noted : List ℕ) (now : ℕ) → IsNonDecreasing noted
+    → window_answer (last_starts noted) now ≡ window_answer noted now
+window_answer-last_starts noted now ordered = rw (is_full-last_starts noted now ordered) refl
 
 -- the last k of the last k and one more
 pub drop_last_push : (k : ℕ) (noted : List ℕ) (y : ℕ)
@@ -124,12 +124,12 @@ drop_last_push k noted y =
     ∙ ap (λ m. drop m (noted ++ y ∷ [])) (omega (arith, length-drop n (noted ++ y ∷ []), length-append noted (y ∷ []))))
 
 -- ten or fewer are the last ten
-pub last_ten-few : (times : List ℕ) → length times ≤ STARTS → last_ten times ≡ times
-last_ten-few times few = let none : length times - STARTS ≡ 0 = omega arith in rw none refl
+pub last_starts-few : (times : List ℕ) → length times ≤ STARTS → last_starts times ≡ times
+last_starts-few times few = let none : length times - STARTS ≡ 0 = omega arith in rw none refl
 
 -- there are ten at most
-pub length-last_ten : (times : List ℕ) → length (last_ten times) ≤ STARTS
-length-last_ten times = omega (arith, length-drop (length times - STARTS) times)
+pub length-last_starts : (times : List ℕ) → length (last_starts times) ≤ STARTS
+length-last_starts times = omega (arith, length-drop (length times - STARTS) times)
 
 -- the last of all is the last of those that are kept
 last_kept : (k : ℕ) (noted : List ℕ) (now d : ℕ) → 0 < k → All (λ start. start ≤ now) (drop (length noted - k) noted) → 0 < length noted
@@ -141,8 +141,8 @@ last_kept k noted now d ten late some =
     rw at at (late (length noted - 1 - n) d (omega (arith, length-drop n noted)))
 
 -- the last ten of times in order are in order
-pub IsNonDecreasing-last_ten : (times : List ℕ) → IsNonDecreasing times → IsNonDecreasing (last_ten times)
-IsNonDecreasing-last_ten times ordered = IsNonDecreasingBy-drop (λ x. x) (length times - STARTS) times ordered
+pub IsNonDecreasing-last_starts : (times : List ℕ) → IsNonDecreasing times → IsNonDecreasing (last_starts times)
+IsNonDecreasing-last_starts times ordered = IsNonDecreasingBy-drop (λ x. x) (length times - STARTS) times ordered
 
 -- a time that none of those before exceeds keeps the order
 pub IsNonDecreasing-push : (starts : List ℕ) (now : ℕ) → IsNonDecreasing starts → All (λ start. start ≤ now) starts
@@ -152,16 +152,16 @@ IsNonDecreasing-push starts now ordered late =
 
 -- ten times in order are remembered whole
 pub Remembers-few : (starts : List ℕ) → length starts ≤ STARTS → IsNonDecreasing starts → Remembers starts starts
-Remembers-few starts few ordered = record { last = sym (last_ten-few starts few); ordered = ordered }
+Remembers-few starts few ordered = record { last = sym (last_starts-few starts few); ordered = ordered }
 
 -- what holds of the starts that are kept and of one more holds of those that are kept then
-pub All-last_ten_push : (P : ℕ → Type 0) (starts : List ℕ) (now : ℕ) → All P starts → P now → All P (last_ten (starts ++ now ∷ []))
+pub All-last_ten_push : (P : ℕ → Type 0) (starts : List ℕ) (now : ℕ) → All P starts → P now → All P (last_starts (starts ++ now ∷ []))
 All-last_ten_push P starts now each here =
     All-drop P (length (starts ++ now ∷ []) - STARTS) (starts ++ now ∷ []) (All-push P starts now each here)
 
 -- one more start, no earlier than those that are kept
 pub Remembers-push : (starts noted : List ℕ) (now : ℕ) → Remembers starts noted → All (λ start. start ≤ now) starts
-    → Remembers (last_ten (starts ++ now ∷ [])) (noted ++ now ∷ [])
+    → Remembers (last_starts (starts ++ now ∷ [])) (noted ++ now ∷ [])
 Remembers-push starts noted now known late = record {
   last = rw known.last (drop_last_push STARTS noted now);
   ordered = IsNonDecreasingBy-push (λ x. x) noted now known.ordered
@@ -169,12 +169,12 @@ Remembers-push starts noted now known late = record {
 }
 
 -- the answer by the last ten of the times noted is that by all of them
-pub answer-last_ten : (noted : List ℕ) (held : Option ℕ) (now : ℕ) → IsNonDecreasing noted
-    → answer (last_ten noted) held now ≡ answer noted held now
-answer-last_ten noted None now ordered = window_answer-last_ten noted now ordered
-answer-last_ten noted (Some end) now ordered = rw (window_answer-last_ten noted now ordered) refl
+pub answer-last_starts : (noted : List ℕ) (held : Option ℕ) (now : ℕ) → IsNonDecreasing noted
+    → answer (last_starts noted) held now ≡ answer noted held now
+answer-last_starts noted None now ordered = window_answer-last_starts noted now ordered
+answer-last_starts noted (Some end) now ordered = rw (window_answer-last_starts noted now ordered) refl
 
 -- what a limiter answers by the starts that it keeps, it answers by all that were noted
 pub answer-Remembers : (starts noted : List ℕ) (held : Option ℕ) (now : ℕ) → Remembers starts noted
     → answer starts held now ≡ answer noted held now
-answer-Remembers starts noted held now known = rw known.last (answer-last_ten noted held now known.ordered)
+answer-Remembers starts noted held now known = rw known.last (answer-last_starts noted held now known.ordered)

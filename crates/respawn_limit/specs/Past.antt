@@ -6,7 +6,7 @@ use Rattle.respawn_limit.specs.declared.TheConstants.{HOLD, STARTS, WINDOW}
 use Rattle.respawn_limit.specs.declared.May.{May}
 use Rattle.respawn_limit.specs.declared.May.TheVariants.{Yes, HoldUntil}
 use Rattle.respawn_limit.specs.State.{LimiterState}
-use Rattle.respawn_limit.specs.Window.{answer, last_ten}
+use Rattle.respawn_limit.specs.Window.{answer, last_starts}
 
 -- a start noted, a hold made, each at a time in seconds, or all of it cleared
 pub data Event : Type 0 where
@@ -59,7 +59,7 @@ is_no_clear Cleared = false
 
 -- the state that a past leaves: the last ten starts noted at most, and the end of the last hold
 abbrev pub state_of : List Event → LimiterState
-state_of past = record { starts = last_ten (times_noted past); held = hold_end past }
+state_of past = record { starts = last_starts (times_noted past); held = hold_end past }
 
 -- a limiter that was told of all this, and of each start in its turn
 pub record StandsAfter (limiter : LimiterState) (past : List Event) : Type 0 where
@@ -67,8 +67,8 @@ pub record StandsAfter (limiter : LimiterState) (past : List Event) : Type 0 whe
   pub ordered : IsNonDecreasing (times_noted past)
 
 -- of any eleven starts noted in a run with no clear between, the last comes two minutes after the first or later
-abbrev pub ElevenStartsTakeTwoMinutes : Type 0
-ElevenStartsTakeTwoMinutes = (later between earlier : List Event) (first last : ℕ)
+abbrev pub StartsKeepPace : Type 0
+StartsKeepPace = (later between earlier : List Event) (first last : ℕ)
     → IsTrue (is_run (later ++ (Noted last ∷ (between ++ (Noted first ∷ earlier)))))
     → IsTrue (list_all is_no_clear between)
     → STARTS ≤ length (times_noted between) + 1

@@ -33,12 +33,12 @@ abbrev pub may_of : LimiterState → ℕ → May
 may_of limiter now = answer limiter.starts limiter.held now
 
 -- the last ten of these times, or all where there are no more
-abbrev pub last_ten : List ℕ → List ℕ
-last_ten times = drop (length times - STARTS) times
+abbrev pub last_starts : List ℕ → List ℕ
+last_starts times = drop (length times - STARTS) times
 
 -- the limiter with one more start noted
 abbrev pub with_start : LimiterState → ℕ → LimiterState
-with_start limiter now = record limiter { starts = last_ten (limiter.starts ++ now ∷ []) }
+with_start limiter now = record limiter { starts = last_starts (limiter.starts ++ now ∷ []) }
 
 -- the limiter with a hold of five minutes from now
 abbrev pub with_hold : LimiterState → ℕ → LimiterState
@@ -46,5 +46,5 @@ with_hold limiter now = record limiter { held = Some (now + HOLD) }
 
 -- of all these times noted in order, however many and however old, the starts are the last ten
 pub record Remembers (starts noted : List ℕ) : Type 0 where
-  pub last : starts ≡ last_ten noted
+  pub last : starts ≡ last_starts noted
   pub ordered : IsNonDecreasing noted

@@ -7,8 +7,8 @@
 ghost use Rattle.std.specs.Prelude.{◌≡◌, ℕ, ◌+◌, ◌≤◌, IsTrue, ⊤, List, [], ◌∷◌, ◌++◌, length, All};
 ghost use Rattle.std.specs.List.Sorted.{IsNonDecreasing};
 ghost use Rattle.respawn_limit.specs.State.{unused};
-ghost use Rattle.respawn_limit.specs.Window.{is_full, is_held, answer, may_of, last_ten, with_start, with_hold, Remembers};
-ghost use Rattle.respawn_limit.specs.Past.{Event, Noted, HeldAt, Cleared, times_noted, hold_end, last_reading, is_run, StandsAfter, ElevenStartsTakeTwoMinutes, NoStartWhileHeld};
+ghost use Rattle.respawn_limit.specs.Window.{is_full, is_held, answer, may_of, last_starts, with_start, with_hold, Remembers};
+ghost use Rattle.respawn_limit.specs.Past.{Event, Noted, HeldAt, Cleared, times_noted, hold_end, last_reading, is_run, StandsAfter, StartsKeepPace, NoStartWhileHeld};
 
 use arrayvec::ArrayVec;
 use std::alloc::AllocError;
@@ -81,7 +81,7 @@ impl Limiter {
         requires ordered { IsNonDecreasing starts.now }
         ensures state { result ≡ record { starts = starts.now; held = held_until } }
         ensures past { (past : List Event) → IsNonDecreasing (times_noted past)
-            → starts.now ≡ last_ten (times_noted past) → held_until ≡ hold_end past
+            → starts.now ≡ last_starts (times_noted past) → held_until ≡ hold_end past
             → StandsAfter result past }
     {
         let mut kept = ArrayVec::new();
@@ -175,7 +175,7 @@ impl Limiter {
         ensures few { length result.now ≤ STARTS }
         ensures ordered { IsNonDecreasing result.now }
         ensures past { (past : List Event) → StandsAfter self.now past
-            → result.now ≡ last_ten (times_noted past) }
+            → result.now ≡ last_starts (times_noted past) }
     {
         self.starts.as_slice()
     }
@@ -213,6 +213,6 @@ impl Default for Limiter {
 ///
 /// It does nothing: its contract is the law.
 pub fn law_of_runs()
-    ensures eleven { ElevenStartsTakeTwoMinutes }
+    ensures paced { StartsKeepPace }
     ensures held { NoStartWhileHeld }
 {}

@@ -17,11 +17,11 @@ use Rattle.inittab_text.proofs.Entries.{table_parts}
 use Rattle.inittab_text.proofs.ReadLemmas.{option_map_some}
 use Rattle.inittab_text.proofs.WriteLemmas.{one_line, parts}
 use Rattle.inittab_text.specs.Written.{fields_written, is_empty, is_table, is_written}
-use Rattle.core_state.specs.declared.parts.Heads.{Heads}
+use Rattle.core_model.specs.declared.parts.Heads.{Heads}
 use Rattle.state_text.specs.declared.over.Over.{Over}
 use Rattle.state_text.specs.declared.over.Over.TheVariants.{Cut, Version, Line, Generation, Unfit, Worn, Memory}
-use Rattle.core_state.specs.declared.parts.Record.{Record}
-use Rattle.core_state.specs.Parts.{State}
+use Rattle.core_model.specs.declared.parts.Record.{Record}
+use Rattle.core_model.specs.Parts.{SavedState}
 use Rattle.state_text.specs.Lines.{body_lines, head_lines, slot_line, table_line, text_of_lines, version_line}
 use Rattle.state_text.specs.Range.{are_heads, is_record, is_state}
 use Rattle.state_text.specs.Reading.{OnLine, end_split, heads_read, last_line, table_read, version_read}
@@ -60,13 +60,13 @@ on_body text f Worn p = p
 
 -- THE BODY
 
-unfoldable pub body_text : State → List ℕ
+unfoldable pub body_text : SavedState → List ℕ
 body_text state = text_of_lines (body_lines state)
 
 unfoldable pub heads_text : Heads → List ℕ
 heads_text heads = text_of_lines (head_lines heads)
 
-body_parts : (state : State) → body_text state ≡ version_line ++ 10 ∷ (heads_text state.heads ++ (table_text state.table ++ records_text state.records))
+body_parts : (state : SavedState) → body_text state ≡ version_line ++ 10 ∷ (heads_text state.heads ++ (table_text state.table ++ records_text state.records))
 unfolding body_text heads_text table_text records_text
 body_parts state =
     ap (λ t. version_line ++ 10 ∷ t) (text_of_lines-append (head_lines state.heads) (table_line (length state.table) ∷ (map fields_written state.table ++ map slot_line state.records))
@@ -84,19 +84,19 @@ version_own text rest is = option_and_then_some (λ (parts : List ℕ × List �
 pub version_back : (rest : List ℕ) → version_read (version_line ++ 10 ∷ rest) ≡ Some rest
 version_back rest = refl
 
-pub state_parts : (state : State) → is_state state ≡ true → (are_heads state.heads ≡ true) × (is_table state.table ≡ true) × (list_all is_record state.records ≡ true)
+pub state_parts : (state : SavedState) → is_state state ≡ true → (are_heads state.heads ≡ true) × (is_table state.table ≡ true) × (list_all is_record state.records ≡ true)
 state_parts state is =
     let both = and_parts (are_heads state.heads && is_table state.table) (list_all is_record state.records) is in
     let first = and_parts (are_heads state.heads) (is_table state.table) both.0 in
     (first.0, first.1, both.1)
 
 -- what is read of the text of a state, and of more behind it
-pub record Steps (state : State) (text more : List ℕ) : Type 0 where
+pub record Steps (state : SavedState) (text more : List ℕ) : Type 0 where
   pub version : version_read text ≡ Some (heads_text state.heads ++ (table_text state.table ++ (records_text state.records ++ more)))
   pub heads : heads_read (heads_text state.heads ++ (table_text state.table ++ (records_text state.records ++ more))) ≡ Some (state.heads, table_text state.table ++ (records_text state.records ++ more))
   pub table : table_read (table_text state.table ++ (records_text state.records ++ more)) ≡ Some (state.table, records_text state.records ++ more)
 
-pub steps : (state : State) (text more : List ℕ) → is_state state ≡ true → body_text state ++ more ≡ text → Steps state text more
+pub steps : (state : SavedState) (text more : List ℕ) → is_state state ≡ true → body_text state ++ more ≡ text → Steps state text more
 unfolding heads_text
 steps state text more is same =
     let parts = state_parts state is in
@@ -113,7 +113,7 @@ steps state text more is same =
 pub lost : {X : Type 0} (x : X) → ◌≡◌ {A = Option X} None (Some x) → ⊥
 lost x e = cc
 
-pub steps_of : (state : State) (text : List ℕ) → is_state state ≡ true → text_of_lines (body_lines state) ≡ text → Steps state text []
+pub steps_of : (state : SavedState) (text : List ℕ) → is_state state ≡ true → text_of_lines (body_lines state) ≡ text → Steps state text []
 unfolding body_text
 steps_of state text is same = steps state text [] is (append-nil (text_of_lines (body_lines state)) ∙ same)
 
@@ -130,7 +130,7 @@ no_heads text first at none = (
 )
 
 -- behind the heads
-pub to_heads : (state : State) (text first second : List ℕ) (heads : Heads) → version_read text ≡ Some first → heads_read first ≡ Some (heads, second) → Steps state text []
+pub to_heads : (state : SavedState) (text first second : List ℕ) (heads : Heads) → version_read text ≡ Some first → heads_read first ≡ Some (heads, second) → Steps state text []
     → (heads ≡ state.heads) × (second ≡ table_text state.table ++ (records_text state.records ++ []))
 to_heads state text first second heads at found read =
     let here = same_Some _ first (sym read.version ∙ at) in
@@ -160,7 +160,7 @@ pub is_body : (text first second third : List ℕ) (heads : Heads) (table : List
     → IsBody text (record { heads = heads; table = table; records = records })
 unfolding body_text heads_text records_text
 is_body text first second third heads table records at found then are =
-    let state : State = record { heads = heads; table = table; records = records } in
+    let state : SavedState = record { heads = heads; table = table; records = records } in
     let one = heads_front.own first heads second found in
     let two = table_own second third table then in (
       and_from (are_heads heads && is_table table) (list_all is_record records) (and_from (are_heads heads) (is_table table) one.1 two.1) are.0,
@@ -268,7 +268,7 @@ slots_are (r ∷ records) are =
     let both = and_parts (is_record r) (list_all is_record records) are in
     more_lines_are (slot_line r) (map slot_line records) (slot_line_lacks r both.0) (slots_are records both.1)
 
-pub body_lines_are : (state : State) → is_state state ≡ true → list_all is_line (body_lines state) ≡ true
+pub body_lines_are : (state : SavedState) → is_state state ≡ true → list_all is_line (body_lines state) ≡ true
 body_lines_are state is =
     let known = state_parts state is in
     let table = table_parts state.table known.1 in

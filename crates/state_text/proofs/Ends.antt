@@ -16,11 +16,11 @@ use Rattle.init_words.specs.Ids.{is_id_byte}
 use Rattle.inittab_text.proofs.Entries.{table_parts}
 use Rattle.inittab_text.proofs.WriteLemmas.{parts}
 use Rattle.inittab_text.specs.Written.{fields_written, is_written, levels_written}
-use Rattle.core_state.specs.declared.parts.Record.{Record}
-use Rattle.core_state.specs.Parts.{State}
+use Rattle.core_model.specs.declared.parts.Record.{Record}
+use Rattle.core_model.specs.Parts.{SavedState}
 use Rattle.state_text.specs.Lines.{body_lines, end_line, slot_line, text_of_lines}
 use Rattle.state_text.specs.Range.{is_state}
-use Rattle.state_text.specs.Refused.{Says, Whole, is_line}
+use Rattle.state_text.specs.Refused.{IsTextOf, Whole, is_line}
 use Rattle.state_text.proofs.Bodies.{body_lines_are, state_parts}
 use Rattle.state_text.proofs.Taken.{whole_text}
 
@@ -69,7 +69,7 @@ slots_inner : (records : List Record) → list_all is_inner (map slot_line recor
 slots_inner [] = refl
 slots_inner (r ∷ records) = slots_inner records
 
-body_inner : (state : State) → is_state state ≡ true → list_all is_inner (body_lines state) ≡ true
+body_inner : (state : SavedState) → is_state state ≡ true → list_all is_inner (body_lines state) ≡ true
 body_inner state is =
     let table = (table_parts state.table (state_parts state is).1).2 in
     list_all-append is_inner (map fields_written state.table) (map slot_line state.records)
@@ -131,7 +131,7 @@ at_end (l ∷ lines) (b ∷ body) last end more are is begins own inner lacks sa
     (sym (regrouped l lines (last ++ 10 ∷ more)) ∙ same ∙ regrouped b body (end ++ 10 ∷ []))).1 in
     at_end lines body last end more here.1 is begins there.1 (and_parts (is_inner b) (list_all is_inner body) inner).1 lacks rest
 
-pub whole_ends : (text front more : List ℕ) (state : State) → Says text state → front ++ more ≡ text → Whole front → more ≡ []
+pub whole_ends : (text front more : List ℕ) (state : SavedState) → IsTextOf text state → front ++ more ≡ text → Whole front → more ≡ []
 whole_ends text front more state says parts whole =
     let grouped : text_of_lines whole.lines ++ (whole.last ++ 10 ∷ more) ≡ front ++ more =
     sym (append_assoc (text_of_lines whole.lines) (whole.last ++ 10 ∷ []) more ∙ ap (λ t. text_of_lines whole.lines ++ t) (append_assoc whole.last (10 ∷ []) more)) ∙ ap (λ t. t ++ more) whole.whole in

@@ -12,8 +12,8 @@ use Rattle.init_words.proofs.Tests.{and_false}
 use Rattle.init_trace.specs.declared.steps.Goal.{Goal}
 use Rattle.init_trace.specs.Lines.{level_word, order_word, stage_word}
 use Rattle.init_trace.specs.Reading.{child_of_word, order_of_word, stage_of_word}
-use Rattle.core_state.specs.declared.parts.Heads.{Heads}
-use Rattle.core_state.specs.declared.parts.Record.{Record}
+use Rattle.core_model.specs.declared.parts.Heads.{Heads}
+use Rattle.core_model.specs.declared.parts.Record.{Record}
 use Rattle.state_text.specs.Lines.{bit, clock_line, flags_line, generation_line, goal_line, goal_word, head_lines, or_dash, or_word, slot_line, stage_line, starts_word, stop_word, text_of_lines, wish_line}
 use Rattle.state_text.specs.Range.{are_heads, are_starts, is_child, is_generation, is_goal, is_record, is_seconds, is_stage, is_stop, is_time, passes}
 use Rattle.state_text.specs.Reading.{FlagWords, LimitWords, MarkWords, PlaceWords, SlotWords, TimeWords, WishWords, clock_line_read, dash_read, flags_line_read, flags_read, four_bits, generation_line_read, generation_read, goal_line_read, goal_made, goal_read, heads_made, heads_read, limits_read, marks_read, named_read, one_bit, places_read, reread_read, slot_line_read, slot_made, slot_words_read, stage_line_read, stage_pair_read, line_read, then_read, stop_read, table_line_read, end_line_read, three_bits, time_read, times_read, two_bits, wish_line_read, wishes_read}

@@ -6,9 +6,9 @@ use Rattle.std.proofs.lemmas.List.{append_assoc, nil_from_length}
 use Rattle.std.proofs.lemmas.Option.{same_Some, some_pair_parts}
 use Rattle.text_lines.specs.Lines.{cut, has_byte}
 use Rattle.text_lines.proofs.CutLemmas.{cut-append}
-use Rattle.core_state.specs.declared.parts.Heads.{Heads}
-use Rattle.core_state.specs.declared.parts.Record.{Record}
-use Rattle.core_state.specs.Parts.{State}
+use Rattle.core_model.specs.declared.parts.Heads.{Heads}
+use Rattle.core_model.specs.declared.parts.Record.{Record}
+use Rattle.core_model.specs.Parts.{SavedState}
 use Rattle.state_text.specs.Lines.{body_lines, end_line, generation_line, slot_line, state_lines, state_text, text_of_lines, version_line}
 use Rattle.state_text.specs.Range.{are_heads, is_generation, is_goal, is_record, is_stage, is_state, is_time, passes}
 use Rattle.state_text.specs.Reading.{generation_line_read, generation_of, heads_read, line_read, slot_line_read, table_read}
@@ -41,22 +41,22 @@ tails (r ∷ one) (s ∷ two) m n more left right counts same =
     tails one two m n more here.1 there.1 (λ e. counts (ap suc e)) both.1
 
 -- what is read of two texts that are one
-record Alike (one two : State) (more rest : List ℕ) : Type 0 where
+record Alike (one two : SavedState) (more rest : List ℕ) : Type 0 where
   pub heads : one.heads ≡ two.heads
   pub table : one.table ≡ two.table
   pub ends : records_text one.records ++ more ≡ records_text two.records ++ rest
 
-alike : (one two : State) (text more rest : List ℕ) → Steps one text more → Steps two text rest → Alike one two more rest
+alike : (one two : SavedState) (text more rest : List ℕ) → Steps one text more → Steps two text rest → Alike one two more rest
 alike one two text more rest left right =
     let begun = same_Some _ _ (sym left.version ∙ right.version) in
     let heads = some_pair_parts one.heads two.heads (table_text one.table ++ (records_text one.records ++ more)) (table_text two.table ++ (records_text two.records ++ rest)) (sym left.heads ∙ ap heads_read begun ∙ right.heads) in
     let table = some_pair_parts one.table two.table (records_text one.records ++ more) (records_text two.records ++ rest) (sym left.table ∙ ap table_read heads.1 ∙ right.table) in
     record { heads = heads.0; table = table.0; ends = table.1 }
 
-last_text : State → List ℕ
+last_text : SavedState → List ℕ
 last_text state = end_line (length (body_lines state)) ++ 10 ∷ []
 
-pub no_prefix : (one two : State) (more : List ℕ) → is_state one ≡ true → is_state two ≡ true → state_text one ++ more ≡ state_text two → more ≡ []
+pub no_prefix : (one two : SavedState) (more : List ℕ) → is_state one ≡ true → is_state two ≡ true → state_text one ++ more ≡ state_text two → more ≡ []
 unfolding body_text last_text
 no_prefix one two more left right same =
     let n = length (body_lines one) in
@@ -83,7 +83,7 @@ same_ends (r ∷ one) (s ∷ two) m n left right same =
     (sym (slot_front.back r (records_text one ++ (end_line m ++ 10 ∷ [])) here.0) ∙ ap (line_read slot_line_read) regrouped ∙ slot_front.back s (records_text two ++ (end_line n ++ 10 ∷ [])) there.0) in
     rw (both.0, same_ends one two m n here.1 there.1 both.1) refl
 
-pub one_state : (one two : State) → is_state one ≡ true → is_state two ≡ true → state_text one ≡ state_text two → one ≡ two
+pub one_state : (one two : SavedState) → is_state one ≡ true → is_state two ≡ true → state_text one ≡ state_text two → one ≡ two
 unfolding body_text
 one_state one two left right same =
     let n = length (body_lines one) in
@@ -99,7 +99,7 @@ said_by line more text generation lacks read whole =
     let at : cut 10 ((line ++ 10 ∷ []) ++ more) ≡ Some (line, more) = ap (cut 10) (append_assoc line (10 ∷ []) more) ∙ cut-append 10 line more lacks in
     rw (← whole, at) read
 
-pub generation_said : (state : State) (text : List ℕ) → is_state state ≡ true → state_text state ≡ text → generation_of text ≡ Some state.heads.generation
+pub generation_said : (state : SavedState) (text : List ℕ) → is_state state ≡ true → state_text state ≡ text → generation_of text ≡ Some state.heads.generation
 generation_said state text is same =
     let known = head_known state.heads (state_parts state is).0 in
     said_by (generation_line state.heads.generation) (text_of_lines (drop 2 (state_lines state))) text state.heads.generation (generation_lacks state.heads.generation known) (generation_line_form.back state.heads.generation known) same

@@ -10,9 +10,9 @@ use Rattle.child_table.specs.declared.children.Stop.{Stop}
 use Rattle.child_table.specs.declared.children.Stop.TheVariants.{Due, Termed, Killed}
 use Rattle.child_table.specs.State.{SlotState, child_number, is_limited_slot}
 use Rattle.child_table.specs.Times.{is_timely, is_stop_timely}
-use Rattle.core_state.specs.Parts.{record_of, state_of}
-use Rattle.core_state.specs.Rules.{IsFit, is_hold_of, is_limit_kept, is_limiter_kept, is_unused, never_fall}
-use Rattle.core_state.specs.State.{CoreState}
+use Rattle.core_model.specs.Parts.{record_of, state_of}
+use Rattle.core_model.specs.Rules.{IsFit, is_hold_of, is_limit_kept, is_limiter_kept, is_unused, never_fall}
+use Rattle.core_model.specs.State.{CoreState}
 use Rattle.state_text.specs.Range.{are_starts, has_ranged_ids, has_short_seconds, is_child, is_goal, is_record, is_stage, is_state, is_stop, is_time, passes}
 
 -- a time up to the clock's limit, and a hold's end

@@ -6,10 +6,10 @@ use Rattle.init_words.specs.declared.levels.Level.TheVariants as level
 use Rattle.init_words.specs.declared.orders.Ask.TheVariants.{Term}
 use Rattle.init_words.specs.declared.stages.Stage.TheVariants as stage
 use Rattle.child_table.specs.declared.children.Stop.TheVariants.{Due}
-use Rattle.core_state.specs.News.{no_news}
-use Rattle.core_state.specs.declared.parts.Heads.{Heads}
-use Rattle.core_state.specs.declared.parts.Record.{Record}
-use Rattle.core_state.specs.Parts.{State}
+use Rattle.core_model.specs.News.{no_news}
+use Rattle.core_model.specs.declared.parts.Heads.{Heads}
+use Rattle.core_model.specs.declared.parts.Record.{Record}
+use Rattle.core_model.specs.Parts.{SavedState}
 use Rattle.state_text.specs.Lines.{state_text}
 
 abbrev left : Record
@@ -42,7 +42,7 @@ heads = record {
   news = no_news;
 }
 
-abbrev example : State
+abbrev example : SavedState
 example = record { heads = heads; table = []; records = left ∷ [] }
 
 example_text : state_text example ≡ codes "initd-state 1\ngeneration 1\nclock 0\nstage 3 5\ngoal 3 5\nflags 10\nwish 10 S:5 000 000\ntable 0\nslot a 7 once term due 0010 - -\nend 9\n"

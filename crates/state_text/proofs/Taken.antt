@@ -9,12 +9,12 @@ use Rattle.text_lines.proofs.CutLemmas.{cut-append}
 use Rattle.init_trace.proofs.ReadTexts.{newlines-few}
 use Rattle.state_text.specs.declared.over.Over.{Over}
 use Rattle.state_text.specs.declared.over.Over.TheVariants.{Cut, Version, Line, Generation, Unfit, Worn, Memory}
-use Rattle.core_state.specs.declared.parts.Record.{Record}
-use Rattle.core_state.specs.Parts.{State}
+use Rattle.core_model.specs.declared.parts.Record.{Record}
+use Rattle.core_model.specs.Parts.{SavedState}
 use Rattle.state_text.specs.Lines.{body_lines, end_line, slot_line, state_text, text_of_lines, version_line}
 use Rattle.state_text.specs.Range.{is_record, is_state, is_time}
 use Rattle.state_text.specs.Reading.{end_line_read, end_split, line_read, slot_line_read, table_read, version_read}
-use Rattle.state_text.specs.Refused.{BeginsAsKnown, IsBody, IsCut, IsOtherVersion, Refused, RefusedBody, Says, SaysNone, Whole, is_line}
+use Rattle.state_text.specs.Refused.{BeginsAsKnown, IsBody, IsCut, IsOtherVersion, Refused, RefusedBody, IsTextOf, SaysNone, Whole, is_line}
 use Rattle.state_text.proofs.Bodies.{body_lines_are, heads_text, lost, newlines_are, split_back, split_own, state_parts, steps_of, to_heads, version_own}
 use Rattle.state_text.proofs.LineForms.{end_line_form, slot_front}
 use Rattle.state_text.proofs.Whole.{records_text, table_text}
@@ -38,7 +38,7 @@ same_records (r ∷ one) (s ∷ two) first second same =
     rw (both.0, same_records one two left.1 right.1 both.1) refl
 
 -- the states of one text are one
-pub same_body : (one two : State) (text : List ℕ) → IsBody text one → IsBody text two → one ≡ two
+pub same_body : (one two : SavedState) (text : List ℕ) → IsBody text one → IsBody text two → one ≡ two
 same_body one two text first second =
     let left = steps_of one text first.0 first.1 in
     let right = steps_of two text second.0 second.1 in
@@ -50,29 +50,29 @@ same_body one two text first second =
 
 -- THE WHOLE TEXT
 
-pub whole_text : (state : State) → state_text state ≡ text_of_lines (body_lines state) ++ (end_line (length (body_lines state)) ++ 10 ∷ [])
+pub whole_text : (state : SavedState) → state_text state ≡ text_of_lines (body_lines state) ++ (end_line (length (body_lines state)) ++ 10 ∷ [])
 whole_text state = text_of_lines-append (body_lines state) (end_line (length (body_lines state)) ∷ []) ∙ ap (λ t. text_of_lines (body_lines state) ++ t) (append-nil (end_line (length (body_lines state)) ++ 10 ∷ []))
 
-counted : (state : State) (text : List ℕ) → is_state state ≡ true → state_text state ≡ text → length text < 2 ^ 64 → is_time (length (body_lines state)) ≡ true
+counted : (state : SavedState) (text : List ℕ) → is_state state ≡ true → state_text state ≡ text → length text < 2 ^ 64 → is_time (length (body_lines state)) ≡ true
 counted state text is same fits =
     let few = newlines-few (text_of_lines (body_lines state)) in
     let lines = newlines_are (body_lines state) (body_lines_are state is) in
     let front = length-append (text_of_lines (body_lines state)) (end_line (length (body_lines state)) ++ 10 ∷ []) in
     lt-ltb (length (body_lines state)) (2 ^ 64) (omega (arith, few, lines, front, ap length (sym (whole_text state) ∙ same), fits))
 
-pub split_state : (state : State) (text : List ℕ) → is_state state ≡ true → state_text state ≡ text → length text < 2 ^ 64 → end_split text ≡ Some (text_of_lines (body_lines state), end_line (length (body_lines state)))
+pub split_state : (state : SavedState) (text : List ℕ) → is_state state ≡ true → state_text state ≡ text → length text < 2 ^ 64 → end_split text ≡ Some (text_of_lines (body_lines state), end_line (length (body_lines state)))
 split_state state text is same fits =
     let lacks : has_byte 10 (end_line (length (body_lines state))) ≡ false = time_lacks 10 (lit< tt) (length (body_lines state)) (counted state text is same fits) in
     split_back (body_lines state) (end_line (length (body_lines state))) text (body_lines_are state is) (ap not lacks) refl (sym (whole_text state) ∙ same)
 
 -- the body of a state's text
-pub body_of : (state : State) (text body last : List ℕ) → Says text state → length text < 2 ^ 64 → end_split text ≡ Some (body, last) → IsBody body state × (end_line_read last ≡ Some (newlines body))
+pub body_of : (state : SavedState) (text body last : List ℕ) → IsTextOf text state → length text < 2 ^ 64 → end_split text ≡ Some (body, last) → IsBody body state × (end_line_read last ≡ Some (newlines body))
 body_of state text body last says fits at =
     let both = some_pair_parts (text_of_lines (body_lines state)) body (end_line (length (body_lines state))) last (sym (split_state state text says.0 says.1 fits) ∙ at) in
     let lines : newlines body ≡ length (body_lines state) = ap newlines (sym both.0) ∙ newlines_are (body_lines state) (body_lines_are state says.0) in
     ((says.0, both.0), ap end_line_read (sym both.1) ∙ end_line_form.back (length (body_lines state)) (counted state text says.0 says.1 fits) ∙ ap Some (sym lines))
 
-pub says_of : (state : State) (text body last : List ℕ) → end_split text ≡ Some (body, last) → IsBody body state → end_line_read last ≡ Some (newlines body) → Says text state
+pub says_of : (state : SavedState) (text body last : List ℕ) → end_split text ≡ Some (body, last) → IsBody body state → end_line_read last ≡ Some (newlines body) → IsTextOf text state
 says_of state text body last at is end =
     let split = split_own text body last at in
     let own = end_line_form.own last (newlines body) end in
@@ -142,7 +142,7 @@ body_refused text body last generation Worn fits at is = is
 body_refused text body last generation Memory fits at is = tt
 
 -- and a state's text is refused for want of memory alone
-pub body_never : (text body last : List ℕ) (state : State) (why : Over) → length text < 2 ^ 64 → end_split text ≡ Some (body, last) → Says text state → RefusedBody body why → why ≡ Memory
+pub body_never : (text body last : List ℕ) (state : SavedState) (why : Over) → length text < 2 ^ 64 → end_split text ≡ Some (body, last) → IsTextOf text state → RefusedBody body why → why ≡ Memory
 body_never text body last state Cut fits at says is = absurd is
 body_never text body last state Version fits at says is =
     let own = (body_of state text body last says fits at).0 in
@@ -154,11 +154,11 @@ body_never text body last state Worn fits at says is = absurd is
 body_never text body last state Memory fits at says is = refl
 
 -- the last line counts wrongly
-pub end_refused : (text body last : List ℕ) (state : State) → length text < 2 ^ 64 → end_split text ≡ Some (body, last) → IsBody body state → end_line_read last ≢ Some (newlines body)
+pub end_refused : (text body last : List ℕ) (state : SavedState) → length text < 2 ^ 64 → end_split text ≡ Some (body, last) → IsBody body state → end_line_read last ≢ Some (newlines body)
     → Whole text × ((rest : List ℕ) × BeginsAsKnown text rest) × SaysNone text
 end_refused text body last state fits at is other =
     let read = (steps_of state body is.0 is.1).version in
     (whole_of text body last at, (_, known_of text body last _ at read), λ one good same. other (body_of one text body last (good, same) fits at).1)
 
-pub only_one : (text body last : List ℕ) (state one : State) → length text < 2 ^ 64 → end_split text ≡ Some (body, last) → IsBody body state → Says text one → state ≡ one
+pub only_one : (text body last : List ℕ) (state one : SavedState) → length text < 2 ^ 64 → end_split text ≡ Some (body, last) → IsBody body state → IsTextOf text one → state ≡ one
 only_one text body last state one fits at is says = same_body state one body is (body_of one text body last says fits at).0

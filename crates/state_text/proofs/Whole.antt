@@ -9,7 +9,7 @@ use Rattle.init_words.specs.declared.entries.Entry.{Entry}
 use Rattle.inittab_text.proofs.Entries.{table_parts}
 use Rattle.inittab_text.proofs.LineLemmas.{begun_back, begun_own}
 use Rattle.inittab_text.specs.Written.{table_begun, fields_written, is_table, text_of}
-use Rattle.core_state.specs.declared.parts.Record.{Record}
+use Rattle.core_model.specs.declared.parts.Record.{Record}
 use Rattle.state_text.specs.Lines.{slot_line, table_line, text_of_lines}
 use Rattle.state_text.specs.Range.{is_record}
 use Rattle.state_text.specs.Reading.{line_read, slot_line_read, table_line_read, table_read}

@@ -8,10 +8,10 @@ use Rattle.init_trace.specs.declared.steps.Goal.{Goal}
 use Rattle.init_trace.specs.Lines.{level_word, stage_word, order_word}
 use Rattle.child_table.specs.declared.children.Stop.{Stop}
 use Rattle.child_table.specs.declared.children.Stop.TheVariants.{Due, Termed, Killed}
-use Rattle.core_state.specs.declared.news.News.{News}
-use Rattle.core_state.specs.declared.parts.Heads.{Heads}
-use Rattle.core_state.specs.declared.parts.Record.{Record}
-use Rattle.core_state.specs.Parts.{State}
+use Rattle.core_model.specs.declared.news.News.{News}
+use Rattle.core_model.specs.declared.parts.Heads.{Heads}
+use Rattle.core_model.specs.declared.parts.Record.{Record}
+use Rattle.core_model.specs.Parts.{SavedState}
 
 -- a yes or no; some of them in a row
 abbrev pub bit : Bool → ℕ
@@ -106,18 +106,18 @@ end_line count = spaced (codes "end" ∷ decimal count ∷ [])
 
 -- the lines of a state before its last: the version, the heads, how many entries the table has and a line of
 -- inittab(5) for each, and a line for each record
-abbrev pub body_lines : State → List (List ℕ)
+abbrev pub body_lines : SavedState → List (List ℕ)
 body_lines state =
     version_line ∷ (head_lines state.heads ++ (table_line (length state.table)
     ∷ (map fields_written state.table ++ map slot_line state.records)))
 
 -- the lines of a state: the last one counts those before it
-abbrev pub state_lines : State → List (List ℕ)
+abbrev pub state_lines : SavedState → List (List ℕ)
 state_lines state = body_lines state ++ end_line (length (body_lines state)) ∷ []
 
 -- lines, each ended by a newline
 abbrev pub text_of_lines : List (List ℕ) → List ℕ
 text_of_lines lines = flat_map (λ line. line ++ 10 ∷ []) lines
 
-abbrev pub state_text : State → List ℕ
+abbrev pub state_text : SavedState → List ℕ
 state_text state = text_of_lines (state_lines state)

@@ -10,11 +10,11 @@ use Rattle.init_trace.specs.declared.steps.Goal.{Goal}
 use Rattle.respawn_limit.specs.declared.TheConstants.{STARTS}
 use Rattle.child_table.specs.declared.children.Stop.{Stop}
 use Rattle.child_table.specs.declared.children.Stop.TheVariants.{Due, Termed, Killed}
-use Rattle.core_state.specs.declared.parts.Heads.{Heads}
-use Rattle.core_state.specs.declared.parts.Record.{Record}
+use Rattle.core_model.specs.declared.parts.Heads.{Heads}
+use Rattle.core_model.specs.declared.parts.Record.{Record}
 use Rattle.child_table.specs.State.{SlotState, child_number}
-use Rattle.core_state.specs.Parts.{State}
-use Rattle.core_state.specs.State.{CoreState}
+use Rattle.core_model.specs.Parts.{SavedState}
+use Rattle.core_model.specs.State.{CoreState}
 
 abbrev pub is_time : ℕ → Bool
 is_time time = nat_lt time (2 ^ 64)
@@ -58,7 +58,7 @@ is_record kept =
     is_id kept.id && passes is_child kept.child && passes is_stop kept.stop && passes is_time kept.held_until
     && are_starts kept.starts.items
 
-abbrev pub is_state : State → Bool
+abbrev pub is_state : SavedState → Bool
 is_state state = are_heads state.heads && is_table state.table && list_all is_record state.records
 
 -- the seconds that a core keeps are at most an hour, and none before the first stage

@@ -18,11 +18,11 @@ use Rattle.init_trace.specs.Reading.{both, level_of_word, stage_of_word, order_o
 use Rattle.respawn_limit.specs.declared.TheConstants.{STARTS}
 use Rattle.child_table.specs.declared.children.Stop.{Stop}
 use Rattle.child_table.specs.declared.children.Stop.TheVariants.{Due, Termed, Killed}
-use Rattle.core_state.specs.declared.news.News.{News}
-use Rattle.core_state.specs.declared.parts.Heads.{Heads}
+use Rattle.core_model.specs.declared.news.News.{News}
+use Rattle.core_model.specs.declared.parts.Heads.{Heads}
 use Rattle.state_text.specs.declared.over.Over.{Over}
 use Rattle.state_text.specs.declared.over.Over.TheVariants.{Line, Memory}
-use Rattle.core_state.specs.declared.parts.Record.{Record}
+use Rattle.core_model.specs.declared.parts.Record.{Record}
 use Rattle.state_text.specs.Lines.{version_line}
 use Rattle.state_text.specs.Range.{is_stage}
 
@@ -34,11 +34,11 @@ checked_by test (Some x) = if test x then Some x else None
 abbrev pub pair : {X Y : Type 0} → X → Y → X × Y
 pair x y = (x, y)
 
--- what stands before the first such byte, and what stands behind it
+-- the text before the first such byte, and the text after it
 abbrev pub pair_read : {X Y : Type 0} → ℕ → (List ℕ → Option X) → (List ℕ → Option Y) → List ℕ → Option (X × Y)
 pair_read mark first second text = option_and_then (λ parts. both pair (first parts.0) (second parts.1)) (cut mark text)
 
--- what stands behind a name and such a byte
+-- the text after a name and such a byte
 abbrev pub behind : List ℕ → ℕ → List ℕ → Option (List ℕ)
 behind name mark text = option_and_then (λ parts. if same_id parts.0 name then Some parts.1 else None) (cut mark text)
 
@@ -189,11 +189,11 @@ end_line_read line = named_read (codes "end") 32 time_read line
 abbrev pub slot_line_read : List ℕ → Option Record
 slot_line_read line = option_map slot_made (named_read (codes "slot") 32 slot_words_read line)
 
--- what a first line says, and what stands behind it
+-- what a first line says, and the text after it
 abbrev pub line_read : {X : Type 0} → (List ℕ → Option X) → List ℕ → Option (X × List ℕ)
 line_read read text = option_and_then (λ parts. option_map (λ x. (x, parts.1)) (read parts.0)) (cut 10 text)
 
--- what a text begins with, then what the rest begins with, and what stands behind both
+-- what a text begins with, then what the rest begins with, and the text after both
 abbrev pub then_read : {X Y : Type 0} → (List ℕ → Option (X × List ℕ)) → (List ℕ → Option (Y × List ℕ))
     → List ℕ → Option ((X × Y) × List ℕ)
 then_read first second text = option_and_then (λ p. option_map (λ q. ((p.0, q.0), q.1)) (second p.1)) (first text)
@@ -256,7 +256,7 @@ made_read make found = option_map (λ p. (make p.0, p.1)) found
 abbrev pub heads_read : List ℕ → Option (Heads × List ℕ)
 heads_read text = made_read heads_made (then_read times_read (then_read places_read flags_read) text)
 
--- the table that the text begins with, and what stands behind it
+-- the table that the text begins with, and the text after it
 abbrev pub table_read : List ℕ → Option (List Entry × List ℕ)
 table_read text = option_and_then (λ p. table_begun p.0 p.1) (line_read table_line_read text)
 

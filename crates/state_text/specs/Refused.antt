@@ -4,8 +4,8 @@ use Rattle.std.specs.List.{list_all, starts_with}
 use Rattle.text_lines.specs.Lines.{has_byte}
 use Rattle.state_text.specs.declared.over.Over.{Over}
 use Rattle.state_text.specs.declared.over.Over.TheVariants.{Cut, Version, Line, Generation, Memory}
-use Rattle.core_state.specs.declared.parts.Record.{Record}
-use Rattle.core_state.specs.Parts.{State}
+use Rattle.core_model.specs.declared.parts.Record.{Record}
+use Rattle.core_model.specs.Parts.{SavedState}
 use Rattle.state_text.specs.Lines.{body_lines, slot_line, state_text, text_of_lines, version_line}
 use Rattle.state_text.specs.Range.{is_record, is_state}
 use Rattle.state_text.specs.Reading.{OnLine, version_read}
@@ -24,11 +24,11 @@ pub record Whole (text : List ℕ) : Type 0 where
   pub whole : text_of_lines lines ++ (last ++ 10 ∷ []) ≡ text
 
 -- the text of a state of this generation
-abbrev pub Says : List ℕ → State → Type 0
-Says text state = (is_state state ≡ true) × (state_text state ≡ text)
+abbrev pub IsTextOf : List ℕ → SavedState → Type 0
+IsTextOf text state = (is_state state ≡ true) × (state_text state ≡ text)
 
 abbrev pub SaysNone : List ℕ → Type 0
-SaysNone text = (state : State) → is_state state ≡ true → state_text state ≢ text
+SaysNone text = (state : SavedState) → is_state state ≡ true → state_text state ≢ text
 
 -- the first line is that of the version, or another
 abbrev pub BeginsAsKnown : List ℕ → List ℕ → Type 0
@@ -43,8 +43,8 @@ IsOtherVersion text = Whole text × ((rest : List ℕ) → BeginsAsKnown text re
 
 -- the text is that of a state of another generation
 pub record IsOther (text : List ℕ) (generation : ℕ) : Type 0 where
-  pub state : State
-  pub says : Says text state
+  pub state : SavedState
+  pub says : IsTextOf text state
   pub other : state.heads.generation ≢ generation
 
 -- the first check that a text fails: it is cut; another version; a line; another generation
@@ -65,11 +65,11 @@ NoRecords text =
     (records : List Record) → list_all is_record records ≡ true → text_of_lines (map slot_line records) ≢ text
 
 -- the state whose lines before the last make a text
-abbrev pub IsBody : List ℕ → State → Type 0
+abbrev pub IsBody : List ℕ → SavedState → Type 0
 IsBody text state = (is_state state ≡ true) × (text_of_lines (body_lines state) ≡ text)
 
 abbrev pub NoBody : List ℕ → Type 0
-NoBody text = (state : State) → is_state state ≡ true → text_of_lines (body_lines state) ≢ text
+NoBody text = (state : SavedState) → is_state state ≡ true → text_of_lines (body_lines state) ≢ text
 
 abbrev pub RefusedBody : List ℕ → Over → Type 0
 RefusedBody text Version = version_read text ≡ None

@@ -9,14 +9,14 @@ use crate::words::{
 };
 use arrayvec::ArrayVec;
 use child_table::Stop;
-use core_state::Record;
+use core_model::Record;
 use init_trace::Goal;
 use init_trace::words::{is, read_seconds};
 use init_words::{Act, Ask, ChildNo, Id, Stage};
 use respawn_limit::STARTS;
 use text_lines::{cut, read_number};
 
-/// What stands behind the name and a blank.
+/// The text after the name and a blank.
 fn behind<'a>(name: &[u8], line: &'a [u8]) -> Option<&'a [u8]>
     ensures { option_map (λ rest. rest.now) result ≡ behind name.now 32 line.now }
 {
@@ -66,7 +66,7 @@ pub(crate) fn read_flags_line(line: &[u8]) -> Option<(bool, bool)>
     read_two_bits(behind(b"flags", line)?)
 }
 
-/// Whether inittab is to be read again; the bit behind it is 0, as a re-execution that goes on is wished no more.
+/// Whether inittab is to be read again; the bit after it is 0, as a re-execution that goes on is wished no more.
 fn read_reread(word: &[u8]) -> Option<(bool, bool)>
     ensures { result ≡ reread_read word.now }
 {
@@ -80,7 +80,7 @@ fn read_reread(word: &[u8]) -> Option<(bool, bool)>
 /// What is kept of the power, and of the letters.
 type Bits = (bool, (bool, bool));
 
-/// Whether inittab is to be read again and init to be executed anew, the level that is wished for, and the news.
+/// Whether inittab is to be read again and init to be re-executed, the level that is wished for, and the news.
 pub(crate) type Wishes = ((bool, bool), (Option<Goal>, (Bits, Bits)));
 
 fn read_news(words: &[u8]) -> Option<(Bits, Bits)>

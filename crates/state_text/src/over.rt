@@ -16,7 +16,7 @@ pub enum Over {
     Unfit,
     /// There is no greater generation.
     Worn,
-    /// Want of memory.
+    /// Out of memory.
     Memory,
 }
 

@@ -2,17 +2,17 @@ ghost use Rattle.std.specs.Prelude.{◌≡◌, ◌≢◌, ◌∷◌, List, true,
 ghost use Rattle.std.specs.Option.{option_map};
 ghost use Rattle.std.specs.Result.{MatchResult};
 ghost use Rattle.text_lines.specs.Lines.{cut};
-ghost use Rattle.core_state.specs.Parts.{State};
+ghost use Rattle.core_model.specs.Parts.{SavedState};
 ghost use Rattle.state_text.specs.Lines.{state_text};
 ghost use Rattle.state_text.specs.Reading.{end_split, Unread, times_read, places_read, flags_read, heads_made, heads_read, table_read, version_read, generation_of, line_read, slot_line_read, end_line_read, OnLine};
-ghost use Rattle.state_text.specs.Refused.{AreRecords, NoRecords, IsBody, IsCut, IsOtherVersion, RefusedBody, Says, Refused};
+ghost use Rattle.state_text.specs.Refused.{AreRecords, NoRecords, IsBody, IsCut, IsOtherVersion, RefusedBody, IsTextOf, Refused};
 
 use crate::fields::{
     Wishes, read_clock_line, read_end_line, read_flags_line, read_generation_line, read_goal_line,
     read_slot_line, read_stage_line, read_table_line, read_wish_line,
 };
 use crate::over::Over;
-use core_state::{Heads, News, Parts, Record};
+use core_model::{Heads, News, Parts, Record};
 use init_trace::Goal;
 use init_trace::words::is;
 use init_words::{Memory, Stage};
@@ -33,7 +33,7 @@ fn split_end(text: &[u8]) -> Option<(&[u8], &[u8])>
     Some((&text[..text.len() - rest.len()], last))
 }
 
-/// The first line of a text, whose number is given, and the text behind it.
+/// The first line of a text, whose number is given, and the text after it.
 fn take_line(text: &[u8], number: u64) -> Result<(&[u8], &[u8]), Over>
     ensures ok { IfOk result (λ parts. cut 10 text.now ≡ Some (parts.0.now, parts.1.now)) }
     ensures err { IfErr result (λ why. Unread (cut 10 text.now) why) }
@@ -108,7 +108,7 @@ fn heads_of(
     }
 }
 
-/// The heads that a text begins with, and the text behind them.
+/// The heads that a text begins with, and the text after them.
 fn take_heads(text: &[u8]) -> Result<(Heads, &[u8]), Over>
     ensures ok { IfOk result (λ found. heads_read text.now ≡ Some (found.0, found.1.now)) }
     ensures err { IfErr result (λ why. Unread (heads_read text.now) why) }
@@ -129,7 +129,7 @@ fn table_lines<A: Allocator + Copy>(alloc: A, count: usize, text: &[u8]) -> Resu
     Ok((count as u64).saturating_sub(1))
 }
 
-/// The table that a text begins with, behind the number of its entries, and the text behind it.
+/// The table that a text begins with, after the number of its entries, and the text after it.
 fn take_table<A: Allocator + Copy>(alloc: A, text: &[u8]) -> Result<(Table<A>, &[u8]), Over>
     ensures ok { IfOk result (λ found. table_read text.now ≡ Some (found.0, found.1.now)) }
     ensures err { IfErr result (λ why. Unread (table_read text.now) why) }
@@ -149,7 +149,7 @@ fn keep<A: Allocator>(records: &mut Vec<Record, A>, slot: Record) -> Result<(), 
     Ok(())
 }
 
-/// The record that a text begins with, on the line of this number, and the text behind it.
+/// The record that a text begins with, on the line of this number, and the text after it.
 fn take_record(text: &[u8], number: u64) -> Result<(Record, &[u8]), Over>
     ensures ok { IfOk result (λ found.
         line_read slot_line_read text.now ≡ Some (found.0, found.1.now)) }
@@ -176,7 +176,7 @@ fn take_records<A: Allocator>(alloc: A, text: &[u8], first: u64) -> Result<Vec<R
     Ok(records)
 }
 
-/// What stands behind the first line, if that is the version's.
+/// The text after the first line, if that is the version's.
 fn behind_version(text: &[u8]) -> Option<&[u8]>
     ensures { option_map (λ rest. rest.now) result ≡ version_read text.now }
 {
@@ -206,7 +206,7 @@ fn read_body<A: Allocator + Copy>(alloc: A, text: &[u8]) -> Result<Parts<A>, Ove
     })
 }
 
-/// The last line says that so many lines stand before it.
+/// The last line says that the given number of lines stand before it.
 fn counts(last: &[u8], lines: u64) -> bool
     ensures right { result ≡ true → end_line_read last.now ≡ Some lines }
     ensures wrong { result ≡ false → end_line_read last.now ≢ Some lines }
@@ -224,10 +224,10 @@ pub fn read_state<A: Allocator + Copy>(
     text: &[u8],
     generation: u64,
 ) -> Result<Parts<A>, Over>
-    ensures read { IfOk result (λ parts. Says text.now parts) }
+    ensures read { IfOk result (λ parts. IsTextOf text.now parts) }
     ensures generation { IfOk result (λ parts. parts.heads.generation ≡ generation) }
     // No other state has the text, and one that has it is read.
-    ensures only { (state : State) → Says text.now state → state.heads.generation ≡ generation
+    ensures only { (state : SavedState) → IsTextOf text.now state → state.heads.generation ≡ generation
         → MatchResult result (λ parts. parts ≡ state) (λ why. why ≡ Over.Memory) }
     // The first two checks want no memory.
     ensures cut { IsCut text.now → result ≡ Err Over.Cut }
@@ -258,7 +258,7 @@ fn second_line(text: &[u8]) -> Option<u64>
 /// is the state's.
 pub fn generation_of(text: &[u8]) -> Option<u64>
     ensures value { result ≡ generation_of text.now }
-    ensures said { (state : State) → Says text.now state → result ≡ Some state.heads.generation }
+    ensures said { (state : SavedState) → IsTextOf text.now state → result ≡ Some state.heads.generation }
 {
     second_line(text)
 }

@@ -3,18 +3,18 @@ ghost use Rattle.std.specs.List.{flat_map};
 ghost use Rattle.init_words.specs.Actions.{word_of};
 ghost use Rattle.inittab_text.specs.Written.{text_of};
 ghost use Rattle.init_trace.specs.Lines.{level_word, order_word};
-ghost use Rattle.core_state.specs.Parts.{record_of};
+ghost use Rattle.core_model.specs.Parts.{record_of};
 ghost use Rattle.state_text.specs.Lines.{bits, spaced, or_dash, goal_word, stop_word, stage_or_none, starts_word, generation_line, clock_line, stage_line, goal_line, flags_line, wish_line, head_lines, table_line, slot_line, slot_flags, powers, letters, end_line, text_of_lines, state_text};
 
 use child_table::{Slot, Stop};
-use core_state::{Heads, News, Record};
+use core_model::{Heads, News, Record};
 use init_trace::Goal;
 use init_words::{Act, Ask, ChildNo, Memory, Stage};
-use inittab_text::{Table, write};
+use inittab_text::Table;
 use itoa::Buffer;
 use std::alloc::{AllocError, Allocator};
 
-// Each of these appends to the text. Where memory is wanted, a part may be appended.
+// Each of these appends to the text. Where memory runs out, a part may be appended.
 
 fn put<A: Allocator>(text: &mut Vec<u8, A>, bytes: &[u8]) -> Result<(), AllocError>
     ensures { OnOk result (text.new.items ≡ text.old.items ++ bytes.now) }
@@ -153,7 +153,7 @@ fn put_stop<A: Allocator>(text: &mut Vec<u8, A>, stop: Option<Stop>) -> Result<(
     }
 }
 
-/// Times, each behind a comma.
+/// Times, each after a comma.
 fn put_more<A: Allocator>(text: &mut Vec<u8, A>, times: &[u64]) -> Result<(), AllocError>
     ensures { OnOk result (text.new.items ≡ text.old.items
         ++ flat_map (λ time. 44 ∷ decimal time) times.now) }
@@ -239,7 +239,7 @@ fn put_table<A: Allocator + Copy, B: Allocator>(
         ++ (text_of_lines (table_line (length table.now) ∷ []) ++ text_of table.now)) }
 {
     put_number_line(text, b"table", table.len() as u64)?;
-    let lines = write(*text.allocator(), table)?;
+    let lines = inittab_text::write(*text.allocator(), table)?;
     put(text, &lines)?;
     Ok(())
 }

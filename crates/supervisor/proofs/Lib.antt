@@ -1,7 +1,8 @@
-pub mod Foreign
-pub mod Hearing
-pub mod Keeping
-pub mod Moves
-pub mod Opening
-pub mod Rereading
-pub mod Whole
+pub mod Carried
+pub mod HandOvers
+pub mod Lasting
+pub mod Listed
+pub mod Opened
+pub mod Parts
+pub mod Taken
+pub mod Turning

@@ -1,6 +1,2 @@
-pub mod Faults
-pub mod Handing
-pub mod Moments
-pub mod Said
-pub mod Simulation
-pub mod Texts
+pub mod Opening
+pub mod Parts

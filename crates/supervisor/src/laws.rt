@@ -1,11 +1,15 @@
-ghost use Rattle.std.specs.Prelude.{◌≡◌, ℕ, List, None};
-ghost use Rattle.init_trace.specs.Event.{Event};
-ghost use Rattle.init_trace.specs.Lawful.{first_breach};
-ghost use Rattle.supervisor.specs.Simulation.{RunOver, Scenario};
+ghost use Rattle.std.specs.Prelude.{◌≡◌, List, Option, true};
+ghost use Rattle.init_words.specs.declared.entries.Entry.{Entry};
+ghost use Rattle.init_words.specs.declared.levels.Level.{Level};
+ghost use Rattle.inittab_text.specs.Tables.{is_distinct};
+ghost use Rattle.core_model.specs.State.{opening_goal, opening_state};
+ghost use Rattle.supervisor.specs.Opening.{opening_point};
+ghost use Rattle.supervisor.specs.Parts.{Fresh};
 
-/// What is simulated keeps the laws: the trace of a run over a script, and over each part of one, has no breach. It
-/// does nothing: its contract is the law.
-pub fn law_of_runs()
-    ensures { (s : Scenario) (rest : List ℕ) (past : List Event)
-        → RunOver s rest past → first_breach past ≡ None }
+/// The core that init opens with is fresh where the record of its host begins. It does nothing: its contract is the
+/// law.
+pub fn law_of_openings()
+    ensures { (level : Option Level) (table : List Entry) → is_distinct table ≡ true
+        → Fresh (opening_state table (opening_goal level table)) (opening_goal level table)
+        (opening_point table) }
 {}

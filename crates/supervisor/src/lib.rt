@@ -1,9 +1,20 @@
-//! A run of init over a script of what the system did.
+//! A turn of init over its host, its log and its core, and a run of many turns (init(8)).
+//!
+//! A turn reads the clock, takes the bytes of requests and the answers that came late, begins a round, and carries out
+//! init's steps until none is due. What it makes of the host is read off the calls that the host tells; what stands in
+//! the log is the trace of these calls, as far as the log took it.
 #![tactic(auto)]
 
-mod handing;
+mod answering;
+mod hearing;
 mod laws;
-mod running;
+mod opening;
+mod ordering;
+mod reexecuting;
+mod rereading;
+mod serving;
+mod stepping;
 
-pub use laws::law_of_runs;
-pub use running::{SimFault, simulate};
+pub use laws::law_of_openings;
+pub use opening::{Opening, serve_from_opening};
+pub use serving::{Served, serve, turn};

@@ -3,7 +3,7 @@ use Rattle.std.specs.Prelude.{ℕ, List, Option, option_and_then, option_map}
 use Rattle.initctl_frame.specs.declared.requests.Request.TheVariants as request
 use Rattle.initctl_frame.specs.Signs.{sign_read}
 use Rattle.initctl_frame.specs.Frames.{block_of}
-use Rattle.program_edge.specs.Arguments.{only_byte}
+use Rattle.program_io.specs.Arguments.{only_byte}
 
 -- the block of one character of the list and its seconds; there is none for anything else
 abbrev pub frame_for : List ℕ → ℕ → Option (List ℕ)

@@ -1,5 +1,5 @@
 use initctl_frame::BLOCK;
-use program_edge::write_text;
+use program_io::write_text;
 use std::fs::OpenOptions;
 use std::io::ErrorKind;
 use std::rt::Files;

@@ -3,7 +3,7 @@ ghost use Rattle.clap.specs.Words.{FailsBy, fault_of, found_of, matches_of, rows
 ghost use Rattle.command_words.specs.CommandLines.{IsLine};
 ghost use Rattle.telinit_command.specs.CommandLine.{command_line, read_of};
 
-use crate::seconds::read_seconds;
+use crate::seconds::read_grace;
 use clap::{ArgMatches, Command, Error};
 use command_words::{
     WordFault, program_line, value_of, with_default, with_short, with_word, word_fault,
@@ -36,7 +36,7 @@ pub fn read_words(alloc: Global, words: Vec<String>) -> Result<Words, WordFault>
         Ok(matches) => matches,
         Err(error) => return Err(word_fault(&error)),
     };
-    let Some(secs) = read_seconds(value_of(&matches, "secs")) else {
+    let Some(secs) = read_grace(value_of(&matches, "secs")) else {
         return Err(WordFault::Usage);
     };
     Ok(Words {

@@ -3,7 +3,7 @@ ghost use Rattle.telinit_command.specs.Frames.{frame_for};
 
 use crate::command::Words;
 use initctl_frame::{BLOCK, Request, Sign, encode};
-use program_edge::only_byte;
+use program_io::only_byte;
 
 /// The request block of the words (initreq.h): none where `sign` isn't one character of telinit(8).
 pub fn frame_of(words: &Words) -> Option<[u8; BLOCK]>

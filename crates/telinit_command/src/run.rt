@@ -1,12 +1,12 @@
 ghost use Rattle.std.specs.Prelude.{◌≡◌, ◌⊎◌, map, string_bytes, IsSome, IsNone};
-ghost use Rattle.program_edge.specs.Writing.{AppendsPrefix};
+ghost use Rattle.program_io.specs.Writing.{AppendsPrefix};
 ghost use Rattle.telinit_command.specs.CommandLine.{block_said};
 
 use crate::channel::{ChannelFault, append_block};
 use crate::command::read_words;
 use crate::frame::frame_of;
 use command_words::WordFault;
-use program_edge::{DEVICE_FAULT, DONE, REFUSED, tell_no_memory, tell_usage};
+use program_io::{DEVICE_FAULT, DONE, REFUSED, report_no_memory, report_usage};
 use std::alloc::Global;
 use std::io::Write;
 use std::rt::Files;
@@ -18,7 +18,7 @@ pub const USAGE: &str = "usage: telinit [-t SEC] [--initctl P] CHAR
   CHAR  0 to 9, S or s: go to that runlevel
         A, B, C, a, b or c: start the ondemand entries of that letter
         Q or q: read inittab again
-        U or u: execute init anew, and keep its state
+        U or u: re-execute init, and keep its state
 ";
 
 /// Runs telinit on a command line without the program's name, and gives its exit status: 0 where one request block was
@@ -41,20 +41,20 @@ pub fn run_words<R: Files, W: Write, E: Write>(
 {
     let words = match read_words(alloc, words) {
         Ok(words) => words,
-        Err(WordFault::Usage) => return tell_usage(USAGE, err),
-        Err(WordFault::Memory) => return tell_no_memory("telinit", err),
+        Err(WordFault::Usage) => return report_usage(USAGE, err),
+        Err(WordFault::Memory) => return report_no_memory("telinit", err),
     };
     let Some(block) = frame_of(&words) else {
-        return tell_usage(USAGE, err);
+        return report_usage(USAGE, err);
     };
     let path = words.path.as_str();
     match append_block(rt, path, &block) {
         Ok(()) => DONE,
-        Err(fault) => tell_channel(path, &fault, err),
+        Err(fault) => report_channel(path, &fault, err),
     }
 }
 
-fn tell_channel<E: Write>(path: &str, fault: &ChannelFault, err: &mut E) -> u8
+fn report_channel<E: Write>(path: &str, fault: &ChannelFault, err: &mut E) -> u8
     ensures { result ≡ DEVICE_FAULT }
 {
     let _ = writeln!(err, "telinit: cannot append to {path}: {fault}");

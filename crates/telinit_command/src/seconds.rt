@@ -6,7 +6,7 @@ ghost use Rattle.telinit_command.specs.Seconds.{seconds_read};
 use init_words::GRACE_LIMIT;
 
 /// The seconds of a word: a decimal number of 0 to 3,600, without a sign.
-pub fn read_seconds(word: &str) -> Option<u16>
+pub fn read_grace(word: &str) -> Option<u16>
     ensures { result ≡ seconds_read word.now }
 {
     if !is_all_digits(word) {

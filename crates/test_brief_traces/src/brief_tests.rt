@@ -1,11 +1,11 @@
 //! Traces and their brief forms, each judged.
 
 use crate::logs::{finished, lines_of, trace_of, unfinished};
-use init_trace::{HappeningIn, print};
-use run_log::ListLog;
+use init_trace::HappeningIn;
 use std::alloc::Global;
 use std::test::Fail;
-use trace_check::{Verdict, check};
+use trace_check::Verdict;
+use trace_log::ListLog;
 
 /// A trace and its brief form, their lines parted by ` / `; the verdicts on both; and how many happenings are held back
 /// at its end.
@@ -101,7 +101,7 @@ const ROWS: &[Row] = &[
         verdicts: LAWFUL,
         held: 1,
     },
-    // Behind a round a look is within no other.
+    // After a round a look is within no other.
     Row {
         trace: "ask a look / nudge / ask b look / still b / told b / still a / told a",
         brief: "ask a look / nudge / still a / told a",
@@ -140,7 +140,7 @@ const ROWS: &[Row] = &[
 ];
 
 fn is_judged(alloc: Global, trace: &[HappeningIn<Global>], verdict: Verdict) -> bool {
-    match check(alloc, trace) {
+    match trace_check::check(alloc, trace) {
         Ok(given) => given == verdict,
         Err(_) => false,
     }
@@ -154,7 +154,7 @@ fn is_text(alloc: Global, text: &[u8], lines: &str) -> bool {
 }
 
 fn prints_as(alloc: Global, trace: &[HappeningIn<Global>], lines: &str) -> bool {
-    match &print(alloc, trace) {
+    match &init_trace::print(alloc, trace) {
         Ok(text) => is_text(alloc, text.as_slice(), lines),
         Err(_) => false,
     }

@@ -1,11 +1,11 @@
 //! A log that fails at each place: what it has is a past of the brief form, and perhaps a part of one happening's text.
 
 use crate::logs::{finished, trace_of};
-use init_trace::{HappeningIn, print};
+use init_trace::HappeningIn;
 use linked_list_allocator::LocalHeap;
-use program_trials::Slow;
-use run_log::{ListLog, StreamLog};
 use std::alloc::Global;
+use test_support::Slow;
+use trace_log::{ListLog, StreamLog};
 
 const TRACE: &str =
     "use 1 / a:3:respawn:x / enter 3 5 / ask a start / birth a 10 / told a / settle 3 / \
@@ -41,7 +41,7 @@ fn a_writer_that_is_full_ends_the_log(rt: HostRuntime) {
 
 /// The list is a past of the brief form, whole or not.
 fn is_past<'a>(alloc: Global, list: &[HappeningIn<&'a LocalHeap>], all: bool) -> bool {
-    match &print(alloc, list) {
+    match &init_trace::print(alloc, list) {
         Ok(text) => BRIEF.starts_with(text.as_slice()) && all == (text.len() == BRIEF.len()),
         Err(_) => false,
     }

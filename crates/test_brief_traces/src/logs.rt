@@ -1,9 +1,9 @@
 //! Traces as texts, and the brief form of one as a log takes it.
 
 use brief_log::BriefLog;
-use init_trace::{HappeningIn, read};
-use run_log::Log;
+use init_trace::HappeningIn;
 use std::alloc::Global;
+use trace_log::Log;
 
 fn add_line(lines: &mut Vec<u8>, line: &str) -> bool {
     lines.extend_from_slice(line.as_bytes()).is_ok() && lines.push(b'\n').is_ok()
@@ -26,7 +26,7 @@ pub(crate) fn lines_of(alloc: Global, text: &str) -> Option<Vec<u8>> {
 /// The trace whose lines these are.
 pub(crate) fn trace_of(alloc: Global, text: &str) -> Option<Vec<HappeningIn<Global>>> {
     match &lines_of(alloc, text) {
-        Some(lines) => read(alloc, lines.as_slice()).ok(),
+        Some(lines) => init_trace::read(alloc, lines.as_slice()).ok(),
         None => None,
     }
 }
@@ -41,14 +41,14 @@ fn takes_all<L: Log>(log: &mut L, trace: &[HappeningIn<Global>]) -> bool {
     true
 }
 
-/// The log behind the brief form of a trace but what is held at its end; and whether it failed.
+/// The log after the brief form of a trace but what is held at its end; and whether it failed.
 pub(crate) fn unfinished<L: Log>(log: L, trace: &[HappeningIn<Global>]) -> (L, bool) {
     let mut brief = BriefLog::new(log);
     let all = takes_all(&mut brief, trace);
     (brief.into_log(), all)
 }
 
-/// The log behind the brief form of a trace, and whether it took it whole.
+/// The log after the brief form of a trace, and whether it took it whole.
 pub(crate) fn finished<L: Log>(log: L, trace: &[HappeningIn<Global>]) -> (L, bool) {
     let mut brief = BriefLog::new(log);
     let all = takes_all(&mut brief, trace);

@@ -11,7 +11,7 @@ has_byte byte text = list_any (λ b. b == byte) text
 abbrev pub onto_first : ℕ → List ℕ × List ℕ → List ℕ × List ℕ
 onto_first b parts = (b ∷ parts.0, parts.1)
 
--- what stands before the first byte of the kind, and what stands after it
+-- the text before the first byte of the kind, and what stands after it
 abbrev pub cut : ℕ → List ℕ → Option (List ℕ × List ℕ)
 cut mark [] = None
 cut mark (b ∷ text) = if b == mark then Some ([], text) else option_map (onto_first b) (cut mark text)
@@ -36,7 +36,7 @@ ended (b ∷ c ∷ text) = b ∷ ended (c ∷ text)
 abbrev pub newlines : List ℕ → ℕ
 newlines text = length (filter (λ b. b == 10) text)
 
--- what stands after so many lines, each with its newline; none where the text has fewer
+-- what stands after the given number of lines, each with its newline; none where the text has fewer
 abbrev pub after_lines : ℕ → List ℕ → Option (List ℕ)
 after_lines zero text = Some text
 after_lines (suc n) text = option_and_then (λ parts. after_lines n parts.1) (cut 10 text)

@@ -7,7 +7,7 @@ use memchr::memchr;
 use std::alloc::{AllocError, Allocator};
 use std::str;
 
-/// What stands before the first byte of this kind, and what stands after it; None where the text has none.
+/// The text before the first byte of this kind, and what stands after it; None where the text has none.
 pub fn cut(mark: u8, text: &[u8]) -> Option<(&[u8], &[u8])>
     ensures { option_map (λ parts. (parts.0.now, parts.1.now)) result ≡ cut mark text.now }
 {
@@ -43,7 +43,7 @@ pub fn next_line(text: &[u8]) -> Option<(&[u8], &[u8])>
     Some(first_line(text))
 }
 
-/// What stands after the first so many lines of a text, each with its newline; None where the text has fewer.
+/// What stands after the first given number of lines of a text, each with its newline; None where the text has fewer.
 pub fn after_lines(count: usize, text: &[u8]) -> Option<&[u8]>
     ensures { option_map (λ rest. rest.now) result ≡ after_lines count text.now }
 {
@@ -79,7 +79,7 @@ fn is_open(text: &[u8]) -> bool
     }
 }
 
-/// A text with a newline behind its last line, where it lacks one.
+/// A text with a newline after its last line, where it lacks one.
 pub fn ended<A: Allocator>(alloc: A, text: &[u8]) -> Result<Vec<u8, A>, AllocError>
     ensures { IfOk result (λ whole. whole.items ≡ ended text.now) }
 {

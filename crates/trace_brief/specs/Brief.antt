@@ -13,7 +13,7 @@ in_look (Still id ∷ past) = true
 in_look _ = false
 
 -- what the system did for the id is told: a look that found nothing is left out with its telling, unless it was ordered
--- right behind another look's order or answer
+-- right after another look's order or answer
 abbrev pub with_telling : List ℕ → List Event → List Event
 with_telling id (Still i ∷ Asked j Look ∷ brief) =
     if same_id id i && same_id id j && not (in_look brief) then brief else Told id ∷ Still i ∷ Asked j Look ∷ brief
@@ -46,7 +46,7 @@ abbrev pub brief_of : List Event → List Event
 brief_of [] = []
 brief_of (happening ∷ past) = with_event happening (brief_of past)
 
--- nothing of the trace can be left out: each happening stands behind its past as it came
+-- nothing of the trace can be left out: each happening stands after its past as it came
 abbrev pub IsBrief : List Event → Type 0
 IsBrief [] = Unit {0}
 IsBrief (happening ∷ past) = (with_event happening past ≡ happening ∷ past) × IsBrief past

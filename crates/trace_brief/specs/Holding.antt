@@ -74,7 +74,7 @@ held_back_by _ _ held = None
 abbrev pub held_back : Event → Held → Option Held
 held_back happening held = held_back_by happening held.look held
 
--- what is held behind a happening that is not: nothing, or it alone where it is a reading or a round
+-- what is held after a happening that is not: nothing, or it alone where it is a reading or a round
 abbrev pub held_behind : Event → Held
 held_behind (Clock reading) = record { reading = Some reading; round = false; look = None; within = true }
 held_behind Nudge = record { reading = None; round = true; look = None; within = true }
@@ -85,7 +85,7 @@ written_of (Clock reading) = []
 written_of Nudge = []
 written_of happening = happening ∷ []
 
--- what is held behind each happening, and what is written for it, the newest first
+-- what is held after each happening, and what is written for it, the newest first
 abbrev pub next_by : Event → Option Held → Held
 next_by happening None = held_behind happening
 next_by happening (Some held) = held

@@ -1,5 +1,5 @@
--- What a brief form never changes, when the looks of a trace are free, which law a trace breaks first, and what it is to
--- read the same off a trace and its brief form.
+-- What a brief form never changes, when the looks of a trace are free, which law a trace breaks first, and what it is
+-- to read the same off a trace and its brief form.
 use Rattle.std.specs.Prelude.{◌≡◌, ℕ, Bool, IsTrue, true, false, not, ◌&&◌, List, [], ◌∷◌, filter, Option, Some, None, is_none}
 use Rattle.init_words.specs.declared.orders.Ask.TheVariants.{Look}
 use Rattle.init_trace.specs.declared.happenings.Happening.TheVariants.{Asked, Still, Told, Clock, Nudge}

@@ -50,7 +50,7 @@ impl Held {
     }
 
     /// What is held with a happening that is held back; none where all that is held must be written, and the happening
-    /// behind it.
+    /// after it.
     pub fn hold_back<A: Allocator>(&self, happening: &HappeningIn<A>) -> Option<Held>
         ensures { result ≡ held_back happening.now self.now }
     {
@@ -109,7 +109,7 @@ impl Held {
         Held { look, ..*self }
     }
 
-    /// What is held behind a happening that is not held back: it is written, unless it is a reading or a round.
+    /// What is held after a happening that is not held back: it is written, unless it is a reading or a round.
     pub fn behind<A: Allocator>(happening: &HappeningIn<A>) -> Held
         ensures { result ≡ held_behind happening.now }
     {

@@ -56,7 +56,7 @@ pub fn law_of_brief()
     ensures full { (id : List ℕ) → ReadsSame (is_full id) }
 {}
 
-/// What is held back and what was written are the brief form of what came: at the beginning, and behind each happening.
+/// What is held back and what was written are the brief form of what came: at the beginning, and after each happening.
 /// It does nothing: its contract says so.
 pub fn law_of_held()
     ensures first { Holds

@@ -16,7 +16,7 @@ use Rattle.init_words.proofs.Same.{same_id-is, same_id-self, same_id-sym}
 use Rattle.init_words.proofs.Tests.{not_from, and_true, and_false}
 use Rattle.trace_laws.proofs.Spells.{is_still, spell_still, spell_nudge, spell_enter, spell_table, spell_birth, spell_told}
 use Rattle.trace_laws.proofs.Lone.{is_lone, lone_filter}
-use Rattle.trace_check.specs.declared.children.Living.{Living}
+use Rattle.trace_check.specs.declared.children.UnreapedChild.{UnreapedChild}
 use Rattle.trace_check.specs.After.{is_numbered, child_after, spares, excludes, earliest, term_after}
 use Rattle.trace_check.proofs.Lookups.{none_both}
 use Rattle.trace_check.proofs.Lone.{child_of, by_child, left_if, lone_left}
@@ -37,7 +37,7 @@ lone_step (Reaped i n status) past lawful lone id = lone_filter (is_of id) (λ c
 lone_step _ past lawful lone id = lone id
 
 -- a reaping takes the child of its id and number
-module _ (i : List ℕ) (n : ℕ) (status : Status) (past : List Event) (child : List ℕ → Option Living) where
+module _ (i : List ℕ) (n : ℕ) (status : Status) (past : List Event) (child : List ℕ → Option UnreapedChild) where
   abbrev left : Child → Bool
   left c = not (is_child i n c)
 
@@ -64,7 +64,7 @@ module _ (i : List ℕ) (n : ℕ) (status : Status) (past : List Event) (child :
       (λ x is told. ap (cond (same_id x i && is_numbered n (child i)) None) told ∙ none_both (same_id x i && is_numbered n (child i)))
       (λ c is told. reaped (term c.id) (term_of (Reaped i n status ∷ past)) refl c is (told ∙ sym (ap least_term (spell_still c (Reaped i n status) past refl)))) id past
 
-pub child_step : (child : List ℕ → Option Living) (happening : Event) (id : List ℕ) (past : List Event) → ((i : List ℕ) → child i ≡ option_map living_of (child_of i past)) → is_lone (is_of id) (unreaped_children past) ≡ true → child_after (table_of past) child happening id ≡ option_map living_of (child_of id (happening ∷ past))
+pub child_step : (child : List ℕ → Option UnreapedChild) (happening : Event) (id : List ℕ) (past : List Event) → ((i : List ℕ) → child i ≡ option_map living_of (child_of i past)) → is_lone (is_of id) (unreaped_children past) ≡ true → child_after (table_of past) child happening id ≡ option_map living_of (child_of id (happening ∷ past))
 child_step child (Birth i n) id past children lone = split (same_id id i) where
   split : (b : Bool) → cond b (Some (record { number = n; act = act_of i (table_of past) })) (child id) ≡ option_map living_of (cond b (Some (newborn i n past)) (child_of id past))
   split true = refl
@@ -86,7 +86,7 @@ term_birth i n past id = by_child (λ x o. same_id x i ≡ false → term_of pas
     (λ c differ. sym (ap least_term (spell_birth c i n past ∙ ap (λ b. cond b [] (spell_hits c past)) differ))) id past
 
 -- a stage or a table ends the spells of those that may live
-spared : (table : List Entry) (stage : Option Stage) (child : List ℕ → Option Living) (term : List ℕ → Option ℕ) (c : Child) (hits after : List Signal) → child c.id ≡ Some (living_of c) → term c.id ≡ least_term hits → after ≡ cond (not (may_live (entry_of c.id table) c.act stage)) hits [] → cond (spares table stage child c.id) None (term c.id) ≡ least_term after
+spared : (table : List Entry) (stage : Option Stage) (child : List ℕ → Option UnreapedChild) (term : List ℕ → Option ℕ) (c : Child) (hits after : List Signal) → child c.id ≡ Some (living_of c) → term c.id ≡ least_term hits → after ≡ cond (not (may_live (entry_of c.id table) c.act stage)) hits [] → cond (spares table stage child c.id) None (term c.id) ≡ least_term after
 spared table stage child term c hits after is told ends =
     ap (λ o. cond (option_map_or (λ living. may_live (entry_of c.id table) living.act stage) o false) None (term c.id)) is ∙ ap (cond live None) told
     ∙ split live ∙ sym (ap least_term ends)
@@ -98,18 +98,18 @@ spared table stage child term c hits after is told ends =
     split true = refl
     split false = refl
 
-term_table : (table : List Entry) (past : List Event) (child : List ℕ → Option Living) (term : List ℕ → Option ℕ) (id : List ℕ) → child id ≡ option_map living_of (child_of id past) → term id ≡ term_of past (child_of id past) → cond (spares table (stage_of past) child id) None (term id) ≡ term_of (NewTable table ∷ past) (child_of id past)
+term_table : (table : List Entry) (past : List Event) (child : List ℕ → Option UnreapedChild) (term : List ℕ → Option ℕ) (id : List ℕ) → child id ≡ option_map living_of (child_of id past) → term id ≡ term_of past (child_of id past) → cond (spares table (stage_of past) child id) None (term id) ≡ term_of (NewTable table ∷ past) (child_of id past)
 term_table table past child term id = by_child (λ x o. child x ≡ option_map living_of o → term x ≡ term_of past o → cond (spares table (stage_of past) child x) None (term x) ≡ term_of (NewTable table ∷ past) o)
     (λ x is told. ap (cond (spares table (stage_of past) child x) None) told ∙ none_both (spares table (stage_of past) child x))
     (λ c is told. spared table (stage_of past) child term c (spell_hits c past) (spell_hits c (NewTable table ∷ past)) is told (spell_table c table past)) id past
 
-term_enter : (stage : Stage) (grace : ℕ) (past : List Event) (child : List ℕ → Option Living) (term : List ℕ → Option ℕ) (id : List ℕ) → child id ≡ option_map living_of (child_of id past) → term id ≡ term_of past (child_of id past) → cond (spares (table_of past) (Some stage) child id) None (term id) ≡ term_of (Enter stage grace ∷ past) (child_of id past)
+term_enter : (stage : Stage) (grace : ℕ) (past : List Event) (child : List ℕ → Option UnreapedChild) (term : List ℕ → Option ℕ) (id : List ℕ) → child id ≡ option_map living_of (child_of id past) → term id ≡ term_of past (child_of id past) → cond (spares (table_of past) (Some stage) child id) None (term id) ≡ term_of (Enter stage grace ∷ past) (child_of id past)
 term_enter stage grace past child term id = by_child (λ x o. child x ≡ option_map living_of o → term x ≡ term_of past o → cond (spares (table_of past) (Some stage) child x) None (term x) ≡ term_of (Enter stage grace ∷ past) o)
     (λ x is told. ap (cond (spares (table_of past) (Some stage) child x) None) told ∙ none_both (spares (table_of past) (Some stage) child x))
     (λ c is told. spared (table_of past) (Some stage) child term c (spell_hits c past) (spell_hits c (Enter stage grace ∷ past)) is told (spell_enter c stage grace past)) id past
 
 -- a Told adds the TERMs that are under way to the spell of an excluded child
-module _ (i : List ℕ) (past : List Event) (child : List ℕ → Option Living) (is_sent : List ℕ → Bool) (term : List ℕ → Option ℕ) where
+module _ (i : List ℕ) (past : List Event) (child : List ℕ → Option UnreapedChild) (is_sent : List ℕ → Bool) (term : List ℕ → Option ℕ) where
   abbrev tells : Bool
   tells = is_sent i && excludes (table_of past) (stage_of past) child i
 
@@ -153,7 +153,7 @@ module _ (i : List ℕ) (past : List Event) (child : List ℕ → Option Living)
   term_told id = by_child (λ x o. child x ≡ option_map living_of o → term x ≡ term_of past o → is_sent x ≡ has_sent x past → cond (same_id x i && tells) (Some (earliest (time_of past) (term i))) (term x) ≡ term_of (Told i ∷ past) o)
       (λ x is told sent. told_none x is told) told_some id past
 
-pub term_step : (child : List ℕ → Option Living) (is_sent : List ℕ → Bool) (term : List ℕ → Option ℕ) (happening : Event) (id : List ℕ) (past : List Event) → child id ≡ option_map living_of (child_of id past) → is_sent id ≡ has_sent id past → term id ≡ term_of past (child_of id past) → is_lone (is_of id) (unreaped_children past) ≡ true → term_after (table_of past) (stage_of past) (time_of past) child is_sent term happening id ≡ term_of (happening ∷ past) (child_of id (happening ∷ past))
+pub term_step : (child : List ℕ → Option UnreapedChild) (is_sent : List ℕ → Bool) (term : List ℕ → Option ℕ) (happening : Event) (id : List ℕ) (past : List Event) → child id ≡ option_map living_of (child_of id past) → is_sent id ≡ has_sent id past → term id ≡ term_of past (child_of id past) → is_lone (is_of id) (unreaped_children past) ≡ true → term_after (table_of past) (stage_of past) (time_of past) child is_sent term happening id ≡ term_of (happening ∷ past) (child_of id (happening ∷ past))
 term_step child is_sent term (Birth i n) id past is sent told lone = split (same_id id i) refl where
   own : Child
   own = newborn i n past

@@ -26,8 +26,8 @@ use Rattle.init_trace.specs.Lawful.{is_placed, is_in_turn, is_limited_id, is_fre
 use Rattle.init_words.proofs.Same.{same_id-is, same_id-self}
 use Rattle.init_words.proofs.Tests.{same_tests, any_less, any_same, Passing, passing, found_any, and_three}
 use Rattle.trace_laws.proofs.Lone.{lone_any}
-use Rattle.trace_check.specs.declared.children.Living.{Living}
-use Rattle.trace_check.specs.State.{State, at, among}
+use Rattle.trace_check.specs.declared.children.UnreapedChild.{UnreapedChild}
+use Rattle.trace_check.specs.State.{JudgeState, at, among}
 use Rattle.trace_check.specs.Flaws.{is_alive, is_excluded_in, none_excluded_in, is_placed_in, is_owed_in, is_in_turn_in, is_held_in, is_full_in, is_free_in, is_due_hold_in, is_served_in, is_settled_in, is_over_in, may_kill_in, flaw_in}
 use Rattle.trace_check.proofs.Lone.{child_of, found_test, by_child}
 use Rattle.trace_check.proofs.Found.{found_all, found_before}
@@ -39,7 +39,7 @@ use Rattle.trace_check.proofs.Terms.{over_age, ripe_least}
 abbrev is_ripe_child : List Event → Child → Bool
 is_ripe_child past child = list_any (is_ripe (grace_of past) (time_of past)) (spell_hits child past)
 
-module _ (s : State) (past : List Event) (r : Reads s past) where
+module _ (s : JudgeState) (past : List Event) (r : Reads s past) where
   pub alive : (id : List ℕ) → is_alive s id ≡ has_child id (unreaped_children past)
   alive id = ap is_some (r.children id) ∙ found_any living_of (is_of id) (unreaped_children past)
 
@@ -48,7 +48,7 @@ module _ (s : State) (past : List Event) (r : Reads s past) where
   excluded id = by_child (λ x o. at x s.children ≡ option_map living_of o → is_excluded_in (table_of past) s x ≡ option_map_or (is_excluded past) o false) (λ x is. ap (test x) is)
       (λ c is. ap (test c.id) is ∙ ap (λ now. not (may_live (entry_of c.id (table_of past)) c.act now)) r.stage) id past (r.children id)
     where
-      test : List ℕ → Option Living → Bool
+      test : List ℕ → Option UnreapedChild → Bool
       test x o = option_map_or (λ living. not (may_live (entry_of x (table_of past)) living.act s.stage)) o false
 
   -- an excluded child is found at a key, and the child of a key that is excluded is one

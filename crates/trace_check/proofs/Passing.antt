@@ -6,8 +6,8 @@ use Rattle.inittab_text.specs.Tables.{is_distinct}
 use Rattle.init_trace.specs.Event.{Event}
 use Rattle.init_trace.specs.Past.{table_of, stage_of, time_of}
 use Rattle.init_trace.specs.Lawful.{broken, Fault, breach_at, earlier, first_breach}
-use Rattle.trace_check.specs.State.{State, opening, at, among, times_at}
-use Rattle.trace_check.specs.After.{Took, table_after, stage_after, grace_after, time_after, order_after, kept_after, asked_after, called_after, sent_after, starts_after, hold_after, term_after}
+use Rattle.trace_check.specs.State.{JudgeState, opening, at, among, times_at}
+use Rattle.trace_check.specs.After.{TakesIn, table_after, stage_after, grace_after, time_after, order_after, kept_after, asked_after, called_after, sent_after, starts_after, hold_after, term_after}
 use Rattle.trace_check.specs.Flaws.{flaw_in}
 use Rattle.trace_check.proofs.Reading.{Reads}
 use Rattle.trace_check.proofs.Keeping.{table_step, stage_step, grace_step, time_step, order_step, kept_step, asked_step, called_step, sent_step, starts_step, hold_step}
@@ -33,7 +33,7 @@ reads_opening = record {
 }
 
 -- as long as no law is broken, the state reads the longer past
-pub reads_after : (happening : Event) (past : List Event) (old new : State) → Took (table_of past) old new happening → broken happening past ≡ None → is_distinct (table_of (happening ∷ past)) ≡ true → Reads old past → Reads new (happening ∷ past)
+pub reads_after : (happening : Event) (past : List Event) (old new : JudgeState) → TakesIn (table_of past) old new happening → broken happening past ≡ None → is_distinct (table_of (happening ∷ past)) ≡ true → Reads old past → Reads new (happening ∷ past)
 reads_after happening past old new took lawful distinct r = record {
   stage = took.stage ∙ ap (stage_after happening) r.stage ∙ stage_step happening past;
   grace = took.grace ∙ ap (grace_after happening) r.grace ∙ grace_step happening past;
@@ -55,7 +55,7 @@ reads_after happening past old new took lawful distinct r = record {
 }
 
 -- the first so many happenings are passed: no law was broken, and the state and the table read them
-pub record Passed (s : State) (table : List Entry) (place : ℕ) (trace : List Event) : Type 0 where
+pub record Passed (s : JudgeState) (table : List Entry) (place : ℕ) (trace : List Event) : Type 0 where
   pub reads : Reads s (reverse (take place trace))
   pub in_force : table ≡ table_of (reverse (take place trace))
   pub none : first_breach (reverse (take place trace)) ≡ None
@@ -67,13 +67,13 @@ passed_none trace = record { reads = reads_opening; in_force = refl; none = refl
 one_more : (trace : List Event) (place : ℕ) (happening : Event) → place < length trace → happening ≡ get_or trace place happening → reverse (take (place + 1) trace) ≡ happening ∷ reverse (take place trace)
 one_more trace place happening within is = ap reverse (take_more trace place happening within) ∙ reverse-append (take place trace) (get_or trace place happening ∷ []) ∙ ap (λ x. x ∷ reverse (take place trace)) (sym is)
 
-flaw_is : (trace : List Event) (place : ℕ) (happening : Event) (s : State) (table : List Entry) → Passed s table place trace → flaw_in table s happening ≡ broken happening (reverse (take place trace))
+flaw_is : (trace : List Event) (place : ℕ) (happening : Event) (s : JudgeState) (table : List Entry) → Passed s table place trace → flaw_in table s happening ≡ broken happening (reverse (take place trace))
 flaw_is trace place happening s table passed = ap (λ t. flaw_in t s happening) passed.in_force ∙ flaw_reads s (reverse (take place trace)) passed.reads happening
 
 -- one more that breaks no law is passed
-pub passed_more : (trace : List Event) (place : ℕ) (happening : Event) (old new : State) (table next : List Entry) (flaw : Option ℕ) → Passed old table place trace → place < length trace → happening ≡ get_or trace place happening → flaw ≡ None → flaw ≡ flaw_in table old happening → Took table old new happening → next ≡ table_after happening table → is_distinct next ≡ true → Passed new next (place + 1) trace
+pub passed_more : (trace : List Event) (place : ℕ) (happening : Event) (old new : JudgeState) (table next : List Entry) (flaw : Option ℕ) → Passed old table place trace → place < length trace → happening ≡ get_or trace place happening → flaw ≡ None → flaw ≡ flaw_in table old happening → TakesIn table old new happening → next ≡ table_after happening table → is_distinct next ≡ true → Passed new next (place + 1) trace
 passed_more trace place happening old new table next flaw passed within is lawful flawed took after distinct = record {
-  reads = subst (Reads new) (sym now) (reads_after happening past old new (subst (λ t. Took t old new happening) passed.in_force took) lawful_here (ap is_distinct (sym next_is) ∙ distinct) passed.reads);
+  reads = subst (Reads new) (sym now) (reads_after happening past old new (subst (λ t. TakesIn t old new happening) passed.in_force took) lawful_here (ap is_distinct (sym next_is) ∙ distinct) passed.reads);
   in_force = next_is ∙ ap table_of (sym now);
   none = ap first_breach now ∙ ap (λ o. earlier o (breach_at (length past) (broken happening past))) passed.none ∙ ap (breach_at (length past)) lawful_here;
 } where
@@ -98,7 +98,7 @@ whole : (trace : List Event) (place : ℕ) → reverse trace ≡ reverse (drop p
 whole trace place = ap reverse (sym (take-append-drop place trace)) ∙ reverse-append (take place trace) (drop place trace)
 
 -- a flaw is the first breach of the trace
-pub breach_found : (trace : List Event) (place law : ℕ) (happening : Event) (s : State) (table : List Entry) → Passed s table place trace → place < length trace → happening ≡ get_or trace place happening → Some law ≡ flaw_in table s happening → Some (record { place = place; law = law }) ≡ first_breach (reverse trace)
+pub breach_found : (trace : List Event) (place law : ℕ) (happening : Event) (s : JudgeState) (table : List Entry) → Passed s table place trace → place < length trace → happening ≡ get_or trace place happening → Some law ≡ flaw_in table s happening → Some (record { place = place; law = law }) ≡ first_breach (reverse trace)
 breach_found trace place law happening s table passed within is flaw = sym (ap first_breach (whole trace (place + 1)) ∙ kept_breach (reverse (drop (place + 1) trace)) (reverse (take (place + 1) trace)) (record { place = place; law = law }) here) where
   past : List Event
   past = reverse (take place trace)
@@ -111,5 +111,5 @@ breach_found trace place law happening s table passed within is flaw = sym (ap f
       ∙ ap (λ n. Some (record { place = n; law = law })) (length-reverse (take place trace) ∙ length-take-le place trace (omega arith))
 
 -- where all are passed there is no breach
-pub passed_all : (trace : List Event) (place : ℕ) (s : State) (table : List Entry) → Passed s table place trace → length trace ≤ place → None ≡ first_breach (reverse trace)
+pub passed_all : (trace : List Event) (place : ℕ) (s : JudgeState) (table : List Entry) → Passed s table place trace → length trace ≤ place → None ≡ first_breach (reverse trace)
 passed_all trace place s table passed all = sym (ap (λ xs. first_breach (reverse xs)) (sym (take_all place trace all)) ∙ passed.none)

@@ -11,8 +11,8 @@ use Rattle.init_trace.specs.Wanted.{is_order, is_asked, is_called}
 use Rattle.init_trace.specs.Spells.{Signal, untold_hits, spell_hits}
 use Rattle.init_trace.specs.Timing.{start_times, hold_times}
 use Rattle.trace_laws.proofs.Lone.{is_lone}
-use Rattle.trace_check.specs.declared.children.Living.{Living}
-use Rattle.trace_check.specs.State.{State, at, among, times_at}
+use Rattle.trace_check.specs.declared.children.UnreapedChild.{UnreapedChild}
+use Rattle.trace_check.specs.State.{JudgeState, at, among, times_at}
 use Rattle.trace_check.specs.After.{earliest}
 use Rattle.trace_check.proofs.Lone.{child_of}
 
@@ -30,7 +30,7 @@ newest [] = None
 newest (time ∷ times) = Some time
 
 -- a child as the state keeps it
-abbrev pub living_of : Child → Living
+abbrev pub living_of : Child → UnreapedChild
 living_of child = record { number = child.number; act = child.act }
 
 -- the least time of a TERM among the signals
@@ -43,7 +43,7 @@ abbrev pub term_of : List Event → Option Child → Option ℕ
 term_of past None = None
 term_of past (Some child) = least_term (spell_hits child past)
 
-pub record Reads (s : State) (past : List Event) : Type 0 where
+pub record Reads (s : JudgeState) (past : List Event) : Type 0 where
   pub stage : s.stage ≡ stage_of past
   pub grace : s.grace ≡ grace_of past
   pub time : s.time ≡ time_of past

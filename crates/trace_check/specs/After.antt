@@ -15,8 +15,8 @@ use Rattle.inittab_text.specs.Tables.{has_id, entry_of, act_of}
 use Rattle.init_trace.specs.declared.happenings.Happening.TheVariants.{NewTable, Enter, Call, Power, Asked, Hold, Birth, Reaped, Hit, Told, Clock}
 use Rattle.init_trace.specs.Event.{Event}
 use Rattle.init_trace.specs.Wanted.{starts_in, is_order, same_acts, may_live}
-use Rattle.trace_check.specs.declared.children.Living.{Living}
-use Rattle.trace_check.specs.State.{State, at, among, times_at}
+use Rattle.trace_check.specs.declared.children.UnreapedChild.{UnreapedChild}
+use Rattle.trace_check.specs.State.{JudgeState, at, among, times_at}
 
 abbrev pub table_after : Event → List Entry → List Entry
 table_after (NewTable next) table = next
@@ -99,11 +99,11 @@ hold_after time (Hold i) id before = if same_id id i then Some time else before
 hold_after time _ id before = before
 
 -- there is a child, and it has this number
-abbrev pub is_numbered : ℕ → Option Living → Bool
+abbrev pub is_numbered : ℕ → Option UnreapedChild → Bool
 is_numbered number child = option_map_or (λ living. number == living.number) child false
 
 -- the unreaped child of an id, where `child` says that of each before
-abbrev pub child_after : List Entry → (List ℕ → Option Living) → Event → List ℕ → Option Living
+abbrev pub child_after : List Entry → (List ℕ → Option UnreapedChild) → Event → List ℕ → Option UnreapedChild
 child_after table child (Birth i n) id =
     if same_id id i then Some (record { number = n; act = act_of i table }) else child id
 child_after table child (Reaped i n status) id =
@@ -111,12 +111,12 @@ child_after table child (Reaped i n status) id =
 child_after table child _ id = child id
 
 -- the child of an id may live by the table and in the stage
-abbrev pub spares : List Entry → Option Stage → (List ℕ → Option Living) → List ℕ → Bool
+abbrev pub spares : List Entry → Option Stage → (List ℕ → Option UnreapedChild) → List ℕ → Bool
 spares table stage child id =
     option_map_or (λ living. may_live (entry_of id table) living.act stage) (child id) false
 
 -- the child of an id is excluded
-abbrev pub excludes : List Entry → Option Stage → (List ℕ → Option Living) → List ℕ → Bool
+abbrev pub excludes : List Entry → Option Stage → (List ℕ → Option UnreapedChild) → List ℕ → Bool
 excludes table stage child id =
     option_map_or (λ living. not (may_live (entry_of id table) living.act stage)) (child id) false
 
@@ -126,7 +126,7 @@ earliest time None = time
 earliest time (Some other) = min time other
 
 -- when the first TERM of the spell of an id's child was told, where `child`, `is_sent` and `term` say what was before
-abbrev pub term_after : List Entry → Option Stage → ℕ → (List ℕ → Option Living) → (List ℕ → Bool)
+abbrev pub term_after : List Entry → Option Stage → ℕ → (List ℕ → Option UnreapedChild) → (List ℕ → Bool)
     → (List ℕ → Option ℕ) → Event → List ℕ → Option ℕ
 term_after table stage time child is_sent term (Birth i n) id = if same_id id i then None else term id
 term_after table stage time child is_sent term (Reaped i n status) id =
@@ -140,7 +140,7 @@ term_after table stage time child is_sent term (Enter next grace) id =
 term_after table stage time child is_sent term _ id = term id
 
 -- the state took the happening in, where the table was in force before it
-pub record Took (table : List Entry) (old new : State) (happening : Event) : Type 0 where
+pub record TakesIn (table : List Entry) (old new : JudgeState) (happening : Event) : Type 0 where
   pub stage : new.stage ≡ stage_after happening old.stage
   pub grace : new.grace ≡ grace_after happening old.grace
   pub time : new.time ≡ time_after happening old.time

@@ -5,7 +5,7 @@ use Rattle.std.specs.List.{list_any}
 use Rattle.init_words.specs.declared.stages.Stage.{Stage}
 use Rattle.init_words.specs.declared.orders.Ask.{Ask}
 use Rattle.init_words.specs.Ids.{same_id}
-use Rattle.trace_check.specs.declared.children.Living.{Living}
+use Rattle.trace_check.specs.declared.children.UnreapedChild.{UnreapedChild}
 
 -- what is kept of an id
 abbrev pub at : {X : Type 0} → List ℕ → List (List ℕ × X) → Option X
@@ -26,7 +26,7 @@ times_at id starts = times_or_none (at id starts)
 -- the stage, the seconds between the two signals and the time in force; the open orders; the ids with a kept child, of
 -- which a start was asked, that are called, and of which a sent TERM is not told; the last starts and the last hold of
 -- an id; its unreaped child; and when the first TERM of the child's spell was told
-pub record State : Type 0 where
+pub record JudgeState : Type 0 where
   pub stage : Option Stage
   pub grace : ℕ
   pub time : ℕ
@@ -37,11 +37,11 @@ pub record State : Type 0 where
   pub sent : List (List ℕ)
   pub starts : List (List ℕ × List ℕ)
   pub holds : List (List ℕ × ℕ)
-  pub children : List (List ℕ × Living)
+  pub children : List (List ℕ × UnreapedChild)
   pub termed : List (List ℕ × ℕ)
 
 -- before the first happening
-abbrev pub opening : State
+abbrev pub opening : JudgeState
 opening = record {
   stage = None;
   grace = 0;

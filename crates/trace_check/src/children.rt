@@ -10,14 +10,14 @@ use std::alloc::Allocator;
 
 /// An unreaped child: its number, and the action that its id had when it was born.
 #[derive(Clone, Copy)]
-pub(crate) struct Living {
+pub(crate) struct UnreapedChild {
     pub(crate) number: ChildNo,
     pub(crate) act: Option<Act>,
 }
 
 /// The unreaped child of each id.
 pub(crate) fn take_child<A: Allocator, B: Allocator>(
-    children: &mut ById<Living, A>,
+    children: &mut ById<UnreapedChild, A>,
     table: &InForce<'_, B>,
     happening: &HappeningIn<B>,
 ) -> Result<(), Memory>
@@ -26,7 +26,7 @@ pub(crate) fn take_child<A: Allocator, B: Allocator>(
 {
     match happening {
         Happening::Birth(id, number) => {
-            let living = Living {
+            let living = UnreapedChild {
                 number: *number,
                 act: table.act(id),
             };
@@ -44,7 +44,7 @@ pub(crate) fn take_child<A: Allocator, B: Allocator>(
 }
 
 /// There is a child, and it has this number.
-pub(crate) fn is_numbered(child: Option<&Living>, number: ChildNo) -> bool
+pub(crate) fn is_numbered(child: Option<&UnreapedChild>, number: ChildNo) -> bool
     ensures { result ≡ is_numbered number (option_copied child.entry) }
 {
     match child {

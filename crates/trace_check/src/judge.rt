@@ -1,6 +1,6 @@
 ghost use Rattle.std.specs.Prelude.{◌≡◌, OnOk};
 
-use crate::children::{Living, take_child};
+use crate::children::{UnreapedChild, take_child};
 use crate::limits::{Starts, take_hold, take_start};
 use crate::maps::{ById, Ids, no_ids, nothing};
 use crate::parts::{
@@ -13,7 +13,8 @@ use init_words::{Ask, Memory, Stage};
 use std::alloc::Allocator;
 use std::marker::Model;
 
-/// What the checker keeps between two happenings: all that the laws ask of the past but the table, which the trace lends.
+/// What the checker keeps between two happenings: all that the laws ask of the past but the table, which the trace
+/// lends.
 #[derive(Drop)]
 pub(crate) struct Judge<A: Allocator> {
     pub(crate) stage: Option<Stage>,
@@ -26,14 +27,14 @@ pub(crate) struct Judge<A: Allocator> {
     pub(crate) sent: Ids<A>,
     pub(crate) starts: ById<Starts, A>,
     pub(crate) holds: ById<u64, A>,
-    pub(crate) children: ById<Living, A>,
+    pub(crate) children: ById<UnreapedChild, A>,
     pub(crate) termed: ById<u64, A>,
 }
 
 impl<A: Allocator> Model for Judge<A> {
-    ghost use Rattle.trace_check.specs.State.{State};
+    ghost use Rattle.trace_check.specs.State.{JudgeState};
 
-    ghost Value = { State };
+    ghost Value = { JudgeState };
 
     ghost view = { λ j. record {
       stage = j.stage;
@@ -53,7 +54,7 @@ impl<A: Allocator> Model for Judge<A> {
 
 impl<A: Allocator + Copy> Judge<A> {
     ghost use Rattle.trace_check.specs.State.{opening};
-    ghost use Rattle.trace_check.specs.After.{Took};
+    ghost use Rattle.trace_check.specs.After.{TakesIn};
 
     /// Before the first happening. It takes no memory.
     pub(crate) fn new(alloc: A) -> Judge<A>
@@ -81,7 +82,7 @@ impl<A: Allocator + Copy> Judge<A> {
         table: &InForce<'_, B>,
         happening: &HappeningIn<B>,
     ) -> Result<(), Memory>
-        ensures { OnOk result (Took table.now self.old self.new happening.now) }
+        ensures { OnOk result (TakesIn table.now self.old self.new happening.now) }
     {
         let stage = self.stage;
         let time = self.time;

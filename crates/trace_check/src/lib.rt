@@ -1,7 +1,7 @@
 //! The checker of traces: whether a run of init kept the seven laws, and else the first breach.
 //!
-//! It judges any list of happenings, forged ones too, in one pass. It keeps what the laws ask of the past, and never the
-//! past itself, so that a happening costs what the entries and the living children of its moment cost.
+//! It judges any list of happenings, forged ones too, in one pass. It keeps what the laws ask of the past, and never
+//! the past itself, so that a happening costs what the entries and the living children of its moment cost.
 #![tactic(auto)]
 
 mod children;

@@ -34,7 +34,7 @@ pub(crate) fn forget_all<V: Drop, A: Allocator + Copy>(map: &mut ById<V, A>)
     *map = nothing(*map.allocator());
 }
 
-/// The same of a set.
+/// Forgets all ids, and gives the memory back, so that they cost what was put in since.
 pub(crate) fn forget_ids<A: Allocator + Copy>(ids: &mut Ids<A>)
     ensures { ids.new.keys ≡ [] }
 {

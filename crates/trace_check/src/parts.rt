@@ -5,7 +5,7 @@ ghost use Rattle.init_trace.specs.Wanted.{is_order, starts_in};
 ghost use Rattle.trace_check.specs.State.{at, among};
 ghost use Rattle.trace_check.specs.After.{stage_after, grace_after, time_after, order_after, kept_after, is_changed, asked_after, is_named, is_named_at, called_after, sent_after};
 
-use crate::children::Living;
+use crate::children::UnreapedChild;
 use crate::maps::{ById, Ids, add_if, drop_if, forget_ids, set_if};
 use crate::tables::{InForce, starts_in};
 use init_trace::{Happening, HappeningIn};
@@ -67,7 +67,7 @@ pub(crate) fn take_order<A: Allocator, B: Allocator>(
 /// The ids with a kept child.
 pub(crate) fn take_kept<A: Allocator, B: Allocator>(
     kept: &mut Ids<A>,
-    children: &ById<Living, A>,
+    children: &ById<UnreapedChild, A>,
     happening: &HappeningIn<B>,
 ) -> Result<(), Memory>
     ensures { OnOk result ((id : List ℕ) → among id kept.new.keys

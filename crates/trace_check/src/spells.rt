@@ -3,7 +3,7 @@ ghost use Rattle.init_words.specs.Ids.{same_id};
 ghost use Rattle.trace_check.specs.State.{at, among};
 ghost use Rattle.trace_check.specs.After.{spares, excludes, earliest, term_after};
 
-use crate::children::{Living, is_numbered};
+use crate::children::{UnreapedChild, is_numbered};
 use crate::maps::{ById, Ids};
 use crate::tables::{InForce, may_live};
 use init_trace::{Happening, HappeningIn};
@@ -14,7 +14,7 @@ use std::alloc::Allocator;
 fn spares<A: Allocator, B: Allocator>(
     table: &InForce<'_, B>,
     stage: Option<Stage>,
-    children: &ById<Living, A>,
+    children: &ById<UnreapedChild, A>,
     id: &Id,
 ) -> bool
     ensures { result ≡ spares table.now stage (λ i. at i children.now.entries) id.now }
@@ -29,7 +29,7 @@ fn spares<A: Allocator, B: Allocator>(
 pub(crate) fn excludes<A: Allocator, B: Allocator>(
     table: &InForce<'_, B>,
     stage: Option<Stage>,
-    children: &ById<Living, A>,
+    children: &ById<UnreapedChild, A>,
     id: &Id,
 ) -> bool
     ensures { result ≡ excludes table.now stage (λ i. at i children.now.entries) id.now }
@@ -43,7 +43,7 @@ pub(crate) fn excludes<A: Allocator, B: Allocator>(
 /// When the first TERM was told in the spell of each id's child, the stretch of time in which it is excluded.
 pub(crate) fn take_term<A: Allocator + Copy, B: Allocator>(
     termed: &mut ById<u64, A>,
-    children: &ById<Living, A>,
+    children: &ById<UnreapedChild, A>,
     sent: &Ids<A>,
     table: &InForce<'_, B>,
     stage: Option<Stage>,
@@ -99,7 +99,7 @@ fn note_term<A: Allocator>(termed: &mut ById<u64, A>, id: Id, time: u64) -> Resu
 /// The spells of the children that are no longer excluded end.
 fn end_spells<A: Allocator, B: Allocator>(
     termed: &mut ById<u64, A>,
-    children: &ById<Living, A>,
+    children: &ById<UnreapedChild, A>,
     table: &InForce<'_, B>,
     stage: Option<Stage>,
 )

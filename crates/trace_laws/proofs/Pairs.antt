@@ -116,8 +116,8 @@ start_among p id (Asked i Start ∷ between) past k steady less all = at_id (sam
 start_among p id (_ ∷ between) past k steady less all = start_among p id between past k steady less all
 
 -- of eleven starts of a limited entry, with no new stage and no table between, the last is at least two minutes after the first
-pub eleven : (goal : Goal) (later between past : List Event) (id : List ℕ) → is_sound goal (later ++ Asked id Start ∷ (between ++ Asked id Start ∷ past)) ≡ true → is_steady between ≡ true → STARTS ≤ count_starts id between + 1 → is_limited_id id past ≡ true → time_of past + WINDOW ≤ time_of (between ++ Asked id Start ∷ past)
-eleven goal later between past id h steady nine was = leb-true (time_of past + WINDOW) (time_of all) (start_among (λ started. nat_le (started + WINDOW) (time_of all)) id between past (STARTS - 1) steady (omega (arith, nine)) (limited_pace id all (is_limited_id id all) limited (start_paced goal later id all h)).0) where
+pub apart : (goal : Goal) (later between past : List Event) (id : List ℕ) → is_sound goal (later ++ Asked id Start ∷ (between ++ Asked id Start ∷ past)) ≡ true → is_steady between ≡ true → STARTS ≤ count_starts id between + 1 → is_limited_id id past ≡ true → time_of past + WINDOW ≤ time_of (between ++ Asked id Start ∷ past)
+apart goal later between past id h steady nine was = leb-true (time_of past + WINDOW) (time_of all) (start_among (λ started. nat_le (started + WINDOW) (time_of all)) id between past (STARTS - 1) steady (omega (arith, nine)) (limited_pace id all (is_limited_id id all) limited (start_paced goal later id all h)).0) where
   all : List Event
   all = between ++ Asked id Start ∷ past
 

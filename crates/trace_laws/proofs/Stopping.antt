@@ -107,7 +107,7 @@ asked_stop goal i Kill past may signal = due_facts goal past (step.Order i Kill)
 asked_stop goal i _ past may signal = absurd (false≢true signal)
 
 -- before the first stage no child is known
-dawn_known : {P : Type 0} (goal : Goal) (past : List Event) → is_sound goal past ≡ true → stage_of past ≡ None → (id : List ℕ) → has_child id (known_children past) ≡ true → P
+pub dawn_known : {P : Type 0} (goal : Goal) (past : List Event) → is_sound goal past ≡ true → stage_of past ≡ None → (id : List ℕ) → has_child id (known_children past) ≡ true → P
 dawn_known goal past sound dawn id there = both_ways (list_any (λ (x : Child). true) (kept_children past)) (any_less (is_of id) (λ x. true) (λ x _. refl) (kept_children past) (known_kept (is_of id) past there)) ((sound_holds goal past sound).dawn dawn)
 
 -- a Told of another id leaves the known child of an id

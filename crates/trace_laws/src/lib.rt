@@ -1,5 +1,5 @@
 //! The laws of a run of init: what holds of every sound trace, whatever the system does and whatever is asked of init.
-//! Here are their words and their lemmas; they are stated one by one in the headline, `law_agreement` of `core_state`.
+//! Here are their words and their lemmas; they are stated one by one in the headline, `law_agreement` of `core_model`.
 //!
 //! The words are those of `init_trace`, and of `specs/Moments`: at which moments of a sound trace a law holds. A trace
 //! is a list of happenings, the newest first. The laws stand for all readings of the clock, one set back among them,

@@ -1,5 +1,5 @@
 use Rattle.std.proofs.Common.{◌<◌, length, sym, ◌∙◌, ap, take, arith}
-use Rattle.core_state.specs.Steps.{is_named, with_called}
+use Rattle.core_model.specs.Steps.{is_named, with_called}
 use Rattle.level_core.proofs.Called.{entry_slot, still_slot, one_more, none_called, take_one, none_past}
 use Rattle.level_core.proofs.calling.call_named.Goals as goal
 

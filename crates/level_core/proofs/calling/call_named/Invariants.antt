@@ -1,5 +1,5 @@
 use Rattle.std.proofs.Common.{◌≡◌, take}
-use Rattle.core_state.specs.Steps.{is_named, with_called}
+use Rattle.core_model.specs.Steps.{is_named, with_called}
 use Rattle.level_core.proofs.calling.call_named.Given as goal
 
 -- the entries so far are called

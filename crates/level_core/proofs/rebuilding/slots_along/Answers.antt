@@ -1,5 +1,5 @@
 use Rattle.std.proofs.Common.{◌≡◌, ◌∙◌, ap, None, Some, slice_get}
-use Rattle.core_state.specs.Rebuilding.{slot_read}
+use Rattle.core_model.specs.Rebuilding.{slot_read}
 use Rattle.level_core.proofs.Remade.{too_few, not_whole, one_made}
 use Rattle.level_core.proofs.rebuilding.slots_along.Goals as goal
 

@@ -1,5 +1,5 @@
 use Rattle.std.proofs.Common.{◌≡◌, drop, zip}
-use Rattle.core_state.specs.Rules.{are_starts_along}
+use Rattle.core_model.specs.Rules.{are_starts_along}
 use Rattle.level_core.proofs.Ruled.{starts_from}
 use Rattle.level_core.proofs.rules.are_starts_along.Given as goal
 

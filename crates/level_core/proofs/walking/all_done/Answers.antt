@@ -1,7 +1,7 @@
 use Rattle.std.proofs.Common.{sym, ◌∙◌}
 use Rattle.init_words.specs.declared.entries.Entry.{Entry}
 use Rattle.child_table.specs.State.{SlotState}
-use Rattle.core_state.specs.Decide.{is_done_slot}
+use Rattle.core_model.specs.Decide.{is_done_slot}
 use Rattle.level_core.proofs.Pairs.{all_none, all_past, all_fault, all_pass}
 use Rattle.level_core.proofs.walking.all_done.Goals as goal
 

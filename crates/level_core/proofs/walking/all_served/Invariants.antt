@@ -2,7 +2,7 @@ use Rattle.std.proofs.Common.{◌≡◌, drop, zip}
 use Rattle.std.specs.List.{list_all}
 use Rattle.init_words.specs.declared.entries.Entry.{Entry}
 use Rattle.child_table.specs.State.{SlotState}
-use Rattle.core_state.specs.Decide.{is_served_slot}
+use Rattle.core_model.specs.Decide.{is_served_slot}
 use Rattle.level_core.proofs.walking.all_served.Given as goal
 
 -- the answer is that of what is left

@@ -1,5 +1,5 @@
 use Rattle.std.proofs.Common.{◌≡◌, drop}
-use Rattle.core_state.specs.Decide.{look_among}
+use Rattle.core_model.specs.Decide.{look_among}
 use Rattle.level_core.proofs.walking.look_among.Given as goal
 
 -- the answer is that of what is left

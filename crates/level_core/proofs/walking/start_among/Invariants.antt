@@ -1,5 +1,5 @@
 use Rattle.std.proofs.Common.{◌≡◌, drop, zip}
-use Rattle.core_state.specs.Decide.{start_along}
+use Rattle.core_model.specs.Decide.{start_along}
 use Rattle.level_core.proofs.walking.start_among.Given as goal
 
 -- the answer is that of what is left

@@ -7,4 +7,4 @@ texts names = map (λ (name : String Global). string_bytes name) names
 
 pub returns-clause-done : goal.returns-clause-done
 returns-clause-done g c = λ is.
-    reported (texts c.args.previous.now) (texts c.args.names.now) _ _ _ _ _ c.in-Ok.ensures (c.run_links-ended.ensures.whole (c.tell_end.ensures.done is))
+    reported (texts c.args.previous.now) (texts c.args.names.now) _ _ _ _ _ c.in-Ok.ensures (c.run_links-ended.ensures.whole (c.report_end.ensures.done is))

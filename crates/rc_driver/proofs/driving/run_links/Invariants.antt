@@ -1,5 +1,5 @@
 use Rattle.std.proofs.Common.{List, ℕ, Option, length}
-use Rattle.rc_driver.specs.Report.{Went}
+use Rattle.rc_driver.specs.Report.{WritesEnds}
 use Rattle.rc_driver.specs.Runs.{RcState}
 use Rattle.rc_driver.specs.declared.driving.RunEnd.{RunEnd}
 use Rattle.rc_driver.proofs.driving.run_links.Given as goal
@@ -7,8 +7,8 @@ use Rattle.rc_driver.proofs.driving.run_links.Given as goal
 -- what follows from here follows from the beginning
 abbrev pub invariant-loop-ended : goal.invariant-loop-ended
 invariant-loop-ended g l =
-    (ended : RunEnd) (new : RcState) (after : Option (List ℕ)) → Went l.rc (g.W.Write.contents l.out) ended new after
-    → Went l.fn.rc (g.W.Write.contents l.fn.out) ended new after
+    (ended : RunEnd) (new : RcState) (after : Option (List ℕ)) → WritesEnds l.rc (g.W.Write.contents l.out) ended new after
+    → WritesEnds l.fn.rc (g.W.Write.contents l.fn.out) ended new after
 
 abbrev pub decreases-loop-ended : goal.decreases-loop-ended
 decreases-loop-ended g l = length l.rc.left

@@ -1,4 +1,4 @@
-use Rattle.rc_driver.proofs.RunLemmas.{Advances-by, Went-done, Went-stops, Went-waiting}
+use Rattle.rc_driver.proofs.RunLemmas.{Advances-by, WritesEnds-done, WritesEnds-stops, WritesEnds-waiting}
 use Rattle.rc_driver.proofs.driving.run_next.Goals as goal
 
 pub returns-in-Ok-answer-clause-more : goal.returns-in-Ok-answer-clause-more
@@ -7,10 +7,10 @@ returns-in-Ok-answer-clause-more g c = λ is.
 
 pub returns-in-Err-clause-ended : goal.returns-in-Err-clause-ended
 returns-in-Err-clause-ended g c =
-    Went-stops _ _ _ _ _ (c.in-Run.link.now, c.in-Run.arg) c.in-Run.ensures.1 c.in-Run.ensures.2 c.in-Err.ensures.err
+    WritesEnds-stops _ _ _ _ _ (c.in-Run.link.now, c.in-Run.arg) c.in-Run.ensures.1 c.in-Run.ensures.2 c.in-Err.ensures.err
 
 pub returns-in-Waiting-clause-ended : goal.returns-in-Waiting-clause-ended
-returns-in-Waiting-clause-ended g c = Went-waiting _ _ _ c.in-Waiting.ensures
+returns-in-Waiting-clause-ended g c = WritesEnds-waiting _ _ _ c.in-Waiting.ensures
 
 pub returns-in-Done-clause-ended : goal.returns-in-Done-clause-ended
-returns-in-Done-clause-ended g c = Went-done _ _ _ c.in-Done.ensures
+returns-in-Done-clause-ended g c = WritesEnds-done _ _ _ c.in-Done.ensures

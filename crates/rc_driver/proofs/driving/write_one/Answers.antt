@@ -1,4 +1,4 @@
-use Rattle.program_edge.proofs.WritingLemmas.{AppendsFront-prefix}
+use Rattle.program_io.proofs.WritingLemmas.{AppendsFront-prefix}
 use Rattle.rc_driver.proofs.WritingLemmas.{after_error_too}
 use Rattle.rc_driver.proofs.driving.write_one.Goals as goal
 

@@ -1,5 +1,5 @@
 use Rattle.std.proofs.KnownBytes.{Appends-trans}
-use Rattle.program_edge.proofs.WritingLemmas.{AppendsPrefix-first, AppendsPrefix-then}
+use Rattle.program_io.proofs.WritingLemmas.{AppendsPrefix-first, AppendsPrefix-then}
 use Rattle.rc_driver.proofs.WritingLemmas.{after_error}
 use Rattle.rc_driver.proofs.driving.write_two.Goals as goal
 

@@ -1,11 +1,11 @@
 use Rattle.std.proofs.Common.{◌≡◌, ℕ, List, [], take, drop}
-use Rattle.rc_links.specs.Scripts.{double_from, is_named}
+use Rattle.rc_links.specs.Scripts.{double_from, has_script}
 use Rattle.rc_links.specs.Tables.{HasPlaces, is_known}
 use Rattle.rc_links.proofs.tables.add_scripts.Given as goal
 
 abbrev pub invariant-loop-place : goal.invariant-loop-place
 invariant-loop-place g l = record {
   places : HasPlaces (take l.place l.scripts) l.provided;
-  named : (name : List ℕ) → is_known l.names name ≡ is_named (take l.place l.scripts) name;
+  named : (name : List ℕ) → is_known l.names name ≡ has_script (take l.place l.scripts) name;
   single : double_from (take l.place l.scripts) (drop l.place l.scripts) ≡ double_from [] l.scripts;
 }

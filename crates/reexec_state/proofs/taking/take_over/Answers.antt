@@ -1,10 +1,10 @@
 use Rattle.std.proofs.Common.{◌≡◌, Err, sym, ◌∙◌, ap, subst, rules}
 use Rattle.std.specs.Result.{MatchResult}
-use Rattle.core_state.specs.Parts.{state_of}
-use Rattle.core_state.specs.Rebuilding.{core_of}
-use Rattle.core_state.proofs.Rebuilt.{core_is}
+use Rattle.core_model.specs.Parts.{state_of}
+use Rattle.core_model.specs.Rebuilding.{core_of}
+use Rattle.core_model.proofs.Rebuilt.{core_is}
 use Rattle.state_text.specs.declared.over.Over.TheVariants as over
-use Rattle.state_text.specs.Refused.{Says}
+use Rattle.state_text.specs.Refused.{IsTextOf}
 use Rattle.reexec_state.proofs.taking.take_over.Goals as goal
 
 pub returns-in_err-parts-clause-only : goal.returns-in_err-parts-clause-only
@@ -13,7 +13,7 @@ returns-in_err-parts-clause-only g c core kept says own =
     subst (λ r. MatchResult r (λ taken. taken ≡ core) (λ why. why ≡ over.Memory)) (sym is) (c.in_err-parts.ensures.only (state_of core) says own)
 
 pub returns-in-Ok-clause-taken : goal.returns-in-Ok-clause-taken
-returns-in-Ok-clause-taken g c = subst (Says c.args.text.now) (sym c.in-Ok.ensures.made.0) c.in_ok-parts.ensures.read
+returns-in-Ok-clause-taken g c = subst (IsTextOf c.args.text.now) (sym c.in-Ok.ensures.made.0) c.in_ok-parts.ensures.read
 
 pub returns-in-Ok-clause-only : goal.returns-in-Ok-clause-only
 returns-in-Ok-clause-only g c core kept says own =

@@ -1,25 +1,25 @@
 use Rattle.std.proofs.Common.{◌≡◌, ◌++◌, ◌∷◌, [], rules, subst}
 use Rattle.std.specs.List.Sorted.{IsNonDecreasing}
 use Rattle.respawn_limit.specs.State.{LimiterState}
-use Rattle.respawn_limit.specs.Window.{last_ten}
-use Rattle.respawn_limit.proofs.WindowLemmas.{length-last_ten, IsNonDecreasing-last_ten, IsNonDecreasing-push, Remembers-push}
+use Rattle.respawn_limit.specs.Window.{last_starts}
+use Rattle.respawn_limit.proofs.WindowLemmas.{length-last_starts, IsNonDecreasing-last_starts, IsNonDecreasing-push, Remembers-push}
 use Rattle.respawn_limit.proofs.PastLemmas.{StandsAfter-Noted, is_run-Noted}
 use Rattle.respawn_limit.proofs.Limiter.note.Goals as goal
 
 pub invariant_of-self : goal.invariant_of-self
 invariant_of-self c =
-    let kept : c.push.new.self.items ≡ last_ten (c.args.self.now.starts ++ c.args.now ∷ []) = search rules in
+    let kept : c.push.new.self.items ≡ last_starts (c.args.self.now.starts ++ c.args.now ∷ []) = search rules in
     let ordered : IsNonDecreasing c.args.self.now.starts =
     subst (λ (l : LimiterState). IsNonDecreasing l.starts) c.self.view_is c.self.invariant.1 in
     rw kept (
-      length-last_ten (c.args.self.now.starts ++ c.args.now ∷ []),
-      IsNonDecreasing-last_ten (c.args.self.now.starts ++ c.args.now ∷ [])
+      length-last_starts (c.args.self.now.starts ++ c.args.now ∷ []),
+      IsNonDecreasing-last_starts (c.args.self.now.starts ++ c.args.now ∷ [])
           (IsNonDecreasing-push c.args.self.now.starts c.args.now ordered c.requires.late),
     )
 
 pub returns-clause-noted : goal.returns-clause-noted
 returns-clause-noted c = λ noted known.
-    let kept : c.push.new.self.items ≡ last_ten (c.args.self.now.starts ++ c.args.now ∷ []) = search rules in
+    let kept : c.push.new.self.items ≡ last_starts (c.args.self.now.starts ++ c.args.now ∷ []) = search rules in
     rw kept (Remembers-push c.args.self.now.starts noted c.args.now known c.requires.late)
 
 pub returns-clause-past : goal.returns-clause-past

@@ -3,7 +3,7 @@ use Rattle.std.proofs.lemmas.Grind.{common_steps}
 use Rattle.text_lines.specs.Lines.{newlines}
 use Rattle.state_text.specs.declared.over.Over.TheVariants.{Cut}
 use Rattle.state_text.specs.Reading.{end_line_read, end_split}
-use Rattle.core_state.specs.Parts.{State}
+use Rattle.core_model.specs.Parts.{SavedState}
 use Rattle.state_text.specs.Refused.{Refused}
 use Rattle.state_text.proofs.Bodies.{err_kept, lost, match_kept}
 use Rattle.state_text.proofs.Taken.{body_never, body_of, body_refused, cut_refused, end_refused, only_one, other_body, says_of, split_state, whole_of}
@@ -81,7 +81,7 @@ returns-then-parts-generation-clause-only g c =
     let fits : length c.args.text.now < 2 ^ 64 = grind (arith, common_steps) in
     let at : end_split c.args.text.now ≡ Some (c.in_ok-body.body.now, c.in_ok-body.last.now) = search rules in
     let other : c.in_ok-parts.parts.heads.generation ≢ c.args.generation = search rules in
-    λ state says same. absurd (other (ap (λ (s : State). s.heads.generation) (only_one c.args.text.now c.in_ok-body.body.now c.in_ok-body.last.now c.in_ok-parts.parts state fits at c.in_ok-parts.ensures.ok says) ∙ same))
+    λ state says same. absurd (other (ap (λ (s : SavedState). s.heads.generation) (only_one c.args.text.now c.in_ok-body.body.now c.in_ok-body.last.now c.in_ok-parts.parts state fits at c.in_ok-parts.ensures.ok says) ∙ same))
 
 pub returns-then-parts-generation-clause-refused : goal.returns-then-parts-generation-clause-refused
 returns-then-parts-generation-clause-refused g c =

@@ -1,5 +1,5 @@
 use Rattle.std.proofs.Common.{◌≡◌, ◌++◌, map, drop}
-use Rattle.core_state.specs.Parts.{record_of}
+use Rattle.core_model.specs.Parts.{record_of}
 use Rattle.state_text.specs.Lines.{slot_line, text_of_lines}
 use Rattle.state_text.proofs.writing.put_slots.Given as goal
 

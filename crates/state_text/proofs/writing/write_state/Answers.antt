@@ -1,14 +1,14 @@
 use Rattle.std.proofs.Common.{◌≡◌, ◌+◌, ◌++◌, [], ◌∷◌, map, length, ap, ◌∙◌, arith}
 use Rattle.std.proofs.lemmas.List.{length-map}
 use Rattle.inittab_text.specs.Written.{fields_written}
-use Rattle.core_state.specs.Parts.{State, record_of}
+use Rattle.core_model.specs.Parts.{SavedState, record_of}
 use Rattle.state_text.specs.Lines.{body_lines, end_line, head_lines, slot_line, table_line, text_of_lines, version_line}
 use Rattle.state_text.proofs.Written.{body_length, more_lines, table_part}
 use Rattle.state_text.proofs.writing.write_state.Goals as goal
 
 pub returns : goal.returns
 returns g c =
-    let state : State = record { heads = c.args.heads.now; table = c.args.table.now; records = map record_of c.args.slots.now } in
+    let state : SavedState = record { heads = c.args.heads.now; table = c.args.table.now; records = map record_of c.args.slots.now } in
     let begun : c.put.new.text.items ≡ [] ++ text_of_lines (version_line ∷ []) = c.in_ok-put.ensures ∙ ap (λ t. t ++ text_of_lines (version_line ∷ [])) c.new-text.ensures.items in
     let body : c.put_slots.new.text.items ≡ text_of_lines (body_lines state) =
     more_lines [] _ _ (version_line ∷ (head_lines state.heads ++ (table_line (length state.table) ∷ map fields_written state.table))) (map slot_line state.records)

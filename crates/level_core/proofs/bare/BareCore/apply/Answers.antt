@@ -2,8 +2,8 @@ use Rattle.std.proofs.Common.{◌∙◌, refl}
 use Rattle.child_table.specs.Changes.{after_hold}
 use Rattle.child_table.proofs.Timely.{timely_changed}
 use Rattle.child_table.proofs.Ordered.{order_changed}
-use Rattle.core_state.specs.Steps.{is_named}
-use Rattle.core_state.proofs.Allowed.{decide_allowed}
+use Rattle.core_model.specs.Steps.{is_named}
+use Rattle.core_model.proofs.Allowed.{decide_allowed}
 use Rattle.level_core.proofs.Kept.{kept_called, held_in}
 use Rattle.level_core.proofs.Moved.{seen_called, seen_held, passed_held}
 use Rattle.level_core.proofs.bare.BareCore.apply.Goals as goal

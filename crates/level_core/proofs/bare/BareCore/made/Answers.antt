@@ -3,12 +3,12 @@ use Rattle.child_table.specs.State.{SlotState}
 use Rattle.child_table.proofs.Timely.{timely_later}
 use Rattle.respawn_limit.specs.declared.TheConstants.{CLOCK_LIMIT}
 use Rattle.init_words.specs.declared.entries.Entry.{Entry}
-use Rattle.core_state.specs.declared.parts.Heads.{Heads}
-use Rattle.core_state.specs.declared.parts.Record.{Record}
-use Rattle.core_state.specs.Parts.{state_of}
-use Rattle.core_state.specs.Rebuilding.{slots_along, are_whole, is_kept, core_with}
-use Rattle.core_state.specs.Rules.{IsFit}
-use Rattle.core_state.proofs.Rebuilt.{made_kept, made_state, unfit_whole, unfit_kept}
+use Rattle.core_model.specs.declared.parts.Heads.{Heads}
+use Rattle.core_model.specs.declared.parts.Record.{Record}
+use Rattle.core_model.specs.Parts.{state_of}
+use Rattle.core_model.specs.Rebuilding.{slots_along, are_whole, is_kept, core_with}
+use Rattle.core_model.specs.Rules.{IsFit}
+use Rattle.core_model.proofs.Rebuilt.{made_kept, made_state, unfit_whole, unfit_kept}
 use Rattle.level_core.specs.declared.rebuilding.Rebuild.TheVariants as rebuild
 use Rattle.level_core.proofs.bare.BareCore.made.Goals as goal
 

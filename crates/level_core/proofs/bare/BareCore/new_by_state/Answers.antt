@@ -4,7 +4,7 @@ use Rattle.init_words.specs.declared.levels.Level.{Level}
 use Rattle.init_words.specs.declared.levels.Level.TheVariants.{S}
 use Rattle.inittab_text.specs.Tables.{default_level_of}
 use Rattle.child_table.proofs.Ordered.{order_new}
-use Rattle.core_state.specs.State.{opening_level}
+use Rattle.core_model.specs.State.{opening_level}
 use Rattle.level_core.proofs.Kept.{timely_opening}
 use Rattle.level_core.proofs.bare.BareCore.new_by_state.Goals as goal
 

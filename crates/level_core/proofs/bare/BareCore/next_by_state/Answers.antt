@@ -1,4 +1,4 @@
-use Rattle.core_state.proofs.Working.{decide_falls}
+use Rattle.core_model.proofs.Working.{decide_falls}
 use Rattle.level_core.proofs.bare.BareCore.next_by_state.Goals as goal
 
 pub returns-clause-falls : goal.returns-clause-falls

@@ -1,5 +1,5 @@
 use Rattle.std.proofs.Common.{arith, ap, ◌∙◌}
-use Rattle.core_state.specs.State.{CoreState}
+use Rattle.core_model.specs.State.{CoreState}
 use Rattle.child_table.specs.Lists.{are_distinct, can_ask}
 use Rattle.child_table.specs.Changes.{after_order}
 use Rattle.child_table.proofs.Timely.{timely_changed, timely_order}

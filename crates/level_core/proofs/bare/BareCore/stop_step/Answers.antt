@@ -2,7 +2,7 @@ use Rattle.std.proofs.Common.{sym, ap, subst, ◌∙◌}
 use Rattle.std.specs.List.{list_any}
 use Rattle.child_table.specs.State.{SlotState}
 use Rattle.child_table.specs.Stopping.{is_due, IsFirstTermed}
-use Rattle.core_state.specs.State.{CoreState}
+use Rattle.core_model.specs.State.{CoreState}
 use Rattle.level_core.specs.Signals.{is_past}
 use Rattle.level_core.proofs.Excluded.{none_near}
 use Rattle.level_core.proofs.bare.BareCore.stop_step.Goals as goal

@@ -1,6 +1,6 @@
 use Rattle.std.proofs.Common.{◌≡◌, sym, ap, ◌∙◌, false}
-use Rattle.core_state.specs.State.{CoreState}
-use Rattle.core_state.specs.Decide as core
+use Rattle.core_model.specs.State.{CoreState}
+use Rattle.core_model.specs.Decide as core
 use Rattle.level_core.proofs.Excluded.{calm_work}
 use Rattle.level_core.proofs.bare.BareCore.work_step.Goals as goal
 

@@ -1,7 +1,7 @@
 use Rattle.std.proofs.Common.{◌∙◌, rules, ap}
 use Rattle.child_table.specs.Lists.{order_in, refusal_of}
-use Rattle.core_state.specs.State.{CoreState}
-use Rattle.core_state.proofs.Hearing.{answer_taken, fits_told}
+use Rattle.core_model.specs.State.{CoreState}
+use Rattle.core_model.proofs.Hearing.{answer_taken, fits_told}
 use Rattle.level_core.proofs.Kept.{told_kept}
 use Rattle.level_core.proofs.cores.Core.answer.Goals as goal
 

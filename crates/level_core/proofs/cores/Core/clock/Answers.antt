@@ -1,5 +1,5 @@
-use Rattle.core_state.proofs.Hearing.{fits_clock}
-use Rattle.core_state.proofs.RuledHeard.{clock_keeps}
+use Rattle.core_model.proofs.Hearing.{fits_clock}
+use Rattle.core_model.proofs.RuledHeard.{clock_keeps}
 use Rattle.level_core.proofs.cores.Core.clock.Goals as goal
 
 pub invariant_of-self : goal.invariant_of-self

@@ -1,5 +1,5 @@
-use Rattle.core_state.proofs.Hearing.{fits_got}
-use Rattle.core_state.proofs.RuledHeard.{got_keeps}
+use Rattle.core_model.proofs.Hearing.{fits_got}
+use Rattle.core_model.proofs.RuledHeard.{got_keeps}
 use Rattle.level_core.proofs.cores.Core.got.Goals as goal
 
 pub invariant_of-self : goal.invariant_of-self

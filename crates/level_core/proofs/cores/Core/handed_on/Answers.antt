@@ -1,5 +1,5 @@
-use Rattle.core_state.proofs.Hearing.{fits_handed_on}
-use Rattle.core_state.proofs.RuledHeard.{handed_on_keeps}
+use Rattle.core_model.proofs.Hearing.{fits_handed_on}
+use Rattle.core_model.proofs.RuledHeard.{handed_on_keeps}
 use Rattle.level_core.proofs.cores.Core.handed_on.Goals as goal
 
 pub invariant_of-self : goal.invariant_of-self

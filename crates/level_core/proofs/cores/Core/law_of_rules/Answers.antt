@@ -1,5 +1,5 @@
 use Rattle.std.proofs.Common.{subst}
-use Rattle.core_state.specs.Rules.{IsFit}
+use Rattle.core_model.specs.Rules.{IsFit}
 use Rattle.level_core.proofs.cores.Core.law_of_rules.Goals as goal
 
 pub returns : goal.returns

@@ -1,6 +1,6 @@
-use Rattle.core_state.specs.State.{opening_goal}
-use Rattle.core_state.proofs.Hearing.{fits_opening}
-use Rattle.core_state.proofs.RulesKept.{opening_keeps}
+use Rattle.core_model.specs.State.{opening_goal}
+use Rattle.core_model.proofs.Hearing.{fits_opening}
+use Rattle.core_model.proofs.RulesKept.{opening_keeps}
 use Rattle.level_core.proofs.cores.Core.new.Goals as goal
 
 pub invariant_of-result : goal.invariant_of-result

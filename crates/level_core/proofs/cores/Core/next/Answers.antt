@@ -1,8 +1,8 @@
 use Rattle.std.proofs.Common.{sym, ap, ◌∙◌}
-use Rattle.core_state.specs.Decide.{decide}
-use Rattle.core_state.proofs.Deciding.{decide_due}
-use Rattle.core_state.proofs.Stepping.{fits_step}
-use Rattle.core_state.proofs.RulesKept.{step_keeps}
+use Rattle.core_model.specs.Decide.{decide}
+use Rattle.core_model.proofs.Deciding.{decide_due}
+use Rattle.core_model.proofs.Stepping.{fits_step}
+use Rattle.core_model.proofs.RulesKept.{step_keeps}
 use Rattle.level_core.proofs.cores.Core.next.Goals as goal
 
 pub invariant_of-self : goal.invariant_of-self

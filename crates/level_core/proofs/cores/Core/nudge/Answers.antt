@@ -1,5 +1,5 @@
-use Rattle.core_state.proofs.Hearing.{fits_round}
-use Rattle.core_state.proofs.RuledHeard.{round_keeps}
+use Rattle.core_model.proofs.Hearing.{fits_round}
+use Rattle.core_model.proofs.RuledHeard.{round_keeps}
 use Rattle.level_core.proofs.cores.Core.nudge.Goals as goal
 
 pub invariant_of-self : goal.invariant_of-self

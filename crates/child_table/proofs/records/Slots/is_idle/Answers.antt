@@ -1,0 +1,10 @@
+use Rattle.std.proofs.Common.{ap, ◌∙◌, ◌==◌}
+use Rattle.std.specs.Option.{is_some}
+use Rattle.child_table.specs.declared.counts.Counts.{Counts}
+use Rattle.child_table.specs.State.{SlotState}
+use Rattle.child_table.specs.Counting.{counts_of}
+use Rattle.child_table.proofs.Counted.{none_counted}
+use Rattle.child_table.proofs.records.Slots.is_idle.Goals as goal
+
+pub returns : goal.returns
+returns g c = ap (λ (k : Counts). k.orders == 0) (c.self.invariant.2 ∙ ap counts_of c.self.view_is) ∙ none_counted (λ (slot : SlotState). is_some slot.order) c.args.self.now

@@ -1,0 +1,100 @@
+-- An act of the system, or a death, leaves the records what they are.
+use Rattle.std.proofs.Common.{◌≡◌, refl, sym, ◌∙◌, ap, ℕ, Bool, true, false, not, ◌&&◌, ◌||◌, cond, List, [], ◌∷◌, map, find, Option, Some, None, is_some}
+use Rattle.std.specs.List.{list_any}
+use Rattle.std.specs.Option.{option_map, option_map_or}
+use Rattle.std.proofs.lemmas.Bool.{false≢true}
+use Rattle.std.proofs.lemmas.Option.{none-some, same_Some}
+use Rattle.init_words.specs.Ids.{same_id}
+use Rattle.init_words.proofs.Same.{same_id-is}
+use Rattle.init_words.proofs.Tests.{both_ways, falsely, found_any}
+use Rattle.init_trace.specs.declared.happenings.Happening.TheVariants.{Birth, NoBirth, Death, Reaped, Still, NoLook, Hit, Miss}
+use Rattle.init_trace.specs.declared.steps.Goal.{Goal}
+use Rattle.init_trace.specs.Event.{Event}
+use Rattle.init_trace.specs.Past.{Child, is_of, has_child, kept_children, known_children}
+use Rattle.init_trace.specs.Wanted.{is_excluded}
+use Rattle.init_trace.specs.Spells.{spell_hits, is_missed}
+use Rattle.init_trace.specs.Due.{record_ids, wants_look}
+use Rattle.init_trace.specs.Sound.{is_sound}
+use Rattle.trace_laws.proofs.Orders.{known_kept}
+use Rattle.trace_laws.proofs.Births.{birth_ready}
+use Rattle.trace_laws.proofs.Spells.{is_still, spell_still, missed_still, spell_birth, missed_none}
+use Rattle.child_table.specs.Lists.{slot_of}
+use Rattle.core_model.specs.Fit.{child_known, living, known_child, stop_after, stop_known, stop_of, is_to_look, was_missed, record_of, records_of, is_act}
+
+-- the child that is found for an id has the id
+pub found_own : (id : List ℕ) (xs : List Child) (child : Child) → find (is_of id) xs ≡ Some child → child.id ≡ id
+found_own id [] child there = absurd (none-some child there)
+found_own id (x ∷ xs) child there = split (same_id id x.id) refl there (found_own id xs child) where
+  split : (b : Bool) → same_id id x.id ≡ b → cond b (Some x) (find (is_of id) xs) ≡ Some child → (find (is_of id) xs ≡ Some child → child.id ≡ id) → child.id ≡ id
+  split true same there rest = ap (λ (y : Child). y.id) (sym (same_Some x child there)) ∙ sym (same_id-is id x.id same)
+  split false differ there rest = rest there
+
+-- a record has a child exactly if the id has a known one
+pub child_some : (id : List ℕ) (past : List Event) → is_some (known_child id past) ≡ has_child id (known_children past)
+child_some id past = found_any living (is_of id) (known_children past)
+
+-- among the records of some ids, that of an id that is one of them, and none of any other
+found_if : (past : List Event) (id : List ℕ) (ids : List (List ℕ)) → slot_of id (map (record_of past) ids) ≡ cond (list_any (same_id id) ids) (Some (record_of past id)) None
+found_if past id [] = refl
+found_if past id (x ∷ ids) = split (same_id id x) refl (found_if past id ids) where
+  split : (b : Bool) → same_id id x ≡ b → slot_of id (map (record_of past) ids) ≡ cond (list_any (same_id id) ids) (Some (record_of past id)) None → cond b (Some (record_of past x)) (slot_of id (map (record_of past) ids)) ≡ cond (b || list_any (same_id id) ids) (Some (record_of past id)) None
+  split true same rest = ap (λ y. Some (record_of past y)) (sym (same_id-is id x same))
+  split false differ rest = rest
+
+pub found_record : (past : List Event) (id : List ℕ) (ids : List (List ℕ)) → list_any (same_id id) ids ≡ true → slot_of id (map (record_of past) ids) ≡ Some (record_of past id)
+found_record past id ids there = found_if past id ids ∙ ap (λ b. cond b (Some (record_of past id)) None) there
+
+pub no_record : (past : List Event) (id : List ℕ) (ids : List (List ℕ)) → list_any (same_id id) ids ≡ false → slot_of id (map (record_of past) ids) ≡ None
+no_record past id ids none = found_if past id ids ∙ ap (λ b. cond b (Some (record_of past id)) None) none
+
+-- of a child that is excluded as before, with the same Hits, the stop is as before; and likewise with the Misses
+pub stop_same : (next past : List Event) (o : Option Child) → ((child : Child) → o ≡ Some child → is_excluded next child ≡ is_excluded past child) → ((child : Child) → o ≡ Some child → spell_hits child next ≡ spell_hits child past) → stop_known next o ≡ stop_known past o
+stop_same next past None excluded hits = refl
+stop_same next past (Some child) excluded hits = λ i. cond (excluded child refl i) (Some (stop_after (hits child refl i))) None
+
+pub missed_same : (next past : List Event) (o : Option Child) → ((child : Child) → o ≡ Some child → is_missed child next ≡ is_missed child past) → option_map_or (λ child. is_missed child next) o false ≡ option_map_or (λ child. is_missed child past) o false
+missed_same next past None misses = refl
+missed_same next past (Some child) misses = misses child refl
+
+-- a happening that goes on with each spell
+stop_still : (happening : Event) (past : List Event) → is_still happening ≡ true → ((child : Child) → is_excluded (happening ∷ past) child ≡ is_excluded past child) → (id : List ℕ) → stop_known (happening ∷ past) (child_known id past) ≡ stop_of id past
+stop_still happening past still excluded id = stop_same (happening ∷ past) past (child_known id past) (λ child there. excluded child) (λ child there. spell_still child happening past still)
+
+still_missed : (happening : Event) (past : List Event) → is_still happening ≡ true → (id : List ℕ) → option_map_or (λ child. is_missed child (happening ∷ past)) (child_known id past) false ≡ was_missed id past
+still_missed happening past still id = missed_same (happening ∷ past) past (child_known id past) (λ child there. missed_still child happening past still)
+
+-- a birth is of an id with no known child
+module _ (i : List ℕ) (n : ℕ) (past : List Event) (childless : has_child i (known_children past) ≡ false) where
+  of_other : (id : List ℕ) (child : Child) → child_known id past ≡ Some child → same_id child.id i ≡ false
+  of_other id child there = falsely (same_id child.id i) false (λ same. both_ways (has_child i (known_children past)) (has same) childless) refl where
+    has : same_id child.id i ≡ true → has_child i (known_children past) ≡ true
+    has same = ap (λ x. has_child x (known_children past)) (sym (same_id-is child.id i same) ∙ found_own id (known_children past) child there) ∙ sym (child_some id past) ∙ ap (λ o. is_some (option_map living o)) there
+
+  birth_stop : (id : List ℕ) → stop_known (Birth i n ∷ past) (child_known id past) ≡ stop_of id past
+  birth_stop id = stop_same (Birth i n ∷ past) past (child_known id past) (λ child there. refl) (λ child there. spell_birth child i n past ∙ ap (λ b. cond b [] (spell_hits child past)) (of_other id child there))
+
+  birth_missed : (id : List ℕ) → option_map_or (λ child. is_missed child (Birth i n ∷ past)) (child_known id past) false ≡ was_missed id past
+  birth_missed id = missed_same (Birth i n ∷ past) past (child_known id past) (λ child there. ap (λ b. (is_excluded past child && not b) && is_missed child past) (of_other id child there) ∙ split (is_excluded past child) (is_missed child past) (missed_none child past)) where
+    split : (b c : Bool) → (b ≡ false → c ≡ false) → ((b && true) && c) ≡ c
+    split true c none = refl
+    split false c none = sym (none refl)
+
+  birth_look : (id : List ℕ) → (has_child id (known_children past) && (not (same_id id i) && wants_look id past)) ≡ is_to_look id past
+  birth_look id = split (same_id id i) refl (has_child id (known_children past)) refl where
+    split : (b : Bool) → same_id id i ≡ b → (c : Bool) → has_child id (known_children past) ≡ c → (c && (not b && wants_look id past)) ≡ (c && wants_look id past)
+    split true same true there = both_ways (has_child i (known_children past)) (ap (λ x. has_child x (known_children past)) (sym (same_id-is id i same)) ∙ there) childless
+    split true same false none = refl
+    split false differ c there = refl
+
+pub act_records : (goal : Goal) (happening : Event) (past : List Event) → is_act happening ≡ true → is_sound goal (happening ∷ past) ≡ true → records_of (happening ∷ past) ≡ records_of past
+act_records goal (Birth i n) past act sound = λ k. map (λ id. record (record_of past id) { stop = birth_stop i n past childless id k; look = birth_look i n past childless id k; missed = birth_missed i n past childless id k }) (record_ids past) where
+  childless : has_child i (known_children past) ≡ false
+  childless = falsely (has_child i (known_children past)) (has_child i (kept_children past)) (known_kept (is_of i) past) (birth_ready goal [] i n past sound).childless
+act_records goal (NoBirth i) past act sound = λ k. map (λ id. record (record_of past id) { stop = stop_still (NoBirth i) past refl (λ child. refl) id k; missed = still_missed (NoBirth i) past refl id k }) (record_ids past)
+act_records goal (Death n) past act sound = λ k. map (λ id. record (record_of past id) { stop = stop_still (Death n) past refl (λ child. refl) id k; missed = still_missed (Death n) past refl id k }) (record_ids past)
+act_records goal (Reaped i n status) past act sound = λ k. map (λ id. record (record_of past id) { stop = stop_still (Reaped i n status) past refl (λ child. refl) id k; missed = still_missed (Reaped i n status) past refl id k }) (record_ids past)
+act_records goal (Still i) past act sound = λ k. map (λ id. record (record_of past id) { stop = stop_still (Still i) past refl (λ child. refl) id k; missed = still_missed (Still i) past refl id k }) (record_ids past)
+act_records goal (NoLook i) past act sound = λ k. map (λ id. record (record_of past id) { stop = stop_still (NoLook i) past refl (λ child. refl) id k; missed = still_missed (NoLook i) past refl id k }) (record_ids past)
+act_records goal (Hit i) past act sound = λ k. map (λ id. record (record_of past id) { stop = stop_still (Hit i) past refl (λ child. refl) id k; missed = still_missed (Hit i) past refl id k }) (record_ids past)
+act_records goal (Miss i) past act sound = λ k. map (λ id. record (record_of past id) { stop = stop_still (Miss i) past refl (λ child. refl) id k; missed = still_missed (Miss i) past refl id k }) (record_ids past)
+act_records goal _ past act sound = absurd (false≢true act)

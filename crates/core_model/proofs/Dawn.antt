@@ -1,0 +1,37 @@
+-- Before the first stage no order is open in a sound trace.
+use Rattle.std.proofs.Common.{◌≡◌, refl, sym, ap, ℕ, true, not, cond, List, [], ◌∷◌, filter, Some, None}
+use Rattle.std.specs.List.{list_any}
+use Rattle.std.proofs.lemmas.Option.{none-some}
+use Rattle.init_words.specs.declared.orders.Ask.{Ask}
+use Rattle.init_words.specs.declared.orders.Ask.TheVariants.{Start, Look, Term, Kill}
+use Rattle.init_words.specs.Ids.{same_id}
+use Rattle.init_words.specs.Orders.{same_ask}
+use Rattle.init_words.proofs.Same.{same_id-self}
+use Rattle.init_words.proofs.Tests.{any_less, both_ways}
+use Rattle.init_trace.specs.declared.happenings.Happening.TheVariants.{Asked, Enter, Told}
+use Rattle.init_trace.specs.declared.steps.Step.TheVariants.{Order}
+use Rattle.init_trace.specs.declared.steps.Goal.{Goal}
+use Rattle.init_trace.specs.Event.{Event}
+use Rattle.init_trace.specs.Past.{Child, has_child, is_of, is_quiet, kept_children, known_children, open_orders, stage_of, undone_of}
+use Rattle.init_trace.specs.Sound.{is_sound, may_come}
+use Rattle.trace_laws.proofs.Dues.{MayLook, MayStop, due_facts}
+use Rattle.trace_laws.proofs.Keeps.{keeps, not_placed, sound_holds, sound_ind}
+use Rattle.trace_laws.proofs.Stopping.{dawn_known}
+
+dawn_orders : (goal : Goal) (past : List Event) → is_sound goal past ≡ true → stage_of past ≡ None → open_orders past ≡ []
+dawn_orders goal past h = sound_ind goal (λ before. stage_of before ≡ None → open_orders before ≡ []) (λ table distinct is. refl) next past h
+  where
+    signalled : {P : Type 0} (id : List ℕ) (ask : Ask) (before : List Event) → is_sound goal before ≡ true → stage_of before ≡ None → MayStop id ask before → P
+    signalled id ask before sound dawn may = dawn_known goal before sound dawn id (may.within (is_of id) may.own)
+
+    next : (happening : Event) (before : List Event) → may_come goal happening before ≡ true → is_sound goal before ≡ true → (stage_of before ≡ None → open_orders before ≡ []) → stage_of (happening ∷ before) ≡ None → open_orders (happening ∷ before) ≡ []
+    next (Enter now grace) before may sound rest dawn = absurd (none-some now (sym dawn))
+    next (Told id) before may sound rest dawn = ap (filter (λ order. not (same_id id order.id))) (rest dawn)
+    next (Asked id Start) before may sound rest dawn = not_placed id (Asked id Start ∷ before) dawn ((keeps goal (Asked id Start) before may (sound_holds goal before sound)).ready id (ap (λ b. cond b (Some Start) (undone_of id before)) (same_id-self id))).placed
+    next (Asked id Look) before may sound rest dawn = let facts : MayLook id before = due_facts goal before (Order id Look) may in dawn_known goal before sound dawn id facts.there
+    next (Asked id Term) before may sound rest dawn = signalled id Term before sound dawn (due_facts goal before (Order id Term) may)
+    next (Asked id Kill) before may sound rest dawn = signalled id Kill before sound dawn (due_facts goal before (Order id Kill) may)
+    next _ before may sound rest dawn = rest dawn
+
+pub dawn_quiet : (goal : Goal) (past : List Event) → is_sound goal past ≡ true → stage_of past ≡ None → is_quiet past ≡ true
+dawn_quiet goal past sound dawn = ap (λ orders. not (list_any (λ order. not (same_ask Look order.ask)) orders)) (dawn_orders goal past sound dawn)

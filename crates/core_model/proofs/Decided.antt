@@ -1,0 +1,166 @@
+-- What is so of each step that is decided, where it is so of each kind of step.
+use Rattle.std.proofs.Common.{◌≡◌, refl, sym, ap, ◌∙◌, ℕ, Bool, true, false, not, ◌+◌, ◌&&◌, cond, List, [], ◌∷◌, zip, Option, Some, None, is_none, is_some, nat_le}
+use Rattle.std.proofs.lemmas.Bool.{false≢true}
+use Rattle.init_words.specs.declared.entries.Entry.{Entry}
+use Rattle.init_words.specs.declared.levels.Letter.{Letter}
+use Rattle.init_words.specs.declared.levels.Level.{Level}
+use Rattle.init_words.specs.declared.stages.Stage.{Stage}
+use Rattle.init_words.specs.declared.stages.Stage.TheVariants as stage
+use Rattle.init_words.specs.declared.levels.Letter.TheVariants as letter
+use Rattle.init_words.specs.declared.orders.Ask.{Ask}
+use Rattle.init_words.specs.declared.orders.Ask.TheVariants.{Start, Look, Term, Kill}
+use Rattle.init_words.specs.declared.orders.PowerKind.{PowerKind}
+use Rattle.init_words.specs.declared.orders.PowerKind.TheVariants as power
+use Rattle.init_words.specs.Actions.{is_limited}
+use Rattle.respawn_limit.specs.Window.{is_held, may_of}
+use Rattle.init_trace.specs.declared.steps.Goal.{Goal}
+use Rattle.init_trace.specs.declared.steps.Step.{Step}
+use Rattle.init_trace.specs.declared.steps.Step.TheVariants.{Enter, Call, Power, Reread, Order, Hold, Settle, Reexec, Idle}
+use Rattle.init_trace.specs.Wishes.{in_run}
+use Rattle.child_table.specs.declared.children.Stop.{Stop}
+use Rattle.child_table.specs.declared.children.Stop.TheVariants.{Due, Termed, Killed}
+use Rattle.child_table.specs.State.{SlotState}
+use Rattle.child_table.specs.Changes.{allows}
+use Rattle.child_table.specs.Lists.{is_quiet}
+use Rattle.core_model.specs.declared.news.News.{News}
+use Rattle.core_model.specs.News.{first_news}
+use Rattle.core_model.specs.State.{CoreState}
+use Rattle.core_model.specs.Decide.{or_else, or_idle, level_step, news_step, wished_step, wish_step, stop_step, stop_among, signal_step, limited_step, start_step, start_along, start_among, stage_step, settle_step, calm_step, work_step, look_among, can_look_slot, can_start_slot, is_owed_slot, is_over_among, all_served, is_idle, has_excluded, stands, first_step, decide_in, decide}
+
+-- the kinds of step pass: an Enter with the seconds of the goal, or of the wish for a level, and a re-execution where
+-- it is wished
+pub record EachPasses (test : Step → Bool) (c : CoreState) : Type 0 where
+  pub orders : (id : List ℕ) (ask : Ask) → test (Order id ask) ≡ true
+  pub holds : (id : List ℕ) → test (Hold id) ≡ true
+  pub settles : (level : Level) → test (Settle level) ≡ true
+  pub calls : (called : Letter) → test (Call called) ≡ true
+  pub powers : (kind : PowerKind) → test (Power kind) ≡ true
+  pub reread : test Reread ≡ true
+  pub idle : test Idle ≡ true
+  pub reexec : c.reexec ≡ true → test Reexec ≡ true
+  pub goal : (now : Stage) → test (Enter now c.goal.grace) ≡ true
+  pub wish : (wish : Goal) → c.level_wish ≡ Some wish → (now : Stage) → test (Enter now wish.grace) ≡ true
+
+module _ (test : Step → Bool) (c : CoreState) (each : EachPasses test c) where
+  abbrev Pass : Option Step → Type 0
+  Pass None = Unit {0}
+  Pass (Some step) = test step ≡ true
+
+  by_cond : (b : Bool) (x y : Option Step) → (b ≡ true → Pass x) → Pass y → Pass (cond b x y)
+  by_cond true x y hx hy = hx refl
+  by_cond false x y hx hy = hy
+
+  by_else : (x y : Option Step) → Pass x → Pass y → Pass (or_else x y)
+  by_else None y hx hy = hy
+  by_else (Some step) y hx hy = hx
+
+  by_idle : (x : Option Step) → Pass x → test (or_idle x) ≡ true
+  by_idle None h = each.idle
+  by_idle (Some step) h = h
+
+  signals : (grace now : ℕ) (id : List ℕ) (stop : Option Stop) → Pass (signal_step grace now id stop)
+  signals grace now id (Some Due) = each.orders id Term
+  signals grace now id (Some (Termed time)) = by_cond (nat_le (time + grace) now) (Some (Order id Kill)) None (λ _. each.orders id Kill) tt
+  signals grace now id (Some (Killed time)) = tt
+  signals grace now id None = tt
+
+  stops : (grace now : ℕ) (slots : List SlotState) → Pass (stop_among grace now slots)
+  stops grace now [] = tt
+  stops grace now (slot ∷ slots) = by_else (stop_step grace now slot) (stop_among grace now slots)
+      (by_cond (is_some slot.child && is_none slot.order && not slot.missed) (signal_step grace now slot.id slot.stop) None (λ _. signals grace now slot.id slot.stop) tt)
+      (stops grace now slots)
+
+  limited : (now : ℕ) (e : Entry) (slot : SlotState) → Pass (limited_step now e slot)
+  limited now e slot = by_cond (is_limited e.act) (cond (is_held slot.limiter.held now) None (Some (cond (allows (may_of slot.limiter now)) (Order e.id Start) (Hold e.id)))) (Some (Order e.id Start))
+      (λ _. by_cond (is_held slot.limiter.held now) None (Some (cond (allows (may_of slot.limiter now)) (Order e.id Start) (Hold e.id))) (λ _. tt) (by (allows (may_of slot.limiter now)))) (each.orders e.id Start)
+    where
+      by : (b : Bool) → Pass (Some (cond b (Order e.id Start) (Hold e.id)))
+      by true = each.orders e.id Start
+      by false = each.holds e.id
+
+  starts : (now : Stage) (time : ℕ) (ps : List (Entry × SlotState)) → Pass (start_along now time ps)
+  starts now time [] = tt
+  starts now time (p ∷ ps) = by_else (start_step now time p.0 p.1) (cond (is_owed_slot now p.0 p.1) None (start_along now time ps))
+      (by_cond (can_start_slot now p.0 p.1) (limited_step time p.0 p.1) None (λ _. limited time p.0 p.1) tt)
+      (by_cond (is_owed_slot now p.0 p.1) None (start_along now time ps) (λ _. tt) (starts now time ps))
+
+  stages : (now : Stage) → Pass (stage_step now c.goal c.table c.slots)
+  stages stage.Sysinit = by_cond (is_over_among stage.Sysinit c.table c.slots) (Some (Enter _ c.goal.grace)) None (λ _. each.goal _) tt
+  stages stage.Boot = by_cond (is_over_among stage.Boot c.table c.slots) (Some (Enter _ c.goal.grace)) None (λ _. each.goal _) tt
+  stages (stage.Run level) = by_cond (is_over_among (stage.Run level) c.table c.slots) None None (λ _. tt) tt
+
+  settled : (now : Stage) → Pass (settle_step now c.announced c.time c.table c.slots)
+  settled stage.Sysinit = tt
+  settled stage.Boot = tt
+  settled (stage.Run level) = by_cond (not c.announced && is_idle c.slots && all_served level c.time c.table c.slots) (Some (Settle level)) None (λ _. each.settles level) tt
+
+  looks : (slots : List SlotState) → Pass (look_among slots)
+  looks [] = tt
+  looks (slot ∷ slots) = by_cond (can_look_slot slot) (Some (Order slot.id Look)) (look_among slots) (λ _. each.orders slot.id Look) (looks slots)
+
+  levels : (booted : Bool) (wish : Option Goal) → ((w : Goal) → wish ≡ Some w → (now : Stage) → test (Enter now w.grace) ≡ true) → Pass (level_step booted wish)
+  levels booted None short = tt
+  levels booted (Some wish) short = short wish refl _
+
+  news : (kept : News) → Pass (first_news kept)
+  news kept = by kept.fail kept.fail_now kept.ok kept.a kept.b kept.c
+    where
+      by : (fail fail_now ok a b c : Bool) → Pass (first_news (record { fail = fail; fail_now = fail_now; ok = ok; a = a; b = b; c = c }))
+      by true fail_now ok a b c = each.powers power.Fail
+      by false true ok a b c = each.powers power.FailNow
+      by false false true a b c = each.powers power.Ok
+      by false false false true b c = each.calls letter.A
+      by false false false false true c = each.calls letter.B
+      by false false false false false true = each.calls letter.C
+      by false false false false false false = tt
+
+  wishes : (now : Stage) → Pass (wished_step now c)
+  wishes now = by_cond c.reexec (Some Reexec) (cond c.reread (Some Reread) (or_else (level_step c.booted c.level_wish) (news_step now c))) each.reexec
+      (by_cond c.reread (Some Reread) (or_else (level_step c.booted c.level_wish) (news_step now c)) (λ _. each.reread)
+      (by_else (level_step c.booted c.level_wish) (news_step now c) (levels c.booted c.level_wish each.wish)
+      (by_cond (in_run (Some now)) (first_news c.news) None (λ _. news c.news) tt)))
+
+  calm : (now : Stage) → Pass (calm_step now c)
+  calm now = by_else (start_among now c.time c.table c.slots) (or_else (stage_step now c.goal c.table c.slots) (settle_step now c.announced c.time c.table c.slots)) (starts now c.time (zip c.table c.slots))
+      (by_else (stage_step now c.goal c.table c.slots) (settle_step now c.announced c.time c.table c.slots) (stages now) (settled now))
+
+  work : (now : Stage) → Pass (work_step now c)
+  work now = by_cond (stands now c) None (or_else (stop_among c.grace c.time c.slots) (cond (has_excluded c.slots) None (calm_step now c))) (λ _. tt)
+      (by_else (stop_among c.grace c.time c.slots) (cond (has_excluded c.slots) None (calm_step now c)) (stops c.grace c.time c.slots)
+      (by_cond (has_excluded c.slots) None (calm_step now c) (λ _. tt) (calm now)))
+
+  decided_in : (now : Option Stage) → test (decide_in now c) ≡ true
+  decided_in None = by_idle (first_step c) (by_cond (is_quiet c.slots) (Some (Enter stage.Sysinit c.goal.grace)) None (λ _. each.goal stage.Sysinit) tt)
+  decided_in (Some now) = by_idle (or_else (wish_step now c) (or_else (work_step now c) (look_among c.slots)))
+      (by_else (wish_step now c) (or_else (work_step now c) (look_among c.slots))
+      (by_cond (is_quiet c.slots) (wished_step now c) None (λ _. wishes now) tt)
+      (by_else (work_step now c) (look_among c.slots) (work now) (looks c.slots)))
+
+  pub decided : test (decide c) ≡ true
+  decided = decided_in c.stage
+
+-- init is to be executed anew only where that is wished
+abbrev is_other : Step → Bool
+is_other Reexec = false
+is_other _ = true
+
+pub reexec_wished : (c : CoreState) → decide c ≡ Reexec → c.reexec ≡ true
+reexec_wished c is = by c.reexec refl
+  where
+    others : c.reexec ≡ false → EachPasses is_other c
+    others none = record {
+      orders = λ id ask. refl;
+      holds = λ id. refl;
+      settles = λ level. refl;
+      calls = λ called. refl;
+      powers = λ kind. refl;
+      reread = refl;
+      idle = refl;
+      reexec = λ wished. absurd (false≢true (sym none ∙ wished));
+      goal = λ now. refl;
+      wish = λ wish has now. refl;
+    }
+
+    by : (b : Bool) → c.reexec ≡ b → c.reexec ≡ true
+    by true wished = wished
+    by false none = absurd (false≢true (sym (ap is_other is) ∙ decided is_other c (others none)))

@@ -1,0 +1,192 @@
+-- Under a fit the step that is decided is the first that is due.
+use Rattle.std.proofs.Common.{◌≡◌, refl, sym, ◌∙◌, ap, cond, ℕ, Bool, true, false, not, ◌&&◌, ◌||◌, List, [], ◌∷◌, ◌++◌, Option, Some, None, is_some}
+use Rattle.std.specs.List.{list_any, list_all}
+use Rattle.init_words.specs.declared.levels.Letter.TheVariants as letter
+use Rattle.init_words.specs.declared.orders.PowerKind.TheVariants as power
+use Rattle.init_words.specs.declared.stages.Stage.{Stage}
+use Rattle.init_words.specs.declared.stages.Stage.TheVariants as stage
+use Rattle.init_words.specs.Entries.{waited_of}
+use Rattle.init_words.proofs.Same.{same_level-self}
+use Rattle.init_trace.specs.declared.steps.Step.{Step}
+use Rattle.init_trace.specs.declared.steps.Step.TheVariants.{Enter, Call, Power, Reread, Settle, Reexec}
+use Rattle.init_trace.specs.declared.steps.Goal.{Goal}
+use Rattle.init_trace.specs.Event.{Event}
+use Rattle.init_trace.specs.Past.{table_of, stage_of, grace_of, time_of, has_child, is_quiet, is_idle, kept_children, known_children}
+use Rattle.init_trace.specs.Wanted.{is_wanted, is_excluded}
+use Rattle.init_trace.specs.Wishes.{is_level, in_run, goal_of, wants_reexec, wants_reread, level_wish, powers, letters, keeps_news, wish_stands, was_booted}
+use Rattle.init_trace.specs.Due as due
+use Rattle.init_trace.specs.Due.{due, first, step_if, steps_if, due_first, due_reexec, due_reread, due_level, due_news, due_stops, due_starts, due_stage, due_settle, due_looks, enter_level, power_steps, letter_steps, stops_among, starts_among, looks_among, is_announced, is_served, is_settled, record_ids}
+use Rattle.init_trace.specs.Sound.{is_sound}
+use Rattle.child_table.specs.Lists as lists
+use Rattle.core_model.specs.declared.news.News.{News}
+use Rattle.core_model.specs.News.{has_news, first_news}
+use Rattle.core_model.specs.State.{CoreState}
+use Rattle.core_model.specs.Decide as core
+use Rattle.core_model.specs.Decide.{or_else, or_idle, level_step, wish_step, stands, has_excluded, all_done, all_served, look_among, work_step, decide_in, decide}
+use Rattle.core_model.specs.Fit.{Fits, core_read, news_of, records_of}
+use Rattle.core_model.proofs.Fitted.{fit_records}
+use Rattle.core_model.proofs.Dawn.{dawn_quiet}
+use Rattle.core_model.proofs.Firsts.{head, first_by_head, head_step_if, head_steps_if}
+use Rattle.core_model.proofs.Newest.{by_first}
+use Rattle.core_model.proofs.Reading.{quiet_same, idle_same, excluded_same, kept_excluded_same}
+use Rattle.core_model.proofs.Ranks.{starts_same, all_done_same, all_served_same, looks_same}
+use Rattle.core_model.proofs.Stops.{stops_same}
+
+pub is_read : (c : CoreState) (goal : Goal) (past : List Event) → Fits c goal past → c ≡ core_read past c.goal c.generation
+is_read c goal past fits = λ i. record {
+  table = fits.table.table i;
+  slots = fit_records c goal past fits i;
+  stage = fits.now.stage i;
+  grace = fits.now.grace i;
+  goal = c.goal;
+  booted = fits.now.booted i;
+  announced = fits.now.announced i;
+  time = fits.now.time i;
+  reexec = fits.wishes.reexec i;
+  reread = fits.wishes.reread i;
+  level_wish = fits.wishes.level i;
+  news = fits.wishes.news i;
+  generation = c.generation;
+}
+
+-- the first of nine lists: of four, of four, and of one
+nine : (a b c d e f g h i : List Step) → first (a ++ b ++ c ++ d ++ e ++ f ++ g ++ h ++ i) ≡ or_idle (or_else (or_else (head a) (or_else (head b) (or_else (head c) (head d)))) (or_else (or_else (head e) (or_else (head f) (or_else (head g) (head h)))) (head i)))
+nine (x ∷ a) b c d e f g h i = refl
+nine [] (x ∷ b) c d e f g h i = refl
+nine [] [] (x ∷ c) d e f g h i = refl
+nine [] [] [] (x ∷ d) e f g h i = refl
+nine [] [] [] [] (x ∷ e) f g h i = refl
+nine [] [] [] [] [] (x ∷ f) g h i = refl
+nine [] [] [] [] [] [] (x ∷ g) h i = refl
+nine [] [] [] [] [] [] [] (x ∷ h) i = refl
+nine [] [] [] [] [] [] [] [] i = first_by_head i
+
+steps_if_nil : (b : Bool) → steps_if b [] ≡ []
+steps_if_nil true = refl
+steps_if_nil false = refl
+
+-- 2 to 5: what is wished
+wish_by : (q x r run : Bool) (level news : Option Step) → or_else (cond (q && x) (Some Reexec) None) (or_else (cond (q && r) (Some Reread) None) (or_else (cond q level None) (cond (q && run) news None)))
+    ≡ cond q (cond x (Some Reexec) (cond r (Some Reread) (or_else level (cond run news None)))) None
+wish_by false x r run level news = refl
+wish_by true true r run level news = refl
+wish_by true false true run level news = refl
+wish_by true false false run level news = refl
+
+news_heads : (past : List Event) → head (power_steps powers past ++ letter_steps letters past) ≡ first_news (news_of past)
+news_heads past = by_first (λ (n : News). head ((step_if n.fail (Power power.Fail) ++ (step_if n.fail_now (Power power.FailNow) ++ (step_if n.ok (Power power.Ok) ++ []))) ++ (step_if n.a (Call letter.A) ++ (step_if n.b (Call letter.B) ++ (step_if n.c (Call letter.C) ++ [])))) ≡ first_news n)
+    (λ n o a b c. refl) (λ o a b c. refl) (λ a b c. refl) (λ b c. refl) (λ c. refl) refl refl (news_of past)
+
+level_head : (past : List Event) (wish : Option Goal) → head (enter_level wish past) ≡ level_step (was_booted past) wish
+level_head past None = refl
+level_head past (Some wish) = refl
+
+any_news : (past : List Event) → keeps_news past ≡ has_news (news_of past)
+any_news past = by_first (λ (n : News). ((n.fail || (n.fail_now || (n.ok || false))) || (n.a || (n.b || (n.c || false)))) ≡ has_news n) (λ n o a b c. refl) (λ o a b c. refl) (λ a b c. refl) (λ b c. refl) (λ c. refl) refl refl (news_of past)
+
+-- 6 to 9: what is to be done, where no wish stands
+work_by : (w x q l i a : Bool) (stops starts next settled : List Step) (s m n t : Option Step) → head stops ≡ s → head starts ≡ m → head (steps_if (q && l) next) ≡ n → (x ≡ true → settled ≡ []) → (x ≡ false → head (steps_if (i && not a) settled) ≡ t)
+    → or_else (head (steps_if (not w) stops)) (or_else (head (steps_if (not w && not x) starts)) (or_else (head (steps_if (not w && q && not x && l) next)) (head (steps_if (not w && i && not a) settled))))
+    ≡ cond w None (or_else s (cond x None (or_else m (or_else n t))))
+work_by true x q l i a stops starts next settled s m n t hs hm hn none ht = refl
+work_by false true true l i a stops starts next settled s m n t hs hm hn none ht = rw (hs, none refl, steps_if_nil (i && not a)) refl
+work_by false true false l i a stops starts next settled s m n t hs hm hn none ht = rw (hs, none refl, steps_if_nil (i && not a)) refl
+work_by false false true l i a stops starts next settled s m n t hs hm hn none ht = rw (hs, hm, hn, ht refl) refl
+work_by false false false l i a stops starts next settled s m n t hs hm hn none ht = rw (hs, hm, ← hn, ht refl) refl
+
+over_by : (q p l k : Bool) → q ≡ p → (q ≡ true → l ≡ k) → (q && l) ≡ (p && k)
+over_by true p l k same more = rw (← same) (more refl)
+over_by false p l k same more = rw (← same) refl
+
+next_head : (now : Stage) (goal : Goal) → head (due.next_stage goal (Some now)) ≡ core.enter_step (core.next_stage now goal.level) goal.grace
+next_head stage.Sysinit goal = refl
+next_head stage.Boot goal = refl
+next_head (stage.Run level) goal = refl
+
+module _ (goal : Goal) (past : List Event) (sound : is_sound goal past ≡ true)
+    (g : Goal) (n : ℕ) (same_goal : in_run (stage_of past) ≡ false → g ≡ goal_of goal past) where
+  module _ (now : Stage) (in_stage : stage_of past ≡ Some now) where
+    wish_same : or_else (head (due_reexec past)) (or_else (head (due_reread past)) (or_else (head (due_level past)) (head (due_news past)))) ≡ wish_step now (core_read past g n)
+    wish_same = (λ i. or_else (head_step_if (is_quiet past && wants_reexec past) Reexec i) (or_else (head_step_if (is_quiet past && wants_reread past) Reread i)
+        (or_else (head_steps_if (is_quiet past) (enter_level (level_wish past) past) i) (head_steps_if (is_quiet past && in_run (stage_of past)) (power_steps powers past ++ letter_steps letters past) i))))
+        ∙ wish_by (is_quiet past) (wants_reexec past) (wants_reread past) (in_run (stage_of past)) (head (enter_level (level_wish past) past)) (head (power_steps powers past ++ letter_steps letters past))
+        ∙ (λ i. cond (quiet_same goal past sound i) (cond (wants_reexec past) (Some Reexec) (cond (wants_reread past) (Some Reread) (or_else (level_head past (level_wish past) i) (cond (in_run (in_stage i)) (news_heads past i) None)))) None)
+
+    stands_same : wish_stands past ≡ stands now (core_read past g n)
+    stands_same = λ i. wants_reexec past || wants_reread past || is_some (level_wish past) || in_run (in_stage i) && any_news past i
+
+    stage_same : head (steps_if (is_quiet past && list_all (λ e. not (is_wanted e past) && not (waited_of e && has_child e.id (kept_children past))) (table_of past)) (due.next_stage (goal_of goal past) (stage_of past))) ≡ core.stage_step now g (table_of past) (records_of past)
+    stage_same = head_steps_if (is_quiet past && list_all (λ e. not (is_wanted e past) && not (waited_of e && has_child e.id (kept_children past))) (table_of past)) (due.next_stage (goal_of goal past) (stage_of past))
+        ∙ (λ i. cond (over i) (head (due.next_stage (goal_of goal past) (in_stage i))) None)
+        ∙ ap (λ o. cond (core.is_over_among now (table_of past) (records_of past)) o None) (next_head now (goal_of goal past) ∙ to_goal now in_stage)
+      where
+        over : (is_quiet past && list_all (λ e. not (is_wanted e past) && not (waited_of e && has_child e.id (kept_children past))) (table_of past)) ≡ core.is_over_among now (table_of past) (records_of past)
+        over = over_by (is_quiet past) (lists.is_quiet (records_of past)) (list_all (λ e. not (is_wanted e past) && not (waited_of e && has_child e.id (kept_children past))) (table_of past)) (all_done now (table_of past) (records_of past)) (quiet_same goal past sound) (all_done_same goal past sound now in_stage)
+
+        to_goal : (now : Stage) → stage_of past ≡ Some now → core.enter_step (core.next_stage now (goal_of goal past).level) (goal_of goal past).grace ≡ core.enter_step (core.next_stage now g.level) g.grace
+        to_goal stage.Sysinit is = ap (λ (x : Goal). core.enter_step (core.next_stage stage.Sysinit x.level) x.grace) (sym (same_goal (ap in_run is)))
+        to_goal stage.Boot is = ap (λ (x : Goal). core.enter_step (core.next_stage stage.Boot x.level) x.grace) (sym (same_goal (ap in_run is)))
+        to_goal (stage.Run level) is = refl
+
+  -- a level is settled by no excluded child
+  settle_none : (now : Stage) → stage_of past ≡ Some now → has_excluded (records_of past) ≡ true → due.settle_step (stage_of past) past ≡ []
+  settle_none stage.Sysinit is excluded = rw is refl
+  settle_none stage.Boot is excluded = rw is refl
+  settle_none (stage.Run level) is excluded = ap (λ o. due.settle_step o past) is ∙ ap (λ b. step_if b (Settle level)) (by (is_level level (stage_of past)) (list_any (is_excluded past) (known_children past)) (list_all (is_served level (known_children past) past) (table_of past)) (excluded_same goal past sound ∙ excluded))
+    where
+      by : (l x s : Bool) → x ≡ true → (l && not x && s) ≡ false
+      by true x s h = rw h refl
+      by false x s h = refl
+
+  settle_same : (now : Stage) → stage_of past ≡ Some now → has_excluded (records_of past) ≡ false → head (steps_if (is_idle past && not (is_announced past)) (due.settle_step (stage_of past) past)) ≡ core.settle_step now (is_announced past) (time_of past) (table_of past) (records_of past)
+  settle_same stage.Sysinit is none = ap (λ o. head (steps_if (is_idle past && not (is_announced past)) (due.settle_step o past))) is ∙ ap head (steps_if_nil (is_idle past && not (is_announced past)))
+  settle_same stage.Boot is none = ap (λ o. head (steps_if (is_idle past && not (is_announced past)) (due.settle_step o past))) is ∙ ap head (steps_if_nil (is_idle past && not (is_announced past)))
+  settle_same (stage.Run level) is none = ap (λ o. head (steps_if (is_idle past && not (is_announced past)) (due.settle_step o past))) is
+      ∙ (λ i. head (steps_if (idle_same goal past sound i && not (is_announced past)) (step_if (settled i) (Settle level))))
+      ∙ by (core.is_idle (records_of past)) (is_announced past) (all_served level (time_of past) (table_of past) (records_of past))
+    where
+      by : (i a s : Bool) → head (steps_if (i && not a) (step_if s (Settle level))) ≡ cond (not a && i && s) (Some (Settle level)) None
+      by true true s = refl
+      by true false true = refl
+      by true false false = refl
+      by false true s = refl
+      by false false s = refl
+
+      here : (l x s k : Bool) → l ≡ true → x ≡ false → s ≡ k → (l && not x && s) ≡ k
+      here l x s k hl hx hs = rw (hl, hx) hs
+
+      settled : is_settled level (known_children past) past ≡ all_served level (time_of past) (table_of past) (records_of past)
+      settled = here (is_level level (stage_of past)) (list_any (is_excluded past) (known_children past)) (list_all (is_served level (known_children past) past) (table_of past)) (all_served level (time_of past) (table_of past) (records_of past))
+          (ap (is_level level) is ∙ same_level-self level) (excluded_same goal past sound ∙ none) (all_served_same goal past sound level is)
+
+  module _ (now : Stage) (in_stage : stage_of past ≡ Some now) where
+    work_same : or_else (head (due_stops past)) (or_else (head (due_starts past)) (or_else (head (due_stage goal past)) (head (due_settle past)))) ≡ work_step now (core_read past g n)
+    work_same = (λ i. or_else (head (steps_if (not (wish_stands past)) (stops_among (record_ids past) past))) (or_else (head (steps_if (not (wish_stands past) && not (kept_excluded_same goal past sound i)) (starts_among (table_of past) past)))
+        (or_else (head (steps_if (not (wish_stands past) && is_quiet past && not (kept_excluded_same goal past sound i) && list_all (λ e. not (is_wanted e past) && not (waited_of e && has_child e.id (kept_children past))) (table_of past)) (due.next_stage (goal_of goal past) (stage_of past)))) (head (due_settle past)))))
+        ∙ work_by (wish_stands past) (has_excluded (records_of past)) (is_quiet past) (list_all (λ e. not (is_wanted e past) && not (waited_of e && has_child e.id (kept_children past))) (table_of past)) (is_idle past) (is_announced past)
+        (stops_among (record_ids past) past) (starts_among (table_of past) past) (due.next_stage (goal_of goal past) (stage_of past)) (due.settle_step (stage_of past) past)
+        (core.stop_among (grace_of past) (time_of past) (records_of past)) (core.start_among now (time_of past) (table_of past) (records_of past)) (core.stage_step now g (table_of past) (records_of past)) (core.settle_step now (is_announced past) (time_of past) (table_of past) (records_of past))
+        (stops_same goal past sound) (starts_same goal past sound now in_stage) (stage_same now in_stage) (settle_none now in_stage) (settle_same now in_stage)
+        ∙ ap (λ b. cond b None (or_else (core.stop_among (grace_of past) (time_of past) (records_of past)) (cond (has_excluded (records_of past)) None (core.calm_step now (core_read past g n))))) (stands_same now in_stage)
+
+    first_some : first (due goal past) ≡ decide_in (Some now) (core_read past g n)
+    first_some = ap (λ steps. first (steps ++ due_reexec past ++ due_reread past ++ due_level past ++ due_news past ++ due_stops past ++ due_starts past ++ due_stage goal past ++ due_settle past ++ due_looks past)) (ap (λ o. due_first goal o past) in_stage)
+        ∙ nine (due_reexec past) (due_reread past) (due_level past) (due_news past) (due_stops past) (due_starts past) (due_stage goal past) (due_settle past) (due_looks past)
+        ∙ (λ i. or_idle (or_else (wish_same now in_stage i) (or_else (work_same i) (looks_same past i))))
+
+  -- before the first stage no order is open
+  first_none : stage_of past ≡ None → first (due goal past) ≡ decide_in None (core_read past g n)
+  first_none is = ap (λ o. first (due_first goal o past ++ due_reexec past ++ due_reread past ++ due_level past ++ due_news past ++ due_stops past ++ due_starts past ++ due_stage goal past ++ due_settle past ++ due_looks past)) is
+      ∙ ap (λ (x : Goal). Enter stage.Sysinit x.grace) (sym (same_goal (ap in_run is)))
+      ∙ ap (λ b. or_idle (cond b (Some (Enter stage.Sysinit g.grace)) None)) (sym (sym (quiet_same goal past sound) ∙ dawn_quiet goal past sound is))
+
+  pub read_due : decide (core_read past g n) ≡ first (due goal past)
+  read_due = at (stage_of past) refl
+    where
+      at : (o : Option Stage) → stage_of past ≡ o → decide_in (stage_of past) (core_read past g n) ≡ first (due goal past)
+      at None is = ap (λ o. decide_in o (core_read past g n)) is ∙ sym (first_none is)
+      at (Some now) is = ap (λ o. decide_in o (core_read past g n)) is ∙ sym (first_some now is)
+
+-- under a fit, the step that is decided is the first that is due
+pub decide_due : (goal : Goal) (past : List Event) → is_sound goal past ≡ true → (c : CoreState) → Fits c goal past → decide c ≡ first (due goal past)
+decide_due goal past sound c fits = ap decide (is_read c goal past fits) ∙ read_due goal past sound c.goal c.generation fits.now.goal

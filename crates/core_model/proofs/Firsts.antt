@@ -1,0 +1,34 @@
+-- The first of a list of steps, part by part.
+use Rattle.std.proofs.Common.{Bool, true, false, ◌≡◌, List, [], ◌∷◌, ◌++◌, Option, Some, None, refl, cond}
+use Rattle.init_trace.specs.declared.steps.Step.{Step}
+use Rattle.init_trace.specs.Due.{first, step_if, steps_if}
+use Rattle.core_model.specs.Decide.{or_else, or_idle}
+
+-- the first step, where there is one
+abbrev pub head : List Step → Option Step
+head [] = None
+head (step ∷ steps) = Some step
+
+pub first_by_head : (steps : List Step) → first steps ≡ or_idle (head steps)
+first_by_head [] = refl
+first_by_head (step ∷ steps) = refl
+
+pub head_append : (xs ys : List Step) → head (xs ++ ys) ≡ or_else (head xs) (head ys)
+head_append [] ys = refl
+head_append (x ∷ xs) ys = refl
+
+pub head_step_if : (b : Bool) (step : Step) → head (step_if b step) ≡ cond b (Some step) None
+head_step_if true step = refl
+head_step_if false step = refl
+
+pub head_steps_if : (b : Bool) (steps : List Step) → head (steps_if b steps) ≡ cond b (head steps) None
+head_steps_if true steps = refl
+head_steps_if false steps = refl
+
+pub or_else_assoc : (a b c : Option Step) → or_else (or_else a b) c ≡ or_else a (or_else b c)
+or_else_assoc None b c = refl
+or_else_assoc (Some step) b c = refl
+
+-- of ten parts of which the first six are empty
+pub six_empty : (a b c d e f g h i j : List Step) → a ≡ [] → b ≡ [] → c ≡ [] → d ≡ [] → e ≡ [] → f ≡ [] → (a ++ b ++ c ++ d ++ e ++ f ++ g ++ h ++ i ++ j) ≡ (g ++ h ++ i ++ j)
+six_empty a b c d e f g h i j ha hb hc hd he hf = rw (ha, hb, hc, hd, he, hf) refl

@@ -1,0 +1,204 @@
+-- The records after an order, a hold, a round and a call are those of the past with it.
+use Rattle.std.proofs.Common.{◌≡◌, refl, sym, ◌∙◌, ap, subst, ℕ, Bool, true, false, not, ◌&&◌, ◌||◌, cond, List, [], ◌∷◌, map, reverse, Option, Some, None, is_some}
+use Rattle.std.specs.List.{list_any}
+use Rattle.std.specs.Option.{option_map_or}
+use Rattle.std.proofs.lemmas.Bool.{and_parts, or_parts, not-true}
+use Rattle.std.proofs.lemmas.Option.{none-some}
+use Rattle.std.proofs.lemmas.Grind.{reverse_onto}
+use Rattle.init_words.specs.declared.entries.Entry.{Entry}
+use Rattle.init_words.specs.declared.levels.Letter.{Letter}
+use Rattle.init_words.specs.declared.orders.Ask.TheVariants.{Start, Look, Term, Kill}
+use Rattle.init_words.specs.declared.orders.PowerKind.{PowerKind}
+use Rattle.init_words.specs.Ids.{same_id}
+use Rattle.init_words.specs.Actions.{is_limited}
+use Rattle.init_words.proofs.Same.{same_id-is, same_id-self, same_id-sym}
+use Rattle.init_words.proofs.Tests.{and_false, or_false, found_any}
+use Rattle.inittab_text.specs.Tables.{has_id, entry_of, is_distinct}
+use Rattle.respawn_limit.specs.Window.{with_start}
+use Rattle.respawn_limit.proofs.WindowLemmas.{drop_last_push}
+use Rattle.init_trace.specs.declared.steps.Step.TheVariants as step
+use Rattle.init_trace.specs.declared.happenings.Happening.TheVariants.{Asked, Hold, Power, Call, Nudge}
+use Rattle.init_trace.specs.Event.{Event}
+use Rattle.init_trace.specs.Past.{Child, is_of, has_child, table_of, stage_of, time_of, known_children}
+use Rattle.init_trace.specs.Wanted.{is_called, is_excluded}
+use Rattle.init_trace.specs.Spells.{is_missed, spell_hits}
+use Rattle.init_trace.specs.Timing.{start_times, hold_times}
+use Rattle.init_trace.specs.Due.{record_ids, wants_look}
+use Rattle.trace_laws.proofs.Spells.{is_still, spell_still, missed_still, spell_nudge}
+use Rattle.child_table.specs.State.{SlotState}
+use Rattle.child_table.specs.Changes.{after_order, after_hold, after_nudge}
+use Rattle.child_table.specs.Lists.{changed, with_changed}
+use Rattle.core_model.specs.Steps.{is_named, called_if, with_called}
+use Rattle.core_model.specs.Fit.{child_known, known_child, living, stop_known, stop_after, limiter_by, last_hold_end, record_of, records_of}
+
+-- two lists made along the same ids, alike at each
+pub records_same : (f g : List ℕ → SlotState) (change : SlotState → SlotState) → ((id : List ℕ) → change (f id) ≡ g id) → (ids : List (List ℕ)) → map change (map f ids) ≡ map g ids
+records_same f g change same [] = refl
+records_same f g change same (id ∷ ids) = rw (same id, records_same f g change same ids) refl
+
+-- the records where one id's is changed: that one as changed, each other as it was
+pub one_changed : (id : List ℕ) (change : SlotState → SlotState) (f g : List ℕ → SlotState) → ((i : List ℕ) → (f i).id ≡ i) → ((i : List ℕ) → same_id id i ≡ true → change (f i) ≡ g i) → ((i : List ℕ) → same_id id i ≡ false → f i ≡ g i) → (i : List ℕ) → changed id change (f i) ≡ g i
+one_changed id change f g own here other i = ap (λ x. cond (same_id id x) (change (f i)) (f i)) (own i) ∙ at (same_id id i) refl
+  where
+    at : (b : Bool) → same_id id i ≡ b → cond b (change (f i)) (f i) ≡ g i
+    at true is = here i is
+    at false is = other i is
+
+-- a still happening leaves the stops and the missed signals as they are
+pub stop_still : (happening : Event) (past : List Event) (o : Option Child) → is_still happening ≡ true → ((child : Child) → is_excluded (happening ∷ past) child ≡ is_excluded past child) → stop_known (happening ∷ past) o ≡ stop_known past o
+stop_still happening past None still same = refl
+stop_still happening past (Some child) still same = ap (λ b. cond b (Some (stop_after (spell_hits child (happening ∷ past)))) None) (same child) ∙ ap (λ hits. cond (is_excluded past child) (Some (stop_after hits)) None) (spell_still child happening past still)
+
+pub missed_known : (happening : Event) (past : List Event) (o : Option Child) → is_still happening ≡ true → option_map_or (λ child. is_missed child (happening ∷ past)) o false ≡ option_map_or (λ child. is_missed child past) o false
+missed_known happening past None still = refl
+missed_known happening past (Some child) still = missed_still child happening past still
+
+-- the entry of an id has the id
+pub entry_has : (id : List ℕ) (es : List Entry) (e : Entry) → entry_of id es ≡ Some e → same_id id e.id ≡ true
+entry_has id [] e is = absurd (none-some e is)
+entry_has id (x ∷ es) e is = at (same_id id x.id) refl (entry_has id es e) is
+  where
+    at : (b : Bool) → same_id id x.id ≡ b → (entry_of id es ≡ Some e → same_id id e.id ≡ true) → cond b (Some x) (entry_of id es) ≡ Some e → same_id id e.id ≡ true
+    at true same rest is = let one : x ≡ e = cc in subst (λ (y : Entry). same_id id y.id ≡ true) one same
+    at false differ rest is = rest is
+
+-- what holds of the entry of an id, by a rule that depends on its id
+by_entry : {X : Type 0} (f g : Entry → X) (x : X) (id : List ℕ) (table : List Entry) → ((e : Entry) → entry_of id table ≡ Some e → f e ≡ g e) → option_map_or f (entry_of id table) x ≡ option_map_or g (entry_of id table) x
+by_entry {X} f g x id table same = at (entry_of id table) refl
+  where
+    at : (o : Option Entry) → entry_of id table ≡ o → option_map_or f o x ≡ option_map_or g o x
+    at None is = refl
+    at (Some e) is = same e is
+
+-- a look, a TERM and a KILL were ordered
+module _ (id : List ℕ) (past : List Event) (now : ℕ) where
+  pub look_ordered : with_changed id (after_order Look now) (records_of past) ≡ records_of (Asked id Look ∷ past)
+  look_ordered = records_same (record_of past) (record_of (Asked id Look ∷ past)) (changed id (after_order Look now)) (one_changed id (after_order Look now) (record_of past) (record_of (Asked id Look ∷ past)) (λ i. refl)
+      (λ i is. rw (same_id-sym i id, is, stop_still (Asked id Look) past (child_known i past) refl (λ c. refl), missed_known (Asked id Look) past (child_known i past) refl, and_false (has_child i (known_children past))) refl)
+      (λ i is. rw (same_id-sym i id, is, stop_still (Asked id Look) past (child_known i past) refl (λ c. refl), missed_known (Asked id Look) past (child_known i past) refl) refl)) (record_ids past)
+
+  pub term_ordered : with_changed id (after_order Term now) (records_of past) ≡ records_of (Asked id Term ∷ past)
+  term_ordered = records_same (record_of past) (record_of (Asked id Term ∷ past)) (changed id (after_order Term now)) (one_changed id (after_order Term now) (record_of past) (record_of (Asked id Term ∷ past)) (λ i. refl)
+      (λ i is. rw (same_id-sym i id, is, stop_still (Asked id Term) past (child_known i past) refl (λ c. refl), missed_known (Asked id Term) past (child_known i past) refl) refl)
+      (λ i is. rw (same_id-sym i id, is, stop_still (Asked id Term) past (child_known i past) refl (λ c. refl), missed_known (Asked id Term) past (child_known i past) refl) refl)) (record_ids past)
+
+  pub kill_ordered : with_changed id (after_order Kill now) (records_of past) ≡ records_of (Asked id Kill ∷ past)
+  kill_ordered = records_same (record_of past) (record_of (Asked id Kill ∷ past)) (changed id (after_order Kill now)) (one_changed id (after_order Kill now) (record_of past) (record_of (Asked id Kill ∷ past)) (λ i. refl)
+      (λ i is. rw (same_id-sym i id, is, stop_still (Asked id Kill) past (child_known i past) refl (λ c. refl), missed_known (Asked id Kill) past (child_known i past) refl) refl)
+      (λ i is. rw (same_id-sym i id, is, stop_still (Asked id Kill) past (child_known i past) refl (λ c. refl), missed_known (Asked id Kill) past (child_known i past) refl) refl)) (record_ids past)
+
+-- the limiter of a limited entry after a start of it, and after a hold
+start_limiter : (starts holds : List ℕ) (now : ℕ) → with_start (limiter_by true starts holds) now ≡ limiter_by true (now ∷ starts) holds
+start_limiter starts holds now = rw (reverse_onto starts now []) (ap (λ noted. record { starts = noted; held = last_hold_end holds }) (drop_last_push 10 (reverse starts) now))
+
+-- a start was ordered of an id of the table
+module _ (id : List ℕ) (past : List Event) (e : Entry) (own : entry_of id (table_of past) ≡ Some e) where
+  start_own : after_order Start (time_of past) (record_of past id) ≡ record_of (Asked id Start ∷ past) id
+  start_own = at (is_limited e.act) refl
+    where
+      same : same_id e.id id ≡ true
+      same = same_id-sym e.id id ∙ entry_has id (table_of past) e own
+
+      at : (b : Bool) → is_limited e.act ≡ b → after_order Start (time_of past) (record_of past id) ≡ record_of (Asked id Start ∷ past) id
+      at true is = rw (own, same, same_id-self id, is, stop_still (Asked id Start) past (child_known id past) refl (λ c. refl), missed_known (Asked id Start) past (child_known id past) refl, start_limiter (start_times e.id past) (hold_times e.id past) (time_of past)) refl
+      at false is = rw (own, same, same_id-self id, is, stop_still (Asked id Start) past (child_known id past) refl (λ c. refl), missed_known (Asked id Start) past (child_known id past) refl) refl
+
+  start_other : (i : List ℕ) → same_id id i ≡ false → record_of past i ≡ record_of (Asked id Start ∷ past) i
+  start_other i differ = at (entry_of i (table_of past)) refl
+    where
+      apart : same_id i id ≡ false
+      apart = same_id-sym i id ∙ differ
+
+      at : (o : Option Entry) → entry_of i (table_of past) ≡ o → record_of past i ≡ record_of (Asked id Start ∷ past) i
+      at None is = rw (is, apart, stop_still (Asked id Start) past (child_known i past) refl (λ c. refl), missed_known (Asked id Start) past (child_known i past) refl) refl
+      at (Some x) is =
+          let other : same_id x.id id ≡ false = ap (λ y. same_id y id) (sym (same_id-is i x.id (entry_has i (table_of past) x is))) ∙ apart in
+          rw (is, apart, other, stop_still (Asked id Start) past (child_known i past) refl (λ c. refl), missed_known (Asked id Start) past (child_known i past) refl) refl
+
+  pub start_ordered : with_changed id (after_order Start (time_of past)) (records_of past) ≡ records_of (Asked id Start ∷ past)
+  start_ordered = records_same (record_of past) (record_of (Asked id Start ∷ past)) (changed id (after_order Start (time_of past))) (one_changed id (after_order Start (time_of past)) (record_of past) (record_of (Asked id Start ∷ past)) (λ i. refl)
+      (λ i is. subst (λ x. after_order Start (time_of past) (record_of past x) ≡ record_of (Asked id Start ∷ past) x) (same_id-is id i is) start_own)
+      start_other) (record_ids past)
+
+  -- an entry that the limit holds for was held
+  module _ (limited : is_limited e.act ≡ true) where
+    hold_own : after_hold (time_of past) (record_of past id) ≡ record_of (Hold id ∷ past) id
+    hold_own =
+        let same : same_id e.id id ≡ true = same_id-sym e.id id ∙ entry_has id (table_of past) e own in
+        rw (own, same, limited, stop_still (Hold id) past (child_known id past) refl (λ c. refl), missed_known (Hold id) past (child_known id past) refl) refl
+
+    hold_other : (i : List ℕ) → same_id id i ≡ false → record_of past i ≡ record_of (Hold id ∷ past) i
+    hold_other i differ = at (entry_of i (table_of past)) refl
+      where
+        at : (o : Option Entry) → entry_of i (table_of past) ≡ o → record_of past i ≡ record_of (Hold id ∷ past) i
+        at None is = rw (is, stop_still (Hold id) past (child_known i past) refl (λ c. refl), missed_known (Hold id) past (child_known i past) refl) refl
+        at (Some x) is =
+            let other : same_id x.id id ≡ false = ap (λ y. same_id y id) (sym (same_id-is i x.id (entry_has i (table_of past) x is))) ∙ same_id-sym i id ∙ differ in
+            rw (is, other, stop_still (Hold id) past (child_known i past) refl (λ c. refl), missed_known (Hold id) past (child_known i past) refl) refl
+
+    pub hold_made : with_changed id (after_hold (time_of past)) (records_of past) ≡ records_of (Hold id ∷ past)
+    hold_made = records_same (record_of past) (record_of (Hold id ∷ past)) (changed id (after_hold (time_of past))) (one_changed id (after_hold (time_of past)) (record_of past) (record_of (Hold id ∷ past)) (λ i. refl)
+        (λ i is. subst (λ x. after_hold (time_of past) (record_of past x) ≡ record_of (Hold id ∷ past) x) (same_id-is id i is) hold_own)
+        hold_other) (record_ids past)
+
+-- a round began
+pub nudged : (past : List Event) → map after_nudge (records_of past) ≡ records_of (Nudge ∷ past)
+nudged past = records_same (record_of past) (record_of (Nudge ∷ past)) after_nudge one (record_ids past)
+  where
+    by : (c w : Bool) → (c || c && w) ≡ (c && c)
+    by true w = refl
+    by false w = refl
+
+    stops : (o : Option Child) → stop_known (Nudge ∷ past) o ≡ stop_known past o
+    stops None = refl
+    stops (Some child) = rw (spell_nudge child past) refl
+
+    missed : (o : Option Child) → option_map_or (λ child. is_missed child (Nudge ∷ past)) o false ≡ false
+    missed None = refl
+    missed (Some child) = refl
+
+    there : (id : List ℕ) → is_some (known_child id past) ≡ has_child id (known_children past)
+    there id = found_any living (is_of id) (known_children past)
+
+    one : (id : List ℕ) → after_nudge (record_of past id) ≡ record_of (Nudge ∷ past) id
+    one id = rw (there id, by (has_child id (known_children past)) (wants_look id past), stops (child_known id past), missed (child_known id past)) refl
+
+none_named : (p : Entry → Bool) (id : List ℕ) (es : List Entry) → list_any (has_id id) es ≡ false → list_any (λ e. has_id id e && p e) es ≡ false
+none_named p id [] h = refl
+none_named p id (x ∷ xs) h = let two = or_parts (same_id id x.id) (list_any (has_id id) xs) h in rw (two.0, none_named p id xs two.1) refl
+
+-- of a table that has no id twice, an entry of the id passes a test where the id's entry does
+pub named_own : (p : Entry → Bool) (id : List ℕ) (table : List Entry) → is_distinct table ≡ true → list_any (λ e. has_id id e && p e) table ≡ option_map_or p (entry_of id table) false
+named_own p id [] distinct = refl
+named_own p id (e ∷ es) distinct = at (same_id id e.id) refl (named_own p id es parts.1)
+  where
+    parts : (not (list_any (has_id e.id) es) ≡ true) × (is_distinct es ≡ true)
+    parts = and_parts (not (list_any (has_id e.id) es)) (is_distinct es) distinct
+
+    at : (b : Bool) → same_id id e.id ≡ b → list_any (λ e. has_id id e && p e) es ≡ option_map_or p (entry_of id es) false → (b && p e || list_any (λ e. has_id id e && p e) es) ≡ option_map_or p (cond b (Some e) (entry_of id es)) false
+    at true same rest = rw (none_named p id es (ap (λ x. list_any (has_id x) es) (same_id-is id e.id same) ∙ not-true (list_any (has_id e.id) es) parts.0)) (or_false (p e))
+    at false differ rest = rest
+
+-- the entries that news of the power, or a letter, names were called
+called_same : (o : Option Entry) (named before after : Entry → Bool) → ((e : Entry) → after e ≡ (named e || before e)) → (slot : SlotState) → slot.called ≡ option_map_or before o false → called_if (option_map_or named o false) slot ≡ record slot { called = option_map_or after o false }
+called_same None named before after same slot is = rw (← is) refl
+called_same (Some e) named before after same slot is = rw (same e) (at (named e))
+  where
+    at : (b : Bool) → called_if b slot ≡ record slot { called = b || before e }
+    at true = refl
+    at false = rw (← is) refl
+
+module _ (past : List Event) (distinct : is_distinct (table_of past) ≡ true) where
+  pub power_called : (kind : PowerKind) → with_called (is_named (step.Power kind) (stage_of past)) (table_of past) (records_of past) ≡ records_of (Power kind ∷ past)
+  power_called kind = records_same (record_of past) (record_of (Power kind ∷ past)) (λ (slot : SlotState). called_if (list_any (λ e. has_id slot.id e && is_named (step.Power kind) (stage_of past) e) (table_of past)) slot) one (record_ids past)
+    where
+      one : (id : List ℕ) → called_if (list_any (λ e. has_id id e && is_named (step.Power kind) (stage_of past) e) (table_of past)) (record_of past id) ≡ record_of (Power kind ∷ past) id
+      one id = rw (named_own (is_named (step.Power kind) (stage_of past)) id (table_of past) distinct, stop_still (Power kind) past (child_known id past) refl (λ c. refl), missed_known (Power kind) past (child_known id past) refl)
+          (called_same (entry_of id (table_of past)) (is_named (step.Power kind) (stage_of past)) (λ e. is_called e past) (λ e. is_called e (Power kind ∷ past)) (λ e. refl) (record_of past id) refl)
+
+  pub letter_called : (letter : Letter) → with_called (is_named (step.Call letter) (stage_of past)) (table_of past) (records_of past) ≡ records_of (Call letter ∷ past)
+  letter_called letter = records_same (record_of past) (record_of (Call letter ∷ past)) (λ (slot : SlotState). called_if (list_any (λ e. has_id slot.id e && is_named (step.Call letter) (stage_of past) e) (table_of past)) slot) one (record_ids past)
+    where
+      one : (id : List ℕ) → called_if (list_any (λ e. has_id id e && is_named (step.Call letter) (stage_of past) e) (table_of past)) (record_of past id) ≡ record_of (Call letter ∷ past) id
+      one id = rw (named_own (is_named (step.Call letter) (stage_of past)) id (table_of past) distinct, stop_still (Call letter) past (child_known id past) refl (λ c. refl), missed_known (Call letter) past (child_known id past) refl)
+          (called_same (entry_of id (table_of past)) (is_named (step.Call letter) (stage_of past)) (λ e. is_called e past) (λ e. is_called e (Call letter ∷ past)) (λ e. refl) (record_of past id) refl)

@@ -1,0 +1,179 @@
+-- What the records say of ids and entries is what the past says of them.
+use Rattle.std.proofs.Common.{◌≡◌, ◌≤◌, refl, sym, ◌∙◌, ap, cond, arith, ℕ, ◌+◌, Bool, true, false, not, ◌&&◌, ◌||◌, List, [], ◌∷◌, ◌++◌, map, zip, filter, find, length, Option, Some, None, is_some, is_none}
+use Rattle.std.specs.List.{list_any, list_all}
+use Rattle.std.specs.Option.{option_map_or}
+use Rattle.std.proofs.lemmas.Bool.{false≢true, and_parts, and_from, or_parts, not-true}
+use Rattle.init_words.specs.declared.entries.Entry.{Entry}
+use Rattle.init_words.specs.declared.orders.Ask.{Ask}
+use Rattle.init_words.specs.declared.orders.Ask.TheVariants.{Look}
+use Rattle.init_words.specs.Ids.{same_id}
+use Rattle.init_words.specs.Orders.{same_ask}
+use Rattle.init_words.proofs.Same.{same_id-is, same_id-self, same_id-sym}
+use Rattle.init_words.proofs.Tests.{same_tests, passing, any_less, any_same, any_filter}
+use Rattle.inittab_text.specs.Tables.{ids_of, has_id, entry_of, is_distinct}
+use Rattle.init_trace.specs.declared.steps.Goal.{Goal}
+use Rattle.init_trace.specs.Event.{Event}
+use Rattle.init_trace.specs.Past.{table_of, Child, is_of, has_child, open_of, open_orders, is_quiet, is_idle, kept_children, known_children}
+use Rattle.init_trace.specs.Wanted.{is_asked, is_called, is_excluded}
+use Rattle.init_trace.specs.Spells.{spell_hits}
+use Rattle.init_trace.specs.Due.{left_ids, record_ids}
+use Rattle.init_trace.specs.Sound.{is_sound}
+use Rattle.trace_laws.proofs.Keeps.{sound_holds}
+use Rattle.trace_laws.proofs.Orders.{open_listed}
+use Rattle.trace_laws.proofs.Known.{excluded_known, known_single}
+use Rattle.trace_laws.proofs.Records.{open_in_records, child_in_records}
+use Rattle.child_table.specs.State.{SlotState}
+use Rattle.child_table.specs.Lists.{is_busy}
+use Rattle.child_table.specs.Lists as lists
+use Rattle.core_model.specs.Decide as core
+use Rattle.core_model.specs.Decide.{or_else, signal_step, stop_step, stop_among, has_excluded, is_wanted_slot, is_owed_slot, limited_step, can_start_slot, start_step, start_along, is_done_slot, all_done, is_served_slot, all_served, look_among}
+use Rattle.core_model.specs.Fit.{known_child, stop_after, stop_known, stop_of, asked_of, called_of, limiter_of, limits_of, record_of, records_of}
+use Rattle.core_model.proofs.Acts.{child_some}
+
+-- a fact of each entry
+abbrev pub Each : (Entry → Type 0) → List Entry → Type 0
+Each P [] = Unit {0}
+Each P (e ∷ es) = P e × Each P es
+
+-- each entry of a table that has no id twice is the one that its id has
+abbrev pub IsOwn : List Entry → Entry → Type 0
+IsOwn table e = entry_of e.id table ≡ Some e
+
+none_has : (id : List ℕ) (es : List Entry) → list_any (has_id id) es ≡ false → Each (λ x. same_id x.id id ≡ false) es
+none_has id [] h = tt
+none_has id (x ∷ es) h =
+    let parts = or_parts (same_id id x.id) (list_any (has_id id) es) h in
+    (same_id-sym x.id id ∙ parts.0, none_has id es parts.1)
+
+own_behind : (e : Entry) (es xs : List Entry) → Each (λ x. same_id x.id e.id ≡ false) xs → Each (IsOwn es) xs → Each (IsOwn (e ∷ es)) xs
+own_behind e es [] apart own = tt
+own_behind e es (x ∷ xs) apart own = (rw apart.0 own.0, own_behind e es xs apart.1 own.1)
+
+pub each_own : (es : List Entry) → is_distinct es ≡ true → Each (IsOwn es) es
+each_own [] h = tt
+each_own (e ∷ es) h =
+    let parts = and_parts (not (list_any (has_id e.id) es)) (is_distinct es) h in
+    (rw (same_id-self e.id) refl, own_behind e es es (none_has e.id es (not-true (list_any (has_id e.id) es) parts.0)) (each_own es parts.1))
+
+-- the table's entries have the first records
+pub table_front : (f : List ℕ → SlotState) (es : List Entry) (rest : List (List ℕ)) → zip es (map f (ids_of es ++ rest)) ≡ zip es (map (λ (e : Entry). f e.id) es)
+table_front f [] rest = refl
+table_front f (e ∷ es) rest = ap (λ ps. (e, f e.id) ∷ ps) (table_front f es rest)
+
+pub table_pairs : (past : List Event) → zip (table_of past) (records_of past) ≡ zip (table_of past) (map (λ (e : Entry). record_of past e.id) (table_of past))
+table_pairs past = table_front (record_of past) (table_of past) (filter (λ id. has_child id (known_children past)) (left_ids past))
+
+-- a test of the entries and their records is one of the entries
+pub pairs_all : (f : Entry → SlotState) (P : Entry → Type 0) (q : Entry → Bool) (p : Entry × SlotState → Bool) → ((e : Entry) → P e → q e ≡ p (e, f e)) → (es : List Entry) → Each P es → list_all q es ≡ list_all p (zip es (map f es))
+pairs_all f P q p same [] each = refl
+pairs_all f P q p same (e ∷ es) each = rw (same e each.0, pairs_all f P q p same es each.1) refl
+
+pub any_map : {X Y : Type 0} (f : X → Y) (p : Y → Bool) (xs : List X) → list_any p (map f xs) ≡ list_any (λ x. p (f x)) xs
+any_map f p [] = refl
+any_map f p (x ∷ xs) = ap (λ b. p (f x) || b) (any_map f p xs)
+
+-- where at most one passes, some passes another test exactly if the one that is found does
+pub none_left : {X : Type 0} (xs : List X) → 1 + length xs ≤ 1 → xs ≡ []
+none_left [] h = refl
+none_left (x ∷ xs) h = absurd (omega arith)
+
+pub any_found : {X : Type 0} (p q : X → Bool) (xs : List X) → length (filter p xs) ≤ 1 → list_any (λ x. p x && q x) xs ≡ option_map_or q (find p xs) false
+any_found p q [] one = refl
+any_found {X} p q (x ∷ xs) one = at (p x) one (any_found p q xs)
+  where
+    last : (b r : Bool) → r ≡ false → (b || r) ≡ b
+    last true r h = refl
+    last false r h = h
+
+    at : (b : Bool) → length (cond b (x ∷ filter p xs) (filter p xs)) ≤ 1 → (length (filter p xs) ≤ 1 → list_any (λ y. p y && q y) xs ≡ option_map_or q (find p xs) false) → (b && q x || list_any (λ y. p y && q y) xs) ≡ option_map_or q (cond b (Some x) (find p xs)) false
+    at true one later = last (q x) (list_any (λ y. p y && q y) xs) (sym (any_filter q p xs) ∙ ap (list_any q) (none_left (filter p xs) (omega (arith, one))))
+    at false one later = later one
+
+none_by_some : {X : Type 0} (o : Option X) → is_none o ≡ not (is_some o)
+none_by_some None = refl
+none_by_some (Some x) = refl
+
+pub child_none : (id : List ℕ) (past : List Event) → is_none (known_child id past) ≡ not (has_child id (known_children past))
+child_none id past = none_by_some (known_child id past) ∙ ap not (child_some id past)
+
+-- an entry of the table in force
+module _ (past : List Event) (e : Entry) (own : entry_of e.id (table_of past) ≡ Some e) where
+  pub asked_own : asked_of e.id past ≡ is_asked e.id past
+  asked_own = rw own refl
+
+  pub called_own : called_of e.id past ≡ is_called e past
+  called_own = rw own refl
+
+  pub limits_own : limits_of e.id past ≡ limiter_of e past
+  limits_own = rw own refl
+
+module _ (goal : Goal) (past : List Event) (sound : is_sound goal past ≡ true) where
+  pub table_own : Each (IsOwn (table_of past)) (table_of past)
+  table_own = each_own (table_of past) (sound_holds goal past sound).distinct
+
+  -- at which points which orders are open
+  orders_same : (p : Ask → Bool) → list_any (λ order. p order.ask) (open_orders past) ≡ list_any (λ id. option_map_or p (open_of id past) false) (record_ids past)
+  orders_same p = same_tests (list_any (λ order. p order.ask) (open_orders past)) (list_any (λ id. option_map_or p (open_of id past) false) (record_ids past)) there back
+    where
+      placed : (id : List ℕ) (o : Option Ask) → open_of id past ≡ o → option_map_or p o false ≡ true → list_any (λ id. option_map_or p (open_of id past) false) (record_ids past) ≡ true
+      placed id None is passes = absurd (false≢true passes)
+      placed id (Some ask) is passes =
+          let found = passing (same_id id) (record_ids past) (open_in_records goal past sound id ask is) in
+          found.within (λ id. option_map_or p (open_of id past) false) (ap (λ i. option_map_or p (open_of i past) false) (sym (same_id-is id found.item found.passes)) ∙ ap (λ o. option_map_or p o false) is ∙ passes)
+
+      there : list_any (λ order. p order.ask) (open_orders past) ≡ true → list_any (λ id. option_map_or p (open_of id past) false) (record_ids past) ≡ true
+      there h =
+          let found = passing (λ order. p order.ask) (open_orders past) h in
+          let id : List ℕ = found.item.id in
+          placed id (open_of id past) refl (sym (open_listed p id past) ∙ found.within (λ order. same_id id order.id && p order.ask) (and_from (same_id id id) (p found.item.ask) (same_id-self id) found.passes))
+
+      back : list_any (λ id. option_map_or p (open_of id past) false) (record_ids past) ≡ true → list_any (λ order. p order.ask) (open_orders past) ≡ true
+      back h =
+          let found = passing (λ id. option_map_or p (open_of id past) false) (record_ids past) h in
+          any_less (λ order. same_id found.item order.id && p order.ask) (λ order. p order.ask) (λ order both. (and_parts (same_id found.item order.id) (p order.ask) both).1) (open_orders past) (open_listed p found.item past ∙ found.passes)
+
+  pub quiet_same : is_quiet past ≡ lists.is_quiet (records_of past)
+  quiet_same = ap not (orders_same (λ ask. not (same_ask Look ask)) ∙ any_same (λ id. option_map_or (λ ask. not (same_ask Look ask)) (open_of id past) false) (λ id. is_busy (open_of id past)) (λ id. busy (open_of id past)) (record_ids past)
+      ∙ sym (any_map (record_of past) (λ (slot : SlotState). is_busy slot.order) (record_ids past)))
+    where
+      busy : (o : Option Ask) → option_map_or (λ ask. not (same_ask Look ask)) o false ≡ is_busy o
+      busy None = refl
+      busy (Some ask) = refl
+
+  pub idle_same : is_idle past ≡ core.is_idle (records_of past)
+  idle_same = ap not (orders_same (λ ask. true) ∙ any_same (λ id. option_map_or (λ ask. true) (open_of id past) false) (λ id. is_some (open_of id past)) (λ id. given (open_of id past)) (record_ids past)
+      ∙ sym (any_map (record_of past) (λ (slot : SlotState). is_some slot.order) (record_ids past)))
+    where
+      given : (o : Option Ask) → option_map_or (λ ask. true) o false ≡ is_some o
+      given None = refl
+      given (Some ask) = refl
+
+  -- a known child is excluded exactly where the stop of its id's record has begun
+  stop_begun : (id : List ℕ) → list_any (λ child. is_of id child && is_excluded past child) (known_children past) ≡ is_some (stop_of id past)
+  stop_begun id = any_found (is_of id) (is_excluded past) (known_children past) (known_single goal past sound id) ∙ at (find (is_of id) (known_children past))
+    where
+      begun : (b : Bool) (child : Child) → b ≡ is_some (cond b (Some (stop_after (spell_hits child past))) None)
+      begun true child = refl
+      begun false child = refl
+
+      at : (o : Option Child) → option_map_or (is_excluded past) o false ≡ is_some (stop_known past o)
+      at None = refl
+      at (Some child) = begun (is_excluded past child) child
+
+  pub excluded_same : list_any (is_excluded past) (known_children past) ≡ has_excluded (records_of past)
+  excluded_same = same_tests (list_any (is_excluded past) (known_children past)) (list_any (λ id. is_some (stop_of id past)) (record_ids past)) there back ∙ sym (any_map (record_of past) (λ (slot : SlotState). is_some slot.stop) (record_ids past))
+    where
+      there : list_any (is_excluded past) (known_children past) ≡ true → list_any (λ id. is_some (stop_of id past)) (record_ids past) ≡ true
+      there h =
+          let found = passing (is_excluded past) (known_children past) h in
+          let id : List ℕ = found.item.id in
+          let placed = passing (same_id id) (record_ids past) (child_in_records goal past sound id (found.within (is_of id) (same_id-self id))) in
+          placed.within (λ id. is_some (stop_of id past)) (ap (λ i. is_some (stop_of i past)) (sym (same_id-is id placed.item placed.passes)) ∙ sym (stop_begun id) ∙ found.within (λ child. is_of id child && is_excluded past child) (and_from (same_id id id) (is_excluded past found.item) (same_id-self id) found.passes))
+
+      back : list_any (λ id. is_some (stop_of id past)) (record_ids past) ≡ true → list_any (is_excluded past) (known_children past) ≡ true
+      back h =
+          let found = passing (λ id. is_some (stop_of id past)) (record_ids past) h in
+          any_less (λ child. is_of found.item child && is_excluded past child) (is_excluded past) (λ child both. (and_parts (is_of found.item child) (is_excluded past child) both).1) (known_children past) (stop_begun found.item ∙ found.passes)
+
+  pub kept_excluded_same : list_any (is_excluded past) (kept_children past) ≡ has_excluded (records_of past)
+  kept_excluded_same = excluded_known goal past sound ∙ excluded_same

@@ -1,0 +1,83 @@
+-- The unreaped children are the records, corrected by the answers under way.
+use Rattle.std.proofs.Common.{◌≡◌, ◌≤◌, refl, sym, ◌∙◌, ap, ℕ, Bool, true, false, not, ◌&&◌, ◌||◌, ◌==◌, List, [], ◌∷◌, length, filter, find, Option, Some, None, is_some}
+use Rattle.std.specs.List.{list_any}
+use Rattle.std.specs.Option.{option_map, option_map_or}
+use Rattle.std.proofs.lemmas.Bool.{false≢true, and_right, eqb-true, eq-eqb}
+use Rattle.init_words.specs.Ids.{same_id}
+use Rattle.init_words.proofs.Same.{same_id-is}
+use Rattle.init_words.proofs.Tests.{same_tests}
+use Rattle.init_trace.specs.declared.steps.Goal.{Goal}
+use Rattle.init_trace.specs.Event.{Event}
+use Rattle.init_trace.specs.Past.{Child, is_of, is_child, unreaped_children, known_children}
+use Rattle.init_trace.specs.Agreement.{has_untold_birth, has_untold_end, is_unreaped, is_known}
+use Rattle.init_trace.specs.Due.{record_ids}
+use Rattle.init_trace.specs.Sound.{is_sound}
+use Rattle.trace_laws.proofs.Agreement.{agrees_at}
+use Rattle.trace_laws.proofs.Births.{one_child}
+use Rattle.trace_laws.proofs.Known.{known_single}
+use Rattle.trace_laws.proofs.Records.{child_in_records}
+use Rattle.child_table.specs.State.{SlotState}
+use Rattle.child_table.specs.Lists.{is_slot_of, is_numbered}
+use Rattle.core_model.specs.State.{CoreState}
+use Rattle.core_model.specs.Fit.{Fits, child_known, known_child, living, record_of}
+use Rattle.core_model.specs.Headline.{has_record, is_recorded}
+use Rattle.core_model.proofs.Fitted.{fit_records}
+use Rattle.core_model.proofs.Acts.{child_some}
+use Rattle.core_model.proofs.Reading.{any_map, any_found}
+
+-- a test of one id among several
+one_id : (id : List ℕ) (p : List ℕ → Bool) (ids : List (List ℕ)) → list_any (λ i. same_id id i && p i) ids ≡ (list_any (same_id id) ids && p id)
+one_id id p [] = refl
+one_id id p (i ∷ ids) = at (same_id id i) refl (one_id id p ids)
+  where
+    here : (a b : Bool) → a ≡ b → (a || b) ≡ b
+    here true b same = same
+    here false b same = refl
+
+    all : (x y : Bool) → (x || y && x) ≡ x
+    all true y = refl
+    all false true = refl
+    all false false = refl
+
+    at : (b : Bool) → same_id id i ≡ b → list_any (λ i. same_id id i && p i) ids ≡ (list_any (same_id id) ids && p id) → (b && p i || list_any (λ i. same_id id i && p i) ids) ≡ ((b || list_any (same_id id) ids) && p id)
+    at true is rest = ap (λ x. p i || x) rest ∙ ap (λ x. p x || list_any (same_id id) ids && p id) (sym (same_id-is id i is)) ∙ all (p id) (list_any (same_id id) ids)
+    at false is rest = rest
+
+eq_flip : (m n : ℕ) → (m == n) ≡ (n == m)
+eq_flip m n = same_tests (m == n) (n == m) (λ h. eq-eqb n m (sym (eqb-true m n h))) (λ h. eq-eqb m n (sym (eqb-true n m h)))
+
+numbered_known : (n : ℕ) (o : Option Child) → is_numbered n (option_map living o) ≡ option_map_or (λ (child : Child). n == child.number) o false
+numbered_known n None = refl
+numbered_known n (Some child) = eq_flip child.number n
+
+numbered_some : (n : ℕ) (o : Option Child) → is_numbered n (option_map living o) ≡ true → is_some (option_map living o) ≡ true
+numbered_some n None h = absurd (false≢true h)
+numbered_some n (Some child) h = refl
+
+module _ (goal : Goal) (past : List Event) (c : CoreState) (sound : is_sound goal past ≡ true) (fits : Fits c goal past) where
+  -- a record has a child where it is known
+  recorded_known : (id : List ℕ) (n : ℕ) → has_record id n c ≡ is_known id n past
+  recorded_known id n = ap (list_any (λ (slot : SlotState). is_slot_of id slot && is_numbered n slot.child)) (fit_records c goal past fits)
+      ∙ any_map (record_of past) (λ (slot : SlotState). is_slot_of id slot && is_numbered n slot.child) (record_ids past)
+      ∙ one_id id (λ i. is_numbered n (known_child i past)) (record_ids past)
+      ∙ listed (is_numbered n (known_child id past)) refl
+      ∙ numbered_known n (child_known id past)
+      ∙ sym (any_found (is_of id) (λ (child : Child). n == child.number) (known_children past) (known_single goal past sound id))
+    where
+      listed : (b : Bool) → is_numbered n (known_child id past) ≡ b → (list_any (same_id id) (record_ids past) && is_numbered n (known_child id past)) ≡ is_numbered n (known_child id past)
+      listed true is = ap (λ b. b && is_numbered n (known_child id past)) (child_in_records goal past sound id (sym (child_some id past) ∙ numbered_some n (child_known id past) is))
+      listed false is = ap (λ b. list_any (same_id id) (record_ids past) && b) is ∙ and_right (list_any (same_id id) (record_ids past)) false refl ∙ sym is
+
+  pub unreaped_recorded : (id : List ℕ) (n : ℕ) → is_unreaped id n past ≡ is_recorded id n c past
+  unreaped_recorded id n = agrees_at goal [] past id n sound ∙ ap (λ b. b && not (has_untold_end id n past) || has_untold_birth id n past) (sym (recorded_known id n))
+
+  -- no id has two
+  single_number : (id : List ℕ) (m n : ℕ) (xs : List Child) → length (filter (is_of id) xs) ≤ 1 → list_any (is_child id m) xs ≡ true → list_any (is_child id n) xs ≡ true → m ≡ n
+  single_number id m n xs one has_m has_n = by (find (is_of id) xs) (sym (any_found (is_of id) (λ (child : Child). m == child.number) xs one) ∙ has_m) (sym (any_found (is_of id) (λ (child : Child). n == child.number) xs one) ∙ has_n)
+    where
+      by : (o : Option Child) → option_map_or (λ (child : Child). m == child.number) o false ≡ true → option_map_or (λ (child : Child). n == child.number) o false ≡ true → m ≡ n
+      by None h k = absurd (false≢true h)
+      by (Some child) h k = eqb-true m child.number h ∙ sym (eqb-true n child.number k)
+
+  pub one_recorded : (id : List ℕ) (m n : ℕ) → is_recorded id m c past ≡ true → is_recorded id n c past ≡ true → m ≡ n
+  one_recorded id m n has_m has_n = single_number id m n (unreaped_children past) (one_child goal past sound id) (unreaped_recorded id m ∙ has_m) (unreaped_recorded id n ∙ has_n)

@@ -1,0 +1,102 @@
+-- A request, a reading of the clock and a round leave a core that keeps the rules.
+use Rattle.std.proofs.Common.{◌≡◌, ◌≤◌, refl, sym, ap, ◌∙◌, Bool, true, false, not, ◌||◌, cond, ℕ, max, min, Option, Some, None, is_some, arith}
+use Rattle.respawn_limit.specs.declared.TheConstants.{CLOCK_LIMIT}
+use Rattle.init_words.specs.declared.entries.Entry.{Entry}
+use Rattle.init_words.specs.declared.levels.Level.{Level}
+use Rattle.init_words.specs.declared.stages.Stage.{Stage}
+use Rattle.init_words.specs.declared.stages.Stage.TheVariants as stage
+use Rattle.init_words.specs.Levels.{same_level}
+use Rattle.initctl_frame.specs.declared.requests.Got.{Got}
+use Rattle.initctl_frame.specs.declared.requests.Got.TheVariants as got
+use Rattle.init_trace.specs.declared.steps.Goal.{Goal}
+use Rattle.child_table.specs.State.{SlotState}
+use Rattle.child_table.specs.Changes.{after_nudge}
+use Rattle.child_table.proofs.Ordered.{order_map}
+use Rattle.child_table.proofs.Timely.{timely_map, timely_later}
+use Rattle.core_model.specs.Rules.{is_started, is_other_level, is_goal_reached, IsFit}
+use Rattle.core_model.specs.State.{CoreState}
+use Rattle.core_model.specs.Steps.{after_clock, after_round, heard_in, after_got, after_not_read, after_handed, after_handed_on}
+use Rattle.core_model.proofs.Each.{each_always, each_less, each_map, distinct_map}
+use Rattle.core_model.proofs.Ruled.{all_kept, heads_kept, kept_by}
+use Rattle.core_model.proofs.RuledLimits.{limiter_later}
+use Rattle.core_model.proofs.RuledStarts.{IsLess, starts_less, free_less}
+use Rattle.core_model.proofs.RuledRecord.{IsRuled, stop_same, allowed_same, marks_parts, marks_from}
+
+module _ (c : CoreState) (keeps : IsFit c) where
+  -- a level that was asked for: the goal before the run levels, and a wish for another in one
+  goal_heard : (wish : Goal) → is_goal_reached c.stage wish c.booted ≡ is_goal_reached c.stage c.goal c.booted → IsFit (record c { goal = wish; reread = true })
+  goal_heard wish same = kept_by (record c { goal = wish; reread = true }) (all_kept c keeps) (record { clock = keeps.clock; wish = keeps.wish; announced = keeps.announced; reached = same ∙ keeps.reached })
+
+  wish_heard : (now : Level) (wish : Goal) → c.stage ≡ Some (stage.Run now) → (b : Bool) → same_level wish.level now ≡ b → IsFit (cond b (record c { level_wish = None }) (record c { level_wish = Some wish; reread = true }))
+  wish_heard now wish is true same = kept_by (record c { level_wish = None }) (all_kept c keeps) (record { clock = keeps.clock; wish = refl; announced = keeps.announced; reached = keeps.reached })
+  wish_heard now wish is false other = kept_by (record c { level_wish = Some wish; reread = true }) (all_kept c keeps) (record { clock = keeps.clock; wish = ap (λ o. is_other_level o (Some wish)) is ∙ ap not other; announced = keeps.announced; reached = keeps.reached })
+
+  level_heard : (wish : Goal) (o : Option Stage) → c.stage ≡ o → IsFit (heard_in o wish c)
+  level_heard wish None is = goal_heard wish (ap (λ o. is_goal_reached o wish c.booted) is ∙ sym (ap (λ o. is_goal_reached o c.goal c.booted) is))
+  level_heard wish (Some stage.Sysinit) is = goal_heard wish (ap (λ o. is_goal_reached o wish c.booted) is ∙ sym (ap (λ o. is_goal_reached o c.goal c.booted) is))
+  level_heard wish (Some stage.Boot) is = goal_heard wish (ap (λ o. is_goal_reached o wish c.booted) is ∙ sym (ap (λ o. is_goal_reached o c.goal c.booted) is))
+  level_heard wish (Some (stage.Run now)) is = wish_heard now wish is (same_level wish.level now) refl
+
+  pub got_keeps : (request : Got) → IsFit (after_got request c)
+  got_keeps (got.Level level grace) = level_heard (record { level = level; grace = grace }) c.stage refl
+  got_keeps (got.Call letter) = kept_by (after_got (got.Call letter) c) (all_kept c keeps) (heads_kept c keeps)
+  got_keeps got.Reload = kept_by (after_got got.Reload c) (all_kept c keeps) (heads_kept c keeps)
+  got_keeps got.Reexec = kept_by (after_got got.Reexec c) (all_kept c keeps) (heads_kept c keeps)
+  got_keeps (got.Power kind) = kept_by (after_got (got.Power kind) c) (all_kept c keeps) (heads_kept c keeps)
+  got_keeps (got.Nothing cause) = keeps
+
+  -- an inittab that could not be read, and a hand-over
+  pub not_read_keeps : IsFit (after_not_read c)
+  not_read_keeps = kept_by (after_not_read c) (all_kept c keeps) (heads_kept c keeps)
+
+  pub handed_keeps : IsFit (after_handed c)
+  handed_keeps = kept_by (after_handed c) (all_kept c keeps) (heads_kept c keeps)
+
+  pub handed_on_keeps : IsFit (after_handed_on c)
+  handed_on_keeps = kept_by (after_handed_on c) (all_kept c keeps) (heads_kept c keeps)
+
+  -- a reading of the clock
+  later_ruled : (later : ℕ) → c.time ≤ later → (slot : SlotState) → IsRuled c.stage c.table c.time slot → IsRuled c.stage c.table later slot
+  later_ruled later more slot own = record { cause = own.cause; birth = own.birth; order = own.order; stop = own.stop; marks = own.marks; limiter = limiter_later c.time later more slot own.limiter }
+
+  pub clock_keeps : (reading : ℕ) → IsFit (after_clock reading c)
+  clock_keeps reading =
+      let ruled = all_kept c keeps in
+      let limit : c.time ≤ CLOCK_LIMIT = keeps.clock in
+      let more : c.time ≤ max (min reading CLOCK_LIMIT) c.time = omega arith in
+      let capped : max (min reading CLOCK_LIMIT) c.time ≤ CLOCK_LIMIT = omega arith in
+      kept_by (after_clock reading c) (record {
+        each = each_less (IsRuled c.stage c.table c.time) (IsRuled c.stage c.table (max (min reading CLOCK_LIMIT) c.time)) (later_ruled (max (min reading CLOCK_LIMIT) c.time) more) c.slots ruled.each;
+        in_order = keeps.in_order;
+        distinct = keeps.distinct;
+        starts = keeps.starts;
+        free = keeps.free;
+        timely = timely_later c.time (max (min reading CLOCK_LIMIT) c.time) more c.slots keeps.timely;
+      }) (record { clock = capped; wish = keeps.wish; announced = keeps.announced; reached = keeps.reached })
+
+  -- a round
+  round_ruled : (slot : SlotState) → IsRuled c.stage c.table c.time slot → IsRuled c.stage c.table c.time (after_nudge slot)
+  round_ruled slot own =
+      let marked = marks_parts slot own.marks in
+      record {
+        cause = own.cause;
+        birth = own.birth;
+        order = allowed_same slot.order slot (after_nudge slot) refl refl refl own.order;
+        stop = stop_same slot.child c.stage c.table slot (after_nudge slot) slot.stop refl own.stop;
+        marks = marks_from (after_nudge slot) (record { look = looked (is_some slot.child) slot.look marked.look; missed = refl; called = marked.called });
+        limiter = own.limiter;
+      }
+    where
+      looked : (there look : Bool) → (not look || there) ≡ true → (not (there || look) || there) ≡ true
+      looked true look h = refl
+      looked false look h = h
+
+  pub round_keeps : IsFit (after_round c)
+  round_keeps = kept_by (after_round c) (record {
+    each = each_map (IsRuled c.stage c.table c.time) (IsRuled c.stage c.table c.time) after_nudge round_ruled c.slots (all_kept c keeps).each;
+    in_order = order_map after_nudge (λ s. refl) (λ s. refl) c.table c.slots keeps.in_order;
+    distinct = distinct_map after_nudge (λ s. refl) c.slots keeps.distinct;
+    starts = starts_less c.stage after_nudge c.table c.slots (each_always (λ s. is_started (after_nudge s) ≡ true → is_started s ≡ true) (λ s h. h) c.slots) (λ now. each_always (λ s. (e : Entry) → IsLess now e s (after_nudge s)) (λ s e. record { allowed = λ h. h; started = λ h. h; owed = λ h. h }) c.slots) keeps.starts;
+    free = free_less after_nudge c.slots (each_always (λ s. is_started (after_nudge s) ≡ true → is_started s ≡ true) (λ s h. h) c.slots) (each_always (λ s. is_some (after_nudge s).stop ≡ true → is_some s.stop ≡ true) (λ s h. h) c.slots) keeps.free;
+    timely = timely_map c.time after_nudge (λ s h. h) c.slots keeps.timely;
+  }) (heads_kept c keeps)

@@ -1,0 +1,172 @@
+-- The records that are made at a quiet point keep the rules: those of an opening, of a stage, of a table and of a call.
+use Rattle.std.proofs.Common.{◌≡◌, refl, sym, ap, ◌∙◌, subst, Bool, true, false, not, ◌&&◌, ◌||◌, ℕ, List, [], ◌∷◌, map, filter, Option, Some, None}
+use Rattle.std.specs.List.{list_any}
+use Rattle.std.specs.Option.{option_map, option_map_or}
+use Rattle.std.proofs.lemmas.Bool.{false≢true, and_parts, and_from}
+use Rattle.init_words.specs.declared.entries.Entry.{Entry}
+use Rattle.init_words.specs.declared.stages.Stage.{Stage}
+use Rattle.init_words.specs.Ids.{same_id}
+use Rattle.inittab_text.specs.Tables.{has_id, entry_of, act_of, is_distinct}
+use Rattle.child_table.specs.State.{SlotState, new_slot}
+use Rattle.child_table.specs.Adopting.{adopted, left_over, is_left_over, entry_slots, left_slots}
+use Rattle.child_table.specs.Adopting as adopting
+use Rattle.child_table.specs.Changes.{after_call, after_enter}
+use Rattle.child_table.specs.Judging.{after_judge}
+use Rattle.child_table.specs.Lists.{are_distinct, slot_of, is_busy, is_quiet}
+use Rattle.child_table.specs.Order.{IsInOrder}
+use Rattle.child_table.specs.Times.{is_timely, are_timely}
+use Rattle.child_table.proofs.Adopted.{adopt_distinct, timely_adopt}
+use Rattle.child_table.proofs.Changed.{id-after_judge, timely_judge, timely_enter}
+use Rattle.child_table.proofs.Found.{is_listed}
+use Rattle.child_table.proofs.Ordered.{order_map, order_adopt, order_new, act-after_judge}
+use Rattle.child_table.proofs.Timely.{timely_map}
+use Rattle.core_model.specs.Rules.{is_callable, IsFit}
+use Rattle.core_model.specs.State.{CoreState}
+use Rattle.core_model.specs.Steps.{called_if, with_called, judged_in}
+use Rattle.core_model.proofs.Each.{Each, each_fails, each_less, each_both, each_map, each_filter, each_joined, each_found, distinct_map}
+use Rattle.core_model.proofs.Ordering.{named_own}
+use Rattle.core_model.proofs.Ruled.{IsPlaced, AreRuled, each_placed, table_distinct}
+use Rattle.core_model.proofs.RuledStarts.{none_busy, quiet_starts, quiet_free}
+use Rattle.core_model.proofs.RuledRecord.{IsRuled, stop_same, marks_parts, marks_from, calm_order}
+use Rattle.core_model.proofs.RuledReady.{IsReady, IsCalm, judged_ruled, ready_enter, ready_new, ready_adopted, ready_left, dawn_stop, dawn_ruled}
+
+-- the records of a table, by what holds of those before
+entries_each : (Q : SlotState → Type 0) (slots : List SlotState) → ((e : Entry) → Q (adopted e (slot_of e.id slots))) → (table : List Entry) → Each Q (entry_slots table slots)
+entries_each Q slots keeps [] = tt
+entries_each Q slots keeps (e ∷ table) = (keeps e, entries_each Q slots keeps table)
+
+adopted_each : (P Q : SlotState → Type 0) (table : List Entry) (slots : List SlotState) → ((e : Entry) → Q (new_slot e)) → ((e : Entry) (slot : SlotState) → P slot → Q (adopted e (Some slot))) → ((slot : SlotState) → is_left_over table slot ≡ true → P slot → Q (left_over slot)) → Each P slots → Each Q (adopting.after_adopt table slots)
+adopted_each P Q table slots new kept left each = each_joined Q (entry_slots table slots) (left_slots table slots) (entries_each Q slots (λ e. at e (slot_of e.id slots) refl) table)
+    (each_map (λ s. P s × (is_left_over table s ≡ true)) Q left_over (λ s both. left s both.1 both.0) (filter (is_left_over table) slots) (each_filter P (λ s. P s × (is_left_over table s ≡ true)) (is_left_over table) (λ s is own. (own, is)) slots each))
+  where
+    at : (e : Entry) (o : Option SlotState) → slot_of e.id slots ≡ o → Q (adopted e o)
+    at e None is = new e
+    at e (Some slot) is = kept e slot (each_found P e.id slots slot is each)
+
+-- records that keep the rules, with no start and no signal open, keep those on starts
+quiet_each : (slots : List SlotState) → Each (λ s. is_busy s.order ≡ false) slots → is_quiet slots ≡ true
+quiet_each [] each = refl
+quiet_each (slot ∷ slots) each = ap (λ b. not (b || list_any (λ (s : SlotState). is_busy s.order) slots)) each.0 ∙ quiet_each slots each.1
+
+quiet_ruled : (stage : Option Stage) (table : List Entry) (now : ℕ) (slots : List SlotState) → Each (IsCalm stage table now) slots → IsInOrder table slots → are_distinct slots ≡ true → are_timely now slots ≡ true → AreRuled stage table now slots
+quiet_ruled stage table now slots each order distinct timely =
+    let quiet : is_quiet slots ≡ true = quiet_each slots (each_less (IsCalm stage table now) (λ s. is_busy s.order ≡ false) (λ s calm. calm.1) slots each) in
+    record {
+      each = each_less (IsCalm stage table now) (IsRuled stage table now) (λ s calm. calm.0) slots each;
+      in_order = order;
+      distinct = distinct;
+      starts = quiet_starts stage table slots quiet;
+      free = quiet_free slots quiet;
+      timely = timely;
+    }
+
+pub opening_ruled : (table : List Entry) → is_distinct table ≡ true → AreRuled None table 0 (map new_slot table)
+opening_ruled table distinct = quiet_ruled None table 0 (map new_slot table) (each table) (order_new table) (apart table distinct) (timely table)
+  where
+    each : (es : List Entry) → Each (IsCalm None table 0) (map new_slot es)
+    each [] = tt
+    each (e ∷ es) = (dawn_ruled table 0 (new_slot e) (ready_new 0 e) refl, each es)
+
+    listed : (id : List ℕ) (es : List Entry) → is_listed id (map new_slot es) ≡ list_any (has_id id) es
+    listed id [] = refl
+    listed id (e ∷ es) = ap (λ b. same_id id e.id || b) (listed id es)
+
+    apart : (es : List Entry) → is_distinct es ≡ true → are_distinct (map new_slot es) ≡ true
+    apart [] h = refl
+    apart (e ∷ es) h =
+        let parts = and_parts (not (list_any (has_id e.id) es)) (is_distinct es) h in
+        and_from (not (is_listed e.id (map new_slot es))) (are_distinct (map new_slot es)) (ap not (listed e.id es) ∙ parts.0) (apart es parts.1)
+
+    timely : (es : List Entry) → are_timely 0 (map new_slot es) ≡ true
+    timely [] = refl
+    timely (e ∷ es) = timely es
+
+-- a call leaves each record its id and its action
+pub called_id : (b : Bool) (slot : SlotState) → (called_if b slot).id ≡ slot.id
+called_id true slot = refl
+called_id false slot = refl
+
+pub called_act : (b : Bool) (slot : SlotState) → (called_if b slot).table_act ≡ slot.table_act
+called_act true slot = refl
+called_act false slot = refl
+
+-- a quiet point of a core that keeps the rules
+module _ (c : CoreState) (keeps : IsFit c) (quiet : is_quiet c.slots ≡ true) where
+  calm_each : Each (IsCalm c.stage c.table c.time) c.slots
+  calm_each = each_both (IsRuled c.stage c.table c.time) (λ s. is_busy s.order ≡ false) c.slots (each_less (IsPlaced c.stage c.table c.time) (IsRuled c.stage c.table c.time) (λ s own. own.rules) c.slots (each_placed c keeps)) (each_fails (λ s. is_busy s.order) c.slots (none_busy c.slots quiet))
+
+  pub entered_ruled : (stage : Stage) → AreRuled (Some stage) c.table c.time (map (after_judge c.table stage) (map after_enter c.slots))
+  entered_ruled stage = quiet_ruled (Some stage) c.table c.time (map (after_judge c.table stage) (map after_enter c.slots))
+      (each_map (IsReady c.time) (IsCalm (Some stage) c.table c.time) (after_judge c.table stage) (λ s ready. judged_ruled stage c.table c.time s ready) (map after_enter c.slots) (each_map (IsCalm c.stage c.table c.time) (IsReady c.time) after_enter (λ s calm. ready_enter c.stage c.table c.time s calm) c.slots calm_each))
+      (order_map (after_judge c.table stage) (id-after_judge c.table stage) (act-after_judge c.table stage) c.table (map after_enter c.slots) (order_map after_enter (λ s. refl) (λ s. refl) c.table c.slots keeps.in_order))
+      (distinct_map (after_judge c.table stage) (id-after_judge c.table stage) (map after_enter c.slots) (distinct_map after_enter (λ s. refl) c.slots keeps.distinct))
+      (timely_map c.time (after_judge c.table stage) (λ s h. timely_judge c.time c.table stage s h) (map after_enter c.slots) (timely_map c.time after_enter (λ s h. timely_enter c.time s h) c.slots keeps.timely))
+
+  module _ (table : List Entry) (apart : is_distinct table ≡ true) where
+    ready_each : Each (IsReady c.time) (adopting.after_adopt table c.slots)
+    ready_each = adopted_each (IsCalm c.stage c.table c.time) (IsReady c.time) table c.slots (ready_new c.time) (λ e s calm. ready_adopted c.stage c.table c.time e s calm) (λ s left calm. ready_left c.stage c.table table c.time s left calm) calm_each
+
+    adopted_distinct : are_distinct (adopting.after_adopt table c.slots) ≡ true
+    adopted_distinct = adopt_distinct table c.slots apart keeps.distinct
+
+    adopted_timely : are_timely c.time (adopting.after_adopt table c.slots) ≡ true
+    adopted_timely = timely_adopt c.time table c.slots keeps.timely
+
+    adopted_dawn : c.stage ≡ None → Each (IsCalm None table c.time) (adopting.after_adopt table c.slots)
+    adopted_dawn is = adopted_each (IsCalm None c.table c.time) (IsCalm None table c.time) table c.slots
+        (λ e. dawn_ruled table c.time (new_slot e) (ready_new c.time e) refl)
+        (λ e s calm. dawn_ruled table c.time (adopted e (Some s)) (ready_adopted None c.table c.time e s calm) (dawn_stop s.child c.table table s (adopted e (Some s)) s.stop calm.0.stop))
+        (λ s left calm. dawn_ruled table c.time (left_over s) (ready_left None c.table table c.time s left calm) (dawn_stop s.child c.table table s (left_over s) s.stop calm.0.stop))
+        (subst (λ stage. Each (IsCalm stage c.table c.time) c.slots) is calm_each)
+
+    adopted_in : (stage : Option Stage) → c.stage ≡ stage → AreRuled stage table c.time (judged_in stage table (adopting.after_adopt table c.slots))
+    adopted_in None is = quiet_ruled None table c.time (adopting.after_adopt table c.slots) (adopted_dawn is) (order_adopt table c.slots) adopted_distinct adopted_timely
+    adopted_in (Some stage) is = quiet_ruled (Some stage) table c.time (map (after_judge table stage) (adopting.after_adopt table c.slots))
+        (each_map (IsReady c.time) (IsCalm (Some stage) table c.time) (after_judge table stage) (λ s ready. judged_ruled stage table c.time s ready) (adopting.after_adopt table c.slots) ready_each)
+        (order_map (after_judge table stage) (id-after_judge table stage) (act-after_judge table stage) table (adopting.after_adopt table c.slots) (order_adopt table c.slots))
+        (distinct_map (after_judge table stage) (id-after_judge table stage) (adopting.after_adopt table c.slots) adopted_distinct)
+        (timely_map c.time (after_judge table stage) (λ s h. timely_judge c.time table stage s h) (adopting.after_adopt table c.slots) adopted_timely)
+
+    pub adopted_ruled : AreRuled c.stage table c.time (judged_in c.stage table (adopting.after_adopt table c.slots))
+    adopted_ruled = adopted_in c.stage refl
+
+  -- entries that may be called are called
+  module _ (named : Entry → Bool) (callable : (e : Entry) → named e ≡ true → is_callable (Some e.act) ≡ true) where
+    abbrev call : SlotState → SlotState
+    call slot = called_if (list_any (λ e. has_id slot.id e && named e) c.table) slot
+
+    named_callable : (slot : SlotState) → slot.table_act ≡ act_of slot.id c.table → list_any (λ e. has_id slot.id e && named e) c.table ≡ true → is_callable slot.table_act ≡ true
+    named_callable slot own h = ap is_callable own ∙ at (entry_of slot.id c.table) (sym (named_own named slot.id c.table (table_distinct c.table c.slots keeps.in_order keeps.distinct)) ∙ h)
+      where
+        at : (o : Option Entry) → option_map_or named o false ≡ true → is_callable (option_map (λ (e : Entry). e.act) o) ≡ true
+        at None h = absurd (false≢true h)
+        at (Some e) h = callable e h
+
+    call_ruled : (b : Bool) (slot : SlotState) → (b ≡ true → is_callable slot.table_act ≡ true) → IsCalm c.stage c.table c.time slot → IsCalm c.stage c.table c.time (called_if b slot)
+    call_ruled true slot may calm =
+        let marked = marks_parts slot calm.0.marks in (
+          record {
+            cause = calm.0.cause;
+            birth = calm.0.birth;
+            order = calm_order slot.order slot (after_call slot) calm.1 refl calm.0.order;
+            stop = stop_same slot.child c.stage c.table slot (after_call slot) slot.stop refl calm.0.stop;
+            marks = marks_from (after_call slot) (record { look = marked.look; missed = marked.missed; called = may refl });
+            limiter = calm.0.limiter;
+          },
+          calm.1,
+        )
+    call_ruled false slot may calm = calm
+
+    called_timely : (b : Bool) (slot : SlotState) → is_timely c.time slot ≡ true → is_timely c.time (called_if b slot) ≡ true
+    called_timely true slot h = h
+    called_timely false slot h = h
+
+    own_calm : Each (λ s. IsCalm c.stage c.table c.time s × (s.table_act ≡ act_of s.id c.table)) c.slots
+    own_calm = each_both (IsCalm c.stage c.table c.time) (λ s. s.table_act ≡ act_of s.id c.table) c.slots calm_each (each_less (IsPlaced c.stage c.table c.time) (λ s. s.table_act ≡ act_of s.id c.table) (λ s own. own.own) c.slots (each_placed c keeps))
+
+    pub called_ruled : AreRuled c.stage c.table c.time (with_called named c.table c.slots)
+    called_ruled = quiet_ruled c.stage c.table c.time (map call c.slots)
+        (each_map (λ s. IsCalm c.stage c.table c.time s × (s.table_act ≡ act_of s.id c.table)) (IsCalm c.stage c.table c.time) call (λ s both. call_ruled (list_any (λ e. has_id s.id e && named e) c.table) s (named_callable s both.1) both.0) c.slots own_calm)
+        (order_map call (λ s. called_id (list_any (λ e. has_id s.id e && named e) c.table) s) (λ s. called_act (list_any (λ e. has_id s.id e && named e) c.table) s) c.table c.slots keeps.in_order)
+        (distinct_map call (λ s. called_id (list_any (λ e. has_id s.id e && named e) c.table) s) c.slots keeps.distinct)
+        (timely_map c.time call (λ s h. called_timely (list_any (λ e. has_id s.id e && named e) c.table) s h) c.slots keeps.timely)

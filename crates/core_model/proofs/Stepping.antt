@@ -1,0 +1,188 @@
+-- The core fits the trace with each step that it takes.
+use Rattle.std.proofs.Common.{◌≡◌, refl, sym, ◌∙◌, ap, ℕ, ◌+◌, Bool, true, false, not, ◌&&◌, cond, List, [], ◌∷◌, zip, map, nat_le, Option, Some, None, is_some, is_none}
+use Rattle.std.specs.List.{list_any}
+use Rattle.std.proofs.lemmas.Bool.{false≢true}
+use Rattle.init_words.specs.declared.entries.Entry.{Entry}
+use Rattle.init_words.specs.declared.levels.Level.{Level}
+use Rattle.init_words.specs.declared.stages.Stage.{Stage}
+use Rattle.init_words.specs.declared.stages.Stage.TheVariants as stage
+use Rattle.init_words.specs.declared.orders.Ask.TheVariants.{Start, Look, Term, Kill}
+use Rattle.init_words.specs.Actions.{is_limited}
+use Rattle.init_words.proofs.Same.{same_id-self}
+use Rattle.inittab_text.specs.Tables.{entry_of, is_distinct}
+use Rattle.respawn_limit.specs.Window.{is_held}
+use Rattle.init_trace.specs.declared.happenings.Happening.TheVariants as event
+use Rattle.init_trace.specs.declared.steps.Step.{Step}
+use Rattle.init_trace.specs.declared.steps.Step.TheVariants.{Enter, Call, Power, Reread, Order, Hold, Settle, Reexec, Idle}
+use Rattle.init_trace.specs.declared.steps.Goal.{Goal}
+use Rattle.init_trace.specs.Event.{Event}
+use Rattle.init_trace.specs.Past.{table_of, stage_of}
+use Rattle.init_trace.specs.Wishes.{in_run}
+use Rattle.init_trace.specs.Due.{due, first, same_step}
+use Rattle.init_trace.specs.Sound.{is_sound}
+use Rattle.trace_laws.proofs.Dues.{MayRun, due_facts}
+use Rattle.trace_laws.proofs.Keeps.{sound_holds}
+use Rattle.child_table.specs.declared.children.Stop.{Stop}
+use Rattle.child_table.specs.declared.children.Stop.TheVariants.{Due, Termed, Killed}
+use Rattle.child_table.specs.State.{SlotState}
+use Rattle.child_table.specs.Changes.{after_order, after_hold, after_enter}
+use Rattle.child_table.specs.Judging.{after_judge}
+use Rattle.child_table.specs.Lists as lists
+use Rattle.core_model.specs.declared.news.News.{News}
+use Rattle.core_model.specs.News.{first_news}
+use Rattle.core_model.specs.State.{CoreState}
+use Rattle.core_model.specs.Decide as core
+use Rattle.core_model.specs.Decide.{decide, or_else, or_idle}
+use Rattle.core_model.specs.Steps.{after_step, with_called, is_named}
+use Rattle.core_model.specs.Fit.{Fits, records_of, with_step}
+use Rattle.core_model.proofs.Fitted.{fit_records, fits_by}
+use Rattle.core_model.proofs.Ordering.{look_ordered, term_ordered, kill_ordered, start_ordered, hold_made, power_called, letter_called}
+use Rattle.core_model.proofs.Newest.{by_first}
+use Rattle.core_model.proofs.Moments.{at_enter, wishes_enter, wishes_power, wishes_call}
+use Rattle.core_model.proofs.Tables.{enter_records}
+use Rattle.core_model.proofs.Hearing.{settle_records}
+use Rattle.core_model.proofs.Deciding.{decide_due}
+
+-- whether a step enters a stage
+abbrev enters : Option Step → Bool
+enters (Some (Enter next grace)) = true
+enters _ = false
+
+neither : (a b : Option Step) → enters a ≡ false → enters b ≡ false → enters (or_else a b) ≡ false
+neither None b ha hb = hb
+neither (Some step) b ha hb = ha
+
+not_if : (b : Bool) (o : Option Step) → enters o ≡ false → enters (cond b o None) ≡ false
+not_if true o h = h
+not_if false o h = refl
+
+not_else : (b : Bool) (o : Option Step) → enters o ≡ false → enters (cond b None o) ≡ false
+not_else true o h = refl
+not_else false o h = h
+
+start_enters : (now : Stage) (time : ℕ) (ps : List (Entry × SlotState)) → enters (core.start_along now time ps) ≡ false
+start_enters now time [] = refl
+start_enters now time (p ∷ ps) = neither (core.start_step now time p.0 p.1) (cond (core.is_owed_slot now p.0 p.1) None (core.start_along now time ps)) (not_if (core.can_start_slot now p.0 p.1) (core.limited_step time p.0 p.1) (told (is_limited (p.0).act) (is_held (p.1).limiter.held time) _)) (not_else (core.is_owed_slot now p.0 p.1) (core.start_along now time ps) (start_enters now time ps))
+  where
+    told : (b h a : Bool) → enters (cond b (cond h None (Some (cond a (Order (p.0).id Start) (Hold (p.0).id)))) (Some (Order (p.0).id Start))) ≡ false
+    told true true a = refl
+    told true false true = refl
+    told true false false = refl
+    told false h a = refl
+
+stop_enters : (grace now : ℕ) (slots : List SlotState) → enters (core.stop_among grace now slots) ≡ false
+stop_enters grace now [] = refl
+stop_enters grace now (slot ∷ slots) = neither (core.stop_step grace now slot) (core.stop_among grace now slots) (not_if (is_some slot.child && is_none slot.order && not slot.missed) (core.signal_step grace now slot.id slot.stop) (signal slot.stop)) (stop_enters grace now slots)
+  where
+    signal : (o : Option Stop) → enters (core.signal_step grace now slot.id o) ≡ false
+    signal None = refl
+    signal (Some Due) = refl
+    signal (Some (Termed time)) = not_if (nat_le (time + grace) now) (Some (Order slot.id Kill)) refl
+    signal (Some (Killed time)) = refl
+
+look_enters : (slots : List SlotState) → enters (core.look_among slots) ≡ false
+look_enters [] = refl
+look_enters (slot ∷ slots) = at (core.can_look_slot slot) (look_enters slots)
+  where
+    at : (b : Bool) → enters (core.look_among slots) ≡ false → enters (cond b (Some (Order slot.id Look)) (core.look_among slots)) ≡ false
+    at true h = refl
+    at false h = h
+
+news_enters : (news : News) → enters (first_news news) ≡ false
+news_enters = by_first (λ (n : News). enters (first_news n) ≡ false) (λ n o a b c. refl) (λ o a b c. refl) (λ a b c. refl) (λ b c. refl) (λ c. refl) refl refl
+
+-- in a run level in which no other is wished for the core enters no stage
+run_enters : (c : CoreState) (level : Level) → c.level_wish ≡ None → enters (or_else (core.wish_step (stage.Run level) c) (or_else (core.work_step (stage.Run level) c) (core.look_among c.slots))) ≡ false
+run_enters c level none = neither (core.wish_step (stage.Run level) c) (or_else (core.work_step (stage.Run level) c) (core.look_among c.slots)) (not_if (lists.is_quiet c.slots) (core.wished_step (stage.Run level) c) wished)
+    (neither (core.work_step (stage.Run level) c) (core.look_among c.slots) (not_else (core.stands (stage.Run level) c) _ worked) (look_enters c.slots))
+  where
+    wished : enters (core.wished_step (stage.Run level) c) ≡ false
+    wished = at c.reexec c.reread
+      where
+        other : enters (or_else (core.level_step c.booted c.level_wish) (first_news c.news)) ≡ false
+        other = ap (λ o. enters (or_else (core.level_step c.booted o) (first_news c.news))) none ∙ news_enters c.news
+
+        at : (x r : Bool) → enters (cond x (Some Reexec) (cond r (Some Reread) (or_else (core.level_step c.booted c.level_wish) (first_news c.news)))) ≡ false
+        at true r = refl
+        at false true = refl
+        at false false = other
+
+    worked : enters (or_else (core.stop_among c.grace c.time c.slots) (cond (core.has_excluded c.slots) None (core.calm_step (stage.Run level) c))) ≡ false
+    worked = neither (core.stop_among c.grace c.time c.slots) (cond (core.has_excluded c.slots) None (core.calm_step (stage.Run level) c)) (stop_enters c.grace c.time c.slots)
+        (not_else (core.has_excluded c.slots) (core.calm_step (stage.Run level) c)
+        (neither (core.start_among (stage.Run level) c.time c.table c.slots) _ (start_enters (stage.Run level) c.time (zip c.table c.slots))
+        (neither (core.stage_step (stage.Run level) c.goal c.table c.slots) (core.settle_step (stage.Run level) c.announced c.time c.table c.slots)
+        (not_if (core.is_over_among (stage.Run level) c.table c.slots) None refl)
+        (not_if (not c.announced && core.is_idle c.slots && core.all_served level c.time c.table c.slots) (Some (Settle level)) refl))))
+
+entered_before : (c : CoreState) (o : Option Stage) → c.level_wish ≡ None → (next : Stage) (grace : ℕ) → core.decide_in o c ≡ Enter next grace → in_run o ≡ false
+entered_before c None none next grace is = refl
+entered_before c (Some stage.Sysinit) none next grace is = refl
+entered_before c (Some stage.Boot) none next grace is = refl
+entered_before c (Some (stage.Run level)) none next grace is = absurd (false≢true (sym (run_enters c level none) ∙ ap enters (of_idle _ is)))
+  where
+    of_idle : (o : Option Step) → or_idle o ≡ Enter next grace → o ≡ Some (Enter next grace)
+    of_idle None is = cc
+    of_idle (Some step) is = ap Some is
+
+-- the first step is a due one
+first_due : (s : Step) (steps : List Step) → same_step s s ≡ true → (s ≡ Idle → ⊥) → first steps ≡ s → list_any (same_step s) steps ≡ true
+first_due s [] self busy is = absurd (busy (sym is))
+first_due s (x ∷ steps) self busy is = rw (is, self) refl
+
+module _ (goal : Goal) (past : List Event) (c : CoreState) (sound : is_sound goal past ≡ true) (fits : Fits c goal past) where
+  slots : c.slots ≡ records_of past
+  slots = fit_records c goal past fits
+
+  -- a step: the first that is due
+  due_now : decide c ≡ first (due goal past)
+  due_now = decide_due goal past sound c fits
+
+  entry_start : (id : List ℕ) → decide c ≡ Order id Start → MayRun id (table_of past) past
+  entry_start id is = (due_facts goal past (Order id Start) (first_due (Order id Start) (due goal past) (rw (same_id-self id) refl) (λ h. cc) (sym due_now ∙ is))).run
+
+  distinct : is_distinct (table_of past) ≡ true
+  distinct = (sound_holds goal past sound).distinct
+
+  own_entry : (id : List ℕ) (may : MayRun id (table_of past) past) → entry_of id (table_of past) ≡ Some may.entry
+  own_entry id may = may.found distinct
+
+  pub fits_step : Fits (after_step (decide c) c) goal (with_step (decide c) past)
+  fits_step = at (decide c) refl
+    where
+      at : (s : Step) → decide c ≡ s → Fits (after_step s c) goal (with_step s past)
+      at (Enter next grace) is =
+          let way : c.level_wish ≡ None → in_run (Some next) ≡ false → in_run (stage_of past) ≡ false = λ none h. sym (ap in_run fits.now.stage) ∙ entered_before c c.stage none next grace is in
+          fits_by (after_step (Enter next grace) c) goal (event.Enter next grace ∷ past) fits.table.table
+          ((λ i. map (after_judge (fits.table.table i) next) (map after_enter (slots i))) ∙ enter_records goal next grace past sound)
+          (at_enter c goal past fits.now fits.wishes next grace way) (wishes_enter c goal past fits.now fits.wishes next grace way)
+      at (Order id Start) is =
+          let may = entry_start id is in
+          fits_by (after_step (Order id Start) c) goal (event.Asked id Start ∷ past) fits.table.table
+          ((λ i. lists.with_changed id (after_order Start (fits.now.time i)) (slots i)) ∙ start_ordered id past may.entry (own_entry id may))
+          (record { stage = fits.now.stage; grace = fits.now.grace; time = fits.now.time; goal = fits.now.goal; booted = fits.now.booted; announced = fits.now.announced }) (record { reexec = fits.wishes.reexec; reread = fits.wishes.reread; level = fits.wishes.level; news = fits.wishes.news })
+      at (Order id Look) is = fits_by (after_step (Order id Look) c) goal (event.Asked id Look ∷ past) fits.table.table
+          (ap (lists.with_changed id (after_order Look c.time)) slots ∙ look_ordered id past c.time)
+          (record { stage = fits.now.stage; grace = fits.now.grace; time = fits.now.time; goal = fits.now.goal; booted = fits.now.booted; announced = fits.now.announced }) (record { reexec = fits.wishes.reexec; reread = fits.wishes.reread; level = fits.wishes.level; news = fits.wishes.news })
+      at (Order id Term) is = fits_by (after_step (Order id Term) c) goal (event.Asked id Term ∷ past) fits.table.table
+          (ap (lists.with_changed id (after_order Term c.time)) slots ∙ term_ordered id past c.time)
+          (record { stage = fits.now.stage; grace = fits.now.grace; time = fits.now.time; goal = fits.now.goal; booted = fits.now.booted; announced = fits.now.announced }) (record { reexec = fits.wishes.reexec; reread = fits.wishes.reread; level = fits.wishes.level; news = fits.wishes.news })
+      at (Order id Kill) is = fits_by (after_step (Order id Kill) c) goal (event.Asked id Kill ∷ past) fits.table.table
+          (ap (lists.with_changed id (after_order Kill c.time)) slots ∙ kill_ordered id past c.time)
+          (record { stage = fits.now.stage; grace = fits.now.grace; time = fits.now.time; goal = fits.now.goal; booted = fits.now.booted; announced = fits.now.announced }) (record { reexec = fits.wishes.reexec; reread = fits.wishes.reread; level = fits.wishes.level; news = fits.wishes.news })
+      at (Hold id) is =
+          let may = due_facts goal past (Hold id) (first_due (Hold id) (due goal past) (same_id-self id) (λ h. cc) (sym due_now ∙ is)) in
+          fits_by (after_step (Hold id) c) goal (event.Hold id ∷ past) fits.table.table
+          ((λ i. lists.with_changed id (after_hold (fits.now.time i)) (slots i)) ∙ hold_made id past may.run.entry (own_entry id may.run) may.limited)
+          (record { stage = fits.now.stage; grace = fits.now.grace; time = fits.now.time; goal = fits.now.goal; booted = fits.now.booted; announced = fits.now.announced }) (record { reexec = fits.wishes.reexec; reread = fits.wishes.reread; level = fits.wishes.level; news = fits.wishes.news })
+      at (Settle level) is = fits_by (after_step (Settle level) c) goal (event.Settle level ∷ past) fits.table.table (slots ∙ settle_records past level)
+          (record { stage = fits.now.stage; grace = fits.now.grace; time = fits.now.time; goal = fits.now.goal; booted = fits.now.booted; announced = refl }) (record { reexec = fits.wishes.reexec; reread = fits.wishes.reread; level = fits.wishes.level; news = fits.wishes.news })
+      at (Power kind) is = fits_by (after_step (Power kind) c) goal (event.Power kind ∷ past) fits.table.table
+          ((λ i. with_called (is_named (Power kind) (fits.now.stage i)) (fits.table.table i) (slots i)) ∙ power_called past distinct kind)
+          (record { stage = fits.now.stage; grace = fits.now.grace; time = fits.now.time; goal = fits.now.goal; booted = fits.now.booted; announced = fits.now.announced }) (wishes_power c goal past fits.now fits.wishes kind)
+      at (Call letter) is = fits_by (after_step (Call letter) c) goal (event.Call letter ∷ past) fits.table.table
+          ((λ i. with_called (is_named (Call letter) (fits.now.stage i)) (fits.table.table i) (slots i)) ∙ letter_called past distinct letter)
+          (record { stage = fits.now.stage; grace = fits.now.grace; time = fits.now.time; goal = fits.now.goal; booted = fits.now.booted; announced = fits.now.announced }) (wishes_call c goal past fits.now fits.wishes letter)
+      at Reread is = fits
+      at Reexec is = fits
+      at Idle is = fits

@@ -1,0 +1,289 @@
+-- A stage that is entered, and another table, make of the records what the past says after them.
+use Rattle.std.proofs.Common.{◌≡◌, refl, sym, ◌∙◌, ap, ℕ, ◌==◌, Bool, true, false, not, ◌&&◌, ◌||◌, cond, List, [], ◌∷◌, ◌++◌, map, filter, find, Option, Some, None, is_none, eq-eqb}
+use Rattle.std.specs.List.{list_any}
+use Rattle.std.specs.Option.{option_map, option_map_or, option_or}
+use Rattle.std.proofs.lemmas.Bool.{eqb-true, and_parts, or_left, not-true}
+use Rattle.std.proofs.lemmas.List.Folds.{list_any-append}
+use Rattle.std.proofs.lemmas.List.{map-append}
+use Rattle.std.proofs.lemmas.List.Elements.{filter-append, filter_agree}
+use Rattle.std.proofs.lemmas.Option.{none-some, same_Some}
+use Rattle.respawn_limit.specs.State.{unused}
+use Rattle.init_words.specs.declared.entries.Entry.{Entry}
+use Rattle.init_words.specs.declared.actions.Act.{Act}
+use Rattle.init_words.specs.declared.stages.Stage.{Stage}
+use Rattle.init_words.specs.declared.orders.Ask.{Ask}
+use Rattle.init_words.specs.Actions.{act_number, same_act, is_limited}
+use Rattle.init_words.specs.Entries.{lives_of}
+use Rattle.init_words.specs.Ids.{same_id}
+use Rattle.init_words.proofs.Same.{same_id-is, same_id-self}
+use Rattle.init_words.proofs.Tests.{both_ways, falsely, same_tests, any_less, filter_both, filter_within, find_none}
+use Rattle.inittab_text.specs.Tables.{ids_of, has_id, entry_of, act_of, is_distinct}
+use Rattle.init_trace.specs.declared.happenings.Happening.TheVariants.{NewTable, Enter}
+use Rattle.init_trace.specs.declared.steps.Goal.{Goal}
+use Rattle.init_trace.specs.Event.{Event}
+use Rattle.init_trace.specs.Past.{table_of, stage_of, Child, is_of, has_child, open_of, kept_children, known_children}
+use Rattle.init_trace.specs.Wanted.{same_acts, may_live, is_asked, is_excluded}
+use Rattle.init_trace.specs.Spells.{spell_hits, is_missed}
+use Rattle.init_trace.specs.Due.{left_ids, record_ids, wants_look}
+use Rattle.init_trace.specs.Sound.{is_sound}
+use Rattle.std.proofs.Math.Bool.{and_comm}
+use Rattle.trace_laws.proofs.Tests.{never}
+use Rattle.trace_laws.proofs.Records.{ids_listed}
+use Rattle.trace_laws.proofs.Orders.{known_kept}
+use Rattle.trace_laws.proofs.Keeps.{sound_holds, entry_listed}
+use Rattle.trace_laws.proofs.Records.{child_in_records, open_in_records}
+use Rattle.trace_laws.proofs.Spells.{spell_none, spell_enter, missed_enter, spell_table, missed_table}
+use Rattle.child_table.specs.declared.children.Stop.{Stop}
+use Rattle.child_table.specs.declared.children.Stop.TheVariants.{Due}
+use Rattle.child_table.specs.State.{SlotState, is_act}
+use Rattle.child_table.specs.Lists.{slot_of}
+use Rattle.child_table.specs.Changes.{after_enter}
+use Rattle.child_table.specs.Judging.{judged, judged_child, after_judge}
+use Rattle.child_table.specs.Judging as judging
+use Rattle.child_table.specs.Adopting.{adopted, left_over, is_left_over, entry_slots, left_slots}
+use Rattle.child_table.specs.Adopting as adopting
+use Rattle.core_model.specs.Steps.{judged_in}
+use Rattle.core_model.specs.Fit.{child_known, living, known_child, stop_after, stop_known, stop_of, is_to_look, was_missed, limiter_by, asked_of, record_of, records_of}
+use Rattle.core_model.proofs.Acts.{found_own, child_some, found_record, no_record}
+
+-- two actions are one either way
+same_act-sym : (a b : Act) → same_act a b ≡ same_act b a
+same_act-sym a b = same_tests (same_act a b) (same_act b a) (flip (act_number a) (act_number b)) (flip (act_number b) (act_number a)) where
+  flip : (m n : ℕ) → (m == n) ≡ true → (n == m) ≡ true
+  flip m n h = eq-eqb n m (sym (eqb-true m n h))
+
+-- where a stage is in force, a record's child is excluded exactly if the child is
+pub excluded_same : (past : List Event) (stage : Stage) → stage_of past ≡ Some stage → (child : Child) → judging.is_excluded stage child.act (entry_of child.id (table_of past)) ≡ is_excluded past child
+excluded_same past stage now child = by (entry_of child.id (table_of past)) child.act ∙ ap (λ s. not (may_live (entry_of child.id (table_of past)) child.act s)) (sym now) where
+  by : (e : Option Entry) (born : Option Act) → judging.is_excluded stage born e ≡ not (may_live e born (Some stage))
+  by None born = refl
+  by (Some e) None = refl
+  by (Some e) (Some action) = ap (λ b. not (b && lives_of e stage)) (same_act-sym action e.act)
+
+-- a happening that cuts the spell of each child that it does not exclude: the records are judged
+module _ (next past : List Event) (hits : (child : Child) → spell_hits child next ≡ cond (is_excluded next child) (spell_hits child past) []) (misses : (child : Child) → is_missed child next ≡ (is_excluded next child && is_missed child past)) where
+  judged_as : (stage : Stage) → stage_of next ≡ Some stage → (id : List ℕ) (o : Option Child) → ((child : Child) → o ≡ Some child → child.id ≡ id) → (slot : SlotState) → slot.id ≡ id → slot.stop ≡ stop_known past o → slot.missed ≡ option_map_or (λ child. is_missed child past) o false → judged_child stage (table_of next) (option_map living o) slot ≡ record slot { stop = stop_known next o; missed = option_map_or (λ child. is_missed child next) o false }
+  judged_as stage now id None own slot is stop missed = λ i. record slot { stop = stop i; missed = missed i }
+  judged_as stage now id (Some child) own slot is stop missed = ap (λ b. judged b slot) excluded ∙ by (is_excluded next child) refl where
+    excluded : judging.is_excluded stage child.act (entry_of slot.id (table_of next)) ≡ is_excluded next child
+    excluded = ap (λ x. judging.is_excluded stage child.act (entry_of x (table_of next))) (is ∙ sym (own child refl)) ∙ excluded_same next stage now child
+
+    went_on : (b : Bool) (o : Option Stop) → (b ≡ false → spell_hits child past ≡ []) → o ≡ cond b (Some (stop_after (spell_hits child past))) None → option_or o (Some Due) ≡ Some (stop_after (spell_hits child past))
+    went_on true o none is = ap (λ s. option_or s (Some Due)) is
+    went_on false o none is = ap (λ s. option_or s (Some Due)) is ∙ ap (λ signals. Some (stop_after signals)) (sym (none refl))
+
+    by : (b : Bool) → is_excluded next child ≡ b → judged b slot ≡ record slot { stop = stop_known next (Some child); missed = is_missed child next }
+    by true is =
+        let stops : option_or slot.stop (Some Due) ≡ stop_known next (Some child) = went_on (is_excluded past child) slot.stop (spell_none child past) stop ∙ sym (λ i. cond (is i) (Some (stop_after ((hits child ∙ ap (λ c. cond c (spell_hits child past) []) is) i))) None) in
+        let misses_too : slot.missed ≡ is_missed child next = missed ∙ sym (misses child ∙ ap (λ c. c && is_missed child past) is) in
+        λ i. record slot { stop = stops i; missed = misses_too i }
+    by false is =
+        let stops : None ≡ stop_known next (Some child) = sym (ap (λ c. cond c (Some (stop_after (spell_hits child next))) None) is) in
+        let misses_too : false ≡ is_missed child next = sym (misses child ∙ ap (λ c. c && is_missed child past) is) in
+        λ i. record slot { stop = stops i; missed = misses_too i }
+
+  pub judged_known : (stage : Stage) → stage_of next ≡ Some stage → (id : List ℕ) (slot : SlotState) → slot.id ≡ id → slot.child ≡ known_child id past → slot.stop ≡ stop_of id past → slot.missed ≡ was_missed id past → after_judge (table_of next) stage slot ≡ record slot { stop = stop_known next (child_known id past); missed = option_map_or (λ child. is_missed child next) (child_known id past) false }
+  judged_known stage now id slot is child stop missed = ap (λ c. judged_child stage (table_of next) c slot) child ∙ judged_as stage now id (child_known id past) (found_own id (known_children past)) slot is stop missed
+
+-- what a record keeps of an entry, where the past has nothing since the stage began
+unused_same : (o : Option Entry) → unused ≡ option_map_or (λ (e : Entry). limiter_by (is_limited e.act) [] []) o unused
+unused_same None = refl
+unused_same (Some e) = by (is_limited e.act) where
+  by : (b : Bool) → unused ≡ limiter_by b [] []
+  by true = refl
+  by false = refl
+
+-- two changes one after the other, along a list
+pub mapped : {X : Type 0} (f : SlotState → SlotState) (g k : X → SlotState) → ((x : X) → f (g x) ≡ k x) → (xs : List X) → map f (map g xs) ≡ map k xs
+mapped f g k same [] = refl
+mapped f g k same (x ∷ xs) = λ i. same x i ∷ mapped f g k same xs i
+
+-- a stage was entered
+pub enter_records : (goal : Goal) (stage : Stage) (grace : ℕ) (past : List Event) → is_sound goal past ≡ true → map (after_judge (table_of past) stage) (map after_enter (records_of past)) ≡ records_of (Enter stage grace ∷ past)
+enter_records goal stage grace past sound = ap (map (after_judge (table_of past) stage)) (mapped after_enter (record_of past) entered (λ id. refl) (record_ids past)) ∙ mapped (after_judge (table_of past) stage) entered (record_of (Enter stage grace ∷ past)) same (record_ids past) where
+  entered : List ℕ → SlotState
+  entered id = after_enter (record_of past id)
+
+  same : (id : List ℕ) → after_judge (table_of past) stage (entered id) ≡ record_of (Enter stage grace ∷ past) id
+  same id = judged_known (Enter stage grace ∷ past) past (λ child. spell_enter child stage grace past) (λ child. missed_enter child stage grace past) stage refl id (entered id) refl refl refl refl ∙ (λ i. record (record_of (Enter stage grace ∷ past) id) { asked = never (entry_of id (table_of past)) i; called = never (entry_of id (table_of past)) i; limiter = unused_same (entry_of id (table_of past)) i })
+
+-- the entry that is found for an id has the id
+pub entry_own : (id : List ℕ) (es : List Entry) (e : Entry) → entry_of id es ≡ Some e → e.id ≡ id
+entry_own id [] e there = absurd (none-some e there)
+entry_own id (x ∷ es) e there = split (same_id id x.id) refl there (entry_own id es e) where
+  split : (b : Bool) → same_id id x.id ≡ b → cond b (Some x) (entry_of id es) ≡ Some e → (entry_of id es ≡ Some e → e.id ≡ id) → e.id ≡ id
+  split true same there rest = ap (λ (y : Entry). y.id) (sym (same_Some x e there)) ∙ sym (same_id-is id x.id same)
+  split false differ there rest = rest there
+
+-- an id of a table's entries; and none is found where none passes
+
+pub none_found : {X : Type 0} (p : X → Bool) (xs : List X) → is_none (find p xs) ≡ not (list_any p xs)
+none_found p [] = refl
+none_found {X} p (x ∷ xs) = split (p x) (none_found p xs) where
+  split : (b : Bool) → is_none (find p xs) ≡ not (list_any p xs) → is_none (cond b (Some x) (find p xs)) ≡ not (b || list_any p xs)
+  split true rest = refl
+  split false rest = rest
+
+-- along a table in which no id stands twice each entry is that of its id
+along : (table : List Entry) → is_distinct table ≡ true → (f g : Entry → SlotState) → ((e : Entry) → entry_of e.id table ≡ Some e → f e ≡ g e) → map f table ≡ map g table
+along [] distinct f g same = refl
+along (e ∷ table) distinct f g same = λ i. same e (ap (λ b. cond b (Some e) (entry_of e.id table)) (same_id-self e.id)) i ∷ along table parts.1 f g (λ x found. same x (behind x found (same_id x.id e.id) refl)) i where
+  parts : (not (list_any (has_id e.id) table) ≡ true) × (is_distinct table ≡ true)
+  parts = and_parts (not (list_any (has_id e.id) table)) (is_distinct table) distinct
+
+  behind : (x : Entry) → entry_of x.id table ≡ Some x → (b : Bool) → same_id x.id e.id ≡ b → cond b (Some e) (entry_of x.id table) ≡ Some x
+  behind x found true own = both_ways (list_any (has_id e.id) table) (ap (λ y. list_any (has_id y) table) (sym (same_id-is x.id e.id own)) ∙ entry_listed x.id table x found) (not-true (list_any (has_id e.id) table) parts.0)
+  behind x found false other = found
+
+-- the records judged one by one, where a stage is in force
+abbrev judged_by : Option Stage → List Entry → SlotState → SlotState
+judged_by None table slot = slot
+judged_by (Some stage) table slot = after_judge table stage slot
+
+judged_all : (o : Option Stage) (table : List Entry) (slots : List SlotState) → judged_in o table slots ≡ map (judged_by o table) slots
+judged_all (Some stage) table slots = refl
+judged_all None table slots = sym (each slots) where
+  each : (xs : List SlotState) → map (judged_by None table) xs ≡ xs
+  each [] = refl
+  each (x ∷ xs) = ap (λ rest. x ∷ rest) (each xs)
+
+-- a filter of what is mapped
+pub filter_mapped : {X Y : Type 0} (p : Y → Bool) (f : X → Y) (xs : List X) → filter p (map f xs) ≡ map f (filter (λ x. p (f x)) xs)
+filter_mapped p f [] = refl
+filter_mapped {X} p f (x ∷ xs) = split (p (f x)) (filter_mapped p f xs) where
+  split : (b : Bool) → filter p (map f xs) ≡ map f (filter (λ y. p (f y)) xs) → cond b (f x ∷ filter p (map f xs)) (filter p (map f xs)) ≡ map f (cond b (x ∷ filter (λ y. p (f y)) xs) (filter (λ y. p (f y)) xs))
+  split true same = ap (λ rest. f x ∷ rest) same
+  split false same = same
+
+pub mapped_passing : {X Y : Type 0} (q : X → Bool) (f g : X → Y) → ((x : X) → q x ≡ true → f x ≡ g x) → (xs : List X) → map f (filter q xs) ≡ map g (filter q xs)
+mapped_passing q f g same [] = refl
+mapped_passing {X} q f g same (x ∷ xs) = split (q x) refl (mapped_passing q f g same xs) where
+  split : (b : Bool) → q x ≡ b → map f (filter q xs) ≡ map g (filter q xs) → map f (cond b (x ∷ filter q xs) (filter q xs)) ≡ map g (cond b (x ∷ filter q xs) (filter q xs))
+  split true passes rest = λ i. same x passes i ∷ rest i
+  split false fails rest = rest
+
+-- an id of the table in force has a record
+pub listed_record : (id : List ℕ) (past : List Event) → list_any (has_id id) (table_of past) ≡ true → list_any (same_id id) (record_ids past) ≡ true
+listed_record id past there = list_any-append (same_id id) (ids_of (table_of past)) (filter (λ x. has_child x (known_children past)) (left_ids past)) ∙ or_left (list_any (same_id id) (ids_of (table_of past))) (list_any (same_id id) (filter (λ x. has_child x (known_children past)) (left_ids past))) (ids_listed id (table_of past) ∙ there)
+
+-- another table at a quiet point
+module _ (goal : Goal) (table : List Entry) (past : List Event) (sound : is_sound goal past ≡ true) (distinct : is_distinct table ≡ true) where
+  abbrev next : List Event
+  next = NewTable table ∷ past
+
+  -- before the first stage no child is known
+  dawn_none : stage_of past ≡ None → (id : List ℕ) → child_known id past ≡ None
+  dawn_none dawn id = find_none (is_of id) (known_children past) (falsely (has_child id (known_children past)) (list_any (λ (child : Child). true) (kept_children past)) (λ there. any_less (is_of id) (λ child. true) (λ child _. refl) (kept_children past) (known_kept (is_of id) past there)) ((sound_holds goal past sound).dawn dawn))
+
+  judged_slot : (o : Option Stage) → stage_of past ≡ o → (id : List ℕ) (slot : SlotState) → slot.id ≡ id → slot.child ≡ known_child id past → slot.stop ≡ stop_of id past → slot.missed ≡ was_missed id past → judged_by o table slot ≡ record slot { stop = stop_of id next; missed = was_missed id next }
+  judged_slot (Some stage) now id slot is child stop missed = judged_known next past (λ c. spell_table c table past) (λ c. missed_table c table past) stage now id slot is child stop missed
+  judged_slot None now id slot is child stop missed =
+      let none : child_known id past ≡ None = dawn_none now id in
+      let stops : slot.stop ≡ stop_of id next = stop ∙ ap (stop_known past) none ∙ sym (ap (stop_known next) none) in
+      let misses : slot.missed ≡ was_missed id next = missed ∙ ap (λ c. option_map_or (λ child. is_missed child past) c false) none ∙ sym (ap (λ c. option_map_or (λ child. is_missed child next) c false) none) in
+      λ i. record slot { stop = stops i; missed = misses i }
+
+  -- what was asked of an entry of the table
+  asked_same : (e : Entry) → entry_of e.id table ≡ Some e → (asked_of e.id past && is_act e.act (act_of e.id (table_of past))) ≡ asked_of e.id next
+  asked_same e found = by (entry_of e.id (table_of past)) refl ∙ sym brought ∙ sym (ap (λ o. option_map_or (λ (x : Entry). is_asked x.id next) o false) found) where
+    brought : is_asked e.id next ≡ (not (true && not (same_acts (Some e.act) (act_of e.id (table_of past)))) && is_asked e.id past)
+    brought = λ i. not (entry_listed e.id table e found i && not (same_acts (option_map (λ (x : Entry). x.act) (found i)) (act_of e.id (table_of past)))) && is_asked e.id past
+
+    swap : (a b c : Bool) → b ≡ c → (a && b) ≡ (not (true && not c) && a)
+    swap true true c h = ap (λ d. not (not d) && true) h
+    swap true false c h = ap (λ d. not (not d) && true) h
+    swap false b true h = refl
+    swap false b false h = refl
+
+    by : (o : Option Entry) → entry_of e.id (table_of past) ≡ o → (option_map_or (λ (x : Entry). is_asked x.id past) o false && is_act e.act (option_map (λ (x : Entry). x.act) o)) ≡ (not (true && not (same_acts (Some e.act) (option_map (λ (x : Entry). x.act) o))) && is_asked e.id past)
+    by None is = refl
+    by (Some x) is = ap (λ y. is_asked y past && same_act x.act e.act) (entry_own e.id (table_of past) x is) ∙ swap (is_asked e.id past) (same_act x.act e.act) (same_act e.act x.act) (same_act-sym x.act e.act)
+
+  -- the record of an entry before it is judged
+  abbrev entered_slot : Entry → SlotState
+  entered_slot e = record (record_of past e.id) { table_act = Some e.act; asked = asked_of e.id past && is_act e.act (act_of e.id (table_of past)); called = false; limiter = unused }
+
+  adopted_same : (e : Entry) → adopted e (slot_of e.id (records_of past)) ≡ entered_slot e
+  adopted_same e = by (list_any (same_id e.id) (record_ids past)) refl where
+    by : (b : Bool) → list_any (same_id e.id) (record_ids past) ≡ b → adopted e (slot_of e.id (records_of past)) ≡ entered_slot e
+    by true there = ap (adopted e) (found_record past e.id (record_ids past) there)
+    by false none = ap (adopted e) (no_record past e.id (record_ids past) none) ∙ (λ i. record {
+      id = e.id;
+      table_act = Some e.act;
+      child = option_map living (childless i);
+      order = unasked i;
+      stop = stop_known past (childless i);
+      asked = option_map_or (λ (x : Entry). is_asked x.id past) (unlisted i) false && is_act e.act (option_map (λ (x : Entry). x.act) (unlisted i));
+      called = false;
+      look = unlooked i;
+      missed = option_map_or (λ child. is_missed child past) (childless i) false;
+      limiter = unused;
+    }) where
+      no_child : has_child e.id (known_children past) ≡ false
+      no_child = falsely (has_child e.id (known_children past)) (list_any (same_id e.id) (record_ids past)) (child_in_records goal past sound e.id) none
+
+      childless : None ≡ child_known e.id past
+      childless = sym (find_none (is_of e.id) (known_children past) no_child)
+
+      unasked : None ≡ open_of e.id past
+      unasked = read (open_of e.id past) refl where
+        read : (o : Option Ask) → open_of e.id past ≡ o → None ≡ o
+        read None is = refl
+        read (Some ask) is = both_ways (list_any (same_id e.id) (record_ids past)) (open_in_records goal past sound e.id ask is) none
+
+      unlisted : None ≡ entry_of e.id (table_of past)
+      unlisted = sym (find_none (has_id e.id) (table_of past) (falsely (list_any (has_id e.id) (table_of past)) (list_any (same_id e.id) (record_ids past)) (listed_record e.id past) none))
+
+      unlooked : false ≡ is_to_look e.id past
+      unlooked = sym (ap (λ b. b && wants_look e.id past) no_child)
+
+  entry_same : (e : Entry) → entry_of e.id table ≡ Some e → judged_by (stage_of past) table (adopted e (slot_of e.id (records_of past))) ≡ record_of next e.id
+  entry_same e found = ap (judged_by (stage_of past) table) (adopted_same e) ∙ judged_slot (stage_of past) refl e.id (entered_slot e) refl refl refl refl ∙ (λ i. record (record_of next e.id) { table_act = option_map (λ (x : Entry). x.act) (sym found i); asked = asked_same e found i; called = never (entry_of e.id table) i; limiter = unused_same (entry_of e.id table) i })
+
+  entries_same : judged_in (stage_of past) table (entry_slots table (records_of past)) ≡ map (record_of next) (ids_of table)
+  entries_same = judged_all (stage_of past) table (entry_slots table (records_of past)) ∙ twice table ∙ along table distinct (λ e. judged_by (stage_of past) table (adopted e (slot_of e.id (records_of past)))) (λ e. record_of next e.id) entry_same ∙ sym (by_ids table) where
+    twice : (es : List Entry) → map (judged_by (stage_of past) table) (map (λ (e : Entry). adopted e (slot_of e.id (records_of past))) es) ≡ map (λ (e : Entry). judged_by (stage_of past) table (adopted e (slot_of e.id (records_of past)))) es
+    twice [] = refl
+    twice (e ∷ es) = ap (λ rest. judged_by (stage_of past) table (adopted e (slot_of e.id (records_of past))) ∷ rest) (twice es)
+
+    by_ids : (es : List Entry) → map (record_of next) (ids_of es) ≡ map (λ (e : Entry). record_of next e.id) es
+    by_ids [] = refl
+    by_ids (e ∷ es) = ap (λ rest. record_of next e.id ∷ rest) (by_ids es)
+
+  -- an id that is not in the table, and has a known child
+  abbrev is_kept : List ℕ → Bool
+  is_kept id = has_child id (known_children past)
+
+  abbrev has_left : List ℕ → Bool
+  has_left id = not (list_any (has_id id) table)
+
+  abbrev stays : List ℕ → Bool
+  stays id = has_left id && is_kept id
+
+  -- the ids of the records that are left over
+  left_over_ids : filter (λ id. is_left_over table (record_of past id)) (record_ids past) ≡ filter stays (ids_of (table_of past) ++ left_ids past)
+  left_over_ids = filter_agree (λ id. is_left_over table (record_of past id)) stays same (record_ids past) ∙ filter-append stays (ids_of (table_of past)) (filter is_kept (left_ids past)) ∙ ap (λ rest. filter stays (ids_of (table_of past)) ++ rest) (filter_within stays is_kept (λ id h. (and_parts (has_left id) (is_kept id) h).1) (left_ids past)) ∙ sym (filter-append stays (ids_of (table_of past)) (left_ids past)) where
+    same : (id : List ℕ) → is_left_over table (record_of past id) ≡ stays id
+    same id = (λ i. child_some id past i && none_found (has_id id) table i) ∙ and_comm (is_kept id) (has_left id)
+
+  left_ids_next : filter is_kept (left_ids next) ≡ filter stays (ids_of (table_of past) ++ left_ids past)
+  left_ids_next = filter_both is_kept has_left (ids_of (table_of past) ++ left_ids past)
+
+  left_same : (id : List ℕ) → stays id ≡ true → judged_by (stage_of past) table (left_over (record_of past id)) ≡ record_of next id
+  left_same id h = judged_slot (stage_of past) refl id (left_over (record_of past id)) refl refl refl refl ∙ (λ i. record (record_of next id) { table_act = option_map (λ (x : Entry). x.act) (none i); asked = off_asked none i; called = never (entry_of id table) i; limiter = unused_same (entry_of id table) i }) where
+    none : None ≡ entry_of id table
+    none = sym (find_none (has_id id) table (not-true (list_any (has_id id) table) (and_parts (has_left id) (is_kept id) h).0))
+
+    off_asked : None ≡ entry_of id table → false ≡ asked_of id next
+    off_asked gone = ap (λ o. option_map_or (λ (x : Entry). is_asked x.id next) o false) gone
+
+  lefts_same : judged_in (stage_of past) table (left_slots table (records_of past)) ≡ map (record_of next) (filter is_kept (left_ids next))
+  lefts_same = judged_all (stage_of past) table (left_slots table (records_of past)) ∙ ap (λ slots. map (judged_by (stage_of past) table) (map left_over slots)) (filter_mapped (is_left_over table) (record_of past) (record_ids past) ∙ ap (map (record_of past)) left_over_ids) ∙ ap (map (judged_by (stage_of past) table)) (mapped left_over (record_of past) (λ id. left_over (record_of past id)) (λ id. refl) kept) ∙ mapped (judged_by (stage_of past) table) (λ id. left_over (record_of past id)) (λ id. judged_by (stage_of past) table (left_over (record_of past id))) (λ id. refl) kept ∙ mapped_passing stays (λ id. judged_by (stage_of past) table (left_over (record_of past id))) (record_of next) left_same (ids_of (table_of past) ++ left_ids past) ∙ ap (map (record_of next)) (sym left_ids_next) where
+    kept : List (List ℕ)
+    kept = filter stays (ids_of (table_of past) ++ left_ids past)
+
+pub table_records : (goal : Goal) (table : List Entry) (past : List Event) → is_sound goal past ≡ true → is_distinct table ≡ true → judged_in (stage_of past) table (adopting.after_adopt table (records_of past)) ≡ records_of (NewTable table ∷ past)
+table_records goal table past sound distinct = both (stage_of past) (entry_slots table (records_of past)) (left_slots table (records_of past)) ∙ (λ i. entries_same goal table past sound distinct i ++ lefts_same goal table past sound distinct i) ∙ sym (map-append (record_of (NewTable table ∷ past)) (ids_of table) (filter (λ id. has_child id (known_children past)) (left_ids (NewTable table ∷ past)))) where
+  both : (o : Option Stage) (xs ys : List SlotState) → judged_in o table (xs ++ ys) ≡ judged_in o table xs ++ judged_in o table ys
+  both None xs ys = refl
+  both (Some stage) xs ys = map-append (after_judge table stage) xs ys

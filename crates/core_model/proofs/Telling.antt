@@ -1,0 +1,326 @@
+-- An answer that is told makes of the records what the past says after it, and it is of the order that a record has.
+use Rattle.std.proofs.Common.{◌≡◌, refl, sym, ◌∙◌, ap, ℕ, Bool, true, false, not, ◌&&◌, ◌||◌, cond, List, [], ◌∷◌, ◌++◌, map, filter, Option, Some, None, is_some, is_none, Ok, Err}
+use Rattle.std.specs.List.{list_any}
+use Rattle.std.specs.Option.{option_map, option_map_or}
+use Rattle.std.proofs.lemmas.Bool.{false≢true, and_right, or_parts, not-true}
+use Rattle.std.proofs.lemmas.List.Elements.{filter-append, filter_agree}
+use Rattle.init_words.specs.declared.entries.Entry.{Entry}
+use Rattle.init_words.specs.declared.children.Status.{Status}
+use Rattle.init_words.specs.declared.orders.Ask.{Ask}
+use Rattle.init_words.specs.declared.orders.Ask.TheVariants.{Start, Look, Term, Kill}
+use Rattle.init_words.specs.declared.orders.Answer.{Answer}
+use Rattle.init_words.specs.declared.orders.Answer.TheVariants as answer
+use Rattle.init_words.specs.declared.refusals.Refusal.TheVariants.{WrongAnswer}
+use Rattle.init_words.specs.Ids.{same_id}
+use Rattle.init_words.specs.Orders.{answers, is_hit, is_miss}
+use Rattle.init_words.proofs.Same.{same_id-is, same_id-self, same_id-sym}
+use Rattle.init_words.proofs.Tests.{both_ways, and_false, and_true, filter_both, find_none}
+use Rattle.inittab_text.specs.Tables.{ids_of, has_id, entry_of, act_of}
+use Rattle.init_trace.specs.declared.happenings.Happening.TheVariants.{Told}
+use Rattle.init_trace.specs.declared.steps.Goal.{Goal}
+use Rattle.init_trace.specs.Event.{Event}
+use Rattle.init_trace.specs.Past.{table_of, time_of, Child, is_of, has_child, open_of, newborn, unreaped_children, known_children}
+use Rattle.init_trace.specs.Wanted.{is_excluded}
+use Rattle.init_trace.specs.Answered.{answered_of, child_after}
+use Rattle.init_trace.specs.Spells.{untold_hits, has_untold_miss, told_at, spell_hits, is_missed}
+use Rattle.init_trace.specs.Due.{left_ids, record_ids, wants_look}
+use Rattle.init_trace.specs.Sound.{is_sound}
+use Rattle.trace_laws.proofs.Dues.{is_signal}
+use Rattle.trace_laws.proofs.Orders.{told_other, same_has}
+use Rattle.trace_laws.proofs.Told.{answers_open, same_find, told_child}
+use Rattle.trace_laws.proofs.Records.{open_in_records, start_in_table, ids_listed}
+use Rattle.trace_laws.proofs.Spells.{missed_none, spell_told, missed_told, Tells, answered_tells}
+use Rattle.trace_laws.proofs.Stopping.{born_open, newborn_spared, unborn_childless, unborn_unlooked, left_apart, signal_excluded, signal_unmissed, has_after, told_leaves, answered_known}
+use Rattle.child_table.specs.declared.children.Stop.{Stop}
+use Rattle.child_table.specs.State.{SlotState}
+use Rattle.child_table.specs.Changes.{after_hit, after_answer, is_over}
+use Rattle.child_table.specs.Lists as lists
+use Rattle.core_model.specs.Fit.{child_known, living, stop_after, stop_known, stop_of, is_to_look, was_missed, record_of, records_of}
+use Rattle.core_model.proofs.Acts.{found_own, child_some, found_record, stop_same, missed_same}
+use Rattle.core_model.proofs.Tables.{none_found, mapped, filter_mapped, mapped_passing}
+
+-- the record of an answered id is there, with an open order that is answered so
+module _ (goal : Goal) (past : List Event) (sound : is_sound goal past ≡ true) (id : List ℕ) (given : Answer) (is : answered_of id past ≡ Some given) where
+  answered_record : lists.slot_of id (records_of past) ≡ Some (record_of past id)
+  answered_record = read (open_of id past) refl (answers_open goal past sound id given is) where
+    read : (o : Option Ask) → open_of id past ≡ o → option_map_or (answers given) o false ≡ true → lists.slot_of id (records_of past) ≡ Some (record_of past id)
+    read None order h = absurd (false≢true h)
+    read (Some ask) order h = found_record past id (record_ids past) (open_in_records goal past sound id ask order)
+
+  pub told_taken : lists.refusal_of (lists.order_in id (records_of past)) given ≡ Ok tt
+  told_taken = ap (λ o. lists.refusal_of (lists.order_of o) given) answered_record ∙ read (open_of id past) (answers_open goal past sound id given is) where
+    read : (o : Option Ask) → option_map_or (answers given) o false ≡ true → lists.refusal_of o given ≡ Ok tt
+    read None h = absurd (false≢true h)
+    read (Some ask) h = ap (λ b. cond b (Ok tt) (Err WrongAnswer)) h
+
+-- a Told of another id leaves the record of an id
+module _ (past : List Event) (id x : List ℕ) (differ : same_id x id ≡ false) where
+  other_child : child_known x (Told id ∷ past) ≡ child_known x past
+  other_child = same_find (is_of x) (known_children (Told id ∷ past)) (known_children past) (told_other x id (unreaped_children past) (known_children past) differ)
+
+  pub other_has : has_child x (known_children (Told id ∷ past)) ≡ has_child x (known_children past)
+  other_has = same_has x (known_children (Told id ∷ past)) (known_children past) (told_other x id (unreaped_children past) (known_children past) differ)
+
+  apart : (child : Child) → child_known x past ≡ Some child → same_id child.id id ≡ false
+  apart child there = ap (λ y. same_id y id) (found_own x (known_children past) child there) ∙ differ
+
+  other_stop : stop_of x (Told id ∷ past) ≡ stop_of x past
+  other_stop = ap (stop_known (Told id ∷ past)) other_child ∙ stop_same (Told id ∷ past) past (child_known x past) (λ child there. refl) (λ child there. spell_told child id past ∙ ap (λ b. cond (b && is_excluded past child) (map (told_at (time_of past)) (untold_hits child.id past) ++ spell_hits child past) (spell_hits child past)) (apart child there))
+
+  other_missed : was_missed x (Told id ∷ past) ≡ was_missed x past
+  other_missed = ap (λ o. option_map_or (λ child. is_missed child (Told id ∷ past)) o false) other_child ∙ missed_same (Told id ∷ past) past (child_known x past) (λ child there. missed_told child id past ∙ ap (λ b. is_excluded past child && (b && has_untold_miss child.id past || is_missed child past)) (apart child there) ∙ goes_on (is_excluded past child) (is_missed child past) (missed_none child past)) where
+    goes_on : (b c : Bool) → (b ≡ false → c ≡ false) → (b && c) ≡ c
+    goes_on true c none = refl
+    goes_on false c none = sym (none refl)
+
+  told_apart : record_of past x ≡ record_of (Told id ∷ past) x
+  told_apart = sym (λ i. record (record_of past x) {
+    child = option_map living (other_child i);
+    order = cond (differ i) None (open_of x past);
+    stop = other_stop i;
+    look = other_has i && wants_look x past;
+    missed = other_missed i;
+  })
+
+-- the record of the id whose answer is told
+module _ (goal : Goal) (past : List Event) (sound : is_sound goal past ≡ true) (id : List ℕ) where
+  abbrev next : List Event
+  next = Told id ∷ past
+
+  -- the signals and the Misses of the known child, by those that are under way
+  hits_next : (child : Child) → child_known id past ≡ Some child → (hits : List (Option Ask)) → untold_hits id past ≡ hits → spell_hits child next ≡ cond (is_excluded past child) (map (told_at (time_of past)) hits ++ spell_hits child past) (spell_hits child past)
+  hits_next child there hits untold = spell_told child id past ∙ (λ i. cond (own i && is_excluded past child) (map (told_at (time_of past)) (under i) ++ spell_hits child past) (spell_hits child past)) where
+    own : same_id child.id id ≡ true
+    own = ap (λ y. same_id y id) (found_own id (known_children past) child there) ∙ same_id-self id
+
+    under : untold_hits child.id past ≡ hits
+    under = ap (λ y. untold_hits y past) (found_own id (known_children past) child there) ∙ untold
+
+  miss_next : (child : Child) → child_known id past ≡ Some child → (miss : Bool) → has_untold_miss id past ≡ miss → is_missed child next ≡ (is_excluded past child && (miss || is_missed child past))
+  miss_next child there miss untold = missed_told child id past ∙ (λ i. is_excluded past child && (own i && under i || is_missed child past)) where
+    own : same_id child.id id ≡ true
+    own = ap (λ y. same_id y id) (found_own id (known_children past) child there) ∙ same_id-self id
+
+    under : has_untold_miss child.id past ≡ miss
+    under = ap (λ y. has_untold_miss y past) (found_own id (known_children past) child there) ∙ untold
+
+  -- where none is under way, the stop and the flag stay
+  same_stop : untold_hits id past ≡ [] → stop_of id past ≡ stop_known next (child_known id past)
+  same_stop untold = sym (stop_same next past (child_known id past) (λ child there. refl) (λ child there. hits_next child there [] untold ∙ alike (is_excluded past child) (spell_hits child past))) where
+    alike : {X : Type 0} (b : Bool) (x : X) → cond b x x ≡ x
+    alike true x = refl
+    alike false x = refl
+
+  same_flag : has_untold_miss id past ≡ false → was_missed id past ≡ option_map_or (λ child. is_missed child next) (child_known id past) false
+  same_flag untold = sym (missed_same next past (child_known id past) (λ child there. miss_next child there false untold ∙ goes_on (is_excluded past child) (is_missed child past) (missed_none child past))) where
+    goes_on : (b c : Bool) → (b ≡ false → c ≡ false) → (b && c) ≡ c
+    goes_on true c none = refl
+    goes_on false c none = sym (none refl)
+
+  -- the record with a child, a stop, a look and a Miss that are those of the past after the Told
+  told_as : (child : Option Child) (stop : Option Stop) (look missed : Bool) → child_known id next ≡ child → stop ≡ stop_known next child → look ≡ is_to_look id next → missed ≡ option_map_or (λ (c : Child). is_missed c next) child false → record (record_of past id) { child = option_map living child; order = None; stop = stop; look = look; missed = missed } ≡ record_of next id
+  told_as child stop look missed known stops looks misses =
+      let stops_all : stop ≡ stop_of id next = stops ∙ ap (stop_known next) (sym known) in
+      let misses_all : missed ≡ was_missed id next = misses ∙ ap (λ o. option_map_or (λ (c : Child). is_missed c next) o false) (sym known) in
+      λ i. record (record_of past id) {
+        child = option_map living (sym known i);
+        order = cond (sym (same_id-self id) i) None (open_of id past);
+        stop = stops_all i;
+        look = looks i;
+        missed = misses_all i;
+      }
+
+  -- of an answer that leaves the child
+  module _ (given : Answer) (is : answered_of id past ≡ Some given) (child_stays : (o : Option Child) → child_after id past given o ≡ o) (has_stays : (b : Bool) → has_after given b ≡ b) where
+    stays_with : (stop : Option Stop) (missed : Bool) → stop ≡ stop_known next (child_known id past) → missed ≡ option_map_or (λ child. is_missed child next) (child_known id past) false → record (record_of past id) { order = None; stop = stop; missed = missed } ≡ record_of next id
+    stays_with stop missed stops misses = told_as (child_known id past) stop (is_to_look id past) missed (told_child goal past sound id given is ∙ child_stays (child_known id past)) stops (ap (λ b. b && wants_look id past) (sym (told_leaves goal past sound id given is ∙ has_stays (has_child id (known_children past))))) misses
+
+    abbrev tells : Tells id past given
+    tells = answered_tells goal past sound id given is
+
+    no_hit : is_hit given ≡ false → stop_of id past ≡ stop_known next (child_known id past)
+    no_hit none = same_stop (tells.hits ∙ ap (λ b. cond b (open_of id past ∷ []) []) none)
+
+    no_miss : is_miss given ≡ false → was_missed id past ≡ option_map_or (λ child. is_missed child next) (child_known id past) false
+    no_miss none = same_flag (tells.miss ∙ none)
+
+    only_order : is_hit given ≡ false → is_miss given ≡ false → record (record_of past id) { order = None } ≡ record_of next id
+    only_order hit miss = stays_with (stop_of id past) (was_missed id past) (no_hit hit) (no_miss miss)
+
+  -- a signal was sent: to an excluded child, on a TERM or a KILL
+  hit_stop : answered_of id past ≡ Some answer.Hit → after_hit (open_of id past) (time_of past) (stop_of id past) ≡ stop_known next (child_known id past)
+  hit_stop is = by_child (child_known id past) refl where
+    tells : Tells id past answer.Hit
+    tells = answered_tells goal past sound id answer.Hit is
+
+    there : has_child id (known_children past) ≡ true
+    there = answered_known goal past sound id answer.Hit is refl
+
+    sent : (ask : Ask) → open_of id past ≡ Some ask → is_signal ask ≡ true → (child : Child) → child_known id past ≡ Some child → Some (stop_after (told_at (time_of past) (Some ask) ∷ spell_hits child past)) ≡ stop_known next (Some child)
+    sent ask order signal child known = sym (λ i. cond (excluded i) (Some (stop_after (hits i))) None) where
+      excluded : is_excluded past child ≡ true
+      excluded = signal_excluded goal past sound id ask order signal child known
+
+      hits : spell_hits child next ≡ told_at (time_of past) (Some ask) ∷ spell_hits child past
+      hits = hits_next child known (Some ask ∷ []) (tells.hits ∙ ap (λ o. o ∷ []) order) ∙ ap (λ b. cond b (told_at (time_of past) (Some ask) ∷ spell_hits child past) (spell_hits child past)) excluded
+
+    by_order : (o : Option Ask) → open_of id past ≡ o → option_map_or (answers answer.Hit) o false ≡ true → (child : Child) → child_known id past ≡ Some child → after_hit o (time_of past) (stop_of id past) ≡ stop_known next (Some child)
+    by_order None order h child known = absurd (false≢true h)
+    by_order (Some Start) order h child known = absurd (false≢true h)
+    by_order (Some Look) order h child known = absurd (false≢true h)
+    by_order (Some Term) order h child known = sent Term order refl child known
+    by_order (Some Kill) order h child known = sent Kill order refl child known
+
+    by_child : (o : Option Child) → child_known id past ≡ o → after_hit (open_of id past) (time_of past) (stop_of id past) ≡ stop_known next o
+    by_child None known = both_ways (has_child id (known_children past)) there (sym (child_some id past) ∙ ap (λ o. is_some (option_map living o)) known)
+    by_child (Some child) known = by_order (open_of id past) refl (answers_open goal past sound id answer.Hit is) child known
+
+  -- and none missed the child before it
+  hit_flag : answered_of id past ≡ Some answer.Hit → false ≡ option_map_or (λ child. is_missed child next) (child_known id past) false
+  hit_flag is = by_child (child_known id past) refl where
+    tells : Tells id past answer.Hit
+    tells = answered_tells goal past sound id answer.Hit is
+
+    sent : (ask : Ask) → open_of id past ≡ Some ask → is_signal ask ≡ true → (child : Child) → child_known id past ≡ Some child → false ≡ is_missed child next
+    sent ask order signal child known = sym (miss_next child known false tells.miss ∙ and_right (is_excluded past child) (is_missed child past) (signal_unmissed goal past sound id ask order signal child known))
+
+    by_order : (o : Option Ask) → open_of id past ≡ o → option_map_or (answers answer.Hit) o false ≡ true → (child : Child) → child_known id past ≡ Some child → false ≡ is_missed child next
+    by_order None order h child known = absurd (false≢true h)
+    by_order (Some Start) order h child known = absurd (false≢true h)
+    by_order (Some Look) order h child known = absurd (false≢true h)
+    by_order (Some Term) order h child known = sent Term order refl child known
+    by_order (Some Kill) order h child known = sent Kill order refl child known
+
+    by_child : (o : Option Child) → child_known id past ≡ o → false ≡ option_map_or (λ child. is_missed child next) o false
+    by_child None known = refl
+    by_child (Some child) known = by_order (open_of id past) refl (answers_open goal past sound id answer.Hit is) child known
+
+  -- a signal could not be sent
+  miss_flag : answered_of id past ≡ Some answer.Miss → true ≡ option_map_or (λ child. is_missed child next) (child_known id past) false
+  miss_flag is = by_child (child_known id past) refl where
+    tells : Tells id past answer.Miss
+    tells = answered_tells goal past sound id answer.Miss is
+
+    there : has_child id (known_children past) ≡ true
+    there = answered_known goal past sound id answer.Miss is refl
+
+    sent : (ask : Ask) → open_of id past ≡ Some ask → is_signal ask ≡ true → (child : Child) → child_known id past ≡ Some child → true ≡ is_missed child next
+    sent ask order signal child known = sym (miss_next child known true tells.miss ∙ ap (λ b. b && true) (signal_excluded goal past sound id ask order signal child known))
+
+    by_order : (o : Option Ask) → open_of id past ≡ o → option_map_or (answers answer.Miss) o false ≡ true → (child : Child) → child_known id past ≡ Some child → true ≡ is_missed child next
+    by_order None order h child known = absurd (false≢true h)
+    by_order (Some Start) order h child known = absurd (false≢true h)
+    by_order (Some Look) order h child known = absurd (false≢true h)
+    by_order (Some Term) order h child known = sent Term order refl child known
+    by_order (Some Kill) order h child known = sent Kill order refl child known
+
+    by_child : (o : Option Child) → child_known id past ≡ o → true ≡ option_map_or (λ child. is_missed child next) o false
+    by_child None known = both_ways (has_child id (known_children past)) there (sym (child_some id past) ∙ ap (λ o. is_some (option_map living o)) known)
+    by_child (Some child) known = by_order (open_of id past) refl (answers_open goal past sound id answer.Miss is) child known
+
+  -- a birth: of a child that is not excluded, of an id that had none
+  born_same : (n : ℕ) → answered_of id past ≡ Some (answer.Born n) → after_answer (answer.Born n) (time_of past) (record_of past id) ≡ record_of next id
+  born_same n is = told_as (Some (newborn id n past)) None false (was_missed id past) (told_child goal past sound id (answer.Born n) is) (sym (ap (λ b. cond b (Some (stop_after (spell_hits (newborn id n past) next))) None) spared)) (sym (ap (λ b. has_child id (known_children next) && b) (unborn_unlooked goal past sound id n is) ∙ and_false (has_child id (known_children next)))) (ap (λ o. option_map_or (λ (c : Child). is_missed c past) o false) (find_none (is_of id) (known_children past) (unborn_childless goal past sound id n is)) ∙ sym (missed_none (newborn id n past) next spared)) where
+    spared : is_excluded past (newborn id n past) ≡ false
+    spared = newborn_spared goal past sound id n is
+
+  ended_same : (status : Status) → answered_of id past ≡ Some (answer.Ended status) → after_answer (answer.Ended status) (time_of past) (record_of past id) ≡ record_of next id
+  ended_same status is = told_as None None false false (told_child goal past sound id (answer.Ended status) is) refl (sym (ap (λ b. b && wants_look id past) (told_leaves goal past sound id (answer.Ended status) is))) refl
+
+  told_own : (given : Answer) → answered_of id past ≡ Some given → after_answer given (time_of past) (record_of past id) ≡ record_of next id
+  told_own (answer.Born n) is = born_same n is
+  told_own (answer.Ended status) is = ended_same status is
+  told_own answer.NotBorn is = only_order answer.NotBorn is (λ o. refl) (λ b. refl) refl refl
+  told_own answer.Alive is = only_order answer.Alive is (λ o. refl) (λ b. refl) refl refl
+  told_own answer.NoLook is = only_order answer.NoLook is (λ o. refl) (λ b. refl) refl refl
+  told_own answer.Hit is = stays_with answer.Hit is (λ o. refl) (λ b. refl) (after_hit (open_of id past) (time_of past) (stop_of id past)) false (hit_stop is) (hit_flag is)
+  told_own answer.Miss is = stays_with answer.Miss is (λ o. refl) (λ b. refl) (stop_of id past) true (no_hit answer.Miss is (λ o. refl) (λ b. refl) refl) (miss_flag is)
+
+-- a filter that hides one id alone, where it isn't listed; and two filters that are one on the other ids
+hides_none : (id : List ℕ) (xs : List (List ℕ)) → list_any (same_id id) xs ≡ false → filter (λ x. not (same_id id x)) xs ≡ xs
+hides_none id [] none = refl
+hides_none id (x ∷ xs) none =
+    let parts = or_parts (same_id id x) (list_any (same_id id) xs) none in
+    rw parts.0 (ap (λ rest. x ∷ rest) (hides_none id xs parts.1))
+
+alike_but : (id : List ℕ) (p q : List ℕ → Bool) → ((x : List ℕ) → same_id id x ≡ false → p x ≡ q x) → (xs : List (List ℕ)) → list_any (same_id id) xs ≡ false → filter p xs ≡ filter q xs
+alike_but id p q same [] none = refl
+alike_but id p q same (x ∷ xs) none =
+    let parts = or_parts (same_id id x) (list_any (same_id id) xs) none in
+    λ i. cond (same x parts.0 i) (x ∷ alike_but id p q same xs parts.1 i) (alike_but id p q same xs parts.1 i)
+
+-- an action is known exactly of the ids of a table
+act_listed : (id : List ℕ) (es : List Entry) → is_none (act_of id es) ≡ not (list_any (has_id id) es)
+act_listed id es = mapped_none (entry_of id es) ∙ none_found (has_id id) es where
+  mapped_none : (o : Option Entry) → is_none (option_map (λ (e : Entry). e.act) o) ≡ is_none o
+  mapped_none None = refl
+  mapped_none (Some e) = refl
+
+module _ (goal : Goal) (past : List Event) (sound : is_sound goal past ≡ true) (id : List ℕ) (given : Answer) (is : answered_of id past ≡ Some given) where
+  abbrev after : List Event
+  after = Told id ∷ past
+
+  abbrev is_kept : List ℕ → Bool
+  is_kept x = has_child x (known_children past)
+
+  abbrev kept_after : List ℕ → Bool
+  kept_after x = has_child x (known_children after)
+
+  -- which ids have a known child after it
+  kept_other : (x : List ℕ) → same_id id x ≡ false → kept_after x ≡ is_kept x
+  kept_other x differ = other_has past id x (same_id-sym x id ∙ differ)
+
+  kept_own : (x : List ℕ) → same_id id x ≡ true → kept_after x ≡ has_after given (is_kept x)
+  kept_own x same = ap kept_after (sym (same_id-is id x same)) ∙ told_leaves goal past sound id given is ∙ ap (λ y. has_after given (is_kept y)) (same_id-is id x same)
+
+  -- where none of its records goes, its records are of the same ids, and each is as the past has it
+  changed_same : record_ids past ≡ record_ids after → lists.with_changed id (after_answer given (time_of past)) (records_of past) ≡ records_of after
+  changed_same ids = mapped (lists.changed id (after_answer given (time_of past))) (record_of past) (record_of after) (λ x. by x (same_id id x) refl) (record_ids past) ∙ ap (map (record_of after)) ids where
+    by : (x : List ℕ) (b : Bool) → same_id id x ≡ b → cond (same_id id x) (after_answer given (time_of past) (record_of past x)) (record_of past x) ≡ record_of after x
+    by x true same = ap (λ b. cond b (after_answer given (time_of past) (record_of past x)) (record_of past x)) same ∙ ap (λ y. after_answer given (time_of past) (record_of past y)) (sym (same_id-is id x same)) ∙ told_own goal past sound id given is ∙ ap (record_of after) (same_id-is id x same)
+    by x false differ = ap (λ b. cond b (after_answer given (time_of past) (record_of past x)) (record_of past x)) differ ∙ told_apart past id x (same_id-sym x id ∙ differ)
+
+  -- the answer ends no record: of an id of the table, or one that leaves the child of an id
+  ids_stay : list_any (has_id id) (table_of past) ≡ true → record_ids past ≡ record_ids after
+  ids_stay there = ap (λ rest. ids_of (table_of past) ++ rest) (alike_but id is_kept kept_after (λ x differ. sym (kept_other x differ)) (left_ids past) (left_apart goal past sound id there))
+
+  ids_kept : ((b : Bool) → has_after given b ≡ b) → record_ids past ≡ record_ids after
+  ids_kept stays = ap (λ rest. ids_of (table_of past) ++ rest) (filter_agree is_kept kept_after (λ x. by x (same_id id x) refl) (left_ids past)) where
+    by : (x : List ℕ) (b : Bool) → same_id id x ≡ b → is_kept x ≡ kept_after x
+    by x true same = sym (kept_own x same ∙ stays (is_kept x))
+    by x false differ = sym (kept_other x differ)
+
+  -- the record of a child that ended goes, where the table doesn't have the id
+  ended_without : list_any (has_id id) (table_of past) ≡ false → ((b : Bool) → has_after given b ≡ false) → lists.without id (records_of past) ≡ records_of after
+  ended_without gone ends = filter_mapped (λ (slot : SlotState). not (lists.is_slot_of id slot)) (record_of past) (record_ids past) ∙ mapped_passing others (record_of past) (record_of after) (λ x other. told_apart past id x (same_id-sym x id ∙ not-true (same_id id x) other)) (record_ids past) ∙ ap (map (record_of after)) ids where
+    others : List ℕ → Bool
+    others x = not (same_id id x)
+
+    by : (x : List ℕ) (b : Bool) → same_id id x ≡ b → (is_kept x && not b) ≡ kept_after x
+    by x true same = and_false (is_kept x) ∙ sym (kept_own x same ∙ ends (is_kept x))
+    by x false differ = and_true (is_kept x) ∙ sym (kept_other x differ)
+
+    ids : filter others (record_ids past) ≡ record_ids after
+    ids = filter-append others (ids_of (table_of past)) (filter is_kept (left_ids past)) ∙ (λ i. hides_none id (ids_of (table_of past)) (ids_listed id (table_of past) ∙ gone) i ++ (filter_both others is_kept (left_ids past) ∙ filter_agree (λ x. is_kept x && others x) kept_after (λ x. by x (same_id id x) refl) (left_ids past)) i)
+
+  over_same : lists.is_over_in id given (records_of past) ≡ is_over given (record_of past id)
+  over_same = ap (lists.is_over_of given) (answered_record goal past sound id given is)
+
+  stays_same : is_over given (record_of past id) ≡ false → record_ids past ≡ record_ids after → lists.after_told id given (time_of past) (records_of past) ≡ records_of after
+  stays_same stays ids = ap (λ b. cond b (lists.without id (records_of past)) (lists.with_changed id (after_answer given (time_of past)) (records_of past))) (over_same ∙ stays) ∙ changed_same ids
+
+  goes_same : is_over given (record_of past id) ≡ true → list_any (has_id id) (table_of past) ≡ false → ((b : Bool) → has_after given b ≡ false) → lists.after_told id given (time_of past) (records_of past) ≡ records_of after
+  goes_same over gone ends = ap (λ b. cond b (lists.without id (records_of past)) (lists.with_changed id (after_answer given (time_of past)) (records_of past))) (over_same ∙ over) ∙ ended_without gone ends
+
+-- the records after an answer was told
+pub told_records : (goal : Goal) (past : List Event) → is_sound goal past ≡ true → (id : List ℕ) (given : Answer) → answered_of id past ≡ Some given → lists.after_told id given (time_of past) (records_of past) ≡ records_of (Told id ∷ past)
+told_records goal past sound id (answer.Born n) is = stays_same goal past sound id (answer.Born n) is refl (ids_stay goal past sound id (answer.Born n) is (start_in_table goal past sound id (born_open goal past sound id n is)))
+told_records goal past sound id (answer.Ended status) is = by (list_any (has_id id) (table_of past)) refl where
+  by : (b : Bool) → list_any (has_id id) (table_of past) ≡ b → lists.after_told id (answer.Ended status) (time_of past) (records_of past) ≡ records_of (Told id ∷ past)
+  by true there = stays_same goal past sound id (answer.Ended status) is (act_listed id (table_of past) ∙ ap not there) (ids_stay goal past sound id (answer.Ended status) is there)
+  by false gone = goes_same goal past sound id (answer.Ended status) is (act_listed id (table_of past) ∙ ap not gone) gone (λ b. refl)
+told_records goal past sound id answer.NotBorn is = stays_same goal past sound id answer.NotBorn is refl (ids_kept goal past sound id answer.NotBorn is (λ b. refl))
+told_records goal past sound id answer.Alive is = stays_same goal past sound id answer.Alive is refl (ids_kept goal past sound id answer.Alive is (λ b. refl))
+told_records goal past sound id answer.NoLook is = stays_same goal past sound id answer.NoLook is refl (ids_kept goal past sound id answer.NoLook is (λ b. refl))
+told_records goal past sound id answer.Hit is = stays_same goal past sound id answer.Hit is refl (ids_kept goal past sound id answer.Hit is (λ b. refl))
+told_records goal past sound id answer.Miss is = stays_same goal past sound id answer.Miss is refl (ids_kept goal past sound id answer.Miss is (λ b. refl))

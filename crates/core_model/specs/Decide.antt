@@ -1,0 +1,205 @@
+-- The step that init takes, as a function of what it keeps (init(8)).
+use Rattle.std.specs.Prelude.{ℕ, Bool, false, not, ◌&&◌, ◌||◌, ◌+◌, if◌then◌else◌, List, [], ◌∷◌, zip, nat_le, Option, Some, None, is_some, is_none}
+use Rattle.std.specs.List.{list_any, list_all}
+use Rattle.init_words.specs.declared.entries.Entry.{Entry}
+use Rattle.init_words.specs.declared.levels.Level.{Level}
+use Rattle.init_words.specs.declared.levels.Level.TheVariants.{S}
+use Rattle.init_words.specs.declared.levels.Mark.TheVariants.{At}
+use Rattle.init_words.specs.declared.stages.Stage.{Stage}
+use Rattle.init_words.specs.declared.stages.Stage.TheVariants as stage
+use Rattle.init_words.specs.declared.orders.Ask.TheVariants.{Start, Look, Term, Kill}
+use Rattle.init_words.specs.Actions.{wanted_by, is_limited, served_by}
+use Rattle.init_words.specs.Entries.{starts_of, waited_of}
+use Rattle.init_words.specs.Levels.{same_level, names}
+use Rattle.respawn_limit.specs.Window.{may_of, is_held}
+use Rattle.init_trace.specs.declared.steps.Step.{Step}
+use Rattle.init_trace.specs.declared.steps.Step.TheVariants.{Enter, Order, Hold, Settle, Reread, Reexec, Idle}
+use Rattle.init_trace.specs.declared.steps.Goal.{Goal}
+use Rattle.init_trace.specs.Wanted.{is_order}
+use Rattle.init_trace.specs.Wishes.{in_run}
+use Rattle.child_table.specs.declared.children.Stop.{Stop}
+use Rattle.child_table.specs.declared.children.Stop.TheVariants.{Due, Termed}
+use Rattle.child_table.specs.State.{SlotState}
+use Rattle.child_table.specs.Changes.{allows}
+use Rattle.child_table.specs.Lists.{is_quiet}
+use Rattle.core_model.specs.News.{has_news, first_news}
+use Rattle.core_model.specs.State.{CoreState}
+
+abbrev pub or_else : Option Step → Option Step → Option Step
+or_else None later = later
+or_else (Some step) later = Some step
+
+abbrev pub or_idle : Option Step → Step
+or_idle None = Idle
+or_idle (Some step) = step
+
+-- a wish for another level: through Boot on the first way to a level other than S
+abbrev pub level_step : Bool → Option Goal → Option Step
+level_step booted None = None
+level_step booted (Some wish) =
+    let first_way = not (same_level wish.level S) && not booted in
+    Some (Enter (if first_way then stage.Boot else stage.Run wish.level) wish.grace)
+
+-- the news counts in a run level alone
+abbrev pub news_step : Stage → CoreState → Option Step
+news_step stage c = if in_run (Some stage) then first_news c.news else None
+
+-- what is wished, at a point where no start and no signal is open
+abbrev pub wished_step : Stage → CoreState → Option Step
+wished_step stage c =
+    if c.reexec then Some Reexec else if c.reread then Some Reread
+    else or_else (level_step c.booted c.level_wish) (news_step stage c)
+
+abbrev pub wish_step : Stage → CoreState → Option Step
+wish_step stage c = if is_quiet c.slots then wished_step stage c else None
+
+-- a wish stands
+abbrev pub counts_news : Stage → CoreState → Bool
+counts_news stage c = in_run (Some stage) && has_news c.news
+
+abbrev pub stands : Stage → CoreState → Bool
+stands stage c = c.reexec || c.reread || is_some c.level_wish || counts_news stage c
+
+-- the signal that is due to an excluded child, by how far its stop has come: TERM, then KILL after the grace
+abbrev pub signal_step : ℕ → ℕ → List ℕ → Option Stop → Option Step
+signal_step grace now id (Some Due) = Some (Order id Term)
+signal_step grace now id (Some (Termed time)) = if nat_le (time + grace) now then Some (Order id Kill) else None
+signal_step grace now id _ = None
+
+abbrev pub stop_step : ℕ → ℕ → SlotState → Option Step
+stop_step grace now slot =
+    if is_some slot.child && is_none slot.order && not slot.missed then signal_step grace now slot.id slot.stop
+    else None
+
+-- the first signal in record order
+abbrev pub stop_among : ℕ → ℕ → List SlotState → Option Step
+stop_among grace now [] = None
+stop_among grace now (slot ∷ slots) = or_else (stop_step grace now slot) (stop_among grace now slots)
+
+-- a child is excluded: its stop has begun
+abbrev pub has_excluded : List SlotState → Bool
+has_excluded slots = list_any (λ (slot : SlotState). is_some slot.stop) slots
+
+-- the entry with this record is wanted in the stage
+abbrev pub is_wanted_slot : Stage → Entry → SlotState → Bool
+is_wanted_slot stage e slot =
+    starts_of e stage
+    && wanted_by e.act (is_none slot.child && not (is_order Start slot.order)) (not slot.asked) slot.called
+
+-- it is owed: init waits for it
+abbrev pub is_owed_slot : Stage → Entry → SlotState → Bool
+is_owed_slot stage e slot =
+    waited_of e && (is_some slot.child || is_order Start slot.order || is_wanted_slot stage e slot)
+
+-- the start or the hold of an entry that could be started, if its limiter has not held it already
+abbrev pub limited_step : ℕ → Entry → SlotState → Option Step
+limited_step now e slot =
+    if is_limited e.act then
+    (if is_held slot.limiter.held now then None
+    else Some (if allows (may_of slot.limiter now) then Order e.id Start else Hold e.id))
+    else Some (Order e.id Start)
+
+abbrev pub can_start_slot : Stage → Entry → SlotState → Bool
+can_start_slot stage e slot = is_wanted_slot stage e slot && is_none slot.child && is_none slot.order
+
+abbrev pub start_step : Stage → ℕ → Entry → SlotState → Option Step
+start_step stage now e slot = if can_start_slot stage e slot then limited_step now e slot else None
+
+-- the first start or hold in table order, up to the first owed entry
+abbrev pub start_along : Stage → ℕ → List (Entry × SlotState) → Option Step
+start_along stage now [] = None
+start_along stage now (p ∷ ps) =
+    or_else (start_step stage now p.0 p.1) (if is_owed_slot stage p.0 p.1 then None else start_along stage now ps)
+
+abbrev pub start_among : Stage → ℕ → List Entry → List SlotState → Option Step
+start_among stage now table slots = start_along stage now (zip table slots)
+
+-- nothing is left to do for the entry in Sysinit or Boot
+abbrev pub is_done_slot : Stage → Entry → SlotState → Bool
+is_done_slot stage e slot = not (is_wanted_slot stage e slot) && not (waited_of e && is_some slot.child)
+
+abbrev pub all_done : Stage → List Entry → List SlotState → Bool
+all_done stage table slots = list_all (λ (p : Entry × SlotState). is_done_slot stage p.0 p.1) (zip table slots)
+
+-- a stage of the way up is over: nothing is open in it but looks, and nothing left to do
+abbrev pub is_over_among : Stage → List Entry → List SlotState → Bool
+is_over_among stage table slots = is_quiet slots && all_done stage table slots
+
+-- after Sysinit and Boot, the stage that comes next
+abbrev pub next_stage : Stage → Level → Option Stage
+next_stage stage.Sysinit goal = Some (if same_level goal S then stage.Run S else stage.Boot)
+next_stage stage.Boot goal = Some (stage.Run goal)
+next_stage (stage.Run level) goal = None
+
+abbrev pub enter_step : Option Stage → ℕ → Option Step
+enter_step None grace = None
+enter_step (Some stage) grace = Some (Enter stage grace)
+
+abbrev pub stage_step : Stage → Goal → List Entry → List SlotState → Option Step
+stage_step stage goal table slots =
+    if is_over_among stage table slots then enter_step (next_stage stage goal.level) goal.grace else None
+
+-- no order at all is open
+abbrev pub is_idle : List SlotState → Bool
+is_idle slots = not (list_any (λ (slot : SlotState). is_some slot.order) slots)
+
+-- the entry with this record keeps no level from being settled
+abbrev pub is_served_slot : Level → ℕ → Entry → SlotState → Bool
+is_served_slot level now e slot = not (is_owed_slot (stage.Run level) e slot)
+    && (not (names (At level) e.levels.items)
+    || served_by e.act slot.asked (is_some slot.child || is_held slot.limiter.held now))
+
+abbrev pub all_served : Level → ℕ → List Entry → List SlotState → Bool
+all_served level now table slots =
+    list_all (λ (p : Entry × SlotState). is_served_slot level now p.0 p.1) (zip table slots)
+
+-- in a run level, that it is settled, once
+abbrev pub settle_step : Stage → Bool → ℕ → List Entry → List SlotState → Option Step
+settle_step (stage.Run level) announced now table slots =
+    if not announced && is_idle slots && all_served level now table slots then Some (Settle level) else None
+settle_step _ announced now table slots = None
+
+-- the first record whose child is to be looked at
+abbrev pub can_look_slot : SlotState → Bool
+can_look_slot slot = is_some slot.child && is_none slot.order && slot.look
+
+abbrev pub look_among : List SlotState → Option Step
+look_among [] = None
+look_among (slot ∷ slots) = if can_look_slot slot then Some (Order slot.id Look) else look_among slots
+
+-- where no child is excluded: a start or a hold, the next stage, or that the level is settled
+abbrev pub calm_step : Stage → CoreState → Option Step
+calm_step stage c =
+    or_else (start_among stage c.time c.table c.slots)
+    (or_else (stage_step stage c.goal c.table c.slots)
+    (settle_step stage c.announced c.time c.table c.slots))
+
+-- where no wish stands: a signal, or one of those
+abbrev pub work_step : Stage → CoreState → Option Step
+work_step stage c =
+    if stands stage c then None
+    else or_else (stop_among c.grace c.time c.slots) (if has_excluded c.slots then None else calm_step stage c)
+
+-- the step: before the first stage Sysinit, where no start and no signal is open; then what is wished, what is to be
+-- done, a look, or nothing
+abbrev pub first_step : CoreState → Option Step
+first_step c = if is_quiet c.slots then Some (Enter stage.Sysinit c.goal.grace) else None
+
+abbrev pub decide_in : Option Stage → CoreState → Step
+decide_in None c = or_idle (first_step c)
+decide_in (Some stage) c = or_idle (or_else (wish_step stage c) (or_else (work_step stage c) (look_among c.slots)))
+
+abbrev pub decide : CoreState → Step
+decide c = decide_in c.stage c
+
+-- a run level is announced, no record has a child or an order, no wish stands, and no entry is held
+abbrev pub is_busy_slot : ℕ → SlotState → Bool
+is_busy_slot now slot = is_some slot.child || is_some slot.order || is_held slot.limiter.held now
+
+abbrev pub is_drained_in : Option Stage → CoreState → Bool
+is_drained_in (Some (stage.Run level)) c =
+    c.announced && not (stands (stage.Run level) c) && not (list_any (is_busy_slot c.time) c.slots)
+is_drained_in _ c = false
+
+abbrev pub is_drained : CoreState → Bool
+is_drained c = is_drained_in c.stage c

@@ -1,0 +1,57 @@
+-- What was heard of the power and of letters, and is not carried out yet (telinit(8), initreq.h).
+use Rattle.std.specs.Prelude.{ℕ, Bool, false, ◌||◌, ◌+◌, if◌then◌else◌, Option, Some, None}
+use Rattle.init_words.specs.declared.orders.PowerKind.{PowerKind}
+use Rattle.init_words.specs.declared.orders.PowerKind.TheVariants as power
+use Rattle.init_words.specs.declared.levels.Letter.{Letter}
+use Rattle.init_words.specs.declared.levels.Letter.TheVariants as letter
+use Rattle.init_trace.specs.declared.steps.Step.{Step}
+use Rattle.init_trace.specs.declared.steps.Step.TheVariants.{Call, Power}
+use Rattle.core_model.specs.declared.news.News.{News}
+
+abbrev pub no_news : News
+no_news = record { fail = false; fail_now = false; ok = false; a = false; b = false; c = false }
+
+-- news of that kind is kept; the letter is to be called
+abbrev pub keeps_kind : PowerKind → News → Bool
+keeps_kind power.Fail news = news.fail
+keeps_kind power.FailNow news = news.fail_now
+keeps_kind power.Ok news = news.ok
+
+abbrev pub keeps_call : Letter → News → Bool
+keeps_call letter.A news = news.a
+keeps_call letter.B news = news.b
+keeps_call letter.C news = news.c
+
+-- the news where one kind, or one letter, is kept or no more
+abbrev pub with_kind : PowerKind → Bool → News → News
+with_kind power.Fail kept news = record news { fail = kept }
+with_kind power.FailNow kept news = record news { fail_now = kept }
+with_kind power.Ok kept news = record news { ok = kept }
+
+abbrev pub with_call : Letter → Bool → News → News
+with_call letter.A kept news = record news { a = kept }
+with_call letter.B kept news = record news { b = kept }
+with_call letter.C kept news = record news { c = kept }
+
+-- something is kept
+abbrev pub has_news : News → Bool
+has_news news = news.fail || news.fail_now || news.ok || news.a || news.b || news.c
+
+-- the step that carries out what comes first: the power, then the letters
+abbrev pub first_news : News → Option Step
+first_news news =
+    if news.fail then Some (Power power.Fail)
+    else if news.fail_now then Some (Power power.FailNow)
+    else if news.ok then Some (Power power.Ok)
+    else if news.a then Some (Call letter.A)
+    else if news.b then Some (Call letter.B)
+    else if news.c then Some (Call letter.C)
+    else None
+
+-- how much is kept
+abbrev pub one_if : Bool → ℕ
+one_if b = if b then 1 else 0
+
+abbrev pub news_count : News → ℕ
+news_count news =
+    one_if news.fail + one_if news.fail_now + one_if news.ok + one_if news.a + one_if news.b + one_if news.c

@@ -1,0 +1,49 @@
+-- What init keeps, as plain values: what its state text says (telinit(8), `u`).
+use Rattle.std.specs.Prelude.{List, map}
+use Rattle.init_words.specs.declared.entries.Entry.{Entry}
+use Rattle.child_table.specs.State.{SlotState, child_number, birth_act}
+use Rattle.core_model.specs.declared.parts.Heads.{Heads}
+use Rattle.core_model.specs.declared.parts.Record.{Record}
+use Rattle.core_model.specs.State.{CoreState}
+
+-- the heads, the table, and a record for each id in record order
+pub record SavedState : Type 0 where
+  pub heads : Heads
+  pub table : List Entry
+  pub records : List Record
+
+-- what a record of init's keeps
+abbrev pub record_of : SlotState → Record
+record_of slot = record {
+  id = slot.id;
+  child = child_number slot;
+  act = birth_act slot;
+  order = slot.order;
+  stop = slot.stop;
+  held_until = slot.limiter.held;
+  starts = record { items = slot.limiter.starts };
+  asked = slot.asked;
+  called = slot.called;
+  look = slot.look;
+  missed = slot.missed;
+}
+
+-- what init keeps, but for its table and its records
+abbrev pub heads_of : CoreState → Heads
+heads_of core = record {
+  generation = core.generation;
+  time = core.time;
+  stage = core.stage;
+  grace = core.grace;
+  goal = core.goal;
+  booted = core.booted;
+  announced = core.announced;
+  reread = core.reread;
+  reexec = core.reexec;
+  level_wish = core.level_wish;
+  news = core.news;
+}
+
+-- what a core keeps, as plain values
+abbrev pub state_of : CoreState → SavedState
+state_of core = record { heads = heads_of core; table = core.table; records = map record_of core.slots }

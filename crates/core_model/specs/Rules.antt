@@ -1,0 +1,167 @@
+-- The rules that whatever init keeps is held to (init(8), telinit(8)): it never comes to a state that breaks one, and
+-- the text of such a state is taken for no state of init's.
+use Rattle.std.specs.Prelude.{◌≡◌, ◌≤◌, ℕ, Bool, true, false, not, ◌&&◌, ◌||◌, ◌==◌, ◌+◌, if◌then◌else◌, List, [], ◌∷◌, length, zip, nat_le, Option, Some, None, is_some, is_none}
+use Rattle.std.specs.List.{list_all, list_any}
+use Rattle.init_words.specs.declared.actions.Act.{Act}
+use Rattle.init_words.specs.declared.entries.Entry.{Entry}
+use Rattle.init_words.specs.declared.orders.Ask.{Ask}
+use Rattle.init_words.specs.declared.orders.Ask.TheVariants.{Start, Look, Term, Kill}
+use Rattle.init_words.specs.declared.orders.PowerKind.TheVariants as power
+use Rattle.init_words.specs.declared.stages.Stage.{Stage}
+use Rattle.init_words.specs.declared.stages.Stage.TheVariants as stage
+use Rattle.init_words.specs.Actions.{is_called_by, is_ondemand}
+use Rattle.init_words.specs.Entries.{starts_of}
+use Rattle.init_words.specs.Levels.{same_level}
+use Rattle.inittab_text.specs.Tables.{entry_of}
+use Rattle.respawn_limit.specs.declared.TheConstants.{CLOCK_LIMIT, HOLD, STARTS}
+use Rattle.respawn_limit.specs.State.{LimiterState}
+use Rattle.init_trace.specs.declared.steps.Goal.{Goal}
+use Rattle.init_trace.specs.Wanted.{is_order}
+use Rattle.init_trace.specs.Wishes.{in_run}
+use Rattle.child_table.specs.declared.children.KnownChild.{KnownChild}
+use Rattle.child_table.specs.declared.children.Stop.{Stop}
+use Rattle.child_table.specs.declared.children.Stop.TheVariants.{Due, Termed}
+use Rattle.child_table.specs.State.{SlotState, is_limited_slot}
+use Rattle.child_table.specs.Judging.{is_excluded}
+use Rattle.child_table.specs.Lists.{are_distinct}
+use Rattle.child_table.specs.Order.{IsInOrder}
+use Rattle.child_table.specs.Times.{are_timely}
+use Rattle.core_model.specs.Decide.{has_excluded, is_owed_slot}
+use Rattle.core_model.specs.State.{CoreState}
+
+-- a record is that of an entry, or has a child
+abbrev pub has_cause : SlotState → Bool
+has_cause slot = is_some slot.table_act || is_some slot.child
+
+-- the action that a child was born with is known
+abbrev pub is_birth_known : Option KnownChild → Bool
+is_birth_known None = true
+is_birth_known (Some child) = is_some child.act
+
+-- a signal that may be open, by how far the stop of the child has come: TERM where none was sent, and KILL after TERM
+abbrev pub may_follow : Ask → Option Stop → Bool
+may_follow Term (Some Due) = true
+may_follow Kill (Some (Termed time)) = true
+may_follow _ _ = false
+
+-- an open order that the record allows: a start of an entry without child, any other of a child
+abbrev pub allows_order : Option Ask → SlotState → Bool
+allows_order None slot = true
+allows_order (Some Start) slot = is_some slot.table_act && is_none slot.child
+allows_order (Some Look) slot = is_some slot.child
+allows_order (Some signal) slot = is_some slot.child && may_follow signal slot.stop
+
+abbrev pub is_order_allowed : SlotState → Bool
+is_order_allowed slot = allows_order slot.order slot
+
+abbrev pub is_started : SlotState → Bool
+is_started slot = is_order Start slot.order
+
+-- an open start was asked of an entry that starts in the stage
+abbrev pub is_start_allowed : Stage → Entry → SlotState → Bool
+is_start_allowed stage e slot = not (is_started slot) || (slot.asked && starts_of e stage)
+
+-- and none of an entry that stands after an owed one
+abbrev pub are_starts_along : Stage → List (Entry × SlotState) → Bool
+are_starts_along stage [] = true
+are_starts_along stage (p ∷ ps) = is_start_allowed stage p.0 p.1
+    && (if is_owed_slot stage p.0 p.1 then not (list_any (λ (q : Entry × SlotState). is_started q.1) ps)
+    else are_starts_along stage ps)
+
+-- no start is open
+abbrev pub are_unstarted : List SlotState → Bool
+are_unstarted slots = not (list_any is_started slots)
+
+-- before the first stage none is at all
+abbrev pub are_starts_in : Option Stage → List Entry → List SlotState → Bool
+are_starts_in None table slots = are_unstarted slots
+are_starts_in (Some stage) table slots = are_starts_along stage (zip table slots)
+
+-- no start is open while a child is excluded
+abbrev pub are_starts_free : List SlotState → Bool
+are_starts_free slots = are_unstarted slots || not (has_excluded slots)
+
+-- the child of a record is excluded; before the first stage each child is
+abbrev pub is_excluded_in : Option Stage → Option Act → Option Entry → Bool
+is_excluded_in None born found = true
+is_excluded_in (Some stage) born found = is_excluded stage born found
+
+abbrev pub is_child_excluded : Option Stage → List Entry → SlotState → Option KnownChild → Bool
+is_child_excluded stage table slot None = false
+is_child_excluded stage table slot (Some child) = is_excluded_in stage child.act (entry_of slot.id table)
+
+-- exactly the excluded children are to be stopped
+abbrev pub is_stop_judged : Option Stage → List Entry → SlotState → Bool
+is_stop_judged stage table slot =
+    if is_child_excluded stage table slot slot.child then is_some slot.stop else is_none slot.stop
+
+-- an action by which an entry is called: the power and ondemand ones
+abbrev pub is_callable : Option Act → Bool
+is_callable None = false
+is_callable (Some act) = is_called_by power.Fail act || is_called_by power.FailNow act || is_called_by power.Ok act
+    || is_ondemand act
+
+-- a child may be sent a signal yet
+abbrev pub may_be_signalled : Option Stop → Bool
+may_be_signalled (Some Due) = true
+may_be_signalled (Some (Termed time)) = true
+may_be_signalled _ = false
+
+-- a look is due to a child, a missed signal to one that may be sent a signal yet, and a call to an entry that is called
+abbrev pub are_marks_due : SlotState → Bool
+are_marks_due slot = (not slot.look || is_some slot.child) && (not slot.missed || may_be_signalled slot.stop)
+    && (not slot.called || is_callable slot.table_act)
+
+-- no reading is less than one before it
+abbrev pub never_fall : List ℕ → Bool
+never_fall [] = true
+never_fall (time ∷ times) = list_all (λ later. nat_le time later) times && never_fall times
+
+-- a hold ends five minutes from now at most, and takes ten starts
+abbrev pub is_hold_of : ℕ → LimiterState → Option ℕ → Bool
+is_hold_of now limiter None = true
+is_hold_of now limiter (Some end) = (length limiter.starts == STARTS) && nat_le end (now + HOLD)
+
+abbrev pub is_limit_kept : ℕ → LimiterState → Bool
+is_limit_kept now limiter = nat_le (length limiter.starts) STARTS && never_fall limiter.starts
+    && is_hold_of now limiter limiter.held
+
+abbrev pub is_unused : LimiterState → Bool
+is_unused limiter = length limiter.starts == 0 && is_none limiter.held
+
+-- the starts and the hold of an entry that the respawn limit holds for; any other has none
+abbrev pub is_limiter_kept : ℕ → SlotState → Bool
+is_limiter_kept now slot =
+    if is_limited_slot slot then is_limit_kept now slot.limiter else is_unused slot.limiter
+
+-- another level is wished for in a run level alone
+abbrev pub is_other_level : Option Stage → Option Goal → Bool
+is_other_level stage None = true
+is_other_level (Some (stage.Run level)) (Some wish) = not (same_level wish.level level)
+is_other_level _ (Some wish) = false
+
+-- in a run level it is the goal; Boot was entered in Boot, and not before it
+abbrev pub is_goal_reached : Option Stage → Goal → Bool → Bool
+is_goal_reached (Some (stage.Run level)) goal booted = same_level goal.level level
+is_goal_reached (Some stage.Boot) goal booted = booted
+is_goal_reached _ goal booted = not booted
+
+-- the records stand in record order, one an id; init knows how each child was born; each open order is allowed, and a
+-- start where nothing that comes first is owed or excluded; stops, marks and limiters are as they should be; no time
+-- is later than now; and so are the wish for a level, the announcement and the goal
+pub record IsFit (c : CoreState) : Type 0 where
+  pub in_order : IsInOrder c.table c.slots
+  pub distinct : are_distinct c.slots ≡ true
+  pub caused : list_all has_cause c.slots ≡ true
+  pub births : list_all (λ (slot : SlotState). is_birth_known slot.child) c.slots ≡ true
+  pub orders : list_all is_order_allowed c.slots ≡ true
+  pub starts : are_starts_in c.stage c.table c.slots ≡ true
+  pub free : are_starts_free c.slots ≡ true
+  pub stops : list_all (is_stop_judged c.stage c.table) c.slots ≡ true
+  pub marks : list_all are_marks_due c.slots ≡ true
+  pub limiters : list_all (is_limiter_kept c.time) c.slots ≡ true
+  pub timely : are_timely c.time c.slots ≡ true
+  pub clock : c.time ≤ CLOCK_LIMIT
+  pub wish : is_other_level c.stage c.level_wish ≡ true
+  pub announced : (not c.announced || in_run c.stage) ≡ true
+  pub reached : is_goal_reached c.stage c.goal c.booted ≡ true

@@ -1,0 +1,125 @@
+-- What init keeps after each of its steps, and after each thing that it is told (init(8), telinit(8)).
+use Rattle.std.specs.Prelude.{ℕ, Bool, true, false, ◌&&◌, ◌||◌, ◌+◌, if◌then◌else◌, List, map, max, min, Option, Some, None}
+use Rattle.std.specs.List.{list_any}
+use Rattle.init_words.specs.declared.entries.Entry.{Entry}
+use Rattle.init_words.specs.declared.levels.Mark.TheVariants.{OnCall}
+use Rattle.init_words.specs.declared.stages.Stage.{Stage}
+use Rattle.init_words.specs.declared.stages.Stage.TheVariants as stage
+use Rattle.init_words.specs.declared.orders.Answer.{Answer}
+use Rattle.init_words.specs.Actions.{is_called_by, is_ondemand}
+use Rattle.init_words.specs.Levels.{same_level, names}
+use Rattle.inittab_text.specs.Tables.{has_id}
+use Rattle.initctl_frame.specs.declared.requests.Got.{Got}
+use Rattle.initctl_frame.specs.declared.requests.Got.TheVariants as got
+use Rattle.respawn_limit.specs.declared.TheConstants.{CLOCK_LIMIT}
+use Rattle.init_trace.specs.declared.steps.Step.{Step}
+use Rattle.init_trace.specs.declared.steps.Step.TheVariants.{Enter, Call, Power, Order, Hold, Settle}
+use Rattle.init_trace.specs.declared.steps.Goal.{Goal}
+use Rattle.init_trace.specs.Wanted.{starts_in}
+use Rattle.child_table.specs.State.{SlotState}
+use Rattle.child_table.specs.Changes.{after_order, after_hold, after_call, after_enter, after_nudge}
+use Rattle.child_table.specs.Judging.{after_judge}
+use Rattle.child_table.specs.Lists as lists
+use Rattle.child_table.specs.Adopting as adopting
+use Rattle.core_model.specs.News.{with_kind, with_call}
+use Rattle.core_model.specs.State.{CoreState}
+
+abbrev pub is_boot : Stage → Bool
+is_boot stage.Boot = true
+is_boot _ = false
+
+-- a wish for a level is the goal once it is carried out
+abbrev pub wished : Option Goal → Goal → Goal
+wished None goal = goal
+wished (Some wish) goal = wish
+
+-- news of the power, or a letter, names the entry, where it starts in the stage
+abbrev pub is_named : Step → Option Stage → Entry → Bool
+is_named (Power kind) stage e = is_called_by kind e.act && starts_in e stage
+is_named (Call letter) stage e = is_ondemand e.act && names (OnCall letter) e.levels.items && starts_in e stage
+is_named _ stage e = false
+
+-- the records, those called whose entry is named
+abbrev pub called_if : Bool → SlotState → SlotState
+called_if true slot = after_call slot
+called_if false slot = slot
+
+abbrev pub with_called : (Entry → Bool) → List Entry → List SlotState → List SlotState
+with_called named table slots =
+    map (λ (slot : SlotState). called_if (list_any (λ e. has_id slot.id e && named e) table) slot) slots
+
+-- the state after a step was taken
+abbrev pub after_step : Step → CoreState → CoreState
+after_step (Enter stage grace) c = record c {
+  slots = map (after_judge c.table stage) (map after_enter c.slots);
+  stage = Some stage;
+  grace = grace;
+  goal = wished c.level_wish c.goal;
+  level_wish = None;
+  booted = is_boot stage || c.booted;
+  announced = false;
+}
+after_step (Power kind) c = record c {
+  slots = with_called (is_named (Power kind) c.stage) c.table c.slots;
+  news = with_kind kind false c.news;
+}
+after_step (Call letter) c = record c {
+  slots = with_called (is_named (Call letter) c.stage) c.table c.slots;
+  news = with_call letter false c.news;
+}
+after_step (Order id ask) c = record c { slots = lists.with_changed id (after_order ask c.time) c.slots }
+after_step (Hold id) c = record c { slots = lists.with_changed id (after_hold c.time) c.slots }
+after_step (Settle level) c = record c { announced = true }
+after_step _ c = c
+
+-- after a reading of the clock, cut to the limit; one set back changes nothing
+abbrev pub after_clock : ℕ → CoreState → CoreState
+after_clock reading c = record c { time = max (min reading CLOCK_LIMIT) c.time }
+
+-- after a round began, and after an answer was told
+abbrev pub after_round : CoreState → CoreState
+after_round c = record c { slots = map after_nudge c.slots }
+
+abbrev pub after_told : List ℕ → Answer → CoreState → CoreState
+after_told id answer c = record c { slots = lists.after_told id answer c.time c.slots }
+
+-- after a level was asked for: in that level a wish for another is forgotten, in another level it is wished for, and
+-- before the run levels it is the goal
+abbrev pub heard_in : Option Stage → Goal → CoreState → CoreState
+heard_in (Some (stage.Run now)) wish c =
+    if same_level wish.level now then record c { level_wish = None }
+    else record c { level_wish = Some wish; reread = true }
+heard_in _ wish c = record c { goal = wish; reread = true }
+
+-- after a request
+abbrev pub after_got : Got → CoreState → CoreState
+after_got (got.Level level grace) c = heard_in c.stage (record { level = level; grace = grace }) c
+after_got (got.Call letter) c = record c { news = with_call letter true c.news }
+after_got got.Reload c = record c { reread = true }
+after_got got.Reexec c = record c { reexec = true }
+after_got (got.Power kind) c = record c { news = with_kind kind true c.news }
+after_got (got.Nothing cause) c = c
+
+-- after another table was adopted: its children are judged by the stage, where there is one
+abbrev pub judged_in : Option Stage → List Entry → List SlotState → List SlotState
+judged_in None table slots = slots
+judged_in (Some stage) table slots = map (after_judge table stage) slots
+
+abbrev pub after_adopt : List Entry → CoreState → CoreState
+after_adopt table c = record c {
+  table = table;
+  slots = judged_in c.stage table (adopting.after_adopt table c.slots);
+  announced = false;
+  reread = false;
+}
+
+-- after inittab could not be read, and after a hand-over
+abbrev pub after_not_read : CoreState → CoreState
+after_not_read c = record c { reread = false }
+
+abbrev pub after_handed : CoreState → CoreState
+after_handed c = record c { reexec = false }
+
+-- after init's state was handed on to the next init
+abbrev pub after_handed_on : CoreState → CoreState
+after_handed_on c = record c { reexec = false; generation = c.generation + 1 }

@@ -1,0 +1,88 @@
+ghost use Rattle.std.specs.Prelude.{◌≡◌, ◌≤◌, ◌+◌, ℕ, IsTrue, false, ◌&&◌, List, ◌∷◌, ◌++◌, filter, length};
+ghost use Rattle.std.specs.List.{list_any, list_all};
+ghost use Rattle.init_words.specs.declared.orders.Ask.TheVariants.{Start, Term, Kill};
+ghost use Rattle.respawn_limit.specs.declared.TheConstants.{WINDOW, STARTS, HOLD};
+ghost use Rattle.init_trace.specs.declared.happenings.Happening.TheVariants.{Asked, Hold, Hit};
+ghost use Rattle.init_trace.specs.declared.steps.Goal.{Goal};
+ghost use Rattle.init_trace.specs.Event.{Event};
+ghost use Rattle.init_trace.specs.Past.{time_of, is_of, has_child, unreaped_children, known_children};
+ghost use Rattle.init_trace.specs.Due.{is_settled};
+ghost use Rattle.init_trace.specs.Sound.{is_sound};
+ghost use Rattle.init_trace.specs.Lawful.{is_alone, is_placed, is_in_turn, are_spared, is_limited_id, is_free, is_due_hold, may_term, may_kill, is_lawful};
+ghost use Rattle.init_trace.specs.Agreement.{Agrees, is_unreaped};
+ghost use Rattle.init_trace.specs.Bounds.{keeps_pace, hits_its_own, kills_once};
+ghost use Rattle.trace_laws.specs.Belonging.{belongs};
+ghost use Rattle.trace_laws.specs.Moments.{AtEachMoment, AtEachBirth, AtEachSettle, AtEachOrder, AtEachHold, AtEachHit, BetweenBirths, BetweenStarts, FromHoldToStart, FromOrderToHit};
+ghost use Rattle.trace_laws.specs.Stretches.{count_starts, is_order_of, is_reaping_of, is_stoppable};
+ghost use Rattle.trace_laws.specs.Warnings.{Warned};
+ghost use Rattle.core_model.specs.State.{CoreState};
+ghost use Rattle.core_model.specs.Fit.{OnEachTrace};
+ghost use Rattle.core_model.specs.Headline.{is_recorded};
+
+/// The headline, for every opening goal and every sound trace, and for each core that fits it. It does nothing: its
+/// contract says the laws.
+///
+/// No id has two children. None is born outside its stage, before an earlier waited entry has ended, or while a child
+/// that the stage excludes is unreaped. Whenever a level is announced settled, every living child belongs to an entry
+/// of it. What init's records say of children, corrected by the answers under way, is the children that the system has.
+/// The respawn limit holds at each start, and the signals that stop a child come in their order and time.
+pub fn law_agreement()
+    // no id has two unreaped children, at any moment, and none where one is born
+    ensures one_child { AtEachMoment (λ past.
+        (id : List ℕ) → length (filter (is_of id) (unreaped_children past)) ≤ 1) }
+    ensures alone { AtEachBirth (λ id past. IsTrue (is_alone id past)) }
+    // between two births of an id the first child is reaped
+    ensures reaped_between { BetweenBirths (λ id m between.
+        IsTrue (list_any (is_reaping_of id m) between)) }
+    // a child is born of an entry of the table in force, which starts in the stage
+    ensures placed { AtEachBirth (λ id past. IsTrue (is_placed id past)) }
+    // at a birth no earlier entry of the table is owed
+    ensures in_turn { AtEachBirth (λ id past. IsTrue (is_in_turn id past)) }
+    // at a birth no unreaped child is excluded
+    ensures spared { AtEachBirth (λ id past. IsTrue (are_spared past)) }
+    // an announced level is settled, by the unreaped children, and each of them belongs to an entry of it
+    ensures settled { AtEachSettle (λ level past.
+        IsTrue (is_settled level (unreaped_children past) past)) }
+    ensures of_level { AtEachSettle (λ level past.
+        IsTrue (list_all (belongs level past) (unreaped_children past))) }
+    // an entry that the respawn limit holds for starts where it is not held and its window is not full; it is held, and
+    // no other, where its window is full
+    ensures free { AtEachOrder Start (λ id past. IsTrue (is_free id past)) }
+    ensures held { AtEachHold (λ id past. IsTrue (is_due_hold id past)) }
+    // a TERM goes to an excluded child, a KILL to one to which a TERM was sent in its spell at least the grace ago
+    ensures termed { AtEachOrder Term (λ id past. IsTrue (may_term id past)) }
+    ensures killed { AtEachOrder Kill (λ id past. IsTrue (may_kill id past)) }
+    // the same, of two happenings: the order of a KILL, and the telling of a TERM that was sent to the child
+    ensures warned { AtEachOrder Kill Warned }
+    // so no happening of a sound trace breaks a law
+    ensures lawful { (goal : Goal) (trace : List Event)
+        → IsTrue (is_sound goal trace) → IsTrue (is_lawful trace) }
+    // at any moment the unreaped children, as pairs of id and number, are the known ones, less those whose end is not
+    // told, with those whose birth is not told
+    ensures agreement { AtEachMoment (λ past. (id : List ℕ) (n : ℕ) → Agrees id n past) }
+    // and, of each core that fits the trace: the unreaped children, as pairs of id and number, are the core's records
+    // that have a child, less those whose reaping is not told, with those whose birth is not told; and no id has two
+    ensures records { (core : CoreState) → OnEachTrace core (λ goal past. (id : List ℕ) (n : ℕ)
+        → is_unreaped id n past ≡ is_recorded id n core past) }
+    ensures one_record { (core : CoreState) → OnEachTrace core (λ goal past.
+        (id : List ℕ) (m n : ℕ)
+        → IsTrue (is_recorded id m core past) → IsTrue (is_recorded id n core past) → m ≡ n) }
+    // of eleven starts of an entry that the respawn limit holds for, with no new stage and no table between, the last
+    // is at least two minutes after the first, and a start is at least five minutes after a hold
+    ensures paced { AtEachOrder Start (λ id past. IsTrue (keeps_pace (Asked id Start) past)) }
+    // the same, of two happenings: a start that comes after another with nine between them, and one after a hold
+    ensures apart { BetweenStarts (λ id between past.
+        STARTS ≤ count_starts id between + 1 → IsTrue (is_limited_id id past)
+        → time_of past + WINDOW ≤ time_of (between ++ Asked id Start ∷ past)) }
+    ensures rested { FromHoldToStart (λ id between past.
+        time_of past + HOLD ≤ time_of (between ++ Hold id ∷ past)) }
+    // a signal that is sent reaches the child that was known at its order, which is still unreaped and excluded
+    ensures on_target { AtEachHit (λ id past. IsTrue (hits_its_own (Hit id) past)) }
+    // the same, of two happenings: an order, and the Hit that comes after it with no other order about the id between
+    ensures on_order { FromOrderToHit (λ id ask between past.
+        list_any (is_order_of id) between ≡ false → IsTrue (has_child id (known_children past))
+        × IsTrue (list_all (is_stoppable id (between ++ Asked id ask ∷ past))
+        (filter (is_of id) (known_children past)))) }
+    // of each unreaped child at most one sent KILL is told in a spell
+    ensures killed_once { AtEachMoment (λ past. IsTrue (kills_once past)) }
+{}

@@ -1,9 +1,0 @@
-use Rattle.std.proofs.Common.{[]}
-use Rattle.host_turns.proofs.Opened.{opened_by}
-use Rattle.host_turns.proofs.opening.Opening.serve.Goals as goal
-
-pub returns-clause-trace : goal.returns-clause-trace
-returns-clause-trace g c = rw (← c.self.view_is) (opened_by (g.H.Host.told c.args.host.now) (g.H.Host.told c.serve.new.host)
-    (g.L.Log.state c.args.log.now) (g.L.Log.state c.write.new.log) (g.L.Log.state c.serve.new.log)
-    c.args.drain c.serve.result.drained c.serve.result.turns (record { core = c.self.inside.core; told = c.self.inside.told }) c.serve.new.core
-    (c.write.ensures []) c.serve.ensures.trace c.serve.ensures.drained)

@@ -1,0 +1,63 @@
+ghost use Rattle.std.specs.Prelude.{◌≡◌};
+ghost use Rattle.initd_options.specs.CommandLine.{simulation_of};
+ghost use Rattle.initd_command.specs.Endings.{Ending, Reports, status_of};
+ghost use Rattle.initd_command.specs.Runs.{EndsSimulate, EndsSimulation};
+ghost use Rattle.simulator.specs.Simulation.{scenario};
+
+use crate::reports::{report_fault, report_unread};
+use init_words::Level;
+use initd_options::SimulateWords;
+use path_texts::Texts;
+use program_io::DONE;
+use simulator::SimFault;
+use std::alloc::Global;
+use std::io::Write;
+
+/// Reads the two files, the inittab first, and runs init over them.
+pub(crate) fn simulate_files<T: Texts, W: Write, E: Write>(
+    texts: &T,
+    alloc: Global,
+    said: &SimulateWords,
+    out: &mut W,
+    err: &mut E,
+) -> u8
+    ensures { (ending : Ending) × (result ≡ status_of ending)
+        × EndsSimulate (T.text_at texts.now) (simulation_of said.now) ending
+        (W.contents out.old) (W.contents out.new)
+        × Reports ending (E.contents err.old) (E.contents err.new) }
+{
+    let table = said.table.as_str();
+    let inittab = match texts.read(alloc, table) {
+        Ok(inittab) => inittab,
+        Err(error) => return report_unread(alloc, table, &error, err),
+    };
+    let path = said.script.as_str();
+    match texts.read(alloc, path) {
+        Ok(script) => run(alloc, &inittab, said.level, &script, out, err),
+        Err(error) => report_unread(alloc, path, &error, err),
+    }
+}
+
+/// Runs init over a script, and sees that what was written is out.
+fn run<W: Write, E: Write>(
+    alloc: Global,
+    inittab: &[u8],
+    level: Option<Level>,
+    script: &[u8],
+    out: &mut W,
+    err: &mut E,
+) -> u8
+    ensures { (ending : Ending) × (result ≡ status_of ending)
+        × EndsSimulation (scenario level inittab.now script.now) ending (W.contents out.old)
+        (W.contents out.new)
+        × Reports ending (E.contents err.old) (E.contents err.new) }
+{
+    let ended = simulator::simulate(alloc, inittab, level, script, out);
+    if out.flush().is_err() {
+        return report_fault(alloc, script, &SimFault::Write, err);
+    }
+    match ended {
+        Ok(()) => DONE,
+        Err(fault) => report_fault(alloc, script, &fault, err),
+    }
+}

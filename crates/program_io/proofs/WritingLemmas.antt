@@ -1,0 +1,45 @@
+-- What the writes of a text leave, one after the other.
+use Rattle.std.proofs.Common.{◌++◌, ◌∙◌, ap, [], append-nil, append_assoc, Result, Ok, Err, OnOk, OnErr, ℕ, ◌+◌, ◌<◌, List, Option, length, take, drop, arith, sym, subst, take-append-drop, length-drop}
+use Rattle.std.proofs.Math.Seq.{take-add}
+use Rattle.std.proofs.KnownBytes.{Appends-trans}
+use Rattle.std.specs.Io.KnownBytes.{Appends}
+use Rattle.program_io.specs.Writing.{AppendsFront, AppendsPrefix}
+
+-- a write of what is left of the text appends the next bytes of it
+pub written_next : (old mid new : Option (List ℕ)) (text : List ℕ) (done taken : ℕ) → Appends old mid (take done text)
+    → Appends mid new (take taken (drop done text)) → Appends old new (take (done + taken) text)
+written_next old mid new text done taken before now =
+    subst (Appends old new) (sym (take-add done taken text))
+    (Appends-trans old mid new (take done text) (take taken (drop done text)) before now)
+
+-- what a loop over a text that isn't done has written
+pub AppendsFront-take : (old new : Option (List ℕ)) (text : List ℕ) (done : ℕ) → done < length text
+    → Appends old new (take done text) → AppendsFront old new text
+AppendsFront-take old new text done below written =
+    (take done text, drop done text, take-append-drop done text, written, omega (arith, length-drop done text))
+
+-- a prefix that isn't the whole is a prefix
+pub AppendsFront-prefix : (old new : Option (List ℕ)) (text : List ℕ) → AppendsFront old new text → AppendsPrefix old new text
+AppendsFront-prefix old new text (front, rest, joined, written, some) = (front, rest, joined, written)
+
+-- the whole is a prefix
+pub AppendsPrefix-whole : (old new : Option (List ℕ)) (text : List ℕ) → Appends old new text → AppendsPrefix old new text
+AppendsPrefix-whole old new text written = (text, [], append-nil text, written)
+
+-- a prefix of a text's first part is a prefix of the text
+pub AppendsPrefix-first : (old new : Option (List ℕ)) (first rest : List ℕ) → AppendsPrefix old new first
+    → AppendsPrefix old new (first ++ rest)
+AppendsPrefix-first old new first rest (front, more, joined, written) =
+    (front, more ++ rest, sym (append_assoc front more rest) ∙ ap (λ text. text ++ rest) joined, written)
+
+-- a prefix of the rest behind the whole first part
+pub AppendsPrefix-then : (old mid new : Option (List ℕ)) (first rest : List ℕ) → Appends old mid first → AppendsPrefix mid new rest
+    → AppendsPrefix old new (first ++ rest)
+AppendsPrefix-then old mid new first rest whole (front, more, joined, written) =
+    (first ++ front, more, append_assoc first front more ∙ ap (λ text. first ++ text) joined, Appends-trans old mid new first front whole written)
+
+-- what a write that ended so has left
+pub AppendsPrefix-of_write : {T E : Type 0} (ended : Result T E) (old new : Option (List ℕ)) (text : List ℕ)
+    → OnOk ended (Appends old new text) → OnErr ended (AppendsFront old new text) → AppendsPrefix old new text
+AppendsPrefix-of_write (Ok value) old new text ok err = AppendsPrefix-whole old new text ok
+AppendsPrefix-of_write (Err error) old new text ok err = AppendsFront-prefix old new text err

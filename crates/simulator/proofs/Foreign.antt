@@ -1,0 +1,80 @@
+-- Texts that a core does not take over, and those that were made.
+use Rattle.std.proofs.Common.{◌≡◌, refl, sym, ap, ◌∙◌, subst, ℕ, ◌+◌, ◌-◌, ◌<◌, ◌≤◌, Bool, true, false, cond, List, [], ◌∷◌, ◌++◌, map, length, get_or, take, drop, Some, None, ◌⊎◌, inl, inr, arith, length-append, length-drop}
+use Rattle.std.specs.Prelude.{nat_le, nat_lt}
+use Rattle.std.proofs.lemmas.Bool.{and_parts, cases_lt, leb-true, ltb-true}
+use Rattle.std.proofs.lemmas.List.{get_or-map, get_or_append_left, length-map, map-append, take-append-drop}
+use Rattle.std.proofs.Math.Seq.{get_or-append_seam}
+use Rattle.init_trace.specs.declared.happenings.Handed.{Handed as HandOver}
+use Rattle.init_trace.specs.declared.happenings.Handed.TheVariants as handed
+use Rattle.core_model.specs.Parts.{SavedState}
+use Rattle.state_text.specs.Refused.{IsTextOf}
+use Rattle.state_text.proofs.Prefixes.{no_prefix, one_state}
+use Rattle.simulated_system.specs.declared.objections.Objection.{Objection}
+use Rattle.simulator.specs.Handing.{has_next, is_made, objection_handed}
+use Rattle.simulator.specs.Texts.{AreMade, HasTexts, IsForeign, IsOfGeneration}
+
+-- what is left of a text that is cut is that of no state
+pub cut_foreign : (text : List ℕ) (bytes generation : ℕ) (own : SavedState) → IsTextOf text own → bytes < length text → IsForeign (take bytes text) generation
+cut_foreign text bytes generation own says less other cut same =
+    let none : drop bytes text ≡ [] = no_prefix other own (drop bytes text) cut.0 says.0 (ap (λ t. t ++ drop bytes text) cut.1 ∙ take-append-drop bytes text ∙ sym says.1) in
+    let left : length text - bytes ≡ 0 = sym (length-drop bytes text) ∙ ap length none in
+    omega (arith, left, less)
+
+-- the text of an older generation is that of no state of this one
+pub older_foreign : (text : List ℕ) (older generation : ℕ) → IsOfGeneration text older → older < generation → IsForeign text generation
+older_foreign text older generation (own, says, its) less other said same =
+    let one : other ≡ own = one_state other own said.0 says.0 (said.1 ∙ sym says.1) in
+    let equal : generation ≡ older = sym same ∙ ap (λ (s : SavedState). s.heads.generation) one ∙ its in
+    omega (arith, equal, less)
+
+-- the objection of a test that holds where a generation is left
+no_objection : (next holds : Bool) (given other : Objection) → cond next (cond holds None (Some given)) (Some other) ≡ None → holds ≡ true
+no_objection true true given other none = refl
+no_objection true false given other none = absurd (cc)
+no_objection false true given other none = refl
+no_objection false false given other none = absurd (cc)
+
+pub may_cut : (made size bytes : ℕ) (how : HandOver) → how ≡ handed.Cut bytes → objection_handed made size how ≡ None → bytes < size
+may_cut made size bytes how is none =
+    let now : objection_handed made size (handed.Cut bytes) ≡ None = subst (λ h. objection_handed made size h ≡ None) is none in
+    ltb-true bytes size (no_objection (has_next made) (nat_lt bytes size) _ _ now)
+
+pub may_older : (made size generation : ℕ) (how : HandOver) → how ≡ handed.Older generation → objection_handed made size how ≡ None → is_made generation made ≡ true
+may_older made size generation how is none =
+    let now : objection_handed made size (handed.Older generation) ≡ None = subst (λ h. objection_handed made size h ≡ None) is none in
+    no_objection (has_next made) (is_made generation made) _ _ now
+
+module _ {X : Type 0} (f : X → List ℕ) where
+  -- a text that was made before is that of no state of this generation
+  pub made_foreign : (xs : List X) (older generation : ℕ) (x : X) (text : List ℕ) → AreMade (map f xs) → is_made older (length xs) ≡ true → x ≡ get_or xs (older - 1) x → text ≡ f x → generation ≡ length xs + 1
+      → IsForeign text generation
+  made_foreign xs older generation x text are made at says next =
+      let most = leb-true older (length xs) (and_parts (nat_le 1 older) (nat_le older (length xs)) made).1 in
+      let least = leb-true 1 older (and_parts (nat_le 1 older) (nat_le older (length xs)) made).0 in
+      let within : older - 1 < length xs = omega (arith, most, least) in
+      let among : older - 1 < length (map f xs) = omega (arith, within, length-map xs f) in
+      let is : get_or (map f xs) (older - 1) [] ≡ text = get_or-map f xs (older - 1) x [] within ∙ ap f (sym at) ∙ sym says in
+      let one : older - 1 + 1 ≡ older = omega (arith, least) in
+      older_foreign text older generation (subst (IsOfGeneration text) one (subst (λ t. IsOfGeneration t (older - 1 + 1)) is (are (older - 1) among))) (omega (arith, most, next))
+
+  pub same_made : (xs ys : List X) → ys ≡ xs → AreMade (map f xs) → AreMade (map f ys)
+  same_made xs ys same are = subst (λ zs. AreMade (map f zs)) (sym same) are
+
+-- a text more
+more_made : (texts : List (List ℕ)) (text : List ℕ) → AreMade texts → IsOfGeneration text (length texts + 1) → AreMade (texts ++ text ∷ [])
+more_made texts text are own place less = split (cases_lt place (length texts))
+  where
+    split : (place < length texts) ⊎ (length texts ≤ place) → IsOfGeneration (get_or (texts ++ text ∷ []) place []) (place + 1)
+    split (inl before) = subst (λ t. IsOfGeneration t (place + 1)) (sym (get_or_append_left texts (text ∷ []) [] place before)) (are place before)
+    split (inr behind) =
+        let last : length texts ≡ place = omega (arith, behind, less, length-append texts (text ∷ [])) in
+        subst (λ k. IsOfGeneration (get_or (texts ++ text ∷ []) k []) (k + 1)) last
+        (subst (λ t. IsOfGeneration t (length texts + 1)) (sym (get_or-append_seam texts text [] [])) own)
+
+pub more_texts : {X : Type 0} (f : X → List ℕ) (xs ys : List X) (x : X) (old new : ℕ) → ys ≡ xs ++ x ∷ [] → HasTexts (map f xs) old → IsOfGeneration (f x) (old + 1) → new ≡ old + 1 → HasTexts (map f ys) new
+more_texts f xs ys x old new is has own next =
+    let one : map f ys ≡ map f xs ++ f x ∷ [] = ap (map f) is ∙ map-append f xs (x ∷ []) in
+    record {
+      are = subst AreMade (sym one) (more_made (map f xs) (f x) has.are (subst (λ n. IsOfGeneration (f x) (n + 1)) (sym has.count) own));
+      count = ap length one ∙ length-append (map f xs) (f x ∷ []) ∙ omega (arith, has.count, next);
+    }

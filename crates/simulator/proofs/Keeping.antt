@@ -1,0 +1,163 @@
+-- What can be handed over stays so: the rules, the short seconds, the generation and the goal, through each call of the core.
+use Rattle.std.proofs.Common.{◌≡◌, ◌≢◌, refl, sym, ap, ◌∙◌, subst, ℕ, ◌+◌, Bool, true, false, cond, List, [], ◌∷◌, Option, Some, None, Result, Ok, Err, OnOk}
+use Rattle.std.specs.Prelude.{OnErr}
+use Rattle.std.proofs.lemmas.Bool.{false≢true}
+use Rattle.init_words.specs.declared.entries.Entry.{Entry}
+use Rattle.init_words.specs.declared.orders.Answer.{Answer}
+use Rattle.init_words.specs.declared.stages.Stage.{Stage}
+use Rattle.init_words.specs.declared.stages.Stage.TheVariants as stage
+use Rattle.init_words.specs.Levels.{same_level}
+use Rattle.initctl_frame.specs.declared.requests.Got.{Got as Request}
+use Rattle.initctl_frame.specs.declared.requests.Got.TheVariants as got
+use Rattle.init_trace.specs.declared.happenings.Happening.TheVariants as event
+use Rattle.init_trace.specs.declared.happenings.Handed.{Handed as HandOver}
+use Rattle.init_trace.specs.declared.happenings.Handed.TheVariants as handed
+use Rattle.init_trace.specs.declared.steps.Goal.{Goal}
+use Rattle.init_trace.specs.declared.steps.Step.{Step}
+use Rattle.init_trace.specs.declared.steps.Step.TheVariants.{Enter, Call, Power, Reread, Order, Hold, Settle, Reexec, Idle}
+use Rattle.init_trace.specs.Event.{Event}
+use Rattle.init_trace.specs.Past.{stage_of}
+use Rattle.init_trace.specs.Range.{is_request}
+use Rattle.init_trace.specs.Wishes.{in_run, level_wish}
+use Rattle.core_model.specs.Decide.{decide}
+use Rattle.core_model.specs.Fit.{Fits, core_read, with_step}
+use Rattle.core_model.specs.State.{CoreState}
+use Rattle.core_model.specs.Steps.{wished, heard_in, after_step, after_adopt, after_clock, after_got, after_not_read, after_round, after_told}
+use Rattle.core_model.proofs.Deciding.{is_read}
+use Rattle.state_text.specs.Range.{has_short_seconds}
+use Rattle.reexec_state.proofs.Lasting.{step_lasts, request_lasts}
+use Rattle.simulator.specs.Handing.{made_in, kept_goal, kept_at, after_hand}
+use Rattle.simulator.specs.Moments.{LastsTo}
+use Rattle.simulator.specs.Said.{is_scripted}
+
+-- what init keeps is what the trace says of it
+pub kept_is : (core : CoreState) (goal : Goal) (past : List Event) → Fits core goal past → LastsTo core goal past → core ≡ kept_at goal past
+kept_is core goal past fits lasts = is_read core goal past fits ∙ (λ i. core_read past (lasts.goal i) (lasts.made i))
+
+lasts_as : (core same : CoreState) (goal : Goal) (past : List Event) → core ≡ same → has_short_seconds same ≡ true → same.generation ≡ made_in past → same.goal ≡ kept_goal goal past → LastsTo core goal past
+lasts_as core same goal past is short made kept = record {
+  short = ap has_short_seconds is ∙ short;
+  made = ap (λ (c : CoreState). c.generation) is ∙ made;
+  goal = ap (λ (c : CoreState). c.goal) is ∙ kept;
+}
+
+-- ---- behind a step of init
+
+step_made : (s : Step) (core : CoreState) (past : List Event) → core.generation ≡ made_in past → (after_step s core).generation ≡ made_in (with_step s past)
+step_made (Enter now grace) core past made = made
+step_made (Call letter) core past made = made
+step_made (Power kind) core past made = made
+step_made (Order id ask) core past made = made
+step_made (Hold id) core past made = made
+step_made (Settle level) core past made = made
+step_made Reread core past made = made
+step_made Reexec core past made = made
+step_made Idle core past made = made
+
+step_goal : (s : Step) (core : CoreState) (goal : Goal) (past : List Event) → core.level_wish ≡ level_wish past → core.goal ≡ kept_goal goal past → (after_step s core).goal ≡ kept_goal goal (with_step s past)
+step_goal (Enter now grace) core goal past wish kept = ap (λ w. wished w core.goal) wish ∙ ap (wished (level_wish past)) kept
+step_goal (Call letter) core goal past wish kept = kept
+step_goal (Power kind) core goal past wish kept = kept
+step_goal (Order id ask) core goal past wish kept = kept
+step_goal (Hold id) core goal past wish kept = kept
+step_goal (Settle level) core goal past wish kept = kept
+step_goal Reread core goal past wish kept = kept
+step_goal Reexec core goal past wish kept = kept
+step_goal Idle core goal past wish kept = kept
+
+pub lasts_step : (core new : CoreState) (s : Step) → s ≡ decide core → new ≡ after_step s core → (goal : Goal) (past : List Event) → Fits core goal past → LastsTo core goal past → LastsTo new goal (with_step s past)
+lasts_step core new s decides is goal past fits lasts = lasts_as new (after_step s core) goal (with_step s past) is
+    (subst (λ t. has_short_seconds (after_step t core) ≡ true) (sym decides) (step_lasts core lasts.short))
+    (step_made s core past lasts.made)
+    (step_goal s core goal past fits.wishes.level lasts.goal)
+
+pub same_generation : (s : Step) (core : CoreState) → (after_step s core).generation ≡ core.generation
+same_generation (Enter now grace) core = refl
+same_generation (Call letter) core = refl
+same_generation (Power kind) core = refl
+same_generation (Order id ask) core = refl
+same_generation (Hold id) core = refl
+same_generation (Settle level) core = refl
+same_generation Reread core = refl
+same_generation Reexec core = refl
+same_generation Idle core = refl
+
+-- ---- behind what is heard
+
+heard_goal : (now : Option Stage) (wish : Goal) (core : CoreState) → (heard_in now wish core).goal ≡ cond (in_run now) core.goal wish
+heard_goal None wish core = refl
+heard_goal (Some stage.Sysinit) wish core = refl
+heard_goal (Some stage.Boot) wish core = refl
+heard_goal (Some (stage.Run level)) wish core = at (same_level wish.level level)
+  where
+    at : (b : Bool) → (cond b (record core { level_wish = None }) (record core { level_wish = Some wish; reread = true })).goal ≡ core.goal
+    at true = refl
+    at false = refl
+
+heard_generation : (now : Option Stage) (wish : Goal) (core : CoreState) → (heard_in now wish core).generation ≡ core.generation
+heard_generation None wish core = refl
+heard_generation (Some stage.Sysinit) wish core = refl
+heard_generation (Some stage.Boot) wish core = refl
+heard_generation (Some (stage.Run level)) wish core = at (same_level wish.level level)
+  where
+    at : (b : Bool) → (cond b (record core { level_wish = None }) (record core { level_wish = Some wish; reread = true })).generation ≡ core.generation
+    at true = refl
+    at false = refl
+
+got_made : (request : Request) (core : CoreState) → (after_got request core).generation ≡ core.generation
+got_made (got.Level level grace) core = heard_generation core.stage (record { level = level; grace = grace }) core
+got_made (got.Call letter) core = refl
+got_made got.Reload core = refl
+got_made got.Reexec core = refl
+got_made (got.Power kind) core = refl
+got_made (got.Nothing cause) core = refl
+
+got_goal : (request : Request) (core : CoreState) (goal : Goal) (past : List Event) → core.stage ≡ stage_of past → core.goal ≡ kept_goal goal past → (after_got request core).goal ≡ kept_goal goal (event.Got request ∷ past)
+got_goal (got.Level level grace) core goal past now kept = heard_goal core.stage (record { level = level; grace = grace }) core
+    ∙ ap (λ o. cond (in_run o) core.goal (record { level = level; grace = grace })) now ∙ ap (λ g. cond (in_run (stage_of past)) g (record { level = level; grace = grace })) kept
+got_goal (got.Call letter) core goal past now kept = kept
+got_goal got.Reload core goal past now kept = kept
+got_goal got.Reexec core goal past now kept = kept
+got_goal (got.Power kind) core goal past now kept = kept
+got_goal (got.Nothing cause) core goal past now kept = kept
+
+module _ (core new : CoreState) (goal : Goal) (past : List Event) (lasts : LastsTo core goal past) where
+  pub lasts_adopt : (table : List Entry) → new ≡ after_adopt table core → LastsTo new goal (event.NewTable table ∷ past)
+  lasts_adopt table is = lasts_as new (after_adopt table core) goal (event.NewTable table ∷ past) is lasts.short lasts.made lasts.goal
+
+  pub lasts_not_read : new ≡ after_not_read core → LastsTo new goal (event.NotRead ∷ past)
+  lasts_not_read is = lasts_as new (after_not_read core) goal (event.NotRead ∷ past) is lasts.short lasts.made lasts.goal
+
+  pub lasts_clock : (reading : ℕ) → new ≡ after_clock reading core → LastsTo new goal (event.Clock reading ∷ past)
+  lasts_clock reading is = lasts_as new (after_clock reading core) goal (event.Clock reading ∷ past) is lasts.short lasts.made lasts.goal
+
+  pub lasts_nudge : new ≡ after_round core → LastsTo new goal (event.Nudge ∷ past)
+  lasts_nudge is = lasts_as new (after_round core) goal (event.Nudge ∷ past) is lasts.short lasts.made lasts.goal
+
+  -- whether the answer was taken or not
+  pub lasts_told : {S E : Type 0} (r : Result S E) (id : List ℕ) (answer : Answer) → OnOk r (new ≡ after_told id answer core) → OnErr r (new ≡ core) → LastsTo new goal (event.Told id ∷ past)
+  lasts_told (Ok x) id answer is kept = lasts_as new (after_told id answer core) goal (event.Told id ∷ past) is lasts.short lasts.made lasts.goal
+  lasts_told (Err e) id answer is kept = lasts_as new core goal (event.Told id ∷ past) kept lasts.short lasts.made lasts.goal
+
+  pub lasts_got : (request : Request) → Fits core goal past → is_request request ≡ true → new ≡ after_got request core → LastsTo new goal (event.Got request ∷ past)
+  lasts_got request fits asks is = lasts_as new (after_got request core) goal (event.Got request ∷ past) is
+      (request_lasts request core asks lasts.short)
+      (got_made request core ∙ lasts.made)
+      (got_goal request core goal past fits.now.stage lasts.goal)
+
+  pub lasts_hand : (how : HandOver) → new ≡ after_hand how core → LastsTo new goal (event.Handed how ∷ past)
+  lasts_hand handed.Failed is = lasts_as new (after_hand handed.Failed core) goal (event.Handed handed.Failed ∷ past) is lasts.short lasts.made lasts.goal
+  lasts_hand handed.Whole is = lasts_as new (after_hand handed.Whole core) goal (event.Handed handed.Whole ∷ past) is lasts.short (ap (λ n. n + 1) lasts.made) lasts.goal
+  lasts_hand (handed.Cut bytes) is = lasts_as new (after_hand (handed.Cut bytes) core) goal (event.Handed (handed.Cut bytes) ∷ past) is lasts.short (ap (λ n. n + 1) lasts.made) lasts.goal
+  lasts_hand (handed.Older older) is = lasts_as new (after_hand (handed.Older older) core) goal (event.Handed (handed.Older older) ∷ past) is lasts.short (ap (λ n. n + 1) lasts.made) lasts.goal
+
+pub lasts_at : (goal : Goal) (past : List Event) (core : CoreState) (happening same : Event) → happening ≡ same → LastsTo core goal (same ∷ past) → LastsTo core goal (happening ∷ past)
+lasts_at goal past core happening same become lasts = subst (λ h. LastsTo core goal (h ∷ past)) (sym become) lasts
+
+-- behind what the system does
+pub lasts_silent : (core : CoreState) (goal : Goal) (past : List Event) (happening : Event) → LastsTo core goal past → is_scripted happening ≡ true
+    → ((request : Request) → happening ≢ event.Got request) → ((how : HandOver) → happening ≢ event.Handed how) → LastsTo core goal (happening ∷ past)
+lasts_silent core goal past (event.Enter now grace) lasts said not_got not_handed = absurd (false≢true said)
+lasts_silent core goal past (event.Got request) lasts said not_got not_handed = absurd (not_got request refl)
+lasts_silent core goal past (event.Handed how) lasts said not_got not_handed = absurd (not_handed how refl)
+lasts_silent core goal past _ lasts said not_got not_handed = record { short = lasts.short; made = lasts.made; goal = lasts.goal }

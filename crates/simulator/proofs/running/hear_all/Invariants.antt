@@ -1,0 +1,17 @@
+use Rattle.std.proofs.Common.{◌+◌, ◌≤◌, length, map, Vec, ℕ}
+use Rattle.simulator.specs.Moments.{SoFar, SomeRest, FromScript}
+use Rattle.simulator.specs.Texts.{HasTexts}
+use Rattle.simulator.proofs.running.hear_all.Given as goal
+
+-- what stands before the rest was heard, and init rests
+abbrev pub invariant-loop-rest : goal.invariant-loop-rest
+invariant-loop-rest g l = record {
+  texts : HasTexts (map (λ (text : Vec ℕ g.row.A.Denot). text.items) l.made.items) l.core.generation;
+  bounded : l.number + length l.rest ≤ length l.text + 1;
+  some : SomeRest l.reads l.core l.side;
+  so_far : FromScript l.text l.rereads l.fn.core l.fn.side (g.W.Write.contents l.fn.out) (λ s before.
+      SoFar s l.rest l.number l.reads l.core l.side before (g.W.Write.contents l.out));
+}
+
+abbrev pub decreases-loop-rest : goal.decreases-loop-rest
+decreases-loop-rest g l = length l.rest

@@ -1,0 +1,19 @@
+use Rattle.std.proofs.Common.{rules, ◌≡◌, Err, List, ℕ, subst}
+use Rattle.program_io.specs.Writing.{AppendsFront}
+use Rattle.init_trace.specs.Lines.{event_text}
+use Rattle.simulator.specs.declared.running.SimFault.TheVariants as fault
+use Rattle.init_words.proofs.Tests.{err_is}
+use Rattle.simulator.proofs.Moves.{memory_before}
+use Rattle.simulator.proofs.running.write_happening.Goals as goal
+
+pub returns-in_err-text-clause-err : goal.returns-in_err-text-clause-err
+returns-in_err-text-clause-err g c =
+    let is : c.from_residual.result ≡ Err fault.Memory = search rules in
+    err_is c.from_residual.result fault.Memory _ is (memory_before (g.W.Write.contents c.args.out.now) (event_text c.args.happening.now))
+
+pub returns-in_err-write_text-clause-err : goal.returns-in_err-write_text-clause-err
+returns-in_err-write_text-clause-err g c =
+    let is : c.from_residual-in_err-write_text.result ≡ Err fault.Write = search rules in
+    let same : c.deref.result.now ≡ event_text c.args.happening.now = search rules in
+    err_is c.from_residual-in_err-write_text.result fault.Write _ is
+    (subst (λ (text : List ℕ). AppendsFront (g.W.Write.contents c.args.out.now) (g.W.Write.contents c.write_text.new.out) text) same c.in_err-write_text.ensures.err)

@@ -1,0 +1,85 @@
+-- Hand-overs of init's state in a run: what init keeps, the text that is made of it, and which may come.
+use Rattle.std.specs.Prelude.{ℕ, Bool, true, ◌&&◌, ◌+◌, ◌^◌, if◌then◌else◌, nat_le, nat_lt, List, [], ◌∷◌, length, Option, Some, None}
+use Rattle.initctl_frame.specs.declared.requests.Got.TheVariants as got
+use Rattle.init_trace.specs.declared.happenings.Happening.TheVariants.{Enter, Got, Handed}
+use Rattle.init_trace.specs.declared.happenings.Handed.{Handed as HandOver}
+use Rattle.init_trace.specs.declared.happenings.Handed.TheVariants as handed
+use Rattle.init_trace.specs.declared.steps.Goal.{Goal}
+use Rattle.init_trace.specs.Event.{Event}
+use Rattle.init_trace.specs.Past.{stage_of}
+use Rattle.init_trace.specs.Wishes.{in_run, level_wish}
+use Rattle.core_model.specs.Fit.{core_read}
+use Rattle.core_model.specs.Parts.{state_of}
+use Rattle.core_model.specs.State.{CoreState}
+use Rattle.core_model.specs.Steps.{wished, after_handed, after_handed_on}
+use Rattle.state_text.specs.Lines.{state_text}
+use Rattle.simulated_system.specs.declared.objections.Objection.{Objection}
+use Rattle.simulated_system.specs.declared.objections.Objection.TheVariants as objection
+use Rattle.simulated_system.specs.Objections.{unless}
+
+-- how many state texts were made: one by each hand-over but those that failed
+abbrev pub made_in : List Event → ℕ
+made_in [] = 0
+made_in (Handed handed.Failed ∷ past) = made_in past
+made_in (Handed how ∷ past) = made_in past + 1
+made_in (_ ∷ past) = made_in past
+
+-- the goal that init keeps: a level that is asked for before the run levels, or a wish for one that is carried out;
+-- else that of the opening
+abbrev pub kept_goal : Goal → List Event → Goal
+kept_goal opening [] = opening
+kept_goal opening (Enter stage grace ∷ past) = wished (level_wish past) (kept_goal opening past)
+kept_goal opening (Got (got.Level l s) ∷ past) =
+    if in_run (stage_of past) then kept_goal opening past else record { level = l; grace = s }
+kept_goal opening (_ ∷ past) = kept_goal opening past
+
+-- what init keeps after the trace
+abbrev pub kept_at : Goal → List Event → CoreState
+kept_at opening past = core_read past (kept_goal opening past) (made_in past)
+
+-- the text that is made of what init keeps: it is handed on, to a generation more
+abbrev pub text_made : CoreState → List ℕ
+text_made core = state_text (state_of (after_handed_on core))
+
+-- the text that a hand-over makes after the trace
+abbrev pub text_at : Goal → List Event → List ℕ
+text_at opening past = text_made (kept_at opening past)
+
+-- after this one there is another generation
+abbrev pub has_next : ℕ → Bool
+has_next generation = nat_lt (generation + 1) (2 ^ 64)
+
+-- the generation is that of a text, of which this many were made
+abbrev pub is_made : ℕ → ℕ → Bool
+is_made generation made = nat_le 1 generation && nat_le generation made
+
+-- the hand-over may be made: a generation is left; one that is cut has bytes left to cut; an older text was made
+-- before. One that failed makes nothing.
+abbrev pub may_be_handed : Goal → HandOver → List Event → Bool
+may_be_handed opening handed.Failed past = true
+may_be_handed opening handed.Whole past = has_next (made_in past)
+may_be_handed opening (handed.Cut bytes) past = has_next (made_in past) && nat_lt bytes (length (text_at opening past))
+may_be_handed opening (handed.Older generation) past = has_next (made_in past) && is_made generation (made_in past)
+
+-- a hand-over comes where it may be made
+abbrev pub may_hand : Goal → Event → List Event → Bool
+may_hand opening (Handed how) past = may_be_handed opening how past
+may_hand opening _ past = true
+
+-- the objection, where there is a next generation; else that there is none
+abbrev pub unless_worn : ℕ → Option Objection → Option Objection
+unless_worn generation other = if has_next generation then other else Some objection.Worn
+
+-- what is objected to a hand-over, by how many texts were made and by the length of the next; none where it may be made
+abbrev pub objection_handed : ℕ → ℕ → HandOver → Option Objection
+objection_handed made size handed.Failed = None
+objection_handed made size handed.Whole = unless_worn made None
+objection_handed made size (handed.Cut bytes) =
+    unless_worn made (unless (nat_lt bytes size) (objection.NotCut bytes))
+objection_handed made size (handed.Older generation) =
+    unless_worn made (unless (is_made generation made) (objection.NoneOlder generation))
+
+-- init keeps a generation more after a hand-over, but after one that failed
+abbrev pub after_hand : HandOver → CoreState → CoreState
+after_hand handed.Failed core = after_handed core
+after_hand how core = after_handed_on core

@@ -1,0 +1,144 @@
+-- A moment of a simulated run, and what init's own steps make of it.
+use Rattle.std.specs.Prelude.{◌≡◌, ◌⊎◌, ℕ, Bool, true, false, ◌+◌, List, [], ◌∷◌, ◌++◌, Option}
+use Rattle.std.specs.Io.KnownBytes.{Appends, Keeps}
+use Rattle.init_trace.specs.declared.steps.Goal.{Goal}
+use Rattle.init_trace.specs.Event.{Event}
+use Rattle.inittab_text.specs.Reading.{table_of_text}
+use Rattle.init_trace.specs.declared.happenings.Happening.TheVariants.{NewTable, Handed}
+use Rattle.init_trace.specs.Lines.{event_text}
+use Rattle.init_trace.specs.Range.{are_in_range}
+use Rattle.text_lines.specs.Lines.{newlines}
+use Rattle.init_trace.specs.Due.{due, first}
+use Rattle.init_trace.specs.Run.{is_run, is_rest, is_reread}
+use Rattle.child_table.specs.Lists.{is_quiet}
+use Rattle.core_model.specs.State.{CoreState}
+use Rattle.core_model.specs.Fit.{Fits}
+use Rattle.state_text.specs.Range.{has_short_seconds}
+use Rattle.simulated_system.specs.State.{SystemState}
+use Rattle.simulated_system.specs.Follows.{Follows}
+use Rattle.simulator.specs.declared.running.SimFault.{SimFault}
+use Rattle.simulator.specs.declared.running.SimFault.TheVariants as fault
+use Rattle.simulator.specs.Faults.{Leaves}
+use Rattle.simulator.specs.Handing.{made_in, kept_goal}
+use Rattle.simulator.specs.Texts.{CanHand}
+use Rattle.simulator.specs.Said.{may_be_scripted, IsObjected, first_table, heard}
+use Rattle.simulator.specs.Simulation.{IsTooLong, RunOver, Scenario, goal_in, heard_text, past_text, table_in}
+
+-- what can be handed over: the core keeps its rules, its seconds are short, and its generation and its goal are those
+-- of the run so far
+pub record LastsTo (core : CoreState) (opening : Goal) (past : List Event) : Type 0 where
+  pub short : has_short_seconds core ≡ true
+  pub made : core.generation ≡ made_in past
+  pub goal : core.goal ≡ kept_goal opening past
+
+-- the core fits the run so far and can be handed over, and the system's side follows the run
+pub record Moment (goal : Goal) (past : List Event) (core : CoreState) (side : SystemState) : Type 0 where
+  pub runs : is_run goal past ≡ true
+  pub fits : Fits core goal past
+  pub lasts : LastsTo core goal past
+  pub follows : Follows side past
+
+abbrev pub SomeMoment : CoreState → SystemState → Type 0
+SomeMoment core side = (goal : Goal) × (past : List Event) × Moment goal past core side
+
+-- of each run that core and side are at a moment of
+abbrev pub FromMoment : CoreState → SystemState → (Goal → List Event → Type 0) → Type 0
+FromMoment core side P = (goal : Goal) (past : List Event) → Moment goal past core side → P goal past
+
+-- the trace went on from past to next: it begins with the same table, nothing was heard, and this text is more
+pub record GoesOn (past next : List Event) (more : List ℕ) : Type 0 where
+  pub opens : first_table next ≡ first_table past
+  pub hears : heard next ≡ heard past
+  pub text : past_text next ≡ past_text past ++ more
+
+-- a moment at which init rests, and whether inittab is to be read then
+pub record AtRest (goal : Goal) (past : List Event) (rereads : Bool) (core : CoreState) (side : SystemState) : Type 0 where
+  pub moment : Moment goal past core side
+  pub rests : is_rest (first (due goal past)) ≡ true
+  pub read : rereads ≡ is_reread (first (due goal past))
+
+abbrev pub SomeRest : Bool → CoreState → SystemState → Type 0
+SomeRest rereads core side = (goal : Goal) × (past : List Event) × AtRest goal past rereads core side
+
+-- of each run in which core and side are at rest
+abbrev pub FromRest : Bool → CoreState → SystemState → (Goal → List Event → Type 0) → Type 0
+FromRest rereads core side P =
+    (goal : Goal) (past : List Event) → AtRest goal past rereads core side → P goal past
+
+-- init went on until it rests, and wrote what it did
+abbrev pub ComesToRest : Goal → List Event → Bool → CoreState → SystemState → Option (List ℕ) → Option (List ℕ) → Type 0
+ComesToRest goal past rereads core side old new =
+    (next : List Event) × (more : List ℕ) × AtRest goal next rereads core side × GoesOn past next more
+    × Appends old new more
+
+-- init went on, and was writing what it did when the fault came
+abbrev pub Breaks : Goal → List Event → SimFault → Option (List ℕ) → Option (List ℕ) → Type 0
+Breaks goal past f old new =
+    (next : List Event) × (more : List ℕ) × (is_run goal next ≡ true) × GoesOn past next more × Leaves f old new more
+
+-- a table is adopted where no start and no signal is open in the core, and a hand-over is made where it can be
+abbrev pub IsReadyFor : Event → CoreState → Type 0
+IsReadyFor (NewTable table) core = is_quiet core.slots ≡ true
+IsReadyFor (Handed how) core = CanHand how core
+IsReadyFor _ core = Unit {0}
+
+-- the trace went on from past to next: it begins with the same table, this was heard of the script, and this text is
+-- more
+pub record HearsLine (past next : List Event) (said more : List ℕ) : Type 0 where
+  pub opens : first_table next ≡ first_table past
+  pub are : are_in_range (heard past) ≡ true → are_in_range (heard next) ≡ true
+  pub hears : heard_text next ≡ heard_text past ++ said
+  pub text : past_text next ≡ past_text past ++ more
+
+-- a happening was heard, and init went on until it rests, and what came was written
+abbrev pub HeardOne : Goal → List Event → Event → Bool → CoreState → SystemState → Option (List ℕ) → Option (List ℕ) → Type 0
+HeardOne goal past happening rereads core side old new = (next : List Event) × (more : List ℕ)
+    × AtRest goal next rereads core side × HearsLine past next (event_text happening) more × Appends old new more
+
+-- a happening was heard, and what came was being written when the fault came
+abbrev pub HeardBreaks : Goal → List Event → Event → SimFault → Option (List ℕ) → Option (List ℕ) → Type 0
+HeardBreaks goal past happening f old new = (next : List Event) × (more : List ℕ)
+    × (is_run goal next ≡ true) × HearsLine past next (event_text happening) more × Leaves f old new more
+
+-- how a happening whose line has this number may end the run; memory may also be wanting before it is heard
+abbrev pub HeardEnds : Goal → List Event → Event → ℕ → SimFault → Option (List ℕ) → Option (List ℕ) → Type 0
+HeardEnds goal past happening number fault.Table old new = ⊥
+HeardEnds goal past happening number (fault.Script n) old new = ⊥
+HeardEnds goal past happening number (fault.Forbidden n why) old new =
+    (n ≡ number) × (may_be_scripted goal happening past ≡ false) × IsObjected goal happening past why × Keeps old new
+HeardEnds goal past happening number fault.Write old new = HeardBreaks goal past happening fault.Write old new
+HeardEnds goal past happening number fault.Memory old new =
+    Keeps old new ⊎ HeardBreaks goal past happening fault.Memory old new
+
+-- how the reading of an inittab ends where there is no table
+abbrev pub TableEnds : List ℕ → SimFault → Type 0
+TableEnds inittab fault.Table = IsTooLong inittab
+TableEnds inittab fault.Memory = Unit {0}
+TableEnds inittab _ = ⊥
+
+-- the text of an inittab's table, as a happening
+abbrev pub opening_text : List ℕ → List ℕ
+opening_text inittab = event_text (NewTable (table_of_text inittab))
+
+-- of each run over this script whose table is written, core and side being at its first moment
+abbrev pub FromOpening : List ℕ → CoreState → SystemState → Option (List ℕ)
+    → (Scenario → Option (List ℕ) → Type 0) → Type 0
+FromOpening script core side now P =
+    (s : Scenario) (before : Option (List ℕ)) → s.script ≡ script
+    → Moment (goal_in s) (NewTable (table_in s) ∷ []) core side → Appends before now (opening_text s.inittab)
+    → P s before
+
+-- the run over the script up to this rest of it, whose first line has the number; init rests
+pub record SoFar (s : Scenario) (rest : List ℕ) (number : ℕ) (rereads : Bool) (core : CoreState) (side : SystemState)
+    (old new : Option (List ℕ)) : Type 0 where
+  pub past : List Event
+  pub counted : number ≡ newlines (heard_text past) + 1
+  pub at : AtRest (goal_in s) past rereads core side
+  pub run : RunOver s rest past
+  pub written : Appends old new (past_text past)
+
+-- of each run up to the beginning of a text, which core and side are at, and of what was written before it
+abbrev pub FromScript : List ℕ → Bool → CoreState → SystemState → Option (List ℕ)
+    → (Scenario → Option (List ℕ) → Type 0) → Type 0
+FromScript text rereads core side now P =
+    (s : Scenario) (before : Option (List ℕ)) → SoFar s text 1 rereads core side before now → P s before

@@ -1,0 +1,97 @@
+-- A run of init over a script: what is written, and where it ends.
+use Rattle.std.specs.Prelude.{◌≡◌, ◌≢◌, ℕ, true, false, ◌+◌, ◌<◌, List, [], ◌++◌, reverse, length, Option}
+use Rattle.std.specs.Io.KnownBytes.{Appends, Keeps}
+use Rattle.init_words.specs.declared.entries.Entry.{Entry}
+use Rattle.init_words.specs.declared.levels.Level.{Level}
+use Rattle.text_lines.specs.Lines.{ended, newlines}
+use Rattle.inittab_text.specs.Reading.{table_of_text}
+use Rattle.inittab_text.specs.declared.reading.TheConstants.{TEXT_LIMIT}
+use Rattle.init_trace.specs.declared.steps.Goal.{Goal}
+use Rattle.init_trace.specs.Event.{Event}
+use Rattle.init_trace.specs.Due.{due, first}
+use Rattle.init_trace.specs.Lines.{event_text, trace_text}
+use Rattle.init_trace.specs.Range.{is_in_range, are_in_range, BeginsNone}
+use Rattle.init_trace.specs.Run.{is_run, is_rest}
+use Rattle.core_model.specs.State.{opening_goal}
+use Rattle.simulated_system.specs.declared.objections.Objection.{Objection}
+use Rattle.simulator.specs.declared.running.SimFault.{SimFault}
+use Rattle.simulator.specs.declared.running.SimFault.TheVariants as fault
+use Rattle.simulator.specs.Faults.{Leaves}
+use Rattle.simulator.specs.Said.{may_be_scripted, IsObjected, first_table, heard}
+
+-- what is simulated: the level to go to, if one is given, an inittab and a script
+pub record Scenario : Type 0 where
+  pub level : Option Level
+  pub inittab : List ℕ
+  pub script : List ℕ
+
+abbrev pub scenario : Option Level → List ℕ → List ℕ → Scenario
+scenario level inittab script = record { level = level; inittab = inittab; script = script }
+
+abbrev pub table_in : Scenario → List Entry
+table_in s = table_of_text s.inittab
+
+abbrev pub goal_in : Scenario → Goal
+goal_in s = opening_goal s.level (table_in s)
+
+-- the text of the script, its last line ended
+abbrev pub script_in : Scenario → List ℕ
+script_in s = ended s.script
+
+-- the text of a trace, the newest happening first
+abbrev pub past_text : List Event → List ℕ
+past_text past = trace_text (reverse past)
+
+-- the text of what was heard in a trace
+abbrev pub heard_text : List Event → List ℕ
+heard_text past = past_text (heard past)
+
+-- the run over the script up to this rest of it: it begins with the inittab's table, init takes first due steps, and
+-- hears what the script says in turn when it rests
+pub record RunOver (s : Scenario) (rest : List ℕ) (past : List Event) : Type 0 where
+  pub runs : is_run (goal_in s) past ≡ true
+  pub opens : first_table past ≡ table_in s
+  pub are : are_in_range (heard past) ≡ true
+  pub hears : heard_text past ++ rest ≡ script_in s
+
+-- such a run, after which init rests
+pub record Rested (s : Scenario) (rest : List ℕ) (past : List Event) : Type 0 where
+  pub run : RunOver s rest past
+  pub rests : is_rest (first (due (goal_in s) past)) ≡ true
+
+-- the run over the whole script was written
+abbrev pub Done : Scenario → Option (List ℕ) → Option (List ℕ) → Type 0
+Done s old new = (past : List Event) × Rested s [] past × Appends old new (past_text past)
+
+-- the run over the lines before the n-th was written, counted from 1, and the rest from the n-th on is such
+abbrev pub EndsAt : Scenario → ℕ → (List ℕ → List Event → Type 0) → Option (List ℕ) → Option (List ℕ) → Type 0
+EndsAt s n such old new =
+    (rest : List ℕ) × (past : List Event) × (n ≡ newlines (heard_text past) + 1)
+    × Rested s rest past × Appends old new (past_text past) × such rest past
+
+-- something is left, and it begins with no happening's text
+abbrev pub IsUnread : List ℕ → List Event → Type 0
+IsUnread rest past = (rest ≢ []) × BeginsNone rest
+
+-- it begins with the text of a happening that a script may not have, or not now, and this is why
+abbrev pub IsForbidden : Goal → Objection → List ℕ → List Event → Type 0
+IsForbidden goal why rest past =
+    (happening : Event) × (more : List ℕ) × (is_in_range happening ≡ true) × (event_text happening ++ more ≡ rest)
+    × (may_be_scripted goal happening past ≡ false) × IsObjected goal happening past why
+
+-- a run over a part of the script was being written when the fault came
+abbrev pub Broken : Scenario → SimFault → Option (List ℕ) → Option (List ℕ) → Type 0
+Broken s f old new =
+    (rest : List ℕ) × (past : List Event) × RunOver s rest past × Leaves f old new (past_text past)
+
+-- the inittab is too long
+abbrev pub IsTooLong : List ℕ → Type 0
+IsTooLong inittab = TEXT_LIMIT < length inittab
+
+-- how a run ends that doesn't reach the end of its script
+abbrev pub Ends : Scenario → SimFault → Option (List ℕ) → Option (List ℕ) → Type 0
+Ends s fault.Table old new = IsTooLong s.inittab × Keeps old new
+Ends s (fault.Script n) old new = EndsAt s n IsUnread old new
+Ends s (fault.Forbidden n why) old new = EndsAt s n (IsForbidden (goal_in s) why) old new
+Ends s fault.Write old new = Broken s fault.Write old new
+Ends s fault.Memory old new = Broken s fault.Memory old new

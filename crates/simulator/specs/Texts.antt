@@ -1,0 +1,30 @@
+-- The state texts that were made in a run, and what the core must be for another.
+use Rattle.std.specs.Prelude.{◌≡◌, ◌≢◌, ℕ, true, ◌+◌, ◌<◌, List, [], get_or, length, None}
+use Rattle.init_trace.specs.declared.happenings.Handed.{Handed as HandOver}
+use Rattle.core_model.specs.Parts.{SavedState}
+use Rattle.core_model.specs.State.{CoreState}
+use Rattle.state_text.specs.Range.{has_short_seconds}
+use Rattle.state_text.specs.Refused.{IsTextOf}
+use Rattle.simulator.specs.Handing.{text_made, objection_handed}
+
+-- the text is that of a state of the generation
+abbrev pub IsOfGeneration : List ℕ → ℕ → Type 0
+IsOfGeneration text generation = (state : SavedState) × IsTextOf text state × (state.heads.generation ≡ generation)
+
+-- the first text is that of a state of generation 1, and each other that of a generation more than the one before
+abbrev pub AreMade : List (List ℕ) → Type 0
+AreMade texts = (place : ℕ) → place < length texts → IsOfGeneration (get_or texts place []) (place + 1)
+
+-- these are the texts that were made up to a core of the generation
+pub record HasTexts (texts : List (List ℕ)) (generation : ℕ) : Type 0 where
+  pub are : AreMade texts
+  pub count : length texts ≡ generation
+
+-- the text is that of no state of the generation
+abbrev pub IsForeign : List ℕ → ℕ → Type 0
+IsForeign text generation = (state : SavedState) → IsTextOf text state → state.heads.generation ≢ generation
+
+-- nothing is objected to the hand-over, and what the core keeps can be handed over
+pub record CanHand (how : HandOver) (core : CoreState) : Type 0 where
+  pub short : has_short_seconds core ≡ true
+  pub may : objection_handed core.generation (length (text_made core)) how ≡ None

@@ -1,0 +1,174 @@
+//! The hand-overs of a script: init's state is written, carried and taken over as when init re-executes itself.
+
+ghost use Rattle.std.specs.Prelude.{◌≡◌, ◌+◌, ◌∷◌, length, map, true, IfOk, None, OnOk};
+ghost use Rattle.init_trace.specs.declared.happenings.Happening.TheVariants as happening;
+ghost use Rattle.init_trace.specs.declared.happenings.Handed.{Handed};
+ghost use Rattle.core_model.specs.Fit.{Fits, OnEachTrace};
+ghost use Rattle.core_model.specs.Parts.{state_of};
+ghost use Rattle.core_model.specs.Rules.{IsFit};
+ghost use Rattle.core_model.specs.Steps.{after_handed_on};
+ghost use Rattle.state_text.specs.Range.{has_short_seconds};
+ghost use Rattle.state_text.specs.Refused.{IsTextOf};
+ghost use Rattle.simulator.specs.Handing.{after_hand, has_next, is_made, objection_handed, text_made};
+ghost use Rattle.simulator.specs.Texts.{AreMade, CanHand, HasTexts, IsForeign};
+
+use core_model::Heads;
+use init_trace::Handed;
+use init_words::Memory;
+use level_core::Core;
+use reexec_state::{Over, hand_over, take_over};
+use simulated_system::Objection;
+use state_text::write_state;
+use std::alloc::Allocator;
+
+/// After this generation there is another.
+fn has_next(generation: u64) -> bool
+    ensures { result ≡ has_next generation }
+{
+    generation < u64::MAX
+}
+
+/// A text of the generation was made, where this many were.
+fn is_made(generation: u64, made: u64) -> bool
+    ensures { result ≡ is_made generation made }
+{
+    1 <= generation && generation <= made
+}
+
+/// How long the text is that a hand-over makes.
+fn size_made<A: Allocator + Copy>(alloc: A, core: &Core<A>) -> Result<u64, Memory>
+    requires { has_next core.now.generation ≡ true }
+    ensures { IfOk result (λ size. size ≡ length (text_made core.now)) }
+{
+    let heads = Heads {
+        generation: core.generation() + 1,
+        reexec: false,
+        ..core.heads()
+    };
+    let text = write_state(alloc, &heads, core.table(), core.slots().as_slice())?;
+    Ok(text.len() as u64)
+}
+
+/// What is objected to a hand-over of what the core keeps, where as many texts were made as it is old.
+pub(crate) fn objection_handed<A: Allocator + Copy>(
+    alloc: A,
+    core: &Core<A>,
+    how: Handed,
+) -> Result<Option<Objection>, Memory>
+    ensures { IfOk result (λ objection. objection
+        ≡ objection_handed core.now.generation (length (text_made core.now)) how) }
+{
+    if how == Handed::Failed {
+        return Ok(None);
+    }
+    if !has_next(core.generation()) {
+        return Ok(Some(Objection::Worn));
+    }
+    match how {
+        Handed::Cut(bytes) if bytes >= size_made(alloc, core)? => {
+            Ok(Some(Objection::NotCut(bytes)))
+        }
+        Handed::Older(generation) if !is_made(generation, core.generation()) => {
+            Ok(Some(Objection::NoneOlder(generation)))
+        }
+        _ => Ok(None),
+    }
+}
+
+/// Writes what the core keeps, for the next init.
+fn make_text<A: Allocator + Copy>(alloc: A, core: &mut Core<A>) -> Result<Vec<u8, A>, Memory>
+    requires short { has_short_seconds core.old ≡ true }
+    requires next { has_next core.old.generation ≡ true }
+    ensures text { IfOk result (λ text. text.items ≡ text_made core.old) }
+    ensures state { OnOk result (core.new ≡ after_handed_on core.old) }
+    ensures fits { OnOk result (OnEachTrace core.old (λ goal past. (how : Handed)
+        → Fits core.new goal (happening.Handed how ∷ past))) }
+    ensures says { IfOk result (λ text. IsTextOf text.items (state_of core.new)) }
+    ensures fit { OnOk result (IsFit core.new) }
+{
+    match hand_over(alloc, core) {
+        Ok(text) => Ok(text),
+        Err(Over::Memory) => Err(Memory),
+        Err(_) => unreachable!(),
+    }
+}
+
+/// Takes over the core's own text: the core that comes of it is the same.
+fn take_own<A: Allocator + Copy>(alloc: A, core: &mut Core<A>, text: &[u8]) -> Result<(), Memory>
+    requires says { IsTextOf text.now (state_of core.old) }
+    requires fit { IsFit core.old }
+    ensures { OnOk result (core.new ≡ core.old) }
+{
+    match take_over(alloc, text, core.generation()) {
+        Ok(taken) => {
+            *core = taken;
+            Ok(())
+        }
+        Err(Over::Memory) => Err(Memory),
+        Err(_) => unreachable!(),
+    }
+}
+
+/// Takes over a text that no state of the core's generation has: it is refused.
+fn take_foreign<A: Allocator + Copy>(alloc: A, core: &Core<A>, text: &[u8]) -> Result<(), Memory>
+    requires { IsForeign text.now core.now.generation }
+{
+    match take_over(alloc, text, core.generation()) {
+        Ok(_) => unreachable!(),
+        Err(Over::Memory) => Err(Memory),
+        Err(_) => Ok(()),
+    }
+}
+
+/// The core's own text comes back whole, or cut, or an older one in its place: the core is as before. Given are the
+/// texts that were made before.
+fn carry<A: Allocator + Copy>(
+    alloc: A,
+    core: &mut Core<A>,
+    text: &[u8],
+    made: &[Vec<u8, A>],
+    how: Handed,
+) -> Result<(), Memory>
+    requires says { IsTextOf text.now (state_of core.old) }
+    requires fit { IsFit core.old }
+    requires made { AreMade (map (λ text. text.items) made.now) }
+    requires next { core.old.generation ≡ length made.now + 1 }
+    requires may { objection_handed (length made.now) (length text.now) how ≡ None }
+    ensures { OnOk result (core.new ≡ core.old) }
+{
+    match how {
+        Handed::Whole => take_own(alloc, core, text),
+        Handed::Cut(bytes) => take_foreign(alloc, core, &text[..bytes as usize]),
+        Handed::Older(generation) => {
+            let older = &made[(generation - 1) as usize];
+            take_foreign(alloc, core, older.as_slice())
+        }
+        Handed::Failed => Ok(()),
+    }
+}
+
+/// Hands the core over as the line says, and keeps the text that it made. Where the text comes back whole, the core is
+/// the one that was taken over; where it does not, it is refused, and the core is the old one.
+pub(crate) fn hand<A: Allocator + Copy>(
+    alloc: A,
+    core: &mut Core<A>,
+    made: &mut Vec<Vec<u8, A>, A>,
+    how: Handed,
+) -> Result<(), Memory>
+    requires can { CanHand how core.old }
+    requires made { HasTexts (map (λ text. text.items) made.old.items) core.old.generation }
+    ensures state { OnOk result (core.new ≡ after_hand how core.old) }
+    ensures fits { OnOk result (OnEachTrace core.old (λ goal past.
+        Fits core.new goal (happening.Handed how ∷ past))) }
+    ensures made { OnOk result
+        (HasTexts (map (λ text. text.items) made.new.items) core.new.generation) }
+{
+    if how == Handed::Failed {
+        core.not_handed();
+        return Ok(());
+    }
+    let text = make_text(alloc, core)?;
+    carry(alloc, core, &text, made, how)?;
+    made.push(text)?;
+    Ok(())
+}

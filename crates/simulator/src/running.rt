@@ -1,0 +1,441 @@
+ghost use Rattle.std.specs.Prelude.{◌≡◌, ◌<◌, length, map, List, [], ◌∷◌, false, true, IfOk, IfSome, IfNone, IfErr, OnOk};
+ghost use Rattle.std.specs.Io.KnownBytes.{Appends};
+ghost use Rattle.init_trace.specs.Event.{Event};
+ghost use Rattle.init_trace.specs.Lines.{event_text};
+ghost use Rattle.init_trace.specs.Range.{is_in_range};
+ghost use Rattle.init_trace.specs.Run.{is_rest, is_reread};
+ghost use Rattle.init_trace.specs.declared.steps.Goal.{Goal};
+ghost use Rattle.init_trace.specs.declared.happenings.Happening.TheVariants.{NewTable};
+ghost use Rattle.init_words.specs.declared.levels.Level.{Level};
+ghost use Rattle.inittab_text.specs.Reading.{table_of_text};
+ghost use Rattle.child_table.specs.Lists.{is_quiet};
+ghost use Rattle.core_model.specs.State.{opening_goal};
+ghost use Rattle.core_model.specs.Fit.{Fits, OnEachTrace, with_step};
+ghost use Rattle.core_model.specs.Steps.{after_adopt};
+ghost use Rattle.simulator.specs.Faults.{Leaves};
+ghost use Rattle.simulator.specs.Handing.{text_made};
+ghost use Rattle.simulator.specs.Texts.{HasTexts};
+ghost use Rattle.simulator.specs.Moments.{Breaks, ComesToRest, FromMoment, FromOpening, FromRest, FromScript, HeardEnds, HeardOne, IsReadyFor, LastsTo, Moment, SomeMoment, SomeRest, TableEnds};
+ghost use Rattle.simulator.specs.Said.{may_be_scripted, objection_in};
+ghost use Rattle.simulator.specs.Simulation.{Done, Ends, IsTooLong, scenario};
+
+use crate::handing::{hand, objection_handed};
+use init_trace::{Happening, HappeningIn, Step, first_happening, line_count, print_table};
+use init_words::{Level, Memory, Refusal};
+use inittab_text::{Table, TableFault};
+use level_core::Core;
+use program_io::write_text;
+use simulated_system::{Objection, SimulatedSystem};
+use std::alloc::{AllocError, Allocator};
+use std::error::Error;
+use std::io::Write;
+use std::{fmt, io};
+use text_lines::ended;
+
+/// Why a simulated run ended before its script did.
+#[derive(Clone, Copy, Debug, PartialEq, Eq)]
+pub enum SimFault {
+    /// The inittab is too long.
+    Table,
+    /// No happening begins at the line of this number.
+    Script(u64),
+    /// The happening on the line of this number may not come there, or not in a script, and why.
+    Forbidden(u64, Objection),
+    /// The writer failed, or took no byte.
+    Write,
+    /// Out of memory.
+    Memory,
+}
+
+impl fmt::Display for SimFault {
+    ghost use Rattle.std.specs.Prelude.{Some};
+    ghost use Rattle.simulator.specs.Faults.{fault_text};
+
+    ghost output = { λ fault. Some (fault_text fault) };
+
+    fn fmt<W: fmt::Write>(&self, f: &mut fmt::Formatter<W>) -> fmt::Result {
+        match self {
+            SimFault::Table => f.write_str("the inittab is longer than 65,536 bytes"),
+            SimFault::Script(line) => write!(f, "script line {line} is not a line"),
+            SimFault::Forbidden(line, _) => write!(f, "script line {line} is not allowed"),
+            SimFault::Write => f.write_str("the trace could not be written"),
+            SimFault::Memory => f.write_str("out of memory"),
+        }
+    }
+}
+
+impl Error for SimFault {}
+
+impl From<Memory> for SimFault {
+    ghost use Rattle.std.specs.Prelude.{◌≡◌};
+    ghost use Rattle.simulator.specs.declared.running.SimFault.TheVariants.{Memory};
+
+    ghost from_gives = { λ _ fault. fault ≡ Memory };
+
+    fn from(_error: Memory) -> SimFault {
+        SimFault::Memory
+    }
+}
+
+impl From<AllocError> for SimFault {
+    ghost use Rattle.std.specs.Prelude.{◌≡◌};
+    ghost use Rattle.simulator.specs.declared.running.SimFault.TheVariants.{Memory};
+
+    ghost from_gives = { λ _ fault. fault ≡ Memory };
+
+    fn from(_error: AllocError) -> SimFault {
+        SimFault::Memory
+    }
+}
+
+impl From<io::Error> for SimFault {
+    ghost use Rattle.std.specs.Prelude.{◌≡◌};
+    ghost use Rattle.simulator.specs.declared.running.SimFault.TheVariants.{Write};
+
+    ghost from_gives = { λ _ fault. fault ≡ Write };
+
+    fn from(_error: io::Error) -> SimFault {
+        SimFault::Write
+    }
+}
+
+/// The happening of a step that init takes; None where it rests.
+fn happening_of<A: Allocator>(step: Step) -> Option<HappeningIn<A>>
+    ensures some { IfSome result (λ happening. (is_rest step ≡ false)
+        × ((past : List Event) → with_step step past ≡ happening ∷ past)) }
+    ensures none { IfNone result (is_rest step ≡ true) }
+{
+    match step {
+        Step::Enter(stage, grace) => Some(Happening::Enter(stage, grace)),
+        Step::Call(letter) => Some(Happening::Call(letter)),
+        Step::Power(kind) => Some(Happening::Power(kind)),
+        Step::Order(id, ask) => Some(Happening::Asked(id, ask)),
+        Step::Hold(id) => Some(Happening::Hold(id)),
+        Step::Settle(level) => Some(Happening::Settle(level)),
+        Step::Reread | Step::Reexec | Step::Idle => None,
+    }
+}
+
+/// The step is that to read inittab again.
+fn is_reread(step: &Step) -> bool
+    ensures { result ≡ is_reread step.now }
+{
+    matches!(step, Step::Reread)
+}
+
+/// Writes the text of a happening.
+fn write_happening<A: Allocator + Copy, W: Write>(
+    alloc: A,
+    out: &mut W,
+    happening: &HappeningIn<A>,
+) -> Result<(), SimFault>
+    ensures ok { OnOk result
+        (Appends (W.contents out.old) (W.contents out.new) (event_text happening.now)) }
+    ensures err { IfErr result (λ fault.
+        Leaves fault (W.contents out.old) (W.contents out.new) (event_text happening.now)) }
+{
+    let text = init_trace::print_one(alloc, happening)?;
+    write_text(out, &text)?;
+    Ok(())
+}
+
+/// Takes init's steps and writes them, until init rests, and says whether inittab is to be read then.
+fn run_until_rest<A: Allocator + Copy, W: Write>(
+    alloc: A,
+    core: &mut Core<A>,
+    side: &mut SimulatedSystem<A>,
+    out: &mut W,
+) -> Result<bool, SimFault>
+    requires { SomeMoment core.old side.old }
+    ensures ok { IfOk result (λ rereads. FromMoment core.old side.old (λ goal past.
+        ComesToRest goal past rereads core.new side.new (W.contents out.old)
+        (W.contents out.new))) }
+    ensures generation { OnOk result (core.new.generation ≡ core.old.generation) }
+    ensures err { IfErr result (λ fault. FromMoment core.old side.old (λ goal past.
+        Breaks goal past fault (W.contents out.old) (W.contents out.new))) }
+{
+    'steps: loop {
+        let step = core.next();
+        let rereads = is_reread(&step);
+        let Some(happening) = happening_of(step) else {
+            return Ok(rereads);
+        };
+        write_happening(alloc, out, &happening)?;
+        side.take(&happening)?;
+    }
+}
+
+/// What is objected to a happening: a table, and that inittab could not be read, come only where it is to be read, and
+/// a hand-over where it can be made.
+fn objection_to<A: Allocator + Copy>(
+    alloc: A,
+    core: &Core<A>,
+    side: &SimulatedSystem<A>,
+    happening: &HappeningIn<A>,
+    rereads: bool,
+) -> Result<Option<Objection>, Memory>
+    ensures { IfOk result (λ objection. objection ≡ objection_in rereads core.now.generation
+        (length (text_made core.now)) side.now happening.now) }
+{
+    match happening {
+        Happening::NewTable(_) | Happening::NotRead => {
+            if rereads {
+                Ok(None)
+            } else {
+                Ok(Some(Objection::NotNow))
+            }
+        }
+        Happening::Handed(how) => objection_handed(alloc, core, *how),
+        _ => Ok(side.objection(happening)),
+    }
+}
+
+/// The core takes a copy of the table for that in force.
+fn adopt<A: Allocator + Copy>(alloc: A, core: &mut Core<A>, table: &Table<A>) -> Result<(), Memory>
+    requires { is_quiet core.old.slots ≡ true }
+    ensures state { OnOk result (core.new ≡ after_adopt table.now core.old) }
+    ensures fits { OnOk result (OnEachTrace core.old (λ goal past.
+        Fits core.new goal (NewTable table.now ∷ past))) }
+{
+    let copy = table.copy(alloc)?;
+    match core.adopt(copy) {
+        Ok(()) => Ok(()),
+        Err(Refusal::Memory) => Err(Memory),
+        Err(_) => unreachable!(),
+    }
+}
+
+/// The core hears what came. Given, and given back, are the state texts that were made.
+fn pass_on<A: Allocator + Copy>(
+    alloc: A,
+    core: &mut Core<A>,
+    made: &mut Vec<Vec<u8, A>, A>,
+    side: &SimulatedSystem<A>,
+    happening: &HappeningIn<A>,
+) -> Result<(), Memory>
+    requires ready { IsReadyFor happening.now core.old }
+    requires made { HasTexts (map (λ text. text.items) made.old.items) core.old.generation }
+    requires ranged { is_in_range happening.now ≡ true }
+    ensures fits { OnOk result (FromMoment core.old side.now (λ goal past.
+        may_be_scripted goal happening.now past ≡ true → Fits core.new goal (happening.now ∷ past))) }
+    ensures lasts { OnOk result (FromMoment core.old side.now (λ goal past.
+        may_be_scripted goal happening.now past ≡ true → LastsTo core.new goal (happening.now ∷ past))) }
+    ensures made { OnOk result
+        (HasTexts (map (λ text. text.items) made.new.items) core.new.generation) }
+{
+    match happening {
+        Happening::NewTable(table) => adopt(alloc, core, table)?,
+        Happening::NotRead => core.not_read(),
+        Happening::Told(id) => {
+            if let Some(answer) = side.answer(id) {
+                let _ = core.answer(*id, answer);
+            }
+        }
+        Happening::Clock(reading) => core.clock(*reading),
+        Happening::Nudge => core.nudge(),
+        Happening::Got(request) => core.got(*request),
+        Happening::Handed(how) => hand(alloc, core, made, *how)?,
+        _ => {}
+    }
+    Ok(())
+}
+
+/// Writes a happening that may come, and takes it in.
+fn hear<A: Allocator + Copy, W: Write>(
+    alloc: A,
+    core: &mut Core<A>,
+    made: &mut Vec<Vec<u8, A>, A>,
+    side: &mut SimulatedSystem<A>,
+    out: &mut W,
+    happening: &HappeningIn<A>,
+) -> Result<(), SimFault>
+    requires ready { IsReadyFor happening.now core.old }
+    requires made { HasTexts (map (λ text. text.items) made.old.items) core.old.generation }
+    requires ranged { is_in_range happening.now ≡ true }
+    ensures text { OnOk result
+        (Appends (W.contents out.old) (W.contents out.new) (event_text happening.now)) }
+    ensures ok { OnOk result (FromMoment core.old side.old (λ goal past.
+        may_be_scripted goal happening.now past ≡ true
+        → Moment goal (happening.now ∷ past) core.new side.new)) }
+    ensures made { OnOk result
+        (HasTexts (map (λ text. text.items) made.new.items) core.new.generation) }
+    ensures err { IfErr result (λ fault.
+        Leaves fault (W.contents out.old) (W.contents out.new) (event_text happening.now)) }
+{
+    pass_on(alloc, core, made, side, happening)?;
+    write_happening(alloc, out, happening)?;
+    side.take(happening)?;
+    Ok(())
+}
+
+/// Hears a happening, whose line has the number, where nothing is objected to it, and takes init's steps until it
+/// rests. Given, and given back, is whether inittab is to be read.
+fn hear_next<A: Allocator + Copy, W: Write>(
+    alloc: A,
+    core: &mut Core<A>,
+    made: &mut Vec<Vec<u8, A>, A>,
+    side: &mut SimulatedSystem<A>,
+    out: &mut W,
+    happening: &HappeningIn<A>,
+    rereads: bool,
+    number: u64,
+) -> Result<bool, SimFault>
+    requires rests { SomeRest rereads core.old side.old }
+    requires made { HasTexts (map (λ text. text.items) made.old.items) core.old.generation }
+    requires ranged { is_in_range happening.now ≡ true }
+    ensures made { OnOk result
+        (HasTexts (map (λ text. text.items) made.new.items) core.new.generation) }
+    ensures ok { IfOk result (λ next. FromRest rereads core.old side.old (λ goal past.
+        HeardOne goal past happening.now next core.new side.new (W.contents out.old)
+        (W.contents out.new))) }
+    ensures err { IfErr result (λ fault. FromRest rereads core.old side.old (λ goal past.
+        HeardEnds goal past happening.now number fault (W.contents out.old) (W.contents out.new))) }
+{
+    if let Some(objection) = objection_to(alloc, core, side, happening, rereads)? {
+        return Err(SimFault::Forbidden(number, objection));
+    }
+    hear(alloc, core, made, side, out, happening)?;
+    run_until_rest(alloc, core, side, out)
+}
+
+/// The table of an inittab, whatever faults its lines have.
+fn read_table<A: Allocator + Copy>(alloc: A, inittab: &[u8]) -> Result<Table<A>, SimFault>
+    ensures table { IfOk result (λ table. table ≡ table_of_text inittab.now) }
+    ensures limit { IsTooLong inittab.now → result ≡ Err SimFault.Table }
+    ensures err { IfErr result (λ fault. TableEnds inittab.now fault) }
+{
+    match inittab_text::read(alloc, inittab) {
+        Ok((table, _)) => Ok(table),
+        Err(TableFault::TooLong) => Err(SimFault::Table),
+        Err(TableFault::Memory) => Err(SimFault::Memory),
+    }
+}
+
+/// The core of an inittab.
+fn open_core<A: Allocator + Copy>(
+    alloc: A,
+    inittab: &[u8],
+    level: Option<Level>,
+) -> Result<Core<A>, SimFault>
+    ensures table { IfOk result (λ core. core.table ≡ table_of_text inittab.now) }
+    ensures fits { IfOk result (λ core. Fits core (opening_goal level (table_of_text inittab.now))
+        (NewTable (table_of_text inittab.now) ∷ [])) }
+    ensures lasts { IfOk result (λ core.
+        LastsTo core (opening_goal level (table_of_text inittab.now))
+        (NewTable (table_of_text inittab.now) ∷ [])) }
+    ensures limit { IsTooLong inittab.now → result ≡ Err SimFault.Table }
+    ensures err { IfErr result (λ fault. TableEnds inittab.now fault) }
+{
+    let table = read_table(alloc, inittab)?;
+    let core = Core::new(alloc, table, level)?;
+    Ok(core)
+}
+
+/// Writes the text of a table.
+fn write_table<A: Allocator + Copy, W: Write>(
+    alloc: A,
+    out: &mut W,
+    table: &Table<A>,
+) -> Result<(), SimFault>
+    ensures ok { OnOk result
+        (Appends (W.contents out.old) (W.contents out.new) (event_text (NewTable table.now))) }
+    ensures err { IfErr result (λ fault. Leaves fault (W.contents out.old) (W.contents out.new)
+        (event_text (NewTable table.now))) }
+{
+    let text = print_table(alloc, table)?;
+    write_text(out, &text)?;
+    Ok(())
+}
+
+/// Hears the happenings of a text in turn, and takes init's steps after each until it rests. Given is whether inittab
+/// is to be read at the beginning.
+fn hear_all<A: Allocator + Copy, W: Write>(
+    alloc: A,
+    core: &mut Core<A>,
+    side: &mut SimulatedSystem<A>,
+    out: &mut W,
+    text: &[u8],
+    rereads: bool,
+) -> Result<(), SimFault>
+    requires rests { SomeRest rereads core.old side.old }
+    requires none { core.old.generation ≡ 0 }
+    ensures done { OnOk result (
+        FromScript text.now rereads core.old side.old (W.contents out.old)
+        (λ s before. Done s before (W.contents out.new))) }
+    ensures ended { IfErr result (λ fault.
+        FromScript text.now rereads core.old side.old (W.contents out.old)
+        (λ s before. Ends s fault before (W.contents out.new))) }
+{
+    let mut made = Vec::new(alloc);
+    let mut rest = text;
+    let mut number = 1;
+    let mut reads = rereads;
+    while !rest.is_empty() {
+        let Some((happening, more)) = first_happening(alloc, rest)? else {
+            return Err(SimFault::Script(number));
+        };
+        reads = hear_next(alloc, core, &mut made, side, out, &happening, reads, number)?;
+        number += line_count(&happening);
+        rest = more;
+    }
+    Ok(())
+}
+
+/// Takes init's first steps until it rests, and hears the script.
+fn run_script<A: Allocator + Copy, W: Write>(
+    alloc: A,
+    core: &mut Core<A>,
+    side: &mut SimulatedSystem<A>,
+    out: &mut W,
+    script: &[u8],
+) -> Result<(), SimFault>
+    requires moment { SomeMoment core.old side.old }
+    requires none { core.old.generation ≡ 0 }
+    ensures done { OnOk result (
+        FromOpening script.now core.old side.old (W.contents out.old)
+        (λ s before. Done s before (W.contents out.new))) }
+    ensures ended { IfErr result (λ fault.
+        FromOpening script.now core.old side.old (W.contents out.old)
+        (λ s before. Ends s fault before (W.contents out.new))) }
+{
+    let rereads = run_until_rest(alloc, core, side, out)?;
+    let text = ended(alloc, script)?;
+    hear_all(alloc, core, side, out, &text, rereads)
+}
+
+/// Runs init over an inittab(5) and a script of what the system and the edge did, a happening a line, and writes the
+/// trace as it comes: the table, and then each step of init and each line. Init takes its steps until none is due but
+/// to read inittab or to execute itself anew, after the opening and after each line. The level is that to go to; where
+/// none is given, it is the table's `initdefault`, and S without one.
+///
+/// Where inittab is to be read, a table of the script (`use`, and its lines after it) is what was read, and `notread`
+/// that it could not be; where it is not, neither may come.
+///
+/// At `handed` init's state is written, carried and taken over, and the wish for it is over. What came whole (`whole`)
+/// is the core that goes on. Where the text is cut after the given number of bytes, of which it must have more (`cut`),
+/// or an older one of the run comes in its place, which must have been made (`older`, by its generation), it is refused
+/// and the old core goes on. Each of the three makes a text and raises the generation, and may not come where no
+/// generation is left. `handed none` makes nothing.
+///
+/// The run ends at the end of the script, or before the first line that is no line of a trace (`Script`) or may not
+/// come (`Forbidden`, with the reason), by its number from 1; the lines of a table count, and it is named by its first.
+/// An inittab of over 65,536 bytes is refused (`Table`). Where the writer fails (`Write`), a prefix of the trace is
+/// written and something of it is left; where memory runs out (`Memory`), a prefix of it is written.
+pub fn simulate<A: Allocator + Copy, W: Write>(
+    alloc: A,
+    inittab: &[u8],
+    level: Option<Level>,
+    script: &[u8],
+    out: &mut W,
+) -> Result<(), SimFault>
+    ensures done { OnOk result (Done (scenario level inittab.now script.now)
+        (W.contents out.old) (W.contents out.new)) }
+    ensures ended { IfErr result (λ fault. Ends (scenario level inittab.now script.now) fault
+        (W.contents out.old) (W.contents out.new)) }
+    ensures limit { IsTooLong inittab.now → result ≡ Err SimFault.Table }
+{
+    let mut core = open_core(alloc, inittab, level)?;
+    write_table(alloc, out, core.table())?;
+    let mut side = SimulatedSystem::new(alloc);
+    run_script(alloc, &mut core, &mut side, out, script)
+}

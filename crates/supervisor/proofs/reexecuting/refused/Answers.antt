@@ -1,0 +1,16 @@
+use Rattle.std.proofs.Common.{rules, ◌≡◌, subst}
+use Rattle.state_text.specs.declared.over.Over.TheVariants as over
+use Rattle.state_text.proofs.Prefixes.{generation_said}
+use Rattle.reexec_state.specs.Taken.{NotTaken}
+use Rattle.supervisor.proofs.HandOvers.{failed_said}
+use Rattle.supervisor.proofs.reexecuting.refused.Goals as goal
+
+pub returns-in-Generation : goal.returns-in-Generation
+returns-in-Generation c state says other cuts =
+    let is : c.args.why ≡ over.Generation = search rules in
+    c.older_back.ensures c.args.text.now state.heads.generation (generation_said state c.args.text.now says.0 says.1)
+    (subst (NotTaken c.args.back.now state.heads.generation) is other)
+
+pub returns-in_default : goal.returns-in_default
+returns-in_default c state says other cuts =
+    failed_said c.args.text.now c.args.back.now state says (λ cut. let is : c.args.why ≡ over.Cut = cuts cut in search rules)

@@ -1,0 +1,87 @@
+ghost use Rattle.std.specs.Prelude.{◌≡◌, ◌≤◌, ◌<◌, List, Option, not, true, IfOk, OnErr};
+ghost use Rattle.init_words.specs.declared.entries.Entry.{Entry};
+ghost use Rattle.init_words.specs.declared.levels.Level.{Level};
+ghost use Rattle.supervisor.specs.Opening.{IsOpeningOf, Opens};
+
+use crate::answering::write;
+use crate::serving::{Served, serve};
+use child_host::Host;
+use init_trace::{Happening, HappeningIn};
+use init_words::{Level, Memory};
+use inittab_text::Table;
+use level_core::Core;
+use std::alloc::{Allocator, Global};
+use std::marker::Model;
+use trace_log::Log;
+
+/// Init at its opening: its core, and the table in force as the log is told of it.
+#[derive(Drop)]
+pub struct Opening<A: Allocator = Global> {
+    core: Core<A>,
+    told: HappeningIn<A>,
+}
+
+impl<A: Allocator> Model for Opening<A> {
+    ghost use Rattle.supervisor.specs.Opening.{OpeningState};
+
+    ghost Value = { OpeningState };
+
+    ghost view = { λ o. record { core = o.core; told = o.told } };
+}
+
+impl<A: Allocator + Copy> Opening<A> {
+    /// With this table in force, for the level that is given, else the table's own. All memory that an opening wants is
+    /// taken here.
+    pub fn new(alloc: A, table: Table<A>, level: Option<Level>) -> Result<Opening<A>, Memory>
+        ensures { IfOk result (IsOpeningOf level table) }
+    {
+        let _entries = table.len();
+        let told: HappeningIn<A> = Happening::NewTable(table.copy(alloc)?);
+        let core = Core::new(alloc, table, level)?;
+        Ok(Opening { core, told })
+    }
+
+    /// Makes the given number of turns from the opening on. The log is handed the table in force first.
+    pub fn serve<H: Host, L: Log>(
+        self,
+        alloc: A,
+        host: &mut H,
+        log: &mut L,
+        turns: u64,
+        drain: bool,
+    ) -> Served
+        ensures trace { (level : Option Level) (table : List Entry) → IsOpeningOf level table self
+            → Opens (H.told host.old) (H.told host.new) (L.state log.old) (L.state log.new)
+            level table drain result.turns result.drained }
+        ensures most { result.turns ≤ turns }
+        ensures fewer { result.turns < turns → (drain ≡ true) × (result.drained ≡ true) }
+        ensures logged { result.logged ≡ not (L.state log.new).failed }
+    {
+        let Opening { mut core, told } = self;
+        write(log, &told);
+        serve(alloc, &mut core, host, log, turns, drain)
+    }
+}
+
+/// Makes the given number of turns from the opening on: with this table in force, for the level that is given, else the
+/// table's own. The log is handed that table first. Lack of memory is told before anything is asked of the host.
+pub fn serve_from_opening<A: Allocator + Copy, H: Host, L: Log>(
+    alloc: A,
+    table: Table<A>,
+    level: Option<Level>,
+    host: &mut H,
+    log: &mut L,
+    turns: u64,
+    drain: bool,
+) -> Result<Served, Memory>
+    ensures trace { IfOk result (λ served. Opens (H.told host.old) (H.told host.new)
+        (L.state log.old) (L.state log.new) level table drain served.turns served.drained) }
+    ensures most { IfOk result (λ served. served.turns ≤ turns) }
+    ensures fewer { IfOk result (λ served. served.turns < turns
+        → (drain ≡ true) × (served.drained ≡ true)) }
+    ensures logged { IfOk result (λ served. served.logged ≡ not (L.state log.new).failed) }
+    ensures memory { OnErr result ((host.new ≡ host.old) × (log.new ≡ log.old)) }
+{
+    let opening = Opening::new(alloc, table, level)?;
+    Ok(opening.serve(alloc, host, log, turns, drain))
+}

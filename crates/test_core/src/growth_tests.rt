@@ -1,0 +1,121 @@
+//! Growths are refused in turn, on heaps of more and more room. A refused adoption leaves the core as it was, and a
+//! call with room again succeeds.
+
+use crate::steps::add_steps;
+use init_words::{Answer, ChildNo, Id, Memory, Refusal};
+use inittab_text::Table;
+use level_core::Core;
+use linked_list_allocator::LocalHeap;
+use std::alloc::Global;
+use std::process::Abort;
+use std::test::Fail;
+
+const BEFORE: &[u8] = b"a:S:respawn:x\nb:S:off:y\n";
+
+const AFTER: &[u8] = b"b:S:once:z\nc:S:wait:w\nd:S:off:v\n";
+
+/// Bytes that keep an adoption from growing, and that are enough for it.
+const FILLER: usize = 8192;
+
+/// What a heap refuses.
+enum Refused {
+    New,
+    Adoption,
+    Nothing,
+}
+
+fn table_of<'a>(heap: &'a LocalHeap, text: &[u8]) -> Option<Table<&'a LocalHeap>> {
+    let (table, _) = inittab_text::read(heap, text).ok()?;
+    Some(table)
+}
+
+/// The table and the records are so many, and these are the next steps.
+fn is_so(alloc: Global, core: &mut Core<&LocalHeap>, sizes: (usize, usize), steps: &[u8]) -> bool {
+    let mut text = Vec::new(alloc);
+    add_steps(alloc, &mut text, core).is_ok()
+        && (core.table().len(), core.slots().len()) == sizes
+        && text.as_slice() == steps
+}
+
+/// The first steps, and a child.
+fn is_begun(alloc: Global, core: &mut Core<&LocalHeap>, id: Id) -> bool {
+    is_so(
+        alloc,
+        core,
+        (2, 2),
+        b"enter sysinit 5 / enter S 5 / ask a start",
+    ) && core.answer(id, Answer::Born(ChildNo(700))) == Ok(())
+}
+
+/// Whether an adoption is refused while the filler stands; none where there is no room for the filler.
+fn is_refused<'a>(
+    heap: &'a LocalHeap,
+    core: &mut Core<&'a LocalHeap>,
+    table: Table<&'a LocalHeap>,
+) -> Option<bool> {
+    let _filler: Vec<u8, &LocalHeap> = Vec::with_capacity(heap, FILLER).ok()?;
+    Some(core.adopt(table) == Err(Refusal::Memory))
+}
+
+/// An adoption with room is made; none where there is no room for the table.
+fn is_made<'a>(alloc: Global, heap: &'a LocalHeap, core: &mut Core<&'a LocalHeap>) -> Option<bool> {
+    let table = table_of(heap, AFTER)?;
+    Some(core.adopt(table) == Ok(()) && is_so(alloc, core, (3, 4), b"ask a term"))
+}
+
+/// An adoption is refused before the level is settled, and leaves the core; the next one has room.
+fn refused_then_made<'a>(
+    rt: &impl Abort,
+    alloc: Global,
+    heap: &'a LocalHeap,
+    core: &mut Core<&'a LocalHeap>,
+    id: Id,
+) -> Option<Refused> {
+    assert!(rt; is_begun(alloc, core, id));
+    if !is_refused(heap, core, table_of(heap, AFTER)?)? {
+        return Some(Refused::Nothing);
+    }
+    assert!(rt; is_so(alloc, core, (2, 2), b"settle S") && is_made(alloc, heap, core)?);
+    Some(Refused::Adoption)
+}
+
+/// What is refused on a heap; none where it is something else.
+fn refused_on(rt: &impl Abort, alloc: Global, heap: &LocalHeap, id: Id) -> Option<Refused> {
+    match Core::new(heap, table_of(heap, BEFORE)?, None) {
+        Ok(mut core) => refused_then_made(rt, alloc, heap, &mut core, id),
+        Err(Memory) => Some(Refused::New),
+    }
+}
+
+fn refused_in(rt: &impl Abort, alloc: Global, room: usize, id: Id) -> Option<Refused> {
+    let heap = LocalHeap::new(alloc, room).ok()?;
+    refused_on(rt, alloc, &heap, id)
+}
+
+/// How many heaps refuse a core, how many an adoption, and how many neither.
+fn counts(rt: &impl Abort, alloc: Global, id: Id) -> (usize, usize, usize) {
+    let mut new = 0usize;
+    let mut adopted = 0usize;
+    let mut none = 0usize;
+    for step in 1..200usize {
+        match refused_in(rt, alloc, 128 * step, id) {
+            Some(Refused::New) => new = new.wrapping_add(1),
+            Some(Refused::Adoption) => adopted = adopted.wrapping_add(1),
+            Some(Refused::Nothing) => none = none.wrapping_add(1),
+            None => {}
+        }
+    }
+    (new, adopted, none)
+}
+
+fn are_counted(rt: &impl Abort, alloc: Global, id: Id) {
+    let (new, adopted, none) = counts(rt, alloc, id);
+    assert!(rt; new > 3 && adopted > 3 && none > 8);
+}
+
+#[test]
+fn refused_growths(rt: HostRuntime) -> Result<(), Fail> {
+    let id = Id::read(b"a").ok_or("no id")?;
+    are_counted(&rt, rt.alloc(), id);
+    Ok(())
+}

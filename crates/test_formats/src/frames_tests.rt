@@ -1,0 +1,180 @@
+//! Request blocks by their bytes (initreq.h), and what they ask for (telinit(8)).
+
+ghost use Rattle.std.specs.Prelude.{◌≤◌};
+
+use init_words::{Letter, Level, PowerKind};
+use initctl_frame::{
+    BLOCK, Blocks, Cause, Got, Request, Sign, decode, encode, meaning, read_pieces,
+};
+use std::process::Abort;
+use std::test::Fail;
+
+/// The ints of the block that asks to read inittab again: magic, RUNLVL, `q`, 5 seconds.
+const RELOAD: [u8; 16] = [
+    0x69, 0x19, 0x09, 0x03, 1, 0, 0, 0, 0x71, 0, 0, 0, 5, 0, 0, 0,
+];
+
+/// The ints of the block that says that the power is back: magic, POWEROK, and zeros.
+const POWER_BACK: [u8; 16] = [0x69, 0x19, 0x09, 0x03, 4, 0, 0, 0, 0, 0, 0, 0, 0, 0, 0, 0];
+
+/// The block of these ints, with zeros after them.
+fn block_of(ints: &[u8; 16]) -> [u8; BLOCK] {
+    let mut block = [0; BLOCK];
+    block[..16].copy_from_slice(ints);
+    block
+}
+
+/// The block of these ints after the magic.
+fn block_of_ints(command: i32, runlevel: i32, sleeptime: i32) -> [u8; BLOCK] {
+    let mut block = block_of(&RELOAD);
+    block[4..8].copy_from_slice(&command.to_le_bytes());
+    block[8..12].copy_from_slice(&runlevel.to_le_bytes());
+    block[12..16].copy_from_slice(&sleeptime.to_le_bytes());
+    block
+}
+
+/// Command, runlevel and sleeptime, and what their block asks for.
+const ROWS: &[(i32, i32, i32, Got)] = &[
+    (0, 113, 5, Got::Nothing(Cause::LeftOut)),
+    (2, 113, 5, Got::Power(PowerKind::Fail)),
+    (3, 113, 5, Got::Power(PowerKind::FailNow)),
+    (4, 113, 5, Got::Power(PowerKind::Ok)),
+    (5, 113, 5, Got::Nothing(Cause::LeftOut)),
+    (6, 113, 5, Got::Nothing(Cause::LeftOut)),
+    (7, 113, 5, Got::Nothing(Cause::LeftOut)),
+    (8, 113, 5, Got::Nothing(Cause::Unknown)),
+    (12345, 113, 5, Got::Nothing(Cause::LeftOut)),
+    (-1, 113, 5, Got::Nothing(Cause::Unknown)),
+    (1, 120, 5, Got::Nothing(Cause::Character)),
+    (1, -1, 5, Got::Nothing(Cause::Character)),
+    (1, 307, 5, Got::Nothing(Cause::Character)),
+    (1, 51, -1, Got::Level(Level::L3, 0)),
+    (1, 51, 9999, Got::Level(Level::L3, 3600)),
+    (1, 51, 3600, Got::Level(Level::L3, 3600)),
+    (1, 115, 7, Got::Level(Level::S, 7)),
+    (1, 98, 7, Got::Call(Letter::B)),
+    (1, 81, 7, Got::Reload),
+    (1, 117, 7, Got::Reexec),
+];
+
+fn is_got(rt: &impl Abort, command: i32, runlevel: i32, sleeptime: i32, want: Got) {
+    let block = block_of_ints(command, runlevel, sleeptime);
+    assert!(rt; decode(&block) == want);
+}
+
+#[test]
+fn ints_are_read(rt: HostRuntime) {
+    for (command, runlevel, sleeptime, want) in ROWS {
+        is_got(&rt, *command, *runlevel, *sleeptime, *want);
+    }
+}
+
+/// The request has this block, and means this.
+fn is_written(rt: &impl Abort, request: Request, ints: &[u8; 16], want: Got) {
+    assert!(rt; encode(&request) == block_of(ints) && meaning(&request) == want);
+}
+
+#[test]
+fn requests_are_written(rt: HostRuntime) -> Result<(), Fail> {
+    let sign = Sign::read(b'q').ok_or("q is a sign")?;
+    is_written(&rt, Request::Runlvl(sign, 5), &RELOAD, Got::Reload);
+    let back = Got::Power(PowerKind::Ok);
+    is_written(&rt, Request::Power(PowerKind::Ok), &POWER_BACK, back);
+    assert!(rt; sign.code() == b'q' && Sign::read(b'x').is_none());
+    Ok(())
+}
+
+/// Feeds the piece: the given number of bytes are taken, this is got, and the given number of bytes of a block are kept
+/// then.
+fn is_fed(
+    rt: &impl Abort,
+    blocks: &mut Blocks,
+    piece: &[u8],
+    want: (usize, Option<Got>),
+    rest: usize,
+) {
+    let fed = blocks.feed(piece);
+    assert!(rt; fed == want && blocks.rest() == rest);
+}
+
+/// What a reader of 383 bytes of a block takes next.
+const NEXT: &[(&[u8], (usize, Option<Got>), usize)] = &[
+    (&[0], (1, Some(Got::Reload)), 0),
+    (&[0; 384], (384, Some(Got::Nothing(Cause::Magic))), 0),
+];
+
+/// What the reader's copy takes next.
+const NEXT_OF_COPY: &[(&[u8], (usize, Option<Got>), usize)] = &[
+    (&[], (0, None), 383),
+    (&[0; 384], (1, Some(Got::Reload)), 0),
+];
+
+fn are_fed(rt: &impl Abort, blocks: &mut Blocks, pieces: &[(&[u8], (usize, Option<Got>), usize)]) {
+    for (piece, want, rest) in pieces {
+        is_fed(rt, blocks, piece, *want, *rest);
+    }
+}
+
+#[test]
+fn a_block_comes_in_pieces(rt: HostRuntime) -> Result<(), Fail> {
+    let reload = block_of(&RELOAD);
+    let (front, _) = reload.as_slice().split_at(383);
+    let mut blocks = Blocks::new();
+    is_fed(&rt, &mut blocks, &[], (0, None), 0);
+    is_fed(&rt, &mut blocks, front, (383, None), 383);
+    let mut copy = blocks.clone()?;
+    are_fed(&rt, &mut blocks, NEXT);
+    is_fed(&rt, &mut blocks, &reload, (384, Some(Got::Reload)), 0);
+    are_fed(&rt, &mut copy, NEXT_OF_COPY);
+    Ok(())
+}
+
+/// A good block, a bad one in which a whole good one begins at its second byte, and one for level 3.
+fn three_blocks() -> [u8; 1152] {
+    let mut bytes = [0; 1152];
+    bytes[..16].copy_from_slice(&RELOAD);
+    bytes[385..401].copy_from_slice(&RELOAD);
+    bytes[768..784].copy_from_slice(&RELOAD);
+    bytes[776] = b'3';
+    bytes
+}
+
+const THREE_GOT: [Got; 4] = [
+    Got::Reload,
+    Got::Nothing(Cause::Magic),
+    Got::Level(Level::L3, 5),
+    Got::Reexec,
+];
+
+fn are_got(rt: &impl Abort, pieces: &[&[u8]]) {
+    let mut room = [Got::Reexec; 4];
+    assert!(rt; read_pieces(pieces, &mut room) == 3 && room == THREE_GOT);
+}
+
+/// Cut at the first place and at each one after it.
+fn are_got_of_cuts(rt: &impl Abort, bytes: &[u8; 1152], first: usize)
+    requires { first ≤ 1152 }
+{
+    for second in first..1153 {
+        are_got(
+            rt,
+            &[&bytes[..first], &bytes[first..second], &bytes[second..]],
+        );
+    }
+}
+
+#[test]
+fn cuts_change_nothing(rt: HostRuntime) {
+    let bytes = three_blocks();
+    for first in 0..1153 {
+        are_got_of_cuts(&rt, &bytes, first);
+    }
+}
+
+#[test]
+fn requests_past_the_room_are_left_out(rt: HostRuntime) {
+    let reload = block_of(&RELOAD);
+    let mut room = [Got::Reexec];
+    let count = read_pieces(&[&reload, &reload], &mut room);
+    assert!(rt; count == 1 && room == [Got::Reload]);
+}

@@ -1,0 +1,348 @@
+//! The cases are rows of a text and what it is read as. Each helper owns at most one value, and what asserts owns none.
+
+use init_words::{Act, Id, Level, Memory};
+use inittab_text::{LineFault, Table, TableFault, read_written};
+use std::alloc::Global;
+use std::fmt::Write;
+use std::process::Abort;
+use std::test::Fail;
+
+/// Adds the faults, one a line.
+fn add_faults(report: &mut String, faults: &[LineFault]) -> Result<(), Fail> {
+    for fault in faults {
+        writeln!(report, "{fault}")?;
+    }
+    Ok(())
+}
+
+/// The faults, one a line.
+fn report_of(alloc: Global, faults: &[LineFault]) -> Result<String, Fail> {
+    let mut report = String::new(alloc);
+    add_faults(&mut report, faults)?;
+    Ok(report)
+}
+
+/// The faults of a text, one a line.
+fn faults_of(alloc: Global, text: &[u8]) -> Result<String, Fail> {
+    let (_, faults) = inittab_text::read(alloc, text)?;
+    report_of(alloc, faults.as_slice())
+}
+
+fn table_of(alloc: Global, text: &[u8]) -> Result<Table, TableFault> {
+    let (table, _) = inittab_text::read(alloc, text)?;
+    Ok(table)
+}
+
+/// What is written of a table.
+fn text_of(alloc: Global, table: &Table) -> Result<Vec<u8>, TableFault> {
+    Ok(inittab_text::write(alloc, table)?)
+}
+
+/// What is written of a text.
+fn written_text(alloc: Global, text: &[u8]) -> Result<Vec<u8>, TableFault> {
+    let table = table_of(alloc, text)?;
+    text_of(alloc, &table)
+}
+
+/// What is written of a table's copy.
+fn copy_text(alloc: Global, table: &Table) -> Result<Vec<u8>, Memory> {
+    let copy = table.copy(alloc)?;
+    inittab_text::write(alloc, &copy)
+}
+
+/// What is written of the copy of the table whose written text this is, or that there is none.
+fn copied_text(alloc: Global, text: &[u8]) -> Result<Vec<u8>, Memory> {
+    match read_written(alloc, text)? {
+        Some(table) => copy_text(alloc, &table),
+        None => Ok(Vec::from_slice(alloc, b"no table")?),
+    }
+}
+
+fn has_faults(rt: &impl Abort, alloc: Global, text: &[u8], want: &str) -> Result<(), Fail> {
+    let report = faults_of(alloc, text)?;
+    assert!(rt; report.as_str() == want);
+    Ok(())
+}
+
+fn is_written(rt: &impl Abort, alloc: Global, text: &[u8], want: &[u8]) -> Result<(), Fail> {
+    let given = written_text(alloc, text)?;
+    assert!(rt; given.as_slice() == want);
+    Ok(())
+}
+
+fn is_written_again(rt: &impl Abort, alloc: Global, text: &[u8], want: &[u8]) -> Result<(), Fail> {
+    let given = copied_text(alloc, text)?;
+    assert!(rt; given.as_slice() == want);
+    Ok(())
+}
+
+/// The text is read as a table of the given number of entries and this default level.
+fn is_read(
+    rt: &impl Abort,
+    alloc: Global,
+    text: &[u8],
+    len: usize,
+    level: Option<Level>,
+) -> Result<(), Fail> {
+    let table = table_of(alloc, text)?;
+    assert!(rt; table.len() == len && table.default_level() == level);
+    Ok(())
+}
+
+fn act_at(table: &Table, place: usize) -> Option<Act> {
+    Some(table.at(place)?.act)
+}
+
+fn act_of(table: &Table, id: &[u8]) -> Option<Act> {
+    Some(table.get(&Id::read(id)?)?.act)
+}
+
+/// Four of the five lines are left out.
+const FIVE: &[u8] = b"toolong:3:once:x
+a:3:bogus:x
+a:3:once:
+b:3:off:
+b:2:once:x
+";
+
+const FOUR_FAULTS: &str = "inittab line 1: bad id
+inittab line 2: unknown action
+inittab line 3: no process
+inittab line 5: duplicate id
+";
+
+/// The entry b alone is found, by place and by id.
+fn is_b_alone(rt: &impl Abort, table: &Table) {
+    assert!(rt;
+        (
+            act_at(table, 0),
+            act_at(table, 1),
+            act_of(table, b"b"),
+            act_of(table, b"a")
+        ) == (Some(Act::Off), None, Some(Act::Off), None)
+    );
+}
+
+#[test]
+fn one_entry_is_found(rt: HostRuntime) -> Result<(), Fail> {
+    let table = table_of(rt.alloc(), FIVE)?;
+    is_b_alone(&rt, &table);
+    Ok(())
+}
+
+const FAULTS: &[(&[u8], &str)] = &[
+    (FIVE, FOUR_FAULTS),
+    (RESPAWNS, FOUR_FAULTS),
+    (CHECKED, CHECKS),
+    (IN_USE, ""),
+];
+
+#[test]
+fn faults(rt: HostRuntime) -> Result<(), Fail> {
+    for (text, want) in FAULTS {
+        has_faults(&rt, rt.alloc(), text, want)?;
+    }
+    Ok(())
+}
+
+const RESPAWNS: &[u8] = b"toolong:3:once:x
+a:3:bogus:x
+a:3:respawn:
+b:3:respawn:y
+b:2:wait:x
+";
+
+const CHECKED: &[u8] = b"# a comment::
+ \t# another
+z:3:wait:x
+ \t
+
+a:3:wait
+:3:wait:x
+a:012345678901:wait:x
+a:3:Wait:x
+a:3:wait: \t
+a:3:boot:+ 
+a:3:wait:\xff
+a:3:wait:x\0
+z:3:wait:x
+toolong:012345678901:Wait:
+z:012345678901:wait:
+z:\xff:wait:
+a#b";
+
+const CHECKS: &str = "inittab line 6: too few fields
+inittab line 7: bad id
+inittab line 8: runlevels too long
+inittab line 9: unknown action
+inittab line 10: no process
+inittab line 11: no process
+inittab line 12: bad text
+inittab line 13: bad text
+inittab line 14: duplicate id
+inittab line 15: bad id
+inittab line 16: runlevels too long
+inittab line 17: no process
+inittab line 18: too few fields
+";
+
+const LINES: &[u8] = b" l3:3321x:wait:/etc/rc 3
+r::respawn:+getty a:b
+pf::powerwait:p
+si:5:sysinit:rcS
+k:x:once:y
+i::initdefault:
+id:s:initdefault:z
+~~:S:wait:/sbin/sulogin
+o:c3Cba:ondemand:o
+kb::kbrequest:
+ca:12345:ctrlaltdel:/sbin/shutdown -t1 -a -r now";
+
+const LINES_WRITTEN: &[u8] = b"l3:321:wait:/etc/rc 3
+r:0123456789:respawn:+getty a:b
+pf:S0123456789:powerwait:p
+si::sysinit:rcS
+k:-:once:y
+i:-:initdefault:
+id:S:initdefault:
+~~:S:wait:/sbin/sulogin
+o:C3BA:ondemand:o
+kb:0123456789:kbrequest:
+ca:12345:ctrlaltdel:/sbin/shutdown -t1 -a -r now
+";
+
+#[test]
+fn written_lines(rt: HostRuntime) -> Result<(), Fail> {
+    is_written(&rt, rt.alloc(), LINES, LINES_WRITTEN)?;
+    is_written(&rt, rt.alloc(), RESPAWNS, b"b:3:respawn:y\n")?;
+    is_written_again(&rt, rt.alloc(), LINES_WRITTEN, LINES_WRITTEN)?;
+    is_written_again(&rt, rt.alloc(), LINES, b"no table")?;
+    is_written_again(&rt, rt.alloc(), b"a:3:wait:x", b"no table")
+}
+
+const LEVELS: &[(&[u8], usize, Option<Level>)] = &[
+    (FIVE, 1, None),
+    (CHECKED, 1, None),
+    (IN_USE, 14, Some(Level::L2)),
+    (b"a:3:wait:x\ni:abc:initdefault:\n", 2, None),
+    (b"i:as5:initdefault:\nj:2:initdefault:\n", 2, Some(Level::S)),
+    (b"i::initdefault:\nj:2:initdefault:\n", 2, Some(Level::L2)),
+    (b"a:5:wait:x\ni:31:initdefault:y", 2, Some(Level::L3)),
+];
+
+#[test]
+fn entries_and_default_levels(rt: HostRuntime) -> Result<(), Fail> {
+    for (text, len, level) in LEVELS {
+        is_read(&rt, rt.alloc(), text, *len, *level)?;
+    }
+    Ok(())
+}
+
+/// A process that is one byte too long.
+const PROCESS: &[u8] = &[b'x'; 128];
+
+/// Lines of as many wait entries, each with this process and an id of its own.
+fn add_lines(text: &mut Vec<u8>, count: u32, process: &[u8]) -> Result<(), Fail> {
+    for number in 0..count {
+        add_line(text, number, process)?;
+    }
+    Ok(())
+}
+
+fn add_line(text: &mut Vec<u8>, number: u32, process: &[u8]) -> Result<(), Fail> {
+    use std::io::Write;
+    write!(text, "{number}:3:wait:")?;
+    text.extend_from_slice(process)?;
+    text.push(b'\n')?;
+    Ok(())
+}
+
+fn lines(alloc: Global, count: u32, process: &[u8]) -> Result<Vec<u8>, Fail> {
+    let mut text = Vec::new(alloc);
+    add_lines(&mut text, count, process)?;
+    Ok(text)
+}
+
+const NO_ENTRY: &[u8] = &[b'#'; 65_536];
+
+const NO_ENTRY_TOO_LONG: &[u8] = &[b'#'; 65_537];
+
+fn fault_of(alloc: Global, text: &[u8]) -> Option<TableFault> {
+    inittab_text::read(alloc, text).err()
+}
+
+#[test]
+fn limits(rt: HostRuntime) -> Result<(), Fail> {
+    is_read(&rt, rt.alloc(), NO_ENTRY, 0, None)?;
+    let fault = fault_of(rt.alloc(), NO_ENTRY_TOO_LONG);
+    assert!(rt; fault == Some(TableFault::TooLong));
+    Ok(())
+}
+
+#[test]
+fn a_text_too_long_is_reported(rt: HostRuntime) -> Result<(), Fail> {
+    let mut report = String::new(rt.alloc());
+    write!(report, "{}", TableFault::TooLong)?;
+    assert!(rt; report.as_str() == "inittab is longer than 65536 bytes");
+    Ok(())
+}
+
+#[test]
+fn a_process_too_long(rt: HostRuntime) -> Result<(), Fail> {
+    let text = lines(rt.alloc(), 1, PROCESS)?;
+    has_faults(
+        &rt,
+        rt.alloc(),
+        text.as_slice(),
+        "inittab line 1: process too long\n",
+    )
+}
+
+#[test]
+fn an_entry_too_many(rt: HostRuntime) -> Result<(), Fail> {
+    let text = lines(rt.alloc(), 513, b"x")?;
+    is_read(&rt, rt.alloc(), text.as_slice(), 512, None)?;
+    has_faults(
+        &rt,
+        rt.alloc(),
+        text.as_slice(),
+        "inittab line 513: too many entries\n",
+    )
+}
+
+#[test]
+fn the_longest_table(rt: HostRuntime) -> Result<(), Fail> {
+    let text = lines(rt.alloc(), 512, &PROCESS[..127])?;
+    assert!(rt; text.len() > 65_536);
+    is_written_again(&rt, rt.alloc(), text.as_slice(), text.as_slice())
+}
+
+const IN_USE: &[u8] = b"# /etc/inittab: init(8) configuration.
+
+# The default runlevel.
+id:2:initdefault:
+
+# Boot-time system configuration/initialization script.
+si::sysinit:/etc/init.d/rcS
+
+# What to do in single-user mode.
+~~:S:wait:/sbin/sulogin --force
+
+l0:0:wait:/etc/init.d/rc 0
+l1:1:wait:/etc/init.d/rc 1
+l2:2:wait:/etc/init.d/rc 2
+l6:6:wait:/etc/init.d/rc 6
+z6:6:respawn:/sbin/sulogin --force
+
+ca:12345:ctrlaltdel:/sbin/shutdown -t1 -a -r now
+
+#kb::kbrequest:/bin/echo \"Keyboard Request--edit /etc/inittab to let this work.\"
+
+pf::powerwait:/etc/init.d/powerfail start
+pn::powerfailnow:/etc/init.d/powerfail now
+po::powerokwait:/etc/init.d/powerfail stop
+
+1:2345:respawn:/sbin/getty --noclear 38400 tty1
+2:23:respawn:/sbin/getty 38400 tty2
+#T0:23:respawn:/sbin/getty -L ttyS0 9600 vt100
+";

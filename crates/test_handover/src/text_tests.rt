@@ -1,0 +1,134 @@
+//! Texts that are cut short, texts of other shapes, and which check comes first.
+
+use crate::texts::{OPENING, STARTED, refusal};
+use state_text::Over::{self, Cut, Generation, Line, Version};
+use std::alloc::Global;
+use std::fmt::Write;
+use std::process::Abort;
+use std::test::Fail;
+
+/// A text, the generation that is asked for, and why it is refused.
+const TEXTS: &[(&str, u64, Over)] = &[
+    (STARTED, 2, Generation),
+    (STARTED, 0, Generation),
+    ("", 0, Cut),
+    ("\n", 1, Cut),
+    ("\n\n", 1, Cut),
+    ("end 0", 1, Cut),
+    ("end \n\n", 1, Cut),
+    ("initd-state 1\n", 1, Cut),
+    ("initd-state 9\nend 1", 1, Cut),
+    ("initd-state 9\ngeneration 1\n", 1, Cut),
+    ("end 0\n", 1, Version),
+    ("end \n", 1, Version),
+    ("initd-state 9\nend 1\n", 1, Version),
+    ("initd-state 9\ngeneration 0\nend x\n", 2, Version),
+    ("initd-state 1\r\nend 1\n", 1, Version),
+    ("initd-state 1\0\nend 1\n", 1, Version),
+    ("initd-state 1\nend 1\n", 1, Line(2)),
+    ("initd-state 1\ngeneration 2\nend 2\n", 1, Line(3)),
+    (
+        "initd-state 1\ngeneration 2\nclock \u{ff}\nend 3\n",
+        1,
+        Line(3),
+    ),
+    (
+        "initd-state 1\ngeneration 2\nclock\nstage\nend\nend x\n",
+        1,
+        Line(3),
+    ),
+    (
+        "initd-state 1\ngeneration 2\nclock 0\nstage 3 5\ngoal 3 5\nflags 10\nwish 00 - 000 000\nend 7\n",
+        1,
+        Line(8),
+    ),
+    (
+        "initd-state 1\ngeneration 2\nclock 0\nstage 3 5\ngoal 3 5\nflags 10\nwish 00 - 000 000\ntable 1\nend 8\n",
+        1,
+        Line(9),
+    ),
+    (
+        "initd-state 1\ngeneration 2\nclock 0\nstage 3 5\ngoal 3 5\nflags 10\nwish 00 - 000 000\ntable 2\na:3:once:x\nend 9\n",
+        1,
+        Line(10),
+    ),
+    (
+        "initd-state 1\ngeneration 2\nclock 0\nstage 3 5\ngoal 3 5\nflags 10\nwish 00 - 000 000\ntable 0\nend 9\n",
+        1,
+        Line(9),
+    ),
+    (
+        "initd-state 1\ngeneration 2\nclock 0\nstage 3 5\ngoal 3 5\nflags 10\nwish 00 - 000 000\ntable 0\nend 8\n",
+        1,
+        Generation,
+    ),
+];
+
+fn is_refused(
+    rt: &impl Abort,
+    alloc: Global,
+    text: &str,
+    generation: u64,
+    why: Over,
+) -> Result<(), Fail> {
+    let got = refusal(alloc, text.as_bytes(), generation);
+    assert!(rt; got == Some(why), "{generation}: {text}");
+    Ok(())
+}
+
+#[test]
+fn refused_texts(rt: HostRuntime) -> Result<(), Fail> {
+    for (text, generation, why) in TEXTS {
+        is_refused(&rt, rt.alloc(), text, *generation, *why)?;
+    }
+    Ok(())
+}
+
+fn is_cut(rt: &impl Abort, alloc: Global, length: usize) -> Result<(), Fail> {
+    let text = STARTED.as_bytes().get(..length).ok_or("too short")?;
+    let got = refusal(alloc, text, 1);
+    assert!(rt; got == Some(Cut), "{length}");
+    Ok(())
+}
+
+#[test]
+fn cut_texts(rt: HostRuntime) -> Result<(), Fail> {
+    for length in 0..STARTED.len() {
+        is_cut(&rt, rt.alloc(), length)?;
+    }
+    Ok(())
+}
+
+/// A text of the given number of entries, and none of its records.
+fn add_entries(text: &mut String, entries: u64) -> Result<(), Fail> {
+    let (heads, _) = OPENING.split_once("table").ok_or("no table")?;
+    writeln!(text, "{heads}table {entries}")?;
+    for number in 0..entries {
+        writeln!(text, "{number}:3:once:x")?;
+    }
+    writeln!(text, "end {}", entries.saturating_add(8))?;
+    Ok(())
+}
+
+fn entries_answered(alloc: Global, entries: u64) -> Result<Option<Over>, Fail> {
+    let mut text = String::new(alloc);
+    add_entries(&mut text, entries)?;
+    Ok(refusal(alloc, text.as_bytes(), 1))
+}
+
+/// A table has 512 entries at most: the first that is too many is refused.
+const LARGEST: &[(u64, Option<Over>)] = &[(512, None), (513, Some(Line(521)))];
+
+fn is_large(rt: &impl Abort, alloc: Global, entries: u64, want: Option<Over>) -> Result<(), Fail> {
+    let got = entries_answered(alloc, entries)?;
+    assert!(rt; got == want, "{entries}");
+    Ok(())
+}
+
+#[test]
+fn largest_tables(rt: HostRuntime) -> Result<(), Fail> {
+    for (entries, want) in LARGEST {
+        is_large(&rt, rt.alloc(), *entries, *want)?;
+    }
+    Ok(())
+}

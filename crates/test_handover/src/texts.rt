@@ -1,0 +1,66 @@
+use state_text::{Over, read_state};
+use std::alloc::{AllocError, Global};
+use std::process::Abort;
+use std::test::Fail;
+
+/// The state of an init with two starts under way, in runlevel 3, that was re-executed once.
+pub(crate) const STARTED: &str = "initd-state 1
+generation 1
+clock 0
+stage 3 5
+goal 3 5
+flags 10
+wish 00 - 000 000
+table 3
+id:3:initdefault:
+a:3:respawn:x
+b:3:once:y
+slot id - - - - 0000 - -
+slot a - - start - 1000 - 0
+slot b - - start - 1000 - -
+end 14
+";
+
+/// The state of an init that entered no stage yet and has no entry, re-executed once.
+pub(crate) const OPENING: &str = "initd-state 1
+generation 1
+clock 0
+stage none 0
+goal 3 5
+flags 00
+wish 00 - 000 000
+table 0
+end 8
+";
+
+/// Why a text of this generation is refused, none where it is read.
+pub(crate) fn refusal(alloc: Global, text: &[u8], generation: u64) -> Option<Over> {
+    read_state(alloc, text, generation).err()
+}
+
+/// The text with these lines in place of the one of a number, counted from 1; an empty text is no line.
+fn replaced(alloc: Global, number: usize, lines: &str) -> Result<String, AllocError> {
+    let mut text = String::new(alloc);
+    for (at, line) in STARTED.lines().enumerate() {
+        let line = if at + 1 == number { lines } else { line };
+        text.push_str(line)?;
+        if !line.is_empty() {
+            text.push('\n')?;
+        }
+    }
+    Ok(text)
+}
+
+/// So it is answered where these lines stand in place of the one of a number.
+pub(crate) fn is_answered(
+    rt: &impl Abort,
+    alloc: Global,
+    number: usize,
+    lines: &str,
+    want: Option<Over>,
+) -> Result<(), Fail> {
+    let text = replaced(alloc, number, lines)?;
+    let got = refusal(alloc, text.as_bytes(), 1);
+    assert!(rt; got == want, "{number}: {lines}");
+    Ok(())
+}

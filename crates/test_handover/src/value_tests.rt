@@ -1,0 +1,357 @@
+//! What is written of a core, and the values that a text is read as.
+
+use crate::texts::STARTED;
+use child_table::Stop;
+use core_model::{Heads, News, Parts, Record};
+use init_trace::Goal;
+use init_words::{Act, Ask, ChildNo, Level, Memory, Stage};
+use inittab_text::Table;
+use level_core::Core;
+use state_text::{Over, generation_of, read_state, write_state};
+use std::alloc::Global;
+use std::process::Abort;
+use std::test::Fail;
+
+const TABLE: &str = "id:3:initdefault:\na:3:respawn:x\nb:3:once:y\n";
+
+/// A record, its flags in the order asked, called, look, missed.
+struct Kept {
+    id: &'static str,
+    child: Option<u32>,
+    act: Option<Act>,
+    order: Option<Ask>,
+    stop: Option<Stop>,
+    flags: [bool; 4],
+    held_until: Option<u64>,
+    starts: &'static [u64],
+}
+
+const STARTED_RECORDS: &[Kept] = &[
+    Kept {
+        id: "id",
+        child: None,
+        act: None,
+        order: None,
+        stop: None,
+        flags: [false, false, false, false],
+        held_until: None,
+        starts: &[],
+    },
+    Kept {
+        id: "a",
+        child: None,
+        act: None,
+        order: Some(Ask::Start),
+        stop: None,
+        flags: [true, false, false, false],
+        held_until: None,
+        starts: &[0],
+    },
+    Kept {
+        id: "b",
+        child: None,
+        act: None,
+        order: Some(Ask::Start),
+        stop: None,
+        flags: [true, false, false, false],
+        held_until: None,
+        starts: &[],
+    },
+];
+
+/// A text whose every word says something else.
+const BUSY: &str = "initd-state 1
+generation 18446744073709551615
+clock 700
+stage S 3600
+goal 0 0
+flags 01
+wish 10 9:8 101 010
+table 1
+p:S012:powerokwait:+run it: now
+slot p 4294967295 powerokwait look term:690 0111 1000 0,1,2,3,4,5,6,7,8,600
+slot old 0 boot kill due 1000 - 9
+slot ~ 7 off term kill:18446744073709551615 0001 0 -
+end 12
+";
+
+/// The heads of that text with no entry.
+const BUSY_ALONE: &str = "initd-state 1
+generation 18446744073709551615
+clock 700
+stage S 3600
+goal 0 0
+flags 01
+wish 10 9:8 101 010
+table 0
+end 8
+";
+
+const BUSY_RECORDS: &[Kept] = &[
+    Kept {
+        id: "p",
+        child: Some(4_294_967_295),
+        act: Some(Act::Powerokwait),
+        order: Some(Ask::Look),
+        stop: Some(Stop::Termed(690)),
+        flags: [false, true, true, true],
+        held_until: Some(1000),
+        starts: &[0, 1, 2, 3, 4, 5, 6, 7, 8, 600],
+    },
+    Kept {
+        id: "old",
+        child: Some(0),
+        act: Some(Act::Boot),
+        order: Some(Ask::Kill),
+        stop: Some(Stop::Due),
+        flags: [true, false, false, false],
+        held_until: None,
+        starts: &[9],
+    },
+    Kept {
+        id: "~",
+        child: Some(7),
+        act: Some(Act::Off),
+        order: Some(Ask::Term),
+        stop: Some(Stop::Killed(18_446_744_073_709_551_615)),
+        flags: [false, false, false, true],
+        held_until: Some(0),
+        starts: &[],
+    },
+];
+
+const BUSY_HEADS: Heads = Heads {
+    generation: 18_446_744_073_709_551_615,
+    time: 700,
+    stage: Some(Stage::Run(Level::S)),
+    grace: 3600,
+    goal: Goal {
+        level: Level::L0,
+        grace: 0,
+    },
+    booted: false,
+    announced: true,
+    reread: true,
+    reexec: false,
+    level_wish: Some(Goal {
+        level: Level::L9,
+        grace: 8,
+    }),
+    news: News {
+        fail: true,
+        fail_now: false,
+        ok: true,
+        a: false,
+        b: true,
+        c: false,
+    },
+};
+
+/// The core right after it ordered its second start: three stages were entered, and two starts ordered.
+fn started(alloc: Global) -> Result<Core, Fail> {
+    let (table, _) = inittab_text::read(alloc, TABLE.as_bytes())?;
+    let mut core = Core::new(alloc, table, None)?;
+    for _ in 0..5 {
+        core.next();
+    }
+    Ok(core)
+}
+
+/// The heads of that core.
+fn started_heads() -> Heads {
+    Heads {
+        generation: 1,
+        time: 0,
+        stage: Some(Stage::Run(Level::L3)),
+        grace: 5,
+        goal: Goal {
+            level: Level::L3,
+            grace: 5,
+        },
+        booted: true,
+        announced: false,
+        reread: false,
+        reexec: false,
+        level_wish: None,
+        news: News::new(),
+    }
+}
+
+/// What the core tells of its heads, and the rest by hand.
+fn heads_of(core: &Core) -> Heads {
+    Heads {
+        time: core.time(),
+        stage: core.stage(),
+        goal: core.goal(),
+        ..started_heads()
+    }
+}
+
+fn text_of(alloc: Global, heads: &Heads, core: &Core) -> Result<Vec<u8>, Memory> {
+    write_state(alloc, heads, core.table(), core.slots().as_slice())
+}
+
+fn is_written(
+    rt: &impl Abort,
+    alloc: Global,
+    heads: &Heads,
+    core: &Core,
+    want: &str,
+) -> Result<(), Fail> {
+    let text = text_of(alloc, heads, core)?;
+    assert!(rt; text.as_slice() == want.as_bytes());
+    Ok(())
+}
+
+fn is_timed(heads: &Heads, want: &Heads) -> bool {
+    (heads.generation, heads.time, heads.grace) == (want.generation, want.time, want.grace)
+}
+
+fn is_placed(heads: &Heads, want: &Heads) -> bool {
+    heads.stage == want.stage && heads.goal == want.goal
+}
+
+fn flags_of(heads: &Heads) -> [bool; 4] {
+    [heads.booted, heads.announced, heads.reread, heads.reexec]
+}
+
+fn is_wished(heads: &Heads, want: &Heads) -> bool {
+    heads.level_wish == want.level_wish && heads.news == want.news
+}
+
+fn are_heads(heads: &Heads, want: &Heads) -> bool {
+    is_timed(heads, want)
+        && is_placed(heads, want)
+        && flags_of(heads) == flags_of(want)
+        && is_wished(heads, want)
+}
+
+fn number_of(record: &Record) -> Option<u32> {
+    let ChildNo(number) = record.child?;
+    Some(number)
+}
+
+fn is_born(record: &Record, kept: &Kept) -> bool {
+    record.id.as_bytes() == kept.id.as_bytes()
+        && number_of(record) == kept.child
+        && record.act == kept.act
+}
+
+fn is_ordered(record: &Record, kept: &Kept) -> bool {
+    record.order == kept.order && record.stop == kept.stop
+}
+
+fn is_timely(record: &Record, kept: &Kept) -> bool {
+    record.held_until == kept.held_until && record.starts.as_slice() == kept.starts
+}
+
+fn is_kept(record: &Record, kept: &Kept) -> bool {
+    let flags = [record.asked, record.called, record.look, record.missed];
+    is_born(record, kept)
+        && is_ordered(record, kept)
+        && flags == kept.flags
+        && is_timely(record, kept)
+}
+
+fn are_kept(records: &[Record], kept: &[Kept]) -> bool {
+    records.len() == kept.len()
+        && records
+            .iter()
+            .zip(kept)
+            .all(|(record, kept)| is_kept(record, kept))
+}
+
+fn table_text(alloc: Global, parts: &Parts) -> Result<Vec<u8>, Memory> {
+    inittab_text::write(alloc, &parts.table)
+}
+
+fn is_table(alloc: Global, parts: &Parts, lines: &str) -> Result<bool, Memory> {
+    let text = table_text(alloc, parts)?;
+    Ok(text.as_slice() == lines.as_bytes())
+}
+
+fn are_parts(parts: &Parts, heads: &Heads, kept: &[Kept]) -> bool {
+    are_heads(&parts.heads, heads) && are_kept(parts.records.as_slice(), kept)
+}
+
+fn is_said(
+    alloc: Global,
+    text: &str,
+    heads: &Heads,
+    table: &str,
+    kept: &[Kept],
+) -> Result<bool, Over> {
+    let parts = read_state(alloc, text.as_bytes(), heads.generation)?;
+    Ok(are_parts(&parts, heads, kept) && is_table(alloc, &parts, table)?)
+}
+
+fn is_read(rt: &impl Abort, alloc: Global, text: &str, heads: &Heads, table: &str, kept: &[Kept]) {
+    let said = is_said(alloc, text, heads, table, kept);
+    assert!(rt; said == Ok(true));
+}
+
+#[test]
+fn a_core_is_written(rt: HostRuntime) -> Result<(), Fail> {
+    let core = started(rt.alloc())?;
+    is_written(&rt, rt.alloc(), &heads_of(&core), &core, STARTED)
+}
+
+#[test]
+fn each_head_is_written(rt: HostRuntime) -> Result<(), Fail> {
+    let core = Core::new(rt.alloc(), Table::new(rt.alloc()), None)?;
+    is_written(&rt, rt.alloc(), &BUSY_HEADS, &core, BUSY_ALONE)
+}
+
+#[test]
+fn the_same_is_read(rt: HostRuntime) {
+    is_read(
+        &rt,
+        rt.alloc(),
+        STARTED,
+        &started_heads(),
+        TABLE,
+        STARTED_RECORDS,
+    );
+}
+
+#[test]
+fn each_word_is_read(rt: HostRuntime) {
+    is_read(
+        &rt,
+        rt.alloc(),
+        BUSY,
+        &BUSY_HEADS,
+        "p:S012:powerokwait:+run it: now\n",
+        BUSY_RECORDS,
+    );
+}
+
+/// Texts, and the generation that their second line names.
+const NAMED: &[(&str, Option<u64>)] = &[
+    (STARTED, Some(1)),
+    ("\ngeneration 7\n", Some(7)),
+    (
+        "initd-state 9\ngeneration 18446744073709551615\nx",
+        Some(18_446_744_073_709_551_615),
+    ),
+    ("initd-state 1\ngeneration 7", None),
+    ("initd-state 1\ngeneration 0\n", None),
+    ("initd-state 1\ngeneration 07\n", None),
+    ("initd-state 1\nclock 7\ngeneration 7\n", None),
+    ("generation 7\n", None),
+    ("", None),
+];
+
+fn names(rt: &impl Abort, text: &str, want: Option<u64>) -> Result<(), Fail> {
+    let got = generation_of(text.as_bytes());
+    assert!(rt; got == want, "{text}");
+    Ok(())
+}
+
+#[test]
+fn generations(rt: HostRuntime) -> Result<(), Fail> {
+    for (text, want) in NAMED {
+        names(&rt, text, *want)?;
+    }
+    Ok(())
+}

@@ -1,0 +1,87 @@
+use program_io::write_text;
+use simulator::SimFault;
+use std::alloc::Global;
+use std::process::Abort;
+use std::test::Fail;
+use test_support::Slow;
+
+const INITTAB: &[u8] = b"id:3:initdefault:\nw:3:wait:prep\nr:3:respawn:serv\n";
+
+const SCRIPT: &[u8] = b"birth w 10\ntold w\nnudge\n";
+
+const TRACE: &[u8] =
+    b"use 3\nid:3:initdefault:\nw:3:wait:prep\nr:3:respawn:serv\nenter sysinit 5\nenter boot 5\nenter 3 5\nask w start\nbirth w 10\ntold w\nnudge\nask w look\n";
+
+/// The room of a writer, and whether it fails or takes nothing where it is full.
+const ROOMS: &[(usize, bool)] = &[
+    (100_000, false),
+    (0, false),
+    (1, false),
+    (5, false),
+    (6, false),
+    (60, false),
+    (77, false),
+    (100, false),
+    (121, false),
+    (100_000, true),
+    (0, true),
+    (1, true),
+    (5, true),
+    (6, true),
+    (60, true),
+    (77, true),
+    (100, true),
+    (121, true),
+];
+
+/// The run is done where all of it has room, and else the fault is the writer's, which holds as much as it has room
+/// for.
+fn is_written(rt: &impl Abort, alloc: Global, room: usize, fails: bool) -> Result<(), Fail> {
+    let mut slow = Slow::new(alloc, room, fails, false);
+    let ended = simulator::simulate(alloc, INITTAB, None, SCRIPT, &mut slow);
+    let end = if room < TRACE.len() {
+        Err(SimFault::Write)
+    } else {
+        Ok(())
+    };
+    assert!(rt;
+        ended == end && slow.taken.as_slice() == &TRACE[..room.min(TRACE.len())],
+        "at {room}"
+    );
+    Ok(())
+}
+
+#[test]
+fn slow_writers_take_the_trace(rt: HostRuntime) -> Result<(), Fail> {
+    for (room, fails) in ROOMS {
+        is_written(&rt, rt.alloc(), *room, *fails)?;
+    }
+    Ok(())
+}
+
+/// The room of a writer, whether the text is written whole, and what is.
+const TEXTS: &[(usize, bool, &str)] = &[(4, true, "text"), (3, false, "tex"), (0, false, "")];
+
+fn is_taken(
+    rt: &impl Abort,
+    alloc: Global,
+    room: usize,
+    is_whole: bool,
+    taken: &str,
+) -> Result<(), Fail> {
+    let mut slow = Slow::new(alloc, room, true, false);
+    let whole = write_text(&mut slow, b"text").is_ok();
+    assert!(rt;
+        whole == is_whole && slow.taken.as_slice() == taken.as_bytes(),
+        "at {room}"
+    );
+    Ok(())
+}
+
+#[test]
+fn texts_are_written_whole(rt: HostRuntime) -> Result<(), Fail> {
+    for (room, is_whole, taken) in TEXTS {
+        is_taken(&rt, rt.alloc(), *room, *is_whole, taken)?;
+    }
+    Ok(())
+}

@@ -1,0 +1,165 @@
+//! Growths are refused, over a small heap that is filled.
+
+use crate::fixtures::{fill, id_of};
+use child_host::{Bytes, Host, HostFault, Reply};
+use init_words::{Answer, Id, Memory};
+use linked_list_allocator::LocalHeap;
+use memory_host::MemoryHost;
+use std::alloc::{Allocator, Global};
+use std::process::Abort;
+use std::test::Fail;
+
+/// Gives an item to the queue of this number, 0 to 7.
+fn give<A: Allocator + Copy>(
+    alloc: A,
+    host: &mut MemoryHost<A>,
+    queue: u8,
+    id: Id,
+) -> Result<(), Memory> {
+    match queue {
+        0 => host.give_start(Reply::Later),
+        1 => host.give_look(Reply::Later),
+        2 => host.give_signal(Reply::Later),
+        3 => host.give_late(Some((id, Answer::Hit))),
+        4 => host.give_clock(Ok(5)),
+        5 => host.give_bytes(Ok(Bytes::new(alloc))),
+        6 => host.give_table(Err(HostFault::Device)),
+        _ => host.give_carry(Err(HostFault::Device)),
+    }
+}
+
+/// How many of the given number of items a queue is given before one is refused.
+fn given<A: Allocator + Copy>(
+    alloc: A,
+    host: &mut MemoryHost<A>,
+    queue: u8,
+    id: Id,
+    items: u32,
+) -> u32 {
+    for count in 0..items {
+        if give(alloc, host, queue, id).is_err() {
+            return count;
+        }
+    }
+    items
+}
+
+/// How many of 100 items a queue is given while the heap is full.
+fn given_while_full<'a>(
+    alloc: Global,
+    heap: &'a LocalHeap,
+    host: &mut MemoryHost<&'a LocalHeap>,
+    queue: u8,
+    id: Id,
+) -> Result<u32, Fail> {
+    let _fillers = fill(alloc, heap)?;
+    Ok(given(heap, host, queue, id, 100))
+}
+
+/// A queue that has had the given number of items is given more while the heap is full, and one where there is room
+/// again.
+fn are_given<'a>(
+    rt: &impl Abort,
+    alloc: Global,
+    heap: &'a LocalHeap,
+    host: &mut MemoryHost<&'a LocalHeap>,
+    queue: u8,
+    before: u32,
+) -> Result<(), Fail> {
+    let id = id_of(b"r")?;
+    assert!(rt; given(heap, host, queue, id, before) == before);
+    assert!(rt; given_while_full(alloc, heap, host, queue, id)? < 100);
+    assert!(rt; give(heap, host, queue, id).is_ok());
+    Ok(())
+}
+
+/// What a call is, 0 to 3, and whether it is told.
+fn is_told<A: Allocator + Copy>(host: &mut MemoryHost<A>, alloc: Global, call: u8, id: Id) -> bool {
+    match call {
+        0 => host.pause(),
+        1 => {
+            let _ = host.start(alloc, id, b"/bin/serv");
+        }
+        2 => {
+            let _ = host.read_table(alloc);
+        }
+        _ => {
+            let _ = host.carry(alloc, b"state");
+        }
+    }
+    host.calls().is_some()
+}
+
+/// The last of 100 calls while the heap is full is told.
+fn is_told_while_full<'a>(
+    alloc: Global,
+    heap: &'a LocalHeap,
+    host: &mut MemoryHost<&'a LocalHeap>,
+    call: u8,
+    id: Id,
+) -> Result<bool, Fail> {
+    let _fillers = fill(alloc, heap)?;
+    let mut is_kept = true;
+    for _ in 0..100 {
+        is_kept = is_told(host, alloc, call, id);
+    }
+    Ok(is_kept)
+}
+
+/// A call that there is no room to keep is not told, and none after it, although there is room again.
+fn is_last<'a>(
+    rt: &impl Abort,
+    alloc: Global,
+    heap: &'a LocalHeap,
+    host: &mut MemoryHost<&'a LocalHeap>,
+    call: u8,
+) -> Result<(), Fail> {
+    let id = id_of(b"r")?;
+    assert!(rt; is_told(host, alloc, call, id));
+    assert!(rt; !is_told_while_full(alloc, heap, host, call, id)?);
+    assert!(rt; !is_told(host, alloc, call, id));
+    Ok(())
+}
+
+/// A queue and how many items it has had, or a call.
+#[derive(Clone, Copy)]
+enum Trial {
+    Queue(u8, u32),
+    Call(u8),
+}
+
+fn is_tried_over(
+    rt: &impl Abort,
+    alloc: Global,
+    heap: &LocalHeap,
+    trial: Trial,
+) -> Result<(), Fail> {
+    let mut host = MemoryHost::new(heap);
+    match trial {
+        Trial::Queue(queue, before) => are_given(rt, alloc, heap, &mut host, queue, before),
+        Trial::Call(call) => is_last(rt, alloc, heap, &mut host, call),
+    }
+}
+
+fn is_tried(rt: &impl Abort, alloc: Global, trial: Trial) -> Result<(), Fail> {
+    let heap = LocalHeap::new(alloc, 4096)?;
+    is_tried_over(rt, alloc, &heap, trial)
+}
+
+#[test]
+fn a_queue_that_cannot_grow_refuses(rt: HostRuntime) -> Result<(), Fail> {
+    for queue in 0..8u8 {
+        for before in [0, 1, 4, 5] {
+            is_tried(&rt, rt.alloc(), Trial::Queue(queue, before))?;
+        }
+    }
+    Ok(())
+}
+
+#[test]
+fn a_record_ends_where_there_is_no_room(rt: HostRuntime) -> Result<(), Fail> {
+    for call in 0..4u8 {
+        is_tried(&rt, rt.alloc(), Trial::Call(call))?;
+    }
+    Ok(())
+}

@@ -1,0 +1,303 @@
+//! Runs over a scripted host.
+
+use child_host::{Call, Reply};
+use init_words::{Answer, ChildNo, Id, Status};
+use memory_host::MemoryHost;
+use rc_driver::{Rc, RcStep, RunEnd, run_links};
+use std::alloc::Global;
+use std::process::Abort;
+use std::test::Fail;
+use test_support::Slow;
+
+/// Replies to starts, replies to looks and late answers, each a letter: `l`ater, `b`orn, `n`ot born, `e`nded with 0,
+/// `t`hree, `k`illed, `a`live, `o` that the look failed, `-` none. Then the limit of pauses, the writer's room, how the
+/// run ends, what is written, and the calls: `S`tart, `L`ook, `P`ause, l`A`te.
+type Row = (
+    &'static [u8],
+    &'static [u8],
+    &'static [u8],
+    u32,
+    usize,
+    RunEnd,
+    &'static str,
+    &'static str,
+);
+
+const ROWS: &[Row] = &[
+    (
+        b"bb",
+        b"oee",
+        b"",
+        9,
+        99,
+        RunEnd::Done,
+        "K05c stop exit 0\nS10a start exit 0\n",
+        "SLPALSL",
+    ),
+    (
+        b"lb",
+        b"aek",
+        b"-b-",
+        9,
+        99,
+        RunEnd::Done,
+        "K05c stop exit 0\nS10a start killed\n",
+        "SPAPALPALSL",
+    ),
+    (
+        b"nb",
+        b"t",
+        b"",
+        0,
+        99,
+        RunEnd::Done,
+        "K05c stop not started\nS10a start exit 3\n",
+        "SSL",
+    ),
+    (
+        b"bb",
+        b"lk",
+        b"-e",
+        2,
+        99,
+        RunEnd::Done,
+        "K05c stop exit 0\nS10a start killed\n",
+        "SLPAPASL",
+    ),
+    (
+        b"ln",
+        b"",
+        b"n",
+        1,
+        99,
+        RunEnd::Done,
+        "K05c stop not started\nS10a start not started\n",
+        "SPAS",
+    ),
+    (
+        b"bb",
+        b"eaae",
+        b"",
+        1,
+        99,
+        RunEnd::Limit,
+        "K05c stop exit 0\n",
+        "SLSLPAL",
+    ),
+    (b"b", b"a", b"", 0, 99, RunEnd::Limit, "", "SL"),
+    (
+        b"bb",
+        b"ee",
+        b"",
+        9,
+        20,
+        RunEnd::Write,
+        "K05c stop exit 0\nS10",
+        "SLSL",
+    ),
+    (b"bb", b"ee", b"", 9, 0, RunEnd::Write, "", "SL"),
+];
+
+fn answer_of(letter: u8) -> Answer {
+    match letter {
+        b'b' => Answer::Born(ChildNo(7)),
+        b'n' => Answer::NotBorn,
+        b'e' => Answer::Ended(Status::Exit(0)),
+        b't' => Answer::Ended(Status::Exit(3)),
+        b'k' => Answer::Ended(Status::Killed),
+        b'o' => Answer::NoLook,
+        _ => Answer::Alive,
+    }
+}
+
+fn reply_of(letter: u8) -> Reply {
+    match letter {
+        b'l' => Reply::Later,
+        _ => Reply::Now(answer_of(letter)),
+    }
+}
+
+fn give_late(host: &mut MemoryHost, letter: u8) -> Result<(), Fail> {
+    let id = Id::read(b"rc").ok_or("no id")?;
+    let late = if letter == b'-' {
+        None
+    } else {
+        Some((id, answer_of(letter)))
+    };
+    host.give_late(late)?;
+    Ok(())
+}
+
+fn give_starts(host: &mut MemoryHost, letters: &[u8]) -> Result<(), Fail> {
+    for letter in letters {
+        host.give_start(reply_of(*letter))?;
+    }
+    Ok(())
+}
+
+fn give_looks(host: &mut MemoryHost, letters: &[u8]) -> Result<(), Fail> {
+    for letter in letters {
+        host.give_look(reply_of(*letter))?;
+    }
+    Ok(())
+}
+
+fn give_lates(host: &mut MemoryHost, letters: &[u8]) -> Result<(), Fail> {
+    for letter in letters {
+        give_late(host, *letter)?;
+    }
+    Ok(())
+}
+
+/// Gives the host what a row says.
+fn give(host: &mut MemoryHost, row: &Row) -> Result<(), Fail> {
+    give_starts(host, row.0)?;
+    give_looks(host, row.1)?;
+    give_lates(host, row.2)
+}
+
+/// A letter for each call.
+fn letter_of(call: &Call) -> u8 {
+    match call {
+        Call::Start(_, _, _) => b'S',
+        Call::Look(_, _) => b'L',
+        Call::Late(_) => b'A',
+        Call::Pause => b'P',
+        _ => b'?',
+    }
+}
+
+/// The calls are these letters.
+fn are_calls(calls: &[Call], letters: &[u8]) -> bool {
+    let mut letters = letters.iter();
+    for call in calls {
+        match letters.next() {
+            Some(letter) if *letter == letter_of(call) => {}
+            _ => return false,
+        }
+    }
+    letters.next().is_none()
+}
+
+/// The call starts the first script, under the id of rc.
+fn is_first_start(call: &Call) -> bool {
+    match call {
+        Call::Start(id, text, _) => {
+            id.as_bytes() == b"rc".as_slice()
+                && text.as_slice() == b"sh etc/rc3.d/K05c stop".as_slice()
+        }
+        _ => false,
+    }
+}
+
+fn begin_with_start(calls: &[Call]) -> bool {
+    match calls {
+        [first, ..] => is_first_start(first),
+        [] => false,
+    }
+}
+
+/// The host has these calls, and the first starts the first script.
+fn has_calls(host: &MemoryHost, letters: &[u8]) -> bool {
+    match host.calls() {
+        Some(calls) => are_calls(calls, letters) && begin_with_start(calls),
+        None => false,
+    }
+}
+
+/// What is asked for after a run that ended so: nothing, or an answer that is still missing.
+fn step_at(end: RunEnd) -> RcStep<'static> {
+    if end == RunEnd::Done {
+        RcStep::Done
+    } else {
+        RcStep::Waiting
+    }
+}
+
+/// The run over the host ends so, with so much written.
+fn ends(rt: &impl Abort, alloc: Global, rc: &mut Rc, host: &mut MemoryHost, row: &Row) {
+    let mut out = Slow::new(alloc, row.4, true, false);
+    let ended = run_links(alloc, rc, host, "etc/rc3.d", row.3, &mut out);
+    assert!(rt; ended == row.5 && out.taken.as_slice() == row.6.as_bytes());
+}
+
+fn is_run_by(rt: &impl Abort, alloc: Global, rc: &mut Rc, row: &Row) -> Result<(), Fail> {
+    let mut host = MemoryHost::new(alloc);
+    give(&mut host, row)?;
+    ends(rt, alloc, rc, &mut host, row);
+    assert!(rt; has_calls(&host, row.7.as_bytes()) && rc.next() == step_at(row.5));
+    Ok(())
+}
+
+fn is_run(rt: &impl Abort, alloc: Global, names: &[String], row: &Row) -> Result<(), Fail> {
+    let mut rc = Rc::new(alloc, &[], names)?;
+    is_run_by(rt, alloc, &mut rc, row)
+}
+
+fn two_names(alloc: Global) -> Result<Vec<String>, Fail> {
+    let mut names = Vec::new(alloc);
+    names.push(String::from_str(alloc, "S10a")?)?;
+    names.push(String::from_str(alloc, "K05c")?)?;
+    Ok(names)
+}
+
+fn rows_are_run(rt: &impl Abort, alloc: Global, names: &[String]) -> Result<(), Fail> {
+    for row in ROWS {
+        is_run(rt, alloc, names, row)?;
+    }
+    Ok(())
+}
+
+#[test]
+fn scripts_run_one_at_a_time(rt: HostRuntime) -> Result<(), Fail> {
+    let names = two_names(rt.alloc())?;
+    rows_are_run(&rt, rt.alloc(), &names)
+}
+
+/// A run over a host that was given nothing ends so, with so much written.
+fn ends_at_once(
+    rt: &impl Abort,
+    alloc: Global,
+    rc: &mut Rc,
+    is_stuck: bool,
+    end: RunEnd,
+    taken: &[u8],
+) {
+    let mut host = MemoryHost::new(alloc);
+    let mut out = Slow::new(alloc, 99, true, is_stuck);
+    let ended = run_links(alloc, rc, &mut host, "x", 9, &mut out);
+    assert!(rt; ended == end && out.taken.as_slice() == taken);
+}
+
+/// The first script was asked for, and not answered.
+fn ends_with_no_answer(rt: &impl Abort, alloc: Global, names: &[String]) -> Result<(), Fail> {
+    let mut rc = Rc::new(alloc, &[], names)?;
+    let _ = rc.next();
+    ends_at_once(rt, alloc, &mut rc, false, RunEnd::Limit, b"");
+    Ok(())
+}
+
+#[test]
+fn an_answer_that_was_missing_before_ends_the_run(rt: HostRuntime) -> Result<(), Fail> {
+    let names = two_names(rt.alloc())?;
+    ends_with_no_answer(&rt, rt.alloc(), &names)
+}
+
+fn ends_with_a_write_fault(rt: &impl Abort, alloc: Global, names: &[String]) -> Result<(), Fail> {
+    let mut rc = Rc::new(alloc, &[], names)?;
+    ends_at_once(
+        rt,
+        alloc,
+        &mut rc,
+        true,
+        RunEnd::Write,
+        b"K05c stop not started\n",
+    );
+    Ok(())
+}
+
+#[test]
+fn a_writer_that_keeps_its_bytes_ends_the_run(rt: HostRuntime) -> Result<(), Fail> {
+    let names = two_names(rt.alloc())?;
+    ends_with_a_write_fault(&rt, rt.alloc(), &names)
+}

@@ -1,0 +1,276 @@
+//! Command lines of telinit(8): their exit statuses, what is reported, and what is appended.
+
+use program_io::{report_unread_words, unread_status};
+use std::alloc::Global;
+use std::io::{ErrorKind, sink};
+use std::process::{Abort, Command, Processes};
+use std::rt::Files;
+use std::test::Fail;
+use std::{fs, io};
+use telinit_command::{USAGE, WordFault, Words, frame_of, read_words, run_words};
+use test_support::words_of;
+
+const USAGE_REPORT: &str = "usage: telinit [-t SEC] [--initctl P] CHAR\
+\n  SEC   seconds between the two signals that stop a child, 0 to 3600; 5 where it is left out\
+\n  P     the file that the request is appended to; initctl where it is left out\
+\n  CHAR  0 to 9, S or s: go to that runlevel\
+\n        A, B, C, a, b or c: start the ondemand entries of that letter\
+\n        Q or q: read inittab again\
+\n        U or u: re-execute init, and keep its state\n";
+
+/// A line, the status that it ends with, and the report.
+type Row = (&'static [&'static str], u8, &'static str);
+
+fn words_end(
+    rt: &(impl Files + Abort),
+    alloc: Global,
+    words: Vec<String>,
+    status: u8,
+    report: &str,
+) {
+    let mut err: Vec<u8> = Vec::new(alloc);
+    let ended = run_words(rt, alloc, words, &mut sink(), &mut err);
+    assert!(rt; ended == status && err.as_slice() == report.as_bytes());
+}
+
+/// The line ends with this status and this report.
+fn ends(
+    rt: &(impl Files + Abort),
+    alloc: Global,
+    line: &[&str],
+    status: u8,
+    report: &str,
+) -> Result<(), Fail> {
+    words_end(rt, alloc, words_of(alloc, line)?, status, report);
+    Ok(())
+}
+
+fn all_end(rt: &(impl Files + Abort), alloc: Global, rows: &[Row]) -> Result<(), Fail> {
+    for (line, status, report) in rows {
+        ends(rt, alloc, line, *status, report)?;
+    }
+    Ok(())
+}
+
+const USAGE_FAULTS: &[Row] = &[
+    (&["x"], 1, USAGE_REPORT),
+    (&["33"], 1, USAGE_REPORT),
+    (&["-t", "3601", "q"], 1, USAGE_REPORT),
+    (&["-t", "-1", "q"], 1, USAGE_REPORT),
+    (&["-t", "+5", "q"], 1, USAGE_REPORT),
+    (&["-t", "five", "q"], 1, USAGE_REPORT),
+    (&["-t", "q"], 1, USAGE_REPORT),
+    (&["q", "q"], 1, USAGE_REPORT),
+    (&[""], 1, USAGE_REPORT),
+    (&["--help"], 1, USAGE_REPORT),
+    (&["-h"], 1, USAGE_REPORT),
+    (&["help"], 1, USAGE_REPORT),
+    (&["--version"], 1, USAGE_REPORT),
+    (&["-e", "q"], 1, USAGE_REPORT),
+    (&["-t", "1", "-t", "2", "q"], 1, USAGE_REPORT),
+    (&["é"], 1, USAGE_REPORT),
+    (&[], 1, USAGE_REPORT),
+];
+
+#[test]
+fn usage_faults_write_nothing(rt: HostRuntime) -> Result<(), Fail> {
+    all_end(&rt, rt.alloc(), USAGE_FAULTS)?;
+    assert!(rt; fs::metadata(&rt, "initctl").is_err());
+    Ok(())
+}
+
+/// The first sixteen bytes of `telinit -t 0 q`, and of `telinit q`.
+const AT_ONCE: [u8; 16] = [
+    0x69, 0x19, 0x09, 0x03, 1, 0, 0, 0, 0x71, 0, 0, 0, 0, 0, 0, 0,
+];
+
+const BY_DEFAULT: [u8; 16] = [
+    0x69, 0x19, 0x09, 0x03, 1, 0, 0, 0, 0x71, 0, 0, 0, 5, 0, 0, 0,
+];
+
+const ZEROS: [u8; 368] = [0; 368];
+
+/// The bytes are these sixteen and 368 zeros.
+fn is_block(bytes: &[u8], ints: [u8; 16]) -> bool {
+    bytes.len() == 384 && bytes[..16] == ints[..] && bytes[16..] == ZEROS[..]
+}
+
+/// The bytes are these two blocks.
+fn are_blocks(bytes: &[u8], first: [u8; 16], second: [u8; 16]) -> bool {
+    match bytes.split_at_checked(384) {
+        Some((front, rest)) => is_block(front, first) && is_block(rest, second),
+        None => false,
+    }
+}
+
+/// The file has these two blocks.
+fn has_blocks(
+    rt: &(impl Files + Alloc),
+    path: &str,
+    first: [u8; 16],
+    second: [u8; 16],
+) -> io::Result<bool> {
+    let bytes = fs::read(rt, path)?;
+    Ok(are_blocks(bytes.as_slice(), first, second))
+}
+
+#[test]
+fn blocks_are_appended(rt: HostRuntime) -> Result<(), Fail> {
+    let _ = fs::remove_file(&rt, "two");
+    ends(
+        &rt,
+        rt.alloc(),
+        &["-t", "0", "--initctl", "two", "q"],
+        0,
+        "",
+    )?;
+    assert!(rt; fs::metadata(&rt, "two")?.len() == 384);
+    ends(&rt, rt.alloc(), &["--initctl=two", "q"], 0, "")?;
+    assert!(rt; has_blocks(&rt, "two", AT_ONCE, BY_DEFAULT)?);
+    fs::remove_file(&rt, "two")?;
+    Ok(())
+}
+
+/// Lines whose channel can't be appended to, and what is reported.
+const WRITE_FAULTS: &[Row] = &[
+    (
+        &["--initctl", ".", "q"],
+        4,
+        "telinit: cannot append to .: it is no plain file
+telinit: see that it is a file that you may write, in a folder that is there, with room on its disk
+",
+    ),
+    (
+        &["--initctl", "/dev/null", "q"],
+        4,
+        "telinit: cannot append to /dev/null: it is no plain file
+telinit: see that it is a file that you may write, in a folder that is there, with room on its disk
+",
+    ),
+    (
+        &["--initctl", "fifo", "q"],
+        4,
+        "telinit: cannot append to fifo: it is no plain file
+telinit: see that it is a file that you may write, in a folder that is there, with room on its disk
+",
+    ),
+    (
+        &["--initctl", "absent/initctl", "q"],
+        4,
+        "telinit: cannot append to absent/initctl: No such file or directory (os error 2)
+telinit: see that it is a file that you may write, in a folder that is there, with room on its disk
+",
+    ),
+];
+
+/// Makes a FIFO, which nobody reads.
+fn make_fifo(rt: &impl Processes, alloc: Global, path: &str) -> io::Result<()> {
+    Command::new(alloc, "mkfifo")?.arg(path)?.status(rt)?;
+    Ok(())
+}
+
+#[test]
+fn write_faults_are_reported(rt: HostRuntime) -> Result<(), Fail> {
+    let _ = fs::remove_file(&rt, "fifo");
+    make_fifo(&rt, rt.alloc(), "fifo")?;
+    all_end(&rt, rt.alloc(), WRITE_FAULTS)?;
+    assert!(rt; !fs::metadata(&rt, "fifo")?.is_file());
+    Ok(())
+}
+
+/// Why the words can't be had, and the status and the text of it.
+const UNREAD: &[(ErrorKind, u8, &str)] = &[
+    (
+        ErrorKind::OutOfMemory,
+        4,
+        "telinit: out of memory: nothing was written; free some memory and ask again\n",
+    ),
+    (ErrorKind::InvalidData, 1, USAGE_REPORT),
+];
+
+fn is_unread(rt: &impl Abort, alloc: Global, kind: ErrorKind, status: u8, report: &str) {
+    let error = io::Error::from(kind);
+    let mut err: Vec<u8> = Vec::new(alloc);
+    let ended = report_unread_words("telinit", USAGE, &error, &mut err);
+    assert!(rt;
+        (ended, err.as_slice(), unread_status(&error)) == (status, report.as_bytes(), status)
+    );
+}
+
+#[test]
+fn unread_words_are_reported(rt: HostRuntime) {
+    for (kind, status, report) in UNREAD {
+        is_unread(&rt, rt.alloc(), *kind, *status, report);
+    }
+}
+
+/// A line, and the seconds, the path and the sign that are read of it.
+const LINES: &[(&[&str], u16, &str, &str)] = &[
+    (&["q"], 5, "initctl", "q"),
+    (&["-t", "0", "3"], 0, "initctl", "3"),
+    (&["-t3600", "S"], 3600, "initctl", "S"),
+    (&["33", "--initctl", "p", "-t", "0007"], 7, "p", "33"),
+];
+
+fn is_read(rt: &impl Abort, words: &Words, secs: u16, path: &str, sign: &str) {
+    assert!(rt; (words.secs, words.path.as_str(), words.sign.as_str()) == (secs, path, sign));
+}
+
+fn line_is_read(
+    rt: &impl Abort,
+    alloc: Global,
+    line: &[&str],
+    secs: u16,
+    path: &str,
+    sign: &str,
+) -> Result<(), Fail> {
+    let words = read_words(alloc, words_of(alloc, line)?)?;
+    is_read(rt, &words, secs, path, sign);
+    Ok(())
+}
+
+fn line_is_refused(rt: &impl Abort, alloc: Global, line: &[&str]) -> Result<(), Fail> {
+    let fault = read_words(alloc, words_of(alloc, line)?).err();
+    assert!(rt; fault == Some(WordFault::Usage));
+    Ok(())
+}
+
+#[test]
+fn words_are_read(rt: HostRuntime) -> Result<(), Fail> {
+    for (line, secs, path, sign) in LINES {
+        line_is_read(&rt, rt.alloc(), line, *secs, path, sign)?;
+    }
+    line_is_refused(&rt, rt.alloc(), &["-t", "3601", "q"])
+}
+
+const SIGNS: &[(&str, bool)] = &[
+    ("q", true),
+    ("Q", true),
+    ("0", true),
+    ("a", true),
+    ("d", false),
+    ("", false),
+    ("qq", false),
+];
+
+fn is_sign(rt: &impl Abort, alloc: Global, sign: String, is_one: bool) {
+    let words = Words {
+        secs: 5,
+        path: String::new(alloc),
+        sign,
+    };
+    assert!(rt; frame_of(&words).is_some() == is_one);
+}
+
+#[test]
+fn signs_are_one_character(rt: HostRuntime) -> Result<(), Fail> {
+    for (sign, is_one) in SIGNS {
+        is_sign(
+            &rt,
+            rt.alloc(),
+            String::from_str(rt.alloc(), sign)?,
+            *is_one,
+        );
+    }
+    Ok(())
+}

@@ -1,0 +1,155 @@
+use crate::texts::{first_line, has_lines, holds};
+use init_trace::{HappeningIn, ReadFault, print_table};
+use std::alloc::Global;
+use std::process::Abort;
+
+/// Texts of traces, and texts that are none with the number of the line at which no happening begins.
+const TEXTS: &[(&str, u64)] = &[
+    ("", 0),
+    (
+        "birth r 0\nbirth r 4294967295\nnobirth r\ndeath 7\nstill r\nnolook r\nhit r\nmiss r\ntold r\n",
+        0,
+    ),
+    (
+        "reaped r 7 exit 0\nreaped r 7 exit 255\nreaped r 7 killed\nnudge\nnotread\n",
+        0,
+    ),
+    ("clock 0\nclock 18446744073709551615\n", 0),
+    (
+        "enter sysinit 0\nenter boot 5\nenter S 3600\nenter 9 1\nsettle S\nsettle 0\ncall A\ncall C\n",
+        0,
+    ),
+    (
+        "ask abcd start\nask r look\nask r term\nask r kill\nhold r\npower fail\npower failnow\npower ok\n",
+        0,
+    ),
+    (
+        "got level 3 3600\ngot call B\ngot reload\ngot reexec\ngot power ok\ngot nothing 1\ngot nothing 4\n",
+        0,
+    ),
+    (
+        "handed whole\nhanded cut 20\nhanded older 18446744073709551615\nhanded none\n",
+        0,
+    ),
+    ("use 0\nuse 2\na:3:once:x\nb:1:respawn:y\nnudge\n", 0),
+    // No last newline, and a line of no byte.
+    ("nudge", 1),
+    ("nudge\nnudge\nnudge", 3),
+    ("use 2\na:3:once:x\nb:1:once:y", 1),
+    ("\n", 1),
+    ("nudge\n\nnudge\n", 2),
+    // Blanks, tabs and bytes that no line has.
+    ("nudge \n", 1),
+    (" nudge\n", 1),
+    ("told  r\n", 1),
+    ("told\tr\n", 1),
+    ("birth r  7\n", 1),
+    ("nudge\r\n", 1),
+    ("told r\0\n", 1),
+    // Numbers with a sign or a zero in front, and past their range.
+    ("death 07\n", 1),
+    ("death +7\n", 1),
+    ("birth r 4294967296\n", 1),
+    ("reaped r 7 exit 256\n", 1),
+    ("clock 18446744073709551616\n", 1),
+    ("enter S 3601\n", 1),
+    ("got level 3 3601\n", 1),
+    ("got nothing 0\n", 1),
+    ("got nothing 5\n", 1),
+    // Words that are none, too few or too many.
+    ("death\n", 1),
+    ("told\n", 1),
+    ("told toolong\n", 1),
+    ("told r r\n", 1),
+    ("told #a\n", 1),
+    ("enter s 5\n", 1),
+    ("settle sysinit\n", 1),
+    ("call a\n", 1),
+    ("call D\n", 1),
+    ("ask r stop\n", 1),
+    ("power fine\n", 1),
+    ("reaped r 7 exit\n", 1),
+    ("reaped r 7 killed 9\n", 1),
+    ("reaped r 7 exit 0 0\n", 1),
+    ("handed cut\n", 1),
+    ("Nudge\n", 1),
+    ("nudge\nbye\n", 2),
+    // Tables with a line too few, an entry that is not in its written form, or too large a number of entries.
+    ("use\n", 1),
+    ("use 2\na:3:once:x\n", 1),
+    ("nudge\nuse 2\na:3:once:x\na:3:once:y\n", 2),
+    ("use 1\na:33:once:x\nnudge\n", 1),
+    ("use 1\na:s:once:x\n", 1),
+    ("use 1\na:3:ONCE:x\n", 1),
+    ("use 1\n#\n", 1),
+    ("use 513\n", 1),
+    ("use 1\na:3:once:x\nb:3:once:y\n", 3),
+];
+
+/// The trace prints as the text again.
+fn is_printed(alloc: Global, trace: &[HappeningIn<Global>], text: &str) -> bool {
+    match init_trace::print(alloc, trace) {
+        Ok(again) => again.as_slice() == text.as_bytes(),
+        Err(_) => false,
+    }
+}
+
+/// The number of the line at which the text is no trace's, 0 where it is one's, which is printed again.
+fn fault_in(alloc: Global, text: &str) -> Option<u64> {
+    match init_trace::read(alloc, text.as_bytes()) {
+        Ok(trace) if is_printed(alloc, &trace, text) => Some(0),
+        Err(ReadFault::Line(number)) => Some(number),
+        _ => None,
+    }
+}
+
+fn are_read(rt: &impl Abort, alloc: Global, rows: &[(&str, u64)]) {
+    for (text, fault) in rows {
+        holds(rt, fault_in(alloc, text) == Some(*fault), text);
+    }
+}
+
+#[test]
+fn traces_are_read(rt: HostRuntime) {
+    are_read(&rt, rt.alloc(), TEXTS);
+}
+
+fn print_line(alloc: Global, line: &str) -> Option<Vec<u8>> {
+    let happening = first_line(alloc, line)?;
+    init_trace::print_one(alloc, &happening).ok()
+}
+
+fn is_line_printed(alloc: Global, line: &str, want: &[u8]) -> bool {
+    match print_line(alloc, line) {
+        Some(text) => text.as_slice() == want,
+        None => false,
+    }
+}
+
+#[test]
+fn a_happening_is_printed(rt: HostRuntime) {
+    assert!(rt; is_line_printed(rt.alloc(), "told r", b"told r\n"));
+}
+
+fn print_table_of(alloc: Global, text: &[u8]) -> Option<Vec<u8>> {
+    let (table, _) = inittab_text::read(alloc, text).ok()?;
+    print_table(alloc, &table).ok()
+}
+
+fn is_table_printed(alloc: Global, text: &[u8], row: &str) -> bool {
+    match print_table_of(alloc, text) {
+        Some(text) => has_lines(alloc, &text, row),
+        None => false,
+    }
+}
+
+#[test]
+fn tables_are_printed(rt: HostRuntime) {
+    assert!(rt;
+        is_table_printed(
+            rt.alloc(),
+            b"r::respawn:getty\nbad\nk:S:off:\n",
+            "use 2 / r:0123456789:respawn:getty / k:S:off:"
+        )
+    );
+}

@@ -1,0 +1,335 @@
+use crate::verdict_texts::{Change, judged};
+use std::alloc::Global;
+use std::process::Abort;
+use std::test::Fail;
+
+/// Traces, where ` / ` stands for line ends, and their verdicts: `.` where it is lawful, else the place of the first
+/// breach from 0 and its law.
+const VERDICTS: &[(&str, &str)] = &[
+    ("", "."),
+    ("settle 3", "0:5"),
+    ("birth a 1", "0:2"),
+    ("use 1 / a:3:once:x / hold a", "1:6"),
+    ("use 1 / a:3:respawn:x / enter 3 5 / ask a kill", "2:7"),
+    (
+        "use 1 / r:S:respawn:x / enter S 5 / ask r start / ask r start / ask r start / ask r \
+         start / ask r start / ask r start / ask r start / ask r start / ask r start / ask r \
+         start / ask r start",
+        "12:6",
+    ),
+    (
+        "use 1 / a:3:respawn:x / enter 3 5 / birth a 1 / birth a 2",
+        "3:1",
+    ),
+    (
+        "use 1 / a:3:respawn:x / enter 3 5 / birth a 1 / birth b 2",
+        "3:2",
+    ),
+    (
+        "use 2 / w:3:wait:x / a:3:once:y / enter 3 5 / birth a 1",
+        "2:3",
+    ),
+    (
+        "use 2 / w:3:wait:x / a:3:once:y / enter 3 5 / ask w start / birth w 1 / told w / death 1 \
+         / reaped w 1 killed / birth a 2",
+        "7:3",
+    ),
+    (
+        "use 2 / w:3:wait:x / a:3:once:y / enter 3 5 / ask w start / birth w 1 / told w / death 1 \
+         / reaped w 1 killed / told w / birth a 1",
+        ".",
+    ),
+    (
+        "use 1 / a:3:once:x / enter 3 5 / ask a start / birth a 1 / enter 1 5 / settle 1",
+        "5:5",
+    ),
+    ("use 1 / a:3:respawn:x / enter 3 5 / settle 3", "2:5"),
+    (
+        "use 1 / a:3:respawn:x / enter 3 5 / ask a start / birth a 1 / settle 3 / enter 4 5 / \
+         settle 3",
+        "6:5",
+    ),
+    (
+        "use 1 / a:3:respawn:x / enter 3 5 / ask a start / nobirth a / told a / ask a start / \
+         nobirth a / told a / ask a start / nobirth a / told a / ask a start / nobirth a / told a \
+         / ask a start / nobirth a / told a / ask a start / nobirth a / told a / ask a start / \
+         nobirth a / told a / ask a start / nobirth a / told a / ask a start / nobirth a / told a \
+         / ask a start / nobirth a / told a / hold a / settle 3",
+        ".",
+    ),
+    (
+        "use 1 / a:3:respawn:x / enter 3 5 / ask a start / nobirth a / told a / ask a start / \
+         nobirth a / told a / ask a start / nobirth a / told a / ask a start / nobirth a / told a \
+         / ask a start / nobirth a / told a / ask a start / nobirth a / told a / ask a start / \
+         nobirth a / told a / ask a start / nobirth a / told a / ask a start / nobirth a / told a \
+         / hold a",
+        "29:6",
+    ),
+    (
+        "use 1 / a:3:respawn:x / enter 3 5 / ask a start / nobirth a / told a / ask a start / \
+         nobirth a / told a / ask a start / nobirth a / told a / ask a start / nobirth a / told a \
+         / ask a start / nobirth a / told a / ask a start / nobirth a / told a / ask a start / \
+         nobirth a / told a / ask a start / nobirth a / told a / ask a start / nobirth a / told a \
+         / ask a start / nobirth a / told a / clock 120 / ask a start",
+        ".",
+    ),
+    (
+        "use 1 / a:3:respawn:x / enter 3 5 / ask a start / nobirth a / told a / ask a start / \
+         nobirth a / told a / ask a start / nobirth a / told a / ask a start / nobirth a / told a \
+         / ask a start / nobirth a / told a / ask a start / nobirth a / told a / ask a start / \
+         nobirth a / told a / ask a start / nobirth a / told a / ask a start / nobirth a / told a \
+         / ask a start / nobirth a / told a / clock 119 / ask a start",
+        "33:6",
+    ),
+    (
+        "use 1 / a:3:respawn:x / enter 3 5 / ask a start / nobirth a / told a / ask a start / \
+         nobirth a / told a / ask a start / nobirth a / told a / ask a start / nobirth a / told a \
+         / ask a start / nobirth a / told a / ask a start / nobirth a / told a / ask a start / \
+         nobirth a / told a / ask a start / nobirth a / told a / ask a start / nobirth a / told a \
+         / ask a start / nobirth a / told a / hold a / clock 299 / ask a start",
+        "34:6",
+    ),
+    (
+        "use 1 / a:3:respawn:x / enter 3 5 / ask a start / nobirth a / told a / ask a start / \
+         nobirth a / told a / ask a start / nobirth a / told a / ask a start / nobirth a / told a \
+         / ask a start / nobirth a / told a / ask a start / nobirth a / told a / ask a start / \
+         nobirth a / told a / ask a start / nobirth a / told a / ask a start / nobirth a / told a \
+         / ask a start / nobirth a / told a / hold a / enter 3 5 / ask a start",
+        ".",
+    ),
+    (
+        "use 1 / a:3:once:x / enter 3 5 / ask a start / birth a 1 / told a / ask a term",
+        "5:7",
+    ),
+    (
+        "use 1 / a:3:once:x / enter 3 5 / birth a 1 / enter 1 5 / ask a term / hit a / ask a kill",
+        "6:7",
+    ),
+    (
+        "use 1 / a:3:once:x / enter 3 0 / birth a 1 / enter 1 0 / ask a term / hit a / told a / \
+         ask a kill",
+        ".",
+    ),
+    (
+        "use 1 / a:3:once:x / enter 3 5 / birth a 1 / enter 1 5 / ask a term / hit a / told a / \
+         clock 4 / ask a kill",
+        "8:7",
+    ),
+    (
+        "use 1 / a:3:once:x / enter 3 5 / birth a 1 / enter 1 5 / ask a term / hit a / told a / \
+         clock 5 / ask a kill",
+        ".",
+    ),
+    (
+        "use 1 / a:13:once:x / enter 3 5 / birth a 1 / enter 2 5 / ask a term / hit a / told a / \
+         clock 9 / enter 1 5 / enter 2 5 / ask a kill",
+        "10:7",
+    ),
+    (
+        "use 1 / a:13:once:x / enter 3 5 / birth a 1 / enter 2 5 / ask a term / hit a / told a / \
+         clock 9 / enter 4 5 / enter 2 5 / ask a kill",
+        ".",
+    ),
+    (
+        "use 1 / a:3:once:x / enter 3 5 / birth a 1 / enter 1 5 / ask a look / hit a / told a / \
+         clock 9 / ask a kill",
+        "8:7",
+    ),
+    ("birth a 1 / use 1 / a:3:once:x", "0:2"),
+    (
+        "use 0 / enter sysinit 5 / nudge / told x / death 4 / reaped y 4 killed / still z / \
+         handed older 4 / got nothing 2 / clock 7",
+        ".",
+    ),
+    (
+        "use 2 / a:3:once:x / b:1:once:y / enter 3 5 / ask a start / birth a 10 / told a / enter \
+         1 5 / ask b start / birth b 11",
+        "7:4",
+    ),
+];
+
+/// Worked traces, and the verdicts on them with each of their lines dropped, doubled, and exchanged with the next one
+/// in turn; `?` and the number of a line where no happening begins there.
+const CHANGED: &[(&str, &str, &str, &str)] = &[
+    // Nothing to do.
+    (
+        "use 0 / enter sysinit 5 / enter S 5 / settle S",
+        ". . 2:5 .",
+        ". . . .",
+        ". 3:5 2:5",
+    ),
+    // A waited entry ends before the next starts.
+    (
+        "use 3 / id:3:initdefault: / w:3:wait:prep / r:3:respawn:serv / enter sysinit 5 / enter \
+         boot 5 / enter 3 5 / ask w start / birth w 10 / told w / nudge / ask w look / death 10 / \
+         reaped w 10 exit 0 / told w / ask r start / birth r 11 / told r / settle 3",
+        "?1 ?1 ?1 ?1 . . 4:2 12:3 . . . . . 12:3 12:3 . 14:5 . .",
+        "?1 ?1 ?1 ?5 . . . . 6:1 . . . . . . . 14:1 . .",
+        "?1 . . ?1 . 5:2 13:3 . . . . . . 13:3 . . . .",
+    ),
+    // A failed start is over.
+    (
+        "use 3 / id:3:initdefault: / w:3:wait:prep / r:3:respawn:serv / enter sysinit 5 / enter \
+         boot 5 / enter 3 5 / ask w start / nobirth w / told w / ask r start",
+        "?1 ?1 ?1 ?1 . . . . . . .",
+        "?1 ?1 ?1 ?5 . . . . . . .",
+        "?1 . . ?1 . . . . . .",
+    ),
+    // TERM, and KILL after the grace.
+    (
+        "use 2 / id:3:initdefault: / r:3:respawn:serv / enter sysinit 5 / enter boot 5 / enter 3 \
+         5 / ask r start / got level 1 5 / birth r 10 / told r / notread / enter 1 5 / ask r term \
+         / hit r / clock 100 / told r / clock 104 / clock 105 / ask r kill",
+        "?1 ?1 ?1 . . 5:2 . . 9:7 . . 9:7 15:7 15:7 . 15:7 . 15:7 .",
+        "?1 ?1 ?4 . . . . . 7:1 . . . . . . . . . .",
+        "?1 . ?1 . 6:2 . . . . . . 9:7 16:7 . . 16:7 . 15:7",
+    ),
+    // The clock is set back.
+    (
+        "use 2 / id:3:initdefault: / r:3:respawn:serv / enter sysinit 5 / enter boot 5 / enter 3 \
+         5 / ask r start / got level 1 5 / birth r 10 / told r / notread / enter 1 5 / ask r term \
+         / hit r / clock 100 / clock 40 / told r / clock 104 / clock 105 / ask r kill",
+        "?1 ?1 ?1 . . 5:2 . . 9:7 . . 9:7 16:7 16:7 . . 16:7 . 16:7 .",
+        "?1 ?1 ?4 . . . . . 7:1 . . . . . . . . . . .",
+        "?1 . ?1 . 6:2 . . . . . . 9:7 17:7 . . . 17:7 . 16:7",
+    ),
+    // The respawn limit.
+    (
+        "use 1 / r:S:respawn:x / enter sysinit 5 / enter S 5 / ask r start / nobirth r / told r / \
+         ask r start / nobirth r / told r / ask r start / nobirth r / told r / ask r start / \
+         nobirth r / told r / ask r start / nobirth r / told r / ask r start / nobirth r / told r \
+         / ask r start / nobirth r / told r / ask r start / nobirth r / told r / ask r start / \
+         nobirth r / told r / ask r start / birth r 7 / told r / settle S / clock 119 / nudge / \
+         ask r look / death 7 / reaped r 7 exit 1 / told r / hold r / clock 418 / clock 419 / ask \
+         r start",
+        "?1 ?1 . 30:2 39:6 . . 39:6 . . 39:6 . . 39:6 . . 39:6 . . 39:6 . . 39:6 . . 39:6 . . \
+         39:6 . . 39:6 32:5 . . . . . . . . . . 42:6 .",
+        "?1 ?3 . . 31:6 . . 31:6 . . 31:6 . . 31:6 . . 31:6 . . 31:6 . . 31:6 . . 31:6 . . 31:6 . \
+         . 31:6 32:1 . . . . . . . . 41:6 . . .",
+        "?1 ?1 31:2 40:6 . . . . . . . . . . . . . . . . . . . . . . . . . . . . . . . . . . . . \
+         . 41:6 . 42:6",
+    ),
+    // One number for two children in turn.
+    (
+        "use 3 / id:3:initdefault: / a:3:respawn:x / b:3:once:y / enter sysinit 5 / enter boot 5 \
+         / enter 3 5 / ask a start / ask b start / birth a 700 / told a / nudge / ask a look / \
+         death 700 / reaped a 700 exit 0 / birth b 700 / told b / told a / ask a start",
+        "?1 ?1 ?1 ?1 . . 5:2 . . . . . . . . . . . .",
+        "?1 ?1 ?1 ?5 . . . . . 7:1 . . . . . 13:1 . . .",
+        "?1 . . ?1 . 6:2 . . . . . . . . . . . .",
+    ),
+    // A table without the child's entry.
+    (
+        "use 1 / r:S:respawn:x / enter sysinit 5 / enter S 5 / ask r start / birth r 7 / told r / \
+         settle S / got reload / use 0 / ask r term / hit r / told r / nudge / ask r look / death \
+         7 / reaped r 7 killed / told r / settle S",
+        "?1 ?1 . 3:2 . 5:5 . . . 8:7 . . . . . . 16:5 . .",
+        "?1 ?3 . . . 5:1 . . . . . . . . . . . . .",
+        "?1 ?1 4:2 . . . . . . 8:7 . . . . . . . .",
+    ),
+    // A table with another action for it.
+    (
+        "use 1 / r:S:respawn:x / enter sysinit 5 / enter S 5 / ask r start / birth r 7 / told r / \
+         settle S / got reload / use 1 / r:S:once:x / ask r term",
+        "?1 ?1 . 3:2 . 5:5 . . . ?10 ?10 .",
+        "?1 ?3 . . . 5:1 . . . ?10 ?12 .",
+        "?1 ?1 4:2 . . . . . ?9 ?10 ?10",
+    ),
+    // From single user to a level, by boot.
+    (
+        "use 3 / id:S:initdefault: / b::bootwait:prep / r:2:respawn:serv / enter sysinit 5 / \
+         enter S 5 / settle S / got level 2 5 / notread / enter boot 5 / ask b start / birth b 5 \
+         / told b / nudge / ask b look / death 5 / reaped b 5 exit 0 / told b / enter 2 5 / ask r \
+         start / birth r 6 / told r / settle 2 / got level 2 5",
+        "?1 ?1 ?1 ?1 . 2:5 . . . 7:2 . . . . . . 16:3 16:3 16:2 . 18:5 . . .",
+        "?1 ?1 ?1 ?5 . . . . . . . 9:1 . . . . . . . . 18:1 . . .",
+        "?1 . . ?1 3:5 2:5 . . . . . . . . . . 17:3 . . . . . .",
+    ),
+    // News of the power.
+    (
+        "use 3 / id:3:initdefault: / pw:3:powerwait:p / r:3:respawn:s / enter sysinit 5 / enter \
+         boot 5 / enter 3 5 / ask r start / birth r 4 / told r / settle 3 / got power fail / \
+         power fail / ask pw start / birth pw 5 / told pw / nudge / ask pw look / ask r look",
+        "?1 ?1 ?1 ?1 . . 4:2 . 6:5 . . . . . . . . . .",
+        "?1 ?1 ?1 ?5 . . . . 6:1 . . . . . 12:1 . . . .",
+        "?1 . . ?1 . 5:2 . . . . . . . . . . . .",
+    ),
+    // An ondemand entry is called.
+    (
+        "use 2 / id:3:initdefault: / d:A:ondemand:x / enter sysinit 5 / enter boot 5 / enter 3 5 \
+         / settle 3 / got call A / call A / ask d start / birth d 5 / told d / nudge / ask d look \
+         / death 5 / reaped d 5 exit 0 / told d",
+        "?1 ?1 ?1 . . 3:5 . . . . . . . . . . .",
+        "?1 ?1 ?4 . . . . . . . 9:1 . . . . . .",
+        "?1 . ?1 . 4:5 3:5 . . . . . . . . . .",
+    ),
+    // The stages come in turn.
+    (
+        "use 4 / id:3:initdefault: / s::sysinit:a / b::boot:b / o:3:once:c / enter sysinit 5 / \
+         ask s start / birth s 1 / told s / nudge / ask s look / death 1 / reaped s 1 exit 0 / \
+         told s / enter boot 5 / ask b start / birth b 2 / told b / enter 3 5 / ask o start / \
+         nobirth o / told o / settle 3",
+        "?1 ?1 ?1 ?1 ?1 2:2 . . . . . . 11:3 11:3 11:2 . . . 17:5 17:5 . . .",
+        "?1 ?1 ?1 ?1 ?6 . . 4:1 . . . . . . . . 13:1 . . . . . .",
+        "?1 . . . ?1 . . . . . . . 12:3 . . . . . 18:5 . . .",
+    ),
+    // A child is born while an excluded one is unreaped.
+    (
+        "use 2 / a:3:once:x / b:1:once:y / enter 3 5 / ask a start / birth a 10 / told a / enter \
+         1 5 / ask b start / birth b 11",
+        "?1 ?1 ?1 2:2 6:4 . 6:4 6:2 6:4 .",
+        "?1 ?1 ?4 8:4 8:4 4:1 8:4 8:4 8:4 7:4",
+        "?1 7:4 ?1 7:4 7:4 7:4 7:4 7:4 6:4",
+    ),
+];
+
+fn is_judged(rt: &impl Abort, alloc: Global, trace: &str, want: &str) -> Result<(), Fail> {
+    let verdict = judged(alloc, trace, 0, Change::None)?;
+    assert!(rt; verdict.as_str() == want, "at {trace:?}");
+    Ok(())
+}
+
+#[test]
+fn traces_are_judged(rt: HostRuntime) -> Result<(), Fail> {
+    for (trace, want) in VERDICTS {
+        is_judged(&rt, rt.alloc(), trace, want)?;
+    }
+    Ok(())
+}
+
+fn is_changed(
+    rt: &impl Abort,
+    alloc: Global,
+    trace: &str,
+    place: usize,
+    change: Change,
+    want: &str,
+) -> Result<(), Fail> {
+    let verdict = judged(alloc, trace, place, change)?;
+    assert!(rt; verdict.as_str() == want, "line {place} of {trace:?}");
+    Ok(())
+}
+
+/// Each line changed so in turn gives its verdict.
+fn are_changed(
+    rt: &impl Abort,
+    alloc: Global,
+    trace: &str,
+    change: Change,
+    verdicts: &str,
+) -> Result<(), Fail> {
+    for (place, want) in verdicts.split(' ').enumerate() {
+        is_changed(rt, alloc, trace, place, change, want)?;
+    }
+    Ok(())
+}
+
+#[test]
+fn changed_traces_are_judged(rt: HostRuntime) -> Result<(), Fail> {
+    for (trace, dropped, doubled, exchanged) in CHANGED {
+        are_changed(&rt, rt.alloc(), trace, Change::Dropped, dropped)?;
+        are_changed(&rt, rt.alloc(), trace, Change::Doubled, doubled)?;
+        are_changed(&rt, rt.alloc(), trace, Change::Exchanged, exchanged)?;
+    }
+    Ok(())
+}

@@ -1,0 +1,139 @@
+//! A log that fails at each place: it has a prefix of the trace, and init goes on.
+
+use crate::gifts::give_all;
+use crate::runs::core_of;
+use child_host::Host;
+use init_trace::HappeningIn;
+use level_core::Core;
+use linked_list_allocator::LocalHeap;
+use memory_host::MemoryHost;
+use std::alloc::Global;
+use supervisor::Served;
+use test_support::Slow;
+use trace_log::{ListLog, Log, StreamLog};
+
+const INITTAB: &str = "id:3:initdefault:|r:3:respawn:serv";
+
+const GIFTS: &str =
+    "start birth 10 / clock 100 / clock 101 / clock 106 / clock 107 / bytes / bytes 1 / \
+     table id:3:initdefault:|r:3:respawn:serv / signal hit / signal hit / look still / look nolook / look killed";
+
+const TRACE: &[u8] =
+    b"clock 100\nnudge\nenter sysinit 5\nenter boot 5\nenter 3 5\nask r start\nbirth r 10\ntold r\nsettle 3\n\
+clock 101\ngot level 1 5\nnudge\nuse 2\nid:3:initdefault:\nr:3:respawn:serv\nenter 1 5\nask r term\nhit r\ntold r\n\
+ask r look\nstill r\ntold r\nclock 106\nnudge\nask r kill\nhit r\ntold r\nask r look\nnolook r\ntold r\n\
+clock 107\nnudge\nask r look\ndeath 10\nreaped r 10 killed\ntold r\nsettle 1\n";
+
+/// How many calls are told.
+fn made(host: &MemoryHost) -> usize {
+    match host.calls() {
+        Some(calls) => calls.len(),
+        None => 0,
+    }
+}
+
+fn served_by<L: Log>(
+    alloc: Global,
+    core: &mut Core,
+    host: &mut MemoryHost,
+    log: &mut L,
+) -> Option<Served> {
+    let served = supervisor::serve(alloc, core, host, log, 9, true);
+    if host.faults() != 1 || made(host) != 31 {
+        return None;
+    }
+    Some(served)
+}
+
+fn served_over<L: Log>(alloc: Global, host: &mut MemoryHost, log: &mut L) -> Option<Served> {
+    let Some(mut core) = core_of(alloc, alloc, INITTAB) else {
+        return None;
+    };
+    served_by(alloc, &mut core, host, log)
+}
+
+/// Makes the run, of four turns, with the log.
+fn served<L: Log>(alloc: Global, log: &mut L) -> Option<Served> {
+    let mut host = MemoryHost::new(alloc);
+    if !give_all(alloc, alloc, &mut host, GIFTS) {
+        return None;
+    }
+    served_over(alloc, &mut host, log)
+}
+
+/// How a run ends that the log took or not.
+fn ended(logged: bool) -> Served {
+    Served {
+        turns: 4,
+        drained: true,
+        logged,
+    }
+}
+
+/// The writer took what it has room for.
+fn is_taken(alloc: Global, log: &mut StreamLog<Slow>, room: usize) -> bool {
+    let Some(served) = served(alloc, log) else {
+        return false;
+    };
+    served == ended(room >= TRACE.len())
+        && log.writer().taken.as_slice() == &TRACE[..room.min(TRACE.len())]
+}
+
+fn is_streamed(alloc: Global, room: usize, fails: bool) -> bool {
+    let mut log = StreamLog::new(alloc, Slow::new(alloc, room, fails, false));
+    is_taken(alloc, &mut log, room)
+}
+
+#[test]
+fn a_writer_that_is_full_ends_the_log(rt: HostRuntime) {
+    for room in 0..=TRACE.len() {
+        assert!(rt; is_streamed(rt.alloc(), room, room % 2 == 0), "at {room}");
+    }
+}
+
+/// The list is a prefix of the trace, and the run ended so.
+fn is_prefix<'a>(alloc: Global, list: &[HappeningIn<&'a LocalHeap>], served: Served) -> bool {
+    match &init_trace::print(alloc, list) {
+        Ok(text) => {
+            TRACE.starts_with(text.as_slice()) && served == ended(text.len() == TRACE.len())
+        }
+        Err(_) => false,
+    }
+}
+
+fn is_listed_in<'a>(alloc: Global, log: &mut ListLog<&'a LocalHeap>) -> Option<bool> {
+    let Some(served) = served(alloc, log) else {
+        return None;
+    };
+    if !is_prefix(alloc, log.list(), served) {
+        return None;
+    }
+    Some(served.logged)
+}
+
+fn is_listed_over(alloc: Global, heap: &LocalHeap) -> Option<bool> {
+    let mut log = ListLog::new(heap);
+    is_listed_in(alloc, &mut log)
+}
+
+/// Whether the list of a log on a heap of the given number of bytes is all of the trace; `None` where it is no prefix
+/// of it.
+fn is_listed(alloc: Global, room: usize) -> Option<bool> {
+    match &LocalHeap::new(alloc, room) {
+        Ok(heap) => is_listed_over(alloc, heap),
+        Err(_) => None,
+    }
+}
+
+#[test]
+fn a_list_that_cannot_grow_ends_the_log(rt: HostRuntime) {
+    let mut whole = 0u32;
+    for step in 1..60usize {
+        let listed = is_listed(rt.alloc(), 1024 * step);
+        assert!(rt; listed.is_some(), "at {step}");
+        if listed == Some(true) {
+            whole = whole.saturating_add(1);
+        }
+    }
+    assert!(rt; whole > 0 && whole < 59);
+}

@@ -1,0 +1,350 @@
+//! Lack of memory within a turn.
+
+use crate::gifts::give_all;
+use crate::runs::{Row, core_of};
+use crate::trials::{Trial, passes_over};
+use child_host::Call;
+use level_core::Core;
+use linked_list_allocator::LocalHeap;
+use memory_host::MemoryHost;
+use std::alloc::{Allocator, Global};
+use std::test::Fail;
+use trace_log::ListLog;
+
+/// Takes what a heap has left in blocks of one size, up to 64 of them.
+fn take_blocks<'a>(
+    heap: &'a LocalHeap,
+    fillers: &mut Vec<Vec<u8, &'a LocalHeap>>,
+    size: usize,
+) -> bool {
+    for _ in 0..64 {
+        let Ok(filler) = Vec::with_capacity(heap, size) else {
+            return true;
+        };
+        if fillers.push(filler).is_err() {
+            return false;
+        }
+    }
+    true
+}
+
+fn fillers_of<'a>(alloc: Global, heap: &'a LocalHeap) -> Option<Vec<Vec<u8, &'a LocalHeap>>> {
+    let mut fillers = Vec::new(alloc);
+    for size in [4096usize, 256, 64, 16] {
+        if !take_blocks(heap, &mut fillers, size) {
+            return None;
+        }
+    }
+    Some(fillers)
+}
+
+/// Takes what a heap has left but the given number of bytes, in blocks of falling sizes.
+fn fill<'a>(
+    alloc: Global,
+    heap: &'a LocalHeap,
+    room: usize,
+) -> Option<Vec<Vec<u8, &'a LocalHeap>>> {
+    let Ok(_kept) = Vec::<u8, &LocalHeap>::with_capacity(heap, room) else {
+        return None;
+    };
+    fillers_of(alloc, heap)
+}
+
+/// A run whose host can tell none of its calls.
+const UNTOLD: &Row = &Row {
+    inittab: "id:3:initdefault:|r:3:respawn:serv",
+    gifts: "start birth 10 / bytes / bytes 1 / table r:3:respawn:serv / look still / look killed",
+    limit: (9, true),
+    ended: (3, true),
+    faults: 0,
+    trace: "clock 0 / nudge / enter sysinit 5 / enter boot 5 / enter 3 5 / ask r start / birth r 10 / told r / settle 3 / \
+            clock 0 / got level 1 5 / nudge / use 1 / r:3:respawn:serv / enter 1 5 / ask r term / hit r / told r / \
+            ask r look / still r / told r / \
+            clock 0 / nudge / ask r look / death 10 / reaped r 10 killed / told r / settle 1",
+};
+
+/// The run is as the row says where the heap has no room left.
+fn is_run_untold<'a>(
+    own: Global,
+    heap: &'a LocalHeap,
+    host: &mut MemoryHost<&'a LocalHeap>,
+) -> bool {
+    let Some(_fillers) = fill(own, heap, 0) else {
+        return false;
+    };
+    passes_over(own, host, UNTOLD.inittab, &Trial::Run(UNTOLD))
+}
+
+fn is_untold<'a>(own: Global, heap: &'a LocalHeap, host: &mut MemoryHost<&'a LocalHeap>) -> bool {
+    give_all(own, heap, host, UNTOLD.gifts)
+        && is_run_untold(own, heap, host)
+        && host.calls().is_none()
+}
+
+fn tells_nothing(own: Global, heap: &LocalHeap) -> bool {
+    let mut host = MemoryHost::new(heap);
+    is_untold(own, heap, &mut host)
+}
+
+#[test]
+fn a_host_without_room_to_tell_makes_no_difference(rt: HostRuntime) -> Result<(), Fail> {
+    let heap = LocalHeap::new(rt.alloc(), 16_384)?;
+    assert!(rt; tells_nothing(rt.alloc(), &heap));
+    Ok(())
+}
+
+/// The inittab that is read anew is longer than the first.
+const GIFTS: &str = "bytes q / table a:S:off:x|b:S:off:y|c:S:off:z|d:S:off:v|e:S:off:w";
+
+const READ: &[u8] =
+    b"clock 0\ngot reload\nnudge\nuse 5\na:S:off:x\nb:S:off:y\nc:S:off:z\nd:S:off:v\ne:S:off:w\nsettle S\n";
+
+const UNREAD: &[u8] = b"clock 0\ngot reload\nnudge\nnotread\n";
+
+/// The inittab was read.
+fn was_read(host: &MemoryHost) -> bool {
+    let Some(calls) = host.calls() else {
+        return false;
+    };
+    for call in calls {
+        if matches!(call, Call::ReadTable(Ok(_))) {
+            return true;
+        }
+    }
+    false
+}
+
+/// Makes a turn, and gives the text of its trace.
+fn turn_text<A: Allocator + Copy>(
+    own: Global,
+    alloc: A,
+    core: &mut Core<A>,
+    host: &mut MemoryHost,
+) -> Option<Vec<u8>> {
+    let mut log = ListLog::new(own);
+    supervisor::serve(alloc, core, host, &mut log, 1, false);
+    init_trace::print(own, log.list()).ok()
+}
+
+/// What became of a table that is read where there is little room.
+#[derive(PartialEq, Eq)]
+enum Reading {
+    /// There was no room for its text.
+    Unread,
+    /// It was read, and there was no room for the table, its copy or its records.
+    Refused,
+    Adopted,
+}
+
+fn reading_of(host: &MemoryHost, text: &[u8], entries: usize) -> Option<Reading> {
+    if text == READ && entries == 5 {
+        return Some(Reading::Adopted);
+    }
+    if text != UNREAD || entries != 1 {
+        return None;
+    }
+    if was_read(host) {
+        return Some(Reading::Refused);
+    }
+    Some(Reading::Unread)
+}
+
+/// Makes a turn with so much room left.
+fn text_in<'a>(
+    own: Global,
+    heap: &'a LocalHeap,
+    core: &mut Core<&'a LocalHeap>,
+    host: &mut MemoryHost,
+    room: usize,
+) -> Option<Vec<u8>> {
+    let Some(_fillers) = fill(own, heap, room) else {
+        return None;
+    };
+    turn_text(own, heap, core, host)
+}
+
+fn reading_in<'a>(
+    own: Global,
+    heap: &'a LocalHeap,
+    core: &mut Core<&'a LocalHeap>,
+    host: &mut MemoryHost,
+    room: usize,
+) -> Option<Reading> {
+    match &text_in(own, heap, core, host, room) {
+        Some(text) => reading_of(host, text.as_slice(), core.table().len()),
+        None => None,
+    }
+}
+
+/// Makes a turn, and gives the host what it is given after it.
+fn begins<A: Allocator + Copy>(
+    own: Global,
+    alloc: A,
+    core: &mut Core<A>,
+    host: &mut MemoryHost,
+    gifts: &str,
+) -> bool {
+    turn_text(own, alloc, core, host).is_some() && give_all(own, own, host, gifts)
+}
+
+/// Reads inittab again with so much room left.
+fn read_again<'a>(
+    own: Global,
+    heap: &'a LocalHeap,
+    core: &mut Core<&'a LocalHeap>,
+    room: usize,
+) -> Option<Reading> {
+    let mut host = MemoryHost::new(own);
+    if !begins(own, heap, core, &mut host, GIFTS) {
+        return None;
+    }
+    reading_in(own, heap, core, &mut host, room)
+}
+
+fn read_over(own: Global, heap: &LocalHeap, room: usize) -> Option<Reading> {
+    let Some(mut core) = core_of(own, heap, "a:S:off:x") else {
+        return None;
+    };
+    read_again(own, heap, &mut core, room)
+}
+
+fn read_in(own: Global, room: usize) -> Option<Reading> {
+    match &LocalHeap::new(own, 32_768) {
+        Ok(heap) => read_over(own, heap, room),
+        Err(_) => None,
+    }
+}
+
+#[test]
+fn a_table_without_room_is_not_read(rt: HostRuntime) {
+    let mut unread = 0u32;
+    let mut refused = 0u32;
+    let mut adopted = 0u32;
+    for step in 0..300usize {
+        match read_in(rt.alloc(), 32 * step) {
+            Some(Reading::Unread) => unread = unread.saturating_add(1),
+            Some(Reading::Refused) => refused = refused.saturating_add(1),
+            Some(Reading::Adopted) => adopted = adopted.saturating_add(1),
+            None => panic!(rt; "at {step}"),
+        }
+    }
+    assert!(rt; unread > 0 && refused > 3 && adopted > 0);
+}
+
+/// A turn that executes init anew, and one whose re-execution is refused.
+const HANDED: &[u8] = b"clock 0\ngot reexec\nnudge\nhanded whole\n";
+
+const NOT_HANDED: &[u8] = b"clock 0\ngot reexec\nnudge\nhanded none\n";
+
+/// A state text was carried.
+fn was_carried(host: &MemoryHost) -> bool {
+    let Some(calls) = host.calls() else {
+        return false;
+    };
+    for call in calls {
+        if matches!(call, Call::Carry(_, _)) {
+            return true;
+        }
+    }
+    false
+}
+
+/// What became of a re-execution where there is little room.
+#[derive(Clone, Copy, PartialEq, Eq)]
+enum HandOver {
+    /// There was no room for the state text.
+    Unmade,
+    /// It was carried, and there was no room to read it or to take it over.
+    Refused,
+    Taken,
+}
+
+fn hand_over_of(host: &MemoryHost, text: &[u8]) -> Option<HandOver> {
+    if text == HANDED {
+        return Some(HandOver::Taken);
+    }
+    if text != NOT_HANDED {
+        return None;
+    }
+    if was_carried(host) {
+        return Some(HandOver::Refused);
+    }
+    Some(HandOver::Unmade)
+}
+
+/// Executes init anew with so much room left.
+fn hand_over_in<'a>(
+    own: Global,
+    heap: &'a LocalHeap,
+    core: &mut Core<&'a LocalHeap>,
+    host: &mut MemoryHost,
+    room: usize,
+) -> Option<HandOver> {
+    match &text_in(own, heap, core, host, room) {
+        Some(text) => hand_over_of(host, text.as_slice()),
+        None => None,
+    }
+}
+
+/// With room again the core that went on is re-executed, with its table and its record.
+fn goes_on<A: Allocator + Copy>(
+    own: Global,
+    alloc: A,
+    core: &mut Core<A>,
+    host: &mut MemoryHost,
+) -> bool {
+    match &turn_text(own, alloc, core, host) {
+        Some(text) => {
+            text.as_slice() == HANDED && core.table().len() == 1 && core.slots().len() == 1
+        }
+        None => false,
+    }
+}
+
+/// Executes init anew with so much room left, and once more with all of it.
+fn hand_over_twice<'a>(
+    own: Global,
+    heap: &'a LocalHeap,
+    core: &mut Core<&'a LocalHeap>,
+    room: usize,
+) -> Option<HandOver> {
+    let mut host = MemoryHost::new(own);
+    if !begins(own, heap, core, &mut host, "bytes u / bytes / bytes u") {
+        return None;
+    }
+    let outcome = hand_over_in(own, heap, core, &mut host, room);
+    if !goes_on(own, heap, core, &mut host) {
+        return None;
+    }
+    outcome
+}
+
+fn hand_over_from(own: Global, heap: &LocalHeap, room: usize) -> Option<HandOver> {
+    let Some(mut core) = core_of(own, heap, "a:S:off:x") else {
+        return None;
+    };
+    hand_over_twice(own, heap, &mut core, room)
+}
+
+fn handed_in(own: Global, room: usize) -> Option<HandOver> {
+    match &LocalHeap::new(own, 32_768) {
+        Ok(heap) => hand_over_from(own, heap, room),
+        Err(_) => None,
+    }
+}
+
+#[test]
+fn init_without_room_is_not_executed_anew(rt: HostRuntime) {
+    let mut unmade = 0u32;
+    let mut refused = 0u32;
+    let mut taken = 0u32;
+    for step in 0..200usize {
+        match handed_in(rt.alloc(), 32 * step) {
+            Some(HandOver::Unmade) => unmade = unmade.saturating_add(1),
+            Some(HandOver::Refused) => refused = refused.saturating_add(1),
+            Some(HandOver::Taken) => taken = taken.saturating_add(1),
+            None => panic!(rt; "at {step}"),
+        }
+    }
+    assert!(rt; unmade > 0 && refused > 3 && taken > 0);
+}

@@ -1,0 +1,190 @@
+//! Runs of init over a scripted host, whose traces are text, their lines parted by ` / `.
+
+use child_host::{Call, CallIn, Host};
+use init_trace::{Happening, HappeningIn};
+use level_core::Core;
+use memory_host::MemoryHost;
+use std::alloc::{Allocator, Global};
+use supervisor::Served;
+use trace_check::Verdict;
+use trace_log::{ListLog, Log};
+
+/// A run over an inittab, its lines parted by `|`, and a host that is given so much.
+pub(crate) struct Row {
+    pub(crate) inittab: &'static str,
+    pub(crate) gifts: &'static str,
+    /// How many turns it may make, and whether it ends where it is drained.
+    pub(crate) limit: (u64, bool),
+    /// How many turns it made, and whether it is drained.
+    pub(crate) ended: (u64, bool),
+    /// How many calls of the host were faults.
+    pub(crate) faults: u64,
+    pub(crate) trace: &'static str,
+}
+
+fn add_line(lines: &mut Vec<u8>, line: &str) -> bool {
+    lines.extend_from_slice(line.as_bytes()).is_ok() && lines.push(b'\n').is_ok()
+}
+
+/// The lines of a text, each ended by a newline; none of an empty text.
+pub(crate) fn lines_of(alloc: Global, text: &str, parted: &str) -> Option<Vec<u8>> {
+    let mut lines = Vec::new(alloc);
+    if text.is_empty() {
+        return Some(lines);
+    }
+    for line in text.split(parted) {
+        if !add_line(&mut lines, line) {
+            return None;
+        }
+    }
+    Some(lines)
+}
+
+fn core_from<A: Allocator + Copy>(alloc: A, text: &[u8]) -> Option<Core<A>> {
+    let Ok((table, _)) = inittab_text::read(alloc, text) else {
+        return None;
+    };
+    Core::new(alloc, table, None).ok()
+}
+
+/// A core over an inittab.
+pub(crate) fn core_of<A: Allocator + Copy>(
+    own: Global,
+    alloc: A,
+    inittab: &str,
+) -> Option<Core<A>> {
+    match &lines_of(own, inittab, "|") {
+        Some(lines) => core_from(alloc, lines.as_slice()),
+        None => None,
+    }
+}
+
+/// What a run is made with.
+#[derive(Drop)]
+pub(crate) struct Bench<'a, A: Allocator + Copy> {
+    pub(crate) own: Global,
+    pub(crate) core: &'a mut Core,
+    pub(crate) host: &'a mut MemoryHost<A>,
+    pub(crate) log: &'a mut ListLog,
+}
+
+/// Hands the log the table in force.
+fn log_table(own: Global, core: &Core, log: &mut ListLog) -> bool {
+    let Ok(table) = core.table().copy(own) else {
+        return false;
+    };
+    !log.failed() && log.take(&Happening::NewTable(table)).is_ok()
+}
+
+fn is_trace(own: Global, text: &[u8], trace: &str) -> bool {
+    match &lines_of(own, trace, " / ") {
+        Some(want) => text == want.as_slice(),
+        None => false,
+    }
+}
+
+fn is_text(own: Global, made: &[HappeningIn<Global>], trace: &str) -> bool {
+    match &init_trace::print(own, made) {
+        Ok(text) => is_trace(own, text.as_slice(), trace),
+        Err(_) => false,
+    }
+}
+
+/// The log's happenings after the opening table are these lines, and all of it is lawful.
+fn is_logged(own: Global, list: &[HappeningIn<Global>], trace: &str) -> bool {
+    let [_, made @ ..] = list else {
+        return false;
+    };
+    is_text(own, made, trace) && matches!(trace_check::check(own, list), Ok(Verdict::Lawful))
+}
+
+/// How the run of a row ends that is logged.
+fn ended(row: &Row) -> Served {
+    Served {
+        turns: row.ended.0,
+        drained: row.ended.1,
+        logged: true,
+    }
+}
+
+/// Makes the given number of turns; with `drain` it ends where init is drained.
+pub(crate) fn serve_on<A: Allocator + Copy>(
+    bench: &mut Bench<A>,
+    turns: u64,
+    drain: bool,
+) -> Served {
+    supervisor::serve(bench.own, bench.core, bench.host, bench.log, turns, drain)
+}
+
+fn is_served<A: Allocator + Copy>(bench: &mut Bench<A>, row: &Row) -> bool {
+    let (turns, drain) = row.limit;
+    serve_on(bench, turns, drain) == ended(row) && bench.host.faults() == row.faults
+}
+
+/// The run of a row is as it says.
+pub(crate) fn is_run<A: Allocator + Copy>(bench: &mut Bench<A>, row: &Row) -> bool {
+    log_table(bench.own, bench.core, bench.log)
+        && is_served(bench, row)
+        && is_logged(bench.own, bench.log.list(), row.trace)
+}
+
+/// A call's letter: `C`lock, `B`ytes, `L`ate answer, `T`able, `S`tart, l`O`ok, si`G`nal, carry `H`, a`N`nouncement,
+/// `P`ause.
+fn letter_of<A: Allocator>(call: &CallIn<A>) -> u8 {
+    match call {
+        Call::Clock(_) => b'C',
+        Call::TakeBytes(_, _) => b'B',
+        Call::Late(_) => b'L',
+        Call::ReadTable(_) => b'T',
+        Call::Start(_, _, _) => b'S',
+        Call::Look(_, _) => b'O',
+        Call::Signal(_, _, _) => b'G',
+        Call::Carry(_, _) => b'H',
+        Call::Announce(_) => b'N',
+        Call::Pause => b'P',
+    }
+}
+
+/// Adds a call's letter, after the command of a start.
+fn add_call<A: Allocator>(text: &mut Vec<u8>, call: &CallIn<A>) -> bool {
+    if let Call::Start(_, command, _) = call {
+        if text.extend_from_slice(command.as_slice()).is_err() {
+            return false;
+        }
+    }
+    text.push(letter_of(call)).is_ok()
+}
+
+/// The letters of a host's calls, each start's after its command.
+fn letters_of<A: Allocator>(alloc: Global, calls: &[CallIn<A>]) -> Option<Vec<u8>> {
+    let mut text = Vec::new(alloc);
+    for call in calls {
+        if !add_call(&mut text, call) {
+            return None;
+        }
+    }
+    Some(text)
+}
+
+/// The calls have these letters.
+fn are_calls<A: Allocator>(alloc: Global, calls: &[CallIn<A>], want: &str) -> bool {
+    match &letters_of(alloc, calls) {
+        Some(letters) => letters.as_slice() == want.as_bytes(),
+        None => false,
+    }
+}
+
+/// The given number of turns, and the calls that are made then.
+pub(crate) struct Calls {
+    pub(crate) turns: u64,
+    pub(crate) want: &'static str,
+}
+
+/// The host tells these calls.
+pub(crate) fn are_made<A: Allocator + Copy>(bench: &mut Bench<A>, calls: &Calls) -> bool {
+    serve_on(bench, calls.turns, false);
+    match bench.host.calls() {
+        Some(made) => are_calls(bench.own, made, calls.want),
+        None => false,
+    }
+}

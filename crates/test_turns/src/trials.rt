@@ -1,0 +1,82 @@
+//! What is tried with a core, a host and a log.
+
+use crate::gifts::give_all;
+use crate::request_tests::{hears_all, hears_parts};
+use crate::run_tests::is_idle;
+use crate::runs::{Bench, Calls, Row, are_made, core_of, is_run};
+use level_core::Core;
+use memory_host::MemoryHost;
+use std::alloc::{Allocator, Global};
+use std::test::Fail;
+use trace_log::ListLog;
+
+#[derive(Clone, Copy)]
+pub(crate) enum Trial<'a> {
+    /// The run of a row is as it says.
+    Run(&'a Row),
+    /// The calls of the given number of turns are these.
+    Made(&'a Calls),
+    /// The blocks that came whole up to a place are heard in a turn, the others in the next.
+    Parts(usize),
+    /// All requests are heard in the given number of turns.
+    Heard(u64),
+    /// A turn ends where no step is due.
+    Idle,
+}
+
+fn holds<A: Allocator + Copy>(bench: &mut Bench<A>, trial: &Trial) -> bool {
+    match trial {
+        Trial::Run(row) => is_run(bench, row),
+        Trial::Made(calls) => are_made(bench, calls),
+        Trial::Parts(place) => hears_parts(bench, *place),
+        Trial::Heard(turns) => hears_all(bench, *turns),
+        Trial::Idle => is_idle(bench),
+    }
+}
+
+fn passes_with<A: Allocator + Copy>(
+    own: Global,
+    core: &mut Core,
+    host: &mut MemoryHost<A>,
+    trial: &Trial,
+) -> bool {
+    let mut log = ListLog::new(own);
+    holds(
+        &mut Bench {
+            own,
+            core,
+            host,
+            log: &mut log,
+        },
+        trial,
+    )
+}
+
+/// The trial passes with a core over an inittab and with a host.
+pub(crate) fn passes_over<A: Allocator + Copy>(
+    own: Global,
+    host: &mut MemoryHost<A>,
+    inittab: &str,
+    trial: &Trial,
+) -> bool {
+    let Some(mut core) = core_of(own, own, inittab) else {
+        return false;
+    };
+    passes_with(own, &mut core, host, trial)
+}
+
+/// The trial passes with a core over an inittab and with a host that is given so much.
+pub(crate) fn passes(own: Global, inittab: &str, gifts: &str, trial: &Trial) -> bool {
+    let mut host = MemoryHost::new(own);
+    give_all(own, own, &mut host, gifts) && passes_over(own, &mut host, inittab, trial)
+}
+
+/// The runs of the rows are as they say.
+pub(crate) fn are_run(own: Global, rows: &[Row]) -> Result<(), Fail> {
+    for row in rows {
+        if !passes(own, row.inittab, row.gifts, &Trial::Run(row)) {
+            return Err(Fail::from(row.trace));
+        }
+    }
+    Ok(())
+}

@@ -1,0 +1,113 @@
+ghost use Rattle.std.specs.Prelude.{◌≡◌, OnOk, IfErr};
+ghost use Rattle.std.specs.Io.KnownBytes.{Appends};
+ghost use Rattle.init_trace.specs.Lines.{event_text};
+ghost use Rattle.trace_log.specs.Faults.{Leaves};
+
+use crate::faults::LogFault;
+use crate::logs::Log;
+use init_trace::HappeningIn;
+use program_io::write_text;
+use std::alloc::{Allocator, Global};
+use std::io::Write;
+use std::marker::Model;
+
+/// A log that writes the text of each happening when it takes it, and keeps nothing: in a file, the trace is on disk up
+/// to the last happening taken. Where the writer fails, a part of the text of the refused happening may follow; where
+/// memory runs out, nothing does.
+#[derive(Drop)]
+pub struct StreamLog<W, A: Allocator = Global> {
+    writer: W,
+    alloc: A,
+    failed: bool,
+}
+
+impl<W, A: Allocator> Model for StreamLog<W, A> {
+    ghost use Rattle.trace_log.specs.Streams.{Stream};
+
+    ghost Value = { Stream W };
+
+    ghost view = { λ log. record { writer = log.writer; failed = log.failed } };
+}
+
+impl<W: Write, A: Allocator> StreamLog<W, A> {
+    ghost use Rattle.std.specs.Prelude.{[], false, IfSome, Some};
+    ghost use Rattle.trace_log.specs.Streams.{stream_state, Tells};
+
+    /// A log over a writer that holds no bytes. It takes no memory; `take` takes what it needs from the allocator.
+    pub fn new(alloc: A, writer: W) -> StreamLog<W, A>
+        requires { IfSome (W.contents writer) (λ bytes. bytes ≡ []) }
+        ensures value { result ≡ record { writer = writer; failed = false } }
+        ensures nothing { IfSome (W.contents writer)
+            (λ _. (stream_state W.contents result).taken ≡ Some []) }
+    {
+        StreamLog {
+            writer,
+            alloc,
+            failed: false,
+        }
+    }
+
+    /// The writer. Its bytes are the text of what the log took; after that, once the log has failed, may be a part of
+    /// one happening's.
+    pub fn writer(&self) -> &W
+        ensures value { result.now ≡ self.now.writer }
+        ensures text { Tells (stream_state W.contents self.now) (W.contents result.now) }
+    {
+        &self.writer
+    }
+}
+
+impl<W: Write, A: Allocator + Copy> Log for StreamLog<W, A> {
+    ghost use Rattle.std.specs.Prelude.{◌≡◌, true, false, is_err, OnOk, OnErr, IfErr};
+    ghost use Rattle.std.specs.Io.KnownBytes.{Appends};
+    ghost use Rattle.init_trace.specs.Range.{is_in_range};
+    ghost use Rattle.init_trace.specs.Lines.{event_text};
+    ghost use Rattle.trace_log.specs.Logs.{Gains, Stays};
+    ghost use Rattle.trace_log.specs.Faults.{Leaves};
+    ghost use Rattle.trace_log.specs.Streams.{stream_state};
+
+    ghost state = { stream_state W.contents };
+
+    /// Writes the text of a happening: `Device` where the writer failed or took no byte, `Memory` where there was no
+    /// room to make the text.
+    fn take<B: Allocator>(&mut self, happening: &HappeningIn<B>) -> Result<(), LogFault>
+        requires { self.old.failed ≡ false }
+        ensures flag { self.new.failed ≡ is_err result }
+        ensures ok { OnOk result (is_in_range happening.now ≡ true
+            → Gains (stream_state W.contents self.old).taken
+            (stream_state W.contents self.new).taken
+            happening.now) }
+        ensures err { OnErr result (is_in_range happening.now ≡ true
+            → Stays (stream_state W.contents self.old).taken
+            (stream_state W.contents self.new).taken) }
+        ensures text { OnOk result (Appends
+            (W.contents self.old.writer) (W.contents self.new.writer) (event_text happening.now)) }
+        ensures left { IfErr result (λ fault.
+            Leaves fault (W.contents self.old.writer) (W.contents self.new.writer)
+            (event_text happening.now)) }
+    {
+        let taken = write_happening(self.alloc, &mut self.writer, happening);
+        self.failed = taken.is_err();
+        taken
+    }
+
+    fn failed(&self) -> bool {
+        self.failed
+    }
+}
+
+/// Writes the text of a happening, by as many writes as it takes.
+fn write_happening<A: Allocator + Copy, B: Allocator, W: Write>(
+    alloc: A,
+    out: &mut W,
+    happening: &HappeningIn<B>,
+) -> Result<(), LogFault>
+    ensures ok { OnOk result (Appends
+        (W.contents out.old) (W.contents out.new) (event_text happening.now)) }
+    ensures err { IfErr result (λ fault.
+        Leaves fault (W.contents out.old) (W.contents out.new) (event_text happening.now)) }
+{
+    let text = init_trace::print_one(alloc, happening)?;
+    write_text(out, &text)?;
+    Ok(())
+}
