@@ -5,6 +5,8 @@
 #[cfg(test)]
 mod frames_tests;
 #[cfg(test)]
+mod growth_tests;
+#[cfg(test)]
 mod inittab_tests;
 #[cfg(test)]
 mod respawn_tests;

@@ -1,80 +1,268 @@
-//! Each byte of a short text is changed to each other: what is left is read, or refused by the first check that fails.
+//! Each byte of two texts is changed to each other: what is left is taken over, and handed over again as it stands, or
+//! refused by the first check that fails.
 
-use crate::texts::{OPENING, refusal};
+use crate::texts::{OPENING, STARTED};
 use init_words::Memory;
-use state_text::Over::{self, Cut, Generation, Line, Version};
+use reexec_state::Over::{self, Cut, Generation, Line, Unfit, Version};
+use reexec_state::{hand_over, take_over};
 use std::alloc::Global;
 use std::process::Abort;
 use std::test::Fail;
 
-/// Why the text is refused with another byte before this place, and not before the one of the row above.
-const SPANS: &[(usize, Over)] = &[
-    (14, Version),
-    (27, Line(2)),
-    (35, Line(3)),
-    (48, Line(4)),
-    (57, Line(5)),
-    (66, Line(6)),
-    (84, Line(7)),
-    (91, Line(8)),
-    (96, Cut),
-    (97, Line(9)),
-    (98, Cut),
+/// Bytes that are answered alike.
+#[derive(Clone, Copy)]
+enum Bytes {
+    These(&'static [u8]),
+    /// Those with which an id may begin.
+    FirstOfId,
+    /// Those that an id may have after its first.
+    OfId,
+    /// Those that are a process text of their own.
+    Process,
+    /// Those that a process text may have within.
+    InProcess,
+    /// All others of the line.
+    Others,
+}
+
+use Bytes::{FirstOfId, InProcess, OfId, Others, Process, These};
+
+/// A line, counted from 1, with its columns, counted from 0: other bytes there, and what is answered. Of two rows with
+/// the byte the first holds.
+type Row = (usize, usize, usize, Bytes, Option<Over>);
+
+const ALL: usize = 99;
+
+/// Levels other than 3.
+const OTHER_LEVELS: &[u8] = b"012456789S";
+
+/// Digits other than 5.
+const OTHER_SECONDS: &[u8] = b"012346789";
+
+const DIGITS: &[u8] = b"0123456789";
+
+/// Runlevels and letters other than 3 that are written as they stand, and the mark for none of them.
+const OTHER_MARKS: &[u8] = b"012456789SABC-";
+
+/// Of a core with two starts open.
+const OF_STARTED: &[Row] = &[
+    (1, 0, ALL, Others, Some(Version)),
+    (2, 11, 11, These(b"23456789"), Some(Generation)),
+    (2, 0, ALL, Others, Some(Line(2))),
+    (3, 6, 6, These(b"123456789"), None),
+    (3, 0, ALL, Others, Some(Line(3))),
+    // The level is the goal's.
+    (4, 6, 6, These(OTHER_LEVELS), Some(Unfit)),
+    (4, 8, 8, These(OTHER_SECONDS), None),
+    (4, 0, ALL, Others, Some(Line(4))),
+    (5, 5, 5, These(OTHER_LEVELS), Some(Unfit)),
+    (5, 7, 7, These(OTHER_SECONDS), None),
+    (5, 0, ALL, Others, Some(Line(5))),
+    (6, 6, 6, These(b"0"), None),
+    (6, 7, 7, These(b"1"), None),
+    (6, 0, ALL, Others, Some(Line(6))),
+    // No text has a wish for a re-execution.
+    (7, 5, 5, These(b"1"), None),
+    (7, 10, 12, These(b"1"), None),
+    (7, 14, 16, These(b"1"), None),
+    (7, 0, ALL, Others, Some(Line(7))),
+    // With fewer entries the next line is that of none, and with more the first record is no entry.
+    (8, 6, 6, These(b"0"), Some(Line(9))),
+    (8, 6, 6, These(b"1"), Some(Line(10))),
+    (8, 6, 6, These(b"2"), Some(Line(11))),
+    (8, 6, 6, These(b"456789"), Some(Line(12))),
+    (8, 0, ALL, Others, Some(Line(8))),
+    // The records of the table's ids come first, in its order.
+    (9, 0, 0, FirstOfId, Some(Unfit)),
+    (9, 1, 1, OfId, Some(Unfit)),
+    (9, 3, 3, These(OTHER_MARKS), None),
+    (9, 0, ALL, Others, Some(Line(9))),
+    // Another entry has the id b.
+    (10, 0, 0, These(b"b"), Some(Line(11))),
+    (10, 0, 0, FirstOfId, Some(Unfit)),
+    // A start is open, and the entry doesn't start in the stage.
+    (10, 2, 2, These(OTHER_MARKS), Some(Unfit)),
+    (10, 12, 12, Process, None),
+    // The next entry becomes a part of the process, and a record stands where it should be.
+    (10, 13, 13, InProcess, Some(Line(11))),
+    (10, 0, ALL, Others, Some(Line(10))),
+    (11, 0, 0, These(b"a"), Some(Line(11))),
+    (11, 0, 0, FirstOfId, Some(Unfit)),
+    (11, 2, 2, These(OTHER_MARKS), Some(Unfit)),
+    (11, 9, 9, Process, None),
+    // The first record becomes a part of the process, and the last line says one line too many.
+    (11, 10, 10, InProcess, Some(Line(14))),
+    (11, 0, ALL, Others, Some(Line(11))),
+    (12, 5, 5, FirstOfId, Some(Unfit)),
+    (12, 6, 6, OfId, Some(Unfit)),
+    // A child has a number and an action.
+    (12, 8, 8, These(DIGITS), Some(Unfit)),
+    (12, 16, 16, These(b"1"), None),
+    // Only power and ondemand entries are called; a look and a missed signal are those of a child.
+    (12, 17, 19, These(b"1"), Some(Unfit)),
+    // Only respawn entries have starts and holds.
+    (12, 21, 21, These(DIGITS), Some(Unfit)),
+    (12, 23, 23, These(DIGITS), Some(Unfit)),
+    (12, 0, ALL, Others, Some(Line(12))),
+    (13, 5, 5, FirstOfId, Some(Unfit)),
+    (13, 7, 7, These(DIGITS), Some(Unfit)),
+    // A start was asked for.
+    (13, 19, 19, These(b"0"), Some(Unfit)),
+    (13, 20, 22, These(b"1"), Some(Unfit)),
+    // A hold comes after ten starts, and no start is later than now.
+    (13, 24, 24, These(DIGITS), Some(Unfit)),
+    (13, 26, 26, These(b"123456789"), Some(Unfit)),
+    (13, 26, 26, These(b"-"), None),
+    (13, 0, ALL, Others, Some(Line(13))),
+    (14, 5, 5, FirstOfId, Some(Unfit)),
+    (14, 7, 7, These(DIGITS), Some(Unfit)),
+    (14, 19, 19, These(b"0"), Some(Unfit)),
+    (14, 20, 22, These(b"1"), Some(Unfit)),
+    (14, 24, 24, These(DIGITS), Some(Unfit)),
+    (14, 26, 26, These(DIGITS), Some(Unfit)),
+    // The last line doesn't begin with its word.
+    (14, 27, 27, Others, Some(Cut)),
+    (14, 0, ALL, Others, Some(Line(14))),
+    (15, 0, 3, Others, Some(Cut)),
+    (15, 4, 5, These(b"\n"), Some(Cut)),
+    (15, 6, 6, Others, Some(Cut)),
+    (15, 0, ALL, Others, Some(Line(15))),
 ];
 
-/// The bytes that are answered otherwise at a place, and how.
-const OTHERS: &[(usize, &[u8], Option<Over>)] = &[
-    (25, b"23456789", Some(Generation)),
-    (33, b"123456789", None),
-    (53, b"012456789S", None),
-    (55, b"012346789", None),
-    (63, b"1", None),
-    (64, b"1", None),
-    (71, b"1", None),
-    (76, b"1", None),
-    (77, b"1", None),
-    (78, b"1", None),
-    (80, b"1", None),
-    (81, b"1", None),
-    (82, b"1", None),
-    (90, b"123456789", Some(Line(9))),
-    (96, b"\n", Some(Cut)),
+/// Of a core that entered no stage.
+const OF_OPENING: &[Row] = &[
+    (1, 0, ALL, Others, Some(Version)),
+    (2, 11, 11, These(b"23456789"), Some(Generation)),
+    (2, 0, ALL, Others, Some(Line(2))),
+    (3, 6, 6, These(b"123456789"), None),
+    (3, 0, ALL, Others, Some(Line(3))),
+    (4, 0, ALL, Others, Some(Line(4))),
+    (5, 5, 5, These(OTHER_LEVELS), None),
+    (5, 7, 7, These(OTHER_SECONDS), None),
+    (5, 0, ALL, Others, Some(Line(5))),
+    // Boot was not entered, and no level is announced.
+    (6, 6, 7, These(b"1"), Some(Unfit)),
+    (6, 0, ALL, Others, Some(Line(6))),
+    (7, 5, 5, These(b"1"), None),
+    (7, 10, 12, These(b"1"), None),
+    (7, 14, 16, These(b"1"), None),
+    (7, 0, ALL, Others, Some(Line(7))),
+    (8, 6, 6, These(b"123456789"), Some(Line(9))),
+    (8, 7, 7, Others, Some(Cut)),
+    (8, 0, ALL, Others, Some(Line(8))),
+    (9, 0, 3, Others, Some(Cut)),
+    (9, 4, 4, These(b"\n"), Some(Cut)),
+    (9, 5, 5, Others, Some(Cut)),
+    (9, 0, ALL, Others, Some(Line(9))),
 ];
 
-fn wanted(place: usize, byte: u8) -> Option<Over> {
-    for (at, bytes, want) in OTHERS {
-        if *at == place && bytes.contains(&byte) {
-            return *want;
-        }
+const TEXTS: &[(&str, &[Row])] = &[(STARTED, OF_STARTED), (OPENING, OF_OPENING)];
+
+fn is_of_id(byte: u8) -> bool {
+    byte.is_ascii_graphic() && byte != b':'
+}
+
+fn is_in_process(byte: u8) -> bool {
+    byte.is_ascii() && byte != 0
+}
+
+fn has(bytes: Bytes, byte: u8) -> bool {
+    match bytes {
+        These(all) => all.contains(&byte),
+        FirstOfId => is_of_id(byte) && byte != b'#',
+        OfId => is_of_id(byte),
+        Process => is_in_process(byte) && !b" \t\n+".contains(&byte),
+        InProcess => is_in_process(byte),
+        Others => true,
     }
-    for (end, why) in SPANS {
-        if place < *end {
-            return Some(*why);
+}
+
+/// What is answered where the byte stands at this line and column. A row's columns are counted with its ends.
+fn wanted(rows: &[Row], line: usize, column: usize, byte: u8) -> Option<Over> {
+    for (own, first, last, bytes, want) in rows {
+        if *own == line && *first <= column && column <= *last && has(*bytes, byte) {
+            return *want;
         }
     }
     None
 }
 
-fn changed(alloc: Global, place: usize, byte: u8) -> Result<Vec<u8>, Memory> {
-    let mut text = Vec::new(alloc);
-    for (at, old) in OPENING.bytes().enumerate() {
-        text.push(if at == place { byte } else { old })?;
-    }
-    Ok(text)
+/// Where a text is changed: the place of a byte, with its line and column.
+#[derive(Clone, Copy)]
+struct Place {
+    at: usize,
+    line: usize,
+    column: usize,
 }
 
-fn is_answered(rt: &impl Abort, alloc: Global, place: usize, byte: u8) -> Result<(), Fail> {
-    let text = changed(alloc, place, byte)?;
-    let got = refusal(alloc, text.as_slice(), 1);
-    assert!(rt; got == wanted(place, byte), "{place}: {byte}");
-    Ok(())
+impl Place {
+    /// The place after this one, whose byte is given.
+    fn next(&self, byte: u8) -> Place {
+        let at = self.at.wrapping_add(1);
+        if byte == b'\n' {
+            let line = self.line.wrapping_add(1);
+            return Place {
+                at,
+                line,
+                column: 0,
+            };
+        }
+        let column = self.column.wrapping_add(1);
+        Place {
+            at,
+            line: self.line,
+            column,
+        }
+    }
 }
+
+/// The text with this byte there, in place of its own.
+fn changed(alloc: Global, text: &str, place: usize, byte: u8) -> Result<Vec<u8>, Memory> {
+    let mut made = Vec::from_slice(alloc, text.as_bytes())?;
+    if let Some(own) = made.get_mut(place) {
+        *own = byte;
+    }
+    Ok(made)
+}
+
+/// What is answered to the text; and where it is taken over, whether it is handed over again as it stands, but for its
+/// generation.
+fn answer(alloc: Global, text: &[u8]) -> Result<(Option<Over>, bool), Fail> {
+    let mut core = match take_over(alloc, text, 1) {
+        Ok(core) => core,
+        Err(why) => return Ok((Some(why), true)),
+    };
+    let mut again = hand_over(alloc, &mut core)?;
+    match again.get_mut(GENERATION_AT) {
+        Some(digit) => *digit = b'1',
+        None => return Err(Fail::from("no generation")),
+    }
+    Ok((None, again.as_slice() == text))
+}
+
+/// Where the digit of the generation stands.
+const GENERATION_AT: usize = 25;
 
 /// With each other byte at the place.
-fn are_answered(rt: &impl Abort, alloc: Global, place: usize, own: u8) -> Result<(), Fail> {
+fn are_answered(
+    rt: &impl Abort,
+    alloc: Global,
+    text: &str,
+    rows: &[Row],
+    place: &Place,
+    own: u8,
+) -> Result<(), Fail> {
     for byte in 0..=255u8 {
         if byte != own {
-            is_answered(rt, alloc, place, byte)?;
+            let made = changed(alloc, text, place.at, byte)?;
+            let (got, whole) = answer(alloc, &made)?;
+            let want = wanted(rows, place.line, place.column, byte);
+            assert!(rt;
+                got == want && whole,
+                "{}, {}: {byte}",
+                place.line,
+                place.column
+            );
         }
     }
     Ok(())
@@ -82,14 +270,71 @@ fn are_answered(rt: &impl Abort, alloc: Global, place: usize, own: u8) -> Result
 
 #[test]
 fn each_byte_is_changed(rt: HostRuntime) -> Result<(), Fail> {
-    for (place, own) in OPENING.bytes().enumerate() {
-        are_answered(&rt, rt.alloc(), place, own)?;
+    for (text, rows) in TEXTS {
+        let mut place = Place {
+            at: 0,
+            line: 1,
+            column: 0,
+        };
+        for own in text.bytes() {
+            are_answered(&rt, rt.alloc(), text, rows, &place, own)?;
+            place = place.next(own);
+        }
     }
     Ok(())
 }
 
+/// A text, the generation that is asked for, and what is answered.
+const WHOLE: &[(&str, u64, Option<Over>)] = &[
+    (STARTED, 1, None),
+    (OPENING, 1, None),
+    (STARTED, 2, Some(Generation)),
+    (STARTED, 0, Some(Generation)),
+    ("", 1, Some(Cut)),
+];
+
 #[test]
-fn the_opening_is_read(rt: HostRuntime) {
-    let got = refusal(rt.alloc(), OPENING.as_bytes(), 1);
-    assert!(rt; got.is_none());
+fn whole_texts(rt: HostRuntime) -> Result<(), Fail> {
+    for (text, generation, want) in WHOLE {
+        let got = take_over(rt.alloc(), text.as_bytes(), *generation).err();
+        assert!(rt; got == *want, "{generation}: {text}");
+    }
+    let (_, whole) = answer(rt.alloc(), STARTED.as_bytes())?;
+    assert!(rt; whole);
+    Ok(())
+}
+
+/// Each proper front of a text is cut, the empty one among them.
+#[test]
+fn each_front_is_cut(rt: HostRuntime) -> Result<(), Fail> {
+    for length in 0..STARTED.len() {
+        let front = STARTED.as_bytes().get(..length).ok_or("too short")?;
+        let got = take_over(rt.alloc(), front, 1).err();
+        assert!(rt; got == Some(Cut), "{length}");
+    }
+    Ok(())
+}
+
+/// A line of the text, what stands in its place, and what is answered.
+const LINES: &[(&str, &str, Option<Over>)] = &[
+    // A number and no action.
+    (
+        "slot b - - start - 1000 - -",
+        "slot b 5 - start - 1000 - -",
+        Some(Unfit),
+    ),
+    ("initd-state 1", "initd-state 9", Some(Version)),
+    ("generation 1", "generation 2", Some(Generation)),
+    ("clock 0", "clock 7", None),
+];
+
+#[test]
+fn lines_are_exchanged(rt: HostRuntime) -> Result<(), Fail> {
+    for (old, new, want) in LINES {
+        let (front, back) = STARTED.split_once(old).ok_or("no such line")?;
+        let text = format!(in rt.alloc(); "{front}{new}{back}")?;
+        let got = take_over(rt.alloc(), text.as_bytes(), 1).err();
+        assert!(rt; got == *want, "{new}");
+    }
+    Ok(())
 }

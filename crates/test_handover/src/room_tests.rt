@@ -1,7 +1,7 @@
 //! Growths are refused in turn, on heaps of more and more room. A refused hand-over leaves the core as it was.
 
-use crate::states::{INITTAB, SETTLED};
-use init_words::Level;
+use crate::states::SETTLED;
+use init_words::Refusal;
 use level_core::{Core, Rebuild};
 use linked_list_allocator::LocalHeap;
 use reexec_state::{Over, hand_over, take_over};
@@ -10,17 +10,76 @@ use std::alloc::Global;
 use std::process::Abort;
 use std::test::Fail;
 
-/// Whether a core hands its state on over a heap of the given number of bytes; it is as it was where it doesn't.
-fn hands_on(rt: &impl Abort, alloc: Global, core: &mut Core, room: usize) -> Result<bool, Fail> {
+/// From one heap to the next there is less more room than the least growth takes, so that each growth is refused on
+/// some heap.
+const STEP: usize = 16;
+
+/// A core with a child, an order about it that is open, a signal that is due, a wish for another level, and times.
+const BUSY: &str = "initd-state 1
+generation 1
+clock 700
+stage 3 5
+goal 3 5
+flags 11
+wish 10 4:8 101 010
+table 3
+w:3:wait:a
+r:3:respawn:b
+d:3A:ondemand:c
+slot w - - - - 1000 - -
+slot r 700 respawn look - 1010 - 6,7,600
+slot d - - - - 0100 - -
+slot x 701 once term due 0011 - -
+end 15
+";
+
+/// What such a core hands over next.
+const BUSY_AGAIN: &str = "initd-state 1
+generation 2
+clock 700
+stage 3 5
+goal 3 5
+flags 11
+wish 10 4:8 101 010
+table 3
+w:3:wait:a
+r:3:respawn:b
+d:3A:ondemand:c
+slot w - - - - 1000 - -
+slot r 700 respawn look - 1010 - 6,7,600
+slot d - - - - 0100 - -
+slot x 701 once term due 0011 - -
+end 15
+";
+
+/// Whether the core hands its state on over a heap of the given number of bytes. Where it doesn't, it is as it was: what
+/// it hands over with room says so.
+fn hands_on(rt: &impl Abort, alloc: Global, room: usize) -> Result<bool, Fail> {
+    let mut core = take_over(alloc, BUSY.as_bytes(), 1)?;
     let heap = LocalHeap::new(alloc, room)?;
-    let generation = core.generation();
-    match hand_over(&heap, core) {
-        Ok(_) => Ok(true),
+    match hand_over(&heap, &mut core) {
+        Ok(text) => {
+            assert!(rt; text.as_slice() == BUSY_AGAIN.as_bytes());
+            Ok(true)
+        }
         Err(why) => {
-            assert!(rt; why == Over::Memory && core.generation() == generation);
+            assert!(rt; why == Over::Memory);
+            let text = hand_over(alloc, &mut core)?;
+            assert!(rt; text.as_slice() == BUSY_AGAIN.as_bytes(), "{room}");
             Ok(false)
         }
     }
+}
+
+#[test]
+fn a_refused_hand_over_changes_nothing(rt: HostRuntime) -> Result<(), Fail> {
+    for refused in 0..4096usize {
+        if hands_on(&rt, rt.alloc(), STEP * refused)? {
+            assert!(rt; refused > 8, "{refused}");
+            return Ok(());
+        }
+    }
+    Err(Fail::from("no heap has room"))
 }
 
 /// Whether a text is taken over on a heap of the given number of bytes.
@@ -73,23 +132,95 @@ fn a_core_without_room_is_not_rebuilt(rt: HostRuntime) -> Result<(), Fail> {
 }
 
 #[test]
-fn refused_growths(rt: HostRuntime) -> Result<(), Fail> {
-    let (table, _) = inittab_text::read(rt.alloc(), INITTAB)?;
-    let mut core = Core::new(rt.alloc(), table, Some(Level::L3))?;
-    let text = format!(in rt.alloc(); "initd-state 1\ngeneration 1\n{SETTLED}")?;
-    let mut handed = 0usize;
-    let mut taken = 0usize;
-    for step in 1..200usize {
-        if hands_on(&rt, rt.alloc(), &mut core, 64 * step)? {
-            handed = handed.wrapping_add(1);
-        }
-        if is_taken(&rt, rt.alloc(), &text, 64 * step)? {
-            taken = taken.wrapping_add(1);
+fn a_text_without_room_is_not_taken_over(rt: HostRuntime) -> Result<(), Fail> {
+    for refused in 0..4096usize {
+        if is_taken(&rt, rt.alloc(), BUSY, STEP * refused)? {
+            assert!(rt; refused > 8, "{refused}");
+            return Ok(());
         }
     }
-    assert!(rt;
-        handed > 8 && handed < 196 && taken > 8 && taken < 180,
-        "{handed} {taken}"
-    );
-    Ok(())
+    Err(Fail::from("no heap has room"))
+}
+
+/// A core with a child, a look at it that is open, a child to be stopped, a wish for another level, and times.
+const QUIET: &str = "initd-state 1
+generation 1
+clock 700
+stage 3 5
+goal 3 5
+flags 11
+wish 10 4:8 101 010
+table 2
+w:3:wait:a
+r:3:respawn:b
+slot w - - - - 1000 - -
+slot r 700 respawn look - 1010 - 6,7,600
+slot x 701 once - due 0011 - -
+end 13
+";
+
+/// What such a core hands over next.
+const QUIET_AGAIN: &str = "initd-state 1
+generation 2
+clock 700
+stage 3 5
+goal 3 5
+flags 11
+wish 10 4:8 101 010
+table 2
+w:3:wait:a
+r:3:respawn:b
+slot w - - - - 1000 - -
+slot r 700 respawn look - 1010 - 6,7,600
+slot x 701 once - due 0011 - -
+end 13
+";
+
+const NEXT: &[u8] = b"r:3:respawn:b\nn:3:once:c\nm:3:off:\nl:3:wait:d\n";
+
+/// What a heap refuses.
+enum Refused {
+    Before,
+    Adoption,
+    Nothing,
+}
+
+/// What is refused to a core on a heap, to which a table is given. Where that is the adoption, the core is as it was:
+/// what it hands over with room says so.
+fn refused_on(rt: &impl Abort, alloc: Global, heap: &LocalHeap) -> Result<Refused, Fail> {
+    let Ok(mut core) = take_over(heap, QUIET.as_bytes(), 1) else {
+        return Ok(Refused::Before);
+    };
+    let Ok((table, _)) = inittab_text::read(heap, NEXT) else {
+        return Ok(Refused::Before);
+    };
+    match core.adopt(table) {
+        Ok(()) => {
+            assert!(rt; core.table().len() == 4 && core.slots().len() == 5);
+            Ok(Refused::Nothing)
+        }
+        Err(why) => {
+            assert!(rt; why == Refusal::Memory);
+            let text = hand_over(alloc, &mut core)?;
+            assert!(rt; text.as_slice() == QUIET_AGAIN.as_bytes());
+            Ok(Refused::Adoption)
+        }
+    }
+}
+
+#[test]
+fn a_refused_adoption_changes_nothing(rt: HostRuntime) -> Result<(), Fail> {
+    let mut adoptions = 0usize;
+    for step in 0..4096usize {
+        let heap = LocalHeap::new(rt.alloc(), STEP * step)?;
+        match refused_on(&rt, rt.alloc(), &heap)? {
+            Refused::Before => {}
+            Refused::Adoption => adoptions = adoptions.wrapping_add(1),
+            Refused::Nothing => {
+                assert!(rt; adoptions > 3, "{adoptions}");
+                return Ok(());
+            }
+        }
+    }
+    Err(Fail::from("no heap has room"))
 }

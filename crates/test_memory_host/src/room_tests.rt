@@ -1,8 +1,9 @@
 //! Growths are refused, over a small heap that is filled.
 
 use crate::fixtures::{fill, id_of};
-use child_host::{Bytes, Host, HostFault, Reply};
-use init_words::{Answer, Id, Memory};
+use child_host::{Host, HostFault, Reply};
+use init_trace::{Happening, HappeningIn};
+use init_words::{Answer, Id, Level, Memory, Sig};
 use linked_list_allocator::LocalHeap;
 use memory_host::MemoryHost;
 use std::alloc::{Allocator, Global};
@@ -10,34 +11,23 @@ use std::process::Abort;
 use std::test::Fail;
 
 /// Gives an item to the queue of this number, 0 to 7.
-fn give<A: Allocator + Copy>(
-    alloc: A,
-    host: &mut MemoryHost<A>,
-    queue: u8,
-    id: Id,
-) -> Result<(), Memory> {
+fn give<A: Allocator + Copy>(host: &mut MemoryHost<A>, queue: u8, id: Id) -> Result<(), Memory> {
     match queue {
         0 => host.give_start(Reply::Later),
         1 => host.give_look(Reply::Later),
         2 => host.give_signal(Reply::Later),
         3 => host.give_late(Some((id, Answer::Hit))),
         4 => host.give_clock(Ok(5)),
-        5 => host.give_bytes(Ok(Bytes::new(alloc))),
+        5 => host.give_bytes(Err(HostFault::Device)),
         6 => host.give_table(Err(HostFault::Device)),
         _ => host.give_carry(Err(HostFault::Device)),
     }
 }
 
 /// How many of the given number of items a queue is given before one is refused.
-fn given<A: Allocator + Copy>(
-    alloc: A,
-    host: &mut MemoryHost<A>,
-    queue: u8,
-    id: Id,
-    items: u32,
-) -> u32 {
+fn given<A: Allocator + Copy>(host: &mut MemoryHost<A>, queue: u8, id: Id, items: u32) -> u32 {
     for count in 0..items {
-        if give(alloc, host, queue, id).is_err() {
+        if give(host, queue, id).is_err() {
             return count;
         }
     }
@@ -53,11 +43,41 @@ fn given_while_full<'a>(
     id: Id,
 ) -> Result<u32, Fail> {
     let _fillers = fill(alloc, heap)?;
-    Ok(given(heap, host, queue, id, 100))
+    Ok(given(host, queue, id, 100))
+}
+
+/// The call of this queue takes one of the items that were given, and not what is answered without one.
+fn takes<A: Allocator + Copy>(alloc: Global, host: &mut MemoryHost<A>, queue: u8, id: Id) -> bool {
+    match queue {
+        0 => host.start(alloc, id, b"x") == Reply::Later,
+        1 => host.look(id) == Reply::Later,
+        2 => host.signal(id, Sig::Term) == Reply::Later,
+        3 => host.late().is_some(),
+        4 => host.clock() == Ok(5),
+        5 => host.take_bytes(&mut [0u8; 4]).is_err(),
+        6 => host.read_table(alloc).is_err(),
+        _ => host.carry(alloc, b"state").is_err(),
+    }
+}
+
+/// The queue has so many of the items, and no more.
+fn has<A: Allocator + Copy>(
+    alloc: Global,
+    host: &mut MemoryHost<A>,
+    queue: u8,
+    id: Id,
+    items: u32,
+) -> bool {
+    for _ in 0..items {
+        if !takes(alloc, host, queue, id) {
+            return false;
+        }
+    }
+    !takes(alloc, host, queue, id)
 }
 
 /// A queue that has had the given number of items is given more while the heap is full, and one where there is room
-/// again.
+/// again; it has all that it took.
 fn are_given<'a>(
     rt: &impl Abort,
     alloc: Global,
@@ -67,13 +87,15 @@ fn are_given<'a>(
     before: u32,
 ) -> Result<(), Fail> {
     let id = id_of(b"r")?;
-    assert!(rt; given(heap, host, queue, id, before) == before);
-    assert!(rt; given_while_full(alloc, heap, host, queue, id)? < 100);
-    assert!(rt; give(heap, host, queue, id).is_ok());
+    assert!(rt; given(host, queue, id, before) == before);
+    let more = given_while_full(alloc, heap, host, queue, id)?;
+    assert!(rt; more < 100 && give(host, queue, id).is_ok());
+    let items = before.saturating_add(more).saturating_add(1);
+    assert!(rt; has(alloc, host, queue, id, items), "{queue}: {items}");
     Ok(())
 }
 
-/// What a call is, 0 to 3, and whether it is told.
+/// What a call is, 0 to 9, and whether it is told.
 fn is_told<A: Allocator + Copy>(host: &mut MemoryHost<A>, alloc: Global, call: u8, id: Id) -> bool {
     match call {
         0 => host.pause(),
@@ -83,8 +105,27 @@ fn is_told<A: Allocator + Copy>(host: &mut MemoryHost<A>, alloc: Global, call: u
         2 => {
             let _ = host.read_table(alloc);
         }
-        _ => {
+        3 => {
             let _ = host.carry(alloc, b"state");
+        }
+        4 => {
+            let _ = host.look(id);
+        }
+        5 => {
+            let _ = host.signal(id, Sig::Term);
+        }
+        6 => {
+            let _ = host.late();
+        }
+        7 => {
+            let _ = host.clock();
+        }
+        8 => {
+            let _ = host.take_bytes(&mut [0u8; 4]);
+        }
+        _ => {
+            let happening: HappeningIn<Global> = Happening::Settle(Level::L3);
+            host.announce(&happening);
         }
     }
     host.calls().is_some()
@@ -158,7 +199,7 @@ fn a_queue_that_cannot_grow_refuses(rt: HostRuntime) -> Result<(), Fail> {
 
 #[test]
 fn a_record_ends_where_there_is_no_room(rt: HostRuntime) -> Result<(), Fail> {
-    for call in 0..4u8 {
+    for call in 0..10u8 {
         is_tried(&rt, rt.alloc(), Trial::Call(call))?;
     }
     Ok(())

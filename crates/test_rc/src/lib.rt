@@ -7,4 +7,6 @@ mod command_tests;
 #[cfg(test)]
 mod driving_tests;
 #[cfg(test)]
+mod growth_tests;
+#[cfg(test)]
 mod order_tests;

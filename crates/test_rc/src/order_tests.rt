@@ -1,7 +1,6 @@
 //! The scripts that are handed out, by the names in two folders.
 
 use init_words::Status;
-use linked_list_allocator::LocalHeap;
 use rc_driver::{Arg, NotAsked, Rc, RcAnswer, RcStep};
 use std::alloc::Global;
 use std::process::Abort;
@@ -180,21 +179,4 @@ fn is_asked_once(rt: &impl Abort, alloc: Global, new: &[String]) -> Result<(), F
 fn an_answer_is_asked_for_once(rt: HostRuntime) -> Result<(), Fail> {
     let new = names_of(rt.alloc(), &["S10a", "S20b"])?;
     is_asked_once(&rt, rt.alloc(), &new)
-}
-
-/// There was room for the scripts of a folder.
-fn has_room(alloc: Global, new: &[String], room: usize) -> Result<bool, Fail> {
-    let heap = LocalHeap::new(alloc, room)?;
-    Ok(Rc::new(&heap, &[], new).is_ok())
-}
-
-fn wants_room(rt: &impl Abort, alloc: Global, new: &[String]) -> Result<(), Fail> {
-    assert!(rt; !has_room(alloc, new, 64)? && has_room(alloc, new, 8192)?);
-    Ok(())
-}
-
-#[test]
-fn want_of_room_is_told(rt: HostRuntime) -> Result<(), Fail> {
-    let new = names_of(rt.alloc(), &["S10a", "S20b", "K05c"])?;
-    wants_room(&rt, rt.alloc(), &new)
 }

@@ -4,6 +4,8 @@
 #[cfg(test)]
 mod command_tests;
 #[cfg(test)]
+mod growth_tests;
+#[cfg(test)]
 mod headers_tests;
 #[cfg(test)]
 mod kept_tests;

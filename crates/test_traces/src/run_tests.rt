@@ -304,30 +304,39 @@ fn is_same_with_hand_over(
         && is_trace_handed_over(alloc, &out, trace)
 }
 
-/// The same after each number of lines.
+/// After this number of lines a happening of the script is over: a table's lines are not taken apart.
+fn is_between(script: &str, place: usize) -> bool {
+    let mut left = 0usize;
+    for line in script.split(" / ").take(place) {
+        left = match line.strip_prefix("use ") {
+            Some(count) => count.parse::<usize>().unwrap_or(0),
+            None => left.saturating_sub(1),
+        };
+    }
+    left == 0
+}
+
+/// The hand-over comes after each number of happenings.
 fn is_same_at_each_place(rt: &impl Abort, alloc: Global, inittab: &str, script: &str, trace: &str) {
     for place in 0..script.split(" / ").count() + 1 {
-        holds(
-            rt,
-            is_same_with_hand_over(alloc, inittab, script, trace, place),
-            script,
-        );
+        if is_between(script, place) {
+            holds(
+                rt,
+                is_same_with_hand_over(alloc, inittab, script, trace, place),
+                script,
+            );
+        }
     }
 }
 
-/// Lines of a script, and none of a table or of a hand-over.
-fn has_plain_lines(script: &str) -> bool {
-    for line in script.split(" / ") {
-        if line.is_empty() || line.starts_with("use ") || line.starts_with("handed ") {
-            return false;
-        }
-    }
-    true
+/// The script has happenings, and none is a hand-over.
+fn has_no_hand_over(script: &str) -> bool {
+    !script.is_empty() && !script.split(" / ").any(|line| line.starts_with("handed "))
 }
 
 fn are_same(rt: &impl Abort, alloc: Global, rows: &[(&str, &str, &str)]) {
     for (inittab, script, trace) in rows {
-        if has_plain_lines(script) {
+        if has_no_hand_over(script) {
             is_same_at_each_place(rt, alloc, inittab, script, trace);
         }
     }

@@ -7,6 +7,13 @@ use std::test::Fail;
 /// breach from 0 and its law.
 const VERDICTS: &[(&str, &str)] = &[
     ("", "."),
+    // A waited entry ends before the next starts.
+    (
+        "use 3 / id:3:initdefault: / w:3:wait:prep / r:3:respawn:serv / enter sysinit 5 / enter boot 5 / \
+         enter 3 5 / ask w start / birth w 10 / told w / nudge / ask w look / death 10 / \
+         reaped w 10 exit 0 / told w / ask r start / birth r 11 / told r / settle 3",
+        ".",
+    ),
     ("settle 3", "0:5"),
     ("birth a 1", "0:2"),
     ("use 1 / a:3:once:x / hold a", "1:6"),

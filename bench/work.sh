@@ -1,0 +1,77 @@
+#!/bin/bash
+# What `initd run` costs at work, with default pauses: entries that wait for each other, children that sleep, requests
+# that come at once, and requests while children die and are respawned.
+# usage: bench/work.sh INITD TELINIT     (as `rt run` leaves them in crates/initd/out/initd, crates/telinit/out/telinit)
+set -eu
+initd=$(realpath "$1")
+telinit=$(realpath "$2")
+folder=$(mktemp -d)
+cd "$folder"
+trap 'kill $(jobs -p) 2>/dev/null || true; rm -r "$folder"' EXIT
+
+# the milliseconds of processor time that a process has used, without its children
+used() { awk -v hertz="$(getconf CLK_TCK)" '{ print ($14 + $15) * 1000 / hertz }' "/proc/$1/stat"; }
+
+# waits until the trace has this many lines of this kind
+until_heard() { while [ "$(grep -c "^$1" trace)" -lt "$2" ]; do sleep 0.02; done; }
+
+# this many requests, of which no entry takes notice, as one append to the channel
+append() {
+    "$telinit" --initctl one A 2> said.telinit
+    for _ in $(seq 1 "$1"); do cat one; done > all
+    rm one
+    cat all >> initctl
+}
+
+for entries in 100 500; do
+    rm -f initctl
+    awk -v n="$entries" 'BEGIN { for (i = 0; i < n; i++) printf "%03x:3:wait:true\n", i }' > inittab
+    echo "$entries entries that wait for the one before, each of them true"
+    ( time "$initd" run --level 3 --drain > said 2>&1 ) 2>&1 | grep -e real -e user -e sys
+done
+
+rm -f initctl
+awk 'BEGIN { for (i = 0; i < 500; i++) printf "%03x:3:once:sleep 60\n", i }' > inittab
+"$initd" run --level 3 > said 2>&1 &
+pid=$!
+sleep 5
+before=$(used $pid)
+started=$(pgrep -c -P $pid)
+sleep 10
+echo "500 children that sleep: $(awk -v a="$before" -v b="$(used $pid)" 'BEGIN { print (b - a) / 10 }')" \
+    "milliseconds a second, $started children before, $(pgrep -c -P $pid) after"
+pkill -P $pid
+kill $pid
+wait $pid 2> /dev/null || true
+
+rm -f initctl
+echo 's:3:once:sleep 60' > inittab
+"$initd" run --level 3 --trace trace > said 2>&1 &
+pid=$!
+sleep 2
+append 20000
+begin=$(date +%s.%N)
+until_heard 'got ' 20000
+echo "20000 requests at once: heard in $(awk -v a="$begin" -v b="$(date +%s.%N)" 'BEGIN { print b - a }') seconds," \
+    "$(grep -c '^got ' trace) of them"
+pkill -P $pid
+kill $pid
+wait $pid 2> /dev/null || true
+
+rm -f initctl
+awk 'BEGIN { for (i = 0; i < 200; i++) printf "%03x:3:respawn:sleep 60\n", i }' > inittab
+"$initd" run --level 3 --trace trace > said 2>&1 &
+pid=$!
+sleep 2
+append 20000 &
+for _ in $(seq 1 5); do
+    pkill -P $pid sleep || true
+    sleep 0.4
+done
+until_heard 'got ' 20000
+sleep 2
+kill $pid
+wait $pid 2> /dev/null || true
+pkill -f 'sleep 60' || true
+echo "20000 requests while 200 children die five times: $(grep -c '^got ' trace) heard," \
+    "$(grep -c '^birth ' trace) births, $("$initd" check trace)"

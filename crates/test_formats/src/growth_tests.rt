@@ -1,0 +1,86 @@
+//! Growths are refused in turn, on heaps of more and more room, until a call meets no refusal: what is answered is lack
+//! of memory, and a table that was there is as it was.
+
+use init_words::Memory;
+use inittab_text::{Table, TableFault};
+use linked_list_allocator::LocalHeap;
+use std::alloc::Global;
+use std::process::Abort;
+use std::test::Fail;
+
+/// A call that grows.
+#[derive(Clone, Copy)]
+enum Call {
+    Read,
+    Write,
+    ReadWritten,
+    Copy,
+}
+
+/// A text with two entries and two faults, and the two entries as they are written.
+const TEXT: &[u8] = b"id:3:initdefault:\nnothing\na:3:respawn:/bin/x 1\na:3:once:twice\n";
+
+const WRITTEN: &[u8] = b"id:3:initdefault:\na:3:respawn:/bin/x 1\n";
+
+/// From one heap to the next there is less more room than the least growth takes, so that each growth is refused on
+/// some heap.
+const STEP: usize = 16;
+
+const CALLS: &[Call] = &[Call::Read, Call::Write, Call::ReadWritten, Call::Copy];
+
+/// The table has these entries.
+fn is_table<A: std::alloc::Allocator>(alloc: Global, table: &Table<A>) -> Result<bool, Memory> {
+    Ok(inittab_text::write(alloc, table)?.as_slice() == WRITTEN)
+}
+
+/// The call's answer on a heap is right; where it is a refusal, it is one for lack of memory, given as `None`.
+fn answer(
+    alloc: Global,
+    heap: &LocalHeap,
+    table: &Table,
+    call: Call,
+) -> Result<Option<bool>, Memory> {
+    match call {
+        Call::Read => match inittab_text::read(heap, TEXT) {
+            Ok((read, faults)) => Ok(Some(faults.len() == 2 && is_table(alloc, &read)?)),
+            Err(TableFault::Memory) => Ok(None),
+            Err(TableFault::TooLong) => Ok(Some(false)),
+        },
+        Call::Write => match inittab_text::write(heap, table) {
+            Ok(text) => Ok(Some(text.as_slice() == WRITTEN)),
+            Err(Memory) => Ok(None),
+        },
+        Call::ReadWritten => match inittab_text::read_written(heap, WRITTEN) {
+            Ok(Some(read)) => Ok(Some(is_table(alloc, &read)?)),
+            Ok(None) => Ok(Some(false)),
+            Err(Memory) => Ok(None),
+        },
+        Call::Copy => match table.copy(heap) {
+            Ok(copy) => Ok(Some(is_table(alloc, &copy)?)),
+            Err(Memory) => Ok(None),
+        },
+    }
+}
+
+/// How many heaps refuse the call before one has room for it, and that the table is as it was.
+fn refusals(rt: &impl Abort, alloc: Global, table: &Table, call: Call) -> Result<usize, Fail> {
+    for refused in 0..4096usize {
+        let heap = LocalHeap::new(alloc, STEP * refused)?;
+        let given = answer(alloc, &heap, table, call)?;
+        assert!(rt; given != Some(false) && is_table(alloc, table)?);
+        if given.is_some() {
+            return Ok(refused);
+        }
+    }
+    Err(Fail::from("no heap has room"))
+}
+
+#[test]
+fn each_growth_is_refused_once(rt: HostRuntime) -> Result<(), Fail> {
+    let (table, _) = inittab_text::read(rt.alloc(), TEXT)?;
+    for call in CALLS {
+        let refused = refusals(&rt, rt.alloc(), &table, *call)?;
+        assert!(rt; refused > 1, "{refused}");
+    }
+    Ok(())
+}
