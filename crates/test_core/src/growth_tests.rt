@@ -92,13 +92,14 @@ fn refused_in(rt: &impl Abort, alloc: Global, room: usize, id: Id) -> Option<Ref
     refused_on(rt, alloc, &heap, id)
 }
 
-/// How many heaps refuse a core, how many an adoption, and how many neither.
+/// How many heaps refuse a core, how many an adoption, and how many neither. From one heap to the next there is less
+/// more room than the least growth takes, so that each growth is refused on some heap.
 fn counts(rt: &impl Abort, alloc: Global, id: Id) -> (usize, usize, usize) {
     let mut new = 0usize;
     let mut adopted = 0usize;
     let mut none = 0usize;
-    for step in 1..200usize {
-        match refused_in(rt, alloc, 128 * step, id) {
+    for step in 1..1600usize {
+        match refused_in(rt, alloc, 16 * step, id) {
             Some(Refused::New) => new = new.wrapping_add(1),
             Some(Refused::Adoption) => adopted = adopted.wrapping_add(1),
             Some(Refused::Nothing) => none = none.wrapping_add(1),

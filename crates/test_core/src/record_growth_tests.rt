@@ -3,9 +3,10 @@
 
 use crate::shown::add_slots;
 use child_table::{Slot, Slots};
-use init_words::{Act, Id, Memory};
+use init_words::{Act, Answer, Ask, ChildNo, Id, Level, Memory, Stage};
 use inittab_text::Table;
 use linked_list_allocator::LocalHeap;
+use respawn_limit::CLOCK_LIMIT;
 use std::alloc::Global;
 use std::process::Abort;
 use std::test::Fail;
@@ -14,9 +15,11 @@ const BEFORE: &[u8] = b"a:3:respawn:x\nb:3:once:y\n";
 
 const AFTER: &[u8] = b"b:3:once:z\nc:3:wait:w\n";
 
-const SHOWN_BEFORE: &[u8] = b"a --------/b --------/";
+/// One child is to be stopped, and a SIGTERM is open for the other, whose entry is an orphan then.
+const SHOWN_BEFORE: &[u8] = b"a 5-da----/b 1tda----/";
 
-const SHOWN_AFTER: &[u8] = b"b --------/c --------/";
+/// The other table has one entry as it was, and the other not any more.
+const SHOWN_AFTER: &[u8] = b"b 1tda----/c --------/a 5-d----x/";
 
 /// Bytes that keep an adoption from growing, and that are enough for it.
 const FILLER: usize = 8192;
@@ -32,6 +35,53 @@ fn shows(alloc: Global, slots: &Slots<&LocalHeap>, want: &[u8]) -> Result<bool, 
     let mut text = Vec::new(alloc);
     add_slots(&mut text, slots)?;
     Ok(text.as_slice() == want)
+}
+
+fn number_of(slots: &Slots<&LocalHeap>, id: &Id) -> Option<ChildNo> {
+    slots.by_id(id)?.child()
+}
+
+/// The ids of the two entries.
+#[derive(Clone, Copy)]
+struct Ids {
+    first: Id,
+    second: Id,
+}
+
+/// The children have their numbers, and are found by them; and the first has so many starts in its limit of respawns.
+fn are_kept(slots: &Slots<&LocalHeap>, ids: &Ids, starts: usize) -> bool {
+    let Ids { first, second } = *ids;
+    number_of(slots, &first) == Some(FIRST)
+        && number_of(slots, &second) == Some(SECOND)
+        && slots.by_child(FIRST) == Some(first)
+        && slots.by_child(SECOND) == Some(second)
+        && matches!(slots.by_id(&first), Some(slot) if slot.starts().len() == starts)
+}
+
+const FIRST: ChildNo = ChildNo(4_294_967_295);
+
+const SECOND: ChildNo = ChildNo(701);
+
+fn order(rt: &impl Abort, slots: &mut Slots<&LocalHeap>, id: Id, ask: Ask) {
+    assert!(rt; slots.len() > 0 && slots.can_ask(&id, ask, CLOCK_LIMIT));
+    slots.ask(id, ask, CLOCK_LIMIT);
+}
+
+/// Two children that another level excludes, and the signal to one.
+fn begin<'a>(
+    rt: &impl Abort,
+    slots: &mut Slots<&'a LocalHeap>,
+    table: &Table<&'a LocalHeap>,
+    ids: &Ids,
+) -> Result<(), Fail> {
+    let Ids { first, second } = *ids;
+    order(rt, slots, first, Ask::Start);
+    slots.told(first, Answer::Born(FIRST), CLOCK_LIMIT)?;
+    order(rt, slots, second, Ask::Start);
+    slots.told(second, Answer::Born(SECOND), CLOCK_LIMIT)?;
+    slots.judge(table, Stage::Run(Level::L4));
+    order(rt, slots, second, Ask::Term);
+    Ok(())
 }
 
 /// Whether an adoption is refused while the filler stands.
@@ -51,44 +101,70 @@ fn refused_then_made<'a>(
     heap: &'a LocalHeap,
     slots: &mut Slots<&'a LocalHeap>,
     table: &Table<&'a LocalHeap>,
+    ids: &Ids,
 ) -> Result<bool, Memory> {
     if !is_refused(heap, slots, table)? {
         return Ok(false);
     }
-    assert!(rt; shows(alloc, slots, SHOWN_BEFORE)?);
+    assert!(rt; shows(alloc, slots, SHOWN_BEFORE)? && are_kept(slots, ids, 1));
     slots.adopt(table)?;
-    assert!(rt; shows(alloc, slots, SHOWN_AFTER)?);
+    assert!(rt; shows(alloc, slots, SHOWN_AFTER)? && are_kept(slots, ids, 0));
     Ok(true)
 }
 
-/// Whether an adoption was refused on a heap of this many bytes; where something before it is, lack of memory.
-fn refused_on(rt: &impl Abort, alloc: Global, heap: &LocalHeap) -> Result<bool, Memory> {
-    let before = table_of(heap, BEFORE)?;
-    let after = table_of(heap, AFTER)?;
-    let mut slots = Slots::new(heap, &before)?;
-    refused_then_made(rt, alloc, heap, &mut slots, &after)
+/// What a heap refuses.
+enum Refused {
+    Tables,
+    New,
+    Adoption,
+    Nothing,
 }
 
-/// How many heaps refuse the records or the text before them, and how many an adoption alone. From one heap to the
-/// next there is less more room than the least growth takes, so that each growth is refused on some heap.
-fn counts(rt: &impl Abort, alloc: Global) -> Result<(usize, usize), Fail> {
-    let mut none = 0usize;
-    let mut refused = 0usize;
-    for step in 1..800usize {
-        let heap = LocalHeap::new(alloc, 32 * step)?;
-        match refused_on(rt, alloc, &heap) {
-            Err(Memory) => none = none.wrapping_add(1),
-            Ok(true) => refused = refused.wrapping_add(1),
-            Ok(false) => {}
+/// What a heap of this many bytes refuses.
+fn refused_on(
+    rt: &impl Abort,
+    alloc: Global,
+    heap: &LocalHeap,
+    ids: &Ids,
+) -> Result<Refused, Fail> {
+    let (Ok(before), Ok(after)) = (table_of(heap, BEFORE), table_of(heap, AFTER)) else {
+        return Ok(Refused::Tables);
+    };
+    let mut slots = match Slots::new(heap, &before) {
+        Ok(slots) => slots,
+        Err(Memory) => return Ok(Refused::New),
+    };
+    begin(rt, &mut slots, &before, ids)?;
+    match refused_then_made(rt, alloc, heap, &mut slots, &after, ids) {
+        Ok(true) => Ok(Refused::Adoption),
+        Ok(false) | Err(Memory) => Ok(Refused::Nothing),
+    }
+}
+
+/// How many heaps refuse the records, and how many an adoption alone. From one heap to the next there is less more room
+/// than the least growth takes, so that each growth is refused on some heap.
+fn counts(rt: &impl Abort, alloc: Global, ids: &Ids) -> Result<(usize, usize), Fail> {
+    let mut new = 0usize;
+    let mut adoptions = 0usize;
+    for step in 1..1600usize {
+        let heap = LocalHeap::new(alloc, 16 * step)?;
+        match refused_on(rt, alloc, &heap, ids)? {
+            Refused::New => new = new.wrapping_add(1),
+            Refused::Adoption => adoptions = adoptions.wrapping_add(1),
+            Refused::Tables | Refused::Nothing => {}
         }
     }
-    Ok((none, refused))
+    Ok((new, adoptions))
 }
 
 #[test]
 fn refused_adoptions(rt: HostRuntime) -> Result<(), Fail> {
-    let (none, refused) = counts(&rt, rt.alloc())?;
-    assert!(rt; none > 8 && refused > 3);
+    let ids = Ids {
+        first: Id::read(b"a").ok_or("no id")?,
+        second: Id::read(b"b").ok_or("no id")?,
+    };
+    let (new, adoptions) = counts(&rt, rt.alloc(), &ids)?;
+    assert!(rt; new > 3 && adoptions > 3, "{new} {adoptions}");
     Ok(())
 }
 

@@ -178,3 +178,34 @@ fn requests_past_the_room_are_left_out(rt: HostRuntime) {
     let count = read_pieces(&[&reload, &reload], &mut room);
     assert!(rt; count == 1 && room == [Got::Reload]);
 }
+
+/// The block is one request, whatever its bytes are, and nothing of it is kept.
+fn is_one(rt: &impl Abort, block: &[u8; BLOCK], want: Got) {
+    let mut blocks = Blocks::new();
+    is_fed(rt, &mut blocks, block, (BLOCK, Some(want)), 0);
+}
+
+/// The request to read inittab again, with this byte at a place.
+fn changed(place: usize, byte: u8) -> [u8; BLOCK] {
+    let mut block = block_of(&RELOAD);
+    if let Some(found) = block.get_mut(place) {
+        *found = byte;
+    }
+    block
+}
+
+/// A block of this byte alone has no magic number, and each block with this byte in it is what its own bytes ask for.
+fn are_ones(rt: &impl Abort, byte: u8) {
+    is_one(rt, &[byte; BLOCK], Got::Nothing(Cause::Magic));
+    for place in 0..BLOCK {
+        let block = changed(place, byte);
+        is_one(rt, &block, decode(&block));
+    }
+}
+
+#[test]
+fn each_block_is_one_request(rt: HostRuntime) {
+    for byte in 0..=255 {
+        are_ones(&rt, byte);
+    }
+}

@@ -4,6 +4,8 @@
 #[cfg(test)]
 mod edge_tests;
 #[cfg(test)]
+mod judged_tests;
+#[cfg(test)]
 mod large_tests;
 #[cfg(test)]
 mod word_tests;

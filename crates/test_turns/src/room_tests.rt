@@ -93,13 +93,17 @@ fn a_host_without_room_to_tell_makes_no_difference(rt: HostRuntime) -> Result<()
     Ok(())
 }
 
+/// An entry whose child runs from the first turn on.
+const INITTAB: &str = "id:3:initdefault:|r:3:respawn:serv";
+
 /// The inittab that is read anew is longer than the first.
-const GIFTS: &str = "bytes q / table a:S:off:x|b:S:off:y|c:S:off:z|d:S:off:v|e:S:off:w";
+const GIFTS: &str =
+    "bytes q / table id:3:initdefault:|r:3:respawn:serv|c:3:off:z|d:3:off:v|e:3:off:w";
 
-const READ: &[u8] =
-    b"clock 0\ngot reload\nnudge\nuse 5\na:S:off:x\nb:S:off:y\nc:S:off:z\nd:S:off:v\ne:S:off:w\nsettle S\n";
+const READ: &[u8] = b"clock 0\ngot reload\nnudge\nuse 5\nid:3:initdefault:\nr:3:respawn:serv\n\
+    c:3:off:z\nd:3:off:v\ne:3:off:w\nsettle 3\nask r look\nstill r\ntold r\n";
 
-const UNREAD: &[u8] = b"clock 0\ngot reload\nnudge\nnotread\n";
+const UNREAD: &[u8] = b"clock 0\ngot reload\nnudge\nnotread\nask r look\nstill r\ntold r\n";
 
 /// The inittab was read.
 fn was_read(host: &MemoryHost) -> bool {
@@ -140,7 +144,7 @@ fn reading_of(host: &MemoryHost, text: &[u8], entries: usize) -> Option<Reading>
     if text == READ && entries == 5 {
         return Some(Reading::Adopted);
     }
-    if text != UNREAD || entries != 1 {
+    if text != UNREAD || entries != 2 {
         return None;
     }
     if was_read(host) {
@@ -176,7 +180,7 @@ fn reading_in<'a>(
     }
 }
 
-/// Makes a turn, and gives the host what it is given after it.
+/// Makes a turn, in which the child is born, and gives the host what it is given after it.
 fn begins<A: Allocator + Copy>(
     own: Global,
     alloc: A,
@@ -184,7 +188,9 @@ fn begins<A: Allocator + Copy>(
     host: &mut MemoryHost,
     gifts: &str,
 ) -> bool {
-    turn_text(own, alloc, core, host).is_some() && give_all(own, own, host, gifts)
+    give_all(own, own, host, "start birth 10 / bytes")
+        && turn_text(own, alloc, core, host).is_some()
+        && give_all(own, own, host, gifts)
 }
 
 /// Reads inittab again with so much room left.
@@ -202,7 +208,7 @@ fn read_again<'a>(
 }
 
 fn read_over(own: Global, heap: &LocalHeap, room: usize) -> Option<Reading> {
-    let Some(mut core) = core_of(own, heap, "a:S:off:x") else {
+    let Some(mut core) = core_of(own, heap, INITTAB) else {
         return None;
     };
     read_again(own, heap, &mut core, room)
@@ -232,9 +238,9 @@ fn a_table_without_room_is_not_read(rt: HostRuntime) {
 }
 
 /// A turn that executes init anew, and one whose re-execution is refused.
-const HANDED: &[u8] = b"clock 0\ngot reexec\nnudge\nhanded whole\n";
+const HANDED: &[u8] = b"clock 0\ngot reexec\nnudge\nhanded whole\nask r look\nstill r\ntold r\n";
 
-const NOT_HANDED: &[u8] = b"clock 0\ngot reexec\nnudge\nhanded none\n";
+const NOT_HANDED: &[u8] = b"clock 0\ngot reexec\nnudge\nhanded none\nask r look\nstill r\ntold r\n";
 
 /// A state text was carried.
 fn was_carried(host: &MemoryHost) -> bool {
@@ -295,7 +301,7 @@ fn goes_on<A: Allocator + Copy>(
 ) -> bool {
     match &turn_text(own, alloc, core, host) {
         Some(text) => {
-            text.as_slice() == HANDED && core.table().len() == 1 && core.slots().len() == 1
+            text.as_slice() == HANDED && core.table().len() == 2 && core.slots().len() == 2
         }
         None => false,
     }
@@ -320,7 +326,7 @@ fn hand_over_twice<'a>(
 }
 
 fn hand_over_from(own: Global, heap: &LocalHeap, room: usize) -> Option<HandOver> {
-    let Some(mut core) = core_of(own, heap, "a:S:off:x") else {
+    let Some(mut core) = core_of(own, heap, INITTAB) else {
         return None;
     };
     hand_over_twice(own, heap, &mut core, room)
@@ -334,7 +340,7 @@ fn handed_in(own: Global, room: usize) -> Option<HandOver> {
 }
 
 #[test]
-fn init_without_room_is_not_executed_anew(rt: HostRuntime) {
+fn init_without_room_is_not_re_executed(rt: HostRuntime) {
     let mut unmade = 0u32;
     let mut refused = 0u32;
     let mut taken = 0u32;

@@ -240,6 +240,35 @@ const FAILING: &[Row] = &[
                 ask r term / hit r / told r / ask r look / still r / told r / \
                 clock 111 / nudge / ask r kill / hit r / told r / ask r look / death 10 / reaped r 10 killed / told r / settle 1",
     },
+    // The answer to the first look, which comes late.
+    Row {
+        inittab: "id:3:initdefault:|r:3:respawn:serv",
+        gifts: "start birth 10 / clock 100 / clock 101 / clock 106 / clock 107 / bytes / bytes 1 / \
+                table id:3:initdefault:|r:3:respawn:serv / signal hit / signal hit / look later / late / late / \
+                late r nolook / look still / look killed",
+        limit: (9, true),
+        ended: (4, true),
+        faults: 1,
+        trace: "clock 100 / nudge / enter sysinit 5 / enter boot 5 / enter 3 5 / ask r start / birth r 10 / told r / settle 3 / \
+                clock 101 / got level 1 5 / nudge / use 2 / id:3:initdefault: / r:3:respawn:serv / enter 1 5 / \
+                ask r term / hit r / told r / ask r look / \
+                clock 106 / nolook r / told r / nudge / ask r kill / hit r / told r / ask r look / still r / told r / \
+                clock 107 / nudge / ask r look / death 10 / reaped r 10 killed / told r / settle 1",
+    },
+    // The text of init's state, while the child runs.
+    Row {
+        inittab: "id:3:initdefault:|r:3:respawn:serv",
+        gifts: "start birth 10 / clock 100 / clock 101 / clock 106 / clock 111 / bytes / bytes u / bytes / bytes 1 / carry fails / \
+                table id:3:initdefault:|r:3:respawn:serv / signal hit / signal hit / look still / look still / look killed",
+        limit: (9, true),
+        ended: (4, true),
+        faults: 1,
+        trace: "clock 100 / nudge / enter sysinit 5 / enter boot 5 / enter 3 5 / ask r start / birth r 10 / told r / settle 3 / \
+                clock 101 / got reexec / nudge / handed none / ask r look / still r / told r / \
+                clock 106 / got level 1 5 / nudge / use 2 / id:3:initdefault: / r:3:respawn:serv / enter 1 5 / \
+                ask r term / hit r / told r / ask r look / still r / told r / \
+                clock 111 / nudge / ask r kill / hit r / told r / ask r look / death 10 / reaped r 10 killed / told r / settle 1",
+    },
     // The inittab,
     Row {
         inittab: "id:3:initdefault:|r:3:respawn:serv",
