@@ -40,7 +40,7 @@ started=$(pgrep -c -P $pid)
 sleep 10
 echo "500 children that sleep: $(awk -v a="$before" -v b="$(used $pid)" 'BEGIN { print (b - a) / 10 }')" \
     "milliseconds a second, $started children before, $(pgrep -c -P $pid) after"
-pkill -P $pid
+pkill -P $pid || true
 kill $pid
 wait $pid 2> /dev/null || true
 
@@ -54,7 +54,7 @@ begin=$(date +%s.%N)
 until_heard 'got ' 20000
 echo "20000 requests at once: heard in $(awk -v a="$begin" -v b="$(date +%s.%N)" 'BEGIN { print b - a }') seconds," \
     "$(grep -c '^got ' trace) of them"
-pkill -P $pid
+pkill -P $pid || true
 kill $pid
 wait $pid 2> /dev/null || true
 

@@ -1,6 +1,7 @@
 -- The arguments of a command line, by clap's own words. They are opaque, since a goal that sees them sees the whole
 -- parser.
-use Rattle.std.specs.Prelude.{ℕ, ◌≡◌, true, false, List, [], ◌∷◌, Some}
+use Rattle.std.specs.Prelude.{ℕ, ◌≡◌, Bool, true, false, List, [], ◌∷◌, codes, Some}
+use Rattle.std.specs.Str.{bytes_eq}
 use Rattle.clap.specs.declared.builder.action.ArgAction.TheVariants.{SetTrue}
 use Rattle.clap.specs.declared.builder.command.Command.{Command, out-Command}
 use Rattle.clap.specs.Words.{App, Rule, Text, app_of, new_app, new_rule, with_rule}
@@ -40,6 +41,12 @@ Adds old rule new =
 abbrev pub with_rules : App → List Rule → App
 with_rules app [] = app
 with_rules app (rule ∷ rules) = with_rules (with_rule app rule) rules
+
+-- the version is asked for
+abbrev pub asks_version : List Text → Bool
+asks_version [] = false
+asks_version (word ∷ []) = bytes_eq word (codes "--version")
+asks_version (word ∷ second ∷ others) = false
 
 -- the command has this line, and nothing for its subcommands
 abbrev pub IsLine : App → Command → Type 0

@@ -1,45 +1,24 @@
-//! What the programs do alike with a command line: its arguments, why words are refused, and the value of an argument.
+//! What the programs do alike with a command line: its arguments, why words are refused and how that is reported, the
+//! value of an argument, and whether the version is asked for.
 #![tactic(auto)]
 
-ghost use Rattle.std.specs.Prelude.{◌≡◌, ◌≢◌, [], unwrap_or, IfOk};
-ghost use Rattle.clap.specs.Words.{first_of, found_of, kind_of, rows_of};
-ghost use Rattle.command_words.specs.CommandLines.{Adds, IsLine, default_rule, program_app, short_rule, switch_rule, value_rule, word_rule};
+ghost use Rattle.std.specs.Prelude.{◌≡◌, [], unwrap_or, map, string_bytes, IfOk};
+ghost use Rattle.clap.specs.Words.{first_of, found_of, rows_of};
+ghost use Rattle.command_words.specs.CommandLines.{Adds, IsLine, asks_version, default_rule, program_app, short_rule, switch_rule, value_rule, word_rule};
 
-use clap::error::ErrorKind;
-use clap::{Arg, ArgAction, ArgMatches, Command, Error};
+mod faults;
+
+use clap::{Arg, ArgAction, ArgMatches, Command};
+pub use faults::{WordFault, report_refused_words, report_word_fault, word_fault};
 use std::alloc::{AllocError, Global};
 
-/// Why words were not read.
-#[derive(Clone, Copy, Debug, PartialEq, Eq, thiserror::Error)]
-pub enum WordFault {
-    /// They are no command line of the program. A request for help is none.
-    #[error("not a command line")]
-    Usage,
-    /// Out of memory.
-    #[error("out of memory")]
-    Memory,
-}
-
-impl From<AllocError> for WordFault {
-    ghost use Rattle.std.specs.Prelude.{◌≡◌};
-    ghost use Rattle.command_words.specs.declared.WordFault.TheVariants.{Memory};
-
-    ghost from_gives = { λ _ fault. fault ≡ Memory };
-
-    fn from(_error: AllocError) -> WordFault {
-        WordFault::Memory
-    }
-}
-
-/// The fault of words that clap refused: lack of memory where that was the reason, else usage.
-pub fn word_fault(error: &Error) -> WordFault
-    ensures usage { result ≡ WordFault.Usage → kind_of error.now ≢ ErrorKind.OutOfMemory }
-    ensures memory { result ≡ WordFault.Memory → kind_of error.now ≡ ErrorKind.OutOfMemory }
+/// The words ask for the version: they are `--version` alone.
+pub fn is_version(words: &[String]) -> bool
+    ensures { result ≡ asks_version (map string_bytes words.now) }
 {
-    if error.kind() == ErrorKind::OutOfMemory {
-        WordFault::Memory
-    } else {
-        WordFault::Usage
+    match words {
+        [word] => word.as_str() == "--version",
+        _ => false,
     }
 }
 
@@ -60,7 +39,7 @@ pub fn program_line<'a>(alloc: Global, name: &'a str) -> Command<'a>
     Command::new(alloc, name).no_binary_name(true)
 }
 
-/// A command line with a word that has to be there, after its other arguments. It fails for lack of memory alone, as
+/// A command line with a word that has to be there, behind its other arguments. It fails for want of memory alone, as
 /// those below.
 pub fn with_word<'a>(
     alloc: Global,

@@ -1,13 +1,26 @@
 -- What a run left, where its writer was only flushed since.
-use Rattle.std.proofs.Common.{◌≡◌, refl, sym, ap₂, Result, Ok, Err, IfErr, OnOk, ◌⊎◌, inl, inr, Bool, true, false, ◌&&◌, List, ℕ, Option}
+use Rattle.std.proofs.Common.{◌≡◌, refl, sym, ap, subst, Result, Ok, Err, IfErr, OnOk, ◌⊎◌, inl, inr, Bool, List, [], ℕ, ◌≤◌, length, Option, Some, None, unwrap_or, IsSome}
+use Rattle.std.specs.Result.{IsErrAnd}
+use Rattle.std.proofs.lemmas.Bool.{false≢true}
+use Rattle.std.specs.declared.io.Error.{Error}
 use Rattle.std.specs.Io.KnownBytes.{Appends, Keeps}
-use Rattle.std.proofs.KnownBytes.{Appends-kept, Keeps-trans}
+use Rattle.program_io.specs.Writing.{AppendsPrefix}
+use Rattle.program_io.specs.declared.statuses.TheConstants.{DEVICE_FAULT}
+use Rattle.initd_command.specs.declared.run.TheConstants.{UNTOLD}
+use Rattle.std.proofs.KnownBytes.{Appends-kept, Keeps-refl, Keeps-trans}
 use Rattle.simulator.specs.declared.running.SimFault.{SimFault}
 use Rattle.simulator.specs.declared.running.SimFault.TheVariants as fault
 use Rattle.simulator.specs.Simulation.{Done, Ends, Scenario, past_text}
-use Rattle.supervisor.specs.declared.serving.Served.{Served}
+use Rattle.path_texts.specs.Known.{IsTextAt, KnownTexts}
+use Rattle.initd_command.specs.declared.run.RunFault.{RunFault}
+use Rattle.initd_command.specs.declared.run.RunFault.TheVariants as why
+use Rattle.inittab_text.specs.declared.reading.TheConstants.{TEXT_LIMIT}
+use Rattle.inittab_text.specs.Reading.{faults_of_text, table_of_text}
+use Rattle.initd_command.specs.Endings.{Ending, Reports, ReportsUnled, status_of, busy, done, lawful, no_memory, stopped, torn, turned, uncreated, unflushed, unlawful, unlocked, unread, untold, unversioned, unwritten, usage}
+use Rattle.initd_command.specs.Turned.{End}
+use Rattle.os_host.specs.LineFaults.{faults_text}
 use Rattle.initd_options.specs.Options.{RunSaid}
-use Rattle.initd_command.specs.Services.{EndsTold, IsServed, end_at, end_of}
+use Rattle.initd_command.specs.Services.{EndsRun, EndsServed, EndsTold, FailsBy, HasInittab, IsOfFault, Turns, is_unled}
 
 pub done_kept : (s : Scenario) (old mid new : Option (List ℕ)) → Done s old mid → Keeps mid new → Done s old new
 done_kept s old mid new (past, rested, written) kept = (past, rested, Appends-kept old mid new (past_text past) written kept)
@@ -25,20 +38,108 @@ ends_kept s fault.Memory old mid new (rest, past, run, (front, back, is, written
 
 -- a run is done, or ended by a fault
 pub either_end : {T : Type 0} (r : Result T SimFault) (D : Type 0) (E : SimFault → Type 0) → OnOk r D → IfErr r E → D ⊎ ((f : SimFault) × E f)
-either_end (Ok done) D E on_ok on_err = inl on_ok
+either_end (Ok value) D E on_ok on_err = inl on_ok
 either_end (Err f) D E on_ok on_err = inr (f, on_err)
 
 pub either_kept : (s : Scenario) (old mid new : Option (List ℕ)) → Done s old mid ⊎ ((f : SimFault) × Ends s f old mid) → Keeps mid new
     → Done s old new ⊎ ((f : SimFault) × Ends s f old new)
-either_kept s old mid new (inl done) kept = inl (done_kept s old mid new done kept)
+either_kept s old mid new (inl whole) kept = inl (done_kept s old mid new whole kept)
 either_kept s old mid new (inr (f, ends)) kept = inr (f, ends_kept s f old mid new ends kept)
 
 -- a run whose turns were made ends as they did
-pub told_ends : (service : RunSaid) (told : List ℕ) (old new : Option (List ℕ)) (served : Served) → IsServed service served → Appends old new told
-    → EndsTold service told (end_of service.drain served) old new
-told_ends service told old new served is appends = by served.logged (service.drain && served.drained) refl refl
+pub told_ends : (service : RunSaid) (unled : Bool) (told : List ℕ) (old new : Option (List ℕ)) (end : End) → EndsServed service end → Appends old new told
+    → EndsTold service unled told (turned unled end) old new
+told_ends service unled told old new end served appends = (end, refl, served, appends)
+
+-- a run that ended before its first turn ends by its fault
+pub fails_run : (text_at : KnownTexts) (service : RunSaid) (fault : RunFault) (ending : Ending) (at : Option (List ℕ)) → FailsBy text_at service fault
+    → IsOfFault service fault ending → EndsRun text_at service ending at at
+fails_run text_at service why.Busy ending at by is = rw is (refl, Keeps-refl at)
+fails_run text_at service (why.Channel error) ending at by (reason, is) = rw is (refl, Keeps-refl at)
+fails_run text_at service (why.Inittab error) ending at by (reason, is) = rw is (refl, Keeps-refl at)
+fails_run text_at service why.TooLong ending at (inittab, is_text, long) is = rw is (inittab, is_text, (refl, long, Keeps-refl at))
+fails_run text_at service (why.Trace error) ending at (some, (inittab, is_text, short)) (reason, is) =
+    rw is (inittab, is_text, (short, (traced service.trace some, Keeps-refl at)))
   where
-    by : (logged over : Bool) → served.logged ≡ logged → (service.drain && served.drained) ≡ over → EndsTold service told (end_at logged over) old new
-    by false over l o = (served, sym (ap₂ end_at l o), is, appends)
-    by true true l o = (served, sym (ap₂ end_at l o), is, appends)
-    by true false l o = (served, sym (ap₂ end_at l o), is, appends)
+    traced : (trace : Option (List ℕ)) → IsSome trace → trace ≡ Some (unwrap_or trace [])
+    traced (Some path) given = refl
+    traced None given = absurd (false≢true given)
+fails_run text_at service why.Memory ending at (inittab, is_text, short) is = rw is (inittab, is_text, (short, Keeps-refl at))
+
+-- a run whose inittab was read ends over its text
+pub told_runs : (text_at : KnownTexts) (service : RunSaid) (inittab : List ℕ) (ending : Ending) (old new : Option (List ℕ))
+    → IsTextAt text_at service.inittab inittab → length inittab ≤ TEXT_LIMIT
+    → EndsTold service (is_unled service.level (table_of_text inittab)) (faults_text (faults_of_text inittab)) ending old new
+    → EndsRun text_at service ending old new
+told_runs text_at service inittab (busy path) old new at short ends = let wrong = ends.1 in absurd (cc)
+told_runs text_at service inittab (unlocked path why) old new at short ends = let wrong = ends.1 in absurd (cc)
+told_runs text_at service inittab (unread path why) old new at short ends = let wrong = ends.1 in absurd (cc)
+told_runs text_at service inittab (stopped script f) old new at short ends = let wrong = ends.1 in absurd (cc)
+told_runs text_at service inittab done old new at short ends = (inittab, at, (short, ends))
+told_runs text_at service inittab (usage reason) old new at short ends = (inittab, at, (short, ends))
+told_runs text_at service inittab no_memory old new at short ends = (inittab, at, (short, ends))
+told_runs text_at service inittab unflushed old new at short ends = (inittab, at, (short, ends))
+told_runs text_at service inittab lawful old new at short ends = (inittab, at, (short, ends))
+told_runs text_at service inittab (unlawful message) old new at short ends = (inittab, at, (short, ends))
+told_runs text_at service inittab (torn line) old new at short ends = (inittab, at, (short, ends))
+told_runs text_at service inittab unwritten old new at short ends = (inittab, at, (short, ends))
+told_runs text_at service inittab (turned unled end) old new at short ends = (inittab, at, (short, ends))
+told_runs text_at service inittab (uncreated path why) old new at short ends = (inittab, at, (short, ends))
+told_runs text_at service inittab untold old new at short ends = (inittab, at, (short, ends))
+told_runs text_at service inittab unversioned old new at short ends = (inittab, at, (short, ends))
+
+-- a run over an inittab that was read ends as is told of it
+pub opened_runs : (text_at : KnownTexts) (service : RunSaid) (unled : Bool) (faults : List ℕ) (ending : Ending) (old new : Option (List ℕ))
+    → HasInittab text_at service.inittab (λ inittab. (faults ≡ faults_text (faults_of_text inittab)) × (unled ≡ is_unled service.level (table_of_text inittab)))
+    → EndsTold service unled faults ending old new → EndsRun text_at service ending old new
+opened_runs text_at service unled faults ending old new (inittab, at, short, (told, led)) ends =
+    told_runs text_at service inittab ending old new at short
+    (subst (λ lines. EndsTold service (is_unled service.level (table_of_text inittab)) lines ending old new) told
+    (subst (λ b. EndsTold service b faults ending old new) led ends))
+
+-- the endings that faults are which end a run before its first turn
+pub of_busy : (service : RunSaid) (fault : RunFault) (path : List ℕ) → fault ≡ why.Busy → path ≡ service.initctl → IsOfFault service fault (busy path)
+of_busy service fault path is at = subst (λ f. IsOfFault service f (busy path)) (sym is) (ap busy at)
+
+pub of_channel : (service : RunSaid) (fault : RunFault) (error : Error) (path reason : List ℕ) → fault ≡ why.Channel error → path ≡ service.initctl
+    → IsOfFault service fault (unlocked path reason)
+of_channel service fault error path reason is at =
+    subst (λ f. IsOfFault service f (unlocked path reason)) (sym is) (reason, ap (λ p. unlocked p reason) at)
+
+pub of_inittab : (service : RunSaid) (fault : RunFault) (error : Error) (path reason : List ℕ) → fault ≡ why.Inittab error → path ≡ service.inittab
+    → IsOfFault service fault (unread path reason)
+of_inittab service fault error path reason is at =
+    subst (λ f. IsOfFault service f (unread path reason)) (sym is) (reason, ap (λ p. unread p reason) at)
+
+pub of_long : (service : RunSaid) (given : RunFault) → given ≡ why.TooLong → IsOfFault service given (stopped [] fault.Table)
+of_long service given is = subst (λ f. IsOfFault service f (stopped [] fault.Table)) (sym is) refl
+
+pub of_trace : (service : RunSaid) (fault : RunFault) (error : Error) (path reason : List ℕ) → fault ≡ why.Trace error → path ≡ unwrap_or service.trace []
+    → IsOfFault service fault (uncreated path reason)
+of_trace service fault error path reason is at =
+    subst (λ f. IsOfFault service f (uncreated path reason)) (sym is) (reason, ap (λ p. uncreated p reason) at)
+
+pub of_memory : (service : RunSaid) (fault : RunFault) → fault ≡ why.Memory → IsOfFault service fault no_memory
+of_memory service fault is = subst (λ f. IsOfFault service f no_memory) (sym is) refl
+
+-- a run of whose inittab not all was told
+pub untold_run : (service : RunSaid) (unled : Bool) (told lines : List ℕ) (old new err now_err : Option (List ℕ)) → lines ≡ told
+    → AppendsPrefix old new lines → AppendsPrefix err now_err UNTOLD.now
+    → (ending : Ending) × (DEVICE_FAULT ≡ status_of ending) × EndsTold service unled told ending old new × Reports ending err now_err
+untold_run service unled told lines old new err now_err is part reported = (untold, refl, subst (AppendsPrefix old new) is part, reported)
+
+-- a run whose turns were made, with what was told and reported before them
+pub turned_run : (service : RunSaid) (unled : Bool) (told lines : List ℕ) (status : ℕ) (old new err mid now_err : Option (List ℕ)) → lines ≡ told
+    → Appends old new lines → ReportsUnled unled err mid → Turns service status mid now_err
+    → (ending : Ending) × (status ≡ status_of ending) × EndsTold service unled told ending old new × Reports ending err now_err
+turned_run service unled told lines status old new err mid now_err is appends led (end, now, served, reported) = (
+  turned unled end,
+  now,
+  told_ends service unled told old new end served (subst (Appends old new) is appends),
+  (mid, led, reported),
+)
+
+-- what is so of a fault is so of it handed on
+pub handed_on : {T : Type 0} (r : Result T RunFault) (given : RunFault) (So : RunFault → Type 0) → IsErrAnd r (λ fault. fault ≡ given) → So given → IfErr r So
+handed_on (Ok value) given So is so = tt
+handed_on (Err error) given So is so = subst So (sym is) so

@@ -1,2 +1,3 @@
 pub mod Breaches
 pub mod Ended
+pub mod Noted

@@ -1,8 +1,8 @@
 -- How a command line of initd ends: its exit status, what was written, and what is reported of it.
-use Rattle.std.specs.Prelude.{◌⊎◌, ℕ, List, [], ◌++◌, codes, decimal, Option}
+use Rattle.std.specs.Prelude.{ℕ, Bool, true, false, List, [], ◌++◌, codes, decimal, Option}
 use Rattle.std.specs.Io.KnownBytes.{Keeps}
 use Rattle.program_io.specs.Writing.{AppendsPrefix}
-use Rattle.program_io.specs.declared.statuses.TheConstants.{DONE, REFUSED, UNLAWFUL, LIMIT_REACHED, DEVICE_FAULT}
+use Rattle.program_io.specs.declared.statuses.TheConstants.{DONE, REFUSED, UNLAWFUL, DEVICE_FAULT}
 use Rattle.simulator.specs.declared.running.SimFault.{SimFault}
 use Rattle.simulator.specs.declared.running.SimFault.TheVariants as fault
 use Rattle.simulator.specs.Faults.{fault_text}
@@ -11,17 +11,19 @@ use Rattle.simulated_system.specs.Objections.{objection_text}
 use Rattle.initd_command.specs.Lines.{line_at, line_told}
 use Rattle.initd_command.specs.declared.check.TheConstants.{UNWRITTEN}
 use Rattle.initd_command.specs.declared.reports.TheConstants.{NO_MEMORY}
-use Rattle.initd_command.specs.declared.command.TheConstants.{USAGE}
-use Rattle.initd_command.specs.declared.run.TheConstants.{LIMITED, UNLOGGED, UNTOLD}
+use Rattle.initd_command.specs.declared.command.TheConstants.{UNVERSIONED, USAGE}
+use Rattle.initd_command.specs.declared.run.TheConstants.{UNLED, UNTOLD}
+use Rattle.initd_command.specs.Turned.{End, ReportsEnd, ReportsText, end_status}
+use Rattle.command_words.specs.Faults.{usage_report}
 
--- done; the words are no command line, or memory ran out; the file of a path was not read, and why; the run over this
--- script ended before its end; the writer could not be flushed; a trace is lawful, or unlawful, of which this is told;
--- its line of this number is none; the verdict could not be written; a run over the operating system is drained, or
--- made all its turns; its trace was not written whole, or the file of its path not created, and why; the faults of its
--- inittab could not be written
+-- done; the words are no command line, and why, or memory ran out; the file of a path was not read, and why; the run
+-- over this script ended before its end; the writer could not be flushed; a trace is lawful, or unlawful, of which this
+-- is told; its line of this number is none; the verdict could not be written; the channel of a run over the operating
+-- system is in use, or was not locked, and why; its turns ended so, where nothing names its level or something does; the
+-- file of its trace was not created, and why; the faults of its inittab could not be written; the version could not be
 pub data Ending : Type 0 where
   done : Ending
-  usage : Ending
+  usage : List ℕ → Ending
   no_memory : Ending
   unread : List ℕ → List ℕ → Ending
   stopped : List ℕ → SimFault → Ending
@@ -30,11 +32,12 @@ pub data Ending : Type 0 where
   unlawful : List ℕ → Ending
   torn : ℕ → Ending
   unwritten : Ending
-  drained : Ending
-  limited : Ending
-  unlogged : Ending
+  busy : List ℕ → Ending
+  unlocked : List ℕ → List ℕ → Ending
+  turned : Bool → End → Ending
   uncreated : List ℕ → List ℕ → Ending
   untold : Ending
+  unversioned : Ending
 
 abbrev pub fault_status : SimFault → ℕ
 fault_status fault.Table = REFUSED
@@ -45,7 +48,7 @@ fault_status fault.Memory = DEVICE_FAULT
 
 abbrev pub status_of : Ending → ℕ
 status_of done = DONE
-status_of usage = REFUSED
+status_of (usage reason) = REFUSED
 status_of no_memory = DEVICE_FAULT
 status_of (unread path why) = DEVICE_FAULT
 status_of (stopped script f) = fault_status f
@@ -54,11 +57,12 @@ status_of lawful = DONE
 status_of (unlawful message) = UNLAWFUL
 status_of (torn line) = REFUSED
 status_of unwritten = DEVICE_FAULT
-status_of drained = DONE
-status_of limited = LIMIT_REACHED
-status_of unlogged = DEVICE_FAULT
+status_of (busy path) = DEVICE_FAULT
+status_of (unlocked path why) = DEVICE_FAULT
+status_of (turned unled end) = end_status end
 status_of (uncreated path why) = DEVICE_FAULT
 status_of untold = DEVICE_FAULT
+status_of unversioned = DEVICE_FAULT
 
 -- a line of a script that may not come there, and why
 abbrev pub reason_message : List ℕ → Objection → List ℕ
@@ -82,14 +86,23 @@ created_message path why = codes "initd: cannot create " ++ path ++ codes ": " +
 abbrev pub torn_message : ℕ → List ℕ
 torn_message line = codes "initd: trace line " ++ decimal line ++ codes " is not a line\n"
 
--- the text is reported, as far as the writer takes it, or that there was no memory for it
-abbrev pub ReportsText : List ℕ → Option (List ℕ) → Option (List ℕ) → Type 0
-ReportsText text old new = AppendsPrefix old new text ⊎ AppendsPrefix old new NO_MEMORY.now
+abbrev pub busy_message : List ℕ → List ℕ
+busy_message path =
+    codes "initd: " ++ path
+    ++ codes " is in use by another initd run: end that one, or give another --initctl\n"
+
+abbrev pub unlocked_message : List ℕ → List ℕ → List ℕ
+unlocked_message path why = codes "initd: cannot lock " ++ path ++ codes ": " ++ why ++ codes "\n"
+
+-- what is reported where nothing names a level
+abbrev pub ReportsUnled : Bool → Option (List ℕ) → Option (List ℕ) → Type 0
+ReportsUnled false old new = Keeps old new
+ReportsUnled true old new = AppendsPrefix old new UNLED.now
 
 -- what is reported of an ending
 abbrev pub Reports : Ending → Option (List ℕ) → Option (List ℕ) → Type 0
 Reports done old new = Keeps old new
-Reports usage old new = AppendsPrefix old new USAGE.now
+Reports (usage reason) old new = AppendsPrefix old new (usage_report (codes "initd") reason USAGE.now)
 Reports no_memory old new = AppendsPrefix old new NO_MEMORY.now
 Reports (unread path why) old new = ReportsText (file_message path why) old new
 Reports (stopped script f) old new = ReportsText (fault_message script f) old new
@@ -98,8 +111,9 @@ Reports lawful old new = Keeps old new
 Reports (unlawful message) old new = AppendsPrefix old new message
 Reports (torn line) old new = ReportsText (torn_message line) old new
 Reports unwritten old new = AppendsPrefix old new UNWRITTEN.now
-Reports drained old new = Keeps old new
-Reports limited old new = AppendsPrefix old new LIMITED.now
-Reports unlogged old new = AppendsPrefix old new UNLOGGED.now
+Reports (busy path) old new = ReportsText (busy_message path) old new
+Reports (unlocked path why) old new = ReportsText (unlocked_message path why) old new
+Reports (turned unled end) old new = (mid : Option (List ℕ)) × ReportsUnled unled old mid × ReportsEnd end mid new
 Reports (uncreated path why) old new = ReportsText (created_message path why) old new
 Reports untold old new = AppendsPrefix old new UNTOLD.now
+Reports unversioned old new = AppendsPrefix old new UNVERSIONED.now

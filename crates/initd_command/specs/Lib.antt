@@ -2,4 +2,5 @@ pub mod Endings
 pub mod Lines
 pub mod Runs
 pub mod Services
+pub mod Turned
 pub mod Verdicts

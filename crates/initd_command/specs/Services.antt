@@ -1,33 +1,65 @@
 -- How a run over the operating system ends. Its host tells nothing of what was asked of it, so this is what is written,
 -- and how the exit status follows from what ended the turns.
-use Rattle.std.specs.Prelude.{◌≡◌, ◌≤◌, ◌<◌, ◌&&◌, ℕ, Bool, true, false, List, ◌++◌, flat_map, length, codes, Option, Some}
+use Rattle.std.specs.Prelude.{◌≡◌, ◌≤◌, ◌<◌, ◌⊎◌, ◌&&◌, ◌==◌, min, if◌then◌else◌, ℕ, Bool, true, false, List, [], length, Option, Some, None, option_map, is_none, unwrap_or, IsSome, IsTrue, ⊤}
 use Rattle.std.specs.Io.KnownBytes.{Appends, Keeps}
 use Rattle.program_io.specs.Writing.{AppendsPrefix}
 use Rattle.path_texts.specs.Known.{IsTextAt, KnownTexts}
-use Rattle.inittab_text.specs.declared.faults.LineFault.{LineFault}
 use Rattle.inittab_text.specs.declared.reading.TheConstants.{TEXT_LIMIT}
-use Rattle.inittab_text.specs.Faults.{line_fault_text}
-use Rattle.inittab_text.specs.Reading.{faults_of_text}
+use Rattle.inittab_text.specs.Reading.{faults_of_text, table_of_text}
+use Rattle.inittab_text.specs.Tables.{default_level_of}
+use Rattle.init_words.specs.declared.entries.Entry.{Entry}
+use Rattle.init_words.specs.declared.levels.Level.{Level}
+use Rattle.run_notes.specs.declared.LastEnd.{LastEnd}
+use Rattle.run_notes.specs.declared.LastEnd.TheVariants.{Unnoted}
+use Rattle.run_notes.specs.declared.TheConstants.{BIRTHS_LIMIT}
+use Rattle.run_notes.specs.Ends.{births, last_end}
+use Rattle.run_notes.specs.Notes.{Notes, last_noted, last_of}
 use Rattle.simulator.specs.declared.running.SimFault.TheVariants as fault
+use Rattle.init_trace.specs.Event.{Event}
+use Rattle.core_model.specs.State.{opening_goal}
+use Rattle.child_host.specs.Calls.{HostCall}
+use Rattle.host_trace.specs.Leads.{are_carried, is_allowed}
+use Rattle.host_trace.specs.Point.{point_after}
 use Rattle.supervisor.specs.declared.serving.Served.{Served}
-use Rattle.initd_command.specs.Endings.{Ending, no_memory, unread, stopped, drained, limited, unlogged, uncreated, untold}
+use Rattle.supervisor.specs.Opening.{opening_point}
+use Rattle.initd_command.specs.declared.run.RunFault.{RunFault}
+use Rattle.initd_command.specs.declared.run.RunFault.TheVariants as why
+use Rattle.initd_command.specs.Endings.{Ending, no_memory, unread, stopped, busy, turned, uncreated, unlocked, untold}
+use Rattle.initd_command.specs.Turned.{End, EntryEnd, ReportsEnd, drained, end_status, limited, unlogged}
+use Rattle.os_host.specs.LineFaults.{faults_text}
 use Rattle.initd_options.specs.Options.{RunSaid}
 
--- the line that tells of a line that was left out
-abbrev pub fault_line : LineFault → List ℕ
-fault_line fault = codes "initd: " ++ line_fault_text fault ++ codes "\n"
+-- nothing names the level that init goes to: neither the words nor the table
+abbrev pub is_unled : Option Level → List Entry → Bool
+is_unled (Some level) table = false
+is_unled None table = is_none (default_level_of table)
 
-abbrev pub faults_text : List LineFault → List ℕ
-faults_text faults = flat_map fault_line faults
+-- what is noted of a run: how many children were born, how the last child of an id ended, and the children that go on,
+-- where all of them are known
+pub record Noted : Type 0 where
+  pub births : ℕ
+  pub last : List ℕ → LastEnd
+  pub running : Option (List (List ℕ × ℕ))
+
+abbrev pub noted_of : {L : Type 0} → Notes L → Noted
+noted_of notes = record {
+  births = notes.births;
+  last = λ id. last_noted id notes;
+  running = if notes.complete then Some notes.running else None;
+}
+
+-- the end of an entry, where the run has an entry's result
+abbrev pub entry_end : (List ℕ → LastEnd) → Option (List ℕ) → Option EntryEnd
+entry_end last entry = option_map (λ id. record { id = id; last = last id }) entry
 
 -- how turns end: the trace was written whole or not, and the run was to end where it is drained, and is
-abbrev pub end_at : Bool → Bool → Ending
-end_at false _ = unlogged
-end_at true true = drained
-end_at true false = limited
+abbrev pub end_at : RunSaid → Noted → Bool → Bool → End
+end_at service noted false _ = unlogged
+end_at service noted true true = drained (noted.births == 0) (entry_end noted.last service.result)
+end_at service noted true false = limited noted.running
 
-abbrev pub end_of : Bool → Served → Ending
-end_of drain served = end_at served.logged (drain && served.drained)
+abbrev pub end_of : RunSaid → Noted → Served → End
+end_of service noted served = end_at service noted served.logged (service.drain && served.drained)
 
 -- it made no more turns than were asked for, and fewer only where it was to end drained, and is
 abbrev pub IsServed : RunSaid → Served → Type 0
@@ -35,23 +67,94 @@ IsServed service served =
     (served.turns ≤ service.turns)
     × (served.turns < service.turns → (service.drain ≡ true) × (served.drained ≡ true))
 
--- how a run ends of which this is told at its opening
-abbrev pub EndsTold : RunSaid → List ℕ → Ending → Option (List ℕ) → Option (List ℕ) → Type 0
-EndsTold service told no_memory old new = Keeps old new
-EndsTold service told (uncreated path why) old new = (service.trace ≡ Some path) × Keeps old new
-EndsTold service told untold old new = AppendsPrefix old new told
-EndsTold service told ending old new =
-    (served : Served) × (ending ≡ end_of service.drain served) × IsServed service served × Appends old new told
+-- turns were made that ended so
+abbrev pub EndsServed : RunSaid → End → Type 0
+EndsServed service end = (served : Served) × (noted : Noted) × (end ≡ end_of service noted served) × IsServed service served
+
+-- turns were made, with this exit status, and this was reported of their end
+abbrev pub Turns : RunSaid → ℕ → Option (List ℕ) → Option (List ℕ) → Type 0
+Turns service status old new =
+    (end : End) × (status ≡ end_status end) × EndsServed service end × ReportsEnd end old new
+
+-- they are the notes of this trace, the newest happening first
+pub record IsNoted (noted : Noted) (past : List Event) : Type 0 where
+  pub births : noted.births ≡ min (births past) BIRTHS_LIMIT
+  pub last : (id : List ℕ) → (noted.last id ≡ Unnoted) ⊎ (noted.last id ≡ last_of (last_end id past))
+
+-- the same of turns that made this trace: where it was taken whole, what is noted is noted of it
+abbrev pub TurnsOver : RunSaid → ℕ → Option (List ℕ) → Option (List ℕ) → List Event → Type 0
+TurnsOver service status old new past =
+    (served : Served) × (noted : Noted) × (status ≡ end_status (end_of service noted served)) × IsServed service served
+    × (served.logged ≡ true → IsNoted noted past) × ReportsEnd (end_of service noted served) old new
+
+-- the same over a host that tells the calls that were made of it, where they are those of an opening
+abbrev pub TurnsFrom : Option Level → List Entry → List HostCall → (List Event → Type 0) → Type 0
+TurnsFrom level table calls So =
+    IsTrue (is_allowed (opening_goal level table) (point_after calls (opening_point table)).past)
+    → IsTrue (are_carried calls (opening_point table)) → So (point_after calls (opening_point table)).past
+
+-- how a run ends of which this is told at its opening, where nothing names a level or something does
+abbrev pub EndsTold : RunSaid → Bool → List ℕ → Ending → Option (List ℕ) → Option (List ℕ) → Type 0
+EndsTold service unled told no_memory old new = Keeps old new
+EndsTold service unled told (uncreated path why) old new = (service.trace ≡ Some path) × Keeps old new
+EndsTold service unled told untold old new = AppendsPrefix old new told
+EndsTold service unled told ending old new =
+    (end : End) × (ending ≡ turned unled end) × EndsServed service end × Appends old new told
 
 -- how a run ends over the text of an inittab: it is too long and nothing written, or the faults of its lines are told
 abbrev pub EndsOver : RunSaid → List ℕ → Ending → Option (List ℕ) → Option (List ℕ) → Type 0
 EndsOver service inittab (stopped script f) old new =
     (f ≡ fault.Table) × (TEXT_LIMIT < length inittab) × Keeps old new
 EndsOver service inittab ending old new =
-    (length inittab ≤ TEXT_LIMIT) × EndsTold service (faults_text (faults_of_text inittab)) ending old new
+    (length inittab ≤ TEXT_LIMIT)
+    × EndsTold service (is_unled service.level (table_of_text inittab)) (faults_text (faults_of_text inittab)) ending old new
 
--- how a run ends: its inittab is not read and nothing written, or it ends over what was read
+-- how a run ends: its channel is in use or not locked, or its inittab not read, and nothing written, or it ends over
+-- what was read
 abbrev pub EndsRun : KnownTexts → RunSaid → Ending → Option (List ℕ) → Option (List ℕ) → Type 0
+EndsRun text_at service (busy path) old new = (path ≡ service.initctl) × Keeps old new
+EndsRun text_at service (unlocked path why) old new = (path ≡ service.initctl) × Keeps old new
 EndsRun text_at service (unread path why) old new = (path ≡ service.inittab) × Keeps old new
 EndsRun text_at service ending old new =
     (inittab : List ℕ) × IsTextAt text_at service.inittab inittab × EndsOver service inittab ending old new
+
+-- the text at the path is not too long, and so
+abbrev pub HasInittab : KnownTexts → List ℕ → (List ℕ → Type 0) → Type 0
+HasInittab text_at path So =
+    (inittab : List ℕ) × IsTextAt text_at path inittab × (length inittab ≤ TEXT_LIMIT) × So inittab
+
+-- Why a run ended before its first turn, and what is so then.
+abbrev pub FailsToLock : RunFault → Type 0
+FailsToLock why.Busy = ⊤
+FailsToLock (why.Channel error) = ⊤
+FailsToLock _ = ⊥
+
+abbrev pub FailsToRead : KnownTexts → List ℕ → RunFault → Type 0
+FailsToRead text_at path (why.Inittab error) = ⊤
+FailsToRead text_at path why.TooLong =
+    (inittab : List ℕ) × IsTextAt text_at path inittab × (TEXT_LIMIT < length inittab)
+FailsToRead text_at path why.Memory =
+    (inittab : List ℕ) × IsTextAt text_at path inittab × (length inittab ≤ TEXT_LIMIT)
+FailsToRead text_at path _ = ⊥
+
+abbrev pub FailsOver : RunSaid → RunFault → Type 0
+FailsOver service (why.Trace error) = IsSome service.trace
+FailsOver service why.Memory = ⊤
+FailsOver service _ = ⊥
+
+abbrev pub FailsBy : KnownTexts → RunSaid → RunFault → Type 0
+FailsBy text_at service why.Busy = ⊤
+FailsBy text_at service (why.Channel error) = ⊤
+FailsBy text_at service (why.Trace error) = IsSome service.trace × ((inittab : List ℕ)
+    × IsTextAt text_at service.inittab inittab × (length inittab ≤ TEXT_LIMIT))
+FailsBy text_at service fault = FailsToRead text_at service.inittab fault
+
+-- the ending that such a fault is
+abbrev pub IsOfFault : RunSaid → RunFault → Ending → Type 0
+IsOfFault service why.Busy ending = ending ≡ busy service.initctl
+IsOfFault service (why.Channel error) ending = (reason : List ℕ) × (ending ≡ unlocked service.initctl reason)
+IsOfFault service (why.Inittab error) ending = (reason : List ℕ) × (ending ≡ unread service.inittab reason)
+IsOfFault service why.TooLong ending = ending ≡ stopped [] fault.Table
+IsOfFault service (why.Trace error) ending =
+    (reason : List ℕ) × (ending ≡ uncreated (unwrap_or service.trace []) reason)
+IsOfFault service why.Memory ending = ending ≡ no_memory

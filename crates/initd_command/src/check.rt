@@ -2,7 +2,8 @@ ghost use Rattle.std.specs.Prelude.{◌≡◌, ◌<◌, ℕ, List, Some, length,
 ghost use Rattle.std.specs.Io.KnownBytes.{Appends};
 ghost use Rattle.program_io.specs.Writing.{AppendsPrefix};
 ghost use Rattle.init_trace.specs.Lawful.{Fault};
-ghost use Rattle.initd_command.specs.Endings.{Ending, Reports, ReportsText, status_of, torn_message};
+ghost use Rattle.initd_command.specs.Endings.{Ending, Reports, status_of, torn_message};
+ghost use Rattle.initd_command.specs.Turned.{ReportsText};
 ghost use Rattle.initd_command.specs.Verdicts.{EndsBreach, EndsCheck, EndsLawful, EndsTrace, EndsVerdict, breach_message, fault_at, law_text, message_of, unlawful_text};
 
 use crate::lines::front_line;

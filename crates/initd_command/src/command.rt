@@ -1,41 +1,59 @@
 ghost use Rattle.std.specs.Prelude.{◌≡◌, map, string_bytes};
 ghost use Rattle.initd_command.specs.Endings.{Ending, Reports, status_of};
-ghost use Rattle.initd_command.specs.Runs.{EndsBy};
+ghost use Rattle.initd_command.specs.Runs.{EndsBy, EndsVersion};
 
 use crate::check::check_file;
-use crate::reports::{NO_MEMORY, report};
+use crate::reports::{report, report_memory};
 use crate::run::run_files;
 use crate::simulate::simulate_files;
+use command_words::report_refused_words;
 use initd_options::{WordFault, Words, read_words};
 use path_texts::Texts;
-use program_io::{DEVICE_FAULT, REFUSED};
+use program_io::{DEVICE_FAULT, DONE};
+use program_version::write_version;
 use std::alloc::Global;
+use std::fs::File;
 use std::io::Write;
 use std::process::Processes;
 use std::rt::{Clock, Files};
 
-/// What is reported of words that are no command line.
+/// What standard error gets of words that are no command line, after a line that says why.
 pub const USAGE: &str =
-    "usage: initd run [--inittab P] [--initctl P] [--state P] [--trace P] [--level L] [--turns N] [--drain] [--pause SEC]
+    "usage: initd run [--inittab P] [--initctl P] [--fresh] [--state P] [--trace P] [--level L]
+                 [--turns N | --forever] [--drain] [--pause SEC] [--result ID] [--verbose] [--logs DIR]
        initd simulate [--level L] TABLE SCRIPT
        initd check TRACE
+       initd --version
   --inittab  the inittab(5); inittab where it is left out
   --initctl  the file to which telinit appends requests; initctl where it is left out
-  --state    the file that carries init's state where init re-executes itself; initd.state where it is left out
+  --fresh    pass over the requests that the file has already
+  --state    the file that carries init's state where init re-executes itself;
+             initd.state where it is left out
   --trace    the file that the trace of the run is written to; none where it is left out
   --turns    the greatest number of turns, 1 to 1000000000; 1000000 where it is left out
-  --drain    end where nothing is left to do and nothing simulates
-  --pause    the seconds between two turns, 0.01 to 60, with at most two digits after the point; 1 where it is left out
+  --forever  no limit of turns; not with --turns
+  --drain    end where nothing is left to do and nothing runs
+  --pause    the seconds between two turns, 0.01 to 60, with at most two digits after the point;
+             1 where it is left out
+  --result   end with the last exit status of the entry ID, in place of 0; 137 where it was killed,
+             4 where it never ended
+  --verbose  tell each start and each end of a child
+  --logs     the folder that the output of each entry is written to, a file an entry
   L       the runlevel to go to, 0 to 9, S or s; the table's initdefault where it is left out
+  ID      an id of the inittab, 1 to 4 characters
   TABLE   an inittab(5)
   SCRIPT  what the system did, one happening a line
   TRACE   a trace of init, which is judged
 ";
 
+/// What is reported where the version could not be written.
+const UNVERSIONED: &str = "initd: the version could not be written\n";
+
 /// Runs initd on a command line without the program's name, and gives its exit status: 0 where it was carried out, 1
 /// where the words, the inittab, the script or the lines of a trace are refused, 2 where a trace is unlawful, 3 where a
-/// run used up its turns, 4 where a file can't be read, the trace or the output fails or memory runs out. The trace of
-/// a simulated run, the verdict on a trace, or the faults of the inittab of a run are written on `out`, and a fault is
+/// run used up its turns, 4 where a file can't be read, the channel is in use, the trace or the output fails or memory
+/// runs out; of a run with `--result` that ends drained, the last status of that entry. The trace of a simulated run,
+/// the verdict on a trace, the faults of the inittab of a run or the version are written on `out`, and a fault is
 /// reported on `err`.
 pub fn run_words<R, T, W, E>(
     rt: &R,
@@ -46,7 +64,7 @@ pub fn run_words<R, T, W, E>(
     err: &mut E,
 ) -> u8
 where
-    R: Processes + Files + Clock + Print + Eprint + Clone + Drop,
+    R: Processes + Files<File = File> + Clock + Print + Eprint + Clone + Drop,
     T: Texts,
     W: Write,
     E: Write,
@@ -56,16 +74,26 @@ where
         × Reports ending (E.contents err.old) (E.contents err.new) }
 {
     match read_words(alloc, words.as_slice()) {
+        Ok(Words::Version) => tell_version(out, err),
         Ok(Words::Simulate(said)) => simulate_files(texts, alloc, &said, out, err),
         Ok(Words::Check(path)) => check_file(texts, alloc, path.as_str(), out, err),
         Ok(Words::Run(said)) => run_files(rt, texts, alloc, &said, out, err),
-        Err(WordFault::Usage) => {
-            report(USAGE, err);
-            REFUSED
+        Err(WordFault::Usage(reason)) => {
+            report_refused_words("initd", reason.as_str(), USAGE, err)
         }
-        Err(WordFault::Memory) => {
-            report(NO_MEMORY, err);
-            DEVICE_FAULT
-        }
+        Err(WordFault::Memory) => report_memory(err),
     }
+}
+
+/// Writes the version.
+fn tell_version<W: Write, E: Write>(out: &mut W, err: &mut E) -> u8
+    ensures { (ending : Ending) × (result ≡ status_of ending)
+        × EndsVersion ending (W.contents out.old) (W.contents out.new)
+        × Reports ending (E.contents err.old) (E.contents err.new) }
+{
+    if write_version("initd", out) {
+        return DONE;
+    }
+    report(UNVERSIONED, err);
+    DEVICE_FAULT
 }

@@ -3,9 +3,12 @@
 
 mod check;
 mod command;
+mod ends;
 mod lines;
+mod logs;
 mod reports;
 mod run;
 mod simulate;
 
 pub use command::{USAGE, run_words};
+pub use run::make_turns;

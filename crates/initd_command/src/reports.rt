@@ -1,7 +1,8 @@
 ghost use Rattle.std.specs.Prelude.{◌≡◌, true, ℕ, List, OnOk, OnErr, string_bytes, IfOk, ◌++◌};
 ghost use Rattle.std.specs.Io.KnownBytes.{Appends};
 ghost use Rattle.program_io.specs.Writing.{AppendsPrefix};
-ghost use Rattle.initd_command.specs.Endings.{ReportsText, created_message, fault_message, fault_status, file_message, reason_message};
+ghost use Rattle.initd_command.specs.Endings.{busy_message, created_message, fault_message, fault_status, file_message, reason_message, unlocked_message};
+ghost use Rattle.initd_command.specs.Turned.{ReportsText};
 
 use crate::lines::{line_at, line_told};
 use program_io::{DEVICE_FAULT, REFUSED, write_text};
@@ -121,6 +122,52 @@ fn created_message_with(alloc: Global, path: &str, why: &str) -> Result<String, 
     format!(in alloc; "initd: cannot create {path}: {why}\n")
 }
 
+/// Reports that another run reads the channel of requests, and gives the exit status.
+pub(crate) fn report_busy<E: Write>(alloc: Global, path: &str, err: &mut E) -> u8
+    ensures status { result ≡ DEVICE_FAULT }
+    ensures reported { ReportsText (busy_message path.now) (E.contents err.old) (E.contents err.new) }
+{
+    report_made(busy_message(alloc, path), err);
+    DEVICE_FAULT
+}
+
+fn busy_message(alloc: Global, path: &str) -> Result<String, AllocError>
+    ensures { IfOk result (λ text. string_bytes text ≡ busy_message path.now) }
+{
+    format!(in alloc;
+        "initd: {path} is in use by another initd run: end that one, or give another --initctl\n"
+    )
+}
+
+/// Reports that the channel of requests was not locked, and gives the exit status.
+pub(crate) fn report_unlocked<E: Write>(
+    alloc: Global,
+    path: &str,
+    error: &io::Error,
+    err: &mut E,
+) -> u8
+    ensures status { result ≡ DEVICE_FAULT }
+    ensures reported { (why : List ℕ)
+        × ReportsText (unlocked_message path.now why) (E.contents err.old) (E.contents err.new) }
+{
+    report_made(unlocked_message(alloc, path, error), err);
+    DEVICE_FAULT
+}
+
+fn unlocked_message(alloc: Global, path: &str, error: &io::Error) -> Result<String, AllocError>
+    ensures { IfOk result (λ text.
+        (why : List ℕ) × (string_bytes text ≡ unlocked_message path.now why)) }
+{
+    let why = format!(in alloc; "{error}")?;
+    unlocked_message_with(alloc, path, why.as_str())
+}
+
+fn unlocked_message_with(alloc: Global, path: &str, why: &str) -> Result<String, AllocError>
+    ensures { IfOk result (λ text. string_bytes text ≡ unlocked_message path.now why.now) }
+{
+    format!(in alloc; "initd: cannot lock {path}: {why}\n")
+}
+
 /// Reports a message that was made, or that there was no memory to make it.
 pub(crate) fn report_made<E: Write>(message: Result<String, AllocError>, err: &mut E)
     ensures made { IfOk message (λ text.
@@ -135,7 +182,7 @@ pub(crate) fn report_made<E: Write>(message: Result<String, AllocError>, err: &m
 }
 
 /// Reports lines that may not be text, or that there was no memory to make them.
-fn report_lines<E: Write>(message: Result<Vec<u8>, AllocError>, err: &mut E)
+pub(crate) fn report_lines<E: Write>(message: Result<Vec<u8>, AllocError>, err: &mut E)
     ensures made { IfOk message (λ text.
         AppendsPrefix (E.contents err.old) (E.contents err.new) text.items) }
     ensures unmade { OnErr message

@@ -1,72 +1,109 @@
-ghost use Rattle.std.specs.Prelude.{◌≡◌, ◌++◌, IfOk, OnOk};
-ghost use Rattle.initd_command.specs.Endings.{Ending, Reports, status_of};
+ghost use Rattle.std.specs.Prelude.{◌≡◌, ℕ, List, Option, Some, [], unwrap_or, IfErr, IfOk};
+ghost use Rattle.inittab_text.specs.Reading.{faults_of_text, table_of_text};
+ghost use Rattle.initd_command.specs.Endings.{Ending, Reports, ReportsUnled, status_of};
+ghost use Rattle.init_words.specs.declared.entries.Entry.{Entry};
+ghost use Rattle.init_words.specs.declared.levels.Level.{Level};
+ghost use Rattle.host_trace.specs.Record.{Since};
+ghost use Rattle.supervisor.specs.Opening.{IsOpeningOf};
+ghost use Rattle.os_host.specs.LineFaults.{faults_text};
 ghost use Rattle.initd_options.specs.Options.{run_of};
-ghost use Rattle.initd_command.specs.Services.{EndsOver, EndsRun, EndsTold, IsServed, end_of, fault_line, faults_text};
+ghost use Rattle.initd_command.specs.Services.{EndsRun, EndsTold, FailsBy, FailsOver, FailsToLock, FailsToRead, HasInittab, IsOfFault, Turns, TurnsFrom, TurnsOver, is_unled};
 
-use crate::reports::{report, report_fault, report_memory, report_uncreated, report_unread, tell};
-use init_trace::HappeningIn;
-use init_words::Memory;
+use crate::ends::report_end;
+use crate::logs::{LoudLog, NoLog, TraceFile};
+use crate::reports::{
+    report, report_busy, report_fault, report_memory, report_uncreated, report_unlocked,
+    report_unread, tell,
+};
+use channel_files::{ChannelLock, lock_channel};
+use child_host::Host;
+use init_words::{Level, Memory};
 use initd_options::RunWords;
-use inittab_text::{LineFault, Table, TableFault};
-use os_host::OsHost;
+use inittab_text::{Table, TableFault};
+use os_host::{OsHost, faults_text};
 use path_texts::Texts;
-use program_io::{DEVICE_FAULT, DONE, LIMIT_REACHED};
+use program_io::DEVICE_FAULT;
+use run_notes::RunNotes;
 use simulator::SimFault;
-use std::alloc::{AllocError, Allocator, Global};
+use std::alloc::{AllocError, Global};
 use std::fs::File;
 use std::io;
 use std::io::Write;
 use std::process::Processes;
 use std::rt::{Clock, Files};
-use supervisor::{Opening, Served};
-use trace_log::{Log, LogFault, StreamLog};
-
-/// What is reported where a run made all its turns.
-const LIMITED: &str = "initd: the limit of turns is reached\n";
-
-/// What is reported where the trace was not written whole.
-const UNLOGGED: &str = "initd: the trace could not be written\n";
+use supervisor::Opening;
+use trace_log::{Log, StreamLog};
 
 /// What is reported where the faults of inittab's lines could not be written.
 const UNTOLD: &str = "initd: the faults of the inittab could not be written\n";
 
-/// A log that takes all and keeps nothing.
+/// What is reported at the opening where nothing names a level.
+const UNLED: &str = "initd: the inittab names no level (initdefault), and --level is not given: \
+    init goes to level S\n";
+
+/// Why a run ended before its first turn.
 #[derive(Drop)]
-struct NoLog {}
+enum RunFault {
+    /// Another run reads the channel of requests.
+    Busy,
+    /// The channel of requests could not be made, opened or locked.
+    Channel(io::Error),
+    /// The inittab could not be read.
+    Inittab(io::Error),
+    /// The inittab is too long.
+    TooLong,
+    /// The file of the trace could not be created.
+    Trace(io::Error),
+    /// Out of memory.
+    Memory,
+}
 
-impl Log for NoLog {
-    ghost use Rattle.std.specs.Prelude.{false, None};
-    ghost use Rattle.trace_log.specs.Logs.{LogState};
+impl From<AllocError> for RunFault {
+    ghost use Rattle.std.specs.Prelude.{◌≡◌};
+    ghost use Rattle.initd_command.specs.declared.run.RunFault.TheVariants.{Memory as NoRoom};
 
-    ghost state = { λ _.
-        let nothing : LogState = record { taken = None; failed = false } in nothing };
+    ghost from_gives = { λ _ fault. fault ≡ NoRoom };
 
-    fn take<B: Allocator>(&mut self, _happening: &HappeningIn<B>) -> Result<(), LogFault> {
-        Ok(())
-    }
-
-    fn failed(&self) -> bool {
-        false
+    fn from(_error: AllocError) -> RunFault {
+        RunFault::Memory
     }
 }
 
-/// The file of a trace. A contract sees none of its bytes.
+impl From<Memory> for RunFault {
+    ghost use Rattle.std.specs.Prelude.{◌≡◌};
+    ghost use Rattle.initd_command.specs.declared.run.RunFault.TheVariants.{Memory as NoRoom};
+
+    ghost from_gives = { λ _ fault. fault ≡ NoRoom };
+
+    fn from(_error: Memory) -> RunFault {
+        RunFault::Memory
+    }
+}
+
+/// An inittab that was read: its table, and the lines that tell its faults.
 #[derive(Drop)]
-struct TraceFile<F: Write + Drop> {
-    file: F,
+struct Inittab {
+    table: Table,
+    faults: Vec<u8>,
 }
 
-impl<F: Write + Drop> Write for TraceFile<F> {
-    fn write(&mut self, buf: &[u8]) -> io::Result<usize> {
-        self.file.write(buf)
-    }
-
-    fn flush(&mut self) -> io::Result<()> {
-        self.file.flush()
-    }
+/// A run before its first turn.
+#[derive(Drop)]
+struct Run<R: Processes + Files + Clock + Print + Eprint + Drop> {
+    /// It is held to the end of the run.
+    lock: ChannelLock,
+    opening: Opening,
+    host: OsHost<R>,
+    /// The file of the trace, where one is to be written.
+    trace: Option<File>,
+    /// The lines that tell the faults of the inittab.
+    faults: Vec<u8>,
+    /// Nothing names a level.
+    is_unled: bool,
 }
 
-/// Runs init over the operating system: reads the inittab, creates the trace anew, and makes the turns.
+/// Runs init over the operating system: takes the lock of the channel, reads the inittab, creates the trace anew, and
+/// makes the turns.
 pub(crate) fn run_files<R, T: Texts, W: Write, E: Write>(
     rt: &R,
     texts: &T,
@@ -76,111 +113,118 @@ pub(crate) fn run_files<R, T: Texts, W: Write, E: Write>(
     err: &mut E,
 ) -> u8
 where
-    R: Processes + Files + Clock + Print + Eprint + Clone + Drop,
+    R: Processes + Files<File = File> + Clock + Print + Eprint + Clone + Drop,
     ensures { (ending : Ending) × (result ≡ status_of ending)
         × EndsRun (T.text_at texts.now) (run_of said.now) ending
         (W.contents out.old) (W.contents out.new)
         × Reports ending (E.contents err.old) (E.contents err.new) }
 {
-    let path = said.inittab.as_str();
-    match texts.read(alloc, path) {
-        Ok(text) => run_text(rt, alloc, said, &text, out, err),
-        Err(error) => report_unread(alloc, path, &error, err),
+    match open_run(rt, texts, alloc, said) {
+        Ok(run) => make_run(rt, alloc, said, run, out, err),
+        Err(fault) => report_run_fault(alloc, said, &fault, err),
     }
 }
 
-/// Runs init over the inittab of this text.
-fn run_text<R, W: Write, E: Write>(
+/// A run with all that it stands on; nothing is written before it has the lock of the channel.
+fn open_run<R, T: Texts>(
+    rt: &R,
+    texts: &T,
+    alloc: Global,
+    said: &RunWords,
+) -> Result<Run<R>, RunFault>
+where
+    R: Processes + Files<File = File> + Clock + Print + Eprint + Clone + Drop,
+    ensures ok { IfOk result (λ run. HasInittab (T.text_at texts.now)
+        (run_of said.now).inittab (λ inittab. (run.faults.items ≡ faults_text (faults_of_text inittab))
+        × (run.is_unled ≡ is_unled said.now.level (table_of_text inittab)))) }
+    ensures err { IfErr result (FailsBy (T.text_at texts.now) (run_of said.now)) }
+{
+    let lock = take_lock(rt, said.initctl.as_str())?;
+    let inittab = read_inittab(texts, alloc, said.inittab.as_str())?;
+    open_over(rt, alloc, said, lock, inittab)
+}
+
+/// A run over an inittab that was read, under the lock of the channel.
+fn open_over<R>(
     rt: &R,
     alloc: Global,
     said: &RunWords,
-    text: &[u8],
-    out: &mut W,
-    err: &mut E,
-) -> u8
+    lock: ChannelLock,
+    inittab: Inittab,
+) -> Result<Run<R>, RunFault>
 where
-    R: Processes + Files + Clock + Print + Eprint + Clone + Drop,
-    ensures { (ending : Ending) × (result ≡ status_of ending)
-        × EndsOver (run_of said.now) text.now ending (W.contents out.old) (W.contents out.new)
-        × Reports ending (E.contents err.old) (E.contents err.new) }
+    R: Processes + Files<File = File> + Clock + Print + Eprint + Clone + Drop,
+    ensures faults { IfOk result (λ run. run.faults.items ≡ inittab.faults.items) }
+    ensures unled { IfOk result (λ run. run.is_unled ≡ is_unled said.now.level inittab.table) }
+    ensures err { IfErr result (FailsOver (run_of said.now)) }
 {
-    match inittab_text::read(alloc, text) {
-        Ok((table, faults)) => run_table(rt, alloc, said, table, &faults, out, err),
-        Err(TableFault::TooLong) => report_fault(alloc, &[], &SimFault::Table, err),
-        Err(TableFault::Memory) => report_memory(err),
+    let Inittab { table, faults } = inittab;
+    let is_unled = is_unled(said.level, &table);
+    let opening = Opening::new(alloc, table, said.level)?;
+    let host = host_of(rt, alloc, said)?;
+    let trace = create_trace(rt, said)?;
+    Ok(Run {
+        lock,
+        opening,
+        host,
+        trace,
+        faults,
+        is_unled,
+    })
+}
+
+/// Nothing names a level: neither the words nor the table.
+fn is_unled(level: Option<Level>, table: &Table) -> bool
+    ensures { result ≡ is_unled level table.now }
+{
+    match level {
+        Some(_) => false,
+        None => table.default_level().is_none(),
     }
 }
 
-/// Runs init over a table, whose text has these faults.
-fn run_table<R, W: Write, E: Write>(
-    rt: &R,
-    alloc: Global,
-    said: &RunWords,
-    table: Table,
-    faults: &[LineFault],
-    out: &mut W,
-    err: &mut E,
-) -> u8
-where
-    R: Processes + Files + Clock + Print + Eprint + Clone + Drop,
-    ensures { (ending : Ending) × (result ≡ status_of ending)
-        × EndsTold (run_of said.now) (faults_text faults.now) ending (W.contents out.old)
-        (W.contents out.new)
-        × Reports ending (E.contents err.old) (E.contents err.new) }
+/// The lock of the channel of requests.
+fn take_lock<R: Files<File = File>>(rt: &R, path: &str) -> Result<ChannelLock, RunFault>
+    ensures { IfErr result FailsToLock }
 {
-    let Ok(text) = faults_text(alloc, faults) else {
-        return report_memory(err);
+    match lock_channel(rt, path) {
+        Ok(Some(lock)) => Ok(lock),
+        Ok(None) => Err(RunFault::Busy),
+        Err(error) => Err(RunFault::Channel(error)),
+    }
+}
+
+fn read_inittab<T: Texts>(texts: &T, alloc: Global, path: &str) -> Result<Inittab, RunFault>
+    ensures ok { IfOk result (λ read. HasInittab (T.text_at texts.now) path.now
+        (λ inittab. (read.faults.items ≡ faults_text (faults_of_text inittab))
+        × (read.table ≡ table_of_text inittab))) }
+    ensures err { IfErr result (FailsToRead (T.text_at texts.now) path.now) }
+{
+    let text = match texts.read(alloc, path) {
+        Ok(text) => text,
+        Err(error) => return Err(RunFault::Inittab(error)),
     };
-    match opened(rt, alloc, said, table) {
-        Ok(init) => run_traced(rt, alloc, said, init, &text, out, err),
-        Err(Memory) => report_memory(err),
+    match inittab_text::read(alloc, &text) {
+        Ok((table, faults)) => Ok(Inittab {
+            table,
+            faults: faults_text(alloc, &faults)?,
+        }),
+        Err(TableFault::TooLong) => Err(RunFault::TooLong),
+        Err(TableFault::Memory) => Err(RunFault::Memory),
     }
 }
 
-/// Runs init from its opening, with the trace in the file that is said.
-fn run_traced<R, W: Write, E: Write>(
-    rt: &R,
-    alloc: Global,
-    said: &RunWords,
-    init: Init<R>,
-    text: &[u8],
-    out: &mut W,
-    err: &mut E,
-) -> u8
-where
-    R: Processes + Files + Clock + Print + Eprint + Clone + Drop,
-    ensures { (ending : Ending) × (result ≡ status_of ending)
-        × EndsTold (run_of said.now) text.now ending (W.contents out.old) (W.contents out.new)
-        × Reports ending (E.contents err.old) (E.contents err.new) }
+/// The file of the trace, created anew, where one is to be written.
+fn create_trace<R: Files<File = File>>(rt: &R, said: &RunWords) -> Result<Option<File>, RunFault>
+    ensures { IfErr result (FailsOver (run_of said.now)) }
 {
     let Some(path) = &said.trace else {
-        return run(alloc, said, init, text, &mut NoLog {}, out, err);
+        return Ok(None);
     };
     match File::create(rt, path.as_str()) {
-        Ok(file) => {
-            let mut log = StreamLog::new(alloc, TraceFile { file });
-            run(alloc, said, init, text, &mut log, out, err)
-        }
-        Err(error) => report_uncreated(alloc, path.as_str(), &error, err),
+        Ok(file) => Ok(Some(file)),
+        Err(error) => Err(RunFault::Trace(error)),
     }
-}
-
-/// What a run is made of.
-#[derive(Drop)]
-struct Init<R: Processes + Files + Clock + Print + Eprint + Drop> {
-    opening: Opening,
-    host: OsHost<R>,
-}
-
-/// Init at its opening.
-fn opened<R>(rt: &R, alloc: Global, said: &RunWords, table: Table) -> Result<Init<R>, Memory>
-where
-    R: Processes + Files + Clock + Print + Eprint + Clone + Drop,
-{
-    Ok(Init {
-        opening: Opening::new(alloc, table, said.level)?,
-        host: host_of(rt, alloc, said)?,
-    })
 }
 
 /// The host that words name.
@@ -192,74 +236,122 @@ where
     let initctl = said.initctl.as_str();
     let state = said.state.as_str();
     let host = OsHost::new(rt.clone()?, alloc, inittab, initctl, state)?;
-    host.with_pause(said.pause.as_str())
+    let host = host.with_pause(said.pause.as_str())?;
+    let host = if said.fresh { host.fresh() } else { host };
+    let host = if said.verbose { host.verbose() } else { host };
+    match &said.logs {
+        Some(folder) => host.with_logs(folder.as_str()),
+        None => Ok(host),
+    }
+}
+
+/// Reports why a run ended before its first turn, and gives the exit status.
+fn report_run_fault<E: Write>(alloc: Global, said: &RunWords, fault: &RunFault, err: &mut E) -> u8
+    ensures { (ending : Ending) × (result ≡ status_of ending)
+        × IsOfFault (run_of said.now) fault.now ending
+        × Reports ending (E.contents err.old) (E.contents err.new) }
+{
+    let initctl = said.initctl.as_str();
+    match fault {
+        RunFault::Busy => report_busy(alloc, initctl, err),
+        RunFault::Channel(error) => report_unlocked(alloc, initctl, error, err),
+        RunFault::Inittab(error) => report_unread(alloc, said.inittab.as_str(), error, err),
+        RunFault::TooLong => report_fault(alloc, &[], &SimFault::Table, err),
+        RunFault::Trace(error) => report_uncreated(alloc, trace_of(said), error, err),
+        RunFault::Memory => report_memory(err),
+    }
+}
+
+/// The path of the trace; nothing where none is to be written.
+fn trace_of(said: &RunWords) -> &str
+    ensures { result.now ≡ unwrap_or (run_of said.now).trace [] }
+{
+    match &said.trace {
+        Some(path) => path.as_str(),
+        None => "",
+    }
 }
 
 /// Tells the faults of the inittab's lines, and makes the turns.
-fn run<R, L: Log, W: Write, E: Write>(
+fn make_run<R, W: Write, E: Write>(
+    rt: &R,
     alloc: Global,
     said: &RunWords,
-    init: Init<R>,
-    text: &[u8],
-    log: &mut L,
+    run: Run<R>,
     out: &mut W,
     err: &mut E,
 ) -> u8
 where
-    R: Processes + Files + Clock + Print + Eprint + Clone + Drop,
+    R: Processes + Files<File = File> + Clock + Print + Eprint + Clone + Drop,
     ensures { (ending : Ending) × (result ≡ status_of ending)
-        × EndsTold (run_of said.now) text.now ending (W.contents out.old) (W.contents out.new)
+        × EndsTold (run_of said.now) run.is_unled run.faults.items ending
+        (W.contents out.old) (W.contents out.new)
         × Reports ending (E.contents err.old) (E.contents err.new) }
 {
-    if !tell(text, out) {
+    if !tell(&run.faults, out) {
         report(UNTOLD, err);
         return DEVICE_FAULT;
     }
-    let served = make_turns(alloc, said, init, log);
-    report_end(&served, said.drain, err)
+    report_unled(run.is_unled, err);
+    let Run {
+        lock: _lock,
+        opening,
+        host,
+        trace,
+        ..
+    } = run;
+    make_traced(rt, alloc, said, opening, host, trace, err)
 }
 
-/// Makes the turns of a run, from its opening on.
-fn make_turns<R, L: Log>(alloc: Global, said: &RunWords, init: Init<R>, log: &mut L) -> Served
+/// Makes the turns, and writes the trace where there is a file for it.
+fn make_traced<R, E: Write>(
+    rt: &R,
+    alloc: Global,
+    said: &RunWords,
+    opening: Opening,
+    mut host: OsHost<R>,
+    trace: Option<File>,
+    err: &mut E,
+) -> u8
 where
-    R: Processes + Files + Clock + Print + Eprint + Clone + Drop,
-    ensures { IsServed (run_of said.now) result }
+    R: Processes + Files<File = File> + Clock + Print + Eprint + Clone + Drop,
+    ensures { Turns (run_of said.now) result (E.contents err.old) (E.contents err.new) }
 {
-    let Init { opening, mut host } = init;
-    opening.serve(alloc, &mut host, log, said.turns, said.drain)
+    let Some(file) = trace else {
+        return make_turns(alloc, said, opening, &mut host, NoLog {}, err);
+    };
+    let log = StreamLog::new(alloc, TraceFile { file });
+    make_turns(alloc, said, opening, &mut host, LoudLog { rt, log }, err)
 }
 
-/// Reports how a run ended, and gives the exit status.
-fn report_end<E: Write>(served: &Served, drain: bool, err: &mut E) -> u8
-    ensures status { result ≡ status_of (end_of drain served.now) }
-    ensures reported { Reports (end_of drain served.now) (E.contents err.old) (E.contents err.new) }
+/// Reports that nothing names a level, where that is so.
+fn report_unled<E: Write>(is_unled: bool, err: &mut E)
+    ensures { ReportsUnled is_unled (E.contents err.old) (E.contents err.new) }
 {
-    if !served.logged {
-        report(UNLOGGED, err);
-        return DEVICE_FAULT;
+    if is_unled {
+        report(UNLED, err);
     }
-    if drain && served.drained {
-        return DONE;
-    }
-    report(LIMITED, err);
-    LIMIT_REACHED
 }
 
-/// The lines that tell the faults.
-fn faults_text(alloc: Global, faults: &[LineFault]) -> Result<Vec<u8>, AllocError>
-    ensures { IfOk result (λ text. text.items ≡ faults_text faults.now) }
+/// Makes the turns of a run, from its opening on, and reports how they ended: the exit status is 0, or that of the
+/// entry whose result the run's is, where it ended drained, 3 at the limit of turns, and 4 where the log failed.
+pub fn make_turns<H: Host, L: Log, E: Write>(
+    alloc: Global,
+    said: &RunWords,
+    opening: Opening,
+    host: &mut H,
+    log: L,
+    err: &mut E,
+) -> u8
+where
+    L: Drop,
+    ensures turns { Turns (run_of said.now) result (E.contents err.old) (E.contents err.new) }
+    ensures told { (level : Option Level) (table : List Entry) → IsOpeningOf level table opening
+        → (L.state log).taken ≡ Some []
+        → Since (H.told host.old) (H.told host.new) (λ calls. TurnsFrom level table calls
+        (TurnsOver (run_of said.now) result (E.contents err.old) (E.contents err.new))) }
 {
-    let mut text = Vec::new(alloc);
-    for fault in faults {
-        add_fault(alloc, &mut text, fault)?;
-    }
-    Ok(text)
-}
-
-fn add_fault(alloc: Global, text: &mut Vec<u8>, fault: &LineFault) -> Result<(), AllocError>
-    ensures { OnOk result (text.new.items ≡ text.old.items ++ fault_line fault.now) }
-{
-    let line = format!(in alloc; "initd: {fault}\n")?;
-    text.extend_from_slice(line.as_bytes())?;
-    Ok(())
+    let mut notes = RunNotes::new(alloc, log);
+    let served = opening.serve(alloc, host, &mut notes, said.turns, said.drain);
+    report_end(alloc, said, &served, &notes, err)
 }

@@ -1,15 +1,16 @@
--- The command lines `initd simulate [--level L] TABLE SCRIPT`, `initd check TRACE` and `initd run ..`. What they take
--- is said by clap's own words; they are opaque, since a goal that sees them sees the whole parser.
+-- The command lines `initd simulate [--level L] TABLE SCRIPT`, `initd check TRACE` and `initd run ..`, and `initd
+-- --version`. What they take is said by clap's own words; they are opaque, since a goal that sees them sees the whole
+-- parser.
 use Rattle.std.specs.Prelude.{true, if◌then◌else◌, List, [], ◌∷◌, codes, Option, Some, None, option_map, length, ◌==◌, string_bytes}
 use Rattle.std.specs.Str.{bytes_eq}
 use Rattle.clap.specs.Words.{App, Row, Text, fault_of, new_app, subcommand_of, with_subcommand}
-use Rattle.command_words.specs.CommandLines.{program_app, value_rule, with_rules, word_rule}
+use Rattle.command_words.specs.CommandLines.{asks_version, program_app, value_rule, with_rules, word_rule}
 use Rattle.init_words.specs.declared.levels.Level.{Level}
 use Rattle.initd_options.specs.Options.{RunSaid, run_line, run_of, run_said}
 use Rattle.initd_options.specs.Values.{level_said, value_said}
 use Rattle.initd_options.specs.declared.command.SimulateWords.{SimulateWords}
 use Rattle.initd_options.specs.declared.command.Words.{Words}
-use Rattle.initd_options.specs.declared.command.Words.TheVariants.{Simulate, Check, Run as Serve}
+use Rattle.initd_options.specs.declared.command.Words.TheVariants.{Version, Simulate, Check, Run as Serve}
 
 unfoldable pub simulate_line : App
 simulate_line = with_rules (new_app (codes "simulate")) (
@@ -31,8 +32,9 @@ pub record SimulateSaid : Type 0 where
   pub table : Text
   pub script : Text
 
--- a simulated run of init, the path of a trace that is judged, or a run over the operating system
+-- the version, a simulated run of init, the path of a trace that is judged, or a run over the operating system
 pub data Said : Type 0 where
+  version : Said
   simulates : SimulateSaid → Said
   judges : Text → Said
   runs : RunSaid → Said
@@ -41,6 +43,7 @@ abbrev pub simulation_of : SimulateWords → SimulateSaid
 simulation_of words = record { level = words.level; table = string_bytes words.table; script = string_bytes words.script }
 
 abbrev pub said_of : Words → Said
+said_of Version = version
 said_of (Simulate words) = simulates (simulation_of words)
 said_of (Check trace) = judges (string_bytes trace)
 said_of (Serve said) = runs (run_of said)
@@ -73,6 +76,11 @@ said_by None = None
 said_by (Some entered) =
     if bytes_eq entered.0 (codes "simulate") then option_map simulates (simulation_said entered.1) else judged_by (Some entered)
 
--- what words say; where the command line has a fault in them, nothing
+-- what words say that don't ask for the version; where the command line has a fault in them, nothing
+abbrev pub line_said : List Text → Option Said
+line_said words =
+    if length (fault_of command_line words) == 0 then said_by (subcommand_of command_line words) else None
+
+-- what words say
 abbrev pub read_of : List Text → Option Said
-read_of words = if length (fault_of command_line words) == 0 then said_by (subcommand_of command_line words) else None
+read_of words = if asks_version words then Some version else line_said words

@@ -1,33 +1,49 @@
--- The command line `initd run [--inittab P] [--initctl P] [--state P] [--trace P] [--level L] [--turns N] [--drain]
--- [--pause SEC]`, by clap's own words, and what it says.
-use Rattle.std.specs.Prelude.{ℕ, Bool, false, ◌+◌, ◌-◌, ◌*◌, ◌&&◌, if◌then◌else◌, nat_lt, nat_le, List, [], ◌∷◌, codes, Option, Some, None, option_and_then, option_map, string_bytes}
+-- The command line `initd run [--inittab P] [--initctl P] [--fresh] [--state P] [--trace P] [--level L]
+-- [--turns N | --forever] [--drain] [--pause SEC] [--result ID] [--verbose] [--logs DIR]`, by clap's own words, and
+-- what it says.
+use Rattle.std.specs.Prelude.{ℕ, Bool, true, false, ◌+◌, ◌-◌, ◌*◌, ◌&&◌, if◌then◌else◌, nat_lt, nat_le, List, [], ◌∷◌, codes, Option, Some, None, option_and_then, option_map, string_bytes}
 use Rattle.std.specs.Char.{is_ascii_digit}
-use Rattle.std.specs.Str.{bytes_eq}
 use Rattle.clap.specs.Words.{App, Row, Text, first_of, new_app}
 use Rattle.command_words.specs.CommandLines.{default_rule, switch_rule, value_rule, with_rules}
 use Rattle.init_words.specs.declared.levels.Level.{Level}
+use Rattle.init_words.specs.Ids.{id_read}
 use Rattle.text_lines.specs.Lines.{cut}
 use Rattle.text_lines.specs.Numbers.{number_read}
 use Rattle.initd_options.specs.declared.options.RunWords.{RunWords}
-use Rattle.initd_options.specs.Values.{level_said, value_said}
+use Rattle.initd_options.specs.declared.options.TheConstants.{FOREVER, PAUSE_LIMIT, PAUSE_SECONDS, TURNS_DEFAULT, TURNS_LIMIT}
+use Rattle.initd_options.specs.Values.{is_set, level_said, value_said}
 
--- the paths of the inittab, of the channel of requests, of the trace, which may be left out, and of the text of init's
--- state; the level; the greatest number of turns, a million where it is left out; and the seconds of a pause
 unfoldable pub run_line : App
 run_line = with_rules (new_app (codes "run")) (
     default_rule (codes "inittab") (codes "inittab")
     ∷ default_rule (codes "initctl") (codes "initctl")
-    ∷ value_rule (codes "trace")
+    ∷ switch_rule (codes "fresh")
     ∷ default_rule (codes "state") (codes "initd.state")
+    ∷ value_rule (codes "trace")
     ∷ value_rule (codes "level")
-    ∷ default_rule (codes "turns") (codes "1000000")
+    ∷ value_rule (codes "turns")
+    ∷ switch_rule (codes "forever")
     ∷ switch_rule (codes "drain")
     ∷ default_rule (codes "pause") (codes "1")
+    ∷ value_rule (codes "result")
+    ∷ switch_rule (codes "verbose")
+    ∷ value_rule (codes "logs")
     ∷ [])
 
--- a number of turns: 1 to 1,000,000,000
+-- a number of turns: 1 to the limit
 abbrev pub turns_read : Text → Option ℕ
-turns_read word = option_and_then (λ turns. if nat_lt 0 turns then Some turns else None) (number_read 1000000001 word)
+turns_read word =
+    option_and_then (λ turns. if nat_lt 0 turns then Some turns else None) (number_read (TURNS_LIMIT + 1) word)
+
+-- the greatest number of turns, by whether it has no limit and by the word that is given, of which one may be
+abbrev pub turns_in : Bool → Option Text → Option ℕ
+turns_in false None = Some TURNS_DEFAULT
+turns_in false (Some word) = turns_read word
+turns_in true None = Some FOREVER
+turns_in true (Some word) = None
+
+abbrev pub turns_said : List Row → Option ℕ
+turns_said rows = turns_in (is_set (codes "forever") rows) (first_of (codes "turns") rows)
 
 -- the number of a digit
 abbrev pub digit_read : ℕ → Option ℕ
@@ -40,65 +56,96 @@ part_read (tenth ∷ hundredth ∷ []) =
     option_and_then (λ t. option_map (λ h. t * 10 + h) (digit_read hundredth)) (digit_read tenth)
 part_read _ = None
 
--- the hundredths of a decimal number below 61
+-- the hundredths of a decimal number whose whole part is at most the longest pause
 abbrev pub hundredths_in : List ℕ → Option (List ℕ × List ℕ) → Option ℕ
-hundredths_in word None = option_map (λ whole. whole * 100) (number_read 61 word)
+hundredths_in word None = option_map (λ whole. whole * 100) (number_read (PAUSE_SECONDS + 1) word)
 hundredths_in word (Some parts) =
-    option_and_then (λ whole. option_map (λ part. whole * 100 + part) (part_read parts.1)) (number_read 61 parts.0)
+    option_and_then (λ whole. option_map (λ part. whole * 100 + part) (part_read parts.1))
+    (number_read (PAUSE_SECONDS + 1) parts.0)
 
 abbrev pub hundredths_read : List ℕ → Option ℕ
 hundredths_read word = hundredths_in word (cut 46 word)
 
--- a length of 0.01 to 60
+-- a length of 0.01 seconds to the longest pause
 abbrev pub is_length : Option ℕ → Bool
 is_length None = false
-is_length (Some hundredths) = nat_lt 0 hundredths && nat_le hundredths 6000
+is_length (Some hundredths) = nat_lt 0 hundredths && nat_le hundredths PAUSE_LIMIT
 
 -- a decimal number of seconds, 0.01 to 60
 abbrev pub is_pause : Text → Bool
 is_pause word = is_length (hundredths_read word)
 
--- the paths, that of a trace if one is given, the level to go to if one is, the greatest number of turns, whether the
--- run ends where it is drained, and the seconds of a pause
+abbrev pub pause_said : List Row → Option Text
+pause_said rows =
+    let word = value_said (codes "pause") rows in
+    if is_pause word then Some word else None
+
+-- the entry whose last status is the run's, if one is given; nothing where it is no id
+abbrev pub result_in : Option Text → Option (Option (List ℕ))
+result_in None = Some None
+result_in (Some word) = option_map Some (id_read word)
+
+abbrev pub result_said : List Row → Option (Option (List ℕ))
+result_said rows = result_in (first_of (codes "result") rows)
+
+-- The paths of the inittab, of the channel of requests and of the text of init's state; whether the requests that the
+-- channel has already are left out; the path of the trace and the level to go to, if they are given; the greatest
+-- number of turns; whether the run ends where it is drained; the seconds of a pause; the entry whose last status is the
+-- run's, if one is given; whether each start and end is told; and the folder of the children's output, if it is given.
 pub record RunSaid : Type 0 where
   pub inittab : Text
   pub initctl : Text
+  pub fresh : Bool
   pub state : Text
   pub trace : Option Text
   pub level : Option Level
   pub turns : ℕ
   pub drain : Bool
   pub pause : Text
+  pub result : Option (List ℕ)
+  pub verbose : Bool
+  pub logs : Option Text
 
 abbrev pub run_of : RunWords → RunSaid
 run_of said = record {
   inittab = string_bytes said.inittab;
   initctl = string_bytes said.initctl;
+  fresh = said.fresh;
   state = string_bytes said.state;
   trace = option_map (λ (path : _). string_bytes path) said.trace;
   level = said.level;
   turns = said.turns;
   drain = said.drain;
   pause = string_bytes said.pause;
+  result = said.result;
+  verbose = said.verbose;
+  logs = option_map (λ (path : _). string_bytes path) said.logs;
 }
 
-abbrev pub service_with : List Row → Option Level → ℕ → RunSaid
-service_with rows level turns = record {
+-- what the words say, with these values of the options that may be refused
+abbrev pub service_with : List Row → Option Level → ℕ → Text → Option (List ℕ) → RunSaid
+service_with rows level turns pause result = record {
   inittab = value_said (codes "inittab") rows;
   initctl = value_said (codes "initctl") rows;
+  fresh = is_set (codes "fresh") rows;
   state = value_said (codes "state") rows;
   trace = first_of (codes "trace") rows;
   level = level;
   turns = turns;
-  drain = bytes_eq (value_said (codes "drain") rows) (codes "true");
-  pause = value_said (codes "pause") rows;
+  drain = is_set (codes "drain") rows;
+  pause = pause;
+  result = result;
+  verbose = is_set (codes "verbose") rows;
+  logs = first_of (codes "logs") rows;
 }
 
--- what the words after `run` say; nothing where the level, the turns or the pause are none
+-- what the words after `run` say; nothing where the level, the turns, the pause or the entry are none
 abbrev pub run_said : List Row → Option RunSaid
 run_said rows =
     option_and_then
     (λ level. option_and_then
-    (λ turns. if is_pause (value_said (codes "pause") rows) then Some (service_with rows level turns) else None)
-    (turns_read (value_said (codes "turns") rows)))
+    (λ turns. option_and_then
+    (λ pause. option_map (λ result. service_with rows level turns pause result) (result_said rows))
+    (pause_said rows))
+    (turns_said rows))
     (level_said rows)

@@ -1,18 +1,20 @@
-ghost use Rattle.std.specs.Prelude.{◌≡◌, map, option_map, string_bytes, IfOk, IsErrOf};
+ghost use Rattle.std.specs.Prelude.{◌≡◌, map, string_bytes, IfErr, IfOk, IsSome, None, Some};
 ghost use Rattle.clap.specs.Words.{FailsBy, app_of, fault_of, found_of, rows_of, subcommand_of, subcommand_rows_of};
 ghost use Rattle.command_words.specs.CommandLines.{IsLine};
-ghost use Rattle.initd_options.specs.CommandLine.{check_line, command_line, judged_by, read_of, simulates, said_by, said_of, run_said_by, simulate_line, trace_said, simulation_said};
-ghost use Rattle.initd_options.specs.Values.{level_said, level_word_read};
+ghost use Rattle.command_words.specs.Faults.{reason_of};
+ghost use Rattle.initd_options.specs.CommandLine.{check_line, command_line, judged_by, line_said, read_of, run_said_by, said_by, said_of, simulate_line, simulation_of, simulation_said, trace_said};
 
 use crate::options::{RunWords, read_run, run_line};
+use crate::values::read_level_option;
 use clap::{ArgMatches, Command, Error};
-use command_words::{WordFault, program_line, value_of, with_value, with_word, word_fault};
+use command_words::{
+    WordFault, is_version, program_line, value_of, with_value, with_word, word_fault,
+};
 use init_words::Level;
-use program_io::only_byte;
 use std::alloc::{AllocError, Global};
 
 /// What a command line of `initd simulate` says.
-#[derive(Debug, Drop)]
+#[derive(Drop)]
 pub struct SimulateWords {
     /// The runlevel to go to, where one is given.
     pub level: Option<Level>,
@@ -23,8 +25,10 @@ pub struct SimulateWords {
 }
 
 /// What a command line of `initd` says.
-#[derive(Debug, Drop)]
+#[derive(Drop)]
 pub enum Words {
+    /// Write the version. The words are `--version` alone.
+    Version,
     /// Run init over an inittab and a script.
     Simulate(SimulateWords),
     /// Judge the trace of this path.
@@ -33,18 +37,28 @@ pub enum Words {
     Run(RunWords),
 }
 
-/// Reads a command line, without the program's name in front.
+/// Reads a command line, without the program's name in front. `Usage` says why it is none.
 pub fn read_words(alloc: Global, words: &[String]) -> Result<Words, WordFault>
     ensures ok { IfOk result (λ said. read_of (map string_bytes words.now) ≡ Some (said_of said)) }
-    ensures usage { IsErrOf result WordFault.Usage → read_of (map string_bytes words.now) ≡ None }
+    ensures usage { IfErr result (λ fault. IsSome (reason_of fault)
+        → read_of (map string_bytes words.now) ≡ None) }
 {
-    let matches = match parse(alloc, words) {
-        Ok(matches) => matches,
-        Err(error) => return Err(word_fault(&error)),
-    };
-    match read_matches(alloc, &matches)? {
-        Some(said) => Ok(said),
-        None => Err(WordFault::Usage),
+    if is_version(words) {
+        return Ok(Words::Version);
+    }
+    read_line(alloc, words)
+}
+
+/// Reads a command line that does not ask for the version.
+fn read_line(alloc: Global, words: &[String]) -> Result<Words, WordFault>
+    ensures ok { IfOk result (λ said.
+        line_said (map string_bytes words.now) ≡ Some (said_of said)) }
+    ensures usage { IfErr result (λ fault. IsSome (reason_of fault)
+        → line_said (map string_bytes words.now) ≡ None) }
+{
+    match parse(alloc, words) {
+        Ok(matches) => read_matches(alloc, &matches),
+        Err(error) => Err(word_fault(alloc, &error)),
     }
 }
 
@@ -87,36 +101,50 @@ fn parse<'a>(alloc: Global, words: &'a [String]) -> Result<ArgMatches<'a>, Error
     command(alloc)?.try_get_matches_from(words)
 }
 
-/// What matches say; None where a value is none of its kind.
-fn read_matches(alloc: Global, matches: &ArgMatches) -> Result<Option<Words>, AllocError>
-    ensures { IfOk result (λ said.
-        option_map said_of said ≡ said_by (subcommand_rows_of matches.now)) }
+/// What matches say.
+fn read_matches(alloc: Global, matches: &ArgMatches) -> Result<Words, WordFault>
+    ensures ok { IfOk result (λ said.
+        said_by (subcommand_rows_of matches.now) ≡ Some (said_of said)) }
+    ensures usage { IfErr result (λ fault. IsSome (reason_of fault)
+        → said_by (subcommand_rows_of matches.now) ≡ None) }
 {
     match matches.subcommand_matches("simulate") {
-        Some(simulate) => read_simulate(alloc, simulate),
+        Some(simulate) => Ok(Words::Simulate(read_simulate(alloc, simulate)?)),
         None => read_check(alloc, matches),
     }
 }
 
 /// The same, where `simulate` was not entered.
-fn read_check(alloc: Global, matches: &ArgMatches) -> Result<Option<Words>, AllocError>
-    ensures { IfOk result (λ said.
-        option_map said_of said ≡ judged_by (subcommand_rows_of matches.now)) }
+fn read_check(alloc: Global, matches: &ArgMatches) -> Result<Words, WordFault>
+    ensures ok { IfOk result (λ said.
+        judged_by (subcommand_rows_of matches.now) ≡ Some (said_of said)) }
+    ensures usage { IfErr result (λ fault. IsSome (reason_of fault)
+        → judged_by (subcommand_rows_of matches.now) ≡ None) }
 {
     match matches.subcommand_matches("check") {
-        Some(check) => Ok(Some(read_trace(alloc, check)?)),
+        Some(check) => Ok(read_trace(alloc, check)?),
         None => read_serving(alloc, matches),
     }
 }
 
 /// The same, where `check` was not entered either.
-fn read_serving(alloc: Global, matches: &ArgMatches) -> Result<Option<Words>, AllocError>
-    ensures { IfOk result (λ said.
-        option_map said_of said ≡ run_said_by (subcommand_rows_of matches.now)) }
+fn read_serving(alloc: Global, matches: &ArgMatches) -> Result<Words, WordFault>
+    ensures ok { IfOk result (λ said.
+        run_said_by (subcommand_rows_of matches.now) ≡ Some (said_of said)) }
+    ensures usage { IfErr result (λ fault. IsSome (reason_of fault)
+        → run_said_by (subcommand_rows_of matches.now) ≡ None) }
 {
     match matches.subcommand_matches("run") {
-        Some(run) => Ok(read_run(alloc, run)?.map(Words::Run)),
-        None => Ok(None),
+        Some(run) => Ok(Words::Run(read_run(alloc, run)?)),
+        None => Err(no_subcommand(alloc)),
+    }
+}
+
+/// The fault of words that name no subcommand.
+fn no_subcommand(alloc: Global) -> WordFault {
+    match String::from_str(alloc, "a subcommand is missing") {
+        Ok(reason) => WordFault::Usage(reason),
+        Err(AllocError) => WordFault::Memory,
     }
 }
 
@@ -126,33 +154,16 @@ fn read_trace(alloc: Global, matches: &ArgMatches) -> Result<Words, AllocError>
     Ok(Words::Check(String::from_str(alloc, value_of(matches, "trace"))?))
 }
 
-fn read_simulate(alloc: Global, matches: &ArgMatches) -> Result<Option<Words>, AllocError>
-    ensures { IfOk result (λ said.
-        option_map said_of said ≡ option_map simulates (simulation_said (rows_of (found_of matches.now)))) }
+fn read_simulate(alloc: Global, matches: &ArgMatches) -> Result<SimulateWords, WordFault>
+    ensures ok { IfOk result (λ said.
+        simulation_said (rows_of (found_of matches.now)) ≡ Some (simulation_of said)) }
+    ensures usage { IfErr result (λ fault. IsSome (reason_of fault)
+        → simulation_said (rows_of (found_of matches.now)) ≡ None) }
 {
-    let Some(level) = read_level_option(matches) else {
-        return Ok(None);
-    };
-    Ok(Some(Words::Simulate(SimulateWords {
+    let level = read_level_option(alloc, matches)?;
+    Ok(SimulateWords {
         level,
         table: String::from_str(alloc, value_of(matches, "table"))?,
         script: String::from_str(alloc, value_of(matches, "script"))?,
-    })))
-}
-
-/// The level that matches give, if they give one; None where it is none.
-pub(crate) fn read_level_option(matches: &ArgMatches) -> Option<Option<Level>>
-    ensures { result ≡ level_said (rows_of (found_of matches.now)) }
-{
-    let Some(word) = matches.get_str("level") else {
-        return Some(None);
-    };
-    Some(Some(read_level(word)?))
-}
-
-/// The runlevel of a word of one character.
-fn read_level(word: &str) -> Option<Level>
-    ensures { result ≡ level_word_read word.now }
-{
-    Level::read(only_byte(word)?)
+    })
 }

@@ -3,6 +3,7 @@
 
 mod command;
 mod options;
+mod values;
 
 pub use command::{SimulateWords, Words, read_words};
 pub use command_words::WordFault;

@@ -1,38 +1,57 @@
-ghost use Rattle.std.specs.Prelude.{◌≡◌, ◌<◌, false, codes, option_map, string_bytes, IfOk, IfSome};
+ghost use Rattle.std.specs.Prelude.{◌≡◌, ◌<◌, codes, option_map, string_bytes, IfErr, IfOk, IfSome, IsSome, None, Some};
 ghost use Rattle.clap.specs.Words.{first_of, found_of, rows_of};
 ghost use Rattle.command_words.specs.CommandLines.{IsLine};
-ghost use Rattle.initd_options.specs.Options.{digit_read, hundredths_read, is_pause, part_read, run_line, run_of, run_said, turns_read};
+ghost use Rattle.command_words.specs.Faults.{reason_of};
+ghost use Rattle.initd_options.specs.Options.{digit_read, hundredths_read, is_pause, part_read, pause_said, result_said, run_line, run_of, run_said, turns_read, turns_said};
+ghost use Rattle.initd_options.specs.Values.{is_set};
 
-use crate::command::read_level_option;
+use crate::values::{is_set, read_level_option, refused, word_of};
 use clap::{ArgMatches, Command};
-use command_words::{value_of, with_default, with_switch, with_value};
-use init_words::Level;
+use command_words::{WordFault, value_of, with_default, with_switch, with_value};
+use init_words::{Id, Level};
 use std::alloc::{AllocError, Global};
 use text_lines::{cut, read_below};
 
 /// What a command line of `initd run` says.
-#[derive(Debug, Drop)]
+#[derive(Drop)]
 pub struct RunWords {
     /// The path of the inittab(5).
     pub inittab: String,
     /// The path of the channel of requests (initreq.h).
     pub initctl: String,
+    /// The requests that the channel has already are left out.
+    pub fresh: bool,
     /// The path of the text of init's state, by which init re-executes itself.
     pub state: String,
     /// The path of the trace, where one is to be written.
     pub trace: Option<String>,
     /// The runlevel to go to, where one is given.
     pub level: Option<Level>,
-    /// The greatest number of turns.
+    /// The greatest number of turns; without a limit it is `u64::MAX`.
     pub turns: u64,
     /// It ends where nothing is left to do and nothing runs.
     pub drain: bool,
     /// The seconds of a pause, as sleep(1) takes them.
     pub pause: String,
+    /// The entry whose last status is the run's, where one is given.
+    pub result: Option<Id>,
+    /// Each start and each end of a child is told.
+    pub verbose: bool,
+    /// The folder that the children's output is written to, where one is given.
+    pub logs: Option<String>,
 }
 
 /// The greatest number of turns that may be asked for.
 const TURNS_LIMIT: u64 = 1_000_000_000;
+
+/// The greatest number of turns where none is said.
+const TURNS_DEFAULT: u64 = 1_000_000;
+
+/// The greatest number of turns of a run without a limit.
+const FOREVER: u64 = u64::MAX;
+
+/// The longest pause, in seconds.
+const PAUSE_SECONDS: u64 = 60;
 
 /// The longest pause, in hundredths of a second.
 const PAUSE_LIMIT: u64 = 6_000;
@@ -44,48 +63,72 @@ pub(crate) fn run_line<'a>(alloc: Global) -> Result<Command<'a>, AllocError>
     let line = Command::new(alloc, "run");
     let line = with_default(alloc, line, "inittab", "inittab")?;
     let line = with_default(alloc, line, "initctl", "initctl")?;
-    let line = with_value(alloc, line, "trace")?;
+    let line = with_switch(alloc, line, "fresh")?;
     let line = with_default(alloc, line, "state", "initd.state")?;
+    let line = with_value(alloc, line, "trace")?;
     let line = with_value(alloc, line, "level")?;
-    let line = with_default(alloc, line, "turns", "1000000")?;
+    let line = with_value(alloc, line, "turns")?;
+    let line = with_switch(alloc, line, "forever")?;
     let line = with_switch(alloc, line, "drain")?;
-    with_default(alloc, line, "pause", "1")
+    let line = with_default(alloc, line, "pause", "1")?;
+    let line = with_value(alloc, line, "result")?;
+    let line = with_switch(alloc, line, "verbose")?;
+    with_value(alloc, line, "logs")
 }
 
-/// What the words after `run` say; None where a value is none of its kind.
-pub(crate) fn read_run(alloc: Global, matches: &ArgMatches) -> Result<Option<RunWords>, AllocError>
-    ensures { IfOk result (λ said.
-        option_map run_of said ≡ run_said (rows_of (found_of matches.now))) }
+/// What the words after `run` say.
+pub(crate) fn read_run(alloc: Global, matches: &ArgMatches) -> Result<RunWords, WordFault>
+    ensures ok { IfOk result (λ said.
+        run_said (rows_of (found_of matches.now)) ≡ Some (run_of said)) }
+    ensures usage { IfErr result (λ fault. IsSome (reason_of fault)
+        → run_said (rows_of (found_of matches.now)) ≡ None) }
 {
-    let Some(level) = read_level_option(matches) else {
-        return Ok(None);
-    };
-    let Some(turns) = read_turns(value_of(matches, "turns")) else {
-        return Ok(None);
-    };
-    if !is_pause(value_of(matches, "pause")) {
-        return Ok(None);
-    }
-    Ok(Some(RunWords {
+    let level = read_level_option(alloc, matches)?;
+    let turns = read_turns_option(alloc, matches)?;
+    let pause = read_pause(alloc, matches)?;
+    let result = read_result(alloc, matches)?;
+    Ok(RunWords {
         inittab: String::from_str(alloc, value_of(matches, "inittab"))?,
         initctl: String::from_str(alloc, value_of(matches, "initctl"))?,
+        fresh: is_set(matches, "fresh"),
         state: String::from_str(alloc, value_of(matches, "state"))?,
-        trace: read_path(alloc, matches)?,
+        trace: read_path(alloc, matches, "trace")?,
         level,
         turns,
-        drain: value_of(matches, "drain") == "true",
-        pause: String::from_str(alloc, value_of(matches, "pause"))?,
-    }))
+        drain: is_set(matches, "drain"),
+        pause,
+        result,
+        verbose: is_set(matches, "verbose"),
+        logs: read_path(alloc, matches, "logs")?,
+    })
 }
 
-/// The path of the trace, where one is given.
-fn read_path(alloc: Global, matches: &ArgMatches) -> Result<Option<String>, AllocError>
+/// The path that is given for an option, where one is.
+fn read_path(alloc: Global, matches: &ArgMatches, id: &str) -> Result<Option<String>, AllocError>
     ensures { IfOk result (λ path. option_map (λ (text : _). string_bytes text) path
-        ≡ first_of (codes "trace") (rows_of (found_of matches.now))) }
+        ≡ first_of id.now (rows_of (found_of matches.now))) }
 {
-    match matches.get_str("trace") {
+    match word_of(matches, id) {
         Some(path) => Ok(Some(String::from_str(alloc, path)?)),
         None => Ok(None),
+    }
+}
+
+/// The greatest number of turns, by `--turns` or `--forever`, of which one may be given.
+fn read_turns_option(alloc: Global, matches: &ArgMatches) -> Result<u64, WordFault>
+    ensures ok { IfOk result (λ turns.
+        turns_said (rows_of (found_of matches.now)) ≡ Some turns) }
+    ensures usage { IfErr result (λ fault. IsSome (reason_of fault)
+        → turns_said (rows_of (found_of matches.now)) ≡ None) }
+{
+    let forever = is_set(matches, "forever");
+    match word_of(matches, "turns") {
+        None => Ok(if forever { FOREVER } else { TURNS_DEFAULT }),
+        Some(word) if forever => Err(refused(alloc, "turns", word, "not with --forever")),
+        Some(word) => match read_turns(word) {
+            Some(turns) => Ok(turns),
+            None => Err(refused(alloc, "turns", word, "not 1 to 1000000000")),
+        },
     }
 }
 
@@ -95,6 +138,20 @@ fn read_turns(word: &str) -> Option<u64>
 {
     let turns = read_below(word.as_bytes(), TURNS_LIMIT + 1)?;
     if turns > 0 { Some(turns) } else { None }
+}
+
+/// The seconds of a pause, as they are written.
+fn read_pause(alloc: Global, matches: &ArgMatches) -> Result<String, WordFault>
+    ensures ok { IfOk result (λ pause.
+        pause_said (rows_of (found_of matches.now)) ≡ Some (string_bytes pause)) }
+    ensures usage { IfErr result (λ fault. IsSome (reason_of fault)
+        → pause_said (rows_of (found_of matches.now)) ≡ None) }
+{
+    let word = value_of(matches, "pause");
+    if !is_pause(word) {
+        return Err(refused(alloc, "pause", word, "not 0.01 to 60 seconds"));
+    }
+    Ok(String::from_str(alloc, word)?)
 }
 
 /// The word is a decimal number of seconds, 0.01 to 60, with at most two digits after a point.
@@ -112,9 +169,9 @@ fn read_hundredths(word: &[u8]) -> Option<u64>
     ensures { result ≡ hundredths_read word.now }
 {
     let Some((whole, part)) = cut(b'.', word) else {
-        return Some(read_below(word, 61)? * 100);
+        return Some(read_below(word, PAUSE_SECONDS + 1)? * 100);
     };
-    let seconds = read_below(whole, 61)?;
+    let seconds = read_below(whole, PAUSE_SECONDS + 1)?;
     Some(seconds * 100 + read_part(part)?)
 }
 
@@ -139,5 +196,21 @@ fn read_digit(byte: u8) -> Option<u64>
         Some((byte - b'0') as u64)
     } else {
         None
+    }
+}
+
+/// The entry whose last status is the run's, where one is given.
+fn read_result(alloc: Global, matches: &ArgMatches) -> Result<Option<Id>, WordFault>
+    ensures ok { IfOk result (λ entry.
+        result_said (rows_of (found_of matches.now)) ≡ Some entry) }
+    ensures usage { IfErr result (λ fault. IsSome (reason_of fault)
+        → result_said (rows_of (found_of matches.now)) ≡ None) }
+{
+    let Some(word) = word_of(matches, "result") else {
+        return Ok(None);
+    };
+    match Id::read(word.as_bytes()) {
+        Some(id) => Ok(Some(id)),
+        None => Err(refused(alloc, "result", word, "no id")),
     }
 }

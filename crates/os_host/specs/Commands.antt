@@ -22,3 +22,15 @@ words_run text =
 abbrev pub words_in : {A : Type 0} → Option (Command A) → List (List ℕ)
 words_in (Some command) = command_program command ∷ command_args command
 words_in None = []
+
+-- words that are started by a shell, which appends their output to the log and becomes the process
+abbrev pub logged : List ℕ → List (List ℕ) → List (List ℕ)
+logged log [] = []
+logged log (program ∷ args) = codes "sh" ∷ codes "-c" ∷ codes "exec \"$@\" >>\"$0\" 2>&1" ∷ log ∷ program ∷ args
+
+-- the same of a text: a shell executes it, with its output in the log
+abbrev pub words_logged : List ℕ → List ℕ → List (List ℕ)
+words_logged log text =
+    if needs_shell text
+    then codes "sh" ∷ codes "-c" ∷ (codes "exec >>\"$0\" 2>&1\nexec " ++ text) ∷ log ∷ []
+    else logged log (words_of text)

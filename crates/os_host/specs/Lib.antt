@@ -1,2 +1,7 @@
 pub mod Announced
 pub mod Commands
+pub mod LineFaults
+pub mod Logs
+pub mod News
+pub mod OldRequests
+pub mod PassedOver

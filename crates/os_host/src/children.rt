@@ -1,20 +1,34 @@
-use crate::commands::{command_of, needs_shell, shell_command};
+use crate::commands::{command_of, needs_shell, shell_command, shown};
+use crate::logs::Logs;
+use crate::news::{News, end_news};
+use crate::starts::Starts;
 use crate::troubles::Trouble;
 use indexmap::IndexMap;
-use init_words::{Answer, Id, Sig, Status};
+use init_words::{Answer, Id, Memory, Sig, Status};
 use std::alloc::Allocator;
 use std::hash::{BuildHasherDefault, FoldHasher};
 use std::io::ErrorKind;
-use std::process::{Child, ExitStatus, Processes};
+use std::process::{Child, Command, ExitStatus, Processes};
+use std::rt::Files;
 use std::{io, str};
 use text_lines::next_word;
+
+/// A child, and whether TERM could be sent to it.
+#[derive(Drop)]
+struct Held<C: Drop> {
+    child: C,
+    stopping: Trouble,
+}
 
 /// The children of a host, each under its id.
 #[derive(Drop)]
 pub(crate) struct Children<R: Processes, A: Allocator> {
     alloc: A,
-    stopping: Trouble,
-    handles: IndexMap<Id, Child<R::Started>, BuildHasherDefault<FoldHasher>, A>,
+    handles: IndexMap<Id, Held<Child<R::Started>>, BuildHasherDefault<FoldHasher>, A>,
+    /// The births, where it is told what children do.
+    starts: Option<Starts<A>>,
+    /// Where their output goes, where it goes to logs.
+    logs: Option<Logs<A>>,
 }
 
 impl<R: Processes, A: Allocator + Copy> Children<R, A> {
@@ -22,9 +36,21 @@ impl<R: Processes, A: Allocator + Copy> Children<R, A> {
     pub(crate) fn new(alloc: A) -> Children<R, A> {
         Children {
             alloc,
-            stopping: Trouble::new("send TERM to", "TERM was sent"),
             handles: IndexMap::new(alloc),
+            starts: None,
+            logs: None,
         }
+    }
+
+    /// From now on it is told on standard error what children do. It takes no memory.
+    pub(crate) fn tell_all(&mut self) {
+        self.starts = Some(Starts::new(self.alloc));
+    }
+
+    /// From now on the output of the children that are started goes to logs in this folder.
+    pub(crate) fn log_to(&mut self, folder: &str) -> Result<(), Memory> {
+        self.logs = Some(Logs::new(self.alloc, folder)?);
+        Ok(())
     }
 
     /// Starts a child for an id that has none, and gives its number. There is room for its handle before it is born.
@@ -34,33 +60,84 @@ impl<R: Processes, A: Allocator + Copy> Children<R, A> {
         alloc: B,
         id: Id,
         text: &[u8],
-    ) -> io::Result<u32> {
+    ) -> io::Result<u32>
+    where
+        R: Files + Eprint,
+    {
         if self.handles.contains_key(&id) {
             return Err(io::Error::from(ErrorKind::AlreadyExists));
         }
-        let Ok(text) = str::from_utf8(text) else {
-            return Err(io::Error::from(ErrorKind::InvalidInput));
-        };
-        let Some(mut command) = command_of(alloc, text)? else {
+        let Some(mut command) = self.command(rt, alloc, &id, text)? else {
             return Err(io::Error::from(ErrorKind::InvalidInput));
         };
         self.handles.reserve(1)?;
         let child = command.spawn(rt)?;
         let number = child.id();
-        if self.handles.insert(id, child).is_err() {
+        let stopping = Trouble::new("send TERM to", "TERM was sent");
+        if self.handles.insert(id, Held { child, stopping }).is_err() {
             unreachable!()
         }
+        self.tell_start(rt, id, number);
         Ok(number)
     }
 
+    /// The command that starts a process text. None where it has no word, and where it isn't UTF-8.
+    fn command<B: Allocator + Copy>(
+        &mut self,
+        rt: &R,
+        alloc: B,
+        id: &Id,
+        text: &[u8],
+    ) -> io::Result<Option<Command<B>>>
+    where
+        R: Files + Eprint,
+    {
+        let Ok(text) = str::from_utf8(text) else {
+            return Ok(None);
+        };
+        match &mut self.logs {
+            Some(logs) => logs.command(rt, alloc, id, text),
+            None => Ok(command_of(alloc, text)?),
+        }
+    }
+
+    fn tell_start(&mut self, rt: &R, id: Id, number: u32)
+    where
+        R: Eprint,
+    {
+        let Some(starts) = &mut self.starts else {
+            return;
+        };
+        let news = match starts.count(rt, id) {
+            Some(count) if count > 1 => News::StartedAgain(number, count),
+            _ => News::Started(number),
+        };
+        self.tell(rt, &id, &news);
+    }
+
+    /// Tells what a child did, where it is told what children do.
+    fn tell(&self, rt: &R, id: &Id, news: &News)
+    where
+        R: Eprint,
+    {
+        if self.starts.is_some() {
+            let id = shown(id.as_bytes());
+            let _ = eprintln!(rt; "initd: {id}: {news}");
+        }
+    }
+
     /// Reaps the id's child if it has ended.
-    pub(crate) fn look(&mut self, id: &Id) -> Answer {
-        let Some(child) = self.handles.get_mut(id) else {
+    pub(crate) fn look(&mut self, rt: &R, id: &Id) -> Answer
+    where
+        R: Eprint,
+    {
+        let Some(held) = self.handles.get_mut(id) else {
             return Answer::NoLook;
         };
-        match child.try_wait() {
+        match held.child.try_wait() {
             Ok(Some(status)) => {
                 self.handles.shift_remove(id);
+                self.tell(rt, id, &end_news(&status));
                 Answer::Ended(status_of(&status))
             }
             Ok(None) => Answer::Alive,
@@ -77,24 +154,28 @@ impl<R: Processes, A: Allocator + Copy> Children<R, A> {
             Sig::Term => self.term(rt, id),
             Sig::Kill => self.kill(id),
         };
-        if sent { Answer::Hit } else { Answer::Miss }
+        if !sent {
+            return Answer::Miss;
+        }
+        self.tell(rt, id, &News::Sent(signal));
+        Answer::Hit
     }
 
     fn term(&mut self, rt: &R, id: &Id) -> bool
     where
         R: Eprint,
     {
-        let Some(child) = self.handles.get(id) else {
+        let Some(held) = self.handles.get_mut(id) else {
             return false;
         };
-        let sent = send_term(rt, self.alloc, child.id());
-        self.stopping.tell(rt, shown(id.as_bytes()), &sent);
+        let sent = send_term(rt, self.alloc, held.child.id());
+        held.stopping.tell(rt, shown(id.as_bytes()), &sent);
         sent.is_ok()
     }
 
     fn kill(&mut self, id: &Id) -> bool {
         match self.handles.get_mut(id) {
-            Some(child) => child.kill().is_ok(),
+            Some(held) => held.child.kill().is_ok(),
             None => false,
         }
     }
@@ -138,9 +219,4 @@ fn program_of(text: &[u8]) -> &str {
         Some((program, _)) => shown(program),
         None => "",
     }
-}
-
-/// The text, where it is UTF-8.
-fn shown(text: &[u8]) -> &str {
-    str::from_utf8(text).unwrap_or("?")
 }

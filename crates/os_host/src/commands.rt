@@ -1,7 +1,7 @@
 ghost use Rattle.std.specs.Prelude.{◌≡◌, ◌++◌, ◌∷◌, [], Some, codes, IfOk, OnOk};
 ghost use Rattle.std.specs.Str.{IsUtf8};
 ghost use Rattle.text_lines.specs.Lines.{words_of};
-ghost use Rattle.os_host.specs.Commands.{is_shell_byte, needs_shell, words_run, words_in};
+ghost use Rattle.os_host.specs.Commands.{is_shell_byte, logged, needs_shell, words_logged, words_run, words_in};
 
 use std::alloc::{AllocError, Allocator};
 use std::process::Command;
@@ -37,6 +37,42 @@ pub(crate) fn command_of<A: Allocator + Copy>(
         return Ok(Some(shell_command(alloc, line.as_str())?));
     }
     plain_command(alloc, text)
+}
+
+/// The command that starts a process text as `command_of` does, but by a shell in each case, which appends its output
+/// to the file of this path and then becomes the process.
+pub(crate) fn logged_command<A: Allocator + Copy>(
+    alloc: A,
+    log: &str,
+    text: &str,
+) -> Result<Option<Command<A>>, AllocError>
+    ensures { IfOk result (λ command. words_in command ≡ words_logged log.now text.now) }
+{
+    if !needs_shell(text.as_bytes()) {
+        return logged_words(alloc, log, text);
+    }
+    let line = format!(in alloc; "exec >>\"$0\" 2>&1\nexec {text}")?;
+    let mut command = shell_command(alloc, line.as_str())?;
+    add_word(&mut command, log)?;
+    Ok(Some(command))
+}
+
+/// The command of a text's words, started by a shell that appends their output to the file of this path.
+fn logged_words<A: Allocator + Copy>(
+    alloc: A,
+    log: &str,
+    text: &str,
+) -> Result<Option<Command<A>>, AllocError>
+    ensures { IfOk result (λ command. words_in command ≡ logged log.now (words_of text.now)) }
+{
+    let Some((program, rest)) = next_word(text.as_bytes()) else {
+        return Ok(None);
+    };
+    let mut command = shell_command(alloc, "exec \"$@\" >>\"$0\" 2>&1")?;
+    add_word(&mut command, log)?;
+    add_word(&mut command, text_of(program))?;
+    add_words(&mut command, rest)?;
+    Ok(Some(command))
 }
 
 /// The command that runs a line in a shell.
@@ -99,4 +135,9 @@ fn text_of(bytes: &[u8]) -> &str
         Ok(text) => text,
         Err(_) => unreachable!(),
     }
+}
+
+/// The text, where it is UTF-8.
+pub(crate) fn shown(text: &[u8]) -> &str {
+    str::from_utf8(text).unwrap_or("?")
 }

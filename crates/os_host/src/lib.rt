@@ -3,13 +3,21 @@
 #![tactic(auto)]
 
 mod announcements;
+mod channels;
 mod children;
 mod commands;
+mod line_faults;
+mod logs;
+mod news;
+mod old_requests;
 mod os_hosts;
+mod passed_over;
 mod paths;
 mod pauses;
+mod starts;
 mod steady_clocks;
 mod troubles;
 
 pub use announcements::announcement_text;
+pub use line_faults::faults_text;
 pub use os_hosts::OsHost;

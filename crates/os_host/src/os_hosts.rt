@@ -1,7 +1,9 @@
 ghost use Rattle.std.specs.Prelude.{◌≡◌, IfOk, OnErr, IsErr};
 
 use crate::announcements::announcement_text;
+use crate::channels::Channel;
 use crate::children::{Children, say_not_born};
+use crate::line_faults::LineFaults;
 use crate::paths::Paths;
 use crate::pauses::{Pauses, has_stirred};
 use crate::steady_clocks::SteadyClock;
@@ -23,13 +25,17 @@ use std::{io, thread};
 /// WNOHANG; SIGTERM is sent by kill(1) in `sh`, SIGKILL directly. A pause starts nothing and does not fail. Requests
 /// are read from the channel file's first byte on, and anew where it is shorter than what was read. The clock gives
 /// the seconds since the beginning of 1970 at its first reading, and goes on from there by the monotonic clock. What
-/// fails is told on standard error once when it begins and once when it is over.
+/// fails is told on standard error once when it begins and once when it is over; told too are requests that stand in
+/// the channel before its first reading, those that init passes over, and that it ends within a request. The faults of
+/// an inittab's lines are printed, where they are not those that were printed last.
 #[derive(Drop)]
 pub struct OsHost<R: Processes + Files + Clock + Print + Eprint + Drop, A: Allocator = Global> {
     rt: R,
     alloc: A,
     children: Children<R, A>,
+    channel: Channel<A>,
     paths: Paths<A>,
+    line_faults: LineFaults<A>,
     pauses: Pauses,
     clock: SteadyClock,
     saying: Trouble,
@@ -61,7 +67,9 @@ impl<R: Processes + Files + Clock + Print + Eprint + Drop, A: Allocator + Copy> 
             rt,
             alloc,
             children: Children::new(alloc),
-            paths: Paths::new(alloc, inittab, channel, state)?,
+            channel: Channel::new(alloc, channel)?,
+            paths: Paths::new(alloc, inittab, state)?,
+            line_faults: LineFaults::new(alloc),
             pauses: Pauses::of_a_second(),
             clock: SteadyClock::new(),
             saying: Trouble::new("write", "written"),
@@ -78,6 +86,48 @@ impl<R: Processes + Files + Clock + Print + Eprint + Drop, A: Allocator + Copy> 
     {
         self.pauses.grow_to(length);
         Ok(self)
+    }
+
+    /// The host that tells on standard error of each birth, each end and each signal of a child.
+    pub fn verbose(mut self) -> OsHost<R, A>
+        ensures { result.faults ≡ self.faults }
+    {
+        self.children.tell_all();
+        self
+    }
+
+    /// The host that passes over the requests that stand in the channel at its first reading: that begins at the end
+    /// of the last whole one. A channel that isn't there then has none.
+    pub fn fresh(mut self) -> OsHost<R, A>
+        ensures { result.faults ≡ self.faults }
+    {
+        self.channel.pass_over_old();
+        self
+    }
+
+    /// The host that appends what each child prints to `ID.log` in the folder, or to `_.log` where the id begins with
+    /// a point or has a slash, which is told. Its children have no input. Each is started by `sh`, which becomes the
+    /// process, or says in the log that there is none and ends with a status. Where a log can't be opened that is told,
+    /// and the child is started as without logs.
+    pub fn with_logs(mut self, folder: &str) -> Result<OsHost<R, A>, Memory>
+        ensures { IfOk result (λ host. host.faults ≡ self.faults) }
+    {
+        self.children.log_to(folder)?;
+        Ok(self)
+    }
+}
+
+impl<R: Processes + Files + Clock + Print + Eprint + Drop, A: Allocator + Copy> OsHost<R, A> {
+    /// Prints the faults of the lines of an inittab's text that was read again, and gives whether it could. What fails
+    /// is told.
+    fn tell_line_faults(&mut self, text: &[u8]) -> bool
+        ensures { self.new.faults ≡ self.old.faults }
+    {
+        let told = self.line_faults.tell(&self.rt, self.paths.inittab(), text);
+        if !matches!(told, Ok(0)) {
+            self.saying.tell(&self.rt, "standard output", &told);
+        }
+        told.is_ok()
     }
 }
 
@@ -136,7 +186,7 @@ impl<R: Processes + Files + Clock + Print + Eprint + Drop, A: Allocator + Copy> 
     }
 
     fn look(&mut self, id: Id) -> Reply {
-        let reply = Reply::Now(self.children.look(&id));
+        let reply = Reply::Now(self.children.look(&self.rt, &id));
         self.pauses.note(has_stirred(&reply));
         self.faults = counted(self.faults, is_failed_reply(&reply));
         reply
@@ -160,7 +210,7 @@ impl<R: Processes + Files + Clock + Print + Eprint + Drop, A: Allocator + Copy> 
     }
 
     fn take_bytes(&mut self, buffer: &mut [u8]) -> Result<usize, HostFault> {
-        let taken = host_result(self.paths.take_bytes(&self.rt, buffer));
+        let taken = host_result(self.channel.take_bytes(&self.rt, buffer));
         self.pauses.note(matches!(taken, Ok(count) if count > 0));
         self.faults = counted(self.faults, taken.is_err());
         taken
@@ -168,7 +218,11 @@ impl<R: Processes + Files + Clock + Print + Eprint + Drop, A: Allocator + Copy> 
 
     fn read_table<B: Allocator + Copy>(&mut self, alloc: B) -> Result<Vec<u8, B>, HostFault> {
         let text = host_result(self.paths.read_table(&self.rt, alloc));
-        self.faults = counted(self.faults, text.is_err());
+        let told = match &text {
+            Ok(text) => self.tell_line_faults(text),
+            Err(_) => true,
+        };
+        self.faults = counted(self.faults, text.is_err() || !told);
         text
     }
 

@@ -1,6 +1,7 @@
-ghost use Rattle.std.specs.Prelude.{◌≡◌, map, option_map, string_bytes, IfOk, IsErrOf};
+ghost use Rattle.std.specs.Prelude.{◌≡◌, map, string_bytes, IfErr, IfOk, IsSome};
 ghost use Rattle.clap.specs.Words.{FailsBy, fault_of, found_of, matches_of, rows_of};
 ghost use Rattle.command_words.specs.CommandLines.{IsLine};
+ghost use Rattle.command_words.specs.Faults.{reason_of};
 ghost use Rattle.rc_command.specs.CommandLine.{command_line, is_dir, level_of, previous_of, read_of, rows_said, said_by, said_of};
 
 use clap::{ArgMatches, Command, Error};
@@ -24,15 +25,12 @@ pub struct Words {
 /// Reads a command line, without the program's name in front.
 pub fn read_words(alloc: Global, words: &[String]) -> Result<Words, WordFault>
     ensures ok { IfOk result (λ said. read_of (map string_bytes words.now) ≡ Some (said_of said)) }
-    ensures usage { IsErrOf result WordFault.Usage → read_of (map string_bytes words.now) ≡ None }
+    ensures usage { IfErr result (λ fault. IsSome (reason_of fault)
+        → read_of (map string_bytes words.now) ≡ None) }
 {
-    let matches = match parsed(alloc, words) {
-        Ok(matches) => matches,
-        Err(error) => return Err(word_fault(&error)),
-    };
-    match read_matches(alloc, &matches)? {
-        Some(said) => Ok(said),
-        None => Err(WordFault::Usage),
+    match parsed(alloc, words) {
+        Ok(matches) => read_matches(alloc, &matches),
+        Err(error) => Err(word_fault(alloc, &error)),
     }
 }
 
@@ -54,10 +52,12 @@ fn parsed<'a>(alloc: Global, words: &'a [String]) -> Result<ArgMatches<'a>, Erro
     command(alloc)?.try_get_matches_from(words)
 }
 
-/// What matches say; None where a word is no path or no level.
-fn read_matches(alloc: Global, matches: &ArgMatches) -> Result<Option<Words>, AllocError>
-    ensures { IfOk result (λ said.
-        option_map said_of said ≡ rows_said (rows_of (found_of matches.now))) }
+/// What matches say.
+fn read_matches(alloc: Global, matches: &ArgMatches) -> Result<Words, WordFault>
+    ensures ok { IfOk result (λ said.
+        rows_said (rows_of (found_of matches.now)) ≡ Some (said_of said)) }
+    ensures usage { IfErr result (λ fault. IsSome (reason_of fault)
+        → rows_said (rows_of (found_of matches.now)) ≡ None) }
 {
     let dir = value_of(matches, "dir");
     words_of(
@@ -68,29 +68,29 @@ fn read_matches(alloc: Global, matches: &ArgMatches) -> Result<Option<Words>, Al
     )
 }
 
-fn words_of(
-    alloc: Global,
-    dir: &str,
-    before: &str,
-    after: &str,
-) -> Result<Option<Words>, AllocError>
-    ensures { IfOk result (λ said.
-        option_map said_of said ≡ said_by dir.now before.now after.now) }
+/// What three words say; a usage fault where one is no path or no level.
+fn words_of(alloc: Global, dir: &str, before: &str, after: &str) -> Result<Words, WordFault>
+    ensures ok { IfOk result (λ said. said_by dir.now before.now after.now ≡ Some (said_of said)) }
+    ensures usage { IfErr result (λ fault. IsSome (reason_of fault)
+        → said_by dir.now before.now after.now ≡ None) }
 {
     if !is_dir(dir) {
-        return Ok(None);
+        let reason = format!(in alloc; "{dir}: DIR has bytes of A-Z a-z 0-9 . _ - / alone")?;
+        return Err(WordFault::Usage(reason));
     }
     let Some(previous) = previous_of(before) else {
-        return Ok(None);
+        let reason = format!(in alloc; "{before}: PREV is a runlevel, 0 to 9 or S, or N")?;
+        return Err(WordFault::Usage(reason));
     };
     let Some(new) = level_of(after) else {
-        return Ok(None);
+        let reason = format!(in alloc; "{after}: NEW is a runlevel, 0 to 9 or S")?;
+        return Err(WordFault::Usage(reason));
     };
-    Ok(Some(Words {
+    Ok(Words {
         dir: String::from_str(alloc, dir)?,
         previous,
         new,
-    }))
+    })
 }
 
 /// The path has bytes of `A-Z a-z 0-9 . _ - /` alone.

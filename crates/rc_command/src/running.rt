@@ -1,14 +1,16 @@
-ghost use Rattle.std.specs.Prelude.{◌≡◌, ◌≢◌, ◌⊎◌, IsSome, map, string_bytes};
+ghost use Rattle.std.specs.Prelude.{◌≡◌, ◌⊎◌, true, false, codes, IsSome, map, string_bytes};
+ghost use Rattle.command_words.specs.CommandLines.{asks_version};
+ghost use Rattle.command_words.specs.Faults.{ReportsUsage};
+ghost use Rattle.program_version.specs.VersionLine.{PrintsVersion};
 ghost use Rattle.rc_command.specs.CommandLine.{read_of};
 ghost use Rattle.rc_command.specs.Endings.{Reports, ReportsPart};
 
 use crate::command::{Words, read_words};
 use crate::folders::{folder_of, names_in, previous_names};
-use command_words::WordFault;
+use command_words::{is_version, report_word_fault};
 use os_host::OsHost;
-use program_io::{
-    DEVICE_FAULT, DONE, LIMIT_REACHED, REFUSED, report_no_memory, report_usage, write_text,
-};
+use program_io::{DEVICE_FAULT, DONE, LIMIT_REACHED, REFUSED, report_no_memory, write_text};
+use program_version::print_version;
 use rc_driver::{Rc, RunEnd, run_links};
 use std::alloc::Global;
 use std::io;
@@ -19,20 +21,19 @@ use std::rt::{Clock, Files};
 /// The greatest number of pauses of a run, of a second each.
 pub const PAUSES_LIMIT: u32 = 100_000;
 
-/// What is reported where they are used up.
-const LIMIT_TEXT: &str = "rc: a script has not ended after 100000 pauses\n";
-
-/// What is reported of words that are no command line.
+/// What is reported of words that are no command line, behind a line that says why.
 pub const USAGE: &str = "usage: rc DIR PREV NEW
+       rc --version
   DIR   the folder that holds those of the runlevels, as rc3.d; of bytes of A-Z a-z 0-9 . _ - / alone
   PREV  the runlevel before, 0 to 9 or S, or N where there was none
   NEW   the runlevel that is entered, 0 to 9 or S
 ";
 
 /// Runs rc on a command line without the program's name, and gives its exit status: 0 where all scripts of NEW's folder
-/// were carried out, whatever their own statuses, 1 where the words are no command line, 3 where a script has not ended
-/// after 100,000 pauses, 4 where NEW's folder can't be listed, the output fails or memory runs out. A line for each
-/// script is written on `out` at its end, and a fault is reported on `err`.
+/// were carried out, whatever their own statuses, or the version was written, 1 where the words are no command line, 3
+/// where a script has not ended after `PAUSES_LIMIT` pauses, 4 where NEW's folder can't be listed, the output fails or
+/// memory runs out. The version is written on `out`, where the words are `--version` alone, or a line for each script
+/// at its end; a fault is reported on `err`.
 pub fn run_words<R, W, E>(rt: &R, alloc: Global, words: Vec<String>, out: &mut W, err: &mut E) -> u8
 where
     R: Processes + Files + Clock + Print + Eprint + Alloc + Clone + Drop,
@@ -41,14 +42,23 @@ where
     ensures statuses { (result ≡ DONE) ⊎ (result ≡ REFUSED) ⊎ (result ≡ LIMIT_REACHED)
         ⊎ (result ≡ DEVICE_FAULT) }
     ensures refused { result ≡ REFUSED → read_of (map string_bytes words.items) ≡ None }
-    ensures said { result ≡ DONE → IsSome (read_of (map string_bytes words.items)) }
-    ensures done { result ≡ DONE → Reports (W.contents out.old) (W.contents out.new) }
-    ensures part { (out.new ≡ out.old) ⊎ ReportsPart (W.contents out.old) (W.contents out.new) }
+    ensures version { asks_version (map string_bytes words.items) ≡ true
+        → PrintsVersion (codes "rc") result (W.contents out.old) (W.contents out.new) }
+    ensures said { asks_version (map string_bytes words.items) ≡ false → result ≡ DONE
+        → IsSome (read_of (map string_bytes words.items)) }
+    ensures done { asks_version (map string_bytes words.items) ≡ false → result ≡ DONE
+        → Reports (W.contents out.old) (W.contents out.new) }
+    ensures part { asks_version (map string_bytes words.items) ≡ false
+        → (out.new ≡ out.old) ⊎ ReportsPart (W.contents out.old) (W.contents out.new) }
+    ensures report { result ≡ REFUSED
+        → ReportsUsage (codes "rc") USAGE.now (E.contents err.old) (E.contents err.new) }
 {
+    if is_version(words.as_slice()) {
+        return print_version("rc", out, err);
+    }
     match read_words(alloc, words.as_slice()) {
         Ok(said) => run(rt, alloc, &said, out, err),
-        Err(WordFault::Usage) => report_usage(USAGE, err),
-        Err(WordFault::Memory) => report_no_memory("rc", err),
+        Err(fault) => report_word_fault("rc", &fault, USAGE, err),
     }
 }
 
@@ -110,10 +120,21 @@ fn report_end<E: Write>(ended: RunEnd, err: &mut E) -> u8
 {
     match ended {
         RunEnd::Done => DONE,
-        RunEnd::Limit => tell(LIMIT_REACHED, LIMIT_TEXT, err),
+        RunEnd::Limit => report_limit(err),
         RunEnd::Write => tell(DEVICE_FAULT, "rc: cannot write\n", err),
         RunEnd::Memory => tell(DEVICE_FAULT, "rc: out of memory\n", err),
     }
+}
+
+/// Reports that the pauses are used up, and gives the exit status.
+fn report_limit<E: Write>(err: &mut E) -> u8
+    ensures { result ≡ LIMIT_REACHED }
+{
+    let _ = writeln!(
+        err,
+        "rc: a script has not ended after {PAUSES_LIMIT} pauses"
+    );
+    LIMIT_REACHED
 }
 
 /// Reports a line, and gives the exit status.

@@ -1,5 +1,5 @@
 -- Runs of rclinks over the paths of init scripts.
-use Rattle.std.specs.Prelude.{◌≡◌, ◌⊎◌, ℕ, Bool, true, ◌||◌, List, [], ◌∷◌, ◌++◌, Option, Contains, codes}
+use Rattle.std.specs.Prelude.{◌≡◌, ◌⊎◌, ℕ, Bool, true, ◌||◌, if◌then◌else◌, List, [], ◌∷◌, ◌++◌, Option, Contains, codes}
 use Rattle.std.specs.List.{list_any}
 use Rattle.std.specs.Str.{bytes_eq}
 use Rattle.std.specs.Io.KnownBytes.{Appends}
@@ -23,6 +23,10 @@ is_help word = bytes_eq word (codes "--help") || bytes_eq word (codes "-h")
 -- there are no words, or one of them asks for the usage
 abbrev pub wants_usage : List (List ℕ) → Bool
 wants_usage words = is_empty words || list_any is_help words
+
+-- why the usage is told: no file is given; nothing is said of a request for help
+abbrev pub usage_reason : List (List ℕ) → List ℕ
+usage_reason words = if is_empty words then codes "no file is given" else []
 
 -- the script of the path was added to the scripts
 abbrev pub AddsScript : KnownTexts → List ℕ → List ScriptText → List ScriptText → Type 0

@@ -1,21 +1,28 @@
-ghost use Rattle.std.specs.Prelude.{◌≡◌, ◌⊎◌, ◌++◌, true, map, string_bytes, Contains, IfOk, IfErr, OnOk};
+ghost use Rattle.std.specs.Prelude.{◌≡◌, ◌⊎◌, ◌++◌, true, false, codes, map, string_bytes, Contains, IfOk, IfErr, OnOk};
 ghost use Rattle.std.specs.List.{list_any};
 ghost use Rattle.std.specs.Io.KnownBytes.{Appends};
 ghost use Rattle.program_io.specs.Writing.{AppendsPrefix};
+ghost use Rattle.program_version.specs.VersionLine.{PrintsVersion};
+ghost use Rattle.command_words.specs.CommandLines.{asks_version};
+ghost use Rattle.command_words.specs.Faults.{usage_report};
 ghost use Rattle.rc_links.specs.Links.{plan_text};
-ghost use Rattle.rclinks_command.specs.Command.{AddsScript, AreScripts, HasNoPlan, IsRefusedRun, PrintsLinks, PrintsPart, PrintsPlan, PrintsPlanPart, is_help, plan_status, wants_usage};
+ghost use Rattle.rclinks_command.specs.Command.{AddsScript, AreScripts, HasNoPlan, IsRefusedRun, PrintsLinks, PrintsPart, PrintsPlan, PrintsPlanPart, is_help, plan_status, usage_reason, wants_usage};
 ghost use Rattle.rclinks_command.specs.Files.{IsNoScriptAt, file_status};
 
 use crate::files::{FileFault, script_of};
+use command_words::{is_version, report_refused_words};
 use init_words::Memory;
 use path_texts::Texts;
-use program_io::{DEVICE_FAULT, DONE, REFUSED, report_usage, write_text};
+use program_io::{DEVICE_FAULT, DONE, REFUSED, write_text};
+use program_version::print_version;
 use rc_links::{Plan, PlanFault, Script};
 use std::alloc::Global;
 use std::io::Write;
 
-/// What is told of words that are no command line, and where help is asked for.
-pub const USAGE: &str = "rclinks: usage: rclinks FILE..\n";
+/// What is told of words that are no command line, behind a line that says why, and where help is asked for.
+pub const USAGE: &str = "usage: rclinks FILE..
+       rclinks --version
+";
 
 /// A file that gives no script, and why.
 #[derive(Drop)]
@@ -136,8 +143,14 @@ fn print_links<W: Write, E: Write>(alloc: Global, plan: &Plan, out: &mut W, err:
     }
 }
 
-/// Prints the plan of some scripts, and gives the exit status.
-fn print_plan<W: Write, E: Write>(alloc: Global, scripts: &[Script], out: &mut W, err: &mut E) -> u8
+/// Prints the links of a plan of the scripts on `out`, and gives the exit status: 0, or 1 where they have no plan, 4
+/// where the output fails or memory runs out. A fault is told on `err`.
+pub fn print_plan<W: Write, E: Write>(
+    alloc: Global,
+    scripts: &[Script],
+    out: &mut W,
+    err: &mut E,
+) -> u8
     ensures statuses { (result ≡ DONE) ⊎ (result ≡ REFUSED) ⊎ (result ≡ DEVICE_FAULT) }
     ensures done { result ≡ DONE
         → PrintsPlan scripts.now (W.contents out.old) (W.contents out.new) }
@@ -182,10 +195,24 @@ fn wants_usage(words: &[String]) -> bool
     }
 }
 
+/// Reports that no file is given, or the usage where it is asked for, and gives the exit status.
+fn report_words<E: Write>(words: &[String], err: &mut E) -> u8
+    ensures status { result ≡ REFUSED }
+    ensures report { AppendsPrefix (E.contents err.old) (E.contents err.new)
+        (usage_report (codes "rclinks") (usage_reason (map string_bytes words.now)) USAGE.now) }
+{
+    let reason = if words.is_empty() {
+        "no file is given"
+    } else {
+        ""
+    };
+    report_refused_words("rclinks", reason, USAGE, err)
+}
+
 /// Runs rclinks on its words, the paths of init scripts, and gives its exit status: 0 where their links were printed on
-/// `out`, 1 where there are no words or one is `--help` or `-h`, or where a script's name or header or the plan is
-/// refused, 4 where a file can't be read, the output fails or memory runs out. The first fault ends the run and is told
-/// on `err`.
+/// `out`, or the version, where the one word is `--version`; 1 where there are no words or one is `--help` or `-h`, or
+/// where a script's name or header or the plan is refused, 4 where a file can't be read, the output fails or memory
+/// runs out. The first fault ends the run and is told on `err`.
 pub fn run_words<T: Texts, W: Write, E: Write>(
     texts: &T,
     alloc: Global,
@@ -194,9 +221,13 @@ pub fn run_words<T: Texts, W: Write, E: Write>(
     err: &mut E,
 ) -> u8
     ensures statuses { (result ≡ DONE) ⊎ (result ≡ REFUSED) ⊎ (result ≡ DEVICE_FAULT) }
-    ensures usage { wants_usage (map string_bytes words.now) ≡ true → result ≡ REFUSED }
+    ensures usage { wants_usage (map string_bytes words.now) ≡ true → (result ≡ REFUSED)
+        × AppendsPrefix (E.contents err.old) (E.contents err.new)
+        (usage_report (codes "rclinks") (usage_reason (map string_bytes words.now)) USAGE.now) }
+    ensures version { asks_version (map string_bytes words.now) ≡ true
+        → PrintsVersion (codes "rclinks") result (W.contents out.old) (W.contents out.new) }
     // The links of all of the files were written.
-    ensures done { result ≡ DONE →
+    ensures done { asks_version (map string_bytes words.now) ≡ false → result ≡ DONE →
         PrintsLinks (T.text_at texts.now) (map string_bytes words.now) (W.contents out.old)
         (W.contents out.new) }
     ensures silent { result ≡ DONE → err.new ≡ err.old }
@@ -205,12 +236,15 @@ pub fn run_words<T: Texts, W: Write, E: Write>(
         → IsRefusedRun (T.text_at texts.now) (map string_bytes words.now) }
     ensures quiet { result ≡ REFUSED → out.new ≡ out.old }
     // Nothing was written, or a prefix of the links, which may be the whole.
-    ensures part { (out.new ≡ out.old)
+    ensures part { asks_version (map string_bytes words.now) ≡ false → (out.new ≡ out.old)
         ⊎ PrintsPart (T.text_at texts.now) (map string_bytes words.now) (W.contents out.old)
         (W.contents out.new) }
 {
+    if is_version(words) {
+        return print_version("rclinks", out, err);
+    }
     if wants_usage(words) {
-        return report_usage(USAGE, err);
+        return report_words(words, err);
     }
     match scripts_of(texts, alloc, words) {
         Ok(scripts) => print_plan(alloc, scripts.as_slice(), out, err),

@@ -5,4 +5,4 @@
 mod command;
 mod files;
 
-pub use command::{USAGE, run_words};
+pub use command::{USAGE, print_plan, run_words};

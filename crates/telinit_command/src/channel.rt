@@ -1,37 +1,105 @@
+ghost use Rattle.std.specs.Prelude.{◌≡◌, ◌++◌, string_bytes, IfOk, OnOk};
+ghost use Rattle.program_io.specs.Writing.{AppendsPrefix};
+ghost use Rattle.telinit_command.specs.Notes.{IsTold, Reading, made_note, reading_note, unknown_note};
+
+use channel_files::Channel;
 use initctl_frame::BLOCK;
 use program_io::write_text;
-use std::fs::OpenOptions;
-use std::io::ErrorKind;
+use std::alloc::{AllocError, Global};
+use std::fs::File;
+use std::io;
+use std::io::Write;
 use std::rt::Files;
-use std::{fs, io};
 
 /// Why a block was not appended.
 #[derive(Debug, Drop, thiserror::Error)]
 pub enum ChannelFault {
-    /// What is at the path is no plain file. Nothing was written.
-    #[error("it is no plain file")]
-    NoPlainFile,
+    /// The channel has so many bytes, which are no whole number of requests. Nothing was written.
+    #[error("it has {0} bytes, which is no whole number of requests")]
+    Torn(u64),
     /// It could not be opened or written.
     #[error("{0}")]
     Device(#[from] io::Error),
+    /// Memory ran out before the block was written.
+    #[error("out of memory")]
+    Memory,
 }
 
-/// Appends the block to the channel file, which is made where it is missing.
-pub fn append_block<R: Files>(rt: &R, path: &str, block: &[u8; BLOCK]) -> Result<(), ChannelFault> {
-    let mut channel = open_channel(rt, path)?;
-    write_text(&mut channel, block)?;
+impl From<AllocError> for ChannelFault {
+    fn from(_error: AllocError) -> ChannelFault {
+        ChannelFault::Memory
+    }
+}
+
+/// Appends the block to the channel file, which is made where it is missing. That it was made, and that no init reads
+/// it, is told on `err`, as much of it as that takes.
+pub fn append_block<R: Files<File = File>, E: Write>(
+    rt: &R,
+    alloc: Global,
+    path: &str,
+    block: &[u8; BLOCK],
+    err: &mut E,
+) -> Result<(), ChannelFault>
+    ensures told { OnOk result (IsTold path.now (E.contents err.old) (E.contents err.new)) }
+{
+    let mut channel = Channel::open(rt, path)?;
+    if channel.length % BLOCK as u64 != 0 {
+        return Err(ChannelFault::Torn(channel.length));
+    }
+    let made = made_note(alloc, path, channel.was_made)?;
+    let reading = reading_note(alloc, path, channel.is_read())?;
+    append_between(&mut channel, block, made.as_str(), reading.as_str(), err)?;
     Ok(())
 }
 
-/// Opens the channel file to append to it, and makes it where it is missing. What is no plain file is not opened, since
-/// a FIFO would wait for its reader.
-fn open_channel<R: Files>(rt: &R, path: &str) -> Result<R::File, ChannelFault> {
-    match fs::metadata(rt, path) {
-        Ok(found) if !found.is_file() => return Err(ChannelFault::NoPlainFile),
-        Err(error) if error.kind() != ErrorKind::NotFound => {
-            return Err(ChannelFault::Device(error));
+/// Tells the one note, appends the block, and tells the other note, where the one could be told.
+fn append_between<E: Write>(
+    channel: &mut Channel,
+    block: &[u8; BLOCK],
+    before: &str,
+    behind: &str,
+    err: &mut E,
+) -> io::Result<()>
+    ensures { OnOk result (AppendsPrefix (E.contents err.old) (E.contents err.new)
+        (before.now ++ behind.now)) }
+{
+    match write_text(err, before.as_bytes()) {
+        Ok(()) => {
+            channel.append(block)?;
+            let _ = write_text(err, behind.as_bytes());
+            Ok(())
         }
-        _ => {}
+        Err(_) => channel.append(block),
     }
-    Ok(OpenOptions::new().append(true).create(true).open(rt, path)?)
+}
+
+/// What is told of a channel that was made, or was there.
+fn made_note(alloc: Global, path: &str, was_made: bool) -> Result<String, AllocError>
+    ensures { IfOk result (λ note. string_bytes note ≡ made_note path.now was_made) }
+{
+    if was_made {
+        format!(in alloc; "telinit: made {path}\n")
+    } else {
+        Ok(String::new(alloc))
+    }
+}
+
+/// What is told of whether an init reads the channel.
+fn reading_note(alloc: Global, path: &str, is_read: io::Result<bool>) -> Result<String, AllocError>
+    ensures { IfOk result (λ note. (reading : Reading)
+        × (string_bytes note ≡ reading_note path.now reading)) }
+{
+    match is_read {
+        Ok(true) => Ok(String::new(alloc)),
+        Ok(false) => format!(in alloc;
+            "telinit: no init reads {path}: the request stands there until one does\n"
+        ),
+        Err(error) => unknown_note(alloc, path, format!(in alloc; "{error}")?.as_str()),
+    }
+}
+
+fn unknown_note(alloc: Global, path: &str, reason: &str) -> Result<String, AllocError>
+    ensures { IfOk result (λ note. string_bytes note ≡ unknown_note path.now reason.now) }
+{
+    format!(in alloc; "telinit: cannot tell whether an init reads {path}: {reason}\n")
 }

@@ -1,6 +1,7 @@
-ghost use Rattle.std.specs.Prelude.{◌≡◌, map, string_bytes, IfOk, IsErrOf};
+ghost use Rattle.std.specs.Prelude.{◌≡◌, map, string_bytes, IfErr, IfOk, IsSome};
 ghost use Rattle.clap.specs.Words.{FailsBy, fault_of, found_of, matches_of, rows_of};
 ghost use Rattle.command_words.specs.CommandLines.{IsLine};
+ghost use Rattle.command_words.specs.Faults.{reason_of};
 ghost use Rattle.telinit_command.specs.CommandLine.{command_line, read_of};
 
 use crate::seconds::read_grace;
@@ -8,6 +9,7 @@ use clap::{ArgMatches, Command, Error};
 use command_words::{
     WordFault, program_line, value_of, with_default, with_short, with_word, word_fault,
 };
+use init_words::GRACE_LIMIT;
 use std::alloc::{AllocError, Global};
 
 /// What a command line says.
@@ -30,14 +32,17 @@ pub fn read_words(alloc: Global, words: Vec<String>) -> Result<Words, WordFault>
           path = string_bytes said.path;
           sign = string_bytes said.sign;
         })) }
-    ensures usage { IsErrOf result WordFault.Usage → read_of (map string_bytes words.items) ≡ None }
+    ensures usage { IfErr result (λ fault. IsSome (reason_of fault)
+        → read_of (map string_bytes words.items) ≡ None) }
 {
     let matches = match parsed(alloc, words.as_slice()) {
         Ok(matches) => matches,
-        Err(error) => return Err(word_fault(&error)),
+        Err(error) => return Err(word_fault(alloc, &error)),
     };
-    let Some(secs) = read_grace(value_of(&matches, "secs")) else {
-        return Err(WordFault::Usage);
+    let word = value_of(&matches, "secs");
+    let Some(secs) = read_grace(word) else {
+        let reason = format!(in alloc; "-t {word}: not 0 to {GRACE_LIMIT} seconds")?;
+        return Err(WordFault::Usage(reason));
     };
     Ok(Words {
         secs,

@@ -1,18 +1,25 @@
-ghost use Rattle.std.specs.Prelude.{◌≡◌, ◌⊎◌, map, string_bytes, IsSome, IsNone};
-ghost use Rattle.program_io.specs.Writing.{AppendsPrefix};
-ghost use Rattle.telinit_command.specs.CommandLine.{block_said};
+ghost use Rattle.std.specs.Prelude.{◌≡◌, ◌⊎◌, true, false, codes, map, string_bytes, IfSome, IsSome, IsNone};
+ghost use Rattle.command_words.specs.CommandLines.{asks_version};
+ghost use Rattle.command_words.specs.Faults.{ReportsUsage};
+ghost use Rattle.program_version.specs.VersionLine.{PrintsVersion};
+ghost use Rattle.telinit_command.specs.CommandLine.{block_said, read_of};
+ghost use Rattle.telinit_command.specs.Notes.{IsTold};
 
 use crate::channel::{ChannelFault, append_block};
 use crate::command::read_words;
 use crate::frame::frame_of;
-use command_words::WordFault;
-use program_io::{DEVICE_FAULT, DONE, REFUSED, report_no_memory, report_usage};
-use std::alloc::Global;
+use command_words::{is_version, report_refused_words, report_word_fault};
+use initctl_frame::BLOCK;
+use program_io::{DEVICE_FAULT, DONE, REFUSED, report_no_memory};
+use program_version::print_version;
+use std::alloc::{AllocError, Global};
+use std::fs::File;
 use std::io::Write;
 use std::rt::Files;
 
-/// What standard error gets where the words are no command line.
+/// What standard error gets where the words are no command line, behind a line that says why.
 pub const USAGE: &str = "usage: telinit [-t SEC] [--initctl P] CHAR
+       telinit --version
   SEC   seconds between the two signals that stop a child, 0 to 3600; 5 where it is left out
   P     the file that the request is appended to; initctl where it is left out
   CHAR  0 to 9, S or s: go to that runlevel
@@ -22,33 +29,67 @@ pub const USAGE: &str = "usage: telinit [-t SEC] [--initctl P] CHAR
 ";
 
 /// Runs telinit on a command line without the program's name, and gives its exit status: 0 where one request block was
-/// appended, 1 where the words are no command line, 4 where the block could not be written or memory ran out.
-/// Nothing goes to standard output; a fault is reported on `err`.
-pub fn run_words<R: Files, W: Write, E: Write>(
+/// appended or the version was written, 1 where the words are no command line, 4 where the block could not be written,
+/// the output fails or memory runs out. The version goes to `out`, where the words are `--version` alone. A fault is
+/// reported on `err`, and that the channel was made, or that no init reads it.
+pub fn run_words<R: Files<File = File>, W: Write, E: Write>(
     rt: &R,
     alloc: Global,
     words: Vec<String>,
-    _out: &mut W,
+    out: &mut W,
     err: &mut E,
 ) -> u8
     ensures statuses { (result ≡ DONE) ⊎ (result ≡ REFUSED) ⊎ (result ≡ DEVICE_FAULT) }
-    ensures done { result ≡ DONE → IsSome (block_said (map string_bytes words.items)) }
+    ensures done { result ≡ DONE → (asks_version (map string_bytes words.items) ≡ true)
+        ⊎ IsSome (block_said (map string_bytes words.items)) }
     ensures usage { result ≡ REFUSED → IsNone (block_said (map string_bytes words.items)) }
-    ensures quiet { _out.new ≡ _out.old }
-    ensures silent { result ≡ DONE → err.new ≡ err.old }
+    ensures quiet { asks_version (map string_bytes words.items) ≡ false → out.new ≡ out.old }
+    ensures version { asks_version (map string_bytes words.items) ≡ true
+        → PrintsVersion (codes "telinit") result (W.contents out.old) (W.contents out.new) }
+    // What is told of a channel that a block was appended to.
+    ensures told { result ≡ DONE → (err.new ≡ err.old)
+        ⊎ IfSome (read_of (map string_bytes words.items))
+        (λ said. IsTold said.path (E.contents err.old) (E.contents err.new)) }
     ensures report { result ≡ REFUSED
-        → AppendsPrefix (E.contents err.old) (E.contents err.new) USAGE.now }
+        → ReportsUsage (codes "telinit") USAGE.now (E.contents err.old) (E.contents err.new) }
 {
+    if is_version(words.as_slice()) {
+        return print_version("telinit", out, err);
+    }
     let words = match read_words(alloc, words) {
         Ok(words) => words,
-        Err(WordFault::Usage) => return report_usage(USAGE, err),
-        Err(WordFault::Memory) => return report_no_memory("telinit", err),
+        Err(fault) => return report_word_fault("telinit", &fault, USAGE, err),
     };
-    let Some(block) = frame_of(&words) else {
-        return report_usage(USAGE, err);
-    };
-    let path = words.path.as_str();
-    match append_block(rt, path, &block) {
+    match frame_of(&words) {
+        Some(block) => ask(rt, alloc, words.path.as_str(), &block, err),
+        None => refuse_sign(alloc, words.sign.as_str(), err),
+    }
+}
+
+/// Reports that a word is none that telinit takes for CHAR.
+fn refuse_sign<E: Write>(alloc: Global, sign: &str, err: &mut E) -> u8
+    ensures statuses { (result ≡ REFUSED) ⊎ (result ≡ DEVICE_FAULT) }
+    ensures report { result ≡ REFUSED
+        → ReportsUsage (codes "telinit") USAGE.now (E.contents err.old) (E.contents err.new) }
+{
+    match format!(in alloc; "{sign}: not a runlevel, a letter, q or u") {
+        Ok(reason) => report_refused_words("telinit", reason.as_str(), USAGE, err),
+        Err(AllocError) => report_no_memory("telinit", err),
+    }
+}
+
+/// Appends a block, and gives the exit status.
+fn ask<R: Files<File = File>, E: Write>(
+    rt: &R,
+    alloc: Global,
+    path: &str,
+    block: &[u8; BLOCK],
+    err: &mut E,
+) -> u8
+    ensures statuses { (result ≡ DONE) ⊎ (result ≡ DEVICE_FAULT) }
+    ensures told { result ≡ DONE → IsTold path.now (E.contents err.old) (E.contents err.new) }
+{
+    match append_block(rt, alloc, path, block, err) {
         Ok(()) => DONE,
         Err(fault) => report_channel(path, &fault, err),
     }
@@ -57,10 +98,19 @@ pub fn run_words<R: Files, W: Write, E: Write>(
 fn report_channel<E: Write>(path: &str, fault: &ChannelFault, err: &mut E) -> u8
     ensures { result ≡ DEVICE_FAULT }
 {
+    if let ChannelFault::Memory = fault {
+        return report_no_memory("telinit", err);
+    }
     let _ = writeln!(err, "telinit: cannot append to {path}: {fault}");
-    let _ = writeln!(
-        err,
-        "telinit: see that it is a file that you may write, in a folder that is there, with room on its disk"
-    );
+    let _ = match fault {
+        ChannelFault::Torn(_) => writeln!(
+            err,
+            "telinit: stop init, then remove {path}, or fill its last request up by truncate -s %{BLOCK} {path}"
+        ),
+        _ => writeln!(
+            err,
+            "telinit: see that it is a file that you may write, in a folder that is there, with room on its disk"
+        ),
+    };
     DEVICE_FAULT
 }

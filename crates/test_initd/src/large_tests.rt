@@ -2,6 +2,7 @@ use crate::word_tests::answers;
 use std::alloc::Global;
 use std::fmt::Write;
 use std::fs;
+use std::fs::File;
 use std::process::{Abort, Processes};
 use std::rt::{Clock, Files};
 use std::test::Fail;
@@ -88,7 +89,7 @@ fn write_script<R: Files>(rt: &R, text: &mut String) -> Result<(), Fail> {
 /// The run over the two files is done, and its trace written.
 fn is_run<R>(rt: &R, alloc: Global, text: &mut String) -> Result<(), Fail>
 where
-    R: Processes + Files + Clock + Print + Eprint + Clone + Drop + Abort,
+    R: Processes + Files<File = File> + Clock + Print + Eprint + Clone + Drop + Abort,
 {
     text.clear();
     add_trace(text)?;
@@ -104,7 +105,7 @@ where
 
 fn run_large<R>(rt: &R, alloc: Global, text: &mut String) -> Result<(), Fail>
 where
-    R: Processes + Files + Clock + Print + Eprint + Clone + Drop + Abort,
+    R: Processes + Files<File = File> + Clock + Print + Eprint + Clone + Drop + Abort,
 {
     write_table(rt, text)?;
     assert!(rt; text.len() > 40_000);

@@ -1,4 +1,5 @@
-//! Rows of `initd` as it is called: command lines over files, writers that fail, and a large run.
+//! Rows of `initd` as it is called: command lines over files, writers that fail, traces of whole
+//! runs that are judged, and a large run.
 #![tactic(auto)]
 
 #[cfg(test)]

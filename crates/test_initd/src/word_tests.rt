@@ -1,7 +1,9 @@
 use initd_command::{USAGE, run_words};
 use path_texts::{KeptTexts, Texts};
+use program_version::{KIT, VERSION};
 use std::alloc::{AllocError, Global};
 use std::fs;
+use std::fs::File;
 use std::io::Write;
 use std::process::{Abort, Processes};
 use std::rt::{Clock, Files};
@@ -18,7 +20,7 @@ fn status_of<R, T: Texts, W: Write>(
     err: &mut Vec<u8>,
 ) -> Result<u8, AllocError>
 where
-    R: Processes + Files + Clock + Print + Eprint + Clone + Drop,
+    R: Processes + Files<File = File> + Clock + Print + Eprint + Clone + Drop,
 {
     let words = line_words(alloc, line)?;
     Ok(run_words(rt, texts, alloc, words, out, err))
@@ -33,7 +35,7 @@ fn answer<R, T: Texts>(
     out: &mut Vec<u8>,
 ) -> Result<u8, AllocError>
 where
-    R: Processes + Files + Clock + Print + Eprint + Clone + Drop,
+    R: Processes + Files<File = File> + Clock + Print + Eprint + Clone + Drop,
 {
     let mut err: Vec<u8> = Vec::new(alloc);
     let status = status_of(rt, texts, alloc, line, out, &mut err)?;
@@ -52,7 +54,7 @@ pub(crate) fn answers<R, T: Texts>(
     want: &str,
 ) -> Result<(), Fail>
 where
-    R: Processes + Files + Clock + Print + Eprint + Clone + Drop + Abort,
+    R: Processes + Files<File = File> + Clock + Print + Eprint + Clone + Drop + Abort,
 {
     let mut out: Vec<u8> = Vec::new(alloc);
     let ended = answer(rt, texts, alloc, line, &mut out)?;
@@ -74,13 +76,21 @@ fn answers_over<R>(
     want: &str,
 ) -> Result<(), Fail>
 where
-    R: Processes + Files + Clock + Print + Eprint + Clone + Drop + Abort,
+    R: Processes + Files<File = File> + Clock + Print + Eprint + Clone + Drop + Abort,
 {
     fs::write(rt, "row-table", inittab)?;
     fs::write(rt, "row-script", script)?;
     answers(rt, rt, alloc, line, status, want)?;
     fs::remove_file(rt, "row-table")?;
     fs::remove_file(rt, "row-script")?;
+    remove_channel(rt)
+}
+
+/// Removes the channel that a run made.
+fn remove_channel<R: Files>(rt: &R) -> Result<(), Fail> {
+    if fs::metadata(rt, "row-ctl").is_ok() {
+        fs::remove_file(rt, "row-ctl")?;
+    }
     Ok(())
 }
 
@@ -231,42 +241,50 @@ const OVER_FILES: &[(&[u8], &[u8], &str, u8, &str)] = &[
     (
         b"a:S:off:\nb:S:once\nc:S:once:\n",
         b"",
-        "run --inittab row-table --initctl row-absent --turns 9 --drain --pause 0.01 --trace row-script",
+        "run --inittab row-table --initctl row-ctl --turns 9 --drain --pause 0.01 --trace row-script",
         0,
-        "initd: inittab line 2: too few fields\ninitd: inittab line 3: no process\n--\n",
+        "initd: inittab line 2: too few fields\ninitd: inittab line 3: no process\n--\ninitd: the inittab names no level (initdefault), and --level is not given: init goes to level S\ninitd: nothing was started\n",
     ),
     (
         b"",
         b"",
-        "run --inittab row-table --initctl row-absent --level 2 --turns 2 --pause 0.01",
+        "run --inittab row-table --initctl row-ctl --level 2 --turns 2 --pause 0.01",
         3,
         "--\ninitd: the limit of turns is reached\n",
     ),
     (
         b"",
         b"",
-        "run --inittab row-table --initctl row-absent --drain --pause 0.01 --trace /dev/full",
+        "run --inittab row-table --initctl row-ctl --drain --pause 0.01 --trace /dev/full",
         4,
-        "--\ninitd: the trace could not be written\n",
+        "--\ninitd: the inittab names no level (initdefault), and --level is not given: init goes to level S\ninitd: the trace could not be written\n",
+    ),
+    // The channel is no file.
+    (
+        b"a:3:once:true\n",
+        b"old",
+        "run --inittab row-table --initctl . --trace row-script",
+        4,
+        "--\ninitd: cannot lock .: it is no plain file\n",
     ),
     (
         TOO_LONG,
         b"",
-        "run --inittab row-table --trace row-absent/trace",
+        "run --inittab row-table --initctl row-ctl --trace row-absent/trace",
         1,
         "--\ninitd: the inittab is longer than 65,536 bytes\n",
     ),
     (
         b"a:S:once\n",
         b"",
-        "run --inittab row-table --trace row-absent/trace",
+        "run --inittab row-table --initctl row-ctl --trace row-absent/trace",
         4,
         "--\ninitd: cannot create row-absent/trace: No such file or directory (os error 2)\n",
     ),
     (
         b"",
         b"",
-        "run --inittab row-absent --turns 1000000000 --pause 60.00 --level s",
+        "run --inittab row-absent --initctl row-ctl --turns 1000000000 --pause 60.00 --level s",
         4,
         "--\ninitd: cannot read row-absent: No such file or directory (os error 2)\n",
     ),
@@ -299,12 +317,13 @@ fn answers_over_kept<R>(
     want: &str,
 ) -> Result<(), Fail>
 where
-    R: Processes + Files + Clock + Print + Eprint + Clone + Drop + Abort,
+    R: Processes + Files<File = File> + Clock + Print + Eprint + Clone + Drop + Abort,
 {
     let mut kept = KeptTexts::new(alloc);
     kept.keep("tab", inittab)?;
     kept.keep("said", script)?;
-    answers(rt, &kept, alloc, line, status, want)
+    answers(rt, &kept, alloc, line, status, want)?;
+    remove_channel(rt)
 }
 
 /// An inittab, a script or a trace, a command line, its status, and what is written and reported.
@@ -355,14 +374,14 @@ const OVER_KEPT: &[(&[u8], &[u8], &str, u8, &str)] = &[
     (
         b"a:S:off:\nb:S:once\n",
         b"",
-        "run --inittab tab --initctl row-absent --turns 9 --drain --pause 0.01",
+        "run --inittab tab --initctl row-ctl --turns 9 --drain --pause 0.01",
         0,
-        "initd: inittab line 2: too few fields\n--\n",
+        "initd: inittab line 2: too few fields\n--\ninitd: the inittab names no level (initdefault), and --level is not given: init goes to level S\ninitd: nothing was started\n",
     ),
     (
         b"",
         b"",
-        "run --inittab absent",
+        "run --inittab absent --initctl row-ctl",
         4,
         "--\ninitd: cannot read absent: entity not found\n",
     ),
@@ -376,7 +395,51 @@ fn command_lines_over_kept_texts(rt: HostRuntime) -> Result<(), Fail> {
     Ok(())
 }
 
-/// Words that are no command line.
+/// Words that are no command line, and why where initd itself says so.
+const REFUSED: &[(&str, &str)] = &[
+    ("run --foo", "unexpected argument '--foo' found"),
+    ("simulate --level x one two", "--level x: not a runlevel"),
+    ("simulate --level 33 one two", "--level 33: not a runlevel"),
+    ("run --level x", "--level x: not a runlevel"),
+    ("run --turns 0", "--turns 0: not 1 to 1000000000"),
+    (
+        "run --turns 1000000001",
+        "--turns 1000000001: not 1 to 1000000000",
+    ),
+    ("run --turns=-1", "--turns -1: not 1 to 1000000000"),
+    ("run --turns 5 --forever", "--turns 5: not with --forever"),
+    ("run --pause 0", "--pause 0: not 0.01 to 60 seconds"),
+    ("run --pause 0.00", "--pause 0.00: not 0.01 to 60 seconds"),
+    ("run --pause 0.001", "--pause 0.001: not 0.01 to 60 seconds"),
+    ("run --pause 60.01", "--pause 60.01: not 0.01 to 60 seconds"),
+    ("run --pause 61", "--pause 61: not 0.01 to 60 seconds"),
+    ("run --pause 1.", "--pause 1.: not 0.01 to 60 seconds"),
+    ("run --pause .5", "--pause .5: not 0.01 to 60 seconds"),
+    ("run --pause 0.x", "--pause 0.x: not 0.01 to 60 seconds"),
+    ("run --pause=-1", "--pause -1: not 0.01 to 60 seconds"),
+    ("run --result abcde", "--result abcde: no id"),
+    ("run --result #a", "--result #a: no id"),
+    ("run --result a:b", "--result a:b: no id"),
+];
+
+/// The words of a line are refused, and why is reported with the usage.
+fn is_refused<R>(rt: &R, alloc: Global, line: &str, why: &str) -> Result<(), Fail>
+where
+    R: Processes + Files<File = File> + Clock + Print + Eprint + Clone + Drop + Abort,
+{
+    let report = format!(in alloc; "--\ninitd: {why}\n{USAGE}")?;
+    answers(rt, rt, alloc, line, 1, report.as_str())
+}
+
+#[test]
+fn refused_words_are_named(rt: HostRuntime) -> Result<(), Fail> {
+    for (line, why) in REFUSED {
+        is_refused(&rt, rt.alloc(), line, why)?;
+    }
+    Ok(())
+}
+
+/// Words that are no command line, for which the parser of words has a line of its own.
 const FAULTY: &[&str] = &[
     "",
     "simulate",
@@ -385,50 +448,34 @@ const FAULTY: &[&str] = &[
     "check",
     "check one two",
     "check --level 3 one",
-    "simulate --level x one two",
-    "simulate --level 33 one two",
     "simulate --level",
     "stimulate one two",
     "run one",
-    "run --level x",
-    "run --turns 0",
-    "run --turns 1000000001",
-    "run --turns -1",
     "run --turns",
     "run --drain=true",
-    "run --pause 0",
-    "run --pause 0.00",
-    "run --pause 0.001",
-    "run --pause 60.01",
-    "run --pause 61",
-    "run --pause 1.",
-    "run --pause .5",
-    "run --pause 0.x",
-    "run --pause -1",
     "run --state",
-    "--help",
-    "help",
-    "simulate --help",
-    "--version",
+    "run --forever=1",
+    "run --result",
+    "run --logs",
+    "--version run",
+    "run --version",
 ];
 
-/// What the report of words that are no command line begins with, and that nothing is written before it.
-const FORMS_REPORTED: &str = "--
-usage: initd run [--inittab P] [--initctl P] [--state P] [--trace P] [--level L] [--turns N] [--drain] [--pause SEC]
-       initd simulate [--level L] TABLE SCRIPT
-       initd check TRACE
-";
+/// Requests for help, which are answered by the usage alone.
+const HELP: &[&str] = &["help", "--help", "simulate --help", "run --help"];
 
-/// The words of a line are refused, and the forms of the command line reported.
+/// The words of a line are refused, and one line and the usage reported.
 fn is_usage_fault<R>(rt: &R, alloc: Global, line: &str) -> Result<(), Fail>
 where
-    R: Processes + Files + Clock + Print + Eprint + Clone + Drop + Abort,
+    R: Processes + Files<File = File> + Clock + Print + Eprint + Clone + Drop + Abort,
 {
     let mut out: Vec<u8> = Vec::new(alloc);
     let ended = answer(rt, rt, alloc, line, &mut out)?;
-    let has_forms = out.as_slice().starts_with(FORMS_REPORTED.as_bytes());
-    let is_whole = out.len() == "--\n".len() + USAGE.len();
-    assert!(rt; ended == 1 && has_forms && is_whole, "at {line:?}");
+    let reported = out.as_slice();
+    let reason = reported.strip_suffix(USAGE.as_bytes()).unwrap_or(&[]);
+    let lines = reason.iter().filter(|byte| **byte == b'\n').count();
+    let is_told = reason.starts_with(b"--\ninitd: ") && lines == 2;
+    assert!(rt; ended == 1 && is_told, "at {line:?}");
     Ok(())
 }
 
@@ -437,7 +484,18 @@ fn usage_faults_write_no_trace(rt: HostRuntime) -> Result<(), Fail> {
     for line in FAULTY {
         is_usage_fault(&rt, rt.alloc(), line)?;
     }
+    let usage = format!(in rt.alloc(); "--\n{USAGE}")?;
+    for line in HELP {
+        answers(&rt, &rt, rt.alloc(), line, 1, usage.as_str())?;
+    }
     Ok(())
+}
+
+/// Whoever asks for the version gets its line alone.
+#[test]
+fn the_version_is_written(rt: HostRuntime) -> Result<(), Fail> {
+    let line = format!(in rt.alloc(); "initd {VERSION} ({KIT})\n--\n")?;
+    answers(&rt, &rt, rt.alloc(), "--version", 0, line.as_str())
 }
 
 /// What a run over an empty inittab and an empty script writes.
@@ -449,7 +507,7 @@ const STUCK: &[(usize, bool)] = &[(1000, true), (40, false), (40, true)];
 /// A failed write is reported, and what is written stays.
 fn is_reported<R>(rt: &R, alloc: Global, out: &mut Slow) -> Result<(), Fail>
 where
-    R: Processes + Files + Clock + Print + Eprint + Clone + Drop + Abort,
+    R: Processes + Files<File = File> + Clock + Print + Eprint + Clone + Drop + Abort,
 {
     let mut err: Vec<u8> = Vec::new(alloc);
     let status = status_of(rt, rt, alloc, "simulate empty empty", out, &mut err)?;
@@ -461,7 +519,7 @@ where
 
 fn is_stuck<R>(rt: &R, alloc: Global, room: usize, is_stuck: bool) -> Result<(), Fail>
 where
-    R: Processes + Files + Clock + Print + Eprint + Clone + Drop + Abort,
+    R: Processes + Files<File = File> + Clock + Print + Eprint + Clone + Drop + Abort,
 {
     let mut out = Slow::new(alloc, room, true, is_stuck);
     is_reported(rt, alloc, &mut out)

@@ -1,8 +1,8 @@
-//! The tests of a host over the operating system, and of init over it: real children, real files.
+//! The tests of a host over the operating system: real children, real files.
 #![tactic(auto)]
 
 #[cfg(test)]
-mod again;
+mod channel_tests;
 #[cfg(test)]
 mod children_tests;
 #[cfg(test)]
@@ -12,10 +12,14 @@ mod growth_tests;
 #[cfg(test)]
 mod hosts;
 #[cfg(test)]
-mod pause_tests;
+mod log_tests;
 #[cfg(test)]
-mod run_tests;
+mod pause_tests;
 #[cfg(test)]
 mod said_tests;
 #[cfg(test)]
+mod table_tests;
+#[cfg(test)]
 mod trouble_tests;
+#[cfg(test)]
+mod verbose_tests;

@@ -1,10 +1,10 @@
 //! A pause starts no program, and none fails.
 
-use crate::again::{Again, is_again, is_said};
 use crate::hosts::{Paths, pausing};
 use child_host::Host;
 use std::process::Abort;
 use std::test::Fail;
+use test_again::{Again, NOWHERE, is_again, is_said};
 
 const PATHS: &Paths = &Paths {
     inittab: "z.tab",
@@ -31,6 +31,7 @@ fn pause_all(rt: &HostRuntime) -> Result<(), Fail> {
 
 const AGAIN: &Again = &Again {
     test: "pause_tests::no_pause_needs_a_program",
+    path: NOWHERE,
     out: "z.out",
     err: "z.err",
     said: &[("z.err", "end\n")],

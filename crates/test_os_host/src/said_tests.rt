@@ -1,6 +1,5 @@
 //! What a host says on standard output and on standard error. The test runs itself again, with its streams in files.
 
-use crate::again::{Again, is_again, is_said};
 use crate::hosts::{Paths, SystemHost, host_of, id_of};
 use child_host::Host;
 use init_trace::{Handed, Happening};
@@ -8,6 +7,7 @@ use init_words::{Id, Level, Stage};
 use std::alloc::Global;
 use std::process::Abort;
 use std::test::Fail;
+use test_again::{Again, NOWHERE, is_again, is_said};
 
 const PATHS: &Paths = &Paths {
     inittab: "u.tab",
@@ -59,6 +59,7 @@ fn say_all(rt: &HostRuntime) -> Result<(), Fail> {
 
 const AGAIN: &Again = &Again {
     test: "said_tests::what_is_said",
+    path: NOWHERE,
     out: "said.out",
     err: "said.err",
     said: &[("said.out", OUT), ("said.err", ERR)],

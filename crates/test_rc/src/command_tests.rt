@@ -1,29 +1,19 @@
 //! The command line of rc, with real children.
 
+use program_version::{KIT, VERSION};
 use rc_command::run_words;
 use std::alloc::Global;
 use std::fs;
 use std::process::{Abort, Processes};
 use std::rt::{Clock, Files};
 use std::test::Fail;
-use test_support::words_of;
+use test_support::{Slow, words_of};
 
 /// The words, the status, and what is written.
 type Row = (&'static [&'static str], u8, &'static str);
 
+/// Runs over the folders of the scripts; those that are no success say why on standard error.
 const ROWS: &[Row] = &[
-    (&[], 1, ""),
-    (&["t", "2"], 1, ""),
-    (&["t", "2", "3", "4"], 1, ""),
-    (&["--help"], 1, ""),
-    (&["t", "2", "A"], 1, ""),
-    (&["t", "2", "s"], 1, ""),
-    (&["t", "2", "N"], 1, ""),
-    (&["t", "n", "3"], 1, ""),
-    (&["t", "", "3"], 1, ""),
-    (&["t", "23", "3"], 1, ""),
-    (&["t;x", "2", "3"], 1, ""),
-    (&["t x", "2", "3"], 1, ""),
     (&["t", "2", "4"], 4, ""),
     (&["no", "N", "3"], 4, ""),
     (
@@ -98,5 +88,115 @@ fn command_lines_are_run(rt: HostRuntime) -> Result<(), Fail> {
         is_run(&rt, rt.alloc(), row)?;
     }
     fs::remove_dir_all(&rt, "t")?;
+    Ok(())
+}
+
+const USAGE_REPORT: &str = "usage: rc DIR PREV NEW\
+\n       rc --version\
+\n  DIR   the folder that holds those of the runlevels, as rc3.d; of bytes of A-Z a-z 0-9 . _ - / alone\
+\n  PREV  the runlevel before, 0 to 9 or S, or N where there was none\
+\n  NEW   the runlevel that is entered, 0 to 9 or S\n";
+
+/// Words that are no command line, and the line that says why; none where help is asked for.
+const REFUSED: &[(&[&str], &str)] = &[
+    (&[], "rc: a word is missing\n"),
+    (&["t", "2"], "rc: a word is missing\n"),
+    (&["t", "2", "3", "4"], "rc: unexpected argument '4' found\n"),
+    (&["t", "-1", "3"], "rc: unexpected argument '-1' found\n"),
+    (
+        &["--version", "2", "3"],
+        "rc: unexpected argument '--version' found\n",
+    ),
+    (&["t", "2", "A"], "rc: A: NEW is a runlevel, 0 to 9 or S\n"),
+    (&["t", "2", "s"], "rc: s: NEW is a runlevel, 0 to 9 or S\n"),
+    (&["t", "2", "N"], "rc: N: NEW is a runlevel, 0 to 9 or S\n"),
+    (
+        &["t", "n", "3"],
+        "rc: n: PREV is a runlevel, 0 to 9 or S, or N\n",
+    ),
+    (
+        &["t", "", "3"],
+        "rc: : PREV is a runlevel, 0 to 9 or S, or N\n",
+    ),
+    (
+        &["t", "23", "3"],
+        "rc: 23: PREV is a runlevel, 0 to 9 or S, or N\n",
+    ),
+    (
+        &["t;x", "2", "3"],
+        "rc: t;x: DIR has bytes of A-Z a-z 0-9 . _ - / alone\n",
+    ),
+    (
+        &["t x", "n", "A"],
+        "rc: t x: DIR has bytes of A-Z a-z 0-9 . _ - / alone\n",
+    ),
+    (&["--help"], ""),
+    (&["-h"], ""),
+];
+
+fn words_are_refused<R>(rt: &R, alloc: Global, words: Vec<String>, report: &str)
+where
+    R: Processes + Files + Clock + Print + Eprint + Alloc + Abort + Clone + Drop,
+{
+    let mut out: Vec<u8> = Vec::new(alloc);
+    let mut err: Vec<u8> = Vec::new(alloc);
+    let status = run_words(rt, alloc, words, &mut out, &mut err);
+    assert!(rt; status == 1 && out.is_empty() && err.as_slice() == report.as_bytes());
+}
+
+/// The words are refused, and this line and the usage are reported.
+fn is_refused<R>(rt: &R, alloc: Global, line: &[&str], why: &str) -> Result<(), Fail>
+where
+    R: Processes + Files + Clock + Print + Eprint + Alloc + Abort + Clone + Drop,
+{
+    let report = format!(in alloc; "{why}{USAGE_REPORT}")?;
+    words_are_refused(rt, alloc, words_of(alloc, line)?, report.as_str());
+    Ok(())
+}
+
+#[test]
+fn refused_words_are_named(rt: HostRuntime) -> Result<(), Fail> {
+    for (line, why) in REFUSED {
+        is_refused(&rt, rt.alloc(), line, why)?;
+    }
+    Ok(())
+}
+
+/// The room of a writer, and the status and the report of a run that writes the version there.
+const VERSIONS: &[(usize, u8, &str)] = &[(100, 0, ""), (7, 4, "rc: cannot write\n")];
+
+/// The bytes are the line of the version, as much of it as there was room for.
+fn is_version(taken: &[u8], line: &str, room: usize) -> bool {
+    line.as_bytes().starts_with(taken) && taken.len() == line.len().min(room)
+}
+
+fn version_is_written<R>(
+    rt: &R,
+    alloc: Global,
+    words: Vec<String>,
+    line: &str,
+    row: &(usize, u8, &str),
+)
+where
+    R: Processes + Files + Clock + Print + Eprint + Alloc + Abort + Clone + Drop,
+{
+    let (room, status, report) = *row;
+    let mut out = Slow::new(alloc, room, true, false);
+    let mut err: Vec<u8> = Vec::new(alloc);
+    let ended = run_words(rt, alloc, words, &mut out, &mut err);
+    assert!(rt;
+        ended == status
+            && err.as_slice() == report.as_bytes()
+            && is_version(out.taken.as_slice(), line, room)
+    );
+}
+
+#[test]
+fn the_version_is_written(rt: HostRuntime) -> Result<(), Fail> {
+    let line = format!(in rt.alloc(); "rc {VERSION} ({KIT})\n")?;
+    for row in VERSIONS {
+        let words = words_of(rt.alloc(), &["--version"])?;
+        version_is_written(&rt, rt.alloc(), words, line.as_str(), row);
+    }
     Ok(())
 }

@@ -2,6 +2,7 @@
 //! on standard error.
 
 use path_texts::Texts;
+use program_version::{KIT, VERSION};
 use rclinks_command::run_words;
 use std::alloc::Global;
 use std::fs;
@@ -96,10 +97,15 @@ const FILES: &[(&str, &str)] = &[
 pub(crate) const NET: &str =
     "### BEGIN INIT INFO\n# Provides: net\n# Required-Start: \n# Default-Start: 3\n### END INIT INFO\n";
 
-const USAGE: &[u8] = b"rclinks: usage: rclinks FILE..\n";
+const USAGE: &[u8] = b"usage: rclinks FILE..\n       rclinks --version\n";
 
 const RUNS: &[Row] = &[
-    (&[], 1, b"", USAGE),
+    (
+        &[],
+        1,
+        b"",
+        b"rclinks: no file is given\nusage: rclinks FILE..\n       rclinks --version\n",
+    ),
     (&["--help"], 1, b"", USAGE),
     (&["-h"], 1, b"", USAGE),
     (&["run-net", "--help"], 1, b"", USAGE),
@@ -133,6 +139,13 @@ const RUNS: &[Row] = &[
         4,
         b"",
         b"rclinks: cannot read: run-absent\nrclinks: run-absent: No such file or directory (os error 2)\n",
+    ),
+    // One word more, and it is a file.
+    (
+        &["--version", "run-net"],
+        4,
+        b"",
+        b"rclinks: cannot read: --version\nrclinks: --version: No such file or directory (os error 2)\n",
     ),
     // A file that is not read comes before a name that no link may have.
     (
@@ -340,5 +353,47 @@ fn a_write_fault_is_told(rt: HostRuntime) -> Result<(), Fail> {
         is_run(&rt, &rt, rt.alloc(), *room, *is_stuck, row)?;
     }
     fs::remove_file(&rt, "slow-net")?;
+    Ok(())
+}
+
+/// The room of a writer, whether it can't be flushed, and the status and the report of a run that writes the version
+/// there.
+const VERSIONS: &[(usize, bool, u8, &str)] = &[
+    (100, false, 0, ""),
+    (100, true, 4, "rclinks: cannot write\n"),
+    (7, false, 4, "rclinks: cannot write\n"),
+];
+
+/// The bytes are the line of the version, as much of it as there was room for.
+fn is_version(taken: &[u8], line: &str, room: usize) -> bool {
+    line.as_bytes().starts_with(taken) && taken.len() == line.len().min(room)
+}
+
+fn version_is_written<T: Texts>(
+    rt: &impl Abort,
+    texts: &T,
+    alloc: Global,
+    words: &[String],
+    line: &str,
+    row: &(usize, bool, u8, &str),
+) {
+    let (room, is_stuck, status, report) = *row;
+    let mut out = Slow::new(alloc, room, true, is_stuck);
+    let mut err: Vec<u8> = Vec::new(alloc);
+    let ended = run_words(texts, alloc, words, &mut out, &mut err);
+    assert!(rt;
+        ended == status
+            && err.as_slice() == report.as_bytes()
+            && is_version(out.taken.as_slice(), line, room)
+    );
+}
+
+#[test]
+fn the_version_is_written(rt: HostRuntime) -> Result<(), Fail> {
+    let line = format!(in rt.alloc(); "rclinks {VERSION} ({KIT})\n")?;
+    let words = words_of(rt.alloc(), &["--version"])?;
+    for row in VERSIONS {
+        version_is_written(&rt, &rt, rt.alloc(), words.as_slice(), line.as_str(), row);
+    }
     Ok(())
 }

@@ -1,11 +1,9 @@
-use Rattle.std.proofs.Common.{◌≡◌, rules, Bool, true, false, List, ℕ, Option, Some, None, map, string_bytes, refl, reverse}
-use Rattle.std.specs.Prelude.{◌&&◌}
+use Rattle.std.proofs.Common.{◌≡◌, rules, List, ℕ, Option, Some, None, map, string_bytes, reverse}
 use Rattle.std.proofs.KnownBytes.{Keeps-refl}
 use Rattle.path_texts.specs.Known.{KnownTexts}
-use Rattle.initd_options.specs.CommandLine.{Said, judges, read_of, simulation_of, simulates, runs}
-use Rattle.initd_command.specs.Endings.{Ending, done, drained, lawful, limited, no_memory, stopped, torn, uncreated, unflushed, unlawful, unlogged, unread, untold, unwritten, usage}
+use Rattle.initd_options.specs.CommandLine.{Said, judges, read_of, simulation_of, simulates, runs, version}
+use Rattle.initd_command.specs.Endings.{Ending, busy, done, lawful, no_memory, stopped, torn, turned, uncreated, unflushed, unlawful, unlocked, unread, untold, unversioned, unwritten, usage}
 use Rattle.initd_options.specs.Options.{run_of}
-use Rattle.initd_command.specs.Services.{end_at}
 use Rattle.init_trace.specs.Event.{Event}
 use Rattle.init_trace.specs.Lawful.{Fault, first_breach}
 use Rattle.initd_command.specs.Verdicts.{EndsBreached}
@@ -13,24 +11,19 @@ use Rattle.initd_command.specs.Runs.{EndsBy, EndsSaid}
 use Rattle.initd_command.proofs.command.run_words.Goals as goal
 
 -- a verdict is no usage fault
-no_usage : (trace : List Event) (breach : Option Fault) (old new : Option (List ℕ)) → EndsBreached trace breach usage old new → ⊥
-no_usage trace None old new none = none
-no_usage trace (Some fault) old new none = none
-
--- nor is the end of turns
-no_turns : (logged drains : Bool) → usage ≡ end_at logged drains → ⊥
-no_turns false drains is = cc
-no_turns true true is = cc
-no_turns true false is = cc
+no_usage : (trace : List Event) (breach : Option Fault) (reason : List ℕ) (old new : Option (List ℕ)) → EndsBreached trace breach (usage reason) old new → ⊥
+no_usage trace None reason old new none = none
+no_usage trace (Some fault) reason old new none = none
 
 -- an ending of what was read
 ends_by : (text_at : KnownTexts) (words : List (List ℕ)) (said : Said) → read_of words ≡ Some said → (ending : Ending) (old new : Option (List ℕ))
     → EndsSaid text_at said ending old new → EndsBy text_at words ending old new
 ends_by text_at words said is done old new ends = (said, is, ends)
-ends_by text_at words (simulates run) is usage old new ends = absurd ends.4
-ends_by text_at words (judges path) is usage old new ends = absurd (no_usage ends.2.0 (first_breach (reverse ends.2.0)) old new ends.2.3)
-ends_by text_at words (runs service) is usage old new ends =
-    let turned = ends.2.1 in absurd (no_turns turned.0.logged (service.drain && turned.0.drained) turned.1)
+ends_by text_at words version is (usage reason) old new ends = absurd ends
+ends_by text_at words (simulates run) is (usage reason) old new ends = absurd ends.4
+ends_by text_at words (judges path) is (usage reason) old new ends = absurd (no_usage ends.2.0 (first_breach (reverse ends.2.0)) reason old new ends.2.3)
+ends_by text_at words (runs service) is (usage reason) old new ends = let wrong = ends.2.1.1 in absurd (cc)
+ends_by text_at words version is no_memory old new ends = absurd ends
 ends_by text_at words (runs service) is no_memory old new ends = ends.2.1
 ends_by text_at words (simulates run) is no_memory old new ends = absurd ends.4
 ends_by text_at words (judges path) is no_memory old new ends = ends.2
@@ -41,9 +34,10 @@ ends_by text_at words said is lawful old new ends = (said, is, ends)
 ends_by text_at words said is (unlawful message) old new ends = (said, is, ends)
 ends_by text_at words said is (torn line) old new ends = (said, is, ends)
 ends_by text_at words said is unwritten old new ends = (said, is, ends)
-ends_by text_at words said is drained old new ends = (said, is, ends)
-ends_by text_at words said is limited old new ends = (said, is, ends)
-ends_by text_at words said is unlogged old new ends = (said, is, ends)
+ends_by text_at words said is (busy path) old new ends = (said, is, ends)
+ends_by text_at words said is (unlocked path why) old new ends = (said, is, ends)
+ends_by text_at words said is (turned unled end) old new ends = (said, is, ends)
+ends_by text_at words said is unversioned old new ends = (said, is, ends)
 ends_by text_at words said is (uncreated path why) old new ends = (said, is, ends)
 ends_by text_at words said is untold old new ends = (said, is, ends)
 
@@ -51,24 +45,30 @@ pub returns-in-Ok-Simulate : goal.returns-in-Ok-Simulate
 returns-in-Ok-Simulate g c =
     let (ending, status, ends, reported) = c.simulate_files.ensures in
     let is : read_of (map string_bytes c.args.words.items) ≡ Some (simulates (simulation_of c.in-Ok-Simulate.said)) = search rules in
-    (ending, status, ends_by (g.T.Texts.text_at c.args.texts.now) _ (simulates (simulation_of c.in-Ok-Simulate.said)) is ending (g.W.Write.contents c.args.out.now) (g.W.Write.contents c.simulate_files.new.out) ends, reported)
+    (ending, status, ends_by (g.T.Texts.text_at c.args.texts.now) (map string_bytes c.args.words.items) (simulates (simulation_of c.in-Ok-Simulate.said)) is ending (g.W.Write.contents c.args.out.now) (g.W.Write.contents c.simulate_files.new.out) ends, reported)
 
 pub returns-in-Ok-Check : goal.returns-in-Ok-Check
 returns-in-Ok-Check g c =
     let (ending, status, ends, reported) = c.check_file.ensures in
     let is : read_of (map string_bytes c.args.words.items) ≡ Some (judges c.as_str.result.now) = search rules in
-    (ending, status, ends_by (g.T.Texts.text_at c.args.texts.now) _ (judges c.as_str.result.now) is ending (g.W.Write.contents c.args.out.now) (g.W.Write.contents c.check_file.new.out) ends, reported)
+    (ending, status, ends_by (g.T.Texts.text_at c.args.texts.now) (map string_bytes c.args.words.items) (judges c.as_str.result.now) is ending (g.W.Write.contents c.args.out.now) (g.W.Write.contents c.check_file.new.out) ends, reported)
 
 pub returns-in-Ok-Run : goal.returns-in-Ok-Run
 returns-in-Ok-Run g c =
     let (ending, status, ends, reported) = c.run_files.ensures in
     let is : read_of (map string_bytes c.args.words.items) ≡ Some (runs (run_of c.in-Ok-Run.said)) = search rules in
-    (ending, status, ends_by (g.T.Texts.text_at c.args.texts.now) _ (runs (run_of c.in-Ok-Run.said)) is ending (g.W.Write.contents c.args.out.now) (g.W.Write.contents c.run_files.new.out) ends, reported)
+    (ending, status, ends_by (g.T.Texts.text_at c.args.texts.now) (map string_bytes c.args.words.items) (runs (run_of c.in-Ok-Run.said)) is ending (g.W.Write.contents c.args.out.now) (g.W.Write.contents c.run_files.new.out) ends, reported)
+
+pub returns-in-Ok-Version : goal.returns-in-Ok-Version
+returns-in-Ok-Version g c =
+    let (ending, status, ends, reported) = c.tell_version.ensures in
+    let is : read_of (map string_bytes c.args.words.items) ≡ Some version = search rules in
+    (ending, status, ends_by (g.T.Texts.text_at c.args.texts.now) (map string_bytes c.args.words.items) version is ending (g.W.Write.contents c.args.out.now) (g.W.Write.contents c.tell_version.new.out) ends, reported)
 
 pub returns-in-Err-Usage : goal.returns-in-Err-Usage
 returns-in-Err-Usage g c =
     let none : read_of (map string_bytes c.args.words.items) ≡ None = search rules in
-    (usage, refl, (none, Keeps-refl (g.W.Write.contents c.args.out.now)), c.report.ensures)
+    (usage c.as_str-in-Err-Usage.result.now, c.report_refused_words.ensures.status, (none, Keeps-refl (g.W.Write.contents c.args.out.now)), c.report_refused_words.ensures.report)
 
 pub returns : goal.returns
-returns g c = (no_memory, refl, Keeps-refl (g.W.Write.contents c.args.out.now), c.report-in-Err-Memory.ensures)
+returns g c = (no_memory, c.report_memory.ensures.status, Keeps-refl (g.W.Write.contents c.args.out.now), c.report_memory.ensures.reported)

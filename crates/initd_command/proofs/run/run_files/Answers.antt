@@ -1,11 +1,13 @@
-use Rattle.std.proofs.Common.{◌≡◌, rules, string_bytes}
-use Rattle.std.proofs.KnownBytes.{Keeps-refl}
-use Rattle.initd_command.specs.Endings.{unread}
+use Rattle.initd_options.specs.Options.{run_of}
+use Rattle.initd_command.proofs.Ended.{opened_runs}
 use Rattle.initd_command.proofs.run.run_files.Goals as goal
 
--- the inittab was not read
-pub returns-in-Err : goal.returns-in-Err
-returns-in-Err g c =
-    let (why, reported) = c.report_unread.ensures.reported in
-    let path : c.as_str-path.result.now ≡ string_bytes c.args.said.now.inittab = search rules in
-    (unread c.as_str-path.result.now why, c.report_unread.ensures.status, (path, Keeps-refl (g.W.Write.contents c.args.out.now)), reported)
+pub returns-in-Ok : goal.returns-in-Ok
+returns-in-Ok g c =
+    let (ending, status, told, reported) = c.make_run.ensures in (
+      ending,
+      status,
+      opened_runs (g.T.Texts.text_at c.args.texts.now) (run_of c.args.said.now) c.in-Ok.run'.is_unled c.in-Ok.run'.faults.items ending
+          (g.W.Write.contents c.args.out.now) (g.W.Write.contents c.make_run.new.out) c.in-Ok.ensures.ok told,
+      reported,
+    )

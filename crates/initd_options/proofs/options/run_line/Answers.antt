@@ -10,9 +10,14 @@ unfolding run_line
 returns c =
     let inittab = adds_line c.new-line.result (default_rule (codes "inittab") (codes "inittab")) _ (c.new-line.ensures.app, c.new-line.ensures.local) c.in_ok-line.line c.in_ok-line.ensures in
     let initctl = adds_line c.in_ok-line.line (default_rule (codes "initctl") (codes "initctl")) _ inittab c.in_ok-line-2.line c.in_ok-line-2.ensures in
-    let trace = adds_line c.in_ok-line-2.line (value_rule (codes "trace")) _ initctl c.in_ok-line-3.line c.in_ok-line-3.ensures in
-    let state = adds_line c.in_ok-line-3.line (default_rule (codes "state") (codes "initd.state")) _ trace c.in_ok-line-4.line c.in_ok-line-4.ensures in
-    let level = adds_line c.in_ok-line-4.line (value_rule (codes "level")) _ state c.in_ok-line-5.line c.in_ok-line-5.ensures in
-    let turns = adds_line c.in_ok-line-5.line (default_rule (codes "turns") (codes "1000000")) _ level c.in_ok-line-6.line c.in_ok-line-6.ensures in
-    let drain = adds_line c.in_ok-line-6.line (switch_rule (codes "drain")) _ turns c.in_ok-line-7.line c.in_ok-line-7.ensures in
-    IfOk-weaker c.with_default-5.result _ _ (adds_line c.in_ok-line-7.line (default_rule (codes "pause") (codes "1")) _ drain) c.with_default-5.ensures
+    let fresh = adds_line c.in_ok-line-2.line (switch_rule (codes "fresh")) _ initctl c.in_ok-line-3.line c.in_ok-line-3.ensures in
+    let state = adds_line c.in_ok-line-3.line (default_rule (codes "state") (codes "initd.state")) _ fresh c.in_ok-line-4.line c.in_ok-line-4.ensures in
+    let trace = adds_line c.in_ok-line-4.line (value_rule (codes "trace")) _ state c.in_ok-line-5.line c.in_ok-line-5.ensures in
+    let level = adds_line c.in_ok-line-5.line (value_rule (codes "level")) _ trace c.in_ok-line-6.line c.in_ok-line-6.ensures in
+    let turns = adds_line c.in_ok-line-6.line (value_rule (codes "turns")) _ level c.in_ok-line-7.line c.in_ok-line-7.ensures in
+    let forever = adds_line c.in_ok-line-7.line (switch_rule (codes "forever")) _ turns c.in_ok-line-8.line c.in_ok-line-8.ensures in
+    let drain = adds_line c.in_ok-line-8.line (switch_rule (codes "drain")) _ forever c.in_ok-line-9.line c.in_ok-line-9.ensures in
+    let pause = adds_line c.in_ok-line-9.line (default_rule (codes "pause") (codes "1")) _ drain c.in_ok-line-10.line c.in_ok-line-10.ensures in
+    let result = adds_line c.in_ok-line-10.line (value_rule (codes "result")) _ pause c.in_ok-line-11.line c.in_ok-line-11.ensures in
+    let verbose = adds_line c.in_ok-line-11.line (switch_rule (codes "verbose")) _ result c.in_ok-line-12.line c.in_ok-line-12.ensures in
+    IfOk-weaker c.with_value-5.result _ _ (adds_line c.in_ok-line-12.line (value_rule (codes "logs")) _ verbose) c.with_value-5.ensures

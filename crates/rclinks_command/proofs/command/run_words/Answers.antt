@@ -1,4 +1,6 @@
-use Rattle.std.proofs.Common.{inl, inr}
+use Rattle.std.proofs.Common.{inl, inr, sym}
+use Rattle.std.proofs.lemmas.Bool.{true≢false}
+use Rattle.rclinks_command.proofs.VersionWords.{no_usage}
 use Rattle.rclinks_command.proofs.command.run_words.Goals as goal
 
 pub returns-in-Ok-clause-refused : goal.returns-in-Ok-clause-refused
@@ -7,7 +9,7 @@ returns-in-Ok-clause-refused g c = λ is.
     inr (inr (c.in-Ok.scripts.items, c.in-Ok.ensures.scripts, none))
 
 pub returns-in-Ok-clause-part : goal.returns-in-Ok-clause-part
-returns-in-Ok-clause-part g c = elim c.print_plan.ensures.part [
+returns-in-Ok-clause-part g c = λ _. elim c.print_plan.ensures.part [
   | inl same ↦ inl same
   | inr some ↦ (let part = rw c.as_slice.ensures.value at some in inr (c.in-Ok.scripts.items, c.in-Ok.ensures.scripts, part))
 ]

@@ -1,0 +1,36 @@
+-- Why words are refused, and what is reported of it.
+use Rattle.std.specs.Prelude.{◌==◌, if◌then◌else◌, ◌++◌, codes, drop, length, Option, Some, None, string_bytes}
+use Rattle.std.specs.List.{before_first, starts_with}
+use Rattle.clap.specs.Words.{Text}
+use Rattle.program_io.specs.Writing.{AppendsPrefix}
+use Rattle.command_words.specs.declared.faults.WordFault.{WordFault}
+use Rattle.command_words.specs.declared.faults.WordFault.TheVariants.{Usage, Memory}
+
+-- why words are no command line; want of memory says nothing of them
+abbrev pub reason_of : WordFault → Option Text
+reason_of (Usage reason) = Some (string_bytes reason)
+reason_of Memory = None
+
+-- a text up to its first newline
+abbrev pub first_line : Text → Text
+first_line text = before_first (λ b. b == 10) text
+
+-- a text without this one, where it begins with it
+abbrev pub without_front : Text → Text → Text
+without_front front text = if starts_with (λ a b. a == b) text front then drop (length front) text else text
+
+-- the reason in a text of clap: its first line without `error: `
+abbrev pub reason_in : Text → Text
+reason_in text = without_front (codes "error: ") (first_line text)
+
+-- the line of a program for a reason
+abbrev pub reason_line : Text → Text → Text
+reason_line name reason = name ++ (codes ": " ++ (reason ++ codes "\n"))
+
+-- what is reported of words that are no command line: the reason in a line, where one is given, and the usage
+abbrev pub usage_report : Text → Text → Text → Text
+usage_report name reason usage = if length reason == 0 then usage else reason_line name reason ++ usage
+
+-- a writer gained why a program's words are refused and its usage, as much of it as it took
+abbrev pub ReportsUsage : Text → Text → Option Text → Option Text → Type 0
+ReportsUsage name usage old new = (reason : Text) × AppendsPrefix old new (usage_report name reason usage)

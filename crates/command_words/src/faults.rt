@@ -1,0 +1,134 @@
+ghost use Rattle.std.specs.Prelude.{◌≡◌, ◌≢◌, ◌↔◌, IfSome, IsSome, IsTrue, OnOk, OnErr};
+ghost use Rattle.std.specs.Io.KnownBytes.{Appends};
+ghost use Rattle.clap.specs.Words.{kind_of};
+ghost use Rattle.program_io.specs.Arguments.{no_memory_text};
+ghost use Rattle.program_io.specs.Writing.{AppendsPrefix};
+ghost use Rattle.command_words.specs.Faults.{first_line, reason_in, reason_line, reason_of, usage_report};
+ghost use Rattle.command_words.specs.declared.faults.WordFault.TheVariants.{Memory};
+
+use clap::Error;
+use clap::error::ErrorKind;
+use program_io::{DEVICE_FAULT, REFUSED, report_no_memory, report_usage, write_text};
+use std::alloc::{AllocError, Global};
+use std::io;
+use std::io::Write;
+
+/// Why words were not read.
+#[derive(Debug, Drop, PartialEq, Eq, thiserror::Error)]
+pub enum WordFault {
+    /// They are no command line of the program, and why, in a line without its newline. Nothing is said of a request
+    /// for help.
+    #[error("{0}")]
+    Usage(String),
+    /// Want of memory.
+    #[error("out of memory")]
+    Memory,
+}
+
+impl From<AllocError> for WordFault {
+    ghost use Rattle.std.specs.Prelude.{◌≡◌};
+    ghost use Rattle.command_words.specs.declared.faults.WordFault.TheVariants.{Memory};
+
+    ghost from_gives = { λ _ fault. fault ≡ Memory };
+
+    fn from(_error: AllocError) -> WordFault {
+        WordFault::Memory
+    }
+}
+
+/// The fault of words that clap refused: want of memory where that was the reason or where the text has no room, else
+/// usage, with the first line of what clap says.
+pub fn word_fault(alloc: Global, error: &Error) -> WordFault
+    ensures usage { IsSome (reason_of result) → kind_of error.now ≢ ErrorKind.OutOfMemory }
+{
+    if is_no_memory(error) {
+        return WordFault::Memory;
+    }
+    match refusal(alloc, error) {
+        Ok(reason) => WordFault::Usage(reason),
+        Err(AllocError) => WordFault::Memory,
+    }
+}
+
+/// Want of memory was the reason.
+fn is_no_memory(error: &Error) -> bool
+    ensures { IsTrue result ↔ (kind_of error.now ≡ ErrorKind.OutOfMemory) }
+{
+    error.kind() == ErrorKind::OutOfMemory
+}
+
+/// Why clap refused words, in a line. It is empty where help is asked for.
+fn refusal(alloc: Global, error: &Error) -> Result<String, AllocError> {
+    match error.kind() {
+        ErrorKind::DisplayHelp => Ok(String::new(alloc)),
+        ErrorKind::MissingRequiredArgument => String::from_str(alloc, "a word is missing"),
+        _ => {
+            let text = format!(in alloc; "{error}")?;
+            String::from_str(alloc, reason_in(text.as_str()))
+        }
+    }
+}
+
+/// The first line of a text of clap, without `error: ` in front.
+fn reason_in(text: &str) -> &str
+    ensures { result.now ≡ reason_in text.now }
+{
+    let line = first_line(text);
+    match line.strip_prefix("error: ") {
+        Some(reason) => reason,
+        None => line,
+    }
+}
+
+fn first_line(text: &str) -> &str
+    ensures { result.now ≡ first_line text.now }
+{
+    match text.split_once('\n') {
+        Some((line, _)) => line,
+        None => text,
+    }
+}
+
+/// Reports why words were not read, by as much of the text as `err` takes, and gives the status: for words that are no
+/// command line as `report_refused_words`, for want of memory as `report_no_memory`.
+pub fn report_word_fault<E: Write>(name: &str, fault: &WordFault, usage: &str, err: &mut E) -> u8
+    ensures usage { IfSome (reason_of fault.now) (λ reason. (result ≡ REFUSED)
+        × AppendsPrefix (E.contents err.old) (E.contents err.new)
+        (usage_report name.now reason usage.now)) }
+    ensures memory { fault.now ≡ Memory → (result ≡ DEVICE_FAULT)
+        × AppendsPrefix (E.contents err.old) (E.contents err.new) (no_memory_text name.now) }
+{
+    match fault {
+        WordFault::Usage(reason) => report_refused_words(name, reason.as_str(), usage, err),
+        WordFault::Memory => report_no_memory(name, err),
+    }
+}
+
+/// Reports that words are no command line, by as much of the text as `err` takes, and gives the status: a line of the
+/// program's name and the reason, where it is not empty, and the usage.
+pub fn report_refused_words<E: Write>(name: &str, reason: &str, usage: &str, err: &mut E) -> u8
+    ensures status { result ≡ REFUSED }
+    ensures report { AppendsPrefix (E.contents err.old) (E.contents err.new)
+        (usage_report name.now reason.now usage.now) }
+{
+    if reason.is_empty() {
+        return report_usage(usage, err);
+    }
+    match write_reason(name, reason, err) {
+        Ok(()) => report_usage(usage, err),
+        Err(_) => REFUSED,
+    }
+}
+
+/// Writes the line of a reason.
+fn write_reason<E: Write>(name: &str, reason: &str, err: &mut E) -> io::Result<()>
+    ensures ok { OnOk result (Appends (E.contents err.old) (E.contents err.new)
+        (reason_line name.now reason.now)) }
+    ensures err { OnErr result (AppendsPrefix (E.contents err.old) (E.contents err.new)
+        (reason_line name.now reason.now)) }
+{
+    write_text(err, name.as_bytes())?;
+    write_text(err, b": ")?;
+    write_text(err, reason.as_bytes())?;
+    write_text(err, b"\n")
+}

@@ -1,0 +1,61 @@
+use Rattle.simulator.specs.declared.running.SimFault.TheVariants as fault
+use Rattle.std.proofs.Common.{[]}
+use Rattle.initd_options.specs.Options.{run_of}
+use Rattle.initd_command.specs.Endings.{busy, no_memory, stopped, uncreated, unlocked, unread}
+use Rattle.initd_command.proofs.Ended.{of_busy, of_channel, of_inittab, of_long, of_memory, of_trace}
+use Rattle.initd_command.proofs.run.report_run_fault.Goals as goal
+
+pub returns-in-Busy : goal.returns-in-Busy
+returns-in-Busy g c =
+    let path = c.as_str-initctl.result.now in (
+      busy path,
+      c.report_busy.ensures.status,
+      of_busy (run_of c.args.said.now) c.args.fault.now path c.in-Busy.is c.as_str-initctl.ensures.value,
+      c.report_busy.ensures.reported,
+    )
+
+pub returns-in-Channel : goal.returns-in-Channel
+returns-in-Channel g c =
+    let path = c.as_str-initctl.result.now in
+    let (reason, reported) = c.report_unlocked.ensures.reported in (
+      unlocked path reason,
+      c.report_unlocked.ensures.status,
+      of_channel (run_of c.args.said.now) c.args.fault.now c.in-Channel.error path reason c.in-Channel.is c.as_str-initctl.ensures.value,
+      reported,
+    )
+
+pub returns-in-Inittab : goal.returns-in-Inittab
+returns-in-Inittab g c =
+    let path = c.as_str.result.now in
+    let (reason, reported) = c.report_unread.ensures.reported in (
+      unread path reason,
+      c.report_unread.ensures.status,
+      of_inittab (run_of c.args.said.now) c.args.fault.now c.in-Inittab.error path reason c.in-Inittab.is c.as_str.ensures.value,
+      reported,
+    )
+
+pub returns-in-TooLong : goal.returns-in-TooLong
+returns-in-TooLong g c = (
+  stopped [] fault.Table,
+  c.report_fault.ensures.status,
+  of_long (run_of c.args.said.now) c.args.fault.now c.in-TooLong.is,
+  c.report_fault.ensures.reported,
+)
+
+pub returns-in-Trace : goal.returns-in-Trace
+returns-in-Trace g c =
+    let path = c.trace_of.result.now in
+    let (reason, reported) = c.report_uncreated.ensures.reported in (
+      uncreated path reason,
+      c.report_uncreated.ensures.status,
+      of_trace (run_of c.args.said.now) c.args.fault.now c.in-Trace.error path reason c.in-Trace.is c.trace_of.ensures,
+      reported,
+    )
+
+pub returns-in-Memory : goal.returns-in-Memory
+returns-in-Memory g c = (
+  no_memory,
+  c.report_memory.ensures.status,
+  of_memory (run_of c.args.said.now) c.args.fault.now c.in-Memory.is,
+  c.report_memory.ensures.reported,
+)

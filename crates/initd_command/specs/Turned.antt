@@ -1,0 +1,88 @@
+-- How the turns of a run ended: its exit status, and what is reported.
+use Rattle.std.specs.Prelude.{◌⊎◌, ℕ, Bool, true, false, List, [], ◌∷◌, ◌++◌, codes, decimal, Option, Some, None}
+use Rattle.std.specs.Io.KnownBytes.{Keeps}
+use Rattle.program_io.specs.Writing.{AppendsPrefix}
+use Rattle.program_io.specs.declared.statuses.TheConstants.{DONE, LIMIT_REACHED, DEVICE_FAULT}
+use Rattle.init_words.specs.declared.children.Status.TheVariants.{Exit, Killed}
+use Rattle.run_notes.specs.declared.LastEnd.{LastEnd}
+use Rattle.run_notes.specs.declared.LastEnd.TheVariants.{Ended, Never, Unnoted}
+use Rattle.initd_command.specs.declared.ends.TheConstants.{IDLE, KILLED, LIMITED, UNLOGGED, UNNAMED, UNNOTED}
+use Rattle.initd_command.specs.declared.reports.TheConstants.{NO_MEMORY}
+
+-- The entry whose result the run's is, and how its last child that ended did so.
+pub record EntryEnd : Type 0 where
+  pub id : List ℕ
+  pub last : LastEnd
+
+-- it ended drained, and nothing was started or something was, with an entry's result or without one; it made all its
+-- turns, and these children with their numbers go on, or there was no memory to note them all; or its trace was not
+-- written whole
+pub data End : Type 0 where
+  drained : Bool → Option EntryEnd → End
+  limited : Option (List (List ℕ × ℕ)) → End
+  unlogged : End
+
+-- an entry's result as an exit status
+abbrev pub result_status : LastEnd → ℕ
+result_status (Ended (Exit code)) = code
+result_status (Ended Killed) = KILLED
+result_status Never = DEVICE_FAULT
+result_status Unnoted = DEVICE_FAULT
+
+abbrev pub drained_status : Option EntryEnd → ℕ
+drained_status None = DONE
+drained_status (Some entry) = result_status entry.last
+
+abbrev pub end_status : End → ℕ
+end_status (drained idle result) = drained_status result
+end_status (limited running) = LIMIT_REACHED
+end_status unlogged = DEVICE_FAULT
+
+-- how the last child of an entry ended
+abbrev pub last_text : LastEnd → List ℕ
+last_text (Ended (Exit code)) = codes " ended with " ++ (decimal code ++ codes "\n")
+last_text (Ended Killed) = codes " was killed\n"
+last_text Never = codes " never ended\n"
+last_text Unnoted = UNNOTED.now
+
+abbrev pub result_text : EntryEnd → List ℕ
+result_text entry = codes "initd: " ++ (entry.id ++ last_text entry.last)
+
+-- a child that goes on: its id and its number
+abbrev pub child_text : List ℕ × ℕ → List ℕ
+child_text child = child.0 ++ (codes " " ++ decimal child.1)
+
+-- children one after the other, with this text before the first of them
+abbrev pub listed_after : List ℕ → List (List ℕ × ℕ) → List ℕ
+listed_after front [] = []
+listed_after front (child ∷ children) = front ++ (child_text child ++ listed_after (codes ", ") children)
+
+abbrev pub running_text : List (List ℕ × ℕ) → List ℕ
+running_text children = listed_after (codes "initd: still running: ") children ++ codes "\n"
+
+-- the text is reported, as far as the writer takes it, or that there was no memory for it
+abbrev pub ReportsText : List ℕ → Option (List ℕ) → Option (List ℕ) → Type 0
+ReportsText text old new = AppendsPrefix old new text ⊎ AppendsPrefix old new NO_MEMORY.now
+
+-- what is reported of a run in which nothing was started
+abbrev pub ReportsIdle : Bool → Option (List ℕ) → Option (List ℕ) → Type 0
+ReportsIdle false old new = Keeps old new
+ReportsIdle true old new = AppendsPrefix old new IDLE.now
+
+abbrev pub ReportsResult : Option EntryEnd → Option (List ℕ) → Option (List ℕ) → Type 0
+ReportsResult None old new = Keeps old new
+ReportsResult (Some entry) old new = ReportsText (result_text entry) old new
+
+-- what is reported of the children that go on
+abbrev pub ReportsRunning : Option (List (List ℕ × ℕ)) → Option (List ℕ) → Option (List ℕ) → Type 0
+ReportsRunning None old new = AppendsPrefix old new UNNAMED.now
+ReportsRunning (Some []) old new = Keeps old new
+ReportsRunning (Some (child ∷ children)) old new = ReportsText (running_text (child ∷ children)) old new
+
+-- what is reported of an end
+abbrev pub ReportsEnd : End → Option (List ℕ) → Option (List ℕ) → Type 0
+ReportsEnd (drained idle result) old new =
+    (mid : Option (List ℕ)) × ReportsIdle idle old mid × ReportsResult result mid new
+ReportsEnd (limited running) old new =
+    (mid : Option (List ℕ)) × AppendsPrefix old mid LIMITED.now × ReportsRunning running mid new
+ReportsEnd unlogged old new = AppendsPrefix old new UNLOGGED.now

@@ -1,0 +1,165 @@
+ghost use Rattle.std.specs.Prelude.{◌≡◌, ◌++◌, ℕ, List, Some, string_bytes, IfOk, OnOk};
+ghost use Rattle.initd_options.specs.Options.{run_of};
+ghost use Rattle.initd_command.specs.Services.{end_of, entry_end, noted_of};
+ghost use Rattle.initd_command.specs.Turned.{ReportsEnd, ReportsIdle, ReportsResult, ReportsRunning, ReportsText, child_text, drained_status, end_status, last_text, result_status, result_text, running_text};
+
+use crate::reports::{report, report_lines};
+use init_words::{ChildNo, Id, Status};
+use initd_options::RunWords;
+use itoa::Buffer;
+use program_io::{DEVICE_FAULT, DONE, LIMIT_REACHED};
+use run_notes::{LastEnd, Numbers, RunNotes};
+use std::alloc::{AllocError, Global};
+use std::io::Write;
+use supervisor::Served;
+use trace_log::Log;
+
+/// What is reported where a run made all its turns.
+const LIMITED: &str = "initd: the limit of turns is reached\n";
+
+/// What is reported where the trace was not written whole.
+pub(crate) const UNLOGGED: &str = "initd: the trace could not be written\n";
+
+/// What is reported of a run that ended drained before anything was started.
+const IDLE: &str = "initd: nothing was started\n";
+
+/// What is reported in place of the children that go on.
+const UNNAMED: &str = "initd: there was no memory to name all children that go on\n";
+
+/// What is reported behind an id whose ends were not all noted.
+const UNNOTED: &str = ": there was no memory to note how it ended\n";
+
+/// The exit status of a run whose entry's last child was killed.
+const KILLED: u8 = 137;
+
+/// Reports how the turns of a run ended, and gives its exit status.
+pub(crate) fn report_end<L: Log, E: Write>(
+    alloc: Global,
+    said: &RunWords,
+    served: &Served,
+    notes: &RunNotes<L>,
+    err: &mut E,
+) -> u8
+    ensures status { result
+        ≡ end_status (end_of (run_of said.now) (noted_of notes.now) served.now) }
+    ensures reported { ReportsEnd (end_of (run_of said.now) (noted_of notes.now) served.now)
+        (E.contents err.old) (E.contents err.new) }
+{
+    if !served.logged {
+        report(UNLOGGED, err);
+        return DEVICE_FAULT;
+    }
+    if said.drain && served.drained {
+        report_idle(notes.births() == 0, err);
+        return report_result(alloc, said.result, notes, err);
+    }
+    report(LIMITED, err);
+    report_running(alloc, notes, err);
+    LIMIT_REACHED
+}
+
+/// Reports that nothing was started, where that is so.
+fn report_idle<E: Write>(is_idle: bool, err: &mut E)
+    ensures { ReportsIdle is_idle (E.contents err.old) (E.contents err.new) }
+{
+    if is_idle {
+        report(IDLE, err);
+    }
+}
+
+/// Reports how the last child of an entry ended, where a run has an entry's result, and gives the exit status.
+fn report_result<L: Log, E: Write>(
+    alloc: Global,
+    entry: Option<Id>,
+    notes: &RunNotes<L>,
+    err: &mut E,
+) -> u8
+    ensures status { result ≡ drained_status (entry_end (noted_of notes.now).last entry) }
+    ensures reported { ReportsResult (entry_end (noted_of notes.now).last entry)
+        (E.contents err.old) (E.contents err.new) }
+{
+    let Some(id) = entry else {
+        return DONE;
+    };
+    let last = notes.last(&id);
+    report_lines(result_text(alloc, &id, last), err);
+    result_status(last)
+}
+
+fn result_status(last: LastEnd) -> u8
+    ensures { result ≡ result_status last }
+{
+    match last {
+        LastEnd::Ended(Status::Exit(code)) => code,
+        LastEnd::Ended(Status::Killed) => KILLED,
+        LastEnd::Never | LastEnd::Unnoted => DEVICE_FAULT,
+    }
+}
+
+fn result_text(alloc: Global, id: &Id, last: LastEnd) -> Result<Vec<u8>, AllocError>
+    ensures { IfOk result (λ text.
+        text.items ≡ result_text (record { id = id.now; last = last })) }
+{
+    let how = last_text(alloc, last)?;
+    let mut text = Vec::new(alloc);
+    text.extend_from_slice(b"initd: ")?;
+    text.extend_from_slice(id.as_bytes())?;
+    text.extend_from_slice(how.as_bytes())?;
+    Ok(text)
+}
+
+fn last_text(alloc: Global, last: LastEnd) -> Result<String, AllocError>
+    ensures { IfOk result (λ text. string_bytes text ≡ last_text last) }
+{
+    match last {
+        LastEnd::Ended(Status::Exit(code)) => format!(in alloc; " ended with {code}\n"),
+        LastEnd::Ended(Status::Killed) => String::from_str(alloc, " was killed\n"),
+        LastEnd::Never => String::from_str(alloc, " never ended\n"),
+        LastEnd::Unnoted => String::from_str(alloc, UNNOTED),
+    }
+}
+
+/// Reports the children that go on, where there are any, or that there was no memory to note them all.
+fn report_running<L: Log, E: Write>(alloc: Global, notes: &RunNotes<L>, err: &mut E)
+    ensures { ReportsRunning (noted_of notes.now).running (E.contents err.old) (E.contents err.new) }
+{
+    match notes.running() {
+        Some(numbers) => report_children(alloc, numbers, err),
+        None => report(UNNAMED, err),
+    }
+}
+
+/// Reports these children, where there are any.
+fn report_children<E: Write>(alloc: Global, numbers: &Numbers, err: &mut E)
+    ensures { ReportsRunning (Some numbers.now.entries) (E.contents err.old) (E.contents err.new) }
+{
+    if !numbers.is_empty() {
+        report_lines(running_text(alloc, numbers), err);
+    }
+}
+
+fn running_text(alloc: Global, running: &Numbers) -> Result<Vec<u8>, AllocError>
+    ensures { IfOk result (λ text. text.items ≡ running_text running.now.entries) }
+{
+    let mut text = Vec::new(alloc);
+    let mut front: &[u8] = b"initd: still running: ";
+    for (id, number) in running.iter() {
+        add_child(&mut text, front, id, *number)?;
+        front = b", ";
+    }
+    text.push(b'\n')?;
+    Ok(text)
+}
+
+/// Adds a child that goes on, after a text.
+fn add_child(text: &mut Vec<u8>, front: &[u8], id: &Id, number: ChildNo) -> Result<(), AllocError>
+    ensures { OnOk result (text.new.items
+        ≡ text.old.items ++ (front.now ++ child_text (id.now, number))) }
+{
+    let mut digits = Buffer::new();
+    text.extend_from_slice(front)?;
+    text.extend_from_slice(id.as_bytes())?;
+    text.push(b' ')?;
+    text.extend_from_slice(digits.format(number.0).as_bytes())?;
+    Ok(())
+}
