@@ -1,0 +1,8 @@
+#!/bin/sh
+# Makes the links of etc/rc?.d by the headers of init.d: plan.sh FACILITY...
+cd "$(dirname "$0")" || exit 4
+rm -rf etc
+mkdir etc && cp -r init.d etc/init.d && rclinks "$@" etc/init.d/* >etc/plan || exit
+while read -r link target; do
+    mkdir -p "etc/${link%/*}" && ln -s "$target" "etc/$link" || exit 4
+done <etc/plan
