@@ -1,19 +1,19 @@
 #!/bin/bash
-# What a line of a script costs `initd simulate` over tables of 16, 128 and 512 respawn entries, and what 60 turns cost
+# What a line of a script costs `initd simulate` over tables of 16, 512 and 4,096 respawn entries, and what 60 turns cost
 # `initd run` over 500 children that sleep, in processor time.
 # usage: bench/cost.sh INITD     (the program, as `rt run` leaves it in crates/initd/out/initd)
 set -eu
 initd=$(realpath "$1")
 folder=$(mktemp -d)
 trap 'rm -r "$folder"' EXIT
-for entries in 16 128 512; do
-    awk -v n="$entries" 'BEGIN { for (i = 0; i < n; i++) printf "%03x:3:respawn:x\n", i }' > "$folder/table"
+for entries in 16 512 4096; do
+    awk -v n="$entries" 'BEGIN { for (i = 0; i < n; i++) printf "%08x:3:respawn:x\n", i }' > "$folder/table"
     awk -v n="$entries" 'BEGIN {
         print "clock 0"
-        for (i = 0; i < n; i++) printf "birth %03x %d\ntold %03x\n", i, 1000 + i, i
+        for (i = 0; i < n; i++) printf "birth %08x %d\ntold %08x\n", i, 1000 + i, i
         for (lines = 2 * n; lines < 200000; lines += 2 * n + 1) {
             print "nudge"
-            for (i = 0; i < n; i++) printf "still %03x\ntold %03x\n", i, i
+            for (i = 0; i < n; i++) printf "still %08x\ntold %08x\n", i, i
         }
     }' > "$folder/script"
     echo "$entries entries, $(wc -l < "$folder/script") lines"

@@ -6,8 +6,8 @@ use Rattle.inittab_text.specs.Tables.{entry_of}
 use Rattle.child_table.specs.State.{SlotState, new_slot, is_act}
 use Rattle.child_table.specs.Lists.{slot_of}
 
--- the record of an entry: a child stays with its id, with its open order and its stop, and so does what was asked
--- where the id had the same action before; calls, starts and holds are forgotten
+-- the record of an entry: a child stays with its id, with its open order and its stop, and so does how the last one
+-- ended, and what was asked where the id had the same action before; calls, starts and holds are forgotten
 abbrev pub adopted : Entry → Option SlotState → SlotState
 adopted e None = new_slot e
 adopted e (Some slot) = record slot {
@@ -18,7 +18,7 @@ adopted e (Some slot) = record slot {
   limiter = unused;
 }
 
--- the record of an id that isn't in the table: it keeps its child alone
+-- the record of an id that isn't in the table: it keeps its child, and how the last one ended
 abbrev pub left_over : SlotState → SlotState
 left_over slot = record slot { table_act = None; asked = false; called = false; limiter = unused }
 

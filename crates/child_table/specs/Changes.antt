@@ -72,6 +72,7 @@ after_answer (Ended status) now slot = record slot {
   stop = None;
   look = false;
   missed = false;
+  last = Some status;
 }
 after_answer Hit now slot = record slot { order = None; stop = after_hit slot.order now slot.stop; missed = false }
 after_answer Miss now slot = record slot { order = None; missed = true }

@@ -3,6 +3,7 @@ use Rattle.std.specs.Prelude.{ℕ, Bool, false, List, Option, Some, None}
 use Rattle.std.specs.Option.{option_map}
 use Rattle.init_words.specs.declared.entries.Entry.{Entry}
 use Rattle.init_words.specs.declared.actions.Act.{Act}
+use Rattle.init_words.specs.declared.children.Status.{Status}
 use Rattle.init_words.specs.declared.orders.Ask.{Ask}
 use Rattle.init_words.specs.Actions.{is_limited, same_act}
 use Rattle.respawn_limit.specs.State.{LimiterState, unused}
@@ -12,7 +13,7 @@ use Rattle.child_table.specs.declared.children.Stop.{Stop}
 -- the id, and the table's action for it, none where the table doesn't have it; its child, the order that is not
 -- answered yet, and how far the child's stop has come; whether a start was ordered since the entry began to count,
 -- whether the entry is called, whether the child is to be looked at, and whether a signal missed it; the last starts
--- and the last hold
+-- and the last hold; and how the last child ended of which init was told
 pub record SlotState : Type 0 where
   pub id : List ℕ
   pub table_act : Option Act
@@ -24,6 +25,7 @@ pub record SlotState : Type 0 where
   pub look : Bool
   pub missed : Bool
   pub limiter : LimiterState
+  pub last : Option Status
 
 -- the record of an entry of which nothing was asked yet
 abbrev pub new_slot : Entry → SlotState
@@ -38,6 +40,7 @@ new_slot e = record {
   look = false;
   missed = false;
   limiter = unused;
+  last = None;
 }
 
 -- the number of the child, and its action at its birth

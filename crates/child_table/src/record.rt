@@ -6,7 +6,7 @@ ghost use Rattle.child_table.specs.Judging.{is_excluded};
 ghost use Rattle.child_table.specs.Changes.{after_hit};
 
 use crate::children::{KnownChild, Stop};
-use init_words::{Act, Answer, Ask, ChildNo, Entry, Id, Stage, lives};
+use init_words::{Act, Answer, Ask, ChildNo, Entry, Id, Stage, Status, lives};
 use inittab_text::Table;
 use respawn_limit::{Limiter, May};
 use std::alloc::Allocator;
@@ -25,6 +25,7 @@ pub struct Slot {
     look: bool,
     missed: bool,
     limiter: Limiter,
+    last: Option<Status>,
 }
 
 impl Model for Slot {
@@ -43,6 +44,7 @@ impl Model for Slot {
       look = slot.look;
       missed = slot.missed;
       limiter = slot.limiter;
+      last = slot.last;
     } };
 }
 
@@ -62,6 +64,7 @@ impl Slot {
         missed: bool,
         starts: &[u64],
         held_until: Option<u64>,
+        last: Option<Status>,
     ) -> Slot
         requires few { length starts.now ≤ STARTS }
         requires ordered { IsNonDecreasing starts.now }
@@ -76,6 +79,7 @@ impl Slot {
           look = look;
           missed = missed;
           limiter = record { starts = starts.now; held = held_until };
+          last = last;
         } }
     {
         Slot {
@@ -89,6 +93,7 @@ impl Slot {
             order,
             stop,
             limiter: Limiter::of(starts, held_until),
+            last,
         }
     }
 
@@ -188,6 +193,13 @@ impl Slot {
         self.limiter.held_until()
     }
 
+    /// How the last child of its id ended of which this record was told, none where there was none.
+    pub fn last(&self) -> Option<Status>
+        ensures { result ≡ self.now.last }
+    {
+        self.last
+    }
+
     /// A hold stands now: the time, in seconds, is less than its end.
     pub fn held(&self, now: u64) -> bool
         ensures { result ≡ is_held self.now.limiter.held now }
@@ -236,6 +248,7 @@ impl Slot {
             look: false,
             missed: false,
             limiter: Limiter::new(),
+            last: None,
         }
     }
 
@@ -322,11 +335,12 @@ impl Slot {
                 self.stop = None;
                 self.look = false;
             }
-            Answer::Ended(_) => {
+            Answer::Ended(status) => {
                 self.child = None;
                 self.stop = None;
                 self.look = false;
                 self.missed = false;
+                self.last = Some(status);
             }
             Answer::Hit => {
                 self.stop = after_hit(order, now, self.stop);
@@ -396,6 +410,7 @@ impl Slot {
             look: slot.look,
             missed: slot.missed,
             limiter: Limiter::new(),
+            last: slot.last,
         }
     }
 
@@ -421,6 +436,7 @@ impl Slot {
             look: self.look,
             missed: self.missed,
             limiter: Limiter::new(),
+            last: self.last,
         }
     }
 }

@@ -1,3 +1,2 @@
 pub mod CommandLines
 pub mod KnownLines
-pub mod ReasonLines

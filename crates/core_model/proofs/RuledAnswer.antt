@@ -1,6 +1,7 @@
 -- A record whose order is answered keeps the rules.
 use Rattle.std.proofs.Common.{◌≡◌, refl, sym, ap, ◌∙◌, subst, Bool, true, false, not, ◌&&◌, ◌||◌, cond, ℕ, List, Option, Some, None, is_some, is_none}
 use Rattle.std.proofs.lemmas.Bool.{false≢true, and_parts, or_left, or_right}
+use Rattle.init_words.specs.declared.children.Status.{Status}
 use Rattle.init_words.specs.declared.entries.Entry.{Entry}
 use Rattle.init_words.specs.declared.orders.Ask.{Ask}
 use Rattle.init_words.specs.declared.orders.Ask.TheVariants.{Start, Look, Term, Kill}
@@ -84,10 +85,10 @@ module _ (stage : Option Stage) (table : List Entry) (now : ℕ) (slot : SlotSta
         limiter = placed.rules.limiter;
       }
 
-  ended_ruled : (after : SlotState) → after ≡ record slot { order = None; child = None; stop = None; look = false; missed = false } → is_none slot.table_act ≡ false → IsRuled stage table now after
-  ended_ruled after is stays =
+  ended_ruled : (status : Status) (after : SlotState) → after ≡ record slot { order = None; child = None; stop = None; look = false; missed = false; last = Some status } → is_none slot.table_act ≡ false → IsRuled stage table now after
+  ended_ruled status after is stays =
       let marked = marks_parts slot placed.rules.marks in
-      let left : SlotState = record slot { order = None; child = None; stop = None; look = false; missed = false } in
+      let left : SlotState = record slot { order = None; child = None; stop = None; look = false; missed = false; last = Some status } in
       subst (IsRuled stage table now) (sym is) (record {
         cause = or_false (is_some slot.table_act) ∙ some_from slot.table_act stays;
         birth = refl;
@@ -154,7 +155,7 @@ module _ (stage : Option Stage) (table : List Entry) (now : ℕ) (slot : SlotSta
 
   pub told_ruled : (answer : Answer) → is_answered answer slot.order ≡ true → is_over answer slot ≡ false → IsRuled stage table now (after_answer answer now slot)
   told_ruled (Born n) is stays = born_ruled n (born_by n slot.order refl is)
-  told_ruled (Ended status) is stays = ended_ruled (after_answer (Ended status) now slot) refl stays
+  told_ruled (Ended status) is stays = ended_ruled status (after_answer (Ended status) now slot) refl stays
   told_ruled NotBorn is stays = rest_ruled (after_answer NotBorn now slot) refl
   told_ruled Alive is stays = rest_ruled (after_answer Alive now slot) refl
   told_ruled NoLook is stays = rest_ruled (after_answer NoLook now slot) refl

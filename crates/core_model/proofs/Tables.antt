@@ -43,7 +43,7 @@ use Rattle.child_table.specs.Judging as judging
 use Rattle.child_table.specs.Adopting.{adopted, left_over, is_left_over, entry_slots, left_slots}
 use Rattle.child_table.specs.Adopting as adopting
 use Rattle.core_model.specs.Steps.{judged_in}
-use Rattle.core_model.specs.Fit.{child_known, living, known_child, stop_after, stop_known, stop_of, is_to_look, was_missed, limiter_by, asked_of, record_of, records_of}
+use Rattle.core_model.specs.Fit.{child_known, living, known_child, stop_after, stop_known, stop_of, is_to_look, was_missed, limiter_by, asked_of, last_of, record_of, records_of}
 use Rattle.core_model.proofs.Acts.{found_own, child_some, found_record, no_record}
 
 -- two actions are one either way
@@ -199,14 +199,18 @@ module _ (goal : Goal) (table : List Entry) (past : List Event) (sound : is_soun
     by None is = refl
     by (Some x) is = ap (λ y. is_asked y past && same_act x.act e.act) (entry_own e.id (table_of past) x is) ∙ swap (is_asked e.id past) (same_act x.act e.act) (same_act e.act x.act) (same_act-sym x.act e.act)
 
+  -- a record that stays keeps how the last child ended
+  last_kept : (id : List ℕ) → list_any (same_id id) (record_ids past) ≡ true → last_of id past ≡ last_of id next
+  last_kept id there = sym (ap (λ b. cond b (last_of id past) None) there)
+
   -- the record of an entry before it is judged
   abbrev entered_slot : Entry → SlotState
-  entered_slot e = record (record_of past e.id) { table_act = Some e.act; asked = asked_of e.id past && is_act e.act (act_of e.id (table_of past)); called = false; limiter = unused }
+  entered_slot e = record (record_of past e.id) { table_act = Some e.act; asked = asked_of e.id past && is_act e.act (act_of e.id (table_of past)); called = false; limiter = unused; last = last_of e.id next }
 
   adopted_same : (e : Entry) → adopted e (slot_of e.id (records_of past)) ≡ entered_slot e
   adopted_same e = by (list_any (same_id e.id) (record_ids past)) refl where
     by : (b : Bool) → list_any (same_id e.id) (record_ids past) ≡ b → adopted e (slot_of e.id (records_of past)) ≡ entered_slot e
-    by true there = ap (adopted e) (found_record past e.id (record_ids past) there)
+    by true there = ap (adopted e) (found_record past e.id (record_ids past) there) ∙ (λ i. record (adopted e (Some (record_of past e.id))) { last = last_kept e.id there i })
     by false none = ap (adopted e) (no_record past e.id (record_ids past) none) ∙ (λ i. record {
       id = e.id;
       table_act = Some e.act;
@@ -218,6 +222,7 @@ module _ (goal : Goal) (table : List Entry) (past : List Event) (sound : is_soun
       look = unlooked i;
       missed = option_map_or (λ child. is_missed child past) (childless i) false;
       limiter = unused;
+      last = last_new i;
     }) where
       no_child : has_child e.id (known_children past) ≡ false
       no_child = falsely (has_child e.id (known_children past)) (list_any (same_id e.id) (record_ids past)) (child_in_records goal past sound e.id) none
@@ -233,6 +238,9 @@ module _ (goal : Goal) (table : List Entry) (past : List Event) (sound : is_soun
 
       unlisted : None ≡ entry_of e.id (table_of past)
       unlisted = sym (find_none (has_id e.id) (table_of past) (falsely (list_any (has_id e.id) (table_of past)) (list_any (same_id e.id) (record_ids past)) (listed_record e.id past) none))
+
+      last_new : None ≡ last_of e.id next
+      last_new = sym (ap (λ b. cond b (last_of e.id past) None) none)
 
       unlooked : false ≡ is_to_look e.id past
       unlooked = sym (ap (λ b. b && wants_look e.id past) no_child)
@@ -270,7 +278,10 @@ module _ (goal : Goal) (table : List Entry) (past : List Event) (sound : is_soun
   left_ids_next = filter_both is_kept has_left (ids_of (table_of past) ++ left_ids past)
 
   left_same : (id : List ℕ) → stays id ≡ true → judged_by (stage_of past) table (left_over (record_of past id)) ≡ record_of next id
-  left_same id h = judged_slot (stage_of past) refl id (left_over (record_of past id)) refl refl refl refl ∙ (λ i. record (record_of next id) { table_act = option_map (λ (x : Entry). x.act) (none i); asked = off_asked none i; called = never (entry_of id table) i; limiter = unused_same (entry_of id table) i }) where
+  left_same id h = judged_slot (stage_of past) refl id (left_over (record_of past id)) refl refl refl refl ∙ (λ i. record (record_of next id) { table_act = option_map (λ (x : Entry). x.act) (none i); asked = off_asked none i; called = never (entry_of id table) i; limiter = unused_same (entry_of id table) i; last = last_kept id placed i }) where
+    placed : list_any (same_id id) (record_ids past) ≡ true
+    placed = child_in_records goal past sound id (and_parts (has_left id) (is_kept id) h).1
+
     none : None ≡ entry_of id table
     none = sym (find_none (has_id id) table (not-true (list_any (has_id id) table) (and_parts (has_left id) (is_kept id) h).0))
 

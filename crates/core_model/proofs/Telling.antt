@@ -35,7 +35,7 @@ use Rattle.child_table.specs.declared.children.Stop.{Stop}
 use Rattle.child_table.specs.State.{SlotState}
 use Rattle.child_table.specs.Changes.{after_hit, after_answer, is_over}
 use Rattle.child_table.specs.Lists as lists
-use Rattle.core_model.specs.Fit.{child_known, living, stop_after, stop_known, stop_of, is_to_look, was_missed, record_of, records_of}
+use Rattle.core_model.specs.Fit.{child_known, living, stop_after, stop_known, stop_of, is_to_look, was_missed, last_told, last_of, record_of, records_of}
 use Rattle.core_model.proofs.Acts.{found_own, child_some, found_record, stop_same, missed_same}
 use Rattle.core_model.proofs.Tables.{none_found, mapped, filter_mapped, mapped_passing}
 
@@ -80,6 +80,7 @@ module _ (past : List Event) (id x : List ℕ) (differ : same_id x id ≡ false)
     stop = other_stop i;
     look = other_has i && wants_look x past;
     missed = other_missed i;
+    last = cond (differ i) (last_told (answered_of x past) (last_of x past)) (last_of x past);
   })
 
 -- the record of the id whose answer is told
@@ -117,9 +118,13 @@ module _ (goal : Goal) (past : List Event) (sound : is_sound goal past ≡ true)
     goes_on true c none = refl
     goes_on false c none = sym (none refl)
 
-  -- the record with a child, a stop, a look and a Miss that are those of the past after the Told
-  told_as : (child : Option Child) (stop : Option Stop) (look missed : Bool) → child_known id next ≡ child → stop ≡ stop_known next child → look ≡ is_to_look id next → missed ≡ option_map_or (λ (c : Child). is_missed c next) child false → record (record_of past id) { child = option_map living child; order = None; stop = stop; look = look; missed = missed } ≡ record_of next id
-  told_as child stop look missed known stops looks misses =
+  -- how the last child ended, by the answer
+  last_next : (given : Answer) → answered_of id past ≡ Some given → last_told (Some given) (last_of id past) ≡ last_of id next
+  last_next given is = sym (λ i. cond (same_id-self id i) (last_told (is i) (last_of id past)) (last_of id past))
+
+  -- the record with a child, a stop, a look, a Miss and a last status that are those of the past after the Told
+  told_as : (child : Option Child) (stop : Option Stop) (look missed : Bool) (last : Option Status) → child_known id next ≡ child → stop ≡ stop_known next child → look ≡ is_to_look id next → missed ≡ option_map_or (λ (c : Child). is_missed c next) child false → last ≡ last_of id next → record (record_of past id) { child = option_map living child; order = None; stop = stop; look = look; missed = missed; last = last } ≡ record_of next id
+  told_as child stop look missed last known stops looks misses lasts =
       let stops_all : stop ≡ stop_of id next = stops ∙ ap (stop_known next) (sym known) in
       let misses_all : missed ≡ was_missed id next = misses ∙ ap (λ o. option_map_or (λ (c : Child). is_missed c next) o false) (sym known) in
       λ i. record (record_of past id) {
@@ -128,12 +133,13 @@ module _ (goal : Goal) (past : List Event) (sound : is_sound goal past ≡ true)
         stop = stops_all i;
         look = looks i;
         missed = misses_all i;
+        last = lasts i;
       }
 
   -- of an answer that leaves the child
-  module _ (given : Answer) (is : answered_of id past ≡ Some given) (child_stays : (o : Option Child) → child_after id past given o ≡ o) (has_stays : (b : Bool) → has_after given b ≡ b) where
+  module _ (given : Answer) (is : answered_of id past ≡ Some given) (child_stays : (o : Option Child) → child_after id past given o ≡ o) (has_stays : (b : Bool) → has_after given b ≡ b) (last_stays : (o : Option Status) → last_told (Some given) o ≡ o) where
     stays_with : (stop : Option Stop) (missed : Bool) → stop ≡ stop_known next (child_known id past) → missed ≡ option_map_or (λ child. is_missed child next) (child_known id past) false → record (record_of past id) { order = None; stop = stop; missed = missed } ≡ record_of next id
-    stays_with stop missed stops misses = told_as (child_known id past) stop (is_to_look id past) missed (told_child goal past sound id given is ∙ child_stays (child_known id past)) stops (ap (λ b. b && wants_look id past) (sym (told_leaves goal past sound id given is ∙ has_stays (has_child id (known_children past))))) misses
+    stays_with stop missed stops misses = told_as (child_known id past) stop (is_to_look id past) missed (last_of id past) (told_child goal past sound id given is ∙ child_stays (child_known id past)) stops (ap (λ b. b && wants_look id past) (sym (told_leaves goal past sound id given is ∙ has_stays (has_child id (known_children past))))) misses (sym (last_stays (last_of id past)) ∙ last_next given is)
 
     abbrev tells : Tells id past given
     tells = answered_tells goal past sound id given is
@@ -220,21 +226,21 @@ module _ (goal : Goal) (past : List Event) (sound : is_sound goal past ≡ true)
 
   -- a birth: of a child that is not excluded, of an id that had none
   born_same : (n : ℕ) → answered_of id past ≡ Some (answer.Born n) → after_answer (answer.Born n) (time_of past) (record_of past id) ≡ record_of next id
-  born_same n is = told_as (Some (newborn id n past)) None false (was_missed id past) (told_child goal past sound id (answer.Born n) is) (sym (ap (λ b. cond b (Some (stop_after (spell_hits (newborn id n past) next))) None) spared)) (sym (ap (λ b. has_child id (known_children next) && b) (unborn_unlooked goal past sound id n is) ∙ and_false (has_child id (known_children next)))) (ap (λ o. option_map_or (λ (c : Child). is_missed c past) o false) (find_none (is_of id) (known_children past) (unborn_childless goal past sound id n is)) ∙ sym (missed_none (newborn id n past) next spared)) where
+  born_same n is = told_as (Some (newborn id n past)) None false (was_missed id past) (last_of id past) (told_child goal past sound id (answer.Born n) is) (sym (ap (λ b. cond b (Some (stop_after (spell_hits (newborn id n past) next))) None) spared)) (sym (ap (λ b. has_child id (known_children next) && b) (unborn_unlooked goal past sound id n is) ∙ and_false (has_child id (known_children next)))) (ap (λ o. option_map_or (λ (c : Child). is_missed c past) o false) (find_none (is_of id) (known_children past) (unborn_childless goal past sound id n is)) ∙ sym (missed_none (newborn id n past) next spared)) (last_next (answer.Born n) is) where
     spared : is_excluded past (newborn id n past) ≡ false
     spared = newborn_spared goal past sound id n is
 
   ended_same : (status : Status) → answered_of id past ≡ Some (answer.Ended status) → after_answer (answer.Ended status) (time_of past) (record_of past id) ≡ record_of next id
-  ended_same status is = told_as None None false false (told_child goal past sound id (answer.Ended status) is) refl (sym (ap (λ b. b && wants_look id past) (told_leaves goal past sound id (answer.Ended status) is))) refl
+  ended_same status is = told_as None None false false (Some status) (told_child goal past sound id (answer.Ended status) is) refl (sym (ap (λ b. b && wants_look id past) (told_leaves goal past sound id (answer.Ended status) is))) refl (last_next (answer.Ended status) is)
 
   told_own : (given : Answer) → answered_of id past ≡ Some given → after_answer given (time_of past) (record_of past id) ≡ record_of next id
   told_own (answer.Born n) is = born_same n is
   told_own (answer.Ended status) is = ended_same status is
-  told_own answer.NotBorn is = only_order answer.NotBorn is (λ o. refl) (λ b. refl) refl refl
-  told_own answer.Alive is = only_order answer.Alive is (λ o. refl) (λ b. refl) refl refl
-  told_own answer.NoLook is = only_order answer.NoLook is (λ o. refl) (λ b. refl) refl refl
-  told_own answer.Hit is = stays_with answer.Hit is (λ o. refl) (λ b. refl) (after_hit (open_of id past) (time_of past) (stop_of id past)) false (hit_stop is) (hit_flag is)
-  told_own answer.Miss is = stays_with answer.Miss is (λ o. refl) (λ b. refl) (stop_of id past) true (no_hit answer.Miss is (λ o. refl) (λ b. refl) refl) (miss_flag is)
+  told_own answer.NotBorn is = only_order answer.NotBorn is (λ o. refl) (λ b. refl) (λ s. refl) refl refl
+  told_own answer.Alive is = only_order answer.Alive is (λ o. refl) (λ b. refl) (λ s. refl) refl refl
+  told_own answer.NoLook is = only_order answer.NoLook is (λ o. refl) (λ b. refl) (λ s. refl) refl refl
+  told_own answer.Hit is = stays_with answer.Hit is (λ o. refl) (λ b. refl) (λ s. refl) (after_hit (open_of id past) (time_of past) (stop_of id past)) false (hit_stop is) (hit_flag is)
+  told_own answer.Miss is = stays_with answer.Miss is (λ o. refl) (λ b. refl) (λ s. refl) (stop_of id past) true (no_hit answer.Miss is (λ o. refl) (λ b. refl) (λ s. refl) refl) (miss_flag is)
 
 -- a filter that hides one id alone, where it isn't listed; and two filters that are one on the other ids
 hides_none : (id : List ℕ) (xs : List (List ℕ)) → list_any (same_id id) xs ≡ false → filter (λ x. not (same_id id x)) xs ≡ xs

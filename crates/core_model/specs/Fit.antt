@@ -1,20 +1,26 @@
 -- When a core fits a trace: what it keeps is what the definitions read off the past.
 use Rattle.std.specs.Prelude.{◌≡◌, ℕ, Bool, true, false, ◌&&◌, ◌+◌, IsTrue, if◌then◌else◌, List, [], ◌∷◌, map, find, reverse, Option, Some, None}
+use Rattle.std.specs.List.{list_any}
 use Rattle.std.specs.Option.{option_map, option_map_or}
 use Rattle.respawn_limit.specs.declared.TheConstants.{HOLD}
 use Rattle.respawn_limit.specs.State.{LimiterState, unused}
 use Rattle.respawn_limit.specs.Window.{last_starts}
+use Rattle.init_words.specs.declared.children.Status.{Status}
 use Rattle.init_words.specs.declared.entries.Entry.{Entry}
 use Rattle.init_words.specs.declared.levels.Letter.TheVariants as letter
+use Rattle.init_words.specs.declared.orders.Answer.{Answer}
+use Rattle.init_words.specs.declared.orders.Answer.TheVariants.{Ended}
 use Rattle.init_words.specs.declared.orders.Ask.TheVariants.{Kill}
 use Rattle.init_words.specs.declared.orders.PowerKind.TheVariants as power
 use Rattle.init_words.specs.Actions.{is_limited}
+use Rattle.init_words.specs.Ids.{same_id}
 use Rattle.inittab_text.specs.Tables.{entry_of, act_of}
 use Rattle.init_trace.specs.declared.happenings.Happening.TheVariants as happened
 use Rattle.init_trace.specs.declared.steps.Step.{Step}
 use Rattle.init_trace.specs.declared.steps.Step.TheVariants as step
 use Rattle.init_trace.specs.declared.steps.Goal.{Goal}
 use Rattle.init_trace.specs.Event.{Event}
+use Rattle.init_trace.specs.Answered.{answered_of}
 use Rattle.init_trace.specs.Past.{Child, is_of, has_child, open_of, table_of, stage_of, grace_of, time_of, known_children}
 use Rattle.init_trace.specs.Wanted.{is_asked, is_called, is_excluded, is_order}
 use Rattle.init_trace.specs.Spells.{Signal, spell_hits, is_missed}
@@ -86,6 +92,18 @@ called_of id past = option_map_or (λ e. is_called e past) (entry_of id (table_o
 abbrev pub limits_of : List ℕ → List Event → LimiterState
 limits_of id past = option_map_or (λ e. limiter_of e past) (entry_of id (table_of past)) unused
 
+-- how the last child of a record's id ended, by the answers that were told; a table whose id has no record brings none
+abbrev pub last_told : Option Answer → Option Status → Option Status
+last_told (Some (Ended status)) before = Some status
+last_told _ before = before
+
+abbrev pub last_of : List ℕ → List Event → Option Status
+last_of id [] = None
+last_of id (happened.NewTable table ∷ past) = if list_any (same_id id) (record_ids past) then last_of id past else None
+last_of id (happened.Told i ∷ past) =
+    if same_id id i then last_told (answered_of id past) (last_of id past) else last_of id past
+last_of id (_ ∷ past) = last_of id past
+
 -- what holds of each record is what the past says of the id at its place
 abbrev pub Along : {X : Type 0} → (SlotState → X) → (List ℕ → List Event → X) → CoreState → List Event → Type 0
 Along kept said core past = map kept core.slots ≡ map (λ id. said id past) (record_ids past)
@@ -137,11 +155,12 @@ pub record HasStops (core : CoreState) (past : List Event) : Type 0 where
   pub missed : Along (λ (slot : SlotState). slot.missed) was_missed core past
 
 -- 7: which entries of the table were asked and called, and the starts and the hold of those that the respawn limit
--- holds for; all others have none
+-- holds for, all others have none; and how the last children ended
 pub record HasFlags (core : CoreState) (past : List Event) : Type 0 where
   pub asked : Along (λ (slot : SlotState). slot.asked) asked_of core past
   pub called : Along (λ (slot : SlotState). slot.called) called_of core past
   pub limits : Along (λ (slot : SlotState). slot.limiter) limits_of core past
+  pub lasts : Along (λ (slot : SlotState). slot.last) last_of core past
 
 -- the core fits the opening goal and the trace: all seven
 pub record Fits (core : CoreState) (opening : Goal) (past : List Event) : Type 0 where
@@ -166,6 +185,7 @@ record_of past id = record {
   look = is_to_look id past;
   missed = was_missed id past;
   limiter = limits_of id past;
+  last = last_of id past;
 }
 
 abbrev pub records_of : List Event → List SlotState

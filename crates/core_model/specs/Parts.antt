@@ -26,6 +26,7 @@ record_of slot = record {
   called = slot.called;
   look = slot.look;
   missed = slot.missed;
+  last = slot.last;
 }
 
 -- what init keeps, but for its table and its records

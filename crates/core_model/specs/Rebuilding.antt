@@ -36,6 +36,7 @@ slot_from act r = record {
   look = r.look;
   missed = r.missed;
   limiter = record { starts = r.starts.items; held = r.held_until };
+  last = r.last;
 }
 
 -- the records, those of the table's entries first

@@ -5,7 +5,7 @@ use crate::news::News;
 use arrayvec::ArrayVec;
 use child_table::{Slot, Stop};
 use init_trace::Goal;
-use init_words::{Act, Ask, ChildNo, Id, Stage};
+use init_words::{Act, Ask, ChildNo, Id, Stage, Status};
 use inittab_text::Table;
 use respawn_limit::STARTS;
 use std::alloc::{Allocator, Global};
@@ -56,6 +56,8 @@ pub struct Record {
     pub held_until: Option<u64>,
     /// The times of the last starts, in seconds.
     pub starts: ArrayVec<u64, STARTS>,
+    /// How the last child of the id ended of which init was told.
+    pub last: Option<Status>,
 }
 
 impl Record {
@@ -79,6 +81,7 @@ impl Record {
             missed: slot.missed(),
             held_until: slot.held_until(),
             starts,
+            last: slot.last(),
         }
     }
 }

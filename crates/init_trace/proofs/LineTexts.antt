@@ -12,7 +12,7 @@ use Rattle.text_lines.proofs.CutLemmas.{cut-parts, cut-append, has_byte-append}
 use Rattle.text_lines.proofs.PieceLemmas.{pieces_of-joined, newlines-append, newlines-line, after_lines-front, take-front}
 use Rattle.text_lines.proofs.NumberLemmas.{number_read-decimal, decimal-number_read, decimal-lacks}
 use Rattle.init_words.specs.declared.entries.Entry.{Entry}
-use Rattle.init_words.specs.declared.ids.TheConstants.{ID_LIMIT}
+use Rattle.init_words.proofs.IdParts.{id_parts}
 use Rattle.init_words.specs.declared.children.Status.{Status}
 use Rattle.init_words.specs.declared.children.Status.TheVariants.{Exit, Killed}
 use Rattle.init_words.specs.declared.levels.Level.{Level}
@@ -71,7 +71,7 @@ lacks_low byte (b ∷ bytes) low are =
 
 clean_id : (id : List ℕ) → is_id id ≡ true → clean id ≡ true
 clean_id id is =
-    let bytes = (and_parts (nat_le 1 (length id) && nat_le (length id) ID_LIMIT && not (slice_index id 0 == 35)) (list_all is_id_byte id) is).1 in
+    let bytes = (id_parts id is).bytes in
     clean_from id (lacks_low 32 id (lit< tt) bytes) (lacks_low 10 id (lit< tt) bytes)
 
 clean_number : (n : ℕ) → n < 2 ^ 64 → clean (decimal n) ≡ true

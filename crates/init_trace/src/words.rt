@@ -127,7 +127,8 @@ pub fn read_child(word: &[u8]) -> Option<ChildNo>
     Some(ChildNo(number as u32))
 }
 
-fn read_code(word: &[u8]) -> Option<Status>
+/// The exit status that a decimal number is.
+pub fn read_code(word: &[u8]) -> Option<Status>
     ensures { result ≡ code_of_word word.now }
 {
     let code = read_below(word, 256)?;

@@ -1,2 +1,3 @@
+pub mod IdParts
 pub mod Same
 pub mod Tests

@@ -6,9 +6,9 @@ use std::hash::{Hash, Hasher};
 use std::marker::Model;
 
 /// How many bytes an id may have.
-pub const ID_LIMIT: usize = 4;
+pub const ID_LIMIT: usize = 8;
 
-/// The id of an inittab entry: 1 to 4 bytes of 33 to 126, none a colon, the first no `#` (inittab(5)).
+/// The id of an inittab entry: 1 to 8 bytes of 33 to 126, none a colon, the first no `#` (inittab(5)).
 #[derive(Clone, Copy)]
 pub struct Id {
     bytes: [u8; ID_LIMIT],
@@ -55,7 +55,7 @@ impl Id {
         })
     }
 
-    /// The id's bytes, 1 to 4 of them.
+    /// The id's bytes, 1 to 8 of them.
     pub fn as_bytes(&self) -> &[u8]
         ensures value { result.now ≡ self.now }
         ensures valid { is_id self.now ≡ true }

@@ -40,7 +40,7 @@ pub const USAGE: &str =
   --verbose  tell each start and each end of a child
   --logs     the folder that the output of each entry is written to, a file an entry
   L       the runlevel to go to, 0 to 9, S or s; the table's initdefault where it is left out
-  ID      an id of the inittab, 1 to 4 characters
+  ID      an id of the inittab, 1 to 8 characters
   TABLE   an inittab(5)
   SCRIPT  what the system did, one happening a line
   TRACE   a trace of init, which is judged

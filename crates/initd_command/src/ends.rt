@@ -121,7 +121,8 @@ fn last_text(alloc: Global, last: LastEnd) -> Result<String, AllocError>
 
 /// Reports the children that go on, where there are any, or that there was no memory to note them all.
 fn report_running<L: Log, E: Write>(alloc: Global, notes: &RunNotes<L>, err: &mut E)
-    ensures { ReportsRunning (noted_of notes.now).running (E.contents err.old) (E.contents err.new) }
+    ensures { ReportsRunning (noted_of notes.now).running (E.contents err.old)
+        (E.contents err.new) }
 {
     match notes.running() {
         Some(numbers) => report_children(alloc, numbers, err),

@@ -125,7 +125,8 @@ fn created_message_with(alloc: Global, path: &str, why: &str) -> Result<String, 
 /// Reports that another run reads the channel of requests, and gives the exit status.
 pub(crate) fn report_busy<E: Write>(alloc: Global, path: &str, err: &mut E) -> u8
     ensures status { result ≡ DEVICE_FAULT }
-    ensures reported { ReportsText (busy_message path.now) (E.contents err.old) (E.contents err.new) }
+    ensures reported { ReportsText (busy_message path.now) (E.contents err.old)
+        (E.contents err.new) }
 {
     report_made(busy_message(alloc, path), err);
     DEVICE_FAULT

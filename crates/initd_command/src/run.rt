@@ -135,7 +135,8 @@ fn open_run<R, T: Texts>(
 where
     R: Processes + Files<File = File> + Clock + Print + Eprint + Clone + Drop,
     ensures ok { IfOk result (λ run. HasInittab (T.text_at texts.now)
-        (run_of said.now).inittab (λ inittab. (run.faults.items ≡ faults_text (faults_of_text inittab))
+        (run_of said.now).inittab (λ inittab.
+        (run.faults.items ≡ faults_text (faults_of_text inittab))
         × (run.is_unled ≡ is_unled said.now.level (table_of_text inittab)))) }
     ensures err { IfErr result (FailsBy (T.text_at texts.now) (run_of said.now)) }
 {

@@ -3,4 +3,5 @@ pub mod Entries
 pub mod LineLemmas
 pub mod MarkLemmas
 pub mod ReadLemmas
+pub mod SizeLemmas
 pub mod WriteLemmas

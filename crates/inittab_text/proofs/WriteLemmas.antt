@@ -9,7 +9,6 @@ use Rattle.std.proofs.lemmas.Bool.{false≢true, or_from, and_parts, and_from, n
 use Rattle.std.proofs.lemmas.List.{append_assoc, length-map}
 use Rattle.std.proofs.lemmas.Str.{is_utf8-from_IsUtf8, IsUtf8-from_is_utf8, IsUtf8-append, IsUtf8-from_ascii}
 use Rattle.inittab_text.specs.declared.tables.TheConstants.{ENTRY_LIMIT}
-use Rattle.init_words.specs.declared.ids.TheConstants.{ID_LIMIT}
 use Rattle.init_words.specs.declared.entries.TheConstants.{MARK_LIMIT}
 use Rattle.init_words.specs.declared.entries.Entry.{Entry}
 use Rattle.init_words.specs.declared.actions.Act.{Act}
@@ -20,6 +19,7 @@ use Rattle.init_words.specs.declared.levels.Mark.{Mark}
 use Rattle.init_words.specs.declared.levels.Mark.TheVariants.{At, OnCall}
 use Rattle.init_words.specs.Actions.{word_of, act_read, ignores_levels, has_process}
 use Rattle.init_words.specs.Ids.{is_id, is_id_byte}
+use Rattle.init_words.proofs.IdParts.{id_parts}
 use Rattle.init_words.specs.Levels.{mark_code}
 use Rattle.text_lines.specs.Lines.{has_byte, is_blank, skip_blanks, lines_of}
 use Rattle.inittab_text.specs.Lines.{FieldBytes, fields_of, is_ignored}
@@ -161,20 +161,16 @@ is_text-front front rest clean is =
 -- a written line begins with its id: no blank is skipped, and it is no comment
 shown_by : (b : ℕ) (bs rest : List ℕ) → is_id (b ∷ bs) ≡ true → (skip_blanks ((b ∷ bs) ++ rest) ≡ (b ∷ bs) ++ rest) × (is_ignored ((b ∷ bs) ++ rest) ≡ false)
 shown_by b bs rest is =
-    let outer = and_parts (nat_le 1 (length (b ∷ bs)) && nat_le (length (b ∷ bs)) ID_LIMIT && not (b == 35)) (list_all is_id_byte (b ∷ bs)) is in
-    let first = and_parts (nat_le 1 (length (b ∷ bs)) && nat_le (length (b ∷ bs)) ID_LIMIT) (not (b == 35)) outer.0 in
-    let bytes = and_parts (is_id_byte b) (list_all is_id_byte bs) outer.1 in
+    let facts = id_parts (b ∷ bs) is in
+    let bytes = and_parts (is_id_byte b) (list_all is_id_byte bs) facts.bytes in
     let range = and_parts (nat_le 33 b && nat_le b 126) (not (b == 58)) bytes.0 in
     let low : 33 ≤ b = leb-true 33 b (and_parts (nat_le 33 b) (nat_le b 126) range.0).0 in
     let blank : is_blank b ≡ false = or_from (b == 32) (b == 9) (ne_eqb b 32 (λ same. omega arith)) (ne_eqb b 9 (λ same. omega arith)) in
-    (rw blank refl, not-true (b == 35) first.1)
+    (rw blank refl, not-true (b == 35) facts.begins)
 
 shown : (id rest : List ℕ) → is_id id ≡ true → (skip_blanks (id ++ rest) ≡ id ++ rest) × (is_ignored (id ++ rest) ≡ false)
 shown [] rest is = absurd (false≢true is)
 shown (b ∷ bs) rest is = shown_by b bs rest is
-
-id_bytes : (id : List ℕ) → is_id id ≡ true → list_all is_id_byte id ≡ true
-id_bytes id is = (and_parts (nat_le 1 (length id) && nat_le (length id) ID_LIMIT && not (slice_index id 0 == 35)) (list_all is_id_byte id) is).1
 
 -- the facts of a written entry
 pub record Parts (e : Entry) : Type 0 where
@@ -225,7 +221,7 @@ fields_of-written e h =
     let word = word_of e.act in
     let p = e.process.items in
     rw (
-      cut-append 58 e.id (levels ++ 58 ∷ (word ++ 58 ∷ p)) (no_colon e.id (plain_id e.id (id_bytes e.id h.id))),
+      cut-append 58 e.id (levels ++ 58 ∷ (word ++ 58 ∷ p)) (no_colon e.id (plain_id e.id (id_parts e.id h.id).bytes)),
       cut-append 58 levels (word ++ 58 ∷ p) (no_colon levels (plain_levels e.act e.levels.items)),
       cut-append 58 word p (no_colon word (plain_word e.act)),
     ) refl
@@ -235,7 +231,7 @@ is_text-written e h =
     let levels = levels_written e.act e.levels.items in
     let word = word_of e.act in
     let p = e.process.items in
-    is_text-front e.id (levels ++ 58 ∷ (word ++ 58 ∷ p)) (plain_id e.id (id_bytes e.id h.id))
+    is_text-front e.id (levels ++ 58 ∷ (word ++ 58 ∷ p)) (plain_id e.id (id_parts e.id h.id).bytes)
     (is_text-front levels (word ++ 58 ∷ p) (plain_levels e.act e.levels.items) (is_text-front word p (plain_word e.act) h.text))
 
 pub one_line : (e : Entry) → Parts e → has_byte 10 (fields_written e) ≡ false
@@ -243,7 +239,7 @@ one_line e h =
     let levels = levels_written e.act e.levels.items in
     let word = word_of e.act in
     let p = e.process.items in
-    has_byte-append 10 e.id (58 ∷ (levels ++ 58 ∷ (word ++ 58 ∷ p))) (no_newline e.id (plain_id e.id (id_bytes e.id h.id)))
+    has_byte-append 10 e.id (58 ∷ (levels ++ 58 ∷ (word ++ 58 ∷ p))) (no_newline e.id (plain_id e.id (id_parts e.id h.id).bytes))
     (has_byte-append 10 levels (58 ∷ (word ++ 58 ∷ p)) (no_newline levels (plain_levels e.act e.levels.items)) (has_byte-append 10 word (58 ∷ p) (no_newline word (plain_word e.act)) h.one))
 
 -- written runlevels are kept as they are
@@ -267,7 +263,7 @@ kept_process : (p : List ℕ) (b : Bool) → cond b true (is_empty p) ≡ true �
 kept_process p true is = refl
 kept_process p false is = empty_is p is
 
-length-levels_written : (a : Act) (ms : List Mark) → length ms ≤ MARK_LIMIT → length (levels_written a ms) ≤ MARK_LIMIT
+pub length-levels_written : (a : Act) (ms : List Mark) → length ms ≤ MARK_LIMIT → length (levels_written a ms) ≤ MARK_LIMIT
 length-levels_written a [] few = by_test (ignores_levels a)
   where
     by_test : (b : Bool) → length (cond b [] (codes "-")) ≤ MARK_LIMIT

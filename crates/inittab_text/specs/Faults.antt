@@ -22,5 +22,5 @@ abbrev pub line_fault_text : LineFault → List ℕ
 line_fault_text fault = codes "inittab line " ++ decimal fault.line ++ codes ": " ++ kind_text fault.kind
 
 abbrev pub table_fault_text : TableFault → List ℕ
-table_fault_text table.TooLong = codes "inittab is longer than 65536 bytes"
+table_fault_text table.TooLong = codes "inittab is longer than 1048576 bytes"
 table_fault_text table.Memory = codes "out of memory"

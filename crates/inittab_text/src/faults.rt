@@ -8,7 +8,7 @@ use std::fmt;
 pub enum LineKind {
     /// It has fewer than three colons.
     Fields,
-    /// The id is not 1 to 4 bytes of 33 to 126, or begins with `#`.
+    /// The id is not 1 to 8 bytes of 33 to 126, or begins with `#`.
     Id,
     /// The runlevels field has over 11 bytes.
     Levels,
@@ -22,7 +22,7 @@ pub enum LineKind {
     Text,
     /// An earlier entry has the id.
     Twice,
-    /// The table has 512 entries already.
+    /// The table has 4,096 entries already.
     Many,
 }
 
@@ -38,7 +38,7 @@ pub struct LineFault {
 /// Why a text was not read.
 #[derive(Clone, Copy, Debug, PartialEq, Eq)]
 pub enum TableFault {
-    /// The text has over 65,536 bytes.
+    /// The text has over 1,048,576 bytes.
     TooLong,
     /// Out of memory.
     Memory,
@@ -86,7 +86,7 @@ impl fmt::Display for TableFault {
 
     fn fmt<W: fmt::Write>(&self, f: &mut fmt::Formatter<W>) -> fmt::Result {
         f.write_str(match self {
-            TableFault::TooLong => "inittab is longer than 65536 bytes",
+            TableFault::TooLong => "inittab is longer than 1048576 bytes",
             TableFault::Memory => "out of memory",
         })
     }

@@ -10,7 +10,7 @@ use std::alloc::Allocator;
 use text_lines::first_line;
 
 /// How many bytes a text may have.
-pub const TEXT_LIMIT: usize = 65_536;
+pub const TEXT_LIMIT: usize = 1_048_576;
 
 /// Adds a line's entry to the table, or its fault to the faults.
 fn take_line<A: Allocator>(
@@ -35,7 +35,7 @@ fn take_line<A: Allocator>(
 }
 
 /// Reads an inittab(5): the entries of the lines that pass all checks, and the faults of the others in line order.
-/// A text of over 65,536 bytes is refused.
+/// A text of over 1,048,576 bytes is refused.
 pub fn read<A: Allocator + Copy>(
     alloc: A,
     text: &[u8],

@@ -9,7 +9,7 @@ use std::hash::{BuildHasherDefault, FoldHasher};
 use std::marker::Model;
 
 /// How many entries a table may have.
-pub const ENTRY_LIMIT: usize = 512;
+pub const ENTRY_LIMIT: usize = 4_096;
 
 /// The entries of an inittab(5), in the order of their lines, each id once.
 #[derive(Clone, Drop)]
@@ -48,13 +48,24 @@ impl<A: Allocator> Table<A> {
     ghost use Rattle.inittab_text.specs.Written.{is_written, is_table};
     ghost use Rattle.std.specs.Prelude.{true, ◌<◌, Some, IfOk};
 
-    /// How many entries it has: at most 512, each as reading keeps it, no id twice.
+    /// How many entries it has: at most 4,096, each as reading keeps it, no id twice.
     pub fn len(&self) -> usize
         ensures value { result ≡ length self.now }
         ensures table { is_table self.now ≡ true }
         ensures distinct { is_distinct self.now ≡ true }
     {
         self.entries.len()
+    }
+
+    /// The entries in the order of their lines: a table, so no id stands twice.
+    pub fn entries(&self) -> &[Entry]
+        ensures value { result.now ≡ self.now }
+        ensures table { is_table self.now ≡ true }
+        ensures distinct { is_distinct self.now ≡ true }
+    {
+        // `len` says what a table is, as `values` doesn't.
+        let _ = self.len();
+        self.entries.values().as_slice()
     }
 
     /// The entry at a place, counted from 0.

@@ -1,5 +1,6 @@
 ghost use Rattle.std.specs.Prelude.{◌≡◌, ◌≤◌, ◌++◌, ◌∷◌, [], length, take, IfOk, OnOk, OnErr, map};
 ghost use Rattle.init_words.specs.Levels.{mark_code};
+ghost use Rattle.inittab_text.specs.declared.reading.TheConstants.{TEXT_LIMIT};
 ghost use Rattle.inittab_text.specs.Written.{levels_written, line_of, text_of};
 ghost use Rattle.inittab_text.specs.Reading.{table_of_text, faults_of_text};
 
@@ -68,7 +69,8 @@ pub fn write_line<A: Allocator>(text: &mut Vec<u8, A>, entry: &Entry) -> Result<
     Ok(())
 }
 
-/// Writes a table as an inittab(5), one line an entry. What is written is read as the same table, without faults.
+/// Writes a table as an inittab(5), one line an entry. What is written is read as the same table, without faults, and is
+/// never too long to be read.
 pub fn write<A: Allocator + Copy, B: Allocator>(
     alloc: A,
     table: &Table<B>,
@@ -76,6 +78,7 @@ pub fn write<A: Allocator + Copy, B: Allocator>(
     ensures text { IfOk result (λ text. text.items ≡ text_of table.now) }
     ensures table { IfOk result (λ text. table_of_text text.items ≡ table.now) }
     ensures no_faults { IfOk result (λ text. faults_of_text text.items ≡ []) }
+    ensures short { IfOk result (λ text. length text.items ≤ TEXT_LIMIT) }
 {
     let mut text = Vec::new(alloc);
     for place in 0..table.len() {

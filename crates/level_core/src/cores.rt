@@ -4,7 +4,7 @@ use crate::bare::BareCore;
 use child_table::Slots;
 use core_model::Heads;
 use init_trace::{Goal, Step};
-use init_words::{Answer, Id, Level, Memory, Refusal, Stage};
+use init_words::{Answer, Id, Level, Memory, Refusal, Stage, Status};
 use initctl_frame::Got;
 use inittab_text::Table;
 use std::alloc::{Allocator, Global};
@@ -66,13 +66,14 @@ impl<A: Allocator + Copy> Core<A> {
 }
 
 impl<A: Allocator> Core<A> {
-    ghost use Rattle.std.specs.Prelude.{◌^◌, ◌+◌, IsOk, ◌∷◌, ◌<◌, Some, false};
+    ghost use Rattle.std.specs.Prelude.{option_and_then, ◌^◌, ◌+◌, IsOk, ◌∷◌, ◌<◌, Some, false};
     ghost use Rattle.init_trace.specs.declared.happenings.Happening.TheVariants as happening;
     ghost use Rattle.init_trace.specs.declared.happenings.Handed.{Handed};
     ghost use Rattle.init_trace.specs.Answered.{answered_of};
     ghost use Rattle.init_trace.specs.Due.{due, first};
     ghost use Rattle.init_trace.specs.Run.{is_rest};
-    ghost use Rattle.child_table.specs.Lists.{order_in, refusal_of};
+    ghost use Rattle.child_table.specs.State.{SlotState};
+    ghost use Rattle.child_table.specs.Lists.{order_in, refusal_of, slot_of};
     ghost use Rattle.core_model.specs.Decide.{decide, is_drained};
     ghost use Rattle.core_model.specs.Steps.{after_step, after_told, after_round, after_clock, after_got, after_not_read, after_handed, after_handed_on};
     ghost use Rattle.core_model.specs.Fit.{Fits, OnEachTrace, with_step};
@@ -128,6 +129,15 @@ impl<A: Allocator> Core<A> {
         ensures { result.now ≡ self.now.slots }
     {
         self.bare.slots()
+    }
+
+    /// How the last child of an id ended of which init was told; none where there was none, or no record of the id is
+    /// kept.
+    pub fn last(&self, id: &Id) -> Option<Status>
+        ensures { result
+            ≡ option_and_then (λ (slot : SlotState). slot.last) (slot_of id.now self.now.slots) }
+    {
+        self.slots().by_id(id)?.last()
     }
 
     /// The goal: the level to go to, and the seconds between the two signals.

@@ -100,6 +100,7 @@ fn slot_read(entry: Option<&Entry>, kept: &Record) -> Option<Slot>
         kept.missed,
         kept.starts.as_slice(),
         kept.held_until,
+        kept.last,
     ))
 }
 

@@ -116,6 +116,8 @@ impl<A: Allocator> Channel<A> {
         if self.heard != place {
             self.heard = place;
             self.passed_over.go_to(place);
+            self.torn = 0;
+            self.told_torn = false;
         }
     }
 

@@ -80,6 +80,6 @@ fn add_fault<A: Allocator + Copy>(
 
 fn say_too_long(rt: &impl Eprint, path: &str) {
     let _ = eprintln!(rt;
-        "initd: {path} is longer than 65536 bytes: shorten it, and give telinit q"
+        "initd: {path} is longer than 1048576 bytes: shorten it, and give telinit q"
     );
 }

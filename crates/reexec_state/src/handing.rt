@@ -1,5 +1,7 @@
 ghost use Rattle.std.specs.List.{list_all};
 ghost use Rattle.std.specs.Prelude.{◌≡◌, true, map, ◌+◌, ◌^◌, ◌==◌, ◌∷◌, if◌then◌else◌, false, Err, IfOk, IfErr, OnOk, OnErr};
+ghost use Rattle.child_table.specs.State.{child_number};
+ghost use Rattle.init_trace.specs.Range.{is_status};
 ghost use Rattle.init_trace.specs.declared.happenings.Handed.{Handed};
 ghost use Rattle.init_trace.specs.declared.happenings.Happening.TheVariants as happening;
 ghost use Rattle.core_model.specs.Fit.{Fits, OnEachTrace};
@@ -8,12 +10,12 @@ ghost use Rattle.core_model.specs.Rules.{IsFit};
 ghost use Rattle.core_model.specs.Steps.{after_handed_on};
 ghost use Rattle.state_text.specs.declared.over.Over.TheVariants as over;
 ghost use Rattle.state_text.specs.Lines.{state_text};
-ghost use Rattle.state_text.specs.Range.{has_ranged_ids, has_short_seconds};
+ghost use Rattle.state_text.specs.Range.{has_ranged_words, has_short_seconds, is_child, passes};
 ghost use Rattle.state_text.specs.Refused.{IsTextOf};
 
 use child_table::Slot;
 use core_model::Heads;
-use init_words::Memory;
+use init_words::{Memory, Status};
 use level_core::Core;
 use state_text::{Over, write_state};
 use std::alloc::Allocator;
@@ -33,19 +35,44 @@ fn next_heads(heads: Heads) -> Result<Heads, Over>
     })
 }
 
-/// The id of a record is an id, and the number of its child fits its word.
-fn of_slot(slot: &Slot)
-    ensures { has_ranged_ids slot.now ≡ true }
+/// The number of a child fits its word.
+fn of_child(slot: &Slot)
+    ensures { passes is_child (child_number slot.now) ≡ true }
 {
-    let _ = slot.id().as_bytes();
     if let Some(number) = slot.child() {
         let _number = number.0;
     }
 }
 
+/// An exit status fits its word.
+fn of_status(status: Status)
+    ensures { is_status status ≡ true }
+{
+    if let Status::Exit(code) = status {
+        let _code = code;
+    }
+}
+
+fn of_last(slot: &Slot)
+    ensures { passes is_status slot.now.last ≡ true }
+{
+    if let Some(status) = slot.last() {
+        of_status(status);
+    }
+}
+
+/// The id of a record is an id, and the number of its child and its last status fit their words.
+fn of_slot(slot: &Slot)
+    ensures { has_ranged_words slot.now ≡ true }
+{
+    let _ = slot.id().as_bytes();
+    of_child(slot);
+    of_last(slot);
+}
+
 /// So it is of all records. It does nothing: its contract is the law.
 fn law_of_slots(slots: &[Slot])
-    ensures { list_all has_ranged_ids slots.now ≡ true }
+    ensures { list_all has_ranged_words slots.now ≡ true }
 {
     for slot in slots {
         of_slot(slot);
@@ -67,9 +94,9 @@ fn text_of<A: Allocator + Copy, B: Allocator>(
     write_state(alloc, heads, core.table(), core.slots().as_slice())
 }
 
-/// Hands init's state on: the text is that of the state that the next init begins with, which is a generation more and
-/// no longer wishes to be re-executed. Refused where there is no greater generation (`Worn`), and for lack of memory;
-/// a refusal changes nothing.
+/// Hands init's state on: the text, of version 2, is that of the state that the next init begins with, which is a
+/// generation more and no longer wishes to be re-executed. Refused where there is no greater generation (`Worn`), and
+/// for lack of memory; a refusal changes nothing.
 pub fn hand_over<A: Allocator + Copy, B: Allocator>(
     alloc: A,
     core: &mut Core<B>,

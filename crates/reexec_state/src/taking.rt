@@ -12,7 +12,8 @@ use state_text::{Over, read_state};
 use std::alloc::Allocator;
 
 /// Takes over the state that a text says, of an init of this generation. What is refused is named by the first check
-/// that fails: those of `read_state`, and then that the state keeps the rules that each init's does (`Unfit`).
+/// that fails: those of `read_state`, and then that the state keeps the rules that each init's does (`Unfit`). A text of
+/// version 1 says nothing of how the last children ended, and so no last status is there.
 pub fn take_over<A: Allocator + Copy>(
     alloc: A,
     text: &[u8],

@@ -1,5 +1,5 @@
 -- An id is text.
-use Rattle.std.proofs.Common.{◌≡◌, ℕ, ◌<◌, true, not, ◌&&◌, ◌==◌, nat_le, List, length, slice_index, arith}
+use Rattle.std.proofs.Common.{◌≡◌, ℕ, ◌<◌, true, not, ◌&&◌, ◌==◌, nat_le, List, arith}
 use Rattle.std.specs.List.{list_all}
 use Rattle.std.specs.Str.{IsUtf8}
 use Rattle.std.proofs.lemmas.Bool.{and_parts, leb-true}
@@ -7,7 +7,7 @@ use Rattle.std.proofs.lemmas.List.Sums.{AllPass-from_list_all}
 use Rattle.std.proofs.lemmas.Str.{IsUtf8-from_ascii}
 use Rattle.std.proofs.lemmas.Str.Ascii.{IsAscii-from_all}
 use Rattle.init_words.specs.Ids.{is_id, is_id_byte}
-use Rattle.init_words.specs.declared.ids.TheConstants.{ID_LIMIT}
+use Rattle.init_words.proofs.IdParts.{id_parts}
 
 small : (byte : ℕ) → is_id_byte byte ≡ true → byte < 128
 small byte h =
@@ -17,5 +17,5 @@ small byte h =
 
 pub id_utf8 : (id : List ℕ) → is_id id ≡ true → IsUtf8 id
 id_utf8 id h =
-    let every = (and_parts (nat_le 1 (length id) && nat_le (length id) ID_LIMIT && not (slice_index id 0 == 35)) (list_all is_id_byte id) h).1 in
+    let every = (id_parts id h).bytes in
     IsUtf8-from_ascii id (IsAscii-from_all id (λ k d within. small _ (AllPass-from_list_all is_id_byte id every k d within)))

@@ -8,7 +8,8 @@ use Rattle.init_trace.specs.declared.happenings.Handed.{Handed as HandOver}
 use Rattle.init_trace.specs.declared.happenings.Handed.TheVariants as handed
 use Rattle.core_model.specs.Parts.{SavedState}
 use Rattle.state_text.specs.Refused.{IsTextOf}
-use Rattle.state_text.proofs.Prefixes.{no_prefix, one_state}
+use Rattle.state_text.proofs.Ends.{no_prefix}
+use Rattle.state_text.proofs.Prefixes.{one_state}
 use Rattle.simulated_system.specs.declared.objections.Objection.{Objection}
 use Rattle.simulator.specs.Handing.{has_next, is_made, objection_handed}
 use Rattle.simulator.specs.Texts.{AreMade, HasTexts, IsForeign, IsOfGeneration}
@@ -16,14 +17,14 @@ use Rattle.simulator.specs.Texts.{AreMade, HasTexts, IsForeign, IsOfGeneration}
 -- what is left of a text that is cut is that of no state
 pub cut_foreign : (text : List ℕ) (bytes generation : ℕ) (own : SavedState) → IsTextOf text own → bytes < length text → IsForeign (take bytes text) generation
 cut_foreign text bytes generation own says less other cut same =
-    let none : drop bytes text ≡ [] = no_prefix other own (drop bytes text) cut.0 says.0 (ap (λ t. t ++ drop bytes text) cut.1 ∙ take-append-drop bytes text ∙ sym says.1) in
+    let none : drop bytes text ≡ [] = no_prefix other own (take bytes text) (drop bytes text) cut (subst (λ t. IsTextOf t own) (sym (take-append-drop bytes text)) says) in
     let left : length text - bytes ≡ 0 = sym (length-drop bytes text) ∙ ap length none in
     omega (arith, left, less)
 
 -- the text of an older generation is that of no state of this one
 pub older_foreign : (text : List ℕ) (older generation : ℕ) → IsOfGeneration text older → older < generation → IsForeign text generation
 older_foreign text older generation (own, says, its) less other said same =
-    let one : other ≡ own = one_state other own said.0 says.0 (said.1 ∙ sym says.1) in
+    let one : other ≡ own = one_state text other own said says in
     let equal : generation ≡ older = sym same ∙ ap (λ (s : SavedState). s.heads.generation) one ∙ its in
     omega (arith, equal, less)
 

@@ -6,7 +6,7 @@ use Rattle.simulator.specs.declared.running.SimFault.TheVariants.{Table, Script,
 
 -- the fault in words
 abbrev pub fault_text : SimFault → List ℕ
-fault_text Table = codes "the inittab is longer than 65,536 bytes"
+fault_text Table = codes "the inittab is longer than 1,048,576 bytes"
 fault_text (Script line) = codes "script line " ++ decimal line ++ codes " is not a line"
 fault_text (Forbidden line why) = codes "script line " ++ decimal line ++ codes " is not allowed"
 fault_text Write = codes "the trace could not be written"

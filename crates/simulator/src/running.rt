@@ -55,7 +55,7 @@ impl fmt::Display for SimFault {
 
     fn fmt<W: fmt::Write>(&self, f: &mut fmt::Formatter<W>) -> fmt::Result {
         match self {
-            SimFault::Table => f.write_str("the inittab is longer than 65,536 bytes"),
+            SimFault::Table => f.write_str("the inittab is longer than 1,048,576 bytes"),
             SimFault::Script(line) => write!(f, "script line {line} is not a line"),
             SimFault::Forbidden(line, _) => write!(f, "script line {line} is not allowed"),
             SimFault::Write => f.write_str("the trace could not be written"),
@@ -217,9 +217,11 @@ fn pass_on<A: Allocator + Copy>(
     requires made { HasTexts (map (λ text. text.items) made.old.items) core.old.generation }
     requires ranged { is_in_range happening.now ≡ true }
     ensures fits { OnOk result (FromMoment core.old side.now (λ goal past.
-        may_be_scripted goal happening.now past ≡ true → Fits core.new goal (happening.now ∷ past))) }
+        may_be_scripted goal happening.now past ≡ true
+        → Fits core.new goal (happening.now ∷ past))) }
     ensures lasts { OnOk result (FromMoment core.old side.now (λ goal past.
-        may_be_scripted goal happening.now past ≡ true → LastsTo core.new goal (happening.now ∷ past))) }
+        may_be_scripted goal happening.now past ≡ true
+        → LastsTo core.new goal (happening.now ∷ past))) }
     ensures made { OnOk result
         (HasTexts (map (λ text. text.items) made.new.items) core.new.generation) }
 {
@@ -419,7 +421,7 @@ fn run_script<A: Allocator + Copy, W: Write>(
 ///
 /// The run ends at the end of the script, or before the first line that is no line of a trace (`Script`) or may not
 /// come (`Forbidden`, with the reason), by its number from 1; the lines of a table count, and it is named by its first.
-/// An inittab of over 65,536 bytes is refused (`Table`). Where the writer fails (`Write`), a prefix of the trace is
+/// An inittab of over 1,048,576 bytes is refused (`Table`). Where the writer fails (`Write`), a prefix of the trace is
 /// written and something of it is left; where memory runs out (`Memory`), a prefix of it is written.
 pub fn simulate<A: Allocator + Copy, W: Write>(
     alloc: A,

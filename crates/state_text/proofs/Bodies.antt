@@ -11,24 +11,24 @@ use Rattle.text_lines.specs.Lines.{after_lines, cut, has_byte, newlines}
 use Rattle.text_lines.proofs.CutLemmas.{cut-append, cut-parts}
 use Rattle.text_lines.proofs.PieceLemmas.{newlines-append, newlines-line, take-front}
 use Rattle.init_words.specs.declared.entries.Entry.{Entry}
-use Rattle.init_words.specs.Ids.{same_id}
-use Rattle.init_words.proofs.Same.{same_id-is}
 use Rattle.inittab_text.proofs.Entries.{table_parts}
 use Rattle.inittab_text.proofs.ReadLemmas.{option_map_some}
 use Rattle.inittab_text.proofs.WriteLemmas.{one_line, parts}
 use Rattle.inittab_text.specs.Written.{fields_written, is_empty, is_table, is_written}
 use Rattle.core_model.specs.declared.parts.Heads.{Heads}
 use Rattle.state_text.specs.declared.over.Over.{Over}
-use Rattle.state_text.specs.declared.over.Over.TheVariants.{Cut, Version, Line, Generation, Unfit, Worn, Memory}
+use Rattle.state_text.specs.declared.over.Over.TheVariants as over
 use Rattle.core_model.specs.declared.parts.Record.{Record}
 use Rattle.core_model.specs.Parts.{SavedState}
+use Rattle.state_text.specs.declared.versions.Version.{Version}
+use Rattle.state_text.specs.Versions.{holds_table}
 use Rattle.state_text.specs.Lines.{body_lines, head_lines, slot_line, table_line, text_of_lines, version_line}
 use Rattle.state_text.specs.Range.{are_heads, is_record, is_state}
 use Rattle.state_text.specs.Reading.{OnLine, end_split, heads_read, last_line, table_read, version_read}
-use Rattle.state_text.specs.Refused.{AreRecords, IsBody, NoBody, NoRecords, RefusedBody, is_line}
-use Rattle.state_text.proofs.LineForms.{head_lines_are, heads_front, more_lines_are, slot_line_lacks}
+use Rattle.state_text.specs.Refused.{AreRecords, IsBody, IsBodyIn, NoBody, NoRecords, RefusedBody, is_line}
+use Rattle.state_text.proofs.LineForms.{head_lines_are, heads_front, more_lines_are, slot_line_lacks, version_front}
 use Rattle.state_text.proofs.Whole.{records_text, table_back, table_own, table_text}
-use Rattle.state_text.proofs.WordForms.{time_lacks}
+use Rattle.state_text.proofs.WordForms.{time_lacks, version_lacks}
 use Rattle.state_text.proofs.Written.{text_of_lines-append}
 
 -- a refusal that is handed on, and one that means more
@@ -41,130 +41,153 @@ match_kept (Ok t) e P Q is q = absurd is
 match_kept (Err x) e P Q is q = subst Q (sym is) q
 
 pub on_line : {P Q : Type 0} → (P → Q) → (why : Over) → OnLine P why → OnLine Q why
-on_line f (Line n) p = f p
-on_line f Memory p = tt
-on_line f Cut p = p
-on_line f Version p = p
-on_line f Generation p = p
-on_line f Unfit p = p
-on_line f Worn p = p
+on_line f (over.Line n) p = f p
+on_line f over.Memory p = tt
+on_line f over.Cut p = p
+on_line f over.Version p = p
+on_line f over.Generation p = p
+on_line f over.Unfit p = p
+on_line f over.Worn p = p
 
 pub on_body : {P : Type 0} (text : List ℕ) → (P → (version_read text ≢ None) × NoBody text) → (why : Over) → OnLine P why → RefusedBody text why
-on_body text f (Line n) p = f p
-on_body text f Memory p = tt
-on_body text f Cut p = p
-on_body text f Version p = absurd p
-on_body text f Generation p = p
-on_body text f Unfit p = p
-on_body text f Worn p = p
+on_body text f (over.Line n) p = f p
+on_body text f over.Memory p = tt
+on_body text f over.Cut p = p
+on_body text f over.Version p = absurd p
+on_body text f over.Generation p = p
+on_body text f over.Unfit p = p
+on_body text f over.Worn p = p
 
 -- THE BODY
 
-unfoldable pub body_text : SavedState → List ℕ
-body_text state = text_of_lines (body_lines state)
+unfoldable pub body_text : Version → SavedState → List ℕ
+body_text v state = text_of_lines (body_lines v state)
 
 unfoldable pub heads_text : Heads → List ℕ
 heads_text heads = text_of_lines (head_lines heads)
 
-body_parts : (state : SavedState) → body_text state ≡ version_line ++ 10 ∷ (heads_text state.heads ++ (table_text state.table ++ records_text state.records))
+-- the first line with its newline, and more
+abbrev begun : Version → List ℕ → List ℕ
+begun v rest = (version_line v ++ 10 ∷ []) ++ rest
+
+body_parts : (v : Version) (state : SavedState) → body_text v state ≡ begun v (heads_text state.heads ++ (table_text state.table ++ records_text v state.records))
 unfolding body_text heads_text table_text records_text
-body_parts state =
-    ap (λ t. version_line ++ 10 ∷ t) (text_of_lines-append (head_lines state.heads) (table_line (length state.table) ∷ (map fields_written state.table ++ map slot_line state.records))
-    ∙ ap (λ t. text_of_lines (head_lines state.heads) ++ t) (text_of_lines-append (table_line (length state.table) ∷ map fields_written state.table) (map slot_line state.records)))
+body_parts v state =
+    ap (begun v) (text_of_lines-append (head_lines state.heads) (table_line (length state.table) ∷ (map fields_written state.table ++ map (slot_line v) state.records))
+    ∙ ap (λ t. text_of_lines (head_lines state.heads) ++ t) (text_of_lines-append (table_line (length state.table) ∷ map fields_written state.table) (map (slot_line v) state.records)))
 
-pub version_own : (text rest : List ℕ) → version_read text ≡ Some rest → version_line ++ 10 ∷ rest ≡ text
-version_own text rest is = option_and_then_some (λ (parts : List ℕ × List ℕ). cond (same_id parts.0 version_line) (Some parts.1) None) (cut 10 text) rest is (λ parts at found. by parts at (same_id parts.0 version_line) refl found)
-  where
-    by : (parts : List ℕ × List ℕ) → cut 10 text ≡ Some parts → (b : Bool) → same_id parts.0 version_line ≡ b → cond b (Some parts.1) None ≡ Some rest → version_line ++ 10 ∷ rest ≡ text
-    by parts at true same found =
-        let this : parts.1 ≡ rest = same_Some parts.1 rest found in
-        ap (λ r. version_line ++ 10 ∷ r) (sym this) ∙ ap (λ l. l ++ 10 ∷ parts.1) (sym (same_id-is parts.0 version_line same)) ∙ sym (cut-parts 10 text parts.0 parts.1 at).0
-    by parts at false same found = absurd (cc)
+begun_as : (v : Version) (rest : List ℕ) → begun v rest ≡ version_line v ++ 10 ∷ rest
+begun_as v rest = append_assoc (version_line v) (10 ∷ []) rest
 
-pub version_back : (rest : List ℕ) → version_read (version_line ++ 10 ∷ rest) ≡ Some rest
-version_back rest = refl
+pub version_own : (v : Version) (text rest : List ℕ) → version_read text ≡ Some (v, rest) → version_line v ++ 10 ∷ rest ≡ text
+version_own v text rest is = sym (begun_as v rest) ∙ (version_front.own text v rest is).0
 
-pub state_parts : (state : SavedState) → is_state state ≡ true → (are_heads state.heads ≡ true) × (is_table state.table ≡ true) × (list_all is_record state.records ≡ true)
-state_parts state is =
-    let both = and_parts (are_heads state.heads && is_table state.table) (list_all is_record state.records) is in
-    let first = and_parts (are_heads state.heads) (is_table state.table) both.0 in
-    (first.0, first.1, both.1)
+pub version_back : (v : Version) (rest : List ℕ) → version_read (version_line v ++ 10 ∷ rest) ≡ Some (v, rest)
+version_back v rest = ap version_read (sym (begun_as v rest)) ∙ version_front.back v rest refl
+
+-- the heads, the table and the records of a state
+pub record Kept (v : Version) (state : SavedState) : Type 0 where
+  pub heads : are_heads state.heads ≡ true
+  pub table : is_table state.table ≡ true
+  pub holds : holds_table v state.table ≡ true
+  pub records : list_all (is_record v) state.records ≡ true
+
+pub state_parts : (v : Version) (state : SavedState) → is_state v state ≡ true → Kept v state
+state_parts v state is =
+    let both = and_parts (are_heads state.heads && (is_table state.table && holds_table v state.table)) (list_all (is_record v) state.records) is in
+    let first = and_parts (are_heads state.heads) (is_table state.table && holds_table v state.table) both.0 in
+    let table = and_parts (is_table state.table) (holds_table v state.table) first.1 in
+    record { heads = first.0; table = table.0; holds = table.1; records = both.1 }
 
 -- what is read of the text of a state, and of more behind it
-pub record Steps (state : SavedState) (text more : List ℕ) : Type 0 where
-  pub version : version_read text ≡ Some (heads_text state.heads ++ (table_text state.table ++ (records_text state.records ++ more)))
-  pub heads : heads_read (heads_text state.heads ++ (table_text state.table ++ (records_text state.records ++ more))) ≡ Some (state.heads, table_text state.table ++ (records_text state.records ++ more))
-  pub table : table_read (table_text state.table ++ (records_text state.records ++ more)) ≡ Some (state.table, records_text state.records ++ more)
+pub record Steps (v : Version) (state : SavedState) (text more : List ℕ) : Type 0 where
+  pub begins : version_read text ≡ Some (v, heads_text state.heads ++ (table_text state.table ++ (records_text v state.records ++ more)))
+  pub heads : heads_read (heads_text state.heads ++ (table_text state.table ++ (records_text v state.records ++ more))) ≡ Some (state.heads, table_text state.table ++ (records_text v state.records ++ more))
+  pub table : table_read v (table_text state.table ++ (records_text v state.records ++ more)) ≡ Some (state.table, records_text v state.records ++ more)
 
-pub steps : (state : SavedState) (text more : List ℕ) → is_state state ≡ true → body_text state ++ more ≡ text → Steps state text more
+pub steps : (v : Version) (state : SavedState) (text more : List ℕ) → is_state v state ≡ true → body_text v state ++ more ≡ text → Steps v state text more
 unfolding heads_text
-steps state text more is same =
-    let parts = state_parts state is in
-    let behind = heads_text state.heads ++ (table_text state.table ++ (records_text state.records ++ more)) in
-    let whole : text ≡ version_line ++ 10 ∷ behind =
-    sym same ∙ ap (λ t. t ++ more) (body_parts state) ∙ append_assoc version_line (10 ∷ (heads_text state.heads ++ (table_text state.table ++ records_text state.records))) more
-    ∙ ap (λ t. version_line ++ 10 ∷ t) (append_assoc (heads_text state.heads) (table_text state.table ++ records_text state.records) more ∙ ap (λ t. heads_text state.heads ++ t) (append_assoc (table_text state.table) (records_text state.records) more)) in
+steps v state text more is same =
+    let kept = state_parts v state is in
+    let behind = heads_text state.heads ++ (table_text state.table ++ (records_text v state.records ++ more)) in
+    let whole : text ≡ begun v behind =
+    sym same ∙ ap (λ t. t ++ more) (body_parts v state) ∙ append_assoc (version_line v ++ 10 ∷ []) (heads_text state.heads ++ (table_text state.table ++ records_text v state.records)) more
+    ∙ ap (begun v) (append_assoc (heads_text state.heads) (table_text state.table ++ records_text v state.records) more ∙ ap (λ t. heads_text state.heads ++ t) (append_assoc (table_text state.table) (records_text v state.records) more)) in
     record {
-      version = ap version_read whole ∙ version_back behind;
-      heads = heads_front.back state.heads (table_text state.table ++ (records_text state.records ++ more)) parts.0;
-      table = table_back state.table (records_text state.records ++ more) parts.1;
+      begins = ap version_read whole ∙ version_front.back v behind refl;
+      heads = heads_front.back state.heads (table_text state.table ++ (records_text v state.records ++ more)) kept.heads;
+      table = table_back v state.table (records_text v state.records ++ more) kept.table kept.holds;
     }
 
 pub lost : {X : Type 0} (x : X) → ◌≡◌ {A = Option X} None (Some x) → ⊥
 lost x e = cc
 
-pub steps_of : (state : SavedState) (text : List ℕ) → is_state state ≡ true → text_of_lines (body_lines state) ≡ text → Steps state text []
+pub steps_of : (v : Version) (state : SavedState) (text : List ℕ) → IsBodyIn v text state → Steps v state text []
 unfolding body_text
-steps_of state text is same = steps state text [] is (append-nil (text_of_lines (body_lines state)) ∙ same)
+steps_of v state text is = steps v state text [] is.0 (append-nil (text_of_lines (body_lines v state)) ∙ is.1)
 
-known_version : (text first : List ℕ) → version_read text ≡ Some first → version_read text ≢ None
-known_version text first at none = lost first (sym none ∙ at)
+-- a body is one of the version that its first line names
+pub of_version : (v : Version) (state : SavedState) (text first : List ℕ) → version_read text ≡ Some (v, first) → IsBody text state → IsBodyIn v text state
+of_version v state text first at is = subst (λ w. IsBodyIn w text state) same is.1
+  where
+    same : is.0 ≡ v
+    same = (some_pair_parts _ _ _ _ (sym (steps_of is.0 state text is.1).begins ∙ at)).0
 
-pub no_heads : (text first : List ℕ) → version_read text ≡ Some first → heads_read first ≡ None → (version_read text ≢ None) × NoBody text
-no_heads text first at none = (
-  known_version text first at,
-  λ state is same.
-      let read = steps_of state text is same in
-      let here = same_Some _ first (sym read.version ∙ at) in
-      lost _ (sym none ∙ ap heads_read (sym here) ∙ read.heads),
+-- and so is what is behind that line
+pub behind_version : (v : Version) (state : SavedState) (text first : List ℕ) → version_read text ≡ Some (v, first) → Steps v state text []
+    → first ≡ heads_text state.heads ++ (table_text state.table ++ (records_text v state.records ++ []))
+behind_version v state text first at read = (some_pair_parts _ _ _ _ (sym at ∙ read.begins)).1
+
+known_version : (v : Version) (text first : List ℕ) → version_read text ≡ Some (v, first) → version_read text ≢ None
+known_version v text first at none = lost (v, first) (sym none ∙ at)
+
+pub no_heads : (v : Version) (text first : List ℕ) → version_read text ≡ Some (v, first) → heads_read first ≡ None → (version_read text ≢ None) × NoBody text
+no_heads v text first at none = (
+  known_version v text first at,
+  λ state is.
+      let read = steps_of v state text (of_version v state text first at is) in
+      lost _ (sym none ∙ ap heads_read (behind_version v state text first at read) ∙ read.heads),
 )
 
 -- behind the heads
-pub to_heads : (state : SavedState) (text first second : List ℕ) (heads : Heads) → version_read text ≡ Some first → heads_read first ≡ Some (heads, second) → Steps state text []
-    → (heads ≡ state.heads) × (second ≡ table_text state.table ++ (records_text state.records ++ []))
-to_heads state text first second heads at found read =
-    let here = same_Some _ first (sym read.version ∙ at) in
-    some_pair_parts heads state.heads second (table_text state.table ++ (records_text state.records ++ [])) (sym found ∙ ap heads_read (sym here) ∙ read.heads)
+pub to_heads : (v : Version) (state : SavedState) (text first second : List ℕ) (heads : Heads) → version_read text ≡ Some (v, first) → heads_read first ≡ Some (heads, second) → Steps v state text []
+    → (heads ≡ state.heads) × (second ≡ table_text state.table ++ (records_text v state.records ++ []))
+to_heads v state text first second heads at found read =
+    some_pair_parts heads state.heads second (table_text state.table ++ (records_text v state.records ++ [])) (sym found ∙ ap heads_read (behind_version v state text first at read) ∙ read.heads)
 
-pub no_table : (text first second : List ℕ) (heads : Heads) → version_read text ≡ Some first → heads_read first ≡ Some (heads, second) → table_read second ≡ None → (version_read text ≢ None) × NoBody text
-no_table text first second heads at found none = (
-  known_version text first at,
-  λ state is same.
-      let read = steps_of state text is same in
-      let here = to_heads state text first second heads at found read in
-      lost _ (sym none ∙ ap table_read here.1 ∙ read.table),
+pub no_table : (v : Version) (text first second : List ℕ) (heads : Heads) → version_read text ≡ Some (v, first) → heads_read first ≡ Some (heads, second) → table_read v second ≡ None → (version_read text ≢ None) × NoBody text
+no_table v text first second heads at found none = (
+  known_version v text first at,
+  λ state is.
+      let read = steps_of v state text (of_version v state text first at is) in
+      let here = to_heads v state text first second heads at found read in
+      lost _ (sym none ∙ ap (table_read v) here.1 ∙ read.table),
 )
 
-pub no_body : (text first second third : List ℕ) (heads : Heads) (table : List Entry) → version_read text ≡ Some first → heads_read first ≡ Some (heads, second) → table_read second ≡ Some (table, third) → NoRecords third → (version_read text ≢ None) × NoBody text
+pub no_body : (v : Version) (text first second third : List ℕ) (heads : Heads) (table : List Entry) → version_read text ≡ Some (v, first) → heads_read first ≡ Some (heads, second) → table_read v second ≡ Some (table, third) → NoRecords v third → (version_read text ≢ None) × NoBody text
 unfolding records_text
-no_body text first second third heads table at found then never = (
-  known_version text first at,
-  λ state is same.
-      let read = steps_of state text is same in
-      let here = to_heads state text first second heads at found read in
-      let there = some_pair_parts table state.table third (records_text state.records ++ []) (sym then ∙ ap table_read here.1 ∙ read.table) in
-      never state.records (state_parts state is).2 (sym (append-nil (records_text state.records)) ∙ sym there.1),
+no_body v text first second third heads table at found then never = (
+  known_version v text first at,
+  λ state is.
+      let own = of_version v state text first at is in
+      let read = steps_of v state text own in
+      let here = to_heads v state text first second heads at found read in
+      let there = some_pair_parts table state.table third (records_text v state.records ++ []) (sym then ∙ ap (table_read v) here.1 ∙ read.table) in
+      never state.records (state_parts v state own.0).records (sym (append-nil (records_text v state.records)) ∙ sym there.1),
 )
 
-pub is_body : (text first second third : List ℕ) (heads : Heads) (table : List Entry) (records : List Record) → version_read text ≡ Some first → heads_read first ≡ Some (heads, second) → table_read second ≡ Some (table, third) → AreRecords third records
+pub is_body : (v : Version) (text first second third : List ℕ) (heads : Heads) (table : List Entry) (records : List Record) → version_read text ≡ Some (v, first) → heads_read first ≡ Some (heads, second) → table_read v second ≡ Some (table, third) → AreRecords v third records
     → IsBody text (record { heads = heads; table = table; records = records })
 unfolding body_text heads_text records_text
-is_body text first second third heads table records at found then are =
+is_body v text first second third heads table records at found then are =
     let state : SavedState = record { heads = heads; table = table; records = records } in
     let one = heads_front.own first heads second found in
-    let two = table_own second third table then in (
-      and_from (are_heads heads && is_table table) (list_all is_record records) (and_from (are_heads heads) (is_table table) one.1 two.1) are.0,
-      body_parts state ∙ ap (λ t. version_line ++ 10 ∷ (heads_text heads ++ (table_text table ++ t))) are.1 ∙ ap (λ t. version_line ++ 10 ∷ (heads_text heads ++ t)) two.0 ∙ ap (λ t. version_line ++ 10 ∷ t) one.0 ∙ version_own text first at,
+    let two = table_own v second third table then in (
+      v,
+      (
+        and_from (are_heads heads && (is_table table && holds_table v table)) (list_all (is_record v) records) (and_from (are_heads heads) (is_table table && holds_table v table) one.1 (and_from (is_table table) (holds_table v table) two.1 two.2)) are.0,
+        body_parts v state ∙ ap (λ t. begun v (heads_text heads ++ (table_text table ++ t))) are.1 ∙ ap (λ t. begun v (heads_text heads ++ t)) two.0 ∙ ap (begun v) one.0 ∙ begun_as v first ∙ version_own v text first at,
+      ),
     )
 
 -- THE LAST LINE
@@ -262,18 +285,18 @@ entries_are (e ∷ table) are =
     let both = and_parts (is_written e) (list_all is_written table) are in
     more_lines_are (fields_written e) (map fields_written table) (one_line e (parts e both.0)) (entries_are table both.1)
 
-slots_are : (records : List Record) → list_all is_record records ≡ true → list_all is_line (map slot_line records) ≡ true
-slots_are [] are = refl
-slots_are (r ∷ records) are =
-    let both = and_parts (is_record r) (list_all is_record records) are in
-    more_lines_are (slot_line r) (map slot_line records) (slot_line_lacks r both.0) (slots_are records both.1)
+slots_are : (v : Version) (records : List Record) → list_all (is_record v) records ≡ true → list_all is_line (map (slot_line v) records) ≡ true
+slots_are v [] are = refl
+slots_are v (r ∷ records) are =
+    let both = and_parts (is_record v r) (list_all (is_record v) records) are in
+    more_lines_are (slot_line v r) (map (slot_line v) records) (slot_line_lacks v r both.0) (slots_are v records both.1)
 
-pub body_lines_are : (state : SavedState) → is_state state ≡ true → list_all is_line (body_lines state) ≡ true
-body_lines_are state is =
-    let known = state_parts state is in
-    let table = table_parts state.table known.1 in
+pub body_lines_are : (v : Version) (state : SavedState) → is_state v state ≡ true → list_all is_line (body_lines v state) ≡ true
+body_lines_are v state is =
+    let known = state_parts v state is in
+    let table = table_parts state.table known.table in
     let counts : length state.table < 2 ^ 64 = omega (arith, table.0) in
-    let end = list_all-append is_line (map fields_written state.table) (map slot_line state.records) ∙ and_from _ _ (entries_are state.table table.2) (slots_are state.records known.2) in
-    let tail = more_lines_are (table_line (length state.table)) (map fields_written state.table ++ map slot_line state.records) (time_lacks 10 (lit< tt) (length state.table) (lt-ltb (length state.table) (2 ^ 64) counts)) end in
-    more_lines_are version_line (head_lines state.heads ++ (table_line (length state.table) ∷ (map fields_written state.table ++ map slot_line state.records))) refl
-    (list_all-append is_line (head_lines state.heads) (table_line (length state.table) ∷ (map fields_written state.table ++ map slot_line state.records)) ∙ and_from _ _ (head_lines_are state.heads known.0) tail)
+    let end = list_all-append is_line (map fields_written state.table) (map (slot_line v) state.records) ∙ and_from _ _ (entries_are state.table table.2) (slots_are v state.records known.records) in
+    let tail = more_lines_are (table_line (length state.table)) (map fields_written state.table ++ map (slot_line v) state.records) (time_lacks 10 (lit< tt) (length state.table) (lt-ltb (length state.table) (2 ^ 64) counts)) end in
+    more_lines_are (version_line v) (head_lines state.heads ++ (table_line (length state.table) ∷ (map fields_written state.table ++ map (slot_line v) state.records))) (version_lacks v refl)
+    (list_all-append is_line (head_lines state.heads) (table_line (length state.table) ∷ (map fields_written state.table ++ map (slot_line v) state.records)) ∙ and_from _ _ (head_lines_are state.heads known.heads) tail)

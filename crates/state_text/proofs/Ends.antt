@@ -13,11 +13,14 @@ use Rattle.text_lines.proofs.CutLemmas.{cut-append}
 use Rattle.init_words.specs.declared.entries.Entry.{Entry}
 use Rattle.init_words.specs.Actions.{word_of}
 use Rattle.init_words.specs.Ids.{is_id_byte}
+use Rattle.init_words.proofs.IdParts.{id_parts}
 use Rattle.inittab_text.proofs.Entries.{table_parts}
 use Rattle.inittab_text.proofs.WriteLemmas.{parts}
 use Rattle.inittab_text.specs.Written.{fields_written, is_written, levels_written}
 use Rattle.core_model.specs.declared.parts.Record.{Record}
 use Rattle.core_model.specs.Parts.{SavedState}
+use Rattle.state_text.specs.declared.versions.Version.{Version}
+use Rattle.state_text.specs.declared.versions.Version.TheVariants.{V1, V2}
 use Rattle.state_text.specs.Lines.{body_lines, end_line, slot_line, text_of_lines}
 use Rattle.state_text.specs.Range.{is_state}
 use Rattle.state_text.specs.Refused.{IsTextOf, Whole, is_line}
@@ -56,7 +59,7 @@ entry_inner : (e : Entry) → is_written e ≡ true → is_inner (fields_written
 entry_inner e written = by (starts_with ◌==◌ (fields_written e) (codes "end ")) refl
   where
     by : (b : Bool) → starts_with ◌==◌ (fields_written e) (codes "end ") ≡ b → not b ≡ true
-    by true starts = absurd (no_end e.id (levels_written e.act e.levels.items ++ 58 ∷ (word_of e.act ++ 58 ∷ e.process.items)) (drop 4 (fields_written e)) (and_parts _ (list_all is_id_byte e.id) (parts e written).id).1 ((starts_is Decides-eqb (fields_written e) (codes "end ") _ refl).0 starts))
+    by true starts = absurd (no_end e.id (levels_written e.act e.levels.items ++ 58 ∷ (word_of e.act ++ 58 ∷ e.process.items)) (drop 4 (fields_written e)) (id_parts e.id (parts e written).id).bytes ((starts_is Decides-eqb (fields_written e) (codes "end ") _ refl).0 starts))
     by false starts = refl
 
 entries_inner : (table : List Entry) → list_all is_written table ≡ true → list_all is_inner (map fields_written table) ≡ true
@@ -65,15 +68,20 @@ entries_inner (e ∷ table) are =
     let both = and_parts (is_written e) (list_all is_written table) are in
     and_from (is_inner (fields_written e)) (list_all is_inner (map fields_written table)) (entry_inner e both.0) (entries_inner table both.1)
 
-slots_inner : (records : List Record) → list_all is_inner (map slot_line records) ≡ true
-slots_inner [] = refl
-slots_inner (r ∷ records) = slots_inner records
+slots_inner : (v : Version) (records : List Record) → list_all is_inner (map (slot_line v) records) ≡ true
+slots_inner v [] = refl
+slots_inner V1 (r ∷ records) = slots_inner V1 records
+slots_inner V2 (r ∷ records) = slots_inner V2 records
 
-body_inner : (state : SavedState) → is_state state ≡ true → list_all is_inner (body_lines state) ≡ true
-body_inner state is =
-    let table = (table_parts state.table (state_parts state is).1).2 in
-    list_all-append is_inner (map fields_written state.table) (map slot_line state.records)
-    ∙ and_from (list_all is_inner (map fields_written state.table)) (list_all is_inner (map slot_line state.records)) (entries_inner state.table table) (slots_inner state.records)
+lines_inner : (v : Version) (state : SavedState) → is_state v state ≡ true → list_all is_inner (map fields_written state.table ++ map (slot_line v) state.records) ≡ true
+lines_inner v state is =
+    let table = (table_parts state.table (state_parts v state is).table).2 in
+    list_all-append is_inner (map fields_written state.table) (map (slot_line v) state.records)
+    ∙ and_from (list_all is_inner (map fields_written state.table)) (list_all is_inner (map (slot_line v) state.records)) (entries_inner state.table table) (slots_inner v state.records)
+
+body_inner : (v : Version) (state : SavedState) → is_state v state ≡ true → list_all is_inner (body_lines v state) ≡ true
+body_inner V1 state is = lines_inner V1 state is
+body_inner V2 state is = lines_inner V2 state is
 
 -- ---- the last line
 
@@ -135,5 +143,22 @@ pub whole_ends : (text front more : List ℕ) (state : SavedState) → IsTextOf 
 whole_ends text front more state says parts whole =
     let grouped : text_of_lines whole.lines ++ (whole.last ++ 10 ∷ more) ≡ front ++ more =
     sym (append_assoc (text_of_lines whole.lines) (whole.last ++ 10 ∷ []) more ∙ ap (λ t. text_of_lines whole.lines ++ t) (append_assoc whole.last (10 ∷ []) more)) ∙ ap (λ t. t ++ more) whole.whole in
-    at_end whole.lines (body_lines state) whole.last (end_line (length (body_lines state))) more whole.are_lines whole.is_last whole.begins (body_lines_are state says.0) (body_inner state says.0) (end_lacks (length (body_lines state)))
-    (grouped ∙ parts ∙ sym says.1 ∙ whole_text state)
+    let v = says.0 in
+    at_end whole.lines (body_lines v state) whole.last (end_line (length (body_lines v state))) more whole.are_lines whole.is_last whole.begins (body_lines_are v state says.1.0) (body_inner v state says.1.0) (end_lacks (length (body_lines v state)))
+    (grouped ∙ parts ∙ sym says.1.1 ∙ whole_text v state)
+
+-- a state's text is whole, so it is no proper prefix of another
+whole_state : (text : List ℕ) (state : SavedState) → IsTextOf text state → Whole text
+whole_state text state says =
+    let v = says.0 in
+    record {
+      lines = body_lines v state;
+      last = end_line (length (body_lines v state));
+      are_lines = body_lines_are v state says.1.0;
+      is_last = ap not (end_lacks (length (body_lines v state)));
+      begins = refl;
+      whole = sym (whole_text v state) ∙ says.1.1;
+    }
+
+pub no_prefix : (one two : SavedState) (text more : List ℕ) → IsTextOf text one → IsTextOf (text ++ more) two → more ≡ []
+no_prefix one two text more first second = whole_ends (text ++ more) text more two second refl (whole_state text one first)

@@ -66,7 +66,7 @@ pair_lacks byte mark okx wx oky wy other first second = λ p is.
     has_byte-append byte (wx p.0) (mark ∷ wy p.1) (first p.0 parts.0) (or_from (mark == byte) (has_byte byte (wy p.1)) other (second p.1 parts.1))
 
 -- a text behind a name and a byte
-behind_some : {P : Type 0} (name : List ℕ) (mark : ℕ) (text rest : List ℕ) → behind name mark text ≡ Some rest → (name ++ mark ∷ rest ≡ text → P) → P
+pub behind_some : {P : Type 0} (name : List ℕ) (mark : ℕ) (text rest : List ℕ) → behind name mark text ≡ Some rest → (name ++ mark ∷ rest ≡ text → P) → P
 behind_some {P} name mark text rest is next =
     option_and_then_some (λ (parts : List ℕ × List ℕ). cond (same_id parts.0 name) (Some parts.1) None) (cut mark text) rest is (λ parts at found. by parts at (same_id parts.0 name) refl found)
   where

@@ -1,26 +1,32 @@
 -- Each line of a state text is read exactly, and so are the heads, a record, and a table.
-use Rattle.std.proofs.Common.{◌≡◌, ◌⊎◌, inl, inr, ℕ, ◌<◌, Bool, true, false, not, ◌&&◌, ◌==◌, List, [], ◌∷◌, ◌++◌, nat_le, append-nil, codes, decimal, Option, Some, None, refl, sym, ap, ◌∙◌, arith, lit<}
-use Rattle.std.proofs.lemmas.Bool.{and_parts, and_from, eqb-true}
+use Rattle.std.proofs.Common.{◌≡◌, ◌⊎◌, inl, inr, ℕ, ◌<◌, Bool, true, false, not, ◌&&◌, ◌==◌, List, [], ◌∷◌, ◌++◌, nat_le, append-nil, codes, decimal, Option, Some, None, is_none, option_map, subst, refl, sym, ap, ◌∙◌, arith, lit<}
+use Rattle.std.proofs.lemmas.Bool.{and_parts, and_from, eqb-true, false≢true}
 use Rattle.std.proofs.lemmas.List.{append_assoc}
 use Rattle.text_lines.specs.Lines.{has_byte}
 use Rattle.init_words.specs.declared.actions.Act.{Act}
+use Rattle.init_words.specs.declared.children.Status.{Status}
 use Rattle.init_words.specs.declared.orders.Ask.{Ask}
 use Rattle.init_words.specs.declared.stages.Stage.{Stage}
 use Rattle.init_words.specs.Actions.{act_read, word_of}
 use Rattle.init_words.specs.Ids.{is_id}
 use Rattle.init_words.proofs.Tests.{and_false}
+use Rattle.inittab_text.proofs.ReadLemmas.{option_map_some}
 use Rattle.init_trace.specs.declared.steps.Goal.{Goal}
 use Rattle.init_trace.specs.Lines.{level_word, order_word, stage_word}
+use Rattle.init_trace.specs.Range.{is_status}
 use Rattle.init_trace.specs.Reading.{child_of_word, order_of_word, stage_of_word}
 use Rattle.core_model.specs.declared.parts.Heads.{Heads}
 use Rattle.core_model.specs.declared.parts.Record.{Record}
-use Rattle.state_text.specs.Lines.{bit, clock_line, flags_line, generation_line, goal_line, goal_word, head_lines, or_dash, or_word, slot_line, stage_line, starts_word, stop_word, text_of_lines, wish_line}
-use Rattle.state_text.specs.Range.{are_heads, are_starts, is_child, is_generation, is_goal, is_record, is_seconds, is_stage, is_stop, is_time, passes}
-use Rattle.state_text.specs.Reading.{FlagWords, LimitWords, MarkWords, PlaceWords, SlotWords, TimeWords, WishWords, clock_line_read, dash_read, flags_line_read, flags_read, four_bits, generation_line_read, generation_read, goal_line_read, goal_made, goal_read, heads_made, heads_read, limits_read, marks_read, named_read, one_bit, places_read, reread_read, slot_line_read, slot_made, slot_words_read, stage_line_read, stage_pair_read, line_read, then_read, stop_read, table_line_read, end_line_read, three_bits, time_read, times_read, two_bits, wish_line_read, wishes_read}
+use Rattle.state_text.specs.declared.versions.Version.{Version}
+use Rattle.state_text.specs.declared.versions.Version.TheVariants.{V1, V2}
+use Rattle.state_text.specs.Versions.{holds_id}
+use Rattle.state_text.specs.Lines.{bit, clock_line, flags_line, generation_line, goal_line, goal_word, head_lines, or_dash, or_word, slot_line, stage_line, starts_word, status_word, stop_word, text_of_lines, version_line, wish_line}
+use Rattle.state_text.specs.Range.{are_heads, are_starts, is_child, is_generation, is_goal, is_last, is_record, is_seconds, is_stage, is_stop, is_time, passes}
+use Rattle.state_text.specs.Reading.{EndWords, FlagWords, LimitWords, MarkWords, PlaceWords, SlotWords, TimeWords, WishWords, clock_line_read, dash_read, ends_read, without_status, status_read, starts_read, id_in_read, flags_line_read, flags_read, four_bits, generation_line_read, generation_read, goal_line_read, goal_made, goal_read, heads_made, heads_read, limits_read, marks_read, named_read, one_bit, places_read, reread_read, slot_line_read, slot_made, slot_words_read, stage_line_read, stage_pair_read, line_read, then_read, stop_read, table_line_read, end_line_read, three_bits, time_read, times_read, two_bits, version_of_line, version_read, wish_line_read, wishes_read}
 use Rattle.std.specs.List.{list_all}
 use Rattle.state_text.specs.Refused.{is_line}
 use Rattle.state_text.proofs.Forms.{Form, Front, Lacks, checked_form, first_bit_form, first_bit_lacks, line_front, made_form, made_front, named_form, or_form, or_lacks, pair_form, pair_lacks, retested, then_front}
-use Rattle.state_text.proofs.WordForms.{act_form, act_lacks, always, child_form, child_lacks, generation_form, id_form, id_lacks, level_form, level_lacks, level_lacks_colon, no_act, no_child, no_order, no_stage, no_stop, no_time, one_bit_form, one_bit_lacks, order_form, order_lacks, seconds_form, seconds_lacks, stage_form, stage_lacks, starts_form, starts_lacks, stop_form, stop_lacks, time_form, time_lacks}
+use Rattle.state_text.proofs.WordForms.{act_form, act_lacks, always, child_form, child_lacks, generation_form, id_in_form, id_in_lacks, level_form, level_lacks, level_lacks_colon, no_act, no_child, no_order, no_stage, no_status, no_stop, no_time, one_bit_form, one_bit_lacks, order_form, order_lacks, seconds_form, seconds_lacks, stage_form, stage_lacks, starts_form, starts_lacks, status_form, status_lacks, stop_form, stop_lacks, time_form, time_lacks, version_form, version_lacks}
 
 -- a byte that sets words or lines apart
 abbrev Plain : ℕ → Type 0
@@ -247,54 +253,89 @@ time_or_lacks byte is = or_lacks byte (codes "-") is_time decimal (dash_plain by
 child_or_lacks : (byte : ℕ) → Plain byte → Lacks byte (passes is_child) (or_dash decimal)
 child_or_lacks byte is = or_lacks byte (codes "-") is_child decimal (dash_plain byte is) (child_lacks byte (lower byte is))
 
-abbrev is_limits : LimitWords → Bool
-is_limits w = passes is_time w.0 && are_starts w.1
+dashed_status : Form (passes is_status) (or_dash status_word) (dash_read status_read)
+dashed_status = or_form (codes "-") is_status status_word status_read no_status status_form
 
-abbrev limit_words : LimitWords → List ℕ
-limit_words w = or_dash decimal w.0 ++ 32 ∷ starts_word w.1
+status_or_lacks : (byte : ℕ) → Plain byte → Lacks byte (passes is_status) (or_dash status_word)
+status_or_lacks byte is = or_lacks byte (codes "-") is_status status_word (dash_plain byte is) (status_lacks byte is)
 
-limits_form : Form is_limits limit_words limits_read
-limits_form = pair_form 32 _ _ _ _ _ _ dashed_time (time_or_lacks 32 blank) starts_form
+-- its last starts, and how the last child ended
+abbrev is_ends : Version → EndWords → Bool
+is_ends v w = are_starts w.0 && is_last v w.1
 
-abbrev is_marks : MarkWords → Bool
-is_marks w = passes is_stop w.0 && is_limits w.1.1
+abbrev end_words : Version → EndWords → List ℕ
+end_words V1 w = starts_word w.0
+end_words V2 w = starts_word w.0 ++ 32 ∷ or_dash status_word w.1
 
-abbrev mark_words : MarkWords → List ℕ
-mark_words w = or_dash stop_word w.0 ++ 32 ∷ (four_word w.1.0 ++ 32 ∷ limit_words w.1.1)
+old_back : (starts : List ℕ) (last : Option Status) → are_starts starts ≡ true → is_none last ≡ true → option_map without_status (starts_read (starts_word starts)) ≡ Some (starts, last)
+old_back starts None are none = ap (option_map without_status) (starts_form.back starts are)
+old_back starts (Some status) are none = absurd (false≢true none)
 
-marks_form : Form is_marks mark_words marks_read
-marks_form = pair_form 32 _ _ _ _ _ _ dashed_stop (stop_or_lacks 32 blank) (pair_form 32 _ _ _ _ _ _ four_form (four_lacks 32 blank) limits_form)
+ends_form : (v : Version) → Form (is_ends v) (end_words v) (ends_read v)
+ends_form V1 = record {
+  back = λ w is. let parts = and_parts (are_starts w.0) (is_none w.1) is in old_back w.0 w.1 parts.0 parts.1;
+  own = λ text w is. option_map_some without_status (starts_read text) w is (λ starts found this.
+      let own = starts_form.own text starts found in
+      subst (λ (q : EndWords). (starts_word q.0 ≡ text) × (are_starts q.0 && is_none q.1 ≡ true)) this (own.0, and_from (are_starts starts) true own.1 refl));
+}
+ends_form V2 = pair_form 32 _ _ _ _ _ _ starts_form (starts_lacks 32 blank) dashed_status
 
-abbrev is_slot : SlotWords → Bool
-is_slot w = is_id w.0 && (passes is_child w.1.0 && is_marks w.1.1.1.1)
+ends_lacks : (v : Version) → Lacks 10 (is_ends v) (end_words v)
+ends_lacks V1 = λ w is. starts_lacks 10 newline w.0 (and_parts (are_starts w.0) (is_none w.1) is).0
+ends_lacks V2 = pair_lacks 10 32 are_starts starts_word (passes is_status) (or_dash status_word) refl (starts_lacks 10 newline) (status_or_lacks 10 newline)
 
-abbrev slot_words : SlotWords → List ℕ
-slot_words w = w.0 ++ 32 ∷ (or_dash decimal w.1.0 ++ 32 ∷ (or_dash word_of w.1.1.0 ++ 32 ∷ (or_dash order_word w.1.1.1.0 ++ 32 ∷ mark_words w.1.1.1.1)))
+module _ (v : Version) where
+  abbrev is_limits : LimitWords → Bool
+  is_limits w = passes is_time w.0 && is_ends v w.1
 
-slot_words_form : Form is_slot slot_words slot_words_read
-slot_words_form =
-    pair_form 32 _ _ _ _ _ _ id_form (id_lacks 32 (lit< tt))
-    (pair_form 32 _ _ _ _ _ _ dashed_child (child_or_lacks 32 blank)
-    (pair_form 32 _ _ _ _ _ _ dashed_act (act_or_lacks 32 blank)
-    (pair_form 32 _ _ _ _ _ _ dashed_order (order_or_lacks 32 blank) marks_form)))
+  abbrev limit_words : LimitWords → List ℕ
+  limit_words w = or_dash decimal w.0 ++ 32 ∷ end_words v w.1
 
-limits_lacks : Lacks 10 is_limits limit_words
-limits_lacks = pair_lacks 10 32 (passes is_time) (or_dash decimal) are_starts starts_word refl (time_or_lacks 10 newline) (starts_lacks 10 newline)
+  limits_form : Form is_limits limit_words (limits_read v)
+  limits_form = pair_form 32 _ _ _ _ _ _ dashed_time (time_or_lacks 32 blank) (ends_form v)
 
-marks_lacks : Lacks 10 is_marks mark_words
-marks_lacks =
-    pair_lacks 10 32 (passes is_stop) (or_dash stop_word) (λ (p : Four × LimitWords). is_limits p.1) (λ p. four_word p.0 ++ 32 ∷ limit_words p.1) refl (stop_or_lacks 10 newline)
-    (pair_lacks 10 32 (λ (p : Four). true) four_word is_limits limit_words refl (four_lacks 10 newline) limits_lacks)
+  abbrev is_marks : MarkWords → Bool
+  is_marks w = passes is_stop w.0 && is_limits w.1.1
 
-slot_words_lacks : Lacks 10 is_slot slot_words
-slot_words_lacks =
-    pair_lacks 10 32 is_id (λ id. id) (λ (p : Option ℕ × (Option Act × (Option Ask × MarkWords))). passes is_child p.0 && is_marks p.1.1.1) (λ p. or_dash decimal p.0 ++ 32 ∷ (or_dash word_of p.1.0 ++ 32 ∷ (or_dash order_word p.1.1.0 ++ 32 ∷ mark_words p.1.1.1))) refl (id_lacks 10 (lit< tt))
-    (pair_lacks 10 32 (passes is_child) (or_dash decimal) (λ (p : Option Act × (Option Ask × MarkWords)). is_marks p.1.1) (λ p. or_dash word_of p.0 ++ 32 ∷ (or_dash order_word p.1.0 ++ 32 ∷ mark_words p.1.1)) refl (child_or_lacks 10 newline)
-    (pair_lacks 10 32 always (or_dash word_of) (λ (p : Option Ask × MarkWords). is_marks p.1) (λ p. or_dash order_word p.0 ++ 32 ∷ mark_words p.1) refl (act_or_lacks 10 newline)
-    (pair_lacks 10 32 always (or_dash order_word) is_marks mark_words refl (order_or_lacks 10 newline) marks_lacks)))
+  abbrev mark_words : MarkWords → List ℕ
+  mark_words w = or_dash stop_word w.0 ++ 32 ∷ (four_word w.1.0 ++ 32 ∷ limit_words w.1.1)
+
+  marks_form : Form is_marks mark_words (marks_read v)
+  marks_form = pair_form 32 _ _ _ _ _ _ dashed_stop (stop_or_lacks 32 blank) (pair_form 32 _ _ _ _ _ _ four_form (four_lacks 32 blank) limits_form)
+
+  abbrev is_own : List ℕ → Bool
+  is_own id = is_id id && holds_id v id
+
+  abbrev is_slot : SlotWords → Bool
+  is_slot w = is_own w.0 && (passes is_child w.1.0 && is_marks w.1.1.1.1)
+
+  abbrev slot_words : SlotWords → List ℕ
+  slot_words w = w.0 ++ 32 ∷ (or_dash decimal w.1.0 ++ 32 ∷ (or_dash word_of w.1.1.0 ++ 32 ∷ (or_dash order_word w.1.1.1.0 ++ 32 ∷ mark_words w.1.1.1.1)))
+
+  slot_words_form : Form is_slot slot_words (slot_words_read v)
+  slot_words_form =
+      pair_form 32 _ _ _ _ _ _ (id_in_form v) (id_in_lacks v 32 (lit< tt))
+      (pair_form 32 _ _ _ _ _ _ dashed_child (child_or_lacks 32 blank)
+      (pair_form 32 _ _ _ _ _ _ dashed_act (act_or_lacks 32 blank)
+      (pair_form 32 _ _ _ _ _ _ dashed_order (order_or_lacks 32 blank) marks_form)))
+
+  limits_lacks : Lacks 10 is_limits limit_words
+  limits_lacks = pair_lacks 10 32 (passes is_time) (or_dash decimal) (is_ends v) (end_words v) refl (time_or_lacks 10 newline) (ends_lacks v)
+
+  marks_lacks : Lacks 10 is_marks mark_words
+  marks_lacks =
+      pair_lacks 10 32 (passes is_stop) (or_dash stop_word) (λ (p : Four × LimitWords). is_limits p.1) (λ p. four_word p.0 ++ 32 ∷ limit_words p.1) refl (stop_or_lacks 10 newline)
+      (pair_lacks 10 32 (λ (p : Four). true) four_word is_limits limit_words refl (four_lacks 10 newline) limits_lacks)
+
+  slot_words_lacks : Lacks 10 is_slot slot_words
+  slot_words_lacks =
+      pair_lacks 10 32 is_own (λ id. id) (λ (p : Option ℕ × (Option Act × (Option Ask × MarkWords))). passes is_child p.0 && is_marks p.1.1.1) (λ p. or_dash decimal p.0 ++ 32 ∷ (or_dash word_of p.1.0 ++ 32 ∷ (or_dash order_word p.1.1.0 ++ 32 ∷ mark_words p.1.1.1))) refl (id_in_lacks v 10 (lit< tt))
+      (pair_lacks 10 32 (passes is_child) (or_dash decimal) (λ (p : Option Act × (Option Ask × MarkWords)). is_marks p.1.1) (λ p. or_dash word_of p.0 ++ 32 ∷ (or_dash order_word p.1.0 ++ 32 ∷ mark_words p.1.1)) refl (child_or_lacks 10 newline)
+      (pair_lacks 10 32 always (or_dash word_of) (λ (p : Option Ask × MarkWords). is_marks p.1) (λ p. or_dash order_word p.0 ++ 32 ∷ mark_words p.1) refl (act_or_lacks 10 newline)
+      (pair_lacks 10 32 always (or_dash order_word) is_marks mark_words refl (order_or_lacks 10 newline) marks_lacks)))
 
 abbrev slot_parts : Record → SlotWords
-slot_parts r = (r.id, (r.child, (r.act, (r.order, (r.stop, ((r.asked, (r.called, (r.look, r.missed))), (r.held_until, r.starts.items)))))))
+slot_parts r = (r.id, (r.child, (r.act, (r.order, (r.stop, ((r.asked, (r.called, (r.look, r.missed))), (r.held_until, (r.starts.items, r.last))))))))
 
 five_tests : (a b c d e : Bool) → a && (b && (c && (d && e))) ≡ a && b && c && d && e
 five_tests false b c d e = refl
@@ -303,19 +344,27 @@ five_tests true true false d e = refl
 five_tests true true true false e = refl
 five_tests true true true true e = refl
 
-slot_tested : (r : Record) → is_slot (slot_parts r) ≡ is_record r
-slot_tested r = five_tests (is_id r.id) (passes is_child r.child) (passes is_stop r.stop) (passes is_time r.held_until) (are_starts r.starts.items)
+slot_tested : (v : Version) (r : Record) → is_slot v (slot_parts r) ≡ is_record v r
+slot_tested v r = five_tests (is_id r.id && holds_id v r.id) (passes is_child r.child) (passes is_stop r.stop) (passes is_time r.held_until) (are_starts r.starts.items && is_last v r.last)
 
-pub slot_line_form : Form is_record slot_line slot_line_read
-slot_line_form =
-    made_form slot_made slot_parts is_slot is_record (λ w. codes "slot" ++ 32 ∷ slot_words w) slot_line (named_read (codes "slot") 32 slot_words_read) (λ w. refl) (λ r. refl) slot_tested (λ r. refl)
-    (named_form (codes "slot") 32 is_slot slot_words slot_words_read refl slot_words_form)
+slot_written : (v : Version) (r : Record) → codes "slot" ++ 32 ∷ slot_words v (slot_parts r) ≡ slot_line v r
+slot_written V1 r = refl
+slot_written V2 r = refl
 
-pub slot_line_lacks : Lacks 10 is_record slot_line
-slot_line_lacks = λ r is. slot_words_lacks (slot_parts r) (slot_tested r ∙ is)
+pub slot_line_form : (v : Version) → Form (is_record v) (slot_line v) (slot_line_read v)
+slot_line_form v =
+    made_form slot_made slot_parts (is_slot v) (is_record v) (λ w. codes "slot" ++ 32 ∷ slot_words v w) (slot_line v) (named_read (codes "slot") 32 (slot_words_read v)) (λ w. refl) (λ r. refl) (slot_tested v) (slot_written v)
+    (named_form (codes "slot") 32 (is_slot v) (slot_words v) (slot_words_read v) refl (slot_words_form v))
 
-pub slot_front : Front is_record (λ r. slot_line r ++ 10 ∷ []) (line_read slot_line_read)
-slot_front = line_front is_record slot_line slot_line_read slot_line_form slot_line_lacks
+pub slot_line_lacks : (v : Version) → Lacks 10 (is_record v) (slot_line v)
+slot_line_lacks v = λ r is. subst (λ line. has_byte 10 line ≡ false) (slot_written v r) (slot_words_lacks v (slot_parts r) (slot_tested v r ∙ is))
+
+pub slot_front : (v : Version) → Front (is_record v) (λ r. slot_line v r ++ 10 ∷ []) (line_read (slot_line_read v))
+slot_front v = line_front (is_record v) (slot_line v) (slot_line_read v) (slot_line_form v) (slot_line_lacks v)
+
+-- the first line
+pub version_front : Front always (λ v. version_line v ++ 10 ∷ []) version_read
+version_front = line_front always version_line version_of_line version_form version_lacks
 
 -- no newline stands in a line
 pub more_lines_are : (line : List ℕ) (lines : List (List ℕ)) → has_byte 10 line ≡ false → list_all is_line lines ≡ true → list_all is_line (line ∷ lines) ≡ true

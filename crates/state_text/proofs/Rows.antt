@@ -1,7 +1,8 @@
--- The text of a state: no entry, and one child that is to be stopped, with a signal under way.
+-- The text of a state: no entry, and one child that is to be stopped, with a signal under way; and as version 1 says it.
 use Rattle.std.proofs.Common.{◌≡◌, refl, true, false, [], ◌∷◌, codes, Some, None, lit<}
 use Rattle.std.proofs.lemmas.Fmt.{decimal_digit}
 use Rattle.init_words.specs.declared.actions.Act.TheVariants as act
+use Rattle.init_words.specs.declared.children.Status.TheVariants.{Exit}
 use Rattle.init_words.specs.declared.levels.Level.TheVariants as level
 use Rattle.init_words.specs.declared.orders.Ask.TheVariants.{Term}
 use Rattle.init_words.specs.declared.stages.Stage.TheVariants as stage
@@ -10,7 +11,8 @@ use Rattle.core_model.specs.News.{no_news}
 use Rattle.core_model.specs.declared.parts.Heads.{Heads}
 use Rattle.core_model.specs.declared.parts.Record.{Record}
 use Rattle.core_model.specs.Parts.{SavedState}
-use Rattle.state_text.specs.Lines.{state_text}
+use Rattle.state_text.specs.declared.versions.Version.TheVariants.{V1}
+use Rattle.state_text.specs.Lines.{state_text, text_in}
 
 abbrev left : Record
 left = record {
@@ -25,6 +27,7 @@ left = record {
   missed = false;
   held_until = None;
   starts = record { items = [] };
+  last = Some (Exit 1);
 }
 
 abbrev heads : Heads
@@ -45,5 +48,8 @@ heads = record {
 abbrev example : SavedState
 example = record { heads = heads; table = []; records = left ∷ [] }
 
-example_text : state_text example ≡ codes "initd-state 1\ngeneration 1\nclock 0\nstage 3 5\ngoal 3 5\nflags 10\nwish 10 S:5 000 000\ntable 0\nslot a 7 once term due 0010 - -\nend 9\n"
+example_text : state_text example ≡ codes "initd-state 2\ngeneration 1\nclock 0\nstage 3 5\ngoal 3 5\nflags 10\nwish 10 S:5 000 000\ntable 0\nslot a 7 once term due 0010 - - exit:1\nend 9\n"
 example_text = rw (decimal_digit 1 (lit< tt), decimal_digit 0 (lit< tt), decimal_digit 5 (lit< tt), decimal_digit 7 (lit< tt), decimal_digit 9 (lit< tt)) refl
+
+old_text : text_in V1 example ≡ codes "initd-state 1\ngeneration 1\nclock 0\nstage 3 5\ngoal 3 5\nflags 10\nwish 10 S:5 000 000\ntable 0\nslot a 7 once term due 0010 - -\nend 9\n"
+old_text = rw (decimal_digit 1 (lit< tt), decimal_digit 0 (lit< tt), decimal_digit 5 (lit< tt), decimal_digit 7 (lit< tt), decimal_digit 9 (lit< tt)) refl

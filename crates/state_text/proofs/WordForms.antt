@@ -13,9 +13,11 @@ use Rattle.text_lines.proofs.PieceLemmas.{pieces_of-joined}
 use Rattle.text_lines.proofs.NumberLemmas.{number_read-decimal, decimal-number_read, decimal-lacks}
 use Rattle.init_words.specs.declared.actions.Act.{Act}
 use Rattle.init_words.specs.declared.actions.Act.TheVariants as act
+use Rattle.init_words.specs.declared.children.Status.{Status}
+use Rattle.init_words.specs.declared.children.Status.TheVariants.{Exit, Killed as KilledBySignal}
 use Rattle.init_words.specs.declared.levels.Level.{Level}
 use Rattle.init_words.specs.declared.levels.Level.TheVariants.{L0, L1, L2, L3, L4, L5, L6, L7, L8, L9, S}
-use Rattle.init_words.specs.declared.ids.TheConstants.{ID_LIMIT}
+use Rattle.init_words.proofs.IdParts.{id_parts}
 use Rattle.init_words.specs.declared.limits.TheConstants.{GRACE_LIMIT}
 use Rattle.init_words.specs.declared.orders.Ask.{Ask}
 use Rattle.init_words.specs.declared.orders.Ask.TheVariants.{Start, Look, Term, Kill}
@@ -27,16 +29,20 @@ use Rattle.init_words.proofs.Same.{same_id-is}
 use Rattle.inittab_text.proofs.ReadLemmas.{option_map_some}
 use Rattle.inittab_text.proofs.WriteLemmas.{act_back}
 use Rattle.init_trace.specs.Lines.{level_word, order_word, stage_word}
-use Rattle.init_trace.specs.Reading.{level_of_word, order_of_word, seconds_of_word, stage_of_word, child_of_word}
+use Rattle.init_trace.specs.Range.{is_status}
+use Rattle.init_trace.specs.Reading.{level_of_word, order_of_word, seconds_of_word, stage_of_word, child_of_word, code_of_word}
 use Rattle.init_trace.proofs.LineTexts.{lacks_low, level_back, order_back, stage_back}
 use Rattle.init_trace.proofs.LineWords.{both_some, choice, id_own, level_own, named, nothing, order_own, stage_own}
 use Rattle.respawn_limit.specs.declared.TheConstants.{STARTS}
 use Rattle.child_table.specs.declared.children.Stop.{Stop}
 use Rattle.child_table.specs.declared.children.Stop.TheVariants.{Due, Termed, Killed}
-use Rattle.state_text.specs.Lines.{bit, starts_word, stop_word}
+use Rattle.state_text.specs.declared.versions.Version.{Version}
+use Rattle.state_text.specs.declared.versions.Version.TheVariants.{V1, V2}
+use Rattle.state_text.specs.Versions.{holds_id}
+use Rattle.state_text.specs.Lines.{bit, starts_word, status_word, stop_word, version_line}
 use Rattle.state_text.specs.Range.{are_starts, is_child, is_generation, is_seconds, is_stop, is_time}
-use Rattle.state_text.specs.Reading.{all_read, generation_read, one_bit, signal_read, starts_read, stop_read, time_read}
-use Rattle.state_text.proofs.Forms.{Form, Lacks, bit_lacks, bit_own, checked_form, checked_some}
+use Rattle.state_text.specs.Reading.{all_read, behind, generation_read, id_in_read, one_bit, signal_read, starts_read, status_read, stop_read, time_read, version_of_line}
+use Rattle.state_text.proofs.Forms.{Form, Lacks, behind_some, bit_lacks, bit_own, checked_form, checked_some}
 
 -- numbers
 below : (limit n : ℕ) → limit ≤ 2 ^ 64 → nat_lt n limit ≡ true → n < 2 ^ 64
@@ -171,7 +177,34 @@ pub id_form : Form is_id (λ id. id) id_read
 id_form = record { back = λ id is. rw is refl; own = id_own }
 
 pub id_lacks : (byte : ℕ) → byte < 33 → Lacks byte is_id (λ id. id)
-id_lacks byte low = λ id is. lacks_low byte id low (and_parts (nat_le 1 (length id) && nat_le (length id) ID_LIMIT && not (slice_index id 0 == 35)) (list_all is_id_byte id) is).1
+id_lacks byte low = λ id is. lacks_low byte id low (id_parts id is).bytes
+
+-- ids, as long as a version has them
+pub id_in_form : (v : Version) → Form (λ id. is_id id && holds_id v id) (λ id. id) (id_in_read v)
+id_in_form v = checked_form (holds_id v) is_id (λ id. id) id_read id_form
+
+pub id_in_lacks : (v : Version) (byte : ℕ) → byte < 33 → Lacks byte (λ id. is_id id && holds_id v id) (λ id. id)
+id_in_lacks v byte low = λ id is. id_lacks byte low id (and_parts (is_id id) (holds_id v id) is).0
+
+-- versions
+version_line_back : (v : Version) → version_of_line (version_line v) ≡ Some v
+version_line_back V1 = refl
+version_line_back V2 = refl
+
+version_line_own : (word : List ℕ) (v : Version) → version_of_line word ≡ Some v → (version_line v ≡ word) × (true ≡ true)
+version_line_own word v is =
+    named word (version_line V1) _ _ v is (λ same made. let this : V1 ≡ v = same_Some V1 v made in subst (λ k. (version_line k ≡ word) × (true ≡ true)) this (sym same, refl)) (λ is.
+    named word (version_line V2) _ _ v is (λ same made. let this : V2 ≡ v = same_Some V2 v made in subst (λ k. (version_line k ≡ word) × (true ≡ true)) this (sym same, refl)) (nothing v))
+
+pub version_form : Form always version_line version_of_line
+version_form = record { back = λ v is. version_line_back v; own = version_line_own }
+
+no_newline : (v : Version) → has_byte 10 (version_line v) ≡ false
+no_newline V1 = refl
+no_newline V2 = refl
+
+pub version_lacks : Lacks 10 always version_line
+version_lacks = λ v is. no_newline v
 
 -- one bit
 one_bit_back : (flag : Bool) → one_bit (bit flag ∷ []) ≡ Some flag
@@ -228,6 +261,39 @@ stop_plain byte is (Killed time) good = elim is [ inl e ↦ subst (λ b. has_byt
 
 pub stop_lacks : (byte : ℕ) → (byte ≡ 10) ⊎ (byte ≡ 32) → Lacks byte is_stop stop_word
 stop_lacks byte is = λ stop good. stop_plain byte is stop good
+
+-- how a child ended
+code_form : Form (λ n. nat_lt n 256) decimal (number_read 256)
+code_form = number_form 256 (lit< tt)
+
+code_lacks : (byte : ℕ) → byte < 48 → Lacks byte (λ n. nat_lt n 256) decimal
+code_lacks byte low = number_lacks byte 256 low (lit< tt)
+
+status_back : (status : Status) → is_status status ≡ true → status_read (status_word status) ≡ Some status
+status_back (Exit code) is = rw (code_form.back code is) refl
+status_back KilledBySignal is = refl
+
+status_own : (word : List ℕ) (status : Status) → status_read word ≡ Some status → (status_word status ≡ word) × (is_status status ≡ true)
+status_own word status is =
+    named word (codes "killed") _ _ status is (λ same made. let this : KilledBySignal ≡ status = same_Some KilledBySignal status made in subst (λ s. (status_word s ≡ word) × (is_status s ≡ true)) this (sym same, refl)) (λ is.
+    option_and_then_some code_of_word (behind (codes "exit") 58 word) status is (λ rest at found.
+    behind_some (codes "exit") 58 word rest at (λ whole.
+    option_map_some Exit (number_read 256 rest) status found (λ code was this.
+    let own = code_form.own rest code was in
+    subst (λ s. (status_word s ≡ word) × (is_status s ≡ true)) this (ap (λ t. codes "exit" ++ 58 ∷ t) own.0 ∙ whole, own.1)))))
+
+pub status_form : Form is_status status_word status_read
+status_form = record { back = status_back; own = status_own }
+
+pub no_status : status_read (codes "-") ≡ None
+no_status = refl
+
+status_plain : (byte : ℕ) → (byte ≡ 10) ⊎ (byte ≡ 32) → (status : Status) → is_status status ≡ true → has_byte byte (status_word status) ≡ false
+status_plain byte is (Exit code) good = elim is [ inl e ↦ subst (λ b. has_byte b (status_word (Exit code)) ≡ false) (sym e) (code_lacks 10 (lit< tt) code good) | inr e ↦ subst (λ b. has_byte b (status_word (Exit code)) ≡ false) (sym e) (code_lacks 32 (lit< tt) code good) ]
+status_plain byte is KilledBySignal good = elim is [ inl e ↦ rw e refl | inr e ↦ rw e refl ]
+
+pub status_lacks : (byte : ℕ) → (byte ≡ 10) ⊎ (byte ≡ 32) → Lacks byte is_status status_word
+status_lacks byte is = λ status good. status_plain byte is status good
 
 -- actions
 found_word : (word : List ℕ) (among : List Act) (a : Act) → find (λ b. bytes_eq (word_of b) word) among ≡ Some a → word_of a ≡ word

@@ -6,6 +6,7 @@ use Rattle.std.proofs.lemmas.List.{append_assoc, length-map}
 use Rattle.init_words.specs.declared.entries.Entry.{Entry}
 use Rattle.inittab_text.specs.Written.{fields_written, text_of}
 use Rattle.core_model.specs.Parts.{SavedState}
+use Rattle.state_text.specs.declared.versions.Version.{Version}
 use Rattle.state_text.specs.Lines.{body_lines, slot_line, starts_word, table_line, text_of_lines}
 
 -- times with commas between them
@@ -48,6 +49,6 @@ table_part old new count table is =
     is ∙ ap (λ t. old ++ (text_of_lines (table_line count ∷ []) ++ t)) (table_lines table) ∙ ap (λ t. old ++ t) (sym (text_of_lines-append (table_line count ∷ []) (map fields_written table)))
 
 -- how many lines stand before the last
-pub body_length : (state : SavedState) → length (body_lines state) ≡ 8 + length state.table + length state.records
-body_length state =
-    omega (arith, length-append (map fields_written state.table) (map slot_line state.records), length-map state.table fields_written, length-map state.records slot_line)
+pub body_length : (v : Version) (state : SavedState) → length (body_lines v state) ≡ 8 + length state.table + length state.records
+body_length v state =
+    omega (arith, length-append (map fields_written state.table) (map (slot_line v) state.records), length-map state.table fields_written, length-map state.records (slot_line v))

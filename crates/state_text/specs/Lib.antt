@@ -2,3 +2,4 @@ pub mod Lines
 pub mod Range
 pub mod Reading
 pub mod Refused
+pub mod Versions

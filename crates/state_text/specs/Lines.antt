@@ -1,6 +1,8 @@
--- The text of a state (telinit(8)): its lines, and the words of each line, set apart by single blanks.
+-- The text of a state (telinit(8)), by its version: its lines, and the words of each line, set apart by single blanks.
 use Rattle.std.specs.Prelude.{ℕ, Bool, if◌then◌else◌, List, [], ◌∷◌, ◌++◌, map, length, codes, decimal, Option, Some, None}
 use Rattle.std.specs.List.{flat_map, join_with_byte}
+use Rattle.init_words.specs.declared.children.Status.{Status}
+use Rattle.init_words.specs.declared.children.Status.TheVariants.{Exit, Killed as KilledBySignal}
 use Rattle.init_words.specs.declared.stages.Stage.{Stage}
 use Rattle.init_words.specs.Actions.{word_of}
 use Rattle.inittab_text.specs.Written.{fields_written}
@@ -12,6 +14,8 @@ use Rattle.core_model.specs.declared.news.News.{News}
 use Rattle.core_model.specs.declared.parts.Heads.{Heads}
 use Rattle.core_model.specs.declared.parts.Record.{Record}
 use Rattle.core_model.specs.Parts.{SavedState}
+use Rattle.state_text.specs.declared.versions.Version.{Version}
+use Rattle.state_text.specs.declared.versions.Version.TheVariants.{V1, V2}
 
 -- a yes or no; some of them in a row
 abbrev pub bit : Bool → ℕ
@@ -41,6 +45,11 @@ stop_word Due = codes "due"
 stop_word (Termed time) = codes "term" ++ 58 ∷ decimal time
 stop_word (Killed time) = codes "kill" ++ 58 ∷ decimal time
 
+-- how a child ended
+abbrev pub status_word : Status → List ℕ
+status_word (Exit code) = codes "exit" ++ 58 ∷ decimal code
+status_word KilledBySignal = codes "killed"
+
 -- readings, joined by commas
 abbrev pub starts_word : List ℕ → List ℕ
 starts_word [] = codes "-"
@@ -50,8 +59,9 @@ starts_word (time ∷ times) = join_with_byte 44 (map decimal (time ∷ times))
 abbrev pub spaced : List (List ℕ) → List ℕ
 spaced words = join_with_byte 32 words
 
-abbrev pub version_line : List ℕ
-version_line = codes "initd-state 1"
+abbrev pub version_line : Version → List ℕ
+version_line V1 = codes "initd-state 1"
+version_line V2 = codes "initd-state 2"
 
 abbrev pub generation_line : ℕ → List ℕ
 generation_line generation = spaced (codes "generation" ∷ decimal generation ∷ [])
@@ -95,29 +105,38 @@ table_line count = spaced (codes "table" ∷ decimal count ∷ [])
 abbrev pub slot_flags : Record → List Bool
 slot_flags kept = kept.asked ∷ kept.called ∷ kept.look ∷ kept.missed ∷ []
 
-abbrev pub slot_line : Record → List ℕ
-slot_line kept =
-    spaced (codes "slot" ∷ kept.id ∷ or_dash decimal kept.child ∷ or_dash word_of kept.act
+-- the words of a record; version 2 has how the last child ended behind them
+abbrev pub record_words : Record → List (List ℕ)
+record_words kept =
+    codes "slot" ∷ kept.id ∷ or_dash decimal kept.child ∷ or_dash word_of kept.act
     ∷ or_dash order_word kept.order ∷ or_dash stop_word kept.stop ∷ bits (slot_flags kept)
-    ∷ or_dash decimal kept.held_until ∷ starts_word kept.starts.items ∷ [])
+    ∷ or_dash decimal kept.held_until ∷ starts_word kept.starts.items ∷ []
+
+abbrev pub slot_line : Version → Record → List ℕ
+slot_line V1 kept = spaced (record_words kept)
+slot_line V2 kept = spaced (record_words kept ++ or_dash status_word kept.last ∷ [])
 
 abbrev pub end_line : ℕ → List ℕ
 end_line count = spaced (codes "end" ∷ decimal count ∷ [])
 
 -- the lines of a state before its last: the version, the heads, how many entries the table has and a line of
 -- inittab(5) for each, and a line for each record
-abbrev pub body_lines : SavedState → List (List ℕ)
-body_lines state =
-    version_line ∷ (head_lines state.heads ++ (table_line (length state.table)
-    ∷ (map fields_written state.table ++ map slot_line state.records)))
+abbrev pub body_lines : Version → SavedState → List (List ℕ)
+body_lines version state =
+    version_line version ∷ (head_lines state.heads ++ (table_line (length state.table)
+    ∷ (map fields_written state.table ++ map (slot_line version) state.records)))
 
 -- the lines of a state: the last one counts those before it
-abbrev pub state_lines : SavedState → List (List ℕ)
-state_lines state = body_lines state ++ end_line (length (body_lines state)) ∷ []
+abbrev pub state_lines : Version → SavedState → List (List ℕ)
+state_lines version state = body_lines version state ++ end_line (length (body_lines version state)) ∷ []
 
 -- lines, each ended by a newline
 abbrev pub text_of_lines : List (List ℕ) → List ℕ
 text_of_lines lines = flat_map (λ line. line ++ 10 ∷ []) lines
 
+abbrev pub text_in : Version → SavedState → List ℕ
+text_in version state = text_of_lines (state_lines version state)
+
+-- the text as it is written
 abbrev pub state_text : SavedState → List ℕ
-state_text state = text_of_lines (state_lines state)
+state_text state = text_in V2 state

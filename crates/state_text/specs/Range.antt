@@ -1,12 +1,14 @@
--- The states that a text can say: their numbers and their table are in range, a generation is one at least, no grace
--- stands before the first stage, and no wish for another re-execution.
-use Rattle.std.specs.Prelude.{ℕ, Bool, true, not, ◌==◌, ◌^◌, ◌+◌, ◌&&◌, nat_le, nat_lt, List, length, Option, Some, None}
+-- The states that a text of a version can say: their numbers and their table are in range, a generation is one at
+-- least, no grace stands before the first stage, and no wish for another re-execution.
+use Rattle.std.specs.Prelude.{ℕ, Bool, true, not, ◌==◌, ◌^◌, ◌+◌, ◌&&◌, nat_le, nat_lt, List, length, Option, Some, None, is_none}
 use Rattle.std.specs.List.{list_all}
+use Rattle.init_words.specs.declared.children.Status.{Status}
 use Rattle.init_words.specs.declared.limits.TheConstants.{GRACE_LIMIT}
 use Rattle.init_words.specs.declared.stages.Stage.{Stage}
 use Rattle.init_words.specs.Ids.{is_id}
 use Rattle.inittab_text.specs.Written.{is_table}
 use Rattle.init_trace.specs.declared.steps.Goal.{Goal}
+use Rattle.init_trace.specs.Range.{is_status}
 use Rattle.respawn_limit.specs.declared.TheConstants.{STARTS}
 use Rattle.child_table.specs.declared.children.Stop.{Stop}
 use Rattle.child_table.specs.declared.children.Stop.TheVariants.{Due, Termed, Killed}
@@ -15,6 +17,9 @@ use Rattle.core_model.specs.declared.parts.Record.{Record}
 use Rattle.child_table.specs.State.{SlotState, child_number}
 use Rattle.core_model.specs.Parts.{SavedState}
 use Rattle.core_model.specs.State.{CoreState}
+use Rattle.state_text.specs.declared.versions.Version.{Version}
+use Rattle.state_text.specs.declared.versions.Version.TheVariants.{V1, V2}
+use Rattle.state_text.specs.Versions.{holds_id, holds_table}
 
 abbrev pub is_time : ℕ → Bool
 is_time time = nat_lt time (2 ^ 64)
@@ -53,18 +58,25 @@ are_heads heads =
     is_generation heads.generation && is_time heads.time && is_stage heads.stage heads.grace && is_goal heads.goal
     && not heads.reexec && passes is_goal heads.level_wish
 
-abbrev pub is_record : Record → Bool
-is_record kept =
-    is_id kept.id && passes is_child kept.child && passes is_stop kept.stop && passes is_time kept.held_until
-    && are_starts kept.starts.items
+-- how a child ended is said from version 2 on
+abbrev pub is_last : Version → Option Status → Bool
+is_last V1 last = is_none last
+is_last V2 last = passes is_status last
 
-abbrev pub is_state : SavedState → Bool
-is_state state = are_heads state.heads && is_table state.table && list_all is_record state.records
+abbrev pub is_record : Version → Record → Bool
+is_record version kept =
+    (is_id kept.id && holds_id version kept.id) && passes is_child kept.child && passes is_stop kept.stop
+    && passes is_time kept.held_until && (are_starts kept.starts.items && is_last version kept.last)
+
+abbrev pub is_state : Version → SavedState → Bool
+is_state version state =
+    are_heads state.heads && (is_table state.table && holds_table version state.table)
+    && list_all (is_record version) state.records
 
 -- the seconds that a core keeps are at most an hour, and none before the first stage
 abbrev pub has_short_seconds : CoreState → Bool
 has_short_seconds c = is_stage c.stage c.grace && is_goal c.goal && passes is_goal c.level_wish
 
--- the id of a record is an id, and the number of its child fits its word
-abbrev pub has_ranged_ids : SlotState → Bool
-has_ranged_ids slot = is_id slot.id && passes is_child (child_number slot)
+-- the id of a record is an id, and the number of its child and its last status fit their words
+abbrev pub has_ranged_words : SlotState → Bool
+has_ranged_words slot = is_id slot.id && passes is_child (child_number slot) && passes is_status slot.last

@@ -6,6 +6,8 @@ use Rattle.std.specs.List.{starts_with}
 use Rattle.text_lines.specs.Lines.{cut, pieces_of, after_lines, newlines}
 use Rattle.text_lines.specs.Numbers.{number_read}
 use Rattle.init_words.specs.declared.actions.Act.{Act}
+use Rattle.init_words.specs.declared.children.Status.{Status}
+use Rattle.init_words.specs.declared.children.Status.TheVariants.{Killed as KilledBySignal}
 use Rattle.init_words.specs.declared.entries.Entry.{Entry}
 use Rattle.init_words.specs.declared.levels.Level.{Level}
 use Rattle.init_words.specs.declared.orders.Ask.{Ask}
@@ -14,7 +16,7 @@ use Rattle.init_words.specs.Actions.{act_read}
 use Rattle.init_words.specs.Ids.{id_read, same_id}
 use Rattle.inittab_text.specs.Written.{is_empty, table_begun}
 use Rattle.init_trace.specs.declared.steps.Goal.{Goal}
-use Rattle.init_trace.specs.Reading.{both, level_of_word, stage_of_word, order_of_word, seconds_of_word, child_of_word}
+use Rattle.init_trace.specs.Reading.{both, level_of_word, stage_of_word, order_of_word, seconds_of_word, child_of_word, code_of_word}
 use Rattle.respawn_limit.specs.declared.TheConstants.{STARTS}
 use Rattle.child_table.specs.declared.children.Stop.{Stop}
 use Rattle.child_table.specs.declared.children.Stop.TheVariants.{Due, Termed, Killed}
@@ -25,6 +27,9 @@ use Rattle.state_text.specs.declared.over.Over.TheVariants.{Line, Memory}
 use Rattle.core_model.specs.declared.parts.Record.{Record}
 use Rattle.state_text.specs.Lines.{version_line}
 use Rattle.state_text.specs.Range.{is_stage}
+use Rattle.state_text.specs.declared.versions.Version.{Version}
+use Rattle.state_text.specs.declared.versions.Version.TheVariants.{V1, V2}
+use Rattle.state_text.specs.Versions.{holds_id, holds_table}
 
 -- what was read, where it passes
 abbrev pub checked_by : {X : Type 0} → (X → Bool) → Option X → Option X
@@ -122,9 +127,29 @@ starts_read word =
     if same_id word (codes "-") then Some []
     else checked_by (λ times. nat_le (length times) STARTS) (all_read time_read (pieces_of 44 word))
 
+-- an id, as long as the version has them
+abbrev pub id_in_read : Version → List ℕ → Option (List ℕ)
+id_in_read version word = checked_by (holds_id version) (id_read word)
+
+-- how a child ended
+abbrev pub status_read : List ℕ → Option Status
+status_read word =
+    if same_id word (codes "killed") then Some KilledBySignal else named_read (codes "exit") 58 code_of_word word
+
+-- the last starts, and how the last child ended, which version 1 doesn't say
+abbrev pub EndWords : Type 0
+EndWords = List ℕ × Option Status
+
+abbrev pub without_status : List ℕ → EndWords
+without_status starts = (starts, None)
+
+abbrev pub ends_read : Version → List ℕ → Option EndWords
+ends_read V1 words = option_map without_status (starts_read words)
+ends_read V2 words = pair_read 32 starts_read (dash_read status_read) words
+
 -- the words of a record
 abbrev pub LimitWords : Type 0
-LimitWords = Option ℕ × List ℕ
+LimitWords = Option ℕ × EndWords
 
 abbrev pub MarkWords : Type 0
 MarkWords = Option Stop × ((Bool × (Bool × (Bool × Bool))) × LimitWords)
@@ -144,22 +169,24 @@ record_made id child act order marks = record {
   look = marks.1.0.1.1.0;
   missed = marks.1.0.1.1.1;
   held_until = marks.1.1.0;
-  starts = record { items = marks.1.1.1 };
+  starts = record { items = marks.1.1.1.0 };
+  last = marks.1.1.1.1;
 }
 
 abbrev pub slot_made : SlotWords → Record
 slot_made words = record_made words.0 words.1.0 words.1.1.0 words.1.1.1.0 words.1.1.1.1
 
-abbrev pub limits_read : List ℕ → Option LimitWords
-limits_read words = pair_read 32 (dash_read time_read) starts_read words
+abbrev pub limits_read : Version → List ℕ → Option LimitWords
+limits_read version words = pair_read 32 (dash_read time_read) (ends_read version) words
 
-abbrev pub marks_read : List ℕ → Option MarkWords
-marks_read words = pair_read 32 (dash_read stop_read) (pair_read 32 four_bits limits_read) words
+abbrev pub marks_read : Version → List ℕ → Option MarkWords
+marks_read version words =
+    pair_read 32 (dash_read stop_read) (pair_read 32 four_bits (limits_read version)) words
 
-abbrev pub slot_words_read : List ℕ → Option SlotWords
-slot_words_read words =
-    pair_read 32 id_read (pair_read 32 (dash_read child_of_word) (pair_read 32 (dash_read act_read)
-    (pair_read 32 (dash_read order_of_word) marks_read))) words
+abbrev pub slot_words_read : Version → List ℕ → Option SlotWords
+slot_words_read version words =
+    pair_read 32 (id_in_read version) (pair_read 32 (dash_read child_of_word) (pair_read 32 (dash_read act_read)
+    (pair_read 32 (dash_read order_of_word) (marks_read version)))) words
 
 -- the lines
 abbrev pub generation_line_read : List ℕ → Option ℕ
@@ -186,8 +213,8 @@ table_line_read line = named_read (codes "table") 32 time_read line
 abbrev pub end_line_read : List ℕ → Option ℕ
 end_line_read line = named_read (codes "end") 32 time_read line
 
-abbrev pub slot_line_read : List ℕ → Option Record
-slot_line_read line = option_map slot_made (named_read (codes "slot") 32 slot_words_read line)
+abbrev pub slot_line_read : Version → List ℕ → Option Record
+slot_line_read version line = option_map slot_made (named_read (codes "slot") 32 (slot_words_read version) line)
 
 -- what a first line says, and the text after it
 abbrev pub line_read : {X : Type 0} → (List ℕ → Option X) → List ℕ → Option (X × List ℕ)
@@ -198,9 +225,12 @@ abbrev pub then_read : {X Y : Type 0} → (List ℕ → Option (X × List ℕ)) 
     → List ℕ → Option ((X × Y) × List ℕ)
 then_read first second text = option_and_then (λ p. option_map (λ q. ((p.0, q.0), q.1)) (second p.1)) (first text)
 
-abbrev pub version_read : List ℕ → Option (List ℕ)
-version_read text =
-    option_and_then (λ parts. if same_id parts.0 version_line then Some parts.1 else None) (cut 10 text)
+abbrev pub version_of_line : List ℕ → Option Version
+version_of_line line =
+    if same_id line (version_line V1) then Some V1 else if same_id line (version_line V2) then Some V2 else None
+
+abbrev pub version_read : List ℕ → Option (Version × List ℕ)
+version_read text = line_read version_of_line text
 
 abbrev pub TimeWords : Type 0
 TimeWords = ℕ × ℕ
@@ -256,9 +286,14 @@ made_read make found = option_map (λ p. (make p.0, p.1)) found
 abbrev pub heads_read : List ℕ → Option (Heads × List ℕ)
 heads_read text = made_read heads_made (then_read times_read (then_read places_read flags_read) text)
 
+-- the table of the next given number of lines, as large as the version has them, and the text after it
+abbrev pub table_in : Version → ℕ → List ℕ → Option (List Entry × List ℕ)
+table_in version count text =
+    checked_by (λ (p : List Entry × List ℕ). holds_table version p.0) (table_begun count text)
+
 -- the table that the text begins with, and the text after it
-abbrev pub table_read : List ℕ → Option (List Entry × List ℕ)
-table_read text = option_and_then (λ p. table_begun p.0 p.1) (line_read table_line_read text)
+abbrev pub table_read : Version → List ℕ → Option (List Entry × List ℕ)
+table_read version text = option_and_then (λ p. table_in version p.0 p.1) (line_read table_line_read text)
 
 -- the last line, where it is ended and begins as it should; the text before it, and it
 abbrev pub last_line : List ℕ → Option (List ℕ)

@@ -3,10 +3,11 @@ use Rattle.std.specs.Prelude.{◌≡◌, ◌≢◌, ◌==◌, ℕ, Bool, true, n
 use Rattle.std.specs.List.{list_all, starts_with}
 use Rattle.text_lines.specs.Lines.{has_byte}
 use Rattle.state_text.specs.declared.over.Over.{Over}
-use Rattle.state_text.specs.declared.over.Over.TheVariants.{Cut, Version, Line, Generation, Memory}
+use Rattle.state_text.specs.declared.over.Over.TheVariants.{Cut, Version as OtherVersion, Line, Generation, Memory}
 use Rattle.core_model.specs.declared.parts.Record.{Record}
 use Rattle.core_model.specs.Parts.{SavedState}
-use Rattle.state_text.specs.Lines.{body_lines, slot_line, state_text, text_of_lines, version_line}
+use Rattle.state_text.specs.declared.versions.Version.{Version}
+use Rattle.state_text.specs.Lines.{body_lines, slot_line, text_in, text_of_lines, version_line}
 use Rattle.state_text.specs.Range.{is_record, is_state}
 use Rattle.state_text.specs.Reading.{OnLine, version_read}
 
@@ -23,23 +24,32 @@ pub record Whole (text : List ℕ) : Type 0 where
   pub begins : starts_with ◌==◌ last (codes "end ") ≡ true
   pub whole : text_of_lines lines ++ (last ++ 10 ∷ []) ≡ text
 
--- the text of a state of this generation
+-- the text of a state in a version; and in one of the versions
+abbrev pub IsTextIn : Version → List ℕ → SavedState → Type 0
+IsTextIn version text state = (is_state version state ≡ true) × (text_in version state ≡ text)
+
 abbrev pub IsTextOf : List ℕ → SavedState → Type 0
-IsTextOf text state = (is_state state ≡ true) × (state_text state ≡ text)
+IsTextOf text state = (version : Version) × IsTextIn version text state
 
 abbrev pub SaysNone : List ℕ → Type 0
-SaysNone text = (state : SavedState) → is_state state ≡ true → state_text state ≢ text
+SaysNone text = (state : SavedState) → IsTextOf text state → ⊥
 
--- the first line is that of the version, or another
-abbrev pub BeginsAsKnown : List ℕ → List ℕ → Type 0
-BeginsAsKnown text rest = version_line ++ 10 ∷ rest ≡ text
+-- the first line is that of the version; and of one of them
+abbrev pub BeginsAs : Version → List ℕ → List ℕ → Type 0
+BeginsAs version text rest = version_line version ++ 10 ∷ rest ≡ text
+
+abbrev pub Begins : List ℕ → Version → Type 0
+Begins text version = (rest : List ℕ) × BeginsAs version text rest
+
+abbrev pub BeginsAsKnown : List ℕ → Type 0
+BeginsAsKnown text = (version : Version) × Begins text version
 
 -- the text is not whole; it is whole, and its first line is another
 abbrev pub IsCut : List ℕ → Type 0
 IsCut text = Whole text → ⊥
 
 abbrev pub IsOtherVersion : List ℕ → Type 0
-IsOtherVersion text = Whole text × ((rest : List ℕ) → BeginsAsKnown text rest → ⊥)
+IsOtherVersion text = Whole text × ((version : Version) (rest : List ℕ) → BeginsAs version text rest → ⊥)
 
 -- the text is that of a state of another generation
 pub record IsOther (text : List ℕ) (generation : ℕ) : Type 0 where
@@ -50,27 +60,32 @@ pub record IsOther (text : List ℕ) (generation : ℕ) : Type 0 where
 -- the first check that a text fails: it is cut; another version; a line; another generation
 abbrev pub Refused : List ℕ → ℕ → Over → Type 0
 Refused text generation Cut = IsCut text
-Refused text generation Version = IsOtherVersion text
-Refused text generation (Line number) = Whole text × ((rest : List ℕ) × BeginsAsKnown text rest) × SaysNone text
+Refused text generation OtherVersion = IsOtherVersion text
+Refused text generation (Line number) = Whole text × BeginsAsKnown text × SaysNone text
 Refused text generation Generation = IsOther text generation
 Refused text generation Memory = Unit {0}
 Refused text generation _ = ⊥
 
--- the records whose lines make a text
-abbrev pub AreRecords : List ℕ → List Record → Type 0
-AreRecords text records = (list_all is_record records ≡ true) × (text_of_lines (map slot_line records) ≡ text)
+-- the records whose lines make a text of a version
+abbrev pub AreRecords : Version → List ℕ → List Record → Type 0
+AreRecords version text records =
+    (list_all (is_record version) records ≡ true) × (text_of_lines (map (slot_line version) records) ≡ text)
 
-abbrev pub NoRecords : List ℕ → Type 0
-NoRecords text =
-    (records : List Record) → list_all is_record records ≡ true → text_of_lines (map slot_line records) ≢ text
+abbrev pub NoRecords : Version → List ℕ → Type 0
+NoRecords version text =
+    (records : List Record) → list_all (is_record version) records ≡ true
+    → text_of_lines (map (slot_line version) records) ≢ text
 
 -- the state whose lines before the last make a text
+abbrev pub IsBodyIn : Version → List ℕ → SavedState → Type 0
+IsBodyIn version text state = (is_state version state ≡ true) × (text_of_lines (body_lines version state) ≡ text)
+
 abbrev pub IsBody : List ℕ → SavedState → Type 0
-IsBody text state = (is_state state ≡ true) × (text_of_lines (body_lines state) ≡ text)
+IsBody text state = (version : Version) × IsBodyIn version text state
 
 abbrev pub NoBody : List ℕ → Type 0
-NoBody text = (state : SavedState) → is_state state ≡ true → text_of_lines (body_lines state) ≢ text
+NoBody text = (state : SavedState) → IsBody text state → ⊥
 
 abbrev pub RefusedBody : List ℕ → Over → Type 0
-RefusedBody text Version = version_read text ≡ None
+RefusedBody text OtherVersion = version_read text ≡ None
 RefusedBody text why = OnLine ((version_read text ≢ None) × NoBody text) why

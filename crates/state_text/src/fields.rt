@@ -1,18 +1,20 @@
 ghost use Rattle.std.specs.Prelude.{◌≡◌, codes};
 ghost use Rattle.std.specs.Option.{option_map};
-ghost use Rattle.state_text.specs.Reading.{limits_read, marks_read, slot_words_read, generation_line_read, clock_line_read, stage_line_read, goal_line_read, flags_line_read, wish_line_read, wishes_read, stage_pair_read, table_line_read, end_line_read, slot_line_read, reread_read, pair_read, three_bits, slot_made, record_made, behind};
+ghost use Rattle.state_text.specs.declared.versions.Version.TheVariants.{V1, V2};
+ghost use Rattle.state_text.specs.Reading.{limits_read, marks_read, slot_words_read, generation_line_read, clock_line_read, stage_line_read, goal_line_read, flags_line_read, wish_line_read, wishes_read, stage_pair_read, table_line_read, end_line_read, slot_line_read, ends_read, reread_read, pair_read, three_bits, slot_made, record_made, behind};
 
+use crate::versions::Version;
 use crate::words::{
     read_act_or_dash, read_child_or_dash, read_four_bits, read_generation, read_goal,
-    read_goal_or_dash, read_order_or_dash, read_stage_or_none, read_starts, read_stop_or_dash,
-    read_three_bits, read_time_or_dash, read_two_bits,
+    read_goal_or_dash, read_id, read_order_or_dash, read_stage_or_none, read_starts,
+    read_status_or_dash, read_stop_or_dash, read_three_bits, read_time_or_dash, read_two_bits,
 };
 use arrayvec::ArrayVec;
 use child_table::Stop;
 use core_model::Record;
 use init_trace::Goal;
 use init_trace::words::{is, read_seconds};
-use init_words::{Act, Ask, ChildNo, Id, Stage};
+use init_words::{Act, Ask, ChildNo, Id, Stage, Status};
 use respawn_limit::STARTS;
 use text_lines::{cut, read_number};
 
@@ -117,29 +119,56 @@ pub(crate) fn read_end_line(line: &[u8]) -> Option<u64>
     read_number(behind(b"end", line)?)
 }
 
-/// The end of the last hold, and the last starts.
-fn read_limits(words: &[u8]) -> Option<(Option<u64>, ArrayVec<u64, STARTS>)>
-    ensures { option_map (λ p. (p.0, p.1.items)) result ≡ limits_read words.now }
+/// The last starts, and how the last child ended.
+type Ends = (ArrayVec<u64, STARTS>, Option<Status>);
+
+fn read_old_ends(words: &[u8]) -> Option<Ends>
+    ensures { option_map (λ p. (p.0.items, p.1)) result ≡ ends_read V1 words.now }
 {
-    let (held, starts) = cut(b' ', words)?;
-    Some((read_time_or_dash(held)?, read_starts(starts)?))
+    Some((read_starts(words)?, None))
+}
+
+fn read_new_ends(words: &[u8]) -> Option<Ends>
+    ensures { option_map (λ p. (p.0.items, p.1)) result ≡ ends_read V2 words.now }
+{
+    let (starts, last) = cut(b' ', words)?;
+    Some((read_starts(starts)?, read_status_or_dash(last)?))
+}
+
+/// The end of a slot line, from its starts on.
+fn read_ends(version: Version, words: &[u8]) -> Option<Ends>
+    ensures { option_map (λ p. (p.0.items, p.1)) result ≡ ends_read version words.now }
+{
+    match version {
+        Version::V1 => read_old_ends(words),
+        Version::V2 => read_new_ends(words),
+    }
+}
+
+/// The end of the last hold, and what is after it.
+fn read_limits(version: Version, words: &[u8]) -> Option<(Option<u64>, Ends)>
+    ensures { option_map (λ p. (p.0, (p.1.0.items, p.1.1))) result ≡ limits_read version words.now }
+{
+    let (held, ends) = cut(b' ', words)?;
+    Some((read_time_or_dash(held)?, read_ends(version, ends)?))
 }
 
 /// The end of a slot line, from its stop on.
 fn read_marks(
+    version: Version,
     id: Id,
     child: Option<ChildNo>,
     act: Option<Act>,
     order: Option<Ask>,
     words: &[u8],
 ) -> Option<Record>
-    ensures { result ≡ option_map (record_made id child act order) (marks_read words.now) }
+    ensures { result ≡ option_map (record_made id child act order) (marks_read version words.now) }
 {
     let (stop, words) = cut(b' ', words)?;
     let stop = read_stop_or_dash(stop)?;
     let (flags, words) = cut(b' ', words)?;
     let (asked, (called, (look, missed))) = read_four_bits(flags)?;
-    let (held_until, starts) = read_limits(words)?;
+    let (held_until, (starts, last)) = read_limits(version, words)?;
     Some(Record {
         id,
         child,
@@ -152,25 +181,26 @@ fn read_marks(
         missed,
         held_until,
         starts,
+        last,
     })
 }
 
-fn read_slot(words: &[u8]) -> Option<Record>
-    ensures { result ≡ option_map slot_made (slot_words_read words.now) }
+fn read_slot(version: Version, words: &[u8]) -> Option<Record>
+    ensures { result ≡ option_map slot_made (slot_words_read version words.now) }
 {
     let (id, words) = cut(b' ', words)?;
-    let id = Id::read(id)?;
+    let id = read_id(version, id)?;
     let (child, words) = cut(b' ', words)?;
     let child = read_child_or_dash(child)?;
     let (act, words) = cut(b' ', words)?;
     let act = read_act_or_dash(act)?;
     let (order, words) = cut(b' ', words)?;
     let order = read_order_or_dash(order)?;
-    read_marks(id, child, act, order, words)
+    read_marks(version, id, child, act, order, words)
 }
 
-pub(crate) fn read_slot_line(line: &[u8]) -> Option<Record>
-    ensures { result ≡ slot_line_read line.now }
+pub(crate) fn read_slot_line(version: Version, line: &[u8]) -> Option<Record>
+    ensures { result ≡ slot_line_read version line.now }
 {
-    read_slot(behind(b"slot", line)?)
+    read_slot(version, behind(b"slot", line)?)
 }

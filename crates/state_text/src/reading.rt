@@ -1,10 +1,12 @@
-ghost use Rattle.std.specs.Prelude.{◌≡◌, ◌≢◌, ◌∷◌, List, true, false, None, Some, Err, IfOk, IfErr, IfSome, IfNone, OnOk, ◌++◌, []};
+ghost use Rattle.std.specs.List.{list_all};
+ghost use Rattle.std.specs.Prelude.{ℕ, ◌≡◌, ◌≢◌, ◌∷◌, List, true, false, None, Some, Err, IfOk, IfErr, IfSome, IfNone, OnOk, ◌++◌, []};
 ghost use Rattle.std.specs.Option.{option_map};
 ghost use Rattle.std.specs.Result.{MatchResult};
 ghost use Rattle.text_lines.specs.Lines.{cut};
+ghost use Rattle.init_words.specs.declared.entries.Entry.{Entry};
 ghost use Rattle.core_model.specs.Parts.{SavedState};
-ghost use Rattle.state_text.specs.Lines.{state_text};
-ghost use Rattle.state_text.specs.Reading.{end_split, Unread, times_read, places_read, flags_read, heads_made, heads_read, table_read, version_read, generation_of, line_read, slot_line_read, end_line_read, OnLine};
+ghost use Rattle.state_text.specs.Versions.{holds_id, holds_table};
+ghost use Rattle.state_text.specs.Reading.{end_split, Unread, times_read, places_read, flags_read, heads_made, heads_read, table_read, table_in, version_read, generation_of, line_read, slot_line_read, end_line_read, checked_by, OnLine};
 ghost use Rattle.state_text.specs.Refused.{AreRecords, NoRecords, IsBody, IsCut, IsOtherVersion, RefusedBody, IsTextOf, Refused};
 
 use crate::fields::{
@@ -12,10 +14,11 @@ use crate::fields::{
     read_slot_line, read_stage_line, read_table_line, read_wish_line,
 };
 use crate::over::Over;
+use crate::versions::Version;
+use crate::words::read_version;
 use core_model::{Heads, News, Parts, Record};
 use init_trace::Goal;
-use init_trace::words::is;
-use init_words::{Memory, Stage};
+use init_words::{Entry, Memory, Stage};
 use inittab_text::{Table, table_begun};
 use std::alloc::{AllocError, Allocator};
 use text_lines::{after_lines, cut, newlines};
@@ -119,26 +122,84 @@ fn take_heads(text: &[u8]) -> Result<(Heads, &[u8]), Over>
     Ok((heads_of(times, places, wishes), rest))
 }
 
-/// How many of the next lines are those of a table, up to so many.
-fn table_lines<A: Allocator + Copy>(alloc: A, count: usize, text: &[u8]) -> Result<u64, Memory> {
-    for lines in 1..count {
-        if table_begun(alloc, lines, text)?.is_none() {
-            return Ok(lines as u64 - 1);
-        }
+/// The version has room for the entry's id.
+fn holds_id(version: Version, entry: &Entry) -> bool
+    ensures { result ≡ holds_id version entry.now.id }
+{
+    entry.id.as_bytes().len() <= version.id_limit()
+}
+
+/// It has room for the ids of all of these.
+fn holds_ids(version: Version, entries: &[Entry]) -> bool
+    ensures { result ≡ list_all (λ (e : Entry). holds_id version e.id) entries.now }
+{
+    entries.iter().all(|entry| holds_id(version, entry))
+}
+
+/// The version has room for these entries.
+fn holds_table(version: Version, entries: &[Entry]) -> bool
+    ensures { result ≡ holds_table version entries.now }
+{
+    entries.len() <= version.entry_limit() && holds_ids(version, entries)
+}
+
+/// The table of the next given number of lines of a text, as large as the version has them, and the text after it.
+fn table_in<A: Allocator + Copy>(
+    alloc: A,
+    version: Version,
+    count: usize,
+    text: &[u8],
+) -> Result<Option<(Table<A>, &[u8])>, Memory>
+    ensures { IfOk result (λ found.
+        option_map (λ parts. (parts.0, parts.1.now)) found ≡ table_in version count text.now) }
+{
+    let Some((table, rest)) = table_begun(alloc, count, text)? else {
+        return Ok(None);
+    };
+    if holds_table(version, table.entries()) {
+        Ok(Some((table, rest)))
+    } else {
+        Ok(None)
     }
-    Ok((count as u64).saturating_sub(1))
+}
+
+/// How many of the next lines are those of a table, of a given number that are not: the first that isn't is found by
+/// halving.
+fn table_lines<A: Allocator + Copy>(
+    alloc: A,
+    version: Version,
+    count: usize,
+    text: &[u8],
+) -> Result<u64, Memory> {
+    let mut known = 0;
+    let mut rest = count;
+    while rest > 1 {
+        let half = rest / 2;
+        if table_in(alloc, version, known + half, text)?.is_some() {
+            known += half;
+        }
+        rest -= half;
+    }
+    Ok(known as u64)
 }
 
 /// The table that a text begins with, after the number of its entries, and the text after it.
-fn take_table<A: Allocator + Copy>(alloc: A, text: &[u8]) -> Result<(Table<A>, &[u8]), Over>
-    ensures ok { IfOk result (λ found. table_read text.now ≡ Some (found.0, found.1.now)) }
-    ensures err { IfErr result (λ why. Unread (table_read text.now) why) }
+fn take_table<A: Allocator + Copy>(
+    alloc: A,
+    version: Version,
+    text: &[u8],
+) -> Result<(Table<A>, &[u8]), Over>
+    ensures ok { IfOk result (λ found. table_read version text.now ≡ Some (found.0, found.1.now)) }
+    ensures err { IfErr result (λ why. Unread (table_read version text.now) why) }
 {
     let (line, rest) = take_line(text, 8)?;
     let count = read_table_line(line).ok_or(Over::Line(8))? as usize;
-    match table_begun(alloc, count, rest)? {
+    match table_in(alloc, version, count, rest)? {
         Some(found) => Ok(found),
-        None => Err(Over::Line(table_lines(alloc, count, rest)?.saturating_add(9))),
+        None => {
+            let lines = table_lines(alloc, version, count, rest)?;
+            Err(Over::Line(lines.saturating_add(9)))
+        }
     }
 }
 
@@ -150,42 +211,44 @@ fn keep<A: Allocator>(records: &mut Vec<Record, A>, slot: Record) -> Result<(), 
 }
 
 /// The record that a text begins with, on the line of this number, and the text after it.
-fn take_record(text: &[u8], number: u64) -> Result<(Record, &[u8]), Over>
+fn take_record(version: Version, text: &[u8], number: u64) -> Result<(Record, &[u8]), Over>
     ensures ok { IfOk result (λ found.
-        line_read slot_line_read text.now ≡ Some (found.0, found.1.now)) }
-    ensures err { IfErr result (λ why. Unread (line_read slot_line_read text.now) why) }
+        line_read (slot_line_read version) text.now ≡ Some (found.0, found.1.now)) }
+    ensures err { IfErr result (λ why.
+        Unread (line_read (slot_line_read version) text.now) why) }
 {
     let (line, rest) = take_line(text, number)?;
-    let slot = read_slot_line(line).ok_or(Over::Line(number))?;
+    let slot = read_slot_line(version, line).ok_or(Over::Line(number))?;
     Ok((slot, rest))
 }
 
 /// The records whose lines make the text; the first line has this number.
-fn take_records<A: Allocator>(alloc: A, text: &[u8], first: u64) -> Result<Vec<Record, A>, Over>
-    ensures ok { IfOk result (λ records. AreRecords text.now records.items) }
-    ensures err { IfErr result (λ why. OnLine (NoRecords text.now) why) }
+fn take_records<A: Allocator>(
+    alloc: A,
+    version: Version,
+    text: &[u8],
+    first: u64,
+) -> Result<Vec<Record, A>, Over>
+    ensures ok { IfOk result (λ records. AreRecords version text.now records.items) }
+    ensures err { IfErr result (λ why. OnLine (NoRecords version text.now) why) }
 {
     let mut records = Vec::new(alloc);
     let mut rest = text;
     while !rest.is_empty() {
         let number = first.saturating_add(records.len() as u64);
-        let (slot, more) = take_record(rest, number)?;
+        let (slot, more) = take_record(version, rest, number)?;
         keep(&mut records, slot)?;
         rest = more;
     }
     Ok(records)
 }
 
-/// The text after the first line, if that is the version's.
-fn behind_version(text: &[u8]) -> Option<&[u8]>
-    ensures { option_map (λ rest. rest.now) result ≡ version_read text.now }
+/// The version that the first line names, and the text after it.
+fn take_version(text: &[u8]) -> Option<(Version, &[u8])>
+    ensures { option_map (λ parts. (parts.0, parts.1.now)) result ≡ version_read text.now }
 {
     let (line, rest) = cut(b'\n', text)?;
-    if is(line, b"initd-state 1") {
-        Some(rest)
-    } else {
-        None
-    }
+    Some((read_version(line)?, rest))
 }
 
 /// What the lines before the last say.
@@ -194,11 +257,11 @@ fn read_body<A: Allocator + Copy>(alloc: A, text: &[u8]) -> Result<Parts<A>, Ove
     ensures version { version_read text.now ≡ None → result ≡ Err Over.Version }
     ensures err { IfErr result (λ why. RefusedBody text.now why) }
 {
-    let rest = behind_version(text).ok_or(Over::Version)?;
+    let (version, rest) = take_version(text).ok_or(Over::Version)?;
     let (heads, rest) = take_heads(rest)?;
-    let (table, rest) = take_table(alloc, rest)?;
+    let (table, rest) = take_table(alloc, version, rest)?;
     let first = 9 + table.len() as u64;
-    let records = take_records(alloc, rest, first)?;
+    let records = take_records(alloc, version, rest, first)?;
     Ok(Parts {
         heads,
         table,
@@ -219,6 +282,7 @@ fn counts(last: &[u8], lines: u64) -> bool
 
 /// Reads the text of the state of an init of this generation. What is refused is named by the first check that fails:
 /// that the text is whole (`Cut`), its first line (`Version`), the other lines (`Line`), the generation (`Generation`).
+/// Each version has a grammar of its own.
 pub fn read_state<A: Allocator + Copy>(
     alloc: A,
     text: &[u8],
@@ -227,8 +291,8 @@ pub fn read_state<A: Allocator + Copy>(
     ensures read { IfOk result (λ parts. IsTextOf text.now parts) }
     ensures generation { IfOk result (λ parts. parts.heads.generation ≡ generation) }
     // No other state has the text, and one that has it is read.
-    ensures only { (state : SavedState) → IsTextOf text.now state → state.heads.generation ≡ generation
-        → MatchResult result (λ parts. parts ≡ state) (λ why. why ≡ Over.Memory) }
+    ensures only { (state : SavedState) → IsTextOf text.now state
+        → state.heads.generation ≡ generation → MatchResult result (λ parts. parts ≡ state) (λ why. why ≡ Over.Memory) }
     // The first two checks want no memory.
     ensures cut { IsCut text.now → result ≡ Err Over.Cut }
     ensures version { IsOtherVersion text.now → result ≡ Err Over.Version }
@@ -258,7 +322,8 @@ fn second_line(text: &[u8]) -> Option<u64>
 /// is the state's.
 pub fn generation_of(text: &[u8]) -> Option<u64>
     ensures value { result ≡ generation_of text.now }
-    ensures said { (state : SavedState) → IsTextOf text.now state → result ≡ Some state.heads.generation }
+    ensures said { (state : SavedState) → IsTextOf text.now state
+        → result ≡ Some state.heads.generation }
 {
     second_line(text)
 }

@@ -4,13 +4,16 @@ ghost use Rattle.arrayvec.specs.ArrayVec.{array_vec_len};
 ghost use Rattle.init_words.specs.Ids.{same_id};
 ghost use Rattle.init_trace.specs.Reading.{stage_of_word, order_of_word, child_of_word};
 ghost use Rattle.init_words.specs.Actions.{act_read};
-ghost use Rattle.state_text.specs.Reading.{dash_read, or_read, time_read, generation_read, bit_read, one_bit, two_bits, three_bits, four_bits, goal_read, signal_read, stop_read, starts_read};
+ghost use Rattle.state_text.specs.Reading.{dash_read, or_read, time_read, generation_read, bit_read, one_bit, two_bits, three_bits, four_bits, goal_read, signal_read, stop_read, starts_read, id_in_read, status_read, version_of_line};
 
+use crate::versions::Version;
 use arrayvec::ArrayVec;
 use child_table::Stop;
 use init_trace::Goal;
-use init_trace::words::{is, read_child, read_level, read_order, read_seconds, read_stage};
-use init_words::{Act, Ask, ChildNo, Stage};
+use init_trace::words::{
+    is, read_child, read_code, read_level, read_order, read_seconds, read_stage,
+};
+use init_words::{Act, Ask, ChildNo, Id, Stage, Status};
 use respawn_limit::STARTS;
 use text_lines::{cut, read_number};
 
@@ -18,6 +21,31 @@ fn is_dash(word: &[u8]) -> bool
     ensures { result ≡ same_id word.now (codes "-") }
 {
     is(word, b"-")
+}
+
+/// The version that the first line of a text names.
+pub(crate) fn read_version(line: &[u8]) -> Option<Version>
+    ensures { result ≡ version_of_line line.now }
+{
+    if is(line, b"initd-state 1") {
+        return Some(Version::V1);
+    }
+    if is(line, b"initd-state 2") {
+        return Some(Version::V2);
+    }
+    None
+}
+
+/// An id, as long as the version has them.
+pub(crate) fn read_id(version: Version, word: &[u8]) -> Option<Id>
+    ensures { result ≡ id_in_read version word.now }
+{
+    let id = Id::read(word)?;
+    if id.as_bytes().len() <= version.id_limit() {
+        Some(id)
+    } else {
+        None
+    }
 }
 
 /// The stage, or the word for none.
@@ -172,6 +200,30 @@ pub(crate) fn read_time_or_dash(word: &[u8]) -> Option<Option<u64>>
         return Some(None);
     }
     Some(Some(read_number(word)?))
+}
+
+/// How a child ended.
+fn read_status(word: &[u8]) -> Option<Status>
+    ensures { result ≡ status_read word.now }
+{
+    if is(word, b"killed") {
+        return Some(Status::Killed);
+    }
+    let (name, code) = cut(b':', word)?;
+    if is(name, b"exit") {
+        read_code(code)
+    } else {
+        None
+    }
+}
+
+pub(crate) fn read_status_or_dash(word: &[u8]) -> Option<Option<Status>>
+    ensures { result ≡ dash_read status_read word.now }
+{
+    if is_dash(word) {
+        return Some(None);
+    }
+    Some(Some(read_status(word)?))
 }
 
 /// The times of starts, with commas between them, or a dash.

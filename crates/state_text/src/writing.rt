@@ -4,12 +4,13 @@ ghost use Rattle.init_words.specs.Actions.{word_of};
 ghost use Rattle.inittab_text.specs.Written.{text_of};
 ghost use Rattle.init_trace.specs.Lines.{level_word, order_word};
 ghost use Rattle.core_model.specs.Parts.{record_of};
-ghost use Rattle.state_text.specs.Lines.{bits, spaced, or_dash, goal_word, stop_word, stage_or_none, starts_word, generation_line, clock_line, stage_line, goal_line, flags_line, wish_line, head_lines, table_line, slot_line, slot_flags, powers, letters, end_line, text_of_lines, state_text};
+ghost use Rattle.state_text.specs.declared.versions.Version.TheVariants.{V2};
+ghost use Rattle.state_text.specs.Lines.{bits, spaced, or_dash, goal_word, stop_word, stage_or_none, starts_word, status_word, generation_line, clock_line, stage_line, goal_line, flags_line, wish_line, head_lines, table_line, slot_line, slot_flags, powers, letters, end_line, text_of_lines, state_text};
 
 use child_table::{Slot, Stop};
 use core_model::{Heads, News, Record};
 use init_trace::Goal;
-use init_words::{Act, Ask, ChildNo, Memory, Stage};
+use init_words::{Act, Ask, ChildNo, Memory, Stage, Status};
 use inittab_text::Table;
 use itoa::Buffer;
 use std::alloc::{AllocError, Allocator};
@@ -175,6 +176,19 @@ fn put_starts<A: Allocator>(text: &mut Vec<u8, A>, starts: &[u64]) -> Result<(),
     Ok(())
 }
 
+fn put_last<A: Allocator>(text: &mut Vec<u8, A>, last: Option<Status>) -> Result<(), AllocError>
+    ensures { OnOk result (text.new.items ≡ text.old.items ++ 32 ∷ or_dash status_word last) }
+{
+    match last {
+        None => put(text, b" -"),
+        Some(Status::Killed) => put(text, b" killed"),
+        Some(Status::Exit(code)) => {
+            put(text, b" exit")?;
+            put_behind(text, b':', u64::from(code))
+        }
+    }
+}
+
 fn put_places<A: Allocator>(text: &mut Vec<u8, A>, heads: &Heads) -> Result<(), AllocError>
     ensures { OnOk result (text.new.items ≡ text.old.items
         ++ text_of_lines (stage_line heads.now.stage heads.now.grace
@@ -253,19 +267,28 @@ fn put_life<A: Allocator>(text: &mut Vec<u8, A>, slot: &Record) -> Result<(), Al
     put_order(text, slot.order)
 }
 
+fn put_ends<A: Allocator>(text: &mut Vec<u8, A>, slot: &Record) -> Result<(), AllocError>
+    ensures { OnOk result (text.new.items ≡ text.old.items
+        ++ 32 ∷ (starts_word slot.now.starts.items ++ 32 ∷ or_dash status_word slot.now.last)) }
+{
+    put_starts(text, slot.starts.as_slice())?;
+    put_last(text, slot.last)
+}
+
 fn put_limits<A: Allocator>(text: &mut Vec<u8, A>, slot: &Record) -> Result<(), AllocError>
     ensures { OnOk result (text.new.items ≡ text.old.items ++ 32 ∷ (or_dash stop_word slot.now.stop
         ++ 32 ∷ (bits (slot_flags slot.now) ++ 32 ∷ (or_dash decimal slot.now.held_until
-        ++ 32 ∷ starts_word slot.now.starts.items)))) }
+        ++ 32 ∷ (starts_word slot.now.starts.items
+        ++ 32 ∷ or_dash status_word slot.now.last))))) }
 {
     put_stop(text, slot.stop)?;
     put_bits(text, &[slot.asked, slot.called, slot.look, slot.missed])?;
     put_time(text, slot.held_until)?;
-    put_starts(text, slot.starts.as_slice())
+    put_ends(text, slot)
 }
 
 fn put_slot<A: Allocator>(text: &mut Vec<u8, A>, slot: &Record) -> Result<(), AllocError>
-    ensures { OnOk result (text.new.items ≡ text.old.items ++ (slot_line slot.now ++ 10 ∷ [])) }
+    ensures { OnOk result (text.new.items ≡ text.old.items ++ (slot_line V2 slot.now ++ 10 ∷ [])) }
 {
     put(text, b"slot ")?;
     put(text, slot.id.as_bytes())?;
@@ -277,7 +300,7 @@ fn put_slot<A: Allocator>(text: &mut Vec<u8, A>, slot: &Record) -> Result<(), Al
 
 fn put_slots<A: Allocator>(text: &mut Vec<u8, A>, slots: &[Slot]) -> Result<(), AllocError>
     ensures { OnOk result (text.new.items ≡ text.old.items
-        ++ text_of_lines (map slot_line (map record_of slots.now))) }
+        ++ text_of_lines (map (slot_line V2) (map record_of slots.now))) }
 {
     for slot in slots {
         put_slot(text, &Record::of(slot))?;
@@ -299,7 +322,7 @@ pub fn write_state<A: Allocator + Copy, B: Allocator>(
     })) }
 {
     let mut text = Vec::new(alloc);
-    put(&mut text, b"initd-state 1\n")?;
+    put(&mut text, b"initd-state 2\n")?;
     put_heads(&mut text, heads)?;
     put_table(&mut text, table)?;
     put_slots(&mut text, slots)?;

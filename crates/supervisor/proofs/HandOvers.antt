@@ -20,8 +20,8 @@ use Rattle.core_model.specs.Steps.{after_handed_on}
 use Rattle.state_text.specs.Range as range
 use Rattle.state_text.specs.Reading.{generation_of}
 use Rattle.state_text.specs.Refused.{IsCut, IsOther, IsTextOf}
-use Rattle.state_text.proofs.Ends.{whole_ends}
-use Rattle.state_text.proofs.Prefixes.{generation_said, no_prefix}
+use Rattle.state_text.proofs.Ends.{no_prefix, whole_ends}
+use Rattle.state_text.proofs.Prefixes.{generation_said}
 use Rattle.trace_log.specs.Logs.{LogState}
 use Rattle.child_host.specs.declared.calls.Call.TheVariants.{Announce, Carry}
 use Rattle.child_host.specs.Calls.{Adds, HostCall, TextRead}
@@ -36,7 +36,7 @@ use Rattle.supervisor.proofs.Parts.{Makes-one, Makes-two}
 -- a text that says a state names its generation
 names_own : (back : List ℕ) (other : SavedState) (generation : ℕ) → IsTextOf back other → other.heads.generation ≡ generation → is_of_generation generation back ≡ true
 names_own back other generation said own =
-    ap (λ o. option_map_or (λ g. g == generation) o false) (generation_said other back said.0 said.1) ∙ eq-eqb other.heads.generation generation own
+    ap (λ o. option_map_or (λ g. g == generation) o false) (generation_said back other said) ∙ eq-eqb other.heads.generation generation own
 
 begins : (text back : List ℕ) → starts_with ◌==◌ text back ≡ true → text ≡ back ++ drop (length back) text
 begins text back h = (starts_is Decides-eqb text back _ refl).0 h
@@ -48,9 +48,9 @@ taken_back old next text back says fit comes said own only = by (starts_with ◌
     whole : starts_with ◌==◌ text back ≡ true → (next ≡ old) × (same_text text back ≡ true)
     whole starts =
         let parts : text ≡ back ++ drop (length back) text = begins text back starts in
-        let none : drop (length back) text ≡ [] = no_prefix (state_of next) (state_of old) (drop (length back) text) said.0 says.0 (ap (λ t. t ++ drop (length back) text) said.1 ∙ sym parts ∙ sym says.1) in
+        let none : drop (length back) text ≡ [] = no_prefix (state_of next) (state_of old) back (drop (length back) text) said (subst (λ t. IsTextOf t (state_of old)) parts says) in
         let same : text ≡ back = parts ∙ ap (λ l. back ++ l) none ∙ append-nil back in
-        (only old fit (says.0, says.1 ∙ same) refl, subst (λ t. same_text text t ≡ true) same (same_id-self text))
+        (only old fit (subst (λ t. IsTextOf t (state_of old)) same says) refl, subst (λ t. same_text text t ≡ true) same (same_id-self text))
 
     by : (b : Bool) → starts_with ◌==◌ text back ≡ b → (b || not (is_of_generation old.generation back)) ≡ true → (next ≡ old) × (same_text text back ≡ true)
     by true starts h = whole starts
@@ -76,7 +76,7 @@ older_said text back own g says names other = and_from (is_of_generation g back)
     (ap not (ap (λ o. option_map_or (λ n. n == g) o false) says) ∙ apart (own == g) refl)
   where
     is : other.state.heads.generation ≡ g
-    is = same_Some other.state.heads.generation g (sym (generation_said other.state back other.says.0 other.says.1) ∙ names)
+    is = same_Some other.state.heads.generation g (sym (generation_said back other.state other.says) ∙ names)
 
     apart : (b : Bool) → (own == g) ≡ b → not b ≡ true
     apart true same = absurd (other.other (is ∙ sym (eqb-true own g same)))

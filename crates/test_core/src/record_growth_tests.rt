@@ -188,6 +188,7 @@ fn is_rebuilt(alloc: Global, room: usize) -> Result<Option<bool>, Memory> {
         false,
         &[],
         None,
+        None,
     );
     let mut given = Vec::new(&heap);
     if given.push(slot).is_err() {

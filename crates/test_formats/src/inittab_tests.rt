@@ -97,12 +97,17 @@ fn act_of(table: &Table, id: &[u8]) -> Option<Act> {
     Some(table.get(&Id::read(id)?)?.act)
 }
 
-/// Four of the five lines are left out.
+/// Three of the five lines are left out.
 const FIVE: &[u8] = b"toolong:3:once:x
 a:3:bogus:x
 a:3:once:
 b:3:off:
 b:2:once:x
+";
+
+const THREE_FAULTS: &str = "inittab line 2: unknown action
+inittab line 3: no process
+inittab line 5: duplicate id
 ";
 
 const FOUR_FAULTS: &str = "inittab line 1: bad id
@@ -111,27 +116,36 @@ inittab line 3: no process
 inittab line 5: duplicate id
 ";
 
-/// The entry b alone is found, by place and by id.
-fn is_b_alone(rt: &impl Abort, table: &Table) {
+/// Two entries are found, by place and by id.
+fn are_two(rt: &impl Abort, table: &Table) {
     assert!(rt;
         (
             act_at(table, 0),
             act_at(table, 1),
+            act_at(table, 2),
+            act_of(table, b"toolong"),
             act_of(table, b"b"),
             act_of(table, b"a")
-        ) == (Some(Act::Off), None, Some(Act::Off), None)
+        ) == (
+            Some(Act::Once),
+            Some(Act::Off),
+            None,
+            Some(Act::Once),
+            Some(Act::Off),
+            None
+        )
     );
 }
 
 #[test]
-fn one_entry_is_found(rt: HostRuntime) -> Result<(), Fail> {
+fn two_entries_are_found(rt: HostRuntime) -> Result<(), Fail> {
     let table = table_of(rt.alloc(), FIVE)?;
-    is_b_alone(&rt, &table);
+    are_two(&rt, &table);
     Ok(())
 }
 
 const FAULTS: &[(&[u8], &str)] = &[
-    (FIVE, FOUR_FAULTS),
+    (FIVE, THREE_FAULTS),
     (RESPAWNS, FOUR_FAULTS),
     (CHECKED, CHECKS),
     (IN_USE, ""),
@@ -145,7 +159,7 @@ fn faults(rt: HostRuntime) -> Result<(), Fail> {
     Ok(())
 }
 
-const RESPAWNS: &[u8] = b"toolong:3:once:x
+const RESPAWNS: &[u8] = b"ninebytes:3:once:x
 a:3:bogus:x
 a:3:respawn:
 b:3:respawn:y
@@ -166,7 +180,7 @@ a:3:boot:+
 a:3:wait:\xff
 a:3:wait:x\0
 z:3:wait:x
-toolong:012345678901:Wait:
+ninebytes:012345678901:Wait:
 z:012345678901:wait:
 z:\xff:wait:
 a#b";
@@ -221,7 +235,7 @@ fn written_lines(rt: HostRuntime) -> Result<(), Fail> {
 }
 
 const LEVELS: &[(&[u8], usize, Option<Level>)] = &[
-    (FIVE, 1, None),
+    (FIVE, 2, None),
     (CHECKED, 1, None),
     (IN_USE, 14, Some(Level::L2)),
     (b"a:3:wait:x\ni:abc:initdefault:\n", 2, None),
@@ -263,9 +277,14 @@ fn lines(alloc: Global, count: u32, process: &[u8]) -> Result<Vec<u8>, Fail> {
     Ok(text)
 }
 
-const NO_ENTRY: &[u8] = &[b'#'; 65_536];
-
-const NO_ENTRY_TOO_LONG: &[u8] = &[b'#'; 65_537];
+/// A comment of 1,048,576 bytes.
+fn longest_comment(alloc: Global) -> Result<Vec<u8>, Fail> {
+    let mut text = Vec::new(alloc);
+    for _ in 0..1_024 {
+        text.extend_from_slice(&[b'#'; 1_024])?;
+    }
+    Ok(text)
+}
 
 fn fault_of(alloc: Global, text: &[u8]) -> Option<TableFault> {
     inittab_text::read(alloc, text).err()
@@ -273,8 +292,10 @@ fn fault_of(alloc: Global, text: &[u8]) -> Option<TableFault> {
 
 #[test]
 fn limits(rt: HostRuntime) -> Result<(), Fail> {
-    is_read(&rt, rt.alloc(), NO_ENTRY, 0, None)?;
-    let fault = fault_of(rt.alloc(), NO_ENTRY_TOO_LONG);
+    let mut text = longest_comment(rt.alloc())?;
+    is_read(&rt, rt.alloc(), text.as_slice(), 0, None)?;
+    text.push(b'#')?;
+    let fault = fault_of(rt.alloc(), text.as_slice());
     assert!(rt; fault == Some(TableFault::TooLong));
     Ok(())
 }
@@ -283,7 +304,7 @@ fn limits(rt: HostRuntime) -> Result<(), Fail> {
 fn a_text_too_long_is_reported(rt: HostRuntime) -> Result<(), Fail> {
     let mut report = String::new(rt.alloc());
     write!(report, "{}", TableFault::TooLong)?;
-    assert!(rt; report.as_str() == "inittab is longer than 65536 bytes");
+    assert!(rt; report.as_str() == "inittab is longer than 1048576 bytes");
     Ok(())
 }
 
@@ -300,20 +321,20 @@ fn a_process_too_long(rt: HostRuntime) -> Result<(), Fail> {
 
 #[test]
 fn an_entry_too_many(rt: HostRuntime) -> Result<(), Fail> {
-    let text = lines(rt.alloc(), 513, b"x")?;
-    is_read(&rt, rt.alloc(), text.as_slice(), 512, None)?;
+    let text = lines(rt.alloc(), 4_097, b"x")?;
+    is_read(&rt, rt.alloc(), text.as_slice(), 4_096, None)?;
     has_faults(
         &rt,
         rt.alloc(),
         text.as_slice(),
-        "inittab line 513: too many entries\n",
+        "inittab line 4097: too many entries\n",
     )
 }
 
 #[test]
 fn the_longest_table(rt: HostRuntime) -> Result<(), Fail> {
-    let text = lines(rt.alloc(), 512, &PROCESS[..127])?;
-    assert!(rt; text.len() > 65_536);
+    let text = lines(rt.alloc(), 4_096, &PROCESS[..127])?;
+    assert!(rt; text.len() > 512 * 1_024);
     is_written_again(&rt, rt.alloc(), text.as_slice(), text.as_slice())
 }
 

@@ -1,7 +1,7 @@
 //! Each byte of two texts is changed to each other: what is left is taken over, and handed over again as it stands, or
 //! refused by the first check that fails.
 
-use crate::texts::{OPENING, STARTED};
+use crate::texts::{STARTED, STARTED_NOW};
 use init_words::Memory;
 use reexec_state::Over::{self, Cut, Generation, Line, Unfit, Version};
 use reexec_state::{hand_over, take_over};
@@ -44,8 +44,22 @@ const DIGITS: &[u8] = b"0123456789";
 /// Runlevels and letters other than 3 that are written as they stand, and the mark for none of them.
 const OTHER_MARKS: &[u8] = b"012456789SABC-";
 
+/// The state of an init that entered no stage yet and has no entry.
+const OPENING_NOW: &str = "initd-state 2
+generation 1
+clock 0
+stage none 0
+goal 3 5
+flags 00
+wish 00 - 000 000
+table 0
+end 8
+";
+
 /// Of a core with two starts open.
 const OF_STARTED: &[Row] = &[
+    // Records of version 1 don't say how the last child ended.
+    (1, 12, 12, These(b"1"), Some(Line(12))),
     (1, 0, ALL, Others, Some(Version)),
     (2, 11, 11, These(b"23456789"), Some(Generation)),
     (2, 0, ALL, Others, Some(Line(2))),
@@ -113,6 +127,7 @@ const OF_STARTED: &[Row] = &[
     (13, 24, 24, These(DIGITS), Some(Unfit)),
     (13, 26, 26, These(b"123456789"), Some(Unfit)),
     (13, 26, 26, These(b"-"), None),
+    (13, 33, 33, These(b"123456789"), None),
     (13, 0, ALL, Others, Some(Line(13))),
     (14, 5, 5, FirstOfId, Some(Unfit)),
     (14, 7, 7, These(DIGITS), Some(Unfit)),
@@ -121,7 +136,7 @@ const OF_STARTED: &[Row] = &[
     (14, 24, 24, These(DIGITS), Some(Unfit)),
     (14, 26, 26, These(DIGITS), Some(Unfit)),
     // The last line doesn't begin with its word.
-    (14, 27, 27, Others, Some(Cut)),
+    (14, 34, 34, Others, Some(Cut)),
     (14, 0, ALL, Others, Some(Line(14))),
     (15, 0, 3, Others, Some(Cut)),
     (15, 4, 5, These(b"\n"), Some(Cut)),
@@ -131,6 +146,8 @@ const OF_STARTED: &[Row] = &[
 
 /// Of a core that entered no stage.
 const OF_OPENING: &[Row] = &[
+    // Without records both versions say the same.
+    (1, 12, 12, These(b"1"), None),
     (1, 0, ALL, Others, Some(Version)),
     (2, 11, 11, These(b"23456789"), Some(Generation)),
     (2, 0, ALL, Others, Some(Line(2))),
@@ -155,8 +172,6 @@ const OF_OPENING: &[Row] = &[
     (9, 5, 5, Others, Some(Cut)),
     (9, 0, ALL, Others, Some(Line(9))),
 ];
-
-const TEXTS: &[(&str, &[Row])] = &[(STARTED, OF_STARTED), (OPENING, OF_OPENING)];
 
 fn is_of_id(byte: u8) -> bool {
     byte.is_ascii_graphic() && byte != b':'
@@ -226,7 +241,7 @@ fn changed(alloc: Global, text: &str, place: usize, byte: u8) -> Result<Vec<u8>,
 }
 
 /// What is answered to the text; and where it is taken over, whether it is handed over again as it stands, but for its
-/// generation.
+/// version and its generation.
 fn answer(alloc: Global, text: &[u8]) -> Result<(Option<Over>, bool), Fail> {
     let mut core = match take_over(alloc, text, 1) {
         Ok(core) => core,
@@ -237,8 +252,14 @@ fn answer(alloc: Global, text: &[u8]) -> Result<(Option<Over>, bool), Fail> {
         Some(digit) => *digit = b'1',
         None => return Err(Fail::from("no generation")),
     }
-    Ok((None, again.as_slice() == text))
+    Ok((
+        None,
+        again.as_slice().get(VERSION_END..) == text.get(VERSION_END..),
+    ))
 }
+
+/// Where the first line ends.
+const VERSION_END: usize = 13;
 
 /// Where the digit of the generation stands.
 const GENERATION_AT: usize = 25;
@@ -268,26 +289,59 @@ fn are_answered(
     Ok(())
 }
 
-#[test]
-fn each_byte_is_changed(rt: HostRuntime) -> Result<(), Fail> {
-    for (text, rows) in TEXTS {
-        let mut place = Place {
-            at: 0,
-            line: 1,
-            column: 0,
-        };
-        for own in text.bytes() {
-            are_answered(&rt, rt.alloc(), text, rows, &place, own)?;
-            place = place.next(own);
+/// With each other byte at each place of these lines, the first and the last.
+fn are_changed(
+    rt: &impl Abort,
+    alloc: Global,
+    text: &str,
+    rows: &[Row],
+    first: usize,
+    last: usize,
+) -> Result<(), Fail> {
+    let mut place = Place {
+        at: 0,
+        line: 1,
+        column: 0,
+    };
+    for own in text.bytes() {
+        if first <= place.line && place.line <= last {
+            are_answered(rt, alloc, text, rows, &place, own)?;
         }
+        place = place.next(own);
     }
     Ok(())
+}
+
+#[test]
+fn each_byte_of_heads_is_changed(rt: HostRuntime) -> Result<(), Fail> {
+    are_changed(&rt, rt.alloc(), STARTED_NOW, OF_STARTED, 1, 7)
+}
+
+#[test]
+fn each_byte_of_a_table_is_changed(rt: HostRuntime) -> Result<(), Fail> {
+    are_changed(&rt, rt.alloc(), STARTED_NOW, OF_STARTED, 8, 11)
+}
+
+#[test]
+fn each_byte_of_records_is_changed(rt: HostRuntime) -> Result<(), Fail> {
+    are_changed(&rt, rt.alloc(), STARTED_NOW, OF_STARTED, 12, 13)
+}
+
+#[test]
+fn each_byte_of_the_end_is_changed(rt: HostRuntime) -> Result<(), Fail> {
+    are_changed(&rt, rt.alloc(), STARTED_NOW, OF_STARTED, 14, ALL)
+}
+
+#[test]
+fn each_byte_without_records_is_changed(rt: HostRuntime) -> Result<(), Fail> {
+    are_changed(&rt, rt.alloc(), OPENING_NOW, OF_OPENING, 1, ALL)
 }
 
 /// A text, the generation that is asked for, and what is answered.
 const WHOLE: &[(&str, u64, Option<Over>)] = &[
     (STARTED, 1, None),
-    (OPENING, 1, None),
+    (STARTED_NOW, 1, None),
+    (OPENING_NOW, 1, None),
     (STARTED, 2, Some(Generation)),
     (STARTED, 0, Some(Generation)),
     ("", 1, Some(Cut)),
@@ -299,7 +353,7 @@ fn whole_texts(rt: HostRuntime) -> Result<(), Fail> {
         let got = take_over(rt.alloc(), text.as_bytes(), *generation).err();
         assert!(rt; got == *want, "{generation}: {text}");
     }
-    let (_, whole) = answer(rt.alloc(), STARTED.as_bytes())?;
+    let (_, whole) = answer(rt.alloc(), STARTED_NOW.as_bytes())?;
     assert!(rt; whole);
     Ok(())
 }
@@ -307,8 +361,8 @@ fn whole_texts(rt: HostRuntime) -> Result<(), Fail> {
 /// Each proper front of a text is cut, the empty one among them.
 #[test]
 fn each_front_is_cut(rt: HostRuntime) -> Result<(), Fail> {
-    for length in 0..STARTED.len() {
-        let front = STARTED.as_bytes().get(..length).ok_or("too short")?;
+    for length in 0..STARTED_NOW.len() {
+        let front = STARTED_NOW.as_bytes().get(..length).ok_or("too short")?;
         let got = take_over(rt.alloc(), front, 1).err();
         assert!(rt; got == Some(Cut), "{length}");
     }

@@ -1,12 +1,14 @@
 //! One line of a text is replaced by others, and the text is read or refused.
 
-use crate::texts::is_answered;
+use crate::texts::{STARTED, STARTED_NOW, is_answered};
 use state_text::Over::{self, Cut, Generation, Line, Version};
 use std::test::Fail;
 
 /// The number of a line, what stands in its place, and why the text is refused.
 const HEADS: &[(usize, &str, Over)] = &[
-    (1, "initd-state 2", Version),
+    // Each version has lines of its own.
+    (1, "initd-state 2", Line(12)),
+    (1, "initd-state 3", Version),
     (1, "initd-state 9", Version),
     (1, "initd-state 01", Version),
     (1, "initd-state 1 ", Version),
@@ -178,6 +180,8 @@ const TABLES: &[(usize, &str, Over)] = &[
     (10, "a:3:respawn: ", Line(10)),
     (10, "a:3:sysinit:x", Line(10)),
     (10, "abcde:3:respawn:x", Line(10)),
+    // The first of two.
+    (9, "abcde:3:initdefault:\nx", Line(9)),
     (10, ":3:respawn:x", Line(10)),
     (10, "id:3:respawn:x", Line(10)),
     (10, "id:3:initdefault:", Line(10)),
@@ -360,7 +364,7 @@ const READ: &[(usize, &str)] = &[
 #[test]
 fn heads(rt: HostRuntime) -> Result<(), Fail> {
     for (number, lines, why) in HEADS {
-        is_answered(&rt, rt.alloc(), *number, lines, Some(*why))?;
+        is_answered(&rt, rt.alloc(), STARTED, *number, lines, Some(*why))?;
     }
     Ok(())
 }
@@ -368,7 +372,7 @@ fn heads(rt: HostRuntime) -> Result<(), Fail> {
 #[test]
 fn tables(rt: HostRuntime) -> Result<(), Fail> {
     for (number, lines, why) in TABLES {
-        is_answered(&rt, rt.alloc(), *number, lines, Some(*why))?;
+        is_answered(&rt, rt.alloc(), STARTED, *number, lines, Some(*why))?;
     }
     Ok(())
 }
@@ -376,7 +380,7 @@ fn tables(rt: HostRuntime) -> Result<(), Fail> {
 #[test]
 fn slots(rt: HostRuntime) -> Result<(), Fail> {
     for (number, lines, why) in SLOTS {
-        is_answered(&rt, rt.alloc(), *number, lines, Some(*why))?;
+        is_answered(&rt, rt.alloc(), STARTED, *number, lines, Some(*why))?;
     }
     Ok(())
 }
@@ -384,7 +388,7 @@ fn slots(rt: HostRuntime) -> Result<(), Fail> {
 #[test]
 fn ends(rt: HostRuntime) -> Result<(), Fail> {
     for (number, lines, why) in ENDS {
-        is_answered(&rt, rt.alloc(), *number, lines, Some(*why))?;
+        is_answered(&rt, rt.alloc(), STARTED, *number, lines, Some(*why))?;
     }
     Ok(())
 }
@@ -392,7 +396,44 @@ fn ends(rt: HostRuntime) -> Result<(), Fail> {
 #[test]
 fn reads(rt: HostRuntime) -> Result<(), Fail> {
     for (number, lines) in READ {
-        is_answered(&rt, rt.alloc(), *number, lines, None)?;
+        is_answered(&rt, rt.alloc(), STARTED, *number, lines, None)?;
+    }
+    Ok(())
+}
+
+/// The same of a text of version 2.
+const LASTS: &[(usize, &str, Option<Over>)] = &[
+    (1, "initd-state 1", Some(Line(12))),
+    (13, "slot a - - start - 1000 - 0", Some(Line(13))),
+    (13, "slot a - - start - 1000 - 0 ", Some(Line(13))),
+    (13, "slot a - - start - 1000 - 0  -", Some(Line(13))),
+    (13, "slot a - - start - 1000 - 0 - ", Some(Line(13))),
+    (13, "slot a - - start - 1000 - 0 - -", Some(Line(13))),
+    (13, "slot a - - start - 1000 - 0 --", Some(Line(13))),
+    (13, "slot a - - start - 1000 - 0 none", Some(Line(13))),
+    (13, "slot a - - start - 1000 - 0 exit", Some(Line(13))),
+    (13, "slot a - - start - 1000 - 0 exit:", Some(Line(13))),
+    (13, "slot a - - start - 1000 - 0 exit:-", Some(Line(13))),
+    (13, "slot a - - start - 1000 - 0 exit:00", Some(Line(13))),
+    (13, "slot a - - start - 1000 - 0 exit:256", Some(Line(13))),
+    (13, "slot a - - start - 1000 - 0 exit 0", Some(Line(13))),
+    (13, "slot a - - start - 1000 - 0 exit:0:0", Some(Line(13))),
+    (13, "slot a - - start - 1000 - 0 Exit:0", Some(Line(13))),
+    (13, "slot a - - start - 1000 - 0 kill", Some(Line(13))),
+    (13, "slot a - - start - 1000 - 0 killed:9", Some(Line(13))),
+    (13, "slot a - - start - 1000 - 0 -", None),
+    (13, "slot a - - start - 1000 - 0 exit:255", None),
+    (13, "slot a - - start - 1000 - 0 killed", None),
+    (13, "slot abcdefgh - - start - 1000 - 0 -", None),
+    (13, "slot abcdefghi - - start - 1000 - 0 -", Some(Line(13))),
+    (10, "abcdefgh:3:respawn:x", None),
+    (10, "abcdefghi:3:respawn:x", Some(Line(10))),
+];
+
+#[test]
+fn lasts(rt: HostRuntime) -> Result<(), Fail> {
+    for (number, lines, want) in LASTS {
+        is_answered(&rt, rt.alloc(), STARTED_NOW, *number, lines, *want)?;
     }
     Ok(())
 }

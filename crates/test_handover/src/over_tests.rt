@@ -143,7 +143,7 @@ fn hands_on(
     generation: u64,
 ) -> Result<bool, Fail> {
     let text = hand_over(alloc, core)?;
-    let want = format!(in alloc; "initd-state 1\ngeneration {generation}\n{SETTLED}")?;
+    let want = format!(in alloc; "initd-state 2\ngeneration {generation}\n{SETTLED}")?;
     assert!(rt; text.as_slice() == want.as_bytes());
     Ok(generation_of(&text) == Some(generation))
 }
@@ -159,7 +159,7 @@ fn handed_on(rt: HostRuntime) -> Result<(), Fail> {
 
 #[test]
 fn taken_over(rt: HostRuntime) -> Result<(), Fail> {
-    let text = format!(in rt.alloc(); "initd-state 1\ngeneration 1\n{SETTLED}")?;
+    let text = format!(in rt.alloc(); "initd-state 2\ngeneration 1\n{SETTLED}")?;
     let mut core = take_over(rt.alloc(), text.as_bytes(), 1)?;
     assert!(rt; matches!(core.next(), Step::Idle));
     assert!(rt; hands_on(&rt, rt.alloc(), &mut core, 2)?);
@@ -168,7 +168,7 @@ fn taken_over(rt: HostRuntime) -> Result<(), Fail> {
 
 #[test]
 fn other_texts(rt: HostRuntime) -> Result<(), Fail> {
-    let text = format!(in rt.alloc(); "initd-state 1\ngeneration 1\n{SETTLED}")?;
+    let text = format!(in rt.alloc(); "initd-state 2\ngeneration 1\n{SETTLED}")?;
     assert!(rt; refused(rt.alloc(), text.as_bytes(), 2) == Some(Over::Generation));
     assert!(rt; refused(rt.alloc(), b"initd-state 1\ngeneration 1\n", 1) == Some(Over::Cut));
     Ok(())
@@ -176,7 +176,7 @@ fn other_texts(rt: HostRuntime) -> Result<(), Fail> {
 
 #[test]
 fn last_generation(rt: HostRuntime) -> Result<(), Fail> {
-    let text = format!(in rt.alloc(); "initd-state 1\ngeneration {}\n{SETTLED}", u64::MAX)?;
+    let text = format!(in rt.alloc(); "initd-state 2\ngeneration {}\n{SETTLED}", u64::MAX)?;
     let mut core = take_over(rt.alloc(), text.as_bytes(), u64::MAX)?;
     assert!(rt; hand_over(rt.alloc(), &mut core) == Err(Over::Worn));
     assert!(rt; core.generation() == u64::MAX);

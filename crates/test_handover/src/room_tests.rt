@@ -14,8 +14,9 @@ use std::test::Fail;
 /// some heap.
 const STEP: usize = 16;
 
-/// A core with a child, an order about it that is open, a signal that is due, a wish for another level, and times.
-const BUSY: &str = "initd-state 1
+/// A core with a child, an order about it that is open, a signal that is due, a wish for another level, times, and ends
+/// of children.
+const BUSY: &str = "initd-state 2
 generation 1
 clock 700
 stage 3 5
@@ -26,15 +27,15 @@ table 3
 w:3:wait:a
 r:3:respawn:b
 d:3A:ondemand:c
-slot w - - - - 1000 - -
-slot r 700 respawn look - 1010 - 6,7,600
-slot d - - - - 0100 - -
-slot x 701 once term due 0011 - -
+slot w - - - - 1000 - - exit:3
+slot r 700 respawn look - 1010 - 6,7,600 -
+slot d - - - - 0100 - - killed
+slot x 701 once term due 0011 - - exit:255
 end 15
 ";
 
 /// What such a core hands over next.
-const BUSY_AGAIN: &str = "initd-state 1
+const BUSY_AGAIN: &str = "initd-state 2
 generation 2
 clock 700
 stage 3 5
@@ -45,10 +46,10 @@ table 3
 w:3:wait:a
 r:3:respawn:b
 d:3A:ondemand:c
-slot w - - - - 1000 - -
-slot r 700 respawn look - 1010 - 6,7,600
-slot d - - - - 0100 - -
-slot x 701 once term due 0011 - -
+slot w - - - - 1000 - - exit:3
+slot r 700 respawn look - 1010 - 6,7,600 -
+slot d - - - - 0100 - - killed
+slot x 701 once term due 0011 - - exit:255
 end 15
 ";
 
@@ -117,7 +118,7 @@ fn is_rebuilt(
 
 #[test]
 fn a_core_without_room_is_not_rebuilt(rt: HostRuntime) -> Result<(), Fail> {
-    let text = format!(in rt.alloc(); "initd-state 1\ngeneration 1\n{SETTLED}")?;
+    let text = format!(in rt.alloc(); "initd-state 2\ngeneration 1\n{SETTLED}")?;
     let mut refused = 0usize;
     let mut rebuilt = 0usize;
     for step in 1..400usize {
@@ -142,8 +143,9 @@ fn a_text_without_room_is_not_taken_over(rt: HostRuntime) -> Result<(), Fail> {
     Err(Fail::from("no heap has room"))
 }
 
-/// A core with a child, a look at it that is open, a child to be stopped, a wish for another level, and times.
-const QUIET: &str = "initd-state 1
+/// A core with a child, a look at it that is open, a child to be stopped, a wish for another level, times, and ends of
+/// children.
+const QUIET: &str = "initd-state 2
 generation 1
 clock 700
 stage 3 5
@@ -153,14 +155,14 @@ wish 10 4:8 101 010
 table 2
 w:3:wait:a
 r:3:respawn:b
-slot w - - - - 1000 - -
-slot r 700 respawn look - 1010 - 6,7,600
-slot x 701 once - due 0011 - -
+slot w - - - - 1000 - - exit:3
+slot r 700 respawn look - 1010 - 6,7,600 -
+slot x 701 once - due 0011 - - exit:255
 end 13
 ";
 
 /// What such a core hands over next.
-const QUIET_AGAIN: &str = "initd-state 1
+const QUIET_AGAIN: &str = "initd-state 2
 generation 2
 clock 700
 stage 3 5
@@ -170,9 +172,9 @@ wish 10 4:8 101 010
 table 2
 w:3:wait:a
 r:3:respawn:b
-slot w - - - - 1000 - -
-slot r 700 respawn look - 1010 - 6,7,600
-slot x 701 once - due 0011 - -
+slot w - - - - 1000 - - exit:3
+slot r 700 respawn look - 1010 - 6,7,600 -
+slot x 701 once - due 0011 - - exit:255
 end 13
 ";
 

@@ -7,7 +7,7 @@ pub(crate) const INITTAB: &[u8] = b"w:3:wait:a\nr:3:respawn:b\n";
 
 /// The text from its third line on: `w` was waited for, and `r` runs.
 pub(crate) const SETTLED: &str = "clock 7\nstage 3 5\ngoal 3 5\nflags 11\nwish 00 - 000 000\n\
-    table 2\nw:3:wait:a\nr:3:respawn:b\nslot w - - - - 1000 - -\nslot r 700 respawn - - 1000 - 7\nend 12\n";
+    table 2\nw:3:wait:a\nr:3:respawn:b\nslot w - - - - 1000 - - exit:0\nslot r 700 respawn - - 1000 - 7 -\nend 12\n";
 
 fn answer_to(ask: Ask) -> Answer {
     match ask {

@@ -1,6 +1,6 @@
 //! Texts that are cut short, texts of other shapes, and which check comes first.
 
-use crate::texts::{OPENING, STARTED, refusal};
+use crate::texts::{OPENING, STARTED, STARTED_NOW, refusal};
 use state_text::Over::{self, Cut, Generation, Line, Version};
 use std::alloc::Global;
 use std::fmt::Write;
@@ -84,25 +84,30 @@ fn refused_texts(rt: HostRuntime) -> Result<(), Fail> {
     Ok(())
 }
 
-fn is_cut(rt: &impl Abort, alloc: Global, length: usize) -> Result<(), Fail> {
-    let text = STARTED.as_bytes().get(..length).ok_or("too short")?;
+fn is_cut(rt: &impl Abort, alloc: Global, text: &str, length: usize) -> Result<(), Fail> {
+    let text = text.as_bytes().get(..length).ok_or("too short")?;
     let got = refusal(alloc, text, 1);
     assert!(rt; got == Some(Cut), "{length}");
     Ok(())
 }
 
+const WHOLE: &[&str] = &[STARTED, STARTED_NOW];
+
 #[test]
 fn cut_texts(rt: HostRuntime) -> Result<(), Fail> {
-    for length in 0..STARTED.len() {
-        is_cut(&rt, rt.alloc(), length)?;
+    for text in WHOLE {
+        for length in 0..text.len() {
+            is_cut(&rt, rt.alloc(), text, length)?;
+        }
     }
     Ok(())
 }
 
-/// A text of the given number of entries, and none of its records.
-fn add_entries(text: &mut String, entries: u64) -> Result<(), Fail> {
-    let (heads, _) = OPENING.split_once("table").ok_or("no table")?;
-    writeln!(text, "{heads}table {entries}")?;
+/// A text of the version, of the given number of entries, and none of its records.
+fn add_entries(text: &mut String, version: u64, entries: u64) -> Result<(), Fail> {
+    let (_, lines) = OPENING.split_once('\n').ok_or("no line")?;
+    let (heads, _) = lines.split_once("table").ok_or("no table")?;
+    writeln!(text, "initd-state {version}\n{heads}table {entries}")?;
     for number in 0..entries {
         writeln!(text, "{number}:3:once:x")?;
     }
@@ -110,25 +115,37 @@ fn add_entries(text: &mut String, entries: u64) -> Result<(), Fail> {
     Ok(())
 }
 
-fn entries_answered(alloc: Global, entries: u64) -> Result<Option<Over>, Fail> {
+fn entries_answered(alloc: Global, version: u64, entries: u64) -> Result<Option<Over>, Fail> {
     let mut text = String::new(alloc);
-    add_entries(&mut text, entries)?;
+    add_entries(&mut text, version, entries)?;
     Ok(refusal(alloc, text.as_bytes(), 1))
 }
 
-/// A table has 512 entries at most: the first that is too many is refused.
-const LARGEST: &[(u64, Option<Over>)] = &[(512, None), (513, Some(Line(521)))];
+/// A version, and how many entries there are: the first that is too many is refused.
+const LARGEST: &[(u64, u64, Option<Over>)] = &[
+    (1, 512, None),
+    (1, 513, Some(Line(521))),
+    (2, 513, None),
+    (2, 4_096, None),
+    (2, 4_097, Some(Line(4_105))),
+];
 
-fn is_large(rt: &impl Abort, alloc: Global, entries: u64, want: Option<Over>) -> Result<(), Fail> {
-    let got = entries_answered(alloc, entries)?;
-    assert!(rt; got == want, "{entries}");
+fn is_large(
+    rt: &impl Abort,
+    alloc: Global,
+    version: u64,
+    entries: u64,
+    want: Option<Over>,
+) -> Result<(), Fail> {
+    let got = entries_answered(alloc, version, entries)?;
+    assert!(rt; got == want, "{version}: {entries}");
     Ok(())
 }
 
 #[test]
 fn largest_tables(rt: HostRuntime) -> Result<(), Fail> {
-    for (entries, want) in LARGEST {
-        is_large(&rt, rt.alloc(), *entries, *want)?;
+    for (version, entries, want) in LARGEST {
+        is_large(&rt, rt.alloc(), *version, *entries, *want)?;
     }
     Ok(())
 }

@@ -21,6 +21,24 @@ slot b - - start - 1000 - -
 end 14
 ";
 
+/// The same in version 2, whose records say how the last child ended.
+pub(crate) const STARTED_NOW: &str = "initd-state 2
+generation 1
+clock 0
+stage 3 5
+goal 3 5
+flags 10
+wish 00 - 000 000
+table 3
+id:3:initdefault:
+a:3:respawn:x
+b:3:once:y
+slot id - - - - 0000 - - -
+slot a - - start - 1000 - 0 exit:0
+slot b - - start - 1000 - - killed
+end 14
+";
+
 /// The state of an init that entered no stage yet and has no entry, re-executed once.
 pub(crate) const OPENING: &str = "initd-state 1
 generation 1
@@ -39,9 +57,9 @@ pub(crate) fn refusal(alloc: Global, text: &[u8], generation: u64) -> Option<Ove
 }
 
 /// The text with these lines in place of the one of a number, counted from 1; an empty text is no line.
-fn replaced(alloc: Global, number: usize, lines: &str) -> Result<String, AllocError> {
+fn replaced(alloc: Global, whole: &str, number: usize, lines: &str) -> Result<String, AllocError> {
     let mut text = String::new(alloc);
-    for (at, line) in STARTED.lines().enumerate() {
+    for (at, line) in whole.lines().enumerate() {
         let line = if at + 1 == number { lines } else { line };
         text.push_str(line)?;
         if !line.is_empty() {
@@ -51,15 +69,16 @@ fn replaced(alloc: Global, number: usize, lines: &str) -> Result<String, AllocEr
     Ok(text)
 }
 
-/// So it is answered where these lines stand in place of the one of a number.
+/// So it is answered where these lines of a text stand in place of the one of a number.
 pub(crate) fn is_answered(
     rt: &impl Abort,
     alloc: Global,
+    whole: &str,
     number: usize,
     lines: &str,
     want: Option<Over>,
 ) -> Result<(), Fail> {
-    let text = replaced(alloc, number, lines)?;
+    let text = replaced(alloc, whole, number, lines)?;
     let got = refusal(alloc, text.as_bytes(), 1);
     assert!(rt; got == want, "{number}: {lines}");
     Ok(())

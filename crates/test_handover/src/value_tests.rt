@@ -4,7 +4,7 @@ use crate::texts::STARTED;
 use child_table::Stop;
 use core_model::{Heads, News, Parts, Record};
 use init_trace::Goal;
-use init_words::{Act, Ask, ChildNo, Level, Memory, Stage};
+use init_words::{Act, Ask, ChildNo, Level, Memory, Stage, Status};
 use inittab_text::Table;
 use level_core::Core;
 use state_text::{Over, generation_of, read_state, write_state};
@@ -13,6 +13,24 @@ use std::process::Abort;
 use std::test::Fail;
 
 const TABLE: &str = "id:3:initdefault:\na:3:respawn:x\nb:3:once:y\n";
+
+/// What is written of a core with two starts under way.
+const STARTED_FIRST: &str = "initd-state 2
+generation 1
+clock 0
+stage 3 5
+goal 3 5
+flags 10
+wish 00 - 000 000
+table 3
+id:3:initdefault:
+a:3:respawn:x
+b:3:once:y
+slot id - - - - 0000 - - -
+slot a - - start - 1000 - 0 -
+slot b - - start - 1000 - - -
+end 14
+";
 
 /// A record, its flags in the order asked, called, look, missed.
 struct Kept {
@@ -24,6 +42,7 @@ struct Kept {
     flags: [bool; 4],
     held_until: Option<u64>,
     starts: &'static [u64],
+    last: Option<Status>,
 }
 
 const STARTED_RECORDS: &[Kept] = &[
@@ -36,6 +55,7 @@ const STARTED_RECORDS: &[Kept] = &[
         flags: [false, false, false, false],
         held_until: None,
         starts: &[],
+        last: None,
     },
     Kept {
         id: "a",
@@ -46,6 +66,7 @@ const STARTED_RECORDS: &[Kept] = &[
         flags: [true, false, false, false],
         held_until: None,
         starts: &[0],
+        last: None,
     },
     Kept {
         id: "b",
@@ -56,11 +77,12 @@ const STARTED_RECORDS: &[Kept] = &[
         flags: [true, false, false, false],
         held_until: None,
         starts: &[],
+        last: None,
     },
 ];
 
 /// A text whose every word says something else.
-const BUSY: &str = "initd-state 1
+const BUSY: &str = "initd-state 2
 generation 18446744073709551615
 clock 700
 stage S 3600
@@ -69,14 +91,14 @@ flags 01
 wish 10 9:8 101 010
 table 1
 p:S012:powerokwait:+run it: now
-slot p 4294967295 powerokwait look term:690 0111 1000 0,1,2,3,4,5,6,7,8,600
-slot old 0 boot kill due 1000 - 9
-slot ~ 7 off term kill:18446744073709551615 0001 0 -
+slot p 4294967295 powerokwait look term:690 0111 1000 0,1,2,3,4,5,6,7,8,600 exit:255
+slot old 0 boot kill due 1000 - 9 killed
+slot ~ 7 off term kill:18446744073709551615 0001 0 - -
 end 12
 ";
 
 /// The heads of that text with no entry.
-const BUSY_ALONE: &str = "initd-state 1
+const BUSY_ALONE: &str = "initd-state 2
 generation 18446744073709551615
 clock 700
 stage S 3600
@@ -97,6 +119,7 @@ const BUSY_RECORDS: &[Kept] = &[
         flags: [false, true, true, true],
         held_until: Some(1000),
         starts: &[0, 1, 2, 3, 4, 5, 6, 7, 8, 600],
+        last: Some(Status::Exit(255)),
     },
     Kept {
         id: "old",
@@ -107,6 +130,7 @@ const BUSY_RECORDS: &[Kept] = &[
         flags: [true, false, false, false],
         held_until: None,
         starts: &[9],
+        last: Some(Status::Killed),
     },
     Kept {
         id: "~",
@@ -117,6 +141,7 @@ const BUSY_RECORDS: &[Kept] = &[
         flags: [false, false, false, true],
         held_until: Some(0),
         starts: &[],
+        last: None,
     },
 ];
 
@@ -242,7 +267,9 @@ fn is_ordered(record: &Record, kept: &Kept) -> bool {
 }
 
 fn is_timely(record: &Record, kept: &Kept) -> bool {
-    record.held_until == kept.held_until && record.starts.as_slice() == kept.starts
+    record.held_until == kept.held_until
+        && record.starts.as_slice() == kept.starts
+        && record.last == kept.last
 }
 
 fn is_kept(record: &Record, kept: &Kept) -> bool {
@@ -293,7 +320,7 @@ fn is_read(rt: &impl Abort, alloc: Global, text: &str, heads: &Heads, table: &st
 #[test]
 fn a_core_is_written(rt: HostRuntime) -> Result<(), Fail> {
     let core = started(rt.alloc())?;
-    is_written(&rt, rt.alloc(), &heads_of(&core), &core, STARTED)
+    is_written(&rt, rt.alloc(), &heads_of(&core), &core, STARTED_FIRST)
 }
 
 #[test]

@@ -94,9 +94,6 @@ fn remove_channel<R: Files>(rt: &R) -> Result<(), Fail> {
     Ok(())
 }
 
-/// One byte more than an inittab may have.
-const TOO_LONG: &[u8] = &[b'#'; 65_537];
-
 /// An inittab, a script, a command line, its status, and what is written and reported.
 const OVER_FILES: &[(&[u8], &[u8], &str, u8, &str)] = &[
     // Faults of the script and of the inittab.
@@ -148,13 +145,6 @@ const OVER_FILES: &[(&[u8], &[u8], &str, u8, &str)] = &[
         "simulate row-table row-script",
         1,
         "use 0\nenter sysinit 5\nenter S 5\nsettle S\n--\ninitd: script line 1 is not a line\n",
-    ),
-    (
-        TOO_LONG,
-        b"",
-        "simulate row-table row-script",
-        1,
-        "--\ninitd: the inittab is longer than 65,536 bytes\n",
     ),
     // The level.
     (
@@ -268,13 +258,6 @@ const OVER_FILES: &[(&[u8], &[u8], &str, u8, &str)] = &[
         "--\ninitd: cannot lock .: it is no plain file\n",
     ),
     (
-        TOO_LONG,
-        b"",
-        "run --inittab row-table --initctl row-ctl --trace row-absent/trace",
-        1,
-        "--\ninitd: the inittab is longer than 65,536 bytes\n",
-    ),
-    (
         b"a:S:once\n",
         b"",
         "run --inittab row-table --initctl row-ctl --trace row-absent/trace",
@@ -288,10 +271,40 @@ const OVER_FILES: &[(&[u8], &[u8], &str, u8, &str)] = &[
         4,
         "--\ninitd: cannot read row-absent: No such file or directory (os error 2)\n",
     ),
+];
+
+#[test]
+fn command_lines(rt: HostRuntime) -> Result<(), Fail> {
+    for (inittab, script, line, status, want) in OVER_FILES {
+        answers_over(&rt, rt.alloc(), inittab, script, line, *status, want)?;
+    }
+    Ok(())
+}
+
+/// One byte more than an inittab may have.
+fn too_long(alloc: Global) -> Result<Vec<u8>, Fail> {
+    let mut text = Vec::new(alloc);
+    for _ in 0..1_024 {
+        text.extend_from_slice(&[b'#'; 1_024])?;
+    }
+    text.push(b'#')?;
+    Ok(text)
+}
+
+/// A command line over an inittab that is too long and an empty script, its status, and what is written and reported.
+const OVER_LONG: &[(&str, u8, &str)] = &[
+    (
+        "simulate row-table row-script",
+        1,
+        "--\ninitd: the inittab is longer than 1,048,576 bytes\n",
+    ),
+    (
+        "run --inittab row-table --initctl row-ctl --trace row-absent/trace",
+        1,
+        "--\ninitd: the inittab is longer than 1,048,576 bytes\n",
+    ),
     // An unread script comes before a long inittab.
     (
-        TOO_LONG,
-        b"",
         "simulate row-table absent",
         4,
         "--\ninitd: cannot read absent: No such file or directory (os error 2)\n",
@@ -299,9 +312,10 @@ const OVER_FILES: &[(&[u8], &[u8], &str, u8, &str)] = &[
 ];
 
 #[test]
-fn command_lines(rt: HostRuntime) -> Result<(), Fail> {
-    for (inittab, script, line, status, want) in OVER_FILES {
-        answers_over(&rt, rt.alloc(), inittab, script, line, *status, want)?;
+fn long_inittabs(rt: HostRuntime) -> Result<(), Fail> {
+    let inittab = too_long(rt.alloc())?;
+    for (line, status, want) in OVER_LONG {
+        answers_over(&rt, rt.alloc(), &inittab, b"", line, *status, want)?;
     }
     Ok(())
 }
@@ -417,7 +431,7 @@ const REFUSED: &[(&str, &str)] = &[
     ("run --pause .5", "--pause .5: not 0.01 to 60 seconds"),
     ("run --pause 0.x", "--pause 0.x: not 0.01 to 60 seconds"),
     ("run --pause=-1", "--pause -1: not 0.01 to 60 seconds"),
-    ("run --result abcde", "--result abcde: no id"),
+    ("run --result abcdefghi", "--result abcdefghi: no id"),
     ("run --result #a", "--result #a: no id"),
     ("run --result a:b", "--result a:b: no id"),
 ];

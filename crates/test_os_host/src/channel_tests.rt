@@ -278,6 +278,10 @@ const TORN: &[Life] = &[
             Step::Take(383),
             Step::Take(0),
             Step::Take(0),
+            Step::Put(&[GOOD, Part::Zeros(7)]),
+            Step::Take(391),
+            Step::Take(0),
+            Step::Take(0),
         ],
     },
 ];
@@ -287,6 +291,8 @@ initd: k.ctl: request 2 has no magic number: passed over
 initd: k.ctl has 20 bytes that are no whole request: every later request is out of step; truncate -s %384 k.ctl, or remove it
 initd: k.ctl: request 3 has no magic number: passed over
 initd: k.ctl has 383 bytes that are no whole request: every later request is out of step; truncate -s %384 k.ctl, or remove it
+initd: k.ctl was made anew: read from its beginning
+initd: k.ctl has 7 bytes that are no whole request: every later request is out of step; truncate -s %384 k.ctl, or remove it
 -
 ";
 

@@ -34,7 +34,7 @@ initd: inittab line 1: unknown action
 end
 ";
 
-const ERR: &str = "initd: t.tab is longer than 65536 bytes: shorten it, and give telinit q
+const ERR: &str = "initd: t.tab is longer than 1048576 bytes: shorten it, and give telinit q
 0 faults
 ";
 
@@ -50,7 +50,7 @@ fn reads(rt: &HostRuntime, host: &mut SystemHost, alloc: Global, text: &str) -> 
 /// An inittab of a byte too many, of comments.
 fn long_text(alloc: Global) -> Result<String, Fail> {
     let mut text = String::new(alloc);
-    for _ in 0..65_537u32 {
+    for _ in 0..1_048_577u32 {
         text.push('#')?;
     }
     Ok(text)

@@ -172,7 +172,7 @@ fn has_ended(rt: &HostRuntime, id: &str, path: &str) -> bool {
 /// The file has the text of init's state, handed over for the first time.
 fn is_handed_over(rt: &HostRuntime, path: &str) -> bool {
     match fs::read_to_string(rt, path) {
-        Ok(text) => text.as_str().starts_with("initd-state 1\ngeneration 1\n"),
+        Ok(text) => text.as_str().starts_with("initd-state 2\ngeneration 1\n"),
         Err(_) => false,
     }
 }

@@ -59,7 +59,7 @@ const TEXTS: &[(&str, u64)] = &[
     // Words that are none, too few or too many.
     ("death\n", 1),
     ("told\n", 1),
-    ("told toolong\n", 1),
+    ("told ninebytes\n", 1),
     ("told r r\n", 1),
     ("told #a\n", 1),
     ("enter s 5\n", 1),
@@ -82,7 +82,7 @@ const TEXTS: &[(&str, u64)] = &[
     ("use 1\na:s:once:x\n", 1),
     ("use 1\na:3:ONCE:x\n", 1),
     ("use 1\n#\n", 1),
-    ("use 513\n", 1),
+    ("use 4097\n", 1),
     ("use 1\na:3:once:x\nb:3:once:y\n", 3),
 ];
 

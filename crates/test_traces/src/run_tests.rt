@@ -3,6 +3,7 @@ use init_words::Level;
 use simulator::SimFault;
 use std::alloc::{AllocError, Global};
 use std::process::Abort;
+use std::test::Fail;
 
 /// The run over an inittab and a script.
 fn run_over(
@@ -594,9 +595,18 @@ fn a_last_line_without_a_newline_counts(rt: HostRuntime) {
 }
 
 /// One byte more than an inittab may have.
-const TOO_LONG: &[u8] = &[b'#'; 65_537];
+fn too_long(alloc: Global) -> Result<Vec<u8>, AllocError> {
+    let mut text = Vec::new(alloc);
+    for _ in 0..1_024 {
+        text.extend_from_slice(&[b'#'; 1_024])?;
+    }
+    text.push(b'#')?;
+    Ok(text)
+}
 
 #[test]
-fn a_long_inittab_is_refused(rt: HostRuntime) {
-    assert!(rt; ends(rt.alloc(), TOO_LONG, b"", Err(SimFault::Table), b""));
+fn a_long_inittab_is_refused(rt: HostRuntime) -> Result<(), Fail> {
+    let text = too_long(rt.alloc())?;
+    assert!(rt; ends(rt.alloc(), &text, b"", Err(SimFault::Table), b""));
+    Ok(())
 }

@@ -172,7 +172,14 @@ fn give_part<A: Allocator + Copy>(
 }
 
 /// One byte more than an inittab may have.
-const TOO_LONG: &[u8] = &[b'#'; 65_537];
+fn too_long(alloc: Global) -> Option<Vec<u8>> {
+    let mut text = Vec::new(alloc);
+    for _ in 0..1_024 {
+        text.extend_from_slice(&[b'#'; 1_024]).ok()?;
+    }
+    text.push(b'#').ok()?;
+    Some(text)
+}
 
 fn give_text<A: Allocator + Copy>(alloc: A, host: &mut MemoryHost<A>, text: &[u8]) -> bool {
     let Ok(bytes) = Bytes::copy_of(alloc, text) else {
@@ -187,10 +194,12 @@ fn give_table<A: Allocator + Copy>(
     host: &mut MemoryHost<A>,
     text: &str,
 ) -> bool {
-    if text == "long" {
-        return give_text(alloc, host, TOO_LONG);
-    }
-    match &lines_of(own, text, "|") {
+    let given = if text == "long" {
+        too_long(own)
+    } else {
+        lines_of(own, text, "|")
+    };
+    match &given {
         Some(lines) => give_text(alloc, host, lines.as_slice()),
         None => false,
     }

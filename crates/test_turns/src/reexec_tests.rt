@@ -26,7 +26,7 @@ const ROWS: &[Row] = &[
     // Its first lines come back.
     Row {
         inittab: "# none",
-        gifts: "bytes q u / carry initd-state 1|generation 1|clock 0",
+        gifts: "bytes q u / carry initd-state 2|generation 1|clock 0",
         limit: (1, true),
         ended: (1, true),
         faults: 0,
@@ -35,7 +35,7 @@ const ROWS: &[Row] = &[
     // What comes back is cut, and no part of it.
     Row {
         inittab: "# none",
-        gifts: "bytes q u / carry initd-state 1|generation 1|clock 9",
+        gifts: "bytes q u / carry initd-state 2|generation 1|clock 9",
         limit: (1, true),
         ended: (1, true),
         faults: 0,
@@ -44,7 +44,7 @@ const ROWS: &[Row] = &[
     // A text of another generation comes back.
     Row {
         inittab: "# none",
-        gifts: "bytes q u / carry initd-state 1|generation 7|clock 0|stage sysinit 5|goal S 5|flags 00|\
+        gifts: "bytes q u / carry initd-state 2|generation 7|clock 0|stage sysinit 5|goal S 5|flags 00|\
                 wish 10 - 000 000|table 0|end 8",
         limit: (1, true),
         ended: (1, true),
@@ -63,7 +63,7 @@ const ROWS: &[Row] = &[
     },
     Row {
         inittab: "# none",
-        gifts: "bytes q u / carry initd-state 1|generation 1|clock 0|stage sysinit 5|goal S 5|flags 00|\
+        gifts: "bytes q u / carry initd-state 2|generation 1|clock 0|stage sysinit 5|goal S 5|flags 00|\
                 wish 10 - 000 000|table 0|end 9",
         limit: (1, true),
         ended: (1, true),
@@ -72,7 +72,7 @@ const ROWS: &[Row] = &[
     },
     Row {
         inittab: "# none",
-        gifts: "bytes q u / carry initd-state 1|generation 1|clock 0|stage sysinit 5|goal S 5|flags 01|\
+        gifts: "bytes q u / carry initd-state 2|generation 1|clock 0|stage sysinit 5|goal S 5|flags 01|\
                 wish 10 - 000 000|table 0|end 8",
         limit: (1, true),
         ended: (1, true),
@@ -83,7 +83,7 @@ const ROWS: &[Row] = &[
     Row {
         inittab: "# none",
         gifts: "bytes u / bytes / bytes u / bytes / bytes u / carry fails / \
-                carry initd-state 1|generation 1|clock 0|stage sysinit 5|goal S 5|flags 00|wish 00 - 000 000|table 0|end 8",
+                carry initd-state 2|generation 1|clock 0|stage sysinit 5|goal S 5|flags 00|wish 00 - 000 000|table 0|end 8",
         limit: (3, false),
         ended: (3, true),
         faults: 1,

@@ -1,7 +1,6 @@
 use Rattle.std.proofs.Common.{codes}
-use Rattle.program_io.proofs.WritingLemmas.{AppendsPrefix-then}
 use Rattle.program_version.specs.declared.TheConstants.{KIT, VERSION}
-use Rattle.program_version.proofs.WriteLemmas.{front_err, last_err, last_ok, on_err, stops}
+use Rattle.program_io.proofs.WritingLemmas.{AppendsPrefix-then, front_err, last_err, last_ok, on_err, stops}
 use Rattle.program_version.proofs.write_line.Goals as goal
 
 pub returns-in_err-write_text-clause-err : goal.returns-in_err-write_text-clause-err

@@ -1,6 +1,5 @@
 use Rattle.std.proofs.Common.{codes}
-use Rattle.program_io.proofs.WritingLemmas.{AppendsPrefix-then}
-use Rattle.command_words.proofs.ReasonLines.{front_err, last_err, last_ok, on_err, stops}
+use Rattle.program_io.proofs.WritingLemmas.{AppendsPrefix-then, front_err, last_err, last_ok, on_err, stops}
 use Rattle.command_words.proofs.faults.write_reason.Goals as goal
 
 pub returns-in_err-write_text-clause-err : goal.returns-in_err-write_text-clause-err

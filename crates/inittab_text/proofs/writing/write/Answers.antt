@@ -1,8 +1,10 @@
-use Rattle.std.proofs.Common.{◌≡◌, ◌∙◌, ◌+◌, ap, sym, arith, [], ◌++◌, drop, append-nil}
+use Rattle.std.proofs.Common.{◌≡◌, ◌≤◌, ◌∙◌, ◌+◌, ap, sym, subst, arith, [], ◌++◌, length, drop, append-nil}
 use Rattle.std.proofs.lemmas.List.{append_assoc, at_drop_all}
 use Rattle.inittab_text.specs.Reading.{table_of_text, faults_of_text}
 use Rattle.inittab_text.specs.Written.{line_of, text_of}
 use Rattle.inittab_text.proofs.Entries.{text_of-drop}
+use Rattle.inittab_text.specs.declared.reading.TheConstants.{TEXT_LIMIT}
+use Rattle.inittab_text.proofs.SizeLemmas.{text_short}
 use Rattle.inittab_text.proofs.WriteLemmas.{entries_from-text, faults_from-text}
 use Rattle.inittab_text.proofs.writing.write.Goals as goal
 
@@ -27,3 +29,10 @@ returns-clause-no_faults g c =
     let none : text_of (drop c.loop-place.place table) ≡ [] = at_drop_all text_of table c.loop-place.place (omega arith) in
     let all = sym (append-nil c.loop-place.text.items) ∙ ap (λ t. c.loop-place.text.items ++ t) (sym none) ∙ c.loop-place.invariant in
     ap faults_of_text all ∙ faults_from-text table [] 1 c.len-place-end.ensures.table
+
+pub returns-clause-short : goal.returns-clause-short
+returns-clause-short g c =
+    let table = c.args.table.now in
+    let none : text_of (drop c.loop-place.place table) ≡ [] = at_drop_all text_of table c.loop-place.place (omega arith) in
+    let all = sym (append-nil c.loop-place.text.items) ∙ ap (λ t. c.loop-place.text.items ++ t) (sym none) ∙ c.loop-place.invariant in
+    subst (λ t. length t ≤ TEXT_LIMIT) (sym all) (text_short table c.len-place-end.ensures.table)

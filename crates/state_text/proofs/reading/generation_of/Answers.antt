@@ -3,4 +3,4 @@ use Rattle.state_text.proofs.Prefixes.{generation_said}
 use Rattle.state_text.proofs.reading.generation_of.Goals as goal
 
 pub returns-clause-said : goal.returns-clause-said
-returns-clause-said c = λ state says. c.second_line.ensures ∙ generation_said state c.args.text.now says.0 says.1
+returns-clause-said c = λ state says. c.second_line.ensures ∙ generation_said c.args.text.now state says

@@ -5,15 +5,15 @@ use Rattle.state_text.specs.declared.over.Over.TheVariants.{Cut}
 use Rattle.state_text.specs.Reading.{end_line_read, end_split}
 use Rattle.core_model.specs.Parts.{SavedState}
 use Rattle.state_text.specs.Refused.{Refused}
-use Rattle.state_text.proofs.Bodies.{err_kept, lost, match_kept}
-use Rattle.state_text.proofs.Taken.{body_never, body_of, body_refused, cut_refused, end_refused, only_one, other_body, says_of, split_state, whole_of}
+use Rattle.state_text.proofs.Bodies.{err_kept, match_kept}
+use Rattle.state_text.proofs.Taken.{body_never, body_of, body_refused, cut_refused, end_refused, no_split, only_one, other_body, says_of, whole_of}
 use Rattle.state_text.proofs.reading.read_state.Goals as goal
 
 pub returns-in_err-body-clause-only : goal.returns-in_err-body-clause-only
 returns-in_err-body-clause-only g c =
     let fits : length c.args.text.now < 2 ^ 64 = grind (arith, common_steps) in
     let none : end_split c.args.text.now ≡ None = search rules in
-    λ state says same. absurd (lost _ (sym none ∙ split_state state c.args.text.now says.0 says.1 fits))
+    λ state says same. absurd (no_split state c.args.text.now says fits none)
 
 pub returns-in_err-body-clause-refused : goal.returns-in_err-body-clause-refused
 returns-in_err-body-clause-refused g c =

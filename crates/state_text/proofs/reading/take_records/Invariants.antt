@@ -7,8 +7,8 @@ use Rattle.state_text.proofs.reading.take_records.Given as goal
 -- the text is that of the records so far and what is left
 abbrev pub invariant-loop-rest : goal.invariant-loop-rest
 invariant-loop-rest g l = record {
-  are : list_all is_record l.records.items ≡ true;
-  whole : records_text l.records.items ++ l.rest ≡ l.text;
+  are : list_all (is_record l.version) l.records.items ≡ true;
+  whole : records_text l.version l.records.items ++ l.rest ≡ l.text;
 }
 
 abbrev pub decreases-loop-rest : goal.decreases-loop-rest

@@ -8,7 +8,7 @@ use Rattle.supervisor.proofs.reexecuting.refused.Goals as goal
 pub returns-in-Generation : goal.returns-in-Generation
 returns-in-Generation c state says other cuts =
     let is : c.args.why ≡ over.Generation = search rules in
-    c.older_back.ensures c.args.text.now state.heads.generation (generation_said state c.args.text.now says.0 says.1)
+    c.older_back.ensures c.args.text.now state.heads.generation (generation_said c.args.text.now state says)
     (subst (NotTaken c.args.back.now state.heads.generation) is other)
 
 pub returns-in_default : goal.returns-in_default

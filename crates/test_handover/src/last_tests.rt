@@ -1,0 +1,93 @@
+//! How the last children ended, handed over and taken over.
+
+use init_words::{Answer, ChildNo, Id, Status};
+use level_core::Core;
+use reexec_state::{Over, hand_over, take_over};
+use std::alloc::Global;
+use std::process::Abort;
+use std::test::Fail;
+
+const INITTAB: &[u8] = b"id:3:initdefault:\na:3:respawn:x\nb:3:once:y\n";
+
+/// The lines of the state up to its records.
+const HEADS: &str = "generation 1\nclock 0\nstage 3 5\ngoal 3 5\nflags 10\nwish 00 - 000 000\n\
+    table 3\nid:3:initdefault:\na:3:respawn:x\nb:3:once:y\n";
+
+const SLOTS: &str = "slot id - - - - 0000 - - -\nslot a - - start - 1000 - 0,0 exit:0\n\
+    slot b 700 once - - 1000 - - -\nend 14\n";
+
+/// The records as version 1 says them.
+const OLD_SLOTS: &str = "slot id - - - - 0000 - -\nslot a - - start - 1000 - 0,0\n\
+    slot b 700 once - - 1000 - -\nend 14\n";
+
+fn id_of(name: &[u8]) -> Result<Id, Fail> {
+    Ok(Id::read(name).ok_or("no id")?)
+}
+
+/// Takes the given number of steps.
+fn step(core: &mut Core, steps: u32) {
+    for _ in 0..steps {
+        core.next();
+    }
+}
+
+/// Both entries are started, and the child of the first ends before the second is born, with its number.
+fn ended(alloc: Global) -> Result<Core, Fail> {
+    let (table, _) = inittab_text::read(alloc, INITTAB)?;
+    let mut core = Core::new(alloc, table, None)?;
+    let first = id_of(b"a")?;
+    step(&mut core, 5);
+    core.answer(first, Answer::Born(ChildNo(700)))?;
+    core.nudge();
+    step(&mut core, 1);
+    core.answer(id_of(b"b")?, Answer::Born(ChildNo(700)))?;
+    core.answer(first, Answer::Ended(Status::Exit(0)))?;
+    step(&mut core, 1);
+    Ok(core)
+}
+
+fn last_of(core: &Core, name: &[u8]) -> Result<Option<Status>, Fail> {
+    Ok(core.last(&id_of(name)?))
+}
+
+fn is_handed_over(rt: &impl Abort, alloc: Global, core: &mut Core) -> Result<(), Fail> {
+    let text = hand_over(alloc, core)?;
+    let want = format!(in alloc; "initd-state 2\n{HEADS}{SLOTS}")?;
+    assert!(rt; text.as_slice() == want.as_bytes());
+    Ok(())
+}
+
+#[test]
+fn a_last_status_is_handed_over(rt: HostRuntime) -> Result<(), Fail> {
+    let mut core = ended(rt.alloc())?;
+    assert!(rt; last_of(&core, b"a")? == Some(Status::Exit(0)));
+    assert!(rt; last_of(&core, b"b")?.is_none());
+    assert!(rt; last_of(&core, b"none")?.is_none());
+    is_handed_over(&rt, rt.alloc(), &mut core)
+}
+
+/// A version, the records, what is answered, and the last status of `a`.
+const TAKEN: &[(u64, &str, Option<Over>, Option<Status>)] = &[
+    (2, SLOTS, None, Some(Status::Exit(0))),
+    (1, OLD_SLOTS, None, None),
+    (2, OLD_SLOTS, Some(Over::Line(12)), None),
+    (1, SLOTS, Some(Over::Line(12)), None),
+];
+
+/// Why the text is not taken over, and the last status of `a` where it is.
+fn answer(alloc: Global, text: &str) -> Result<(Option<Over>, Option<Status>), Fail> {
+    match take_over(alloc, text.as_bytes(), 1) {
+        Ok(core) => Ok((None, last_of(&core, b"a")?)),
+        Err(why) => Ok((Some(why), None)),
+    }
+}
+
+#[test]
+fn last_statuses_are_taken_over(rt: HostRuntime) -> Result<(), Fail> {
+    for (version, slots, why, last) in TAKEN {
+        let text = format!(in rt.alloc(); "initd-state {version}\n{HEADS}{slots}")?;
+        let (refused, told) = answer(rt.alloc(), text.as_str())?;
+        assert!(rt; refused == *why && told == *last, "{text}");
+    }
+    Ok(())
+}
