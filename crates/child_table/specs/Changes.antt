@@ -10,7 +10,7 @@ use Rattle.respawn_limit.specs.declared.May.{May}
 use Rattle.respawn_limit.specs.declared.May.TheVariants.{Yes, HoldUntil}
 use Rattle.child_table.specs.declared.children.Stop.{Stop}
 use Rattle.child_table.specs.declared.children.Stop.TheVariants.{Termed, Killed}
-use Rattle.child_table.specs.State.{SlotState, is_limited_slot}
+use Rattle.child_table.specs.State.{SlotState, is_limited_slot, stays_called_slot}
 
 -- the limiter's answer is yes
 abbrev pub allows : May → Bool
@@ -25,13 +25,13 @@ can_be_asked Start now slot =
     && (not (is_limited_slot slot) || allows (may_of slot.limiter now))
 can_be_asked ask now slot = is_none slot.order && is_some slot.child
 
--- after an order: a start counts as asked, answers the call, and goes into the window where the limit holds; a look
--- counts as carried out
+-- after an order: a start counts as asked, answers a call that doesn't stay, and goes into the window where the limit
+-- holds; a look counts as carried out
 abbrev pub after_order : Ask → ℕ → SlotState → SlotState
 after_order Start now slot = record slot {
   order = Some Start;
   asked = true;
-  called = false;
+  called = stays_called_slot slot && slot.called;
   limiter = if is_limited_slot slot then with_start slot.limiter now else slot.limiter;
 }
 after_order Look now slot = record slot { order = Some Look; look = false }

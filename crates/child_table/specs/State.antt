@@ -5,7 +5,7 @@ use Rattle.init_words.specs.declared.entries.Entry.{Entry}
 use Rattle.init_words.specs.declared.actions.Act.{Act}
 use Rattle.init_words.specs.declared.children.Status.{Status}
 use Rattle.init_words.specs.declared.orders.Ask.{Ask}
-use Rattle.init_words.specs.Actions.{is_limited, same_act}
+use Rattle.init_words.specs.Actions.{is_limited, stays_called, same_act}
 use Rattle.respawn_limit.specs.State.{LimiterState, unused}
 use Rattle.child_table.specs.declared.children.KnownChild.{KnownChild}
 use Rattle.child_table.specs.declared.children.Stop.{Stop}
@@ -66,3 +66,11 @@ is_limited_act (Some act) = is_limited act
 
 abbrev pub is_limited_slot : SlotState → Bool
 is_limited_slot slot = is_limited_act slot.table_act
+
+-- the entry stays called when it is started
+abbrev pub stays_called_act : Option Act → Bool
+stays_called_act None = false
+stays_called_act (Some act) = stays_called act
+
+abbrev pub stays_called_slot : SlotState → Bool
+stays_called_slot slot = stays_called_act slot.table_act

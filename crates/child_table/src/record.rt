@@ -49,7 +49,7 @@ impl Model for Slot {
 }
 
 impl Slot {
-    ghost use Rattle.child_table.specs.State.{child_number, birth_act, is_limited_slot};
+    ghost use Rattle.child_table.specs.State.{child_number, birth_act, is_limited_slot, stays_called_slot};
 
     /// The record that keeps these: what its readers give makes it anew. It takes no memory.
     pub fn of(
@@ -156,7 +156,7 @@ impl Slot {
         self.asked
     }
 
-    /// A letter or the power called its entry, and no start was ordered since.
+    /// A letter or the power called its entry, and no start answered it since.
     pub fn called(&self) -> bool
         ensures { result ≡ self.now.called }
     {
@@ -219,7 +219,20 @@ impl Slot {
     pub fn is_limited(&self) -> bool
         ensures { result ≡ is_limited_slot self.now }
     {
-        self.table_act == Some(Act::Respawn)
+        match self.table_act {
+            Some(act) => act.is_limited(),
+            None => false,
+        }
+    }
+
+    /// Its entry stays called when it is started.
+    pub(crate) fn stays_called(&self) -> bool
+        ensures { result ≡ stays_called_slot self.now }
+    {
+        match self.table_act {
+            Some(act) => act.stays_called(),
+            None => false,
+        }
     }
 }
 
@@ -283,8 +296,8 @@ impl Slot {
         match ask {
             Ask::Start => {
                 self.asked = true;
-                self.called = false;
-                if self.table_act == Some(Act::Respawn) {
+                self.called = self.stays_called() && self.called;
+                if self.is_limited() {
                     self.limiter.note(now);
                 }
             }

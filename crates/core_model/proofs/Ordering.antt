@@ -10,9 +10,9 @@ use Rattle.init_words.specs.declared.levels.Letter.{Letter}
 use Rattle.init_words.specs.declared.orders.Ask.TheVariants.{Start, Look, Term, Kill}
 use Rattle.init_words.specs.declared.orders.PowerKind.{PowerKind}
 use Rattle.init_words.specs.Ids.{same_id}
-use Rattle.init_words.specs.Actions.{is_limited}
+use Rattle.init_words.specs.Actions.{is_limited, stays_called}
 use Rattle.init_words.proofs.Same.{same_id-is, same_id-self, same_id-sym}
-use Rattle.init_words.proofs.Tests.{and_false, or_false, found_any}
+use Rattle.init_words.proofs.Tests.{and_false, or_false, or_true, found_any}
 use Rattle.inittab_text.specs.Tables.{has_id, entry_of, is_distinct}
 use Rattle.respawn_limit.specs.Window.{with_start}
 use Rattle.respawn_limit.proofs.WindowLemmas.{drop_last_push}
@@ -100,8 +100,8 @@ module _ (id : List ℕ) (past : List Event) (e : Entry) (own : entry_of id (tab
       same = same_id-sym e.id id ∙ entry_has id (table_of past) e own
 
       at : (b : Bool) → is_limited e.act ≡ b → after_order Start (time_of past) (record_of past id) ≡ record_of (Asked id Start ∷ past) id
-      at true is = rw (own, same, same_id-self id, is, stop_still (Asked id Start) past (child_known id past) refl (λ c. refl), missed_known (Asked id Start) past (child_known id past) refl, start_limiter (start_times e.id past) (hold_times e.id past) (time_of past)) refl
-      at false is = rw (own, same, same_id-self id, is, stop_still (Asked id Start) past (child_known id past) refl (λ c. refl), missed_known (Asked id Start) past (child_known id past) refl) refl
+      at true is = rw (own, same, same_id-self id, is, or_false (stays_called e.act), stop_still (Asked id Start) past (child_known id past) refl (λ c. refl), missed_known (Asked id Start) past (child_known id past) refl, start_limiter (start_times e.id past) (hold_times e.id past) (time_of past)) refl
+      at false is = rw (own, same, same_id-self id, is, or_false (stays_called e.act), stop_still (Asked id Start) past (child_known id past) refl (λ c. refl), missed_known (Asked id Start) past (child_known id past) refl) refl
 
   start_other : (i : List ℕ) → same_id id i ≡ false → record_of past i ≡ record_of (Asked id Start ∷ past) i
   start_other i differ = at (entry_of i (table_of past)) refl
@@ -113,7 +113,7 @@ module _ (id : List ℕ) (past : List Event) (e : Entry) (own : entry_of id (tab
       at None is = rw (is, apart, stop_still (Asked id Start) past (child_known i past) refl (λ c. refl), missed_known (Asked id Start) past (child_known i past) refl) refl
       at (Some x) is =
           let other : same_id x.id id ≡ false = ap (λ y. same_id y id) (sym (same_id-is i x.id (entry_has i (table_of past) x is))) ∙ apart in
-          rw (is, apart, other, stop_still (Asked id Start) past (child_known i past) refl (λ c. refl), missed_known (Asked id Start) past (child_known i past) refl) refl
+          rw (is, apart, other, or_true (stays_called x.act), stop_still (Asked id Start) past (child_known i past) refl (λ c. refl), missed_known (Asked id Start) past (child_known i past) refl) refl
 
   pub start_ordered : with_changed id (after_order Start (time_of past)) (records_of past) ≡ records_of (Asked id Start ∷ past)
   start_ordered = records_same (record_of past) (record_of (Asked id Start ∷ past)) (changed id (after_order Start (time_of past))) (one_changed id (after_order Start (time_of past)) (record_of past) (record_of (Asked id Start ∷ past)) (λ i. refl)

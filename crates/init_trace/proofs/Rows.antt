@@ -1,5 +1,5 @@
 -- Worked traces, each with what the definitions say of it: `refl` computes them.
-use Rattle.std.proofs.Common.{◌≡◌, refl, ℕ, true, false, List, [], ◌∷◌, codes, Some}
+use Rattle.std.proofs.Common.{◌≡◌, refl, ℕ, true, false, List, [], ◌∷◌, ◌++◌, codes, Some}
 use Rattle.init_words.specs.declared.entries.Entry.{Entry}
 use Rattle.init_words.specs.declared.actions.Act.{Act}
 use Rattle.init_words.specs.declared.actions.Act.TheVariants as act
@@ -285,9 +285,15 @@ all_stages-rests = refl
 all_stages-is_lawful : is_lawful all_stages ≡ true
 all_stages-is_lawful = refl
 
--- a letter starts its ondemand entry once
+-- a letter starts its ondemand entry, and starts it again when its child has ended
+abbrev on_call : Entry
+on_call = entry (codes "d") (OnCall letter.A ∷ []) act.Ondemand (codes "x")
+
+abbrev settled_on_call : List Event
+settled_on_call = Settle level.L3 ∷ Enter (stage.Run level.L3) 5 ∷ Enter stage.Boot 5 ∷ Enter stage.Sysinit 5 ∷ NewTable ((entry (codes "id") ((At level.L3) ∷ []) act.Initdefault ([])) ∷ on_call ∷ []) ∷ []
+
 abbrev letter_called : List Event
-letter_called = Told (codes "d") ∷ Reaped (codes "d") 5 (Exit 0) ∷ Death 5 ∷ Asked (codes "d") Look ∷ Nudge ∷ Told (codes "d") ∷ Birth (codes "d") 5 ∷ Asked (codes "d") Start ∷ Call letter.A ∷ Got (got.Call letter.A) ∷ Settle level.L3 ∷ Enter (stage.Run level.L3) 5 ∷ Enter stage.Boot 5 ∷ Enter stage.Sysinit 5 ∷ NewTable ((entry (codes "id") ((At level.L3) ∷ []) act.Initdefault ([])) ∷ (entry (codes "d") ((OnCall letter.A) ∷ []) act.Ondemand (codes "x")) ∷ []) ∷ []
+letter_called = Asked (codes "d") Start ∷ Told (codes "d") ∷ Reaped (codes "d") 5 (Exit 0) ∷ Death 5 ∷ Asked (codes "d") Look ∷ Nudge ∷ Told (codes "d") ∷ Birth (codes "d") 5 ∷ Asked (codes "d") Start ∷ Call letter.A ∷ Got (got.Call letter.A) ∷ settled_on_call
 
 letter_called-is_sound : is_sound (opening level.L3) letter_called ≡ true
 letter_called-is_sound = refl
@@ -300,6 +306,38 @@ letter_called-rests = refl
 
 letter_called-is_lawful : is_lawful letter_called ≡ true
 letter_called-is_lawful = refl
+
+-- its starts that fail are held after the tenth, and another call lifts no hold
+abbrev failed_start : List Event
+failed_start = Told (codes "d") ∷ NoBirth (codes "d") ∷ Asked (codes "d") Start ∷ []
+
+abbrev five_failed_starts : List Event
+five_failed_starts = failed_start ++ failed_start ++ failed_start ++ failed_start ++ failed_start
+
+abbrev called_while_held : List Event
+called_while_held = Call letter.A ∷ Got (got.Call letter.A) ∷ Hold (codes "d") ∷ five_failed_starts ++ five_failed_starts ++ Call letter.A ∷ Got (got.Call letter.A) ∷ settled_on_call
+
+called_while_held-is_sound : is_sound (opening level.L3) called_while_held ≡ true
+called_while_held-is_sound = refl
+
+called_while_held-is_run : is_run (opening level.L3) called_while_held ≡ true
+called_while_held-is_run = refl
+
+called_while_held-rests : first (due (opening level.L3) called_while_held) ≡ step.Idle
+called_while_held-rests = refl
+
+called_while_held-is_lawful : is_lawful called_while_held ≡ true
+called_while_held-is_lawful = refl
+
+-- a child that was called lives on in another level, and isn't started again there when it ends
+abbrev call_of_another_level : List Event
+call_of_another_level = Settle level.L2 ∷ Told (codes "d") ∷ Reaped (codes "d") 5 (Exit 0) ∷ Death 5 ∷ Asked (codes "d") Look ∷ Nudge ∷ Enter (stage.Run level.L2) 5 ∷ NotRead ∷ Got (got.Level level.L2 5) ∷ Told (codes "d") ∷ Birth (codes "d") 5 ∷ Asked (codes "d") Start ∷ Call letter.A ∷ Got (got.Call letter.A) ∷ settled_on_call
+
+call_of_another_level-is_sound : is_sound (opening level.L3) call_of_another_level ≡ true
+call_of_another_level-is_sound = refl
+
+call_of_another_level-rests : first (due (opening level.L3) call_of_another_level) ≡ step.Idle
+call_of_another_level-rests = refl
 
 -- ten starts that failed at once, then a hold
 abbrev ten_failed_starts : List Event

@@ -8,7 +8,7 @@ use Rattle.init_words.specs.declared.stages.Stage.{Stage}
 use Rattle.init_words.specs.declared.orders.Ask.{Ask}
 use Rattle.init_words.specs.declared.orders.Ask.TheVariants.{Start}
 use Rattle.init_words.specs.Ids.{same_id}
-use Rattle.init_words.specs.Actions.{same_act, is_called_by, is_ondemand, wanted_by}
+use Rattle.init_words.specs.Actions.{same_act, is_called_by, is_ondemand, stays_called, wanted_by}
 use Rattle.init_words.specs.Levels.{names}
 use Rattle.init_words.specs.Orders.{same_ask}
 use Rattle.init_words.specs.Entries.{starts_of, lives_of, waited_of}
@@ -48,8 +48,8 @@ is_asked id (NewTable table ∷ past) = not (brings id table (table_of past)) &&
 is_asked id (Asked i Start ∷ past) = same_id id i || is_asked id past
 is_asked id (_ ∷ past) = is_asked id past
 
--- called: after the last Enter and the last table, news of the power or a letter named the entry where it starts,
--- and no Start of it was ordered since
+-- called: after the last Enter and the last table, news of the power or a letter named the entry where it starts, and
+-- no Start of it was ordered since, where its action doesn't stay called
 abbrev pub is_called : Entry → List Event → Bool
 is_called e [] = false
 is_called e (Enter stage grace ∷ past) = false
@@ -57,7 +57,7 @@ is_called e (NewTable table ∷ past) = false
 is_called e (Power kind ∷ past) = is_called_by kind e.act && starts_now e past || is_called e past
 is_called e (Call letter ∷ past) =
     is_ondemand e.act && names (OnCall letter) e.levels.items && starts_now e past || is_called e past
-is_called e (Asked i Start ∷ past) = not (same_id e.id i) && is_called e past
+is_called e (Asked i Start ∷ past) = (stays_called e.act || not (same_id e.id i)) && is_called e past
 is_called e (_ ∷ past) = is_called e past
 
 -- nothing of the id runs: it has no kept child and no open Start

@@ -1,5 +1,5 @@
 -- The action table: what each of the fifteen actions of inittab(5) means, a column a definition (init(8)).
-use Rattle.std.specs.Prelude.{ℕ, Bool, true, false, not, ◌==◌, List, [], ◌∷◌, find, codes, Option}
+use Rattle.std.specs.Prelude.{◌&&◌, ℕ, Bool, true, false, not, ◌==◌, List, [], ◌∷◌, find, codes, Option}
 use Rattle.std.specs.Str.{bytes_eq}
 use Rattle.init_words.specs.declared.actions.Act.{Act}
 use Rattle.init_words.specs.declared.actions.Act.TheVariants as act
@@ -134,8 +134,14 @@ abbrev pub is_ondemand : Act → Bool
 is_ondemand act.Ondemand = true
 is_ondemand _ = false
 
--- what it asks of an entry that starts in the stage: a respawn entry is wanted when nothing of it runs (idle),
--- boot's and a level's entries when they were not asked (fresh), power and ondemand entries when they are called
+-- an entry that was called stays called when it is started: a letter's call stands, news of the power is answered
+abbrev pub stays_called : Act → Bool
+stays_called act.Ondemand = true
+stays_called _ = false
+
+-- what it asks of an entry that starts in the stage: a respawn entry is wanted when nothing of it runs (idle), boot's
+-- and a level's entries when they were not asked (fresh), power entries when they are called, and an ondemand entry
+-- that is called when nothing of it runs
 abbrev pub wanted_by : Act → Bool → Bool → Bool → Bool
 wanted_by act.Respawn idle fresh called = idle
 wanted_by act.Sysinit idle fresh called = fresh
@@ -147,12 +153,13 @@ wanted_by act.Powerwait idle fresh called = called
 wanted_by act.Powerfail idle fresh called = called
 wanted_by act.Powerfailnow idle fresh called = called
 wanted_by act.Powerokwait idle fresh called = called
-wanted_by act.Ondemand idle fresh called = called
+wanted_by act.Ondemand idle fresh called = called && idle
 wanted_by _ idle fresh called = false
 
 -- the respawn limit holds for its entries
 abbrev pub is_limited : Act → Bool
 is_limited act.Respawn = true
+is_limited act.Ondemand = true
 is_limited _ = false
 
 -- what an entry of the level must have for it to be settled: a wait or once entry was asked, a respawn entry is kept up

@@ -1,5 +1,5 @@
 ghost use Rattle.std.specs.Prelude.{◌≡◌};
-ghost use Rattle.init_words.specs.Actions.{word_of, act_read, starts_by, lives_by, waited_by, ignores_levels, default_levels, has_process, needs_process, is_called_by, is_ondemand, wanted_by, is_limited, served_by};
+ghost use Rattle.init_words.specs.Actions.{word_of, act_read, starts_by, lives_by, waited_by, ignores_levels, default_levels, has_process, needs_process, is_called_by, is_ondemand, stays_called, wanted_by, is_limited, served_by};
 
 use crate::levels::{Mark, names};
 use crate::orders::PowerKind;
@@ -173,19 +173,25 @@ impl Act {
         matches!(self, Act::Ondemand)
     }
 
+    /// An entry that was called stays called when it is started: init restarts what a letter called whenever it ends,
+    /// and answers news of the power by one start.
+    pub fn stays_called(self) -> bool
+        ensures { result ≡ stays_called self }
+    {
+        matches!(self, Act::Ondemand)
+    }
+
     /// What it asks of an entry that starts in the stage: a respawning entry is wanted when nothing of it runs (idle),
-    /// one of boot or of a level when it was not started there (fresh), one for power or a letter when it is called.
+    /// one of boot or of a level when it was not started there (fresh), one for power when it is called, and one for a
+    /// letter when it is called and nothing of it runs.
     pub fn is_wanted(self, idle: bool, fresh: bool, called: bool) -> bool
         ensures { result ≡ wanted_by self idle fresh called }
     {
         match self {
             Act::Respawn => idle,
             Act::Sysinit | Act::Boot | Act::Bootwait | Act::Wait | Act::Once => fresh,
-            Act::Powerwait
-            | Act::Powerfail
-            | Act::Powerfailnow
-            | Act::Powerokwait
-            | Act::Ondemand => called,
+            Act::Powerwait | Act::Powerfail | Act::Powerfailnow | Act::Powerokwait => called,
+            Act::Ondemand => called && idle,
             Act::Off | Act::Initdefault | Act::Ctrlaltdel | Act::Kbrequest => false,
         }
     }
@@ -194,7 +200,7 @@ impl Act {
     pub fn is_limited(self) -> bool
         ensures { result ≡ is_limited self }
     {
-        self == Act::Respawn
+        matches!(self, Act::Respawn | Act::Ondemand)
     }
 
     /// An entry of it keeps no level from being settled: a wait or once entry was asked, a respawn entry is kept up.

@@ -238,13 +238,26 @@ const RUNS: &[(&str, Option<Level>, &str)] = &[
          ask o start / nobirth o / settle S / use # / settle S / use o:S:wait:y / ask o start / birth o 6 / use # / \
          ask o term / miss o / use o:S:wait:y / nudge / ask o look / reaped o 6 exit 0 / ask o start",
     ),
-    // What was called is forgotten.
+    // An entry that was called is started again whenever its child ends, until another table or level: then its child
+    // lives on, and its end is the last until the letter is called again.
     (
         "id:3:initdefault:\nd:A:ondemand:x",
         None,
         "enter sysinit 5 / enter boot 5 / enter 3 5 / settle 3 / got call A / call A / ask d start / birth d 5 / \
-         got call A / call A / nudge / ask d look / reaped d 5 exit 0 / ask d start / birth d 6 / got call A / \
-         call A / use d:A:ondemand:x / settle 3 / nudge / ask d look / reaped d 6 exit 0",
+         nudge / ask d look / reaped d 5 exit 0 / ask d start / nobirth d / ask d start / birth d 6 / \
+         use d:A:ondemand:x / settle 3 / nudge / ask d look / reaped d 6 exit 0 / got call A / call A / \
+         ask d start / birth d 7 / got level 2 5 / reread / notread / enter 2 5 / settle 2 / nudge / ask d look / \
+         reaped d 7 exit 0 / got call A / call A / ask d start / birth d 8 / got level S 5 / reread / notread / \
+         enter S 5 / ask d term / hit d / nudge / ask d look / reaped d 8 killed / settle S / got call A / call A",
+    ),
+    // Starts of it that fail are held after the tenth, and another call lifts no hold.
+    (
+        "id:3:initdefault:\nd:A:ondemand:x",
+        None,
+        "enter sysinit 5 / enter boot 5 / enter 3 5 / settle 3 / got call A / call A / ask d start / nobirth d / \
+         ask d start / nobirth d / ask d start / nobirth d / ask d start / nobirth d / ask d start / nobirth d / \
+         ask d start / nobirth d / ask d start / nobirth d / ask d start / nobirth d / ask d start / nobirth d / \
+         ask d start / nobirth d / hold d / got call A / call A / clock 299 / clock 300 / ask d start",
     ),
     // A hold, and the starts before it, are forgotten.
     (
@@ -280,7 +293,7 @@ const RUNS: &[(&str, Option<Level>, &str)] = &[
         None,
         "enter sysinit 5 / enter boot 5 / enter 3 5 / settle 3 / drained / got call A / call A / \
          ask d start / busy / birth d 5 / busy / nudge / ask d look / busy / \
-         reaped d 5 exit 0 / drained",
+         reaped d 5 exit 0 / ask d start / busy",
     ),
 ];
 

@@ -114,7 +114,7 @@ const OF_STARTED: &[Row] = &[
     (12, 16, 16, These(b"1"), None),
     // Only power and ondemand entries are called; a look and a missed signal are those of a child.
     (12, 17, 19, These(b"1"), Some(Unfit)),
-    // Only respawn entries have starts and holds.
+    // Only respawn and ondemand entries have starts and holds.
     (12, 21, 21, These(DIGITS), Some(Unfit)),
     (12, 23, 23, These(DIGITS), Some(Unfit)),
     (12, 0, ALL, Others, Some(Line(12))),

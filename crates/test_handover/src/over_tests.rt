@@ -1,7 +1,7 @@
 //! States and their texts, worked out by hand.
 
 use crate::states::{INITTAB, SETTLED, settle};
-use init_words::{Answer, Id, Level, Stage};
+use init_words::{Answer, Ask, Id, Letter, Level, Stage, Status};
 use initctl_frame::Got;
 use level_core::{Core, Step};
 use reexec_state::{Over, generation_of, hand_over, take_over};
@@ -199,5 +199,57 @@ fn a_signal_open_before_the_first_stage(rt: HostRuntime) -> Result<(), Fail> {
     let id = Id::read(b"s").ok_or("no id")?;
     core.answer(id, Answer::Hit)?;
     assert!(rt; matches!(core.next(), Step::Enter(Stage::Sysinit, 5)));
+    Ok(())
+}
+
+/// The lines before the record of an ondemand entry.
+const ON_CALL: &str = "initd-state 1\ngeneration 1\nclock 7\nstage 3 5\ngoal 3 5\nflags 11\n\
+    wish 00 - 000 000\ntable 1\nd:A:ondemand:x\n";
+
+/// Records of the ondemand entry, and whether an init comes to them.
+const CALLED: &[(&str, bool)] = &[
+    ("slot d 700 ondemand - - 1100 - 7", true),
+    // It was started by an init that counted no starts of it, and ended the call with the start.
+    ("slot d 700 ondemand - - 1000 - -", true),
+    // The respawn limit holds for it: ten starts and a hold of five minutes.
+    ("slot d - - - - 1100 307 0,1,2,3,4,5,6,7,7,7", true),
+    ("slot d - - - - 1100 308 0,1,2,3,4,5,6,7,7,7", false),
+    ("slot d - - - - 1100 307 0,1,2", false),
+    ("slot d - - - - 1100 - 8", false),
+];
+
+#[test]
+fn records_of_a_called_entry(rt: HostRuntime) -> Result<(), Fail> {
+    for (slot, fits) in CALLED {
+        let text = format!(in rt.alloc(); "{ON_CALL}{slot}\nend 10\n")?;
+        let want = if *fits { None } else { Some(Over::Unfit) };
+        assert!(rt; refused(rt.alloc(), text.as_bytes(), 1) == want, "{slot}");
+    }
+    Ok(())
+}
+
+/// The child of an ondemand entry that is not called ends; gives the step after it. `called` calls its letter before.
+fn after_the_end(rt: &impl Abort, alloc: Global, called: bool) -> Result<Step, Fail> {
+    let text = format!(in alloc; "{ON_CALL}slot d 700 ondemand - - 1000 - -\nend 10\n")?;
+    let mut core = take_over(alloc, text.as_bytes(), 1)?;
+    if called {
+        core.got(Got::Call(Letter::A));
+        assert!(rt; matches!(core.next(), Step::Call(Letter::A)));
+    }
+    core.nudge();
+    assert!(rt; matches!(core.next(), Step::Order(_, Ask::Look)));
+    core.answer(
+        Id::read(b"d").ok_or("no id")?,
+        Answer::Ended(Status::Exit(0)),
+    )?;
+    Ok(core.next())
+}
+
+#[test]
+fn a_child_that_lived_on_is_called_again(rt: HostRuntime) -> Result<(), Fail> {
+    let ended = after_the_end(&rt, rt.alloc(), false)?;
+    assert!(rt; matches!(ended, Step::Idle));
+    let again = after_the_end(&rt, rt.alloc(), true)?;
+    assert!(rt; matches!(again, Step::Order(_, Ask::Start)));
     Ok(())
 }

@@ -118,7 +118,13 @@ const RUNS: &[(&str, &str, &str)] = &[
     (
         "id:3:initdefault: / d:A:ondemand:x",
         "got call A / birth d 5 / told d / nudge / death 5 / reaped d 5 exit 0 / told d",
-        "use 2 / id:3:initdefault: / d:A:ondemand:x / enter sysinit 5 / enter boot 5 / enter 3 5 / settle 3 / got call A / call A / ask d start / birth d 5 / told d / nudge / ask d look / death 5 / reaped d 5 exit 0 / told d",
+        "use 2 / id:3:initdefault: / d:A:ondemand:x / enter sysinit 5 / enter boot 5 / enter 3 5 / settle 3 / got call A / call A / ask d start / birth d 5 / told d / nudge / ask d look / death 5 / reaped d 5 exit 0 / told d / ask d start",
+    ),
+    // Its starts fail until it is held, and another call lifts no hold.
+    (
+        "id:3:initdefault: / d:A:ondemand:x",
+        "got call A / nobirth d / told d / nobirth d / told d / nobirth d / told d / nobirth d / told d / nobirth d / told d / nobirth d / told d / nobirth d / told d / nobirth d / told d / nobirth d / told d / nobirth d / told d / got call A",
+        "use 2 / id:3:initdefault: / d:A:ondemand:x / enter sysinit 5 / enter boot 5 / enter 3 5 / settle 3 / got call A / call A / ask d start / nobirth d / told d / ask d start / nobirth d / told d / ask d start / nobirth d / told d / ask d start / nobirth d / told d / ask d start / nobirth d / told d / ask d start / nobirth d / told d / ask d start / nobirth d / told d / ask d start / nobirth d / told d / ask d start / nobirth d / told d / ask d start / nobirth d / told d / hold d / got call A / call A",
     ),
     // Inittab is to be read, and the script ends.
     (

@@ -24,6 +24,19 @@ const VERDICTS: &[(&str, &str)] = &[
          start / ask r start",
         "12:6",
     ),
+    // The respawn limit holds for what a letter called too, and another call lifts no hold.
+    (
+        "use 1 / d:A:ondemand:x / enter 3 5 / call A / ask d start / ask d start / ask d start / ask d \
+         start / ask d start / ask d start / ask d start / ask d start / ask d start / ask d \
+         start / ask d start",
+        "13:6",
+    ),
+    (
+        "use 1 / d:A:ondemand:x / enter 3 5 / call A / ask d start / ask d start / ask d start / ask d \
+         start / ask d start / ask d start / ask d start / ask d start / ask d start / ask d \
+         start / hold d / call A / ask d start",
+        "15:6",
+    ),
     (
         "use 1 / a:3:respawn:x / enter 3 5 / birth a 1 / birth a 2",
         "3:1",
@@ -265,10 +278,10 @@ const CHANGED: &[(&str, &str, &str, &str)] = &[
     (
         "use 2 / id:3:initdefault: / d:A:ondemand:x / enter sysinit 5 / enter boot 5 / enter 3 5 \
          / settle 3 / got call A / call A / ask d start / birth d 5 / told d / nudge / ask d look \
-         / death 5 / reaped d 5 exit 0 / told d",
-        "?1 ?1 ?1 . . 3:5 . . . . . . . . . . .",
-        "?1 ?1 ?4 . . . . . . . 9:1 . . . . . .",
-        "?1 . ?1 . 4:5 3:5 . . . . . . . . . .",
+         / death 5 / reaped d 5 exit 0 / told d / ask d start",
+        "?1 ?1 ?1 . . 3:5 . . . . . . . . . . . .",
+        "?1 ?1 ?4 . . . . . . . 9:1 . . . . . . .",
+        "?1 . ?1 . 4:5 3:5 . . . . . . . . . . .",
     ),
     // The stages come in turn.
     (

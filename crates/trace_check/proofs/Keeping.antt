@@ -1,7 +1,7 @@
 -- What a happening makes of each part of the state is what the longer past says.
 use Rattle.std.proofs.Common.{◌≡◌, refl, sym, ◌∙◌, ap, lit≤, ℕ, ◌-◌, Bool, true, false, not, ◌&&◌, ◌||◌, cond, List, [], ◌∷◌, ◌++◌, filter, take, take-take, Option, Some, None}
 use Rattle.std.specs.List.{list_any}
-use Rattle.std.specs.Option.{option_map_or}
+use Rattle.std.specs.Option.{option_map, option_map_or}
 use Rattle.std.proofs.lemmas.Bool.{not_from_true}
 use Rattle.std.proofs.lemmas.List.Folds.{list_any-append}
 use Rattle.respawn_limit.specs.declared.TheConstants.{STARTS}
@@ -9,6 +9,7 @@ use Rattle.init_words.specs.declared.entries.Entry.{Entry}
 use Rattle.init_words.specs.declared.orders.Ask.{Ask}
 use Rattle.init_words.specs.declared.orders.Ask.TheVariants.{Start, Term}
 use Rattle.init_words.specs.Ids.{same_id}
+use Rattle.init_words.specs.Actions.{stays_called}
 use Rattle.inittab_text.specs.Tables.{has_id, entry_of, is_distinct}
 use Rattle.init_trace.specs.declared.happenings.Happening.TheVariants.{NewTable, Enter, Call, Power, Asked, Hold, Birth, Hit, Told, Clock}
 use Rattle.init_trace.specs.Event.{Event}
@@ -19,7 +20,7 @@ use Rattle.init_trace.specs.Timing.{start_times, hold_times}
 use Rattle.init_words.proofs.Same.{same_id-is, same_id-apart}
 use Rattle.init_words.proofs.Tests.{not_from, or_false, and_false, any_within, any_without}
 use Rattle.trace_laws.proofs.Tests.{never}
-use Rattle.trace_check.specs.After.{table_after, stage_after, grace_after, time_after, order_after, kept_after, is_changed, asked_after, is_named, called_after, sent_after, starts_after, hold_after}
+use Rattle.trace_check.specs.After.{table_after, stage_after, grace_after, time_after, order_after, kept_after, is_changed, asked_after, is_named, stays_called_in, called_after, sent_after, starts_after, hold_after}
 use Rattle.trace_check.proofs.Lone.{found_passes}
 use Rattle.trace_check.proofs.Found.{entry_any, id_any}
 use Rattle.trace_check.proofs.Reading.{calls_of, has_sent, newest}
@@ -78,12 +79,15 @@ named_or : (q r : Entry → Bool) (o : Option Entry) → (option_map_or q o fals
 named_or q r None = refl
 named_or q r (Some e) = refl
 
--- a Start of an id ends the call of its entry
-start_ends : (id i : List ℕ) (r : Entry → Bool) (table : List Entry) → (not (same_id id i) && option_map_or r (entry_of id table) false) ≡ option_map_or (λ e. not (same_id e.id i) && r e) (entry_of id table) false
+-- a Start of an id ends the call of its entry, where its action doesn't stay called
+start_ends : (id i : List ℕ) (r : Entry → Bool) (table : List Entry) → ((stays_called_in table id || not (same_id id i)) && option_map_or r (entry_of id table) false) ≡ option_map_or (λ e. (stays_called e.act || not (same_id e.id i)) && r e) (entry_of id table) false
 start_ends id i r table = split (entry_of id table) refl where
-  split : (o : Option Entry) → entry_of id table ≡ o → (not (same_id id i) && option_map_or r o false) ≡ option_map_or (λ e. not (same_id e.id i) && r e) o false
+  stays : Option Entry → Bool
+  stays o = option_map_or stays_called (option_map (λ (e : Entry). e.act) o) false
+
+  split : (o : Option Entry) → entry_of id table ≡ o → ((stays o || not (same_id id i)) && option_map_or r o false) ≡ option_map_or (λ e. (stays_called e.act || not (same_id e.id i)) && r e) o false
   split None is = and_false (not (same_id id i))
-  split (Some e) is = ap (λ x. not (same_id x i) && r e) (same_id-is id e.id (found_passes (has_id id) table e is))
+  split (Some e) is = ap (λ x. (stays_called e.act || not (same_id x i)) && r e) (same_id-is id e.id (found_passes (has_id id) table e is))
 
 pub called_step : (happening : Event) (id : List ℕ) (past : List Event) → is_distinct (table_of past) ≡ true → called_after (table_of past) (stage_of past) happening id (calls_of id past) ≡ calls_of id (happening ∷ past)
 called_step (Enter stage grace) id past distinct = never (entry_of id (table_of past))

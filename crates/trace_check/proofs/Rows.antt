@@ -5,10 +5,11 @@ use Rattle.init_words.specs.declared.actions.Act.{Act}
 use Rattle.init_words.specs.declared.actions.Act.TheVariants as act
 use Rattle.init_words.specs.declared.levels.Level.{Level}
 use Rattle.init_words.specs.declared.levels.Level.TheVariants as level
-use Rattle.init_words.specs.declared.levels.Mark.TheVariants.{At}
+use Rattle.init_words.specs.declared.levels.Letter.TheVariants as letter
+use Rattle.init_words.specs.declared.levels.Mark.TheVariants.{At, OnCall}
 use Rattle.init_words.specs.declared.stages.Stage.TheVariants.{Run}
 use Rattle.init_words.specs.declared.orders.Ask.TheVariants.{Start, Term, Kill}
-use Rattle.init_trace.specs.declared.happenings.Happening.TheVariants.{NewTable, Enter, Asked, Hold, Settle, Birth, Hit, Told, Clock}
+use Rattle.init_trace.specs.declared.happenings.Happening.TheVariants.{NewTable, Enter, Call, Asked, Hold, Settle, Birth, Hit, Told, Clock}
 use Rattle.init_trace.specs.Event.{Event}
 use Rattle.init_trace.specs.Lawful.{Fault, first_breach}
 
@@ -78,3 +79,13 @@ eleventh_start = refl
 -- and two minutes after the first
 eleventh_later : first_of (NewTable (entry (codes "r") level.S act.Respawn ∷ []) ∷ enter level.S ∷ replicate 10 (Asked (codes "r") Start) ++ Clock 120 ∷ Asked (codes "r") Start ∷ []) ≡ None
 eleventh_later = refl
+
+-- an entry that a letter called is held to the same limit, and another call lifts no hold
+abbrev on_call : Entry
+on_call = record { id = codes "d"; levels = record { items = OnCall letter.A ∷ [] }; act = act.Ondemand; process = record { items = codes "x" } }
+
+eleventh_called : first_of (NewTable (on_call ∷ []) ∷ enter level.L3 ∷ Call letter.A ∷ replicate 11 (Asked (codes "d") Start)) ≡ breach 13 6
+eleventh_called = refl
+
+called_while_held : first_of (NewTable (on_call ∷ []) ∷ enter level.L3 ∷ Call letter.A ∷ replicate 10 (Asked (codes "d") Start) ++ Hold (codes "d") ∷ Call letter.A ∷ Asked (codes "d") Start ∷ []) ≡ breach 15 6
+called_while_held = refl

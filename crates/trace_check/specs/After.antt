@@ -10,7 +10,7 @@ use Rattle.init_words.specs.declared.orders.Ask.{Ask}
 use Rattle.init_words.specs.declared.orders.Ask.TheVariants.{Start, Term}
 use Rattle.init_words.specs.Ids.{same_id}
 use Rattle.init_words.specs.Levels.{names}
-use Rattle.init_words.specs.Actions.{is_called_by, is_ondemand}
+use Rattle.init_words.specs.Actions.{is_called_by, is_ondemand, stays_called}
 use Rattle.inittab_text.specs.Tables.{has_id, entry_of, act_of}
 use Rattle.init_trace.specs.declared.happenings.Happening.TheVariants.{NewTable, Enter, Call, Power, Asked, Hold, Birth, Reaped, Hit, Told, Clock}
 use Rattle.init_trace.specs.Event.{Event}
@@ -68,13 +68,17 @@ is_named _ e = false
 abbrev pub is_named_at : List Entry → Option Stage → Event → List ℕ → Bool
 is_named_at table stage happening id = list_any (λ e. has_id id e && (is_named happening e && starts_in e stage)) table
 
+-- the entry of an id stays called when it is started
+abbrev pub stays_called_in : List Entry → List ℕ → Bool
+stays_called_in table id = option_map_or stays_called (act_of id table) false
+
 -- the entry of an id is called
 abbrev pub called_after : List Entry → Option Stage → Event → List ℕ → Bool → Bool
 called_after table stage (Enter next grace) id before = false
 called_after table stage (NewTable next) id before = false
 called_after table stage (Power kind) id before = is_named_at table stage (Power kind) id || before
 called_after table stage (Call letter) id before = is_named_at table stage (Call letter) id || before
-called_after table stage (Asked i Start) id before = not (same_id id i) && before
+called_after table stage (Asked i Start) id before = (stays_called_in table id || not (same_id id i)) && before
 called_after table stage _ id before = before
 
 -- a TERM of the id was sent and is not told, where `open_order` says the open order of each

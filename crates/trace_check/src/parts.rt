@@ -3,7 +3,7 @@ ghost use Rattle.inittab_text.specs.Tables.{has_id};
 ghost use Rattle.std.specs.List.{list_any};
 ghost use Rattle.init_trace.specs.Wanted.{is_order, starts_in};
 ghost use Rattle.trace_check.specs.State.{at, among};
-ghost use Rattle.trace_check.specs.After.{stage_after, grace_after, time_after, order_after, kept_after, is_changed, asked_after, is_named, is_named_at, called_after, sent_after};
+ghost use Rattle.trace_check.specs.After.{stage_after, grace_after, time_after, order_after, kept_after, is_changed, asked_after, is_named, is_named_at, stays_called_in, called_after, sent_after};
 
 use crate::children::UnreapedChild;
 use crate::maps::{ById, Ids, add_if, drop_if, forget_ids, set_if};
@@ -146,6 +146,16 @@ fn is_called<B: Allocator>(happening: &HappeningIn<B>, stage: Option<Stage>, ent
     is_named(happening, entry) && starts_in(entry, stage)
 }
 
+/// The id's entry stays called when it is started.
+fn stays_called<B: Allocator>(table: &InForce<'_, B>, id: &Id) -> bool
+    ensures { result ≡ stays_called_in table.now id.now }
+{
+    match table.act(id) {
+        Some(act) => act.stays_called(),
+        None => false,
+    }
+}
+
 /// The entries that are called.
 pub(crate) fn take_called<A: Allocator + Copy, B: Allocator>(
     called: &mut Ids<A>,
@@ -163,7 +173,7 @@ pub(crate) fn take_called<A: Allocator + Copy, B: Allocator>(
         }
         Happening::Power(_) | Happening::Call(_) => add_named(called, table, stage, happening),
         Happening::Asked(id, Ask::Start) => {
-            called.swap_remove(id);
+            drop_if(called, id, !stays_called(table, id));
             Ok(())
         }
         _ => Ok(()),

@@ -15,7 +15,7 @@ use Rattle.init_words.specs.declared.orders.Ask.{Ask}
 use Rattle.init_words.specs.declared.orders.Ask.TheVariants.{Start, Look, Term, Kill}
 use Rattle.init_words.specs.Ids.{same_id}
 use Rattle.init_words.specs.Orders.{same_ask}
-use Rattle.init_words.specs.Actions.{starts_by, lives_by, waited_by, wanted_by}
+use Rattle.init_words.specs.Actions.{starts_by, lives_by, waited_by, stays_called, wanted_by}
 use Rattle.init_words.specs.Entries.{waited_of}
 use Rattle.inittab_text.specs.Tables.{has_id, entry_of, act_of, is_distinct}
 use Rattle.init_trace.specs.declared.happenings.Happening.TheVariants.{NewTable, Enter, Call, Power, Asked, Birth, NoBirth, Reaped, Still, NoLook, Hit, Miss, Told}
@@ -28,7 +28,7 @@ use Rattle.init_trace.specs.Spells.{stop_due, stop_by, is_missed, spell_hits}
 use Rattle.init_trace.specs.Lawful.{is_placed, may_term}
 use Rattle.init_trace.specs.Due.{is_due}
 use Rattle.init_words.proofs.Same.{same_id-is, same_id-self, same_id-apart, same_act-self}
-use Rattle.init_words.proofs.Tests.{both_ways, falsely, or_either, not_from, any_less, any_within}
+use Rattle.init_words.proofs.Tests.{both_ways, falsely, or_either, not_from, or_true, any_less, any_within}
 use Rattle.init_trace.specs.Sound.{may_come, is_sound}
 use Rattle.trace_laws.proofs.Tests.{is_order-is}
 use Rattle.trace_laws.proofs.Orders.{cleared, undone_is_open, quiet_looks, told_known, unreaped_kept, kept_before_told, same_of}
@@ -162,6 +162,7 @@ owed_by action child start starts fresh called = waited_by action && (child || s
 -- what makes a waited entry wanted is not that it is idle
 waited_wants : (action : Act) (idle other fresh called : Bool) → waited_by action ≡ true → wanted_by action idle fresh called ≡ wanted_by action other fresh called
 waited_wants act.Respawn idle other fresh called h = absurd (false≢true h)
+waited_wants act.Ondemand idle other fresh called h = absurd (false≢true h)
 waited_wants _ idle other fresh called h = refl
 
 -- an entry that is owed with a child and a Start is owed with more of them
@@ -208,9 +209,9 @@ owed_order e b ask past other h = owed_less e.act (has_child e.id (kept_children
 
 owed_asked : (e : Entry) (i : List ℕ) (past : List Event) → (same_id e.id i ≡ true → is_wanted e past ≡ true) → is_owed e (Asked i Start ∷ past) ≡ true → is_owed e past ≡ true
 owed_asked e i past wanted h = at_id (same_id e.id i) wanted h where
-  at_id : (b : Bool) → (b ≡ true → is_wanted e past ≡ true) → owed_by e.act (has_child e.id (kept_children past)) (is_order Start (cond b (Some Start) (open_of e.id past))) (starts_in e (stage_of past)) (not (b || is_asked e.id past)) (not b && is_called e past) ≡ true → is_owed e past ≡ true
-  at_id true wanted h = owed_wanted e past (owed_waited e.act (has_child e.id (kept_children past)) true (starts_in e (stage_of past)) false false h) (wanted refl)
-  at_id false wanted h = h
+  at_id : (b : Bool) → (b ≡ true → is_wanted e past ≡ true) → owed_by e.act (has_child e.id (kept_children past)) (is_order Start (cond b (Some Start) (open_of e.id past))) (starts_in e (stage_of past)) (not (b || is_asked e.id past)) ((stays_called e.act || not b) && is_called e past) ≡ true → is_owed e past ≡ true
+  at_id true wanted h = owed_wanted e past (owed_waited e.act (has_child e.id (kept_children past)) true (starts_in e (stage_of past)) false ((stays_called e.act || false) && is_called e past) h) (wanted refl)
+  at_id false wanted h = subst (λ stays. owed_by e.act (has_child e.id (kept_children past)) (is_order Start (open_of e.id past)) (starts_in e (stage_of past)) (not (is_asked e.id past)) (stays && is_called e past) ≡ true) (or_true (stays_called e.act)) h
 
 -- an entry that is found stands in the table
 pub entry_listed : (id : List ℕ) (es : List Entry) (e : Entry) → entry_of id es ≡ Some e → list_any (has_id id) es ≡ true
