@@ -4,4 +4,5 @@ pub mod Ids
 pub mod Levels
 pub mod Orders
 pub mod Padded
+pub mod Parts
 pub mod Refusals

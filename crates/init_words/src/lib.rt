@@ -1,5 +1,5 @@
 //! The words that every part of init shares: ids, runlevels, stages, the table of the fifteen actions, inittab entries,
-//! orders to children and their answers. Nothing here allocates.
+//! the files that these stand in, orders to children and their answers. Nothing here allocates.
 #![tactic(auto)]
 
 mod actions;
@@ -9,6 +9,7 @@ mod ids;
 mod levels;
 mod limits;
 mod orders;
+mod parts;
 mod refusals;
 mod stages;
 
@@ -19,5 +20,6 @@ pub use ids::{ID_LIMIT, Id};
 pub use levels::{Letter, Level, Mark, names};
 pub use limits::{GRACE, GRACE_LIMIT};
 pub use orders::{Answer, Ask, PowerKind, Sig};
+pub use parts::Part;
 pub use refusals::{Memory, Refusal};
 pub use stages::Stage;

@@ -212,6 +212,7 @@ fn read_inittab<T: Texts>(texts: &T, alloc: Global, path: &str) -> Result<Initta
         }),
         Err(TableFault::TooLong) => Err(RunFault::TooLong),
         Err(TableFault::Memory) => Err(RunFault::Memory),
+        Err(TableFault::Parts) => unreachable!(),
     }
 }
 

@@ -14,7 +14,7 @@ use Rattle.inittab_text.specs.declared.reading.TheConstants.{TEXT_LIMIT}
 use Rattle.inittab_text.specs.declared.tables.TheConstants.{ENTRY_LIMIT}
 use Rattle.inittab_text.specs.Written.{levels_written, line_of, text_of, is_empty, is_written, is_table}
 use Rattle.inittab_text.proofs.Entries.{table_parts}
-use Rattle.inittab_text.proofs.WriteLemmas.{Parts, parts, length-levels_written}
+use Rattle.inittab_text.proofs.WriteLemmas.{parts, length-levels_written}
 
 -- the longest word of an action, and the longest line: the four fields, three colons and the newline
 word_limit : ℕ

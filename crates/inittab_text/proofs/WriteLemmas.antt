@@ -1,5 +1,5 @@
 -- What is written is read as it was.
-use Rattle.std.proofs.Common.{◌≡◌, ◌≢◌, ℕ, zero, suc, ◌+◌, ◌<◌, ◌≤◌, Bool, true, false, cond, not, ◌==◌, ◌&&◌, nat_lt, nat_le, List, [], ◌∷◌, ◌++◌, map, Option, length, slice_index, Some, None, Ok, refl, sym, ap, ◌∙◌, arith, subst, append-nil, codes, lit<, lit≤}
+use Rattle.std.proofs.Common.{◌≡◌, ◌≢◌, ℕ, zero, suc, ◌+◌, ◌<◌, ◌≤◌, Bool, true, false, cond, not, ◌==◌, ◌&&◌, nat_lt, nat_le, List, [], ◌∷◌, ◌++◌, map, Option, length, Some, None, Ok, refl, sym, ap, ◌∙◌, arith, subst, append-nil, codes, lit<, lit≤}
 use Rattle.std.specs.List.{list_all}
 use Rattle.std.specs.Option.{IfSome, IfNone}
 use Rattle.std.specs.Str.{IsUtf8, is_utf8, IsAscii, bytes_eq}

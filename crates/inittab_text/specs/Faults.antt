@@ -24,3 +24,4 @@ line_fault_text fault = codes "inittab line " ++ decimal fault.line ++ codes ": 
 abbrev pub table_fault_text : TableFault → List ℕ
 table_fault_text table.TooLong = codes "inittab is longer than 1048576 bytes"
 table_fault_text table.Memory = codes "out of memory"
+table_fault_text table.Parts = codes "inittab has more than 256 files"

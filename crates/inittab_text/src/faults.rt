@@ -35,13 +35,26 @@ pub struct LineFault {
     pub kind: LineKind,
 }
 
-/// Why a text was not read.
+/// A line that was left out of one of several parts.
+#[derive(Clone, Copy, Debug, PartialEq, Eq)]
+pub struct PartFault {
+    /// The part's number, from 0.
+    pub part: u32,
+    /// The line's number in its part, from 1.
+    pub line: u32,
+    /// The first check that the line fails.
+    pub kind: LineKind,
+}
+
+/// Why a table was not read.
 #[derive(Clone, Copy, Debug, PartialEq, Eq)]
 pub enum TableFault {
-    /// The text has over 1,048,576 bytes.
+    /// The text, or all parts together, have over 1,048,576 bytes.
     TooLong,
     /// Out of memory.
     Memory,
+    /// There are over 256 parts.
+    Parts,
 }
 
 impl fmt::Display for LineKind {
@@ -88,6 +101,7 @@ impl fmt::Display for TableFault {
         f.write_str(match self {
             TableFault::TooLong => "inittab is longer than 1048576 bytes",
             TableFault::Memory => "out of memory",
+            TableFault::Parts => "inittab has more than 256 files",
         })
     }
 }

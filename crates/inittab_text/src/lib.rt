@@ -1,18 +1,20 @@
 //! The reader and writer of inittab(5). A text is read line by line into a table of entries, in order and found by
-//! their ids; a line that fails a check is left out and told as a fault. A table is written one line an entry, and
-//! what is written is read as the same table.
+//! their ids; a line that fails a check is left out and told as a fault. So are several texts, one after the other, each
+//! line by line. A table is written one line an entry, and what is written is read as the same table.
 #![tactic(auto)]
 
 mod checks;
 mod faults;
 mod fields;
 mod kept;
+mod parts;
 mod reading;
 mod tables;
 mod writing;
 mod written;
 
-pub use faults::{LineFault, LineKind, TableFault};
+pub use faults::{LineFault, LineKind, PartFault, TableFault};
+pub use parts::{PART_LIMIT, read_parts};
 pub use reading::{TEXT_LIMIT, read};
 pub use tables::{ENTRY_LIMIT, Table};
 pub use writing::{write, write_line};

@@ -1,7 +1,9 @@
-ghost use Rattle.std.specs.Prelude.{◌≡◌, ◌≢◌, ◌<◌, ◌++◌, ◌↔◌, false, Err, length, IfOk, OnOk, IsErrOf};
-ghost use Rattle.text_lines.specs.Lines.{has_byte};
+ghost use Rattle.std.specs.Prelude.{◌≡◌, ◌≢◌, ◌<◌, ◌≤◌, ◌++◌, ◌∷◌, [], ◌↔◌, false, Err, map, length, IfOk, IfErr, OnOk, IsErrOf};
+ghost use Rattle.text_lines.specs.Lines.{has_byte, lines_of};
 ghost use Rattle.inittab_text.specs.Checks.{verdict_of};
-ghost use Rattle.inittab_text.specs.Reading.{entries_after, faults_at, table_of_text, faults_of_text};
+ghost use Rattle.inittab_text.specs.Reading.{entries_after, entries_from, faults_at, faults_from};
+ghost use Rattle.inittab_text.specs.Reading.{table_of_text, faults_of_text};
+ghost use Rattle.inittab_text.specs.Parts.{in_part, table_of_texts, faults_of_parts};
 
 use crate::checks::verdict_of;
 use crate::faults::{LineFault, TableFault};
@@ -24,7 +26,7 @@ fn take_line<A: Allocator>(
         OnOk result (table.new ≡ entries_after table.old verdict) }
     ensures faults { let verdict = verdict_of table.old line.now in
         OnOk result (faults.new.items ≡ faults.old.items ++ faults_at number verdict) }
-    ensures memory { result ≢ Err TableFault.TooLong }
+    ensures memory { IfErr result (λ fault. fault ≡ TableFault.Memory) }
 {
     match verdict_of(table, line) {
         Ok(None) => {}
@@ -34,8 +36,32 @@ fn take_line<A: Allocator>(
     Ok(())
 }
 
+/// Adds the entries of a text's lines to the table, and gives the faults of the others.
+pub(crate) fn take_text<A: Allocator + Copy>(
+    alloc: A,
+    table: &mut Table<A>,
+    text: &[u8],
+) -> Result<Vec<LineFault, A>, TableFault>
+    requires { length text.now ≤ TEXT_LIMIT }
+    ensures table { OnOk result (table.new ≡ entries_from table.old (lines_of text.now)) }
+    ensures faults { IfOk result
+        (λ faults. faults.items ≡ faults_from table.old 1 (lines_of text.now)) }
+    ensures memory { IfErr result (λ fault. fault ≡ TableFault.Memory) }
+{
+    let mut faults = Vec::new(alloc);
+    let mut rest = text;
+    let mut number = 0;
+    while !rest.is_empty() {
+        let (line, more) = first_line(rest);
+        number += 1;
+        take_line(table, &mut faults, number, line)?;
+        rest = more;
+    }
+    Ok(faults)
+}
+
 /// Reads an inittab(5): the entries of the lines that pass all checks, and the faults of the others in line order.
-/// A text of over 1,048,576 bytes is refused.
+/// A text of over 1,048,576 bytes is refused. It is read as `read_parts` reads it as the only part.
 pub fn read<A: Allocator + Copy>(
     alloc: A,
     text: &[u8],
@@ -43,19 +69,14 @@ pub fn read<A: Allocator + Copy>(
     ensures table { IfOk result (λ got. got.0 ≡ table_of_text text.now) }
     ensures faults { IfOk result (λ got. got.1.items ≡ faults_of_text text.now) }
     ensures too_long { IsErrOf result TableFault.TooLong ↔ (TEXT_LIMIT < length text.now) }
+    ensures one_part { IfOk result (λ got. (got.0 ≡ table_of_texts (text.now ∷ []))
+        × (map (in_part 0) got.1.items ≡ faults_of_parts (text.now ∷ []))) }
+    ensures no_parts { result ≢ Err TableFault.Parts }
 {
     if text.len() > TEXT_LIMIT {
         return Err(TableFault::TooLong);
     }
     let mut table = Table::new(alloc);
-    let mut faults = Vec::new(alloc);
-    let mut rest = text;
-    let mut number = 0;
-    while !rest.is_empty() {
-        let (line, more) = first_line(rest);
-        number += 1;
-        take_line(&mut table, &mut faults, number, line)?;
-        rest = more;
-    }
+    let faults = take_text(alloc, &mut table, text)?;
     Ok((table, faults))
 }

@@ -37,6 +37,7 @@ impl<A: Allocator + Copy> LineFaults<A> {
                 Ok(0)
             }
             Err(TableFault::Memory) => Err(io::Error::from(ErrorKind::OutOfMemory)),
+            Err(TableFault::Parts) => unreachable!(),
         }
     }
 

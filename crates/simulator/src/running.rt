@@ -310,6 +310,7 @@ fn read_table<A: Allocator + Copy>(alloc: A, inittab: &[u8]) -> Result<Table<A>,
         Ok((table, _)) => Ok(table),
         Err(TableFault::TooLong) => Err(SimFault::Table),
         Err(TableFault::Memory) => Err(SimFault::Memory),
+        Err(TableFault::Parts) => unreachable!(),
     }
 }
 

@@ -44,7 +44,7 @@ fn answer(
         Call::Read => match inittab_text::read(heap, TEXT) {
             Ok((read, faults)) => Ok(Some(faults.len() == 2 && is_table(alloc, &read)?)),
             Err(TableFault::Memory) => Ok(None),
-            Err(TableFault::TooLong) => Ok(Some(false)),
+            Err(TableFault::TooLong | TableFault::Parts) => Ok(Some(false)),
         },
         Call::Write => match inittab_text::write(heap, table) {
             Ok(text) => Ok(Some(text.as_slice() == WRITTEN)),

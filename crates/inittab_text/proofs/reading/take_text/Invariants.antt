@@ -1,14 +1,14 @@
 use Rattle.std.proofs.Common.{◌≡◌, ◌++◌, ◌+◌, ◌≤◌, length}
 use Rattle.inittab_text.specs.declared.reading.TheConstants.{TEXT_LIMIT}
 use Rattle.text_lines.specs.Lines.{lines_of}
-use Rattle.inittab_text.specs.Reading.{entries_from, faults_from, table_of_text, faults_of_text}
-use Rattle.inittab_text.proofs.reading.read.Given as goal
+use Rattle.inittab_text.specs.Reading.{entries_from, faults_from}
+use Rattle.inittab_text.proofs.reading.take_text.Given as goal
 
 abbrev pub invariant-loop-rest : goal.invariant-loop-rest
 invariant-loop-rest g l = record {
   counted : l.number + length l.rest ≤ TEXT_LIMIT;
-  table : entries_from l.table (lines_of l.rest) ≡ table_of_text l.text;
-  faults : l.faults.items ++ faults_from l.table (l.number + 1) (lines_of l.rest) ≡ faults_of_text l.text;
+  table : entries_from l.table (lines_of l.rest) ≡ entries_from l.fn.table (lines_of l.text);
+  faults : l.faults.items ++ faults_from l.table (l.number + 1) (lines_of l.rest) ≡ faults_from l.fn.table 1 (lines_of l.text);
 }
 
 abbrev pub decreases-loop-rest : goal.decreases-loop-rest

@@ -1,0 +1,12 @@
+use Rattle.std.proofs.Common.{◌≡◌, ◌+◌, ◌≤◌, drop}
+use Rattle.init_words.specs.Parts.{texts_of}
+use Rattle.inittab_text.specs.declared.reading.TheConstants.{TEXT_LIMIT}
+use Rattle.inittab_text.specs.Parts.{size_of_texts}
+use Rattle.inittab_text.proofs.parts.are_too_long.Given as goal
+
+-- what there is room for and what was passed are the limit
+abbrev pub invariant-loop-part : goal.invariant-loop-part
+invariant-loop-part g l = record {
+  within : l.room ≤ TEXT_LIMIT;
+  left : size_of_texts (texts_of l.parts) + l.room ≡ TEXT_LIMIT + size_of_texts (texts_of (drop l.part-index l.parts));
+}

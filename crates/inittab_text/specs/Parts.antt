@@ -1,0 +1,50 @@
+-- The table and the faults of several texts (inittab(5)).
+use Rattle.std.specs.Prelude.{ℕ, ◌+◌, ◌<◌, ◌≤◌, List, [], ◌∷◌, ◌++◌, map, length}
+use Rattle.init_words.specs.declared.entries.Entry.{Entry}
+use Rattle.inittab_text.specs.declared.faults.LineFault.{LineFault}
+use Rattle.inittab_text.specs.declared.faults.PartFault.{PartFault}
+use Rattle.inittab_text.specs.declared.parts.TheConstants.{PART_LIMIT}
+use Rattle.inittab_text.specs.declared.reading.TheConstants.{TEXT_LIMIT}
+use Rattle.text_lines.specs.Lines.{lines_of}
+use Rattle.inittab_text.specs.Reading.{entries_from, faults_from}
+
+-- the entries, with those of the texts after them: each text is cut into lines by itself
+abbrev pub entries_of_texts : List Entry → List (List ℕ) → List Entry
+entries_of_texts before [] = before
+entries_of_texts before (text ∷ texts) = entries_of_texts (entries_from before (lines_of text)) texts
+
+-- a fault of a line, in the part of a number
+abbrev pub in_part : ℕ → LineFault → PartFault
+in_part part fault = record { part = part; line = fault.line; kind = fault.kind }
+
+-- the faults of the parts from a number on, after these entries; the lines of each are counted from 1
+abbrev pub faults_of_texts : List Entry → ℕ → List (List ℕ) → List PartFault
+faults_of_texts before part [] = []
+faults_of_texts before part (text ∷ texts) =
+    map (in_part part) (faults_from before 1 (lines_of text))
+    ++ faults_of_texts (entries_from before (lines_of text)) (part + 1) texts
+
+-- the table of the texts of parts
+abbrev pub table_of_texts : List (List ℕ) → List Entry
+table_of_texts texts = entries_of_texts [] texts
+
+-- their faults, part by part; parts are counted from 0
+abbrev pub faults_of_parts : List (List ℕ) → List PartFault
+faults_of_parts texts = faults_of_texts [] 0 texts
+
+-- the bytes of all texts together
+abbrev pub size_of_texts : List (List ℕ) → ℕ
+size_of_texts [] = 0
+size_of_texts (text ∷ texts) = length text + size_of_texts texts
+
+-- more texts than a table is read from
+abbrev pub AreTooMany : List (List ℕ) → Type 0
+AreTooMany texts = PART_LIMIT < length texts
+
+-- not too many, and together too long
+abbrev pub AreTooLong : List (List ℕ) → Type 0
+AreTooLong texts = (length texts ≤ PART_LIMIT) × (TEXT_LIMIT < size_of_texts texts)
+
+-- texts that a table is read from
+abbrev pub AreReadable : List (List ℕ) → Type 0
+AreReadable texts = (length texts ≤ PART_LIMIT) × (size_of_texts texts ≤ TEXT_LIMIT)
