@@ -4,7 +4,6 @@ pub mod Calling
 pub mod Ending
 pub mod Leading
 pub mod Point
-pub mod Record
 pub mod Requests
 pub mod Seconds
 pub mod Rows

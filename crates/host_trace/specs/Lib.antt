@@ -1,6 +1,5 @@
 pub mod Leads
 pub mod Point
-pub mod Record
 pub mod Requests
 pub mod Turns
 pub mod Texts

@@ -4,7 +4,7 @@ use inittab_text::Table;
 
 /// One happening of a run. Acts of init: a table in force, `Enter` to `Settle`. Acts of the system: `Birth` to `Miss`.
 /// What passes between them: the rest. Seconds are whole; numbers of children are the system's.
-#[derive(Clone, Drop)]
+#[derive(Clone, Debug, Drop, PartialEq, Eq)]
 pub enum Happening<T = Table> {
     /// This table is in force from here on.
     NewTable(T),

@@ -11,13 +11,16 @@ use init_words::Memory;
 use inittab_text::table_begun;
 use std::alloc::{AllocError, Allocator};
 use text_lines::cut;
+use thiserror::Error;
 
 /// Why the text of a trace is not read.
-#[derive(Clone, Copy, Debug, PartialEq, Eq)]
+#[derive(Clone, Copy, Debug, PartialEq, Eq, Error)]
 pub enum ReadFault {
     /// No happening's text begins at the line of this number, counted from 1.
+    #[error("line {0} begins no happening's text")]
     Line(u64),
     /// Out of memory.
+    #[error("out of memory")]
     Memory,
 }
 

@@ -1,7 +1,7 @@
 use init_words::{Ask, Id, Letter, Level, PowerKind, Stage};
 
 /// What init does next.
-#[derive(Clone, Copy)]
+#[derive(Clone, Copy, Debug, PartialEq, Eq)]
 pub enum Step {
     /// Enter a stage, with the given number of seconds between the two signals that stop a child.
     Enter(Stage, u16),

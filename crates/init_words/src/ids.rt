@@ -4,6 +4,7 @@ ghost use Rattle.init_words.specs.Ids.{is_id, is_id_byte, id_read};
 
 use std::hash::{Hash, Hasher};
 use std::marker::Model;
+use std::{fmt, str};
 
 /// How many bytes an id may have.
 pub const ID_LIMIT: usize = 8;
@@ -61,6 +62,22 @@ impl Id {
         ensures valid { is_id self.now ≡ true }
     {
         &self.bytes[..self.len]
+    }
+
+    /// The id's bytes as text: they are ASCII.
+    pub fn as_str(&self) -> &str
+        ensures { result.now ≡ self.now }
+    {
+        match str::from_utf8(self.as_bytes()) {
+            Ok(text) => text,
+            Err(_) => unreachable!(),
+        }
+    }
+}
+
+impl fmt::Debug for Id {
+    fn fmt<W: fmt::Write>(&self, f: &mut fmt::Formatter<W>) -> fmt::Result {
+        f.write_str(self.as_str())
     }
 }
 

@@ -1,4 +1,5 @@
 use std::alloc::{AllocError, AllocFailed};
+use std::error::Error;
 use std::fmt;
 
 /// Out of memory.
@@ -14,6 +15,8 @@ impl fmt::Display for Memory {
         f.write_str("out of memory")
     }
 }
+
+impl Error for Memory {}
 
 impl From<AllocError> for Memory {
     fn from(_error: AllocError) -> Memory {
@@ -66,3 +69,5 @@ impl fmt::Display for Refusal {
         })
     }
 }
+
+impl Error for Refusal {}

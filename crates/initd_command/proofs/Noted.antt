@@ -7,7 +7,7 @@ use Rattle.init_trace.specs.Event.{Event}
 use Rattle.trace_log.specs.Logs.{LogState}
 use Rattle.child_host.specs.Calls.{HostCall}
 use Rattle.host_trace.specs.Leads.{Took, Takes}
-use Rattle.host_trace.specs.Record.{Since}
+use Rattle.child_host.specs.Record.{Since}
 use Rattle.run_notes.specs.declared.LastEnd.TheVariants.{Unnoted}
 use Rattle.run_notes.specs.Ends.{last_end}
 use Rattle.run_notes.specs.Notes.{Notes, are_noted, end_in, last_noted, last_of, notes_state, told_of}

@@ -3,7 +3,7 @@ ghost use Rattle.inittab_text.specs.Reading.{faults_of_text, table_of_text};
 ghost use Rattle.initd_command.specs.Endings.{Ending, Reports, ReportsUnled, status_of};
 ghost use Rattle.init_words.specs.declared.entries.Entry.{Entry};
 ghost use Rattle.init_words.specs.declared.levels.Level.{Level};
-ghost use Rattle.host_trace.specs.Record.{Since};
+ghost use Rattle.child_host.specs.Record.{Since};
 ghost use Rattle.supervisor.specs.Opening.{IsOpeningOf};
 ghost use Rattle.os_host.specs.LineFaults.{faults_text};
 ghost use Rattle.initd_options.specs.Options.{run_of};

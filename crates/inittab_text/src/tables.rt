@@ -5,6 +5,7 @@ ghost use Rattle.inittab_text.specs.Tables.{first_level, default_of};
 use indexmap::IndexMap;
 use init_words::{Act, Entry, Id, Level, Mark, Memory};
 use std::alloc::{AllocError, Allocator, Global};
+use std::fmt;
 use std::hash::{BuildHasherDefault, FoldHasher};
 use std::marker::Model;
 
@@ -30,6 +31,12 @@ impl<A: Allocator> Model for Table<A> {
 
     ghost invariant = { λ t. (keys t.entries ≡ ids_of (values t.entries))
         × (is_table (values t.entries) ≡ true) };
+}
+
+impl<A: Allocator> fmt::Debug for Table<A> {
+    fn fmt<W: fmt::Write>(&self, f: &mut fmt::Formatter<W>) -> fmt::Result {
+        write!(f, "Table of {} entries", self.len())
+    }
 }
 
 impl<A: Allocator + Copy> Table<A> {

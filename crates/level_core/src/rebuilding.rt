@@ -13,13 +13,16 @@ use core_model::{Heads, Parts, Record};
 use init_words::{Act, ChildNo, Entry, Memory};
 use inittab_text::Table;
 use std::alloc::{AllocError, AllocFailed, Allocator};
+use thiserror::Error;
 
 /// Why no core is made of what init kept.
-#[derive(Clone, Copy, Debug, PartialEq, Eq)]
+#[derive(Clone, Copy, Debug, PartialEq, Eq, Error)]
 pub enum Rebuild {
     /// No init comes to such a state.
+    #[error("no init comes to such a state")]
     Unfit,
     /// Out of memory.
+    #[error("out of memory")]
     Memory,
 }
 

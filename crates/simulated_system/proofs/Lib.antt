@@ -1,4 +1,3 @@
 pub mod Numbers
-pub mod Spelled
 pub mod Allowing
 pub mod Taking

@@ -1,10 +1,9 @@
-ghost use Rattle.std.specs.Prelude.{◌≡◌};
-
 use init_words::{ChildNo, Id};
-use std::{fmt, str};
+use std::error::Error;
+use std::fmt;
 
 /// Why a happening may not come next in a script.
-#[derive(Clone, Copy, PartialEq, Eq)]
+#[derive(Clone, Copy, Debug, PartialEq, Eq)]
 pub enum Objection {
     /// The id has no start on which nothing was done.
     NoStart(Id),
@@ -40,9 +39,9 @@ impl fmt::Display for Objection {
 
     fn fmt<W: fmt::Write>(&self, f: &mut fmt::Formatter<W>) -> fmt::Result {
         match self {
-            Objection::NoStart(id) => write!(f, "no start of {} is open", id_text(id)),
-            Objection::NoLook(id) => write!(f, "no look of {} is open", id_text(id)),
-            Objection::NoSignal(id) => write!(f, "no term or kill of {} is open", id_text(id)),
+            Objection::NoStart(id) => write!(f, "no start of {} is open", id.as_str()),
+            Objection::NoLook(id) => write!(f, "no look of {} is open", id.as_str()),
+            Objection::NoSignal(id) => write!(f, "no term or kill of {} is open", id.as_str()),
             Objection::NumberTaken(number) => {
                 write!(f, "an unreaped child has the number {}", number.0)
             }
@@ -53,11 +52,11 @@ impl fmt::Display for Objection {
                 write!(
                     f,
                     "{} has no dead child with the number {}",
-                    id_text(id),
+                    id.as_str(),
                     number.0
                 )
             }
-            Objection::NothingDone(id) => write!(f, "nothing is to be told of {}", id_text(id)),
+            Objection::NothingDone(id) => write!(f, "nothing is to be told of {}", id.as_str()),
             Objection::OwnStep => f.write_str("this is a step of init itself"),
             Objection::NotNow => f.write_str("inittab is not to be read now"),
             Objection::NotCut(bytes) => {
@@ -71,18 +70,4 @@ impl fmt::Display for Objection {
     }
 }
 
-impl fmt::Debug for Objection {
-    fn fmt<W: fmt::Write>(&self, f: &mut fmt::Formatter<W>) -> fmt::Result {
-        write!(f, "{self}")
-    }
-}
-
-/// The id's bytes, which are ASCII, as text.
-fn id_text(id: &Id) -> &str
-    ensures { result.now ≡ id.now }
-{
-    match str::from_utf8(id.as_bytes()) {
-        Ok(text) => text,
-        Err(_) => unreachable!(),
-    }
-}
+impl Error for Objection {}

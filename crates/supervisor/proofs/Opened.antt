@@ -14,7 +14,7 @@ use Rattle.child_host.specs.Calls.{HostCall}
 use Rattle.host_trace.specs.Leads.{Leads, Logs, Went}
 use Rattle.host_trace.specs.Point.{Point, point_after}
 use Rattle.host_trace.specs.Turns.{AreTurns}
-use Rattle.host_trace.proofs.Record.{Since-map}
+use Rattle.child_host.proofs.Record.{Since-map}
 use Rattle.host_trace.proofs.Taking.{Took-then}
 use Rattle.supervisor.specs.Parts.{Fresh, LeftBy, Makes}
 use Rattle.supervisor.specs.Opening.{IsOpening, IsOpeningOf, LeadsFrom, OpeningState, Opens, opening_point}

@@ -7,7 +7,7 @@ use Rattle.host_trace.specs.Point.{Point}
 use Rattle.host_trace.specs.Leads.{Leads}
 use Rattle.host_trace.specs.declared.TheConstants.{STEP_LIMIT}
 use Rattle.host_trace.specs.Turns.{AreSteps}
-use Rattle.host_trace.proofs.Record.{Since-one, Since-none, Since-map, Since-then}
+use Rattle.child_host.proofs.Record.{Since-one, Since-none, Since-map, Since-then}
 use Rattle.host_trace.proofs.Leading.{Leads-none, Leads-then}
 use Rattle.supervisor.specs.Parts.{AreAllSteps, IsStep, IsStepUnless, Makes}
 

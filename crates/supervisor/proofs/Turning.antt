@@ -15,12 +15,12 @@ use Rattle.child_host.specs.declared.calls.HostFault.{HostFault}
 use Rattle.child_host.specs.Calls.{HostCall, Adds}
 use Rattle.host_trace.specs.declared.TheConstants.{LATE_LIMIT}
 use Rattle.host_trace.specs.Point.{Point, point_after}
-use Rattle.host_trace.specs.Record.{Since}
+use Rattle.child_host.specs.Record.{Since}
 use Rattle.host_trace.specs.Requests.{Brings}
 use Rattle.host_trace.specs.Leads.{At, Counted, IsOver, Leads, Tracks, Went}
 use Rattle.host_trace.specs.Turns.{AreSteps, AreTurns, IsTurn, Undrained, are_full, are_lates, are_takes, bytes_taken, has_come, is_room, is_step, takes_none}
 use Rattle.host_trace.proofs.Leading.{Leads-beside, Leads-frame, Leads-still, Leads-then, Leads-weaken, bytes_counted}
-use Rattle.host_trace.proofs.Record.{Since-map, Since-one, Since-then}
+use Rattle.child_host.proofs.Record.{Since-map, Since-one, Since-then}
 use Rattle.host_trace.proofs.Requests.{calls_bring}
 use Rattle.supervisor.specs.Parts.{AndRests, AreAllSteps, Fresh, IsReading, Left, LeftBy, Makes}
 use Rattle.supervisor.proofs.Carried.{Leads-left}

@@ -14,7 +14,7 @@ use Rattle.trace_log.specs.Logs.{LogState}
 use Rattle.child_host.specs.Calls.{HostCall}
 use Rattle.host_trace.specs.Leads.{AreTexts, Took, are_carried, is_allowed}
 use Rattle.host_trace.specs.Point.{Point, has_trace, point_after}
-use Rattle.host_trace.specs.Record.{Since}
+use Rattle.child_host.specs.Record.{Since}
 use Rattle.host_trace.specs.Turns.{AreTurns}
 use Rattle.supervisor.specs.Parts.{LeftBy}
 

@@ -27,7 +27,7 @@ use Rattle.child_host.specs.declared.calls.HostFault.{HostFault}
 use Rattle.child_host.specs.Calls.{Adds, HostCall, TextRead}
 use Rattle.host_trace.specs.declared.TheConstants.{STEP_LIMIT}
 use Rattle.host_trace.specs.Point.{Point, is_last, is_outcome, is_announcement, may_announce}
-use Rattle.host_trace.specs.Record.{Since}
+use Rattle.child_host.specs.Record.{Since}
 use Rattle.host_trace.specs.Leads.{At, Leads, Tracks, comes_back}
 use Rattle.host_trace.specs.Turns.{AreSteps, bytes_in, is_room, is_step}
 

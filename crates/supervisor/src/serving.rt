@@ -2,7 +2,7 @@ ghost use Rattle.std.specs.Prelude.{◌≡◌, ◌&&◌, ◌≤◌, ◌<◌, [],
 ghost use Rattle.core_model.specs.Decide.{is_drained};
 ghost use Rattle.host_trace.specs.Leads.{At};
 ghost use Rattle.host_trace.specs.Point.{Point};
-ghost use Rattle.host_trace.specs.Record.{Since};
+ghost use Rattle.child_host.specs.Record.{Since};
 ghost use Rattle.host_trace.specs.Requests.{Brings};
 ghost use Rattle.host_trace.specs.Turns.{AreTurns, IsTurn};
 ghost use Rattle.supervisor.specs.Parts.{Fresh, Left, LeftBy, Makes};

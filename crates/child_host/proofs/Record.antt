@@ -2,7 +2,7 @@
 use Rattle.std.proofs.Common.{◌≡◌, refl, sym, ◌∙◌, ap, List, [], ◌∷◌, ◌++◌, append_assoc, Option, Some, None}
 use Rattle.std.proofs.lemmas.Option.{none-some, same_Some}
 use Rattle.child_host.specs.Calls.{HostCall, Adds}
-use Rattle.host_trace.specs.Record.{AreTold, Since}
+use Rattle.child_host.specs.Record.{AreTold, Since}
 
 told_one : (old new : Option (List HostCall)) (call : HostCall) → Adds old new call → AreTold old new (call ∷ [])
 told_one old None call adds = tt
