@@ -9,14 +9,14 @@ use Rattle.init_words.specs.declared.stages.Stage.{Stage}
 use Rattle.init_words.proofs.Tests.{both_ways}
 use Rattle.respawn_limit.specs.Window.{may_of, with_start, with_hold}
 use Rattle.init_trace.specs.declared.steps.Step.TheVariants.{Order, Hold}
-use Rattle.child_table.specs.State.{SlotState, is_limited_slot}
+use Rattle.child_table.specs.State.{SlotState, is_limited_slot, stays_called_slot}
 use Rattle.child_table.specs.Changes.{allows, can_be_asked, after_order, after_hold}
 use Rattle.child_table.specs.Lists.{is_slot_of, changed, with_changed}
 use Rattle.child_table.proofs.Changed.{id-after_order}
 use Rattle.child_table.proofs.Ordered.{kept_by_one, order_changed, act-after_order}
 use Rattle.child_table.proofs.Timely.{timely_changed, timely_order, timely_parts}
 use Rattle.core_model.specs.Decide.{has_excluded, decide}
-use Rattle.core_model.specs.Rules.{may_follow, is_started, are_starts_along, are_starts_in, are_starts_free, is_limit_kept, is_unused, IsFit}
+use Rattle.core_model.specs.Rules.{may_follow, is_callable, is_started, are_starts_along, are_starts_in, are_starts_free, is_limit_kept, is_unused, IsFit}
 use Rattle.core_model.specs.State.{CoreState}
 use Rattle.core_model.specs.Work.{unheld}
 use Rattle.core_model.proofs.Allowed.{is_askable, is_holdable, decided}
@@ -60,6 +60,11 @@ module _ (stage : Option Stage) (table : List Entry) (now : ℕ) (slot : SlotSta
     limiter = placed.rules.limiter;
   }
 
+  -- a call that a start ends, or not, is still that of an entry that is called
+  call_less : (stays called callable : Bool) → (not called || callable) ≡ true → (not (stays && called) || callable) ≡ true
+  call_less true called callable h = h
+  call_less false called callable h = refl
+
   start_ruled : is_some slot.table_act ≡ true → is_none slot.child ≡ true → IsRuled stage table now (after_order Start now slot)
   start_ruled acts none =
       let marked = marks_parts slot placed.rules.marks in
@@ -68,7 +73,7 @@ module _ (stage : Option Stage) (table : List Entry) (now : ℕ) (slot : SlotSta
         birth = placed.rules.birth;
         order = and_from (is_some slot.table_act) (is_none slot.child) acts none;
         stop = stop_same slot.child stage table slot (after_order Start now slot) slot.stop refl placed.rules.stop;
-        marks = marks_from (after_order Start now slot) (record { look = marked.look; missed = marked.missed; called = refl });
+        marks = marks_from (after_order Start now slot) (record { look = marked.look; missed = marked.missed; called = call_less (stays_called_slot slot) slot.called (is_callable slot.table_act) marked.called });
         limiter = by (is_limited_slot slot) placed.rules.limiter;
       }
     where
