@@ -23,7 +23,8 @@ use trace_log::{Log, LogFault};
 /// A log of a brief trace, in front of another log. It holds back at most four happenings: a reading of the clock, a
 /// round, the order of a look, and that the look found nothing. It takes no memory.
 ///
-/// It is taken apart by `finish`, which writes what is held, or by `into_log`.
+/// `end` writes what is held, and `into_log` takes it apart.
+#[derive(Drop)]
 pub struct BriefLog<L> {
     log: L,
     held: Held,
@@ -222,24 +223,7 @@ impl<L: Log> BriefLog<L> {
         }
     }
 
-    /// Hands the log all that is held, and gives it back. Its happenings are then the brief form of the trace; where it
-    /// fails, a past of that.
-    pub fn finish(self) -> (L, Result<(), LogFault>)
-        requires { (L.state self.log).failed ≡ false }
-        ensures flag { (L.state result.0).failed ≡ is_err result.1 }
-        ensures ok { OnOk result.1 ((trace : List Event)
-            → TakesTrace L.state self trace
-            → (L.state result.0).taken ≡ Some (reverse (brief_of trace))) }
-        ensures err { OnErr result.1 ((trace : List Event)
-            → TakesTrace L.state self trace → WritesPast (L.state result.0).taken trace) }
-        ensures kept { Grows (L.state self.log).taken (L.state result.0).taken }
-    {
-        let BriefLog { mut log, held } = self;
-        let written = write_held(&mut log, &held);
-        (log, written)
-    }
-
-    /// The log as it is, also one that has failed. What is held is not written.
+    /// The log as it is, also one that has failed. What is held is not written: `end` writes it.
     pub fn into_log(self) -> L
         ensures { result ≡ self.log }
     {
@@ -270,6 +254,23 @@ impl<L: Log> Log for BriefLog<L> {
             → Grows (L.state self.old.log).taken (L.state self.new.log).taken }
     {
         self.step(happening)
+    }
+
+    /// Hands the log all that is held. Its happenings are then the brief form of the trace; where it fails, a past of
+    /// that.
+    fn end(&mut self) -> Result<(), LogFault>
+        requires { (L.state self.old.log).failed ≡ false }
+        ensures flag { (L.state self.new.log).failed ≡ is_err result }
+        ensures ok { OnOk result ((trace : List Event)
+            → TakesTrace L.state self.old trace
+            → (L.state self.new.log).taken ≡ Some (reverse (brief_of trace))) }
+        ensures err { OnErr result ((trace : List Event)
+            → TakesTrace L.state self.old trace → WritesPast (L.state self.new.log).taken trace) }
+        ensures kept { Grows (L.state self.old.log).taken (L.state self.new.log).taken }
+    {
+        let held = self.held;
+        self.held = Held::new();
+        write_held(&mut self.log, &held)
     }
 
     fn failed(&self) -> bool {

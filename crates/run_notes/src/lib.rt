@@ -224,6 +224,17 @@ impl<L: Log, A: Allocator + Copy> Log for RunNotes<L, A> {
         Ok(())
     }
 
+    /// Ends the other log.
+    fn end(&mut self) -> Result<(), LogFault>
+        requires { (L.state self.old.log).failed ≡ false }
+        ensures flag { (L.state self.new.log).failed ≡ is_err result }
+        ensures stays { Stays (told_of self.old (L.state self.old.log).taken)
+            (told_of self.new (L.state self.new.log).taken) }
+        ensures kept { self.new ≡ record self.old { log = self.new.log } }
+    {
+        self.log.end()
+    }
+
     fn failed(&self) -> bool {
         self.log.failed()
     }

@@ -51,10 +51,6 @@ pub(crate) fn unfinished<L: Log>(log: L, trace: &[HappeningIn<Global>]) -> (L, b
 /// The log after the brief form of a trace, and whether it took it whole.
 pub(crate) fn finished<L: Log>(log: L, trace: &[HappeningIn<Global>]) -> (L, bool) {
     let mut brief = BriefLog::new(log);
-    let all = takes_all(&mut brief, trace);
-    if !all || brief.failed() {
-        return (brief.into_log(), false);
-    }
-    let (log, written) = brief.finish();
-    (log, written.is_ok())
+    let whole = takes_all(&mut brief, trace) && !brief.failed() && brief.end().is_ok();
+    (brief.into_log(), whole)
 }

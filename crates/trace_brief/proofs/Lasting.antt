@@ -8,7 +8,7 @@ use Rattle.init_words.specs.declared.stages.Stage.TheVariants.{Boot}
 use Rattle.init_words.specs.declared.orders.Ask.TheVariants.{Start, Look}
 use Rattle.init_words.specs.declared.orders.PowerKind.{PowerKind}
 use Rattle.init_words.specs.Ids.{same_id}
-use Rattle.init_words.specs.Actions.{is_called_by, is_ondemand}
+use Rattle.init_words.specs.Actions.{is_called_by, is_ondemand, stays_called}
 use Rattle.init_words.specs.Levels.{names, same_letter}
 use Rattle.init_words.specs.Orders.{same_power}
 use Rattle.inittab_text.specs.Tables.{has_id, ids_of}
@@ -68,7 +68,7 @@ called_lasting e (Enter stage grace ∷ past) = refl
 called_lasting e (NewTable table ∷ past) = refl
 called_lasting e (Power kind ∷ past) = ap (λ now. is_called_by kind e.act && starts_in e now || is_called e past) (stage_lasting past) ∙ ap (λ b. is_called_by kind e.act && starts_in e (stage_of (lasting_events past)) || b) (called_lasting e past)
 called_lasting e (Call letter ∷ past) = ap (λ now. is_ondemand e.act && names (OnCall letter) e.levels.items && starts_in e now || is_called e past) (stage_lasting past) ∙ ap (λ b. is_ondemand e.act && names (OnCall letter) e.levels.items && starts_in e (stage_of (lasting_events past)) || b) (called_lasting e past)
-called_lasting e (Asked i Start ∷ past) = ap (λ b. not (same_id e.id i) && b) (called_lasting e past)
+called_lasting e (Asked i Start ∷ past) = ap (λ b. (stays_called e.act || not (same_id e.id i)) && b) (called_lasting e past)
 called_lasting e (Asked i Look ∷ past) = called_lasting e past
 called_lasting e (_ ∷ past) = called_lasting e past
 

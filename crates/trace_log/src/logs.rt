@@ -24,6 +24,15 @@ pub trait Log {
         ensures err { OnErr result (is_in_range happening.now ≡ true
             → Stays (state self.old).taken (state self.new).taken) };
 
+    /// Ends the trace: what the log holds back is handed on. Nothing is handed to it after that.
+    fn end(&mut self) -> Result<(), LogFault>
+        requires { (state self.old).failed ≡ false }
+        ensures flag { (state self.new).failed ≡ is_err result }
+        ensures stays { Stays (state self.old).taken (state self.new).taken }
+    {
+        Ok(())
+    }
+
     /// Whether it has failed.
     fn failed(&self) -> bool
         ensures { result ≡ (state self.now).failed };
