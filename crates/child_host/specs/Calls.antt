@@ -4,18 +4,23 @@ use Rattle.std.specs.Prelude.{List, ◌∷◌, take, Option, Some, None, IfSome,
 use Rattle.init_words.specs.declared.entries.Entry.{Entry}
 use Rattle.init_words.specs.declared.orders.Answer.{Answer}
 use Rattle.init_words.specs.declared.orders.Answer.TheVariants as answer
+use Rattle.init_words.specs.Parts.{NamedText}
 use Rattle.child_host.specs.declared.calls.Call.{Call}
 use Rattle.child_host.specs.declared.calls.HostFault.{HostFault}
 use Rattle.child_host.specs.declared.calls.Reply.{Reply}
 use Rattle.child_host.specs.declared.calls.Reply.TheVariants.{Now, Later}
 
--- a call with what was answered, in whichever memory its texts and its table lie
+-- a call with what was answered, in whichever memory its texts, its table and the files of one lie
 abbrev pub HostCall : Type 0
-HostCall = Call (List ℕ) (List Entry)
+HostCall = Call (List ℕ) (List Entry) (List NamedText)
 
 -- a text, or why it was not had
 abbrev pub TextRead : Type 0
 TextRead = Result (List ℕ) HostFault
+
+-- the files of a table, or why they were not had
+abbrev pub PartsRead : Type 0
+PartsRead = Result (List NamedText) HostFault
 
 -- where a host tells its record now, the newest call first, it told it before, and the record has gained this call
 abbrev pub Adds : Option (List HostCall) → Option (List HostCall) → HostCall → Type 0
@@ -49,6 +54,11 @@ is_failed_late None = false
 abbrev pub text_read : {T : Type 0} → (T → List ℕ) → Result T HostFault → TextRead
 text_read text (Ok held) = Ok (text held)
 text_read text (Err fault) = Err fault
+
+-- the files that a call gave, whatever they are held in
+abbrev pub parts_read : {T : Type 0} → (T → List NamedText) → Result T HostFault → PartsRead
+parts_read parts (Ok held) = Ok (parts held)
+parts_read parts (Err fault) = Err fault
 
 -- the text that a call left in the front of a buffer
 abbrev pub front_read : Result ℕ HostFault → List ℕ → TextRead

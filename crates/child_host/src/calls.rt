@@ -1,5 +1,6 @@
 ghost use Rattle.std.specs.Prelude.{◌≡◌, [], IfOk};
 
+use crate::parts::PartList;
 use init_trace::Happening;
 use init_words::{Answer, Id, Memory, Sig};
 use inittab_text::Table;
@@ -68,9 +69,9 @@ impl<A: Allocator> Bytes<A> {
     }
 }
 
-/// A call of a host, with what it was given and what it answered. `B` is a text, `T` a table.
+/// A call of a host, with what it was given and what it answered. `B` is a text, `T` a table, `P` the files of one.
 #[derive(Drop)]
-pub enum Call<B = Bytes, T = Table> {
+pub enum Call<B = Bytes, T = Table, P = PartList> {
     /// A child was to be started for the id, by this process text.
     Start(Id, B, Reply),
     /// The id's child was looked at.
@@ -83,8 +84,8 @@ pub enum Call<B = Bytes, T = Table> {
     Clock(Result<u64, HostFault>),
     /// Bytes of requests were asked for, with room for so many.
     TakeBytes(usize, Result<B, HostFault>),
-    /// The inittab was read.
-    ReadTable(Result<B, HostFault>),
+    /// The files of the inittab were read.
+    ReadTables(Result<P, HostFault>),
     /// The text of init's state was carried, and read back.
     Carry(B, Result<B, HostFault>),
     /// A happening was announced.
@@ -93,5 +94,5 @@ pub enum Call<B = Bytes, T = Table> {
     Pause,
 }
 
-/// A call whose texts and table lie in memory of this allocator.
-pub type CallIn<A> = Call<Bytes<A>, Table<A>>;
+/// A call whose texts, table and files lie in memory of this allocator.
+pub type CallIn<A> = Call<Bytes<A>, Table<A>, PartList<A>>;

@@ -1,10 +1,10 @@
 ghost use Rattle.std.specs.Prelude.{◌≡◌, ◌≤◌, ℕ, List, Option, IfOk, length, is_err, false};
 ghost use Rattle.child_host.specs.Calls.{HostCall, Adds, HasCause};
-ghost use Rattle.child_host.specs.Calls.{is_failed_reply, is_failed_late, text_read, front_read};
+ghost use Rattle.child_host.specs.Calls.{is_failed_reply, is_failed_late, text_read, parts_read, front_read};
 
 use crate::calls::{Call, HostFault, Reply};
 use init_trace::HappeningIn;
-use init_words::{Answer, Id, Sig};
+use init_words::{Answer, Id, Part, Sig};
 use std::alloc::Allocator;
 
 /// What init asks of the system (init(8)).
@@ -56,10 +56,10 @@ pub trait Host {
             (Call.TakeBytes (length buffer.old) (front_read result buffer.new)) }
         ensures cause { HasCause (failures self.old) (failures self.new) (is_err result) };
 
-    /// The text of the inittab (inittab(5)), in memory of `alloc`.
-    fn read_table<A: Allocator + Copy>(&mut self, alloc: A) -> Result<Vec<u8, A>, HostFault>
+    /// The files of the inittab (inittab(5)), in their order, in memory of `alloc`.
+    fn read_tables<A: Allocator + Copy>(&mut self, alloc: A) -> Result<Vec<Part<A>, A>, HostFault>
         ensures adds { Adds (told self.old) (told self.new)
-            (Call.ReadTable (text_read (λ text. text.items) result)) }
+            (Call.ReadTables (parts_read (λ parts. parts.items) result)) }
         ensures cause { HasCause (failures self.old) (failures self.new) (is_err result) };
 
     /// Hands the text of init's state over to a new init, and gives what reaches it, in memory of `alloc`.

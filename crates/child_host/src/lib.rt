@@ -5,7 +5,9 @@
 mod calls;
 mod faults;
 mod hosts;
+mod parts;
 
 pub use calls::{Bytes, Call, CallIn, HostFault, Reply};
 pub use faults::{counted, is_failed_late, is_failed_reply};
 pub use hosts::Host;
+pub use parts::{PartList, parts_copy};

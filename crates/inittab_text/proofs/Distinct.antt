@@ -6,6 +6,7 @@ use Rattle.inittab_text.specs.Tables.{entry_of, is_distinct}
 use Rattle.text_lines.specs.Lines.{lines_of}
 use Rattle.inittab_text.specs.Checks.{verdict_of}
 use Rattle.inittab_text.specs.Reading.{entries_after, entries_from, table_of_text}
+use Rattle.inittab_text.specs.Parts.{entries_of_texts, table_of_texts}
 use Rattle.inittab_text.proofs.Entries.{is_distinct-push}
 use Rattle.inittab_text.proofs.ReadLemmas.{passed}
 
@@ -28,3 +29,11 @@ distinct_from before (line ∷ lines) distinct = distinct_from (entries_after be
 -- the table of a text has each id once
 pub distinct_text : (text : List ℕ) → is_distinct (table_of_text text) ≡ true
 distinct_text text = distinct_from [] (lines_of text) refl
+
+distinct_from_texts : (before : List Entry) (texts : List (List ℕ)) → is_distinct before ≡ true → is_distinct (entries_of_texts before texts) ≡ true
+distinct_from_texts before [] distinct = distinct
+distinct_from_texts before (text ∷ texts) distinct = distinct_from_texts (entries_from before (lines_of text)) texts (distinct_from before (lines_of text) distinct)
+
+-- and so has that of several
+pub distinct_texts : (texts : List (List ℕ)) → is_distinct (table_of_texts texts) ≡ true
+distinct_texts texts = distinct_from_texts [] texts refl

@@ -1,14 +1,16 @@
 -- Texts of several parts, one after the other.
-use Rattle.std.proofs.Common.{ℕ, ◌<◌, ◌≤◌, List, length, arith}
+use Rattle.std.proofs.Common.{◌≡◌, ℕ, ◌<◌, ◌≤◌, Bool, true, nat_le, List, length, arith}
+use Rattle.std.proofs.lemmas.Bool.{and_from, le-leb}
 use Rattle.inittab_text.specs.declared.reading.TheConstants.{TEXT_LIMIT}
 use Rattle.inittab_text.specs.declared.parts.TheConstants.{PART_LIMIT}
-use Rattle.inittab_text.specs.Parts.{AreReadable, AreTooLong, AreTooMany, size_of_texts}
+use Rattle.inittab_text.specs.Parts.{AreTooLong, AreTooMany, are_readable, size_of_texts}
 
 -- what is neither too many nor too long is read
-pub readable : (texts : List (List ℕ)) → (AreTooMany texts → ⊥) → (AreTooLong texts → ⊥) → AreReadable texts
+pub readable : (texts : List (List ℕ)) → (AreTooMany texts → ⊥) → (AreTooLong texts → ⊥) → are_readable texts ≡ true
 readable texts few short =
     let count : length texts ≤ PART_LIMIT = not_below PART_LIMIT (length texts) few in
-    (count, not_below TEXT_LIMIT (size_of_texts texts) (λ long. short (count, long)))
+    let size : size_of_texts texts ≤ TEXT_LIMIT = not_below TEXT_LIMIT (size_of_texts texts) (λ long. short (count, long)) in
+    and_from (nat_le (length texts) PART_LIMIT) (nat_le (size_of_texts texts) TEXT_LIMIT) (le-leb (length texts) PART_LIMIT count) (le-leb (size_of_texts texts) TEXT_LIMIT size)
   where
     not_below : (a b : ℕ) → (a < b → ⊥) → b ≤ a
     not_below a b never = omega (arith, never)

@@ -1,5 +1,5 @@
 -- The table and the faults of several texts (inittab(5)).
-use Rattle.std.specs.Prelude.{ℕ, ◌+◌, ◌<◌, ◌≤◌, List, [], ◌∷◌, ◌++◌, map, length}
+use Rattle.std.specs.Prelude.{ℕ, Bool, ◌&&◌, nat_le, ◌+◌, ◌<◌, ◌≤◌, List, [], ◌∷◌, ◌++◌, map, length}
 use Rattle.init_words.specs.declared.entries.Entry.{Entry}
 use Rattle.inittab_text.specs.declared.faults.LineFault.{LineFault}
 use Rattle.inittab_text.specs.declared.faults.PartFault.{PartFault}
@@ -45,6 +45,6 @@ AreTooMany texts = PART_LIMIT < length texts
 abbrev pub AreTooLong : List (List ℕ) → Type 0
 AreTooLong texts = (length texts ≤ PART_LIMIT) × (TEXT_LIMIT < size_of_texts texts)
 
--- texts that a table is read from
-abbrev pub AreReadable : List (List ℕ) → Type 0
-AreReadable texts = (length texts ≤ PART_LIMIT) × (size_of_texts texts ≤ TEXT_LIMIT)
+-- a table is read from them: neither too many nor too long
+abbrev pub are_readable : List (List ℕ) → Bool
+are_readable texts = nat_le (length texts) PART_LIMIT && nat_le (size_of_texts texts) TEXT_LIMIT

@@ -4,7 +4,7 @@ use Rattle.std.specs.Prelude.{List, [], ◌∷◌, ◌++◌, length, take, drop,
 use Rattle.init_words.specs.declared.orders.Answer.{Answer}
 use Rattle.child_host.specs.declared.calls.HostFault.{HostFault}
 use Rattle.child_host.specs.declared.calls.Reply.{Reply}
-use Rattle.child_host.specs.Calls.{HostCall, TextRead}
+use Rattle.child_host.specs.Calls.{HostCall, PartsRead, TextRead}
 
 -- a queue of answers for each call that answers, the record as it is told, and the count of faults
 pub record Script : Type 0 where
@@ -14,7 +14,7 @@ pub record Script : Type 0 where
   pub lates : List (Option (List ℕ × Answer))
   pub clocks : List (Result ℕ HostFault)
   pub pieces : List TextRead
-  pub tables : List TextRead
+  pub tables : List PartsRead
   pub carries : List TextRead
   pub told : Option (List HostCall)
   pub faults : ℕ

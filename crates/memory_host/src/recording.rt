@@ -1,10 +1,10 @@
 ghost use Rattle.std.specs.Prelude.{◌≡◌, ◌≤◌, length, IfOk};
-ghost use Rattle.child_host.specs.Calls.{HostCall, Adds, text_read, front_read};
+ghost use Rattle.child_host.specs.Calls.{HostCall, Adds, text_read, parts_read, front_read};
 ghost use Rattle.memory_host.specs.Script.{tale};
 
-use child_host::{Bytes, Call, CallIn, HostFault, Reply};
+use child_host::{Bytes, Call, CallIn, HostFault, PartList, Reply, parts_copy};
 use init_trace::{HappeningIn, happening_copy};
-use init_words::{Id, Memory};
+use init_words::{Id, Memory, Part};
 use std::alloc::Allocator;
 
 /// Keeps a call, where all calls before it were kept and there is room for it; else calls are not told from here on.
@@ -47,15 +47,28 @@ fn text_copy<A: Allocator, B: Allocator>(
     }
 }
 
-/// The call that read the inittab.
-pub(crate) fn table_call<A: Allocator, B: Allocator>(
+/// A copy of files that were read, or of why they were not.
+fn parts_read_copy<A: Allocator + Copy, B: Allocator>(
     alloc: A,
-    text: &Result<Vec<u8, B>, HostFault>,
+    parts: &Result<Vec<Part<B>, B>, HostFault>,
+) -> Result<Result<PartList<A>, HostFault>, Memory>
+    ensures { IfOk result (λ copy. copy ≡ parts_read (λ held. held.items) parts.now) }
+{
+    match parts {
+        Ok(parts) => Ok(Ok(PartList::of(parts_copy(alloc, parts.as_slice())?))),
+        Err(fault) => Ok(Err(*fault)),
+    }
+}
+
+/// The call that read the files of the inittab.
+pub(crate) fn tables_call<A: Allocator + Copy, B: Allocator>(
+    alloc: A,
+    parts: &Result<Vec<Part<B>, B>, HostFault>,
 ) -> Result<CallIn<A>, Memory>
     ensures { IfOk result (λ call.
-        call ≡ Call.ReadTable (text_read (λ held. held.items) text.now)) }
+        call ≡ Call.ReadTables (parts_read (λ held. held.items) parts.now)) }
 {
-    Ok(Call::ReadTable(text_copy(alloc, text)?))
+    Ok(Call::ReadTables(parts_read_copy(alloc, parts)?))
 }
 
 /// The call that carried a text.

@@ -1,12 +1,13 @@
 ghost use Rattle.std.specs.Prelude.{◌≡◌, ◌⊎◌, ◌++◌, ◌∷◌, [], OnOk, OnErr, IfOk, IfErr};
 
 use crate::queues::{Pieces, give, next_or};
-use crate::recording::{announce_call, bytes_call, carry_call, record, start_call, table_call};
+use crate::recording::{announce_call, bytes_call, carry_call, record, start_call, tables_call};
 use child_host::{
-    Bytes, Call, CallIn, Host, HostFault, Reply, counted, is_failed_late, is_failed_reply,
+    Bytes, Call, CallIn, Host, HostFault, PartList, Reply, counted, is_failed_late, is_failed_reply,
+    parts_copy,
 };
 use init_trace::HappeningIn;
-use init_words::{Answer, Id, Memory, Sig};
+use init_words::{Answer, Id, Memory, Part, Sig};
 use std::alloc::{Allocator, Global};
 use std::collections::VecDeque;
 use std::marker::Model;
@@ -15,7 +16,7 @@ use std::marker::Model;
 ///
 /// Each call that answers has a queue of answers and takes its first; bytes that don't fit stay for the next call.
 /// Where a queue is empty no child is born, none has ended, each signal is sent, no answer comes late, the clock reads
-/// 0, there are no bytes, the inittab is empty, and a text is carried whole.
+/// 0, there are no bytes, the inittab has no files, and a text is carried whole.
 #[derive(Drop)]
 pub struct MemoryHost<A: Allocator = Global> {
     starts: VecDeque<Reply, A>,
@@ -24,7 +25,7 @@ pub struct MemoryHost<A: Allocator = Global> {
     lates: VecDeque<Option<(Id, Answer)>, A>,
     clocks: VecDeque<Result<u64, HostFault>, A>,
     pieces: Pieces<A>,
-    tables: VecDeque<Result<Bytes<A>, HostFault>, A>,
+    tables: VecDeque<Result<PartList<A>, HostFault>, A>,
     carries: VecDeque<Result<Bytes<A>, HostFault>, A>,
     calls: Vec<CallIn<A>, A>,
     tells: bool,
@@ -153,13 +154,13 @@ impl<A: Allocator> MemoryHost<A> {
         self.pieces.give(piece)
     }
 
-    /// Adds a text of the inittab.
-    pub fn give_table(&mut self, text: Result<Bytes<A>, HostFault>) -> Result<(), Memory>
+    /// Adds the files of the inittab, as one reading gives them.
+    pub fn give_table(&mut self, parts: Result<PartList<A>, HostFault>) -> Result<(), Memory>
         ensures ok { OnOk result (self.new
-            ≡ record self.old { tables = self.old.tables ++ text ∷ [] }) }
+            ≡ record self.old { tables = self.old.tables ++ parts ∷ [] }) }
         ensures err { OnErr result (self.new ≡ self.old) }
     {
-        give(&mut self.tables, text)
+        give(&mut self.tables, parts)
     }
 
     /// Adds what is read back where a text is carried.
@@ -211,10 +212,24 @@ fn item_copied<A: Allocator, B: Allocator>(
     }
 }
 
+/// A copy of the files of an item, or why there are none.
+fn parts_copied<A: Allocator, B: Allocator + Copy>(
+    alloc: B,
+    item: &Result<PartList<A>, HostFault>,
+) -> Result<Vec<Part<B>, B>, HostFault>
+    ensures ok { IfOk result (λ copy. item.now ≡ Ok copy.items) }
+    ensures err { IfErr result (λ fault. (item.now ≡ Err fault) ⊎ (fault ≡ HostFault.Memory)) }
+{
+    match item {
+        Ok(parts) => parts_copy(alloc, parts.as_slice()).map_err(|_| HostFault::Memory),
+        Err(fault) => Err(*fault),
+    }
+}
+
 impl<A: Allocator + Copy> Host for MemoryHost<A> {
     ghost use Rattle.std.specs.Prelude.{◌≤◌, false, drop, length, unwrap_or, is_err};
     ghost use Rattle.child_host.specs.Calls.{Adds, HasCause, counted};
-    ghost use Rattle.child_host.specs.Calls.{is_failed_reply, is_failed_late, text_read, front_read};
+    ghost use Rattle.child_host.specs.Calls.{is_failed_reply, is_failed_late, text_read, parts_read, front_read};
     ghost use Rattle.memory_host.specs.Script.{Script, Becomes, first, taken_of, left_of};
 
     ghost told = { λ (s : Script). s.told };
@@ -317,9 +332,9 @@ impl<A: Allocator + Copy> Host for MemoryHost<A> {
         taken
     }
 
-    fn read_table<B: Allocator + Copy>(&mut self, alloc: B) -> Result<Vec<u8, B>, HostFault>
-        ensures first { IfOk result (λ text.
-            unwrap_or (first self.old.tables) (Ok []) ≡ Ok text.items) }
+    fn read_tables<B: Allocator + Copy>(&mut self, alloc: B) -> Result<Vec<Part<B>, B>, HostFault>
+        ensures first { IfOk result (λ parts.
+            unwrap_or (first self.old.tables) (Ok []) ≡ Ok parts.items) }
         ensures fault { IfErr result (λ fault. (first self.old.tables ≡ Some (Err fault))
             ⊎ (fault ≡ HostFault.Memory)) }
         ensures state { Becomes self.new (record self.old {
@@ -327,15 +342,15 @@ impl<A: Allocator + Copy> Host for MemoryHost<A> {
           faults = counted (is_err result) self.old.faults;
         }) }
         ensures adds { Adds self.old.told self.new.told
-            (Call.ReadTable (text_read (λ text. text.items) result)) }
+            (Call.ReadTables (parts_read (λ parts. parts.items) result)) }
         ensures cause { HasCause self.old.faults self.new.faults (is_err result) }
     {
         let own = *self.calls.allocator();
-        let item = next_or(&mut self.tables, Ok(Bytes::new(own)));
-        let text = item_copied(alloc, &item);
-        let call = table_call(own, &text);
-        self.note(text.is_err(), call);
-        text
+        let item = next_or(&mut self.tables, Ok(PartList::new(own)));
+        let parts = parts_copied(alloc, &item);
+        let call = tables_call(own, &parts);
+        self.note(parts.is_err(), call);
+        parts
     }
 
     fn carry<B: Allocator + Copy>(&mut self, alloc: B, text: &[u8]) -> Result<Vec<u8, B>, HostFault>
