@@ -38,7 +38,7 @@ use Rattle.simulator.specs.Handing.{made_in, has_next, is_made, text_at, text_ma
 use Rattle.simulator.specs.Moments.{LastsTo, Moment, AtRest, IsReadyFor, GoesOn, HearsLine, HeardBreaks, HeardEnds}
 use Rattle.simulator.specs.Said.{is_scripted, may_be_scripted, objection_in, objection_now, IsObjected, heard}
 use Rattle.simulator.specs.Simulation.{past_text}
-use Rattle.simulator.proofs.Moves.{first_more, heard_more, run_hears, said_parts, past_text-more}
+use Rattle.simulator.proofs.Moves.{first_more, heard_more, run_hears, hears_handed, said_parts, past_text-more}
 use Rattle.simulator.proofs.Keeping.{kept_is}
 use Rattle.simulator.proofs.Rereading.{reread_quiet}
 
@@ -169,9 +169,10 @@ fits_silent goal past happening core side moment may not_table not_read not_told
 pub moment_heard : (goal : Goal) (past : List Event) (happening : Event) (core new_core : CoreState) (side new_side : SystemState) → Moment goal past core side → may_be_scripted goal happening past ≡ true → Fits new_core goal (happening ∷ past) → LastsTo new_core goal (happening ∷ past)
     → (is_sound goal (happening ∷ past) ≡ true → Follows side past → Follows new_side (happening ∷ past)) → Moment goal (happening ∷ past) new_core new_side
 moment_heard goal past happening core new_core side new_side moment may fits lasts follows =
-    let runs = run_hears goal happening past may moment.runs in
+    let (runs, handed) = hears_handed goal happening past may (moment.runs, moment.handed) in
     record {
       runs = runs;
+      handed = handed;
       fits = fits;
       lasts = lasts;
       follows = follows (run_sound goal (happening ∷ past) runs) moment.follows;

@@ -19,7 +19,7 @@ use Rattle.simulated_system.specs.Follows.{Follows}
 use Rattle.simulator.specs.declared.running.SimFault.{SimFault}
 use Rattle.simulator.specs.declared.running.SimFault.TheVariants as fault
 use Rattle.simulator.specs.Faults.{Leaves}
-use Rattle.simulator.specs.Handing.{made_in, kept_goal}
+use Rattle.simulator.specs.Handing.{made_in, kept_goal, are_handed}
 use Rattle.simulator.specs.Texts.{CanHand}
 use Rattle.simulator.specs.Said.{may_be_scripted, IsObjected, first_table, heard}
 use Rattle.simulator.specs.Simulation.{IsTooLong, RunOver, Scenario, goal_in, heard_text, past_text, table_in}
@@ -34,9 +34,14 @@ pub record LastsTo (core : CoreState) (opening : Goal) (past : List Event) : Typ
 -- the core fits the run so far and can be handed over, and the system's side follows the run
 pub record Moment (goal : Goal) (past : List Event) (core : CoreState) (side : SystemState) : Type 0 where
   pub runs : is_run goal past ≡ true
+  pub handed : are_handed goal past ≡ true
   pub fits : Fits core goal past
   pub lasts : LastsTo core goal past
   pub follows : Follows side past
+
+-- a run in which each hand-over came where it might be made
+abbrev pub IsHandedRun : Goal → List Event → Type 0
+IsHandedRun goal past = (is_run goal past ≡ true) × (are_handed goal past ≡ true)
 
 abbrev pub SomeMoment : CoreState → SystemState → Type 0
 SomeMoment core side = (goal : Goal) × (past : List Event) × Moment goal past core side
@@ -74,7 +79,7 @@ ComesToRest goal past rereads core side old new =
 -- init went on, and was writing what it did when the fault came
 abbrev pub Breaks : Goal → List Event → SimFault → Option (List ℕ) → Option (List ℕ) → Type 0
 Breaks goal past f old new =
-    (next : List Event) × (more : List ℕ) × (is_run goal next ≡ true) × GoesOn past next more × Leaves f old new more
+    (next : List Event) × (more : List ℕ) × IsHandedRun goal next × GoesOn past next more × Leaves f old new more
 
 -- a table is adopted where no start and no signal is open in the core, and a hand-over is made where it can be
 abbrev pub IsReadyFor : Event → CoreState → Type 0
@@ -98,7 +103,7 @@ HeardOne goal past happening rereads core side old new = (next : List Event) × 
 -- a happening was heard, and what came was being written when the fault came
 abbrev pub HeardBreaks : Goal → List Event → Event → SimFault → Option (List ℕ) → Option (List ℕ) → Type 0
 HeardBreaks goal past happening f old new = (next : List Event) × (more : List ℕ)
-    × (is_run goal next ≡ true) × HearsLine past next (event_text happening) more × Leaves f old new more
+    × IsHandedRun goal next × HearsLine past next (event_text happening) more × Leaves f old new more
 
 -- how a happening whose line has this number may end the run; memory may also be wanting before it is heard
 abbrev pub HeardEnds : Goal → List Event → Event → ℕ → SimFault → Option (List ℕ) → Option (List ℕ) → Type 0
