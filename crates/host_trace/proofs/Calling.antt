@@ -8,10 +8,10 @@ use Rattle.init_words.specs.declared.orders.Ask.{Ask}
 use Rattle.init_words.specs.declared.orders.Ask.TheVariants as ask
 use Rattle.init_words.specs.Entries.{command_of}
 use Rattle.init_words.proofs.Same.{same_id-self}
-use Rattle.inittab_text.specs.declared.reading.TheConstants.{TEXT_LIMIT}
-use Rattle.inittab_text.specs.Reading.{table_of_text}
+use Rattle.init_words.specs.Parts.{NamedText, texts_of}
+use Rattle.inittab_text.specs.Parts.{are_readable, table_of_texts}
 use Rattle.inittab_text.specs.Tables.{entry_of}
-use Rattle.inittab_text.proofs.Distinct.{distinct_text}
+use Rattle.inittab_text.proofs.Distinct.{distinct_texts}
 use Rattle.init_trace.specs.declared.happenings.Handed.{Handed as HandOver}
 use Rattle.init_trace.specs.declared.happenings.Handed.TheVariants as handed
 use Rattle.init_trace.specs.declared.happenings.Happening.TheVariants as past
@@ -33,11 +33,11 @@ use Rattle.core_model.proofs.Deciding.{decide_due}
 use Rattle.state_text.specs.Range as range
 use Rattle.state_text.specs.Refused.{IsTextOf}
 use Rattle.trace_log.specs.Logs.{LogState}
-use Rattle.child_host.specs.declared.calls.Call.TheVariants.{Start, Late, Clock, ReadTable, Announce}
+use Rattle.child_host.specs.declared.calls.Call.TheVariants.{Start, Late, Clock, ReadTables, Announce}
 use Rattle.child_host.specs.declared.calls.HostFault.{HostFault}
 use Rattle.child_host.specs.declared.calls.Reply.{Reply}
 use Rattle.child_host.specs.declared.calls.Reply.TheVariants.{Now, Later}
-use Rattle.child_host.specs.Calls.{TextRead}
+use Rattle.child_host.specs.Calls.{PartsRead, TextRead}
 use Rattle.host_trace.specs.Point.{Point, replied, ordered, come, is_last, nudged_if, clocked, reading, before_reading, before_handing, handed_if, came_whole, same_text, is_command, is_first, is_refusal, is_outcome, carrying, point_after, has_trace}
 use Rattle.host_trace.specs.Leads.{AreTexts, IsStateText, is_allowed, comes_back, are_carried, gone_on, Logs, Gave, Counted, Lasts, Tracks, Leads, Heard, Hears}
 use Rattle.host_trace.proofs.Leading.{answered_allowed, nudged_allowed, Leads-heard, Hears-then}
@@ -105,35 +105,35 @@ Hears-last f₀ f₁ f₂ l₀ l₁ l₂ late count last hears round = subst (λ
 -- ---- inittab is read again
 
 -- the table that was read is in force
-pub Leads-used : (c new : CoreState) (l₀ l₁ : LogState) (text : List ℕ) → length text ≤ TEXT_LIMIT → lists.is_quiet c.slots ≡ true → OnEachTrace c (λ goal so_far. Fits new goal (past.NewTable (table_of_text text) ∷ so_far)) → Lasts c new → ((so_far : List Event) → Logs l₀ l₁ so_far (past.NewTable (table_of_text text) ∷ so_far)) → Leads (Gave (Tracks c) step.Reread) (Tracks new) l₀ l₁ (ReadTable (Ok text) ∷ [])
-Leads-used c new l₀ l₁ text short quiet fits lasts took = Leads-heard (Gave (Tracks c) step.Reread) (Tracks new) l₀ l₁ (ReadTable (Ok text)) used heard (λ p. ap (λ b. record p { past = cond b past.NotRead (past.NewTable (table_of_text text)) ∷ p.past }) (le-ltb TEXT_LIMIT (length text) short)) (λ goal p sound gave. first_is goal p.past step.Reread gave.0) (λ goal p. tt)
+pub Leads-used : (c new : CoreState) (l₀ l₁ : LogState) (parts : List NamedText) → are_readable (texts_of parts) ≡ true → lists.is_quiet c.slots ≡ true → OnEachTrace c (λ goal so_far. Fits new goal (past.NewTable (table_of_texts (texts_of parts)) ∷ so_far)) → Lasts c new → ((so_far : List Event) → Logs l₀ l₁ so_far (past.NewTable (table_of_texts (texts_of parts)) ∷ so_far)) → Leads (Gave (Tracks c) step.Reread) (Tracks new) l₀ l₁ (ReadTables (Ok parts) ∷ [])
+Leads-used c new l₀ l₁ parts readable quiet fits lasts took = Leads-heard (Gave (Tracks c) step.Reread) (Tracks new) l₀ l₁ (ReadTables (Ok parts)) used heard (λ p. ap (λ b. record p { past = cond b (past.NewTable (table_of_texts (texts_of parts))) past.NotRead ∷ p.past }) readable) (λ goal p sound gave. first_is goal p.past step.Reread gave.0) (λ goal p. tt)
   where
     used : List Event → List Event
-    used so_far = past.NewTable (table_of_text text) ∷ so_far
+    used so_far = past.NewTable (table_of_texts (texts_of parts)) ∷ so_far
 
     heard : Hears (Gave (Tracks c) step.Reread) (Tracks new) l₀ l₁ used
-    heard goal p sound gave allowed = record { sound = table_sound goal p.past c (table_of_text text) sound gave.1.fits quiet (distinct_text text); fits = tracks c new goal p (gone_on used p) lasts refl gave.1 (fits goal p.past sound gave.1.fits); log = took p.past }
+    heard goal p sound gave allowed = record { sound = table_sound goal p.past c (table_of_texts (texts_of parts)) sound gave.1.fits quiet (distinct_texts (texts_of parts)); fits = tracks c new goal p (gone_on used p) lasts refl gave.1 (fits goal p.past sound gave.1.fits); log = took p.past }
 
 -- it could not be read, or its table not be taken
-reading_goes : (text : TextRead) (so_far : List Event) → before_reading (reading text ∷ so_far) ≡ so_far
+reading_goes : (parts : PartsRead) (so_far : List Event) → before_reading (reading parts ∷ so_far) ≡ so_far
 reading_goes (Err fault) so_far = refl
-reading_goes (Ok text) so_far = by (nat_lt TEXT_LIMIT (length text))
+reading_goes (Ok parts) so_far = by (are_readable (texts_of parts))
   where
-    by : (b : Bool) → before_reading (cond b past.NotRead (past.NewTable (table_of_text text)) ∷ so_far) ≡ so_far
+    by : (b : Bool) → before_reading (cond b (past.NewTable (table_of_texts (texts_of parts))) past.NotRead ∷ so_far) ≡ so_far
     by true = refl
     by false = refl
 
-pub Leads-not_read : (c new : CoreState) (l₀ l₁ : LogState) (text : TextRead) → OnEachTrace c (λ goal so_far. Fits new goal (past.NotRead ∷ so_far)) → Lasts c new → ((so_far : List Event) → Logs l₀ l₁ so_far (past.NotRead ∷ so_far)) → Leads (Gave (Tracks c) step.Reread) (Tracks new) l₀ l₁ (Announce past.NotRead ∷ ReadTable text ∷ [])
-Leads-not_read c new l₀ l₁ text fits lasts took goal p sound gave allowed = (
+pub Leads-not_read : (c new : CoreState) (l₀ l₁ : LogState) (parts : PartsRead) → OnEachTrace c (λ goal so_far. Fits new goal (past.NotRead ∷ so_far)) → Lasts c new → ((so_far : List Event) → Logs l₀ l₁ so_far (past.NotRead ∷ so_far)) → Leads (Gave (Tracks c) step.Reread) (Tracks new) l₀ l₁ (Announce past.NotRead ∷ ReadTables parts ∷ [])
+Leads-not_read c new l₀ l₁ parts fits lasts took goal p sound gave allowed = (
   tt,
   λ carried.
-      let goes : past.NotRead ∷ before_reading (reading text ∷ p.past) ≡ past.NotRead ∷ p.past = ap (λ (so_far : List Event). past.NotRead ∷ so_far) (reading_goes text p.past) in
+      let goes : past.NotRead ∷ before_reading (reading parts ∷ p.past) ≡ past.NotRead ∷ p.past = ap (λ (so_far : List Event). past.NotRead ∷ so_far) (reading_goes parts p.past) in
       let more : is_sound goal (past.NotRead ∷ p.past) ≡ true = sound_met goal past.NotRead p.past refl (ap (is_allowed goal) (sym goes) ∙ allowed) sound in
       record {
         in_place = and_from (is_first goal step.Reread p.past) true (first_is goal p.past step.Reread gave.0) refl;
         sound = ap (is_sound goal) goes ∙ more;
-        fits = tracks c new goal p (point_after (Announce past.NotRead ∷ ReadTable text ∷ []) p) lasts refl gave.1 (subst (Fits new goal) (sym goes) (fits goal p.past sound gave.1.fits));
-        log = logged goal (Announce past.NotRead ∷ ReadTable text ∷ []) p l₀ l₁ (ap (is_sound goal) goes ∙ more) (subst (Logs l₀ l₁ p.past) (sym goes) (took p.past));
+        fits = tracks c new goal p (point_after (Announce past.NotRead ∷ ReadTables parts ∷ []) p) lasts refl gave.1 (subst (Fits new goal) (sym goes) (fits goal p.past sound gave.1.fits));
+        log = logged goal (Announce past.NotRead ∷ ReadTables parts ∷ []) p l₀ l₁ (ap (is_sound goal) goes ∙ more) (subst (Logs l₀ l₁ p.past) (sym goes) (took p.past));
       },
 )
 

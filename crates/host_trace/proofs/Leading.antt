@@ -12,7 +12,7 @@ use Rattle.init_trace.specs.declared.happenings.Happening.TheVariants as past
 use Rattle.init_trace.specs.declared.steps.Goal.{Goal}
 use Rattle.init_trace.specs.Event.{Event}
 use Rattle.init_trace.specs.Sound.{is_sound}
-use Rattle.child_host.specs.declared.calls.Call.TheVariants.{Start, Look, Signal, Late, Clock, TakeBytes, ReadTable, Carry, Announce, Pause}
+use Rattle.child_host.specs.declared.calls.Call.TheVariants.{Start, Look, Signal, Late, Clock, TakeBytes, ReadTables, Carry, Announce, Pause}
 use Rattle.child_host.specs.declared.calls.Reply.{Reply}
 use Rattle.child_host.specs.declared.calls.Reply.TheVariants.{Now, Later}
 use Rattle.child_host.specs.Calls.{HostCall, TextRead}
@@ -104,7 +104,7 @@ module _ (goal : Goal) where
   after_allowed (Clock (Err fault)) p h = h
   after_allowed (TakeBytes room (Ok bytes)) p h = bytes_allowed bytes p h
   after_allowed (TakeBytes room (Err fault)) p h = h
-  after_allowed (ReadTable text) p h = allowed_rest (reading text) p.past h
+  after_allowed (ReadTables text) p h = allowed_rest (reading text) p.past h
   after_allowed (Carry text back) p h = handed_allowed (came_whole text back) p.past h
   after_allowed (Announce happening) p h = announced_allowed happening p.past h
   after_allowed Pause p h = h
@@ -141,7 +141,7 @@ carried_parts (Signal id sent reply ∷ ys) xs p h = carried_parts ys xs p h
 carried_parts (Late late ∷ ys) xs p h = carried_parts ys xs p h
 carried_parts (Clock time ∷ ys) xs p h = carried_parts ys xs p h
 carried_parts (TakeBytes room taken ∷ ys) xs p h = carried_parts ys xs p h
-carried_parts (ReadTable text ∷ ys) xs p h = carried_parts ys xs p h
+carried_parts (ReadTables text ∷ ys) xs p h = carried_parts ys xs p h
 carried_parts (Announce happening ∷ ys) xs p h = carried_parts ys xs p h
 carried_parts (Pause ∷ ys) xs p h = carried_parts ys xs p h
 
@@ -160,7 +160,7 @@ texts_then goal (Signal id sent reply ∷ ys) xs p later earlier = texts_then go
 texts_then goal (Late late ∷ ys) xs p later earlier = texts_then goal ys xs p later earlier
 texts_then goal (Clock time ∷ ys) xs p later earlier = texts_then goal ys xs p later earlier
 texts_then goal (TakeBytes room taken ∷ ys) xs p later earlier = texts_then goal ys xs p later earlier
-texts_then goal (ReadTable text ∷ ys) xs p later earlier = texts_then goal ys xs p later earlier
+texts_then goal (ReadTables text ∷ ys) xs p later earlier = texts_then goal ys xs p later earlier
 texts_then goal (Announce happening ∷ ys) xs p later earlier = texts_then goal ys xs p later earlier
 texts_then goal (Pause ∷ ys) xs p later earlier = texts_then goal ys xs p later earlier
 
@@ -204,7 +204,7 @@ after_over (Look id reply) p h = refl
 after_over (Signal id sent reply) p h = refl
 after_over (Late late) p h = refl
 after_over (Clock time) p h = refl
-after_over (ReadTable text) p h = refl
+after_over (ReadTables text) p h = refl
 after_over (Carry text back) p h = refl
 after_over (Announce happening) p h = refl
 after_over Pause p h = refl

@@ -9,7 +9,7 @@ use Rattle.init_trace.specs.declared.happenings.Happening.TheVariants as past
 use Rattle.init_trace.specs.declared.steps.Goal.{Goal}
 use Rattle.init_trace.specs.declared.steps.Step.TheVariants as step
 use Rattle.init_trace.specs.Event.{Event}
-use Rattle.child_host.specs.declared.calls.Call.TheVariants.{ReadTable, Carry, Announce}
+use Rattle.child_host.specs.declared.calls.Call.TheVariants.{ReadTables, Carry, Announce}
 use Rattle.child_host.specs.Calls.{HostCall, TextRead}
 use Rattle.host_trace.specs.Point.{Point, after, point_after, byte_after, bytes_after, was_reading, came_whole, came_cut, is_first, may_announce, is_in_place, are_in_place, tells_outcomes, has_trace}
 
@@ -25,7 +25,7 @@ bytes_after-append (byte ∷ xs) ys p = bytes_after-append xs ys (byte_after byt
 
 -- what is in its place behind some calls is so behind more
 still_reading : (earlier more : List HostCall) → was_reading earlier ≡ true → was_reading (earlier ++ more) ≡ true
-still_reading (ReadTable text ∷ earlier) more h = refl
+still_reading (ReadTables text ∷ earlier) more h = refl
 still_reading [] more h = absurd (false≢true h)
 still_reading (_ ∷ earlier) more h = absurd (false≢true h)
 

@@ -4,16 +4,16 @@ use Rattle.init_words.specs.declared.orders.Answer.{Answer}
 use Rattle.init_words.specs.declared.orders.Answer.TheVariants as answer
 use Rattle.init_words.specs.declared.orders.Ask.{Ask}
 use Rattle.init_words.specs.declared.orders.Ask.TheVariants as ask
-use Rattle.inittab_text.specs.declared.reading.TheConstants.{TEXT_LIMIT}
-use Rattle.inittab_text.specs.Reading.{table_of_text}
+use Rattle.init_words.specs.Parts.{texts_of}
+use Rattle.inittab_text.specs.Parts.{are_readable, table_of_texts}
 use Rattle.initctl_frame.specs.declared.requests.Got.{Got as Request}
 use Rattle.initctl_frame.specs.Blocks.{gots_of, over_of}
 use Rattle.init_trace.specs.declared.happenings.Happening.TheVariants as past
 use Rattle.init_trace.specs.Event.{Event}
-use Rattle.child_host.specs.declared.calls.Call.TheVariants.{Start, Look, Signal, Late, Clock, TakeBytes, ReadTable, Carry, Announce, Pause}
+use Rattle.child_host.specs.declared.calls.Call.TheVariants.{Start, Look, Signal, Late, Clock, TakeBytes, ReadTables, Carry, Announce, Pause}
 use Rattle.child_host.specs.declared.calls.Reply.{Reply}
 use Rattle.child_host.specs.declared.calls.Reply.TheVariants.{Now, Later}
-use Rattle.child_host.specs.Calls.{HostCall, TextRead}
+use Rattle.child_host.specs.Calls.{HostCall, PartsRead, TextRead}
 use Rattle.host_trace.specs.Point.{Point, acted, is_asked_for, answered, ordered, order_for, come, is_last, nudged_if, reading, before_reading, announced, point_after, before_handing, came_whole, handed_if}
 use Rattle.host_trace.specs.Requests.{requested, Continues, requests_in, bytes_of, Brings}
 use Rattle.host_trace.proofs.Bytes.{bytes_continue}
@@ -52,11 +52,11 @@ come_none : (late : Option (List ℕ × Answer)) (so_far : List Event) → reque
 come_none (Some late) so_far = answered_none late.0 late.1 so_far
 come_none None so_far = refl
 
-reading_none : (text : TextRead) (so_far : List Event) → requests_in (reading text ∷ so_far) ≡ requests_in so_far
+reading_none : (parts : PartsRead) (so_far : List Event) → requests_in (reading parts ∷ so_far) ≡ requests_in so_far
 reading_none (Err fault) so_far = refl
-reading_none (Ok text) so_far = by (nat_lt TEXT_LIMIT (length text))
+reading_none (Ok parts) so_far = by (are_readable (texts_of parts))
   where
-    by : (b : Bool) → requests_in (cond b past.NotRead (past.NewTable (table_of_text text)) ∷ so_far) ≡ requests_in so_far
+    by : (b : Bool) → requests_in (cond b (past.NewTable (table_of_texts (texts_of parts))) past.NotRead ∷ so_far) ≡ requests_in so_far
     by true = refl
     by false = refl
 
@@ -117,7 +117,7 @@ calls_bring (Signal id sent reply ∷ calls) before p is = brings_none before (S
 calls_bring (Late late ∷ calls) before p is = brings_none before (Late late) calls p (calls_bring calls before p is) refl (nudged_none (is_last late (point_after calls p).lates) (come late (point_after calls p).past) ∙ come_none late (point_after calls p).past) refl
 calls_bring (Clock (Ok time) ∷ calls) before p is = brings_none before (Clock (Ok time)) calls p (calls_bring calls before p is) refl refl refl
 calls_bring (Clock (Err fault) ∷ calls) before p is = brings_none before (Clock (Err fault)) calls p (calls_bring calls before p is) refl refl refl
-calls_bring (ReadTable text ∷ calls) before p is = brings_none before (ReadTable text) calls p (calls_bring calls before p is) refl (reading_none text (point_after calls p).past) refl
+calls_bring (ReadTables parts ∷ calls) before p is = brings_none before (ReadTables parts) calls p (calls_bring calls before p is) refl (reading_none parts (point_after calls p).past) refl
 calls_bring (Carry text back ∷ calls) before p is = brings_none before (Carry text back) calls p (calls_bring calls before p is) refl (handed_none (came_whole text back) (point_after calls p).past) refl
 calls_bring (Announce happening ∷ calls) before p is = brings_none before (Announce happening) calls p (calls_bring calls before p is) refl (announced_none happening (point_after calls p).past) refl
 calls_bring (Pause ∷ calls) before p is = brings_none before Pause calls p (calls_bring calls before p is) refl refl refl

@@ -21,7 +21,7 @@ use Rattle.core_model.specs.Parts.{SavedState, state_of}
 use Rattle.state_text.specs.declared.versions.Version.{Version}
 use Rattle.state_text.specs.declared.versions.Version.TheVariants.{V1, V2}
 use Rattle.state_text.specs.Lines.{text_in}
-use Rattle.child_host.specs.declared.calls.Call.TheVariants.{Start, Look, Late, Clock, TakeBytes, ReadTable, Carry, Announce, Pause}
+use Rattle.child_host.specs.declared.calls.Call.TheVariants.{Start, Look, Late, Clock, TakeBytes, ReadTables, Carry, Announce, Pause}
 use Rattle.child_host.specs.declared.calls.Reply.TheVariants.{Now, Later}
 use Rattle.child_host.specs.Calls.{HostCall, TextRead}
 use Rattle.host_trace.specs.Point.{Point, point_after, has_trace}
@@ -130,7 +130,7 @@ asked_to_read-over = refl
 
 -- its table is used, or it is said not to have been read
 abbrev is_used : List HostCall
-is_used = ReadTable (Ok []) ∷ asked_to_read
+is_used = ReadTables (Ok []) ∷ asked_to_read
 
 is_used-in_place : has_trace goal is_used opening ≡ true
 is_used-in_place = refl
@@ -151,7 +151,7 @@ not_used-is = refl
 not_read-is_not : has_trace goal (Announce past.NotRead ∷ asked_to_read) opening ≡ false
 not_read-is_not = refl
 
-read_again-is_not : has_trace goal (ReadTable (Ok []) ∷ is_used) opening ≡ false
+read_again-is_not : has_trace goal (ReadTables (Ok []) ∷ is_used) opening ≡ false
 read_again-is_not = refl
 
 -- ---- init is executed anew: the request came in one piece, and the text came back whole

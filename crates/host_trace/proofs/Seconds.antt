@@ -19,18 +19,18 @@ use Rattle.initctl_frame.specs.declared.requests.Got.TheVariants as got
 use Rattle.initctl_frame.specs.Frames.{got_of, got_of_command, got_of_ints, got_of_runlevel, int_at, is_left_out, seconds_of}
 use Rattle.initctl_frame.specs.Blocks.{blocks_of, gots_of}
 use Rattle.initctl_frame.specs.Signs.{got_of_letter, got_of_level}
-use Rattle.inittab_text.specs.declared.reading.TheConstants.{TEXT_LIMIT}
-use Rattle.inittab_text.specs.Reading.{table_of_text}
+use Rattle.init_words.specs.Parts.{texts_of}
+use Rattle.inittab_text.specs.Parts.{are_readable, table_of_texts}
 use Rattle.init_trace.specs.declared.happenings.Happening.TheVariants as past
 use Rattle.init_trace.specs.declared.steps.Goal.{Goal}
 use Rattle.init_trace.specs.Event.{Event}
 use Rattle.init_trace.specs.Range.{are_short, is_request, is_seconds, is_short}
 use Rattle.init_trace.specs.Sound.{is_sound}
 use Rattle.trace_laws.proofs.Seconds.{is_short_request, sound_short}
-use Rattle.child_host.specs.declared.calls.Call.TheVariants.{Start, Look, Signal, Late, Clock, TakeBytes, ReadTable, Carry, Announce, Pause}
+use Rattle.child_host.specs.declared.calls.Call.TheVariants.{Start, Look, Signal, Late, Clock, TakeBytes, ReadTables, Carry, Announce, Pause}
 use Rattle.child_host.specs.declared.calls.Reply.{Reply}
 use Rattle.child_host.specs.declared.calls.Reply.TheVariants.{Now, Later}
-use Rattle.child_host.specs.Calls.{HostCall, TextRead}
+use Rattle.child_host.specs.Calls.{HostCall, PartsRead, TextRead}
 use Rattle.trace_log.specs.Logs.{LogState}
 use Rattle.host_trace.specs.Leads.{Logs, Took, are_seconds_short}
 use Rattle.host_trace.specs.Point.{Point, after, acted, announced, answered, before_handing, before_reading, byte_after, bytes_after, came_whole, come, handed_if, is_asked_for, is_last, is_announcement, nudged_if, order_for, ordered, point_after, reading}
@@ -121,15 +121,15 @@ bytes_requests : (bytes : List ℕ) (p : Point) → Requests p.past → Requests
 bytes_requests [] p all = all
 bytes_requests (byte ∷ bytes) p all = bytes_requests bytes (byte_after byte p) (byte_requests byte p all)
 
-reading_requests : (text : TextRead) (so_far : List Event) → Requests so_far → Requests (reading text ∷ so_far)
-reading_requests text so_far all = and_from (is_short_request (reading text)) (list_all is_short_request so_far) (by text) all
+reading_requests : (parts : PartsRead) (so_far : List Event) → Requests so_far → Requests (reading parts ∷ so_far)
+reading_requests parts so_far all = and_from (is_short_request (reading parts)) (list_all is_short_request so_far) (by parts) all
   where
-    of_length : (b : Bool) (used : Event) → is_short_request used ≡ true → is_short_request (cond b past.NotRead used) ≡ true
-    of_length true used short = refl
-    of_length false used short = short
+    of_sizes : (b : Bool) (used : Event) → is_short_request used ≡ true → is_short_request (cond b used past.NotRead) ≡ true
+    of_sizes true used short = short
+    of_sizes false used short = refl
 
-    by : (t : TextRead) → is_short_request (reading t) ≡ true
-    by (Ok bytes) = of_length (nat_lt TEXT_LIMIT (length bytes)) (past.NewTable (table_of_text bytes)) refl
+    by : (p : PartsRead) → is_short_request (reading p) ≡ true
+    by (Ok parts) = of_sizes (are_readable (texts_of parts)) (past.NewTable (table_of_texts (texts_of parts))) refl
     by (Err fault) = refl
 
 before_requests : (so_far : List Event) → Requests so_far → Requests (before_reading so_far)
@@ -169,7 +169,7 @@ after_requests (Clock (Ok reading)) p all = all
 after_requests (Clock (Err fault)) p all = all
 after_requests (TakeBytes room (Ok bytes)) p all = bytes_requests bytes p all
 after_requests (TakeBytes room (Err fault)) p all = all
-after_requests (ReadTable text) p all = reading_requests text p.past all
+after_requests (ReadTables parts) p all = reading_requests parts p.past all
 after_requests (Carry text back) p all = handed_requests (came_whole text back) p.past all
 after_requests (Announce happening) p all = announced_requests happening p.past all
 after_requests Pause p all = all

@@ -9,7 +9,7 @@ use Rattle.init_trace.specs.declared.steps.Goal.{Goal}
 use Rattle.core_model.specs.Parts.{state_of}
 use Rattle.state_text.specs.Reading.{generation_of}
 use Rattle.state_text.proofs.Prefixes.{generation_said}
-use Rattle.child_host.specs.declared.calls.Call.TheVariants.{Start, Look, Signal, Late, Clock, TakeBytes, ReadTable, Carry, Announce, Pause}
+use Rattle.child_host.specs.declared.calls.Call.TheVariants.{Start, Look, Signal, Late, Clock, TakeBytes, ReadTables, Carry, Announce, Pause}
 use Rattle.child_host.specs.Calls.{HostCall, TextRead}
 use Rattle.host_trace.specs.Point.{Point, after, is_of_generation, point_after, same_text}
 use Rattle.host_trace.specs.Leads.{AreTexts, IsStateText, are_carried, comes_back}
@@ -30,7 +30,7 @@ call_generation (Signal id sent reply) p other = refl
 call_generation (Late late) p other = refl
 call_generation (Clock time) p other = refl
 call_generation (TakeBytes room (Err fault)) p other = refl
-call_generation (ReadTable text) p other = refl
+call_generation (ReadTables text) p other = refl
 call_generation (Announce happening) p other = refl
 call_generation (Pause) p other = refl
 
@@ -61,7 +61,7 @@ older goal (Signal id sent reply ∷ calls) p bytes texts carried there = as_bef
 older goal (Late late ∷ calls) p bytes texts carried there = as_before goal (Late late) calls p bytes refl (older goal calls p bytes texts carried there)
 older goal (Clock time ∷ calls) p bytes texts carried there = as_before goal (Clock time) calls p bytes refl (older goal calls p bytes texts carried there)
 older goal (TakeBytes room taken ∷ calls) p bytes texts carried there = as_before goal (TakeBytes room taken) calls p bytes refl (older goal calls p bytes texts carried there)
-older goal (ReadTable text ∷ calls) p bytes texts carried there = as_before goal (ReadTable text) calls p bytes refl (older goal calls p bytes texts carried there)
+older goal (ReadTables text ∷ calls) p bytes texts carried there = as_before goal (ReadTables text) calls p bytes refl (older goal calls p bytes texts carried there)
 older goal (Announce happening ∷ calls) p bytes texts carried there = as_before goal (Announce happening) calls p bytes refl (older goal calls p bytes texts carried there)
 older goal (Pause ∷ calls) p bytes texts carried there = as_before goal (Pause) calls p bytes refl (older goal calls p bytes texts carried there)
 
@@ -92,7 +92,7 @@ given_carried goal (Signal id sent reply ∷ calls) p texts given = given_carrie
 given_carried goal (Late late ∷ calls) p texts given = given_carried goal calls p texts given
 given_carried goal (Clock time ∷ calls) p texts given = given_carried goal calls p texts given
 given_carried goal (TakeBytes room taken ∷ calls) p texts given = given_carried goal calls p texts given
-given_carried goal (ReadTable text ∷ calls) p texts given = given_carried goal calls p texts given
+given_carried goal (ReadTables text ∷ calls) p texts given = given_carried goal calls p texts given
 given_carried goal (Announce happening ∷ calls) p texts given = given_carried goal calls p texts given
 given_carried goal (Pause ∷ calls) p texts given = given_carried goal calls p texts given
 
@@ -106,6 +106,6 @@ generation_counted (Signal id sent reply ∷ calls) p = call_generation (Signal 
 generation_counted (Late late ∷ calls) p = call_generation (Late late) (point_after calls p) refl ∙ generation_counted calls p
 generation_counted (Clock time ∷ calls) p = call_generation (Clock time) (point_after calls p) refl ∙ generation_counted calls p
 generation_counted (TakeBytes room taken ∷ calls) p = call_generation (TakeBytes room taken) (point_after calls p) refl ∙ generation_counted calls p
-generation_counted (ReadTable text ∷ calls) p = call_generation (ReadTable text) (point_after calls p) refl ∙ generation_counted calls p
+generation_counted (ReadTables text ∷ calls) p = call_generation (ReadTables text) (point_after calls p) refl ∙ generation_counted calls p
 generation_counted (Announce happening ∷ calls) p = call_generation (Announce happening) (point_after calls p) refl ∙ generation_counted calls p
 generation_counted (Pause ∷ calls) p = call_generation (Pause) (point_after calls p) refl ∙ generation_counted calls p

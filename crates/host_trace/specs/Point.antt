@@ -12,8 +12,8 @@ use Rattle.init_words.specs.declared.orders.Sig.TheVariants as signal
 use Rattle.init_words.specs.Entries.{command_of}
 use Rattle.init_words.specs.Ids.{same_id}
 use Rattle.init_words.specs.Orders.{answers}
-use Rattle.inittab_text.specs.declared.reading.TheConstants.{TEXT_LIMIT}
-use Rattle.inittab_text.specs.Reading.{table_of_text}
+use Rattle.init_words.specs.Parts.{texts_of}
+use Rattle.inittab_text.specs.Parts.{are_readable, table_of_texts}
 use Rattle.inittab_text.specs.Tables.{entry_of}
 use Rattle.initctl_frame.specs.declared.frames.TheConstants.{BLOCK}
 use Rattle.initctl_frame.specs.Frames.{got_of}
@@ -28,11 +28,11 @@ use Rattle.init_trace.specs.Past.{open_of, table_of}
 use Rattle.init_trace.specs.Due.{due, first, same_step}
 use Rattle.init_trace.specs.Run.{step_in}
 use Rattle.state_text.specs.Reading.{generation_of}
-use Rattle.child_host.specs.declared.calls.Call.TheVariants.{Start, Look, Signal, Late, Clock, TakeBytes, ReadTable, Carry, Announce, Pause}
+use Rattle.child_host.specs.declared.calls.Call.TheVariants.{Start, Look, Signal, Late, Clock, TakeBytes, ReadTables, Carry, Announce, Pause}
 use Rattle.child_host.specs.declared.calls.HostFault.{HostFault}
 use Rattle.child_host.specs.declared.calls.Reply.{Reply}
 use Rattle.child_host.specs.declared.calls.Reply.TheVariants.{Now, Later}
-use Rattle.child_host.specs.Calls.{HostCall, TextRead}
+use Rattle.child_host.specs.Calls.{HostCall, PartsRead, TextRead}
 use Rattle.host_trace.specs.declared.TheConstants.{LATE_LIMIT}
 
 -- where a record stands: the bytes of a block under way, how many late answers were asked for since the clock was read,
@@ -116,9 +116,12 @@ abbrev pub taken_after : TextRead → Point → Point
 taken_after (Ok bytes) p = bytes_after bytes p
 taken_after (Err fault) p = p
 
--- a reading of inittab is the use of its table, or that it could not be read: that it failed, or is too long
-abbrev pub reading : TextRead → Event
-reading (Ok text) = if nat_lt TEXT_LIMIT (length text) then happened.NotRead else happened.NewTable (table_of_text text)
+-- a reading of inittab is the use of its table, or that it could not be read: that it failed, or that its files are too
+-- many or too long
+abbrev pub reading : PartsRead → Event
+reading (Ok parts) =
+    let texts = texts_of parts in
+    if are_readable texts then happened.NewTable (table_of_texts texts) else happened.NotRead
 reading (Err fault) = happened.NotRead
 
 -- the past before the reading of inittab that stands newest
@@ -176,7 +179,7 @@ after (Late late) p =
     record p { lates = p.lates + 1; past = nudged_if (is_last late p.lates) (come late p.past) }
 after (Clock time) p = record p { lates = 0; past = clocked time p.past }
 after (TakeBytes room taken) p = taken_after taken p
-after (ReadTable text) p = record p { past = reading text ∷ p.past }
+after (ReadTables parts) p = record p { past = reading parts ∷ p.past }
 after (Carry text back) p =
     record p { generation = p.generation + 1; past = handed_if (came_whole text back) p.past }
 after (Announce happening) p = record p { past = announced happening p.past }
@@ -194,7 +197,7 @@ is_command id text past =
 
 -- inittab was read in the call before
 abbrev pub was_reading : List HostCall → Bool
-was_reading (ReadTable text ∷ calls) = true
+was_reading (ReadTables parts ∷ calls) = true
 was_reading _ = false
 
 -- the text names the generation
@@ -243,7 +246,7 @@ is_in_place goal (Start id command reply) earlier past =
     is_first goal (step.Order id ask.Start) past && is_command id command past
 is_in_place goal (Look id reply) earlier past = is_first goal (step.Order id ask.Look) past
 is_in_place goal (Signal id sent reply) earlier past = is_first goal (step.Order id (order_for sent)) past
-is_in_place goal (ReadTable text) earlier past = is_first goal step.Reread past
+is_in_place goal (ReadTables parts) earlier past = is_first goal step.Reread past
 is_in_place goal (Carry text back) earlier past = is_first goal step.Reexec past
 is_in_place goal (Announce happening) earlier past = may_announce goal happening earlier past
 is_in_place goal _ earlier past = true

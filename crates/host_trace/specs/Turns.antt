@@ -9,7 +9,7 @@ use Rattle.init_trace.specs.Sound.{is_sound}
 use Rattle.core_model.specs.State.{CoreState}
 use Rattle.core_model.specs.Decide.{is_drained}
 use Rattle.core_model.specs.Fit.{Fits}
-use Rattle.child_host.specs.declared.calls.Call.TheVariants.{Start, Look, Signal, Late, Clock, TakeBytes, ReadTable, Carry, Announce, Pause}
+use Rattle.child_host.specs.declared.calls.Call.TheVariants.{Start, Look, Signal, Late, Clock, TakeBytes, ReadTables, Carry, Announce, Pause}
 use Rattle.child_host.specs.declared.calls.HostFault.{HostFault}
 use Rattle.child_host.specs.Calls.{HostCall, TextRead}
 use Rattle.host_trace.specs.declared.TheConstants.{BYTE_LIMIT, PIECE, LATE_LIMIT, STEP_LIMIT}
@@ -64,10 +64,10 @@ abbrev pub is_step : List HostCall → Bool
 is_step (Start id command reply ∷ []) = true
 is_step (Look id reply ∷ []) = true
 is_step (Signal id sent reply ∷ []) = true
-is_step (ReadTable text ∷ []) = true
+is_step (ReadTables parts ∷ []) = true
 is_step (Carry text back ∷ []) = true
 is_step (Announce happening ∷ []) = true
-is_step (Announce NotRead ∷ ReadTable text ∷ []) = true
+is_step (Announce NotRead ∷ ReadTables parts ∷ []) = true
 is_step (Announce (Handed how) ∷ Carry text back ∷ []) = true
 is_step _ = false
 

@@ -10,7 +10,7 @@ use Rattle.core_model.specs.State.{CoreState}
 use Rattle.core_model.specs.Decide.{is_drained}
 use Rattle.core_model.proofs.Recorded.{unreaped_recorded}
 use Rattle.trace_log.specs.Logs.{LogState}
-use Rattle.child_host.specs.declared.calls.Call.TheVariants.{Start, Look, Signal, Late, Clock, TakeBytes, ReadTable, Carry, Announce, Pause}
+use Rattle.child_host.specs.declared.calls.Call.TheVariants.{Start, Look, Signal, Late, Clock, TakeBytes, ReadTables, Carry, Announce, Pause}
 use Rattle.child_host.specs.declared.calls.HostFault.{HostFault}
 use Rattle.child_host.specs.Calls.{HostCall, Adds}
 use Rattle.host_trace.specs.declared.TheConstants.{LATE_LIMIT}
@@ -42,10 +42,10 @@ step_none : (calls : List HostCall) → is_step calls ≡ true → list_all take
 step_none (Start id command reply ∷ []) h = refl
 step_none (Look id reply ∷ []) h = refl
 step_none (Signal id sent reply ∷ []) h = refl
-step_none (ReadTable text ∷ []) h = refl
+step_none (ReadTables parts ∷ []) h = refl
 step_none (Carry text back ∷ []) h = refl
 step_none (Announce happening ∷ []) h = refl
-step_none (Announce past.NotRead ∷ ReadTable text ∷ []) h = refl
+step_none (Announce past.NotRead ∷ ReadTables parts ∷ []) h = refl
 step_none (Announce (past.Handed how) ∷ Carry text back ∷ []) h = refl
 step_none _ h = absurd (false≢true h)
 

@@ -1,12 +1,12 @@
-ghost use Rattle.std.specs.Prelude.{◌≡◌, ◌≤◌, ◌∷◌, [], true, false, List, length, Ok};
-ghost use Rattle.inittab_text.specs.declared.reading.TheConstants.{TEXT_LIMIT};
-ghost use Rattle.inittab_text.specs.Reading.{table_of_text};
+ghost use Rattle.std.specs.Prelude.{◌≡◌, ◌∷◌, [], true, false, List, Ok, IfSome};
+ghost use Rattle.init_words.specs.Parts.{texts_of};
+ghost use Rattle.inittab_text.specs.Parts.{are_readable, table_of_texts};
 ghost use Rattle.init_trace.specs.declared.happenings.Happening.TheVariants.{NewTable};
 ghost use Rattle.init_trace.specs.declared.steps.Step.TheVariants as step;
 ghost use Rattle.init_trace.specs.Event.{Event};
 ghost use Rattle.child_table.specs.Lists.{is_quiet};
-ghost use Rattle.child_host.specs.declared.calls.Call.TheVariants.{ReadTable};
-ghost use Rattle.child_host.specs.Calls.{Adds, TextRead};
+ghost use Rattle.child_host.specs.declared.calls.Call.TheVariants.{ReadTables};
+ghost use Rattle.child_host.specs.Calls.{Adds, PartsRead};
 ghost use Rattle.core_model.specs.Fit.{Fits, OnEachTrace};
 ghost use Rattle.host_trace.specs.Leads.{Gave, Lasts, Logs, Tracks};
 ghost use Rattle.supervisor.specs.Parts.{IsStep, Makes};
@@ -14,29 +14,42 @@ ghost use Rattle.supervisor.specs.Parts.{IsStep, Makes};
 use crate::answering::write;
 use child_host::Host;
 use init_trace::{Happening, HappeningIn};
+use init_words::Part;
+use inittab_text::{Table, read_parts};
 use level_core::Core;
 use std::alloc::Allocator;
 use trace_log::Log;
 
-/// Takes the table of a text for that in force; gives whether it did.
-fn use_text<A: Allocator + Copy, L: Log>(
+/// The table of parts, where it can be read.
+fn table_of<A: Allocator + Copy>(alloc: A, parts: &[Part<A>]) -> Option<Table<A>>
+    ensures value { IfSome result (λ table. table ≡ table_of_texts (texts_of parts.now)) }
+    ensures readable { IfSome result (λ _. are_readable (texts_of parts.now) ≡ true) }
+{
+    match read_parts(alloc, parts) {
+        Ok((table, _)) => Some(table),
+        Err(_) => None,
+    }
+}
+
+/// Takes the table of parts for that in force; gives whether it did.
+fn use_parts<A: Allocator + Copy, L: Log>(
     alloc: A,
     core: &mut Core<A>,
     log: &mut L,
-    text: &[u8],
+    parts: &[Part<A>],
 ) -> bool
-    ensures short { result ≡ true → length text.now ≤ TEXT_LIMIT }
+    ensures readable { result ≡ true → are_readable (texts_of parts.now) ≡ true }
     ensures quiet { result ≡ true → is_quiet core.old.slots ≡ true }
     ensures fits { result ≡ true → OnEachTrace core.old (λ goal past.
-        Fits core.new goal (NewTable (table_of_text text.now) ∷ past)) }
+        Fits core.new goal (NewTable (table_of_texts (texts_of parts.now)) ∷ past)) }
     ensures lasts { result ≡ true → Lasts core.old core.new }
     ensures took { result ≡ true → (past : List Event)
         → Logs (L.state log.old) (L.state log.new) past
-        (NewTable (table_of_text text.now) ∷ past) }
+        (NewTable (table_of_texts (texts_of parts.now)) ∷ past) }
     ensures core { result ≡ false → core.new ≡ core.old }
     ensures log { result ≡ false → L.state log.new ≡ L.state log.old }
 {
-    let Ok((table, _)) = inittab_text::read(alloc, text) else {
+    let Some(table) = table_of(alloc, parts) else {
         return false;
     };
     let Ok(copy) = table.copy(alloc) else {
@@ -50,8 +63,8 @@ fn use_text<A: Allocator + Copy, L: Log>(
     true
 }
 
-/// Reads inittab and takes its table for that in force; gives whether it did.
-fn use_table<A: Allocator + Copy, H: Host, L: Log>(
+/// Reads the files of inittab and takes their table for that in force; gives whether it did.
+fn use_tables<A: Allocator + Copy, H: Host, L: Log>(
     alloc: A,
     core: &mut Core<A>,
     host: &mut H,
@@ -60,15 +73,15 @@ fn use_table<A: Allocator + Copy, H: Host, L: Log>(
     ensures used { result ≡ true → Makes (H.told host.old) (H.told host.new)
         (L.state log.old) (L.state log.new)
         IsStep (Gave (Tracks core.old) step.Reread) (Tracks core.new) }
-    ensures read { result ≡ false → (text : TextRead)
-        × Adds (H.told host.old) (H.told host.new) (ReadTable text) }
+    ensures read { result ≡ false → (parts : PartsRead)
+        × Adds (H.told host.old) (H.told host.new) (ReadTables parts) }
     ensures core { result ≡ false → core.new ≡ core.old }
     ensures log { result ≡ false → L.state log.new ≡ L.state log.old }
 {
-    let Ok(text) = host.read_table(alloc) else {
+    let Ok(parts) = host.read_tables(alloc) else {
         return false;
     };
-    use_text(alloc, core, log, &text)
+    use_parts(alloc, core, log, &parts)
 }
 
 /// Reads inittab again. Where that fails, or the table can't be taken, the one in force stays.
@@ -81,7 +94,7 @@ pub(crate) fn reread<A: Allocator + Copy, H: Host, L: Log>(
     ensures { Makes (H.told host.old) (H.told host.new) (L.state log.old) (L.state log.new)
         IsStep (Gave (Tracks core.old) step.Reread) (Tracks core.new) }
 {
-    if use_table(alloc, core, host, log) {
+    if use_tables(alloc, core, host, log) {
         return;
     }
     let unread: Happening = Happening::NotRead;

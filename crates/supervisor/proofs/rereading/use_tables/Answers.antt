@@ -1,0 +1,23 @@
+use Rattle.std.proofs.Common.{rules, ◌≡◌, refl, sym, subst, ◌∷◌, [], Ok}
+use Rattle.init_trace.specs.declared.steps.Step.TheVariants as step
+use Rattle.child_host.specs.declared.calls.Call.TheVariants.{ReadTables}
+use Rattle.child_host.specs.Calls.{parts_read}
+use Rattle.host_trace.specs.Leads.{Gave, Leads, Tracks}
+use Rattle.host_trace.proofs.Calling.{Leads-used}
+use Rattle.supervisor.specs.Parts.{IsStep}
+use Rattle.supervisor.proofs.Parts.{Makes-one}
+use Rattle.supervisor.proofs.rereading.use_tables.Goals as goal
+
+pub returns-clause-used : goal.returns-clause-used
+returns-clause-used g c took =
+    let core = c.args.core.now in
+    let new = c.use_parts.new.core in
+    let log = g.L.Log.state c.args.log.now in
+    let now_log = g.L.Log.state c.use_parts.new.log in
+    let parts = parts_read (λ held. held.items) c.read_tables.result in
+    let is : parts ≡ Ok c.deref.result.now = search rules in
+    let before = Gave (Tracks core) step.Reread in
+    Makes-one (g.H.Host.told c.args.host.now) (g.H.Host.told c.read_tables.new.self) log now_log (ReadTables parts) IsStep before (Tracks new)
+    c.read_tables.ensures.adds refl
+    (subst (λ t. Leads before (Tracks new) log now_log (ReadTables t ∷ [])) (sym is)
+    (Leads-used core new log now_log c.deref.result.now (c.use_parts.ensures.readable took) (c.use_parts.ensures.quiet took) (c.use_parts.ensures.fits took) (c.use_parts.ensures.lasts took) (c.use_parts.ensures.took took)))
