@@ -1,5 +1,5 @@
 -- What a run left, where its writer was only flushed since.
-use Rattle.std.proofs.Common.{◌≡◌, refl, sym, ap, subst, Result, Ok, Err, IfErr, OnOk, ◌⊎◌, inl, inr, Bool, List, [], ℕ, ◌≤◌, length, Option, Some, None, unwrap_or, IsSome}
+use Rattle.std.proofs.Common.{◌≡◌, refl, sym, ap, subst, Result, Ok, Err, IfErr, OnOk, ◌⊎◌, inl, inr, Bool, List, [], ℕ, true, string_bytes, Option, Some, None, unwrap_or, IsSome}
 use Rattle.std.specs.Result.{IsErrAnd}
 use Rattle.std.proofs.lemmas.Bool.{false≢true}
 use Rattle.std.specs.declared.io.Error.{Error}
@@ -11,16 +11,16 @@ use Rattle.std.proofs.KnownBytes.{Appends-kept, Keeps-refl, Keeps-trans}
 use Rattle.simulator.specs.declared.running.SimFault.{SimFault}
 use Rattle.simulator.specs.declared.running.SimFault.TheVariants as fault
 use Rattle.simulator.specs.Simulation.{Done, Ends, Scenario, past_text}
-use Rattle.path_texts.specs.Known.{IsTextAt, KnownTexts}
+use Rattle.path_texts.specs.Known.{KnownTexts}
 use Rattle.initd_command.specs.declared.run.RunFault.{RunFault}
 use Rattle.initd_command.specs.declared.run.RunFault.TheVariants as why
-use Rattle.inittab_text.specs.declared.reading.TheConstants.{TEXT_LIMIT}
-use Rattle.inittab_text.specs.Reading.{faults_of_text, table_of_text}
-use Rattle.initd_command.specs.Endings.{Ending, Reports, ReportsUnled, status_of, busy, done, lawful, no_memory, stopped, torn, turned, uncreated, unflushed, unlawful, unlocked, unread, untold, unversioned, unwritten, usage}
+use Rattle.init_words.specs.Parts.{NamedText, texts_of}
+use Rattle.inittab_text.specs.Parts.{are_readable, faults_of_parts, table_of_texts}
+use Rattle.initd_command.specs.Endings.{Ending, Reports, ReportsUnled, status_of, busy, done, lawful, no_memory, stopped, too_many, torn, turned, uncreated, unflushed, unlawful, unlocked, unread, untold, unversioned, unwritten, usage}
 use Rattle.initd_command.specs.Turned.{End}
 use Rattle.os_host.specs.LineFaults.{faults_text}
 use Rattle.initd_options.specs.Options.{RunSaid}
-use Rattle.initd_command.specs.Services.{EndsRun, EndsServed, EndsTold, FailsBy, HasInittab, IsOfFault, Turns, is_unled}
+use Rattle.initd_command.specs.Services.{AreFiles, EndsRun, EndsServed, EndsTold, FailsBy, HasInittab, IsOfFault, Turns, is_unled}
 
 pub done_kept : (s : Scenario) (old mid new : Option (List ℕ)) → Done s old mid → Keeps mid new → Done s old new
 done_kept s old mid new (past, rested, written) kept = (past, rested, Appends-kept old mid new (past_text past) written kept)
@@ -56,45 +56,48 @@ pub fails_run : (text_at : KnownTexts) (service : RunSaid) (fault : RunFault) (e
     → IsOfFault service fault ending → EndsRun text_at service ending at at
 fails_run text_at service why.Busy ending at by is = rw is (refl, Keeps-refl at)
 fails_run text_at service (why.Channel error) ending at by (reason, is) = rw is (refl, Keeps-refl at)
-fails_run text_at service (why.Inittab error) ending at by (reason, is) = rw is (refl, Keeps-refl at)
-fails_run text_at service why.TooLong ending at (inittab, is_text, long) is = rw is (inittab, is_text, (refl, long, Keeps-refl at))
-fails_run text_at service (why.Trace error) ending at (some, (inittab, is_text, short)) (reason, is) =
-    rw is (inittab, is_text, (short, (traced service.trace some, Keeps-refl at)))
+fails_run text_at service (why.Inittab error) ending at by (reason, is) = rw is (inl refl, Keeps-refl at)
+fails_run text_at service (why.Folder path error) ending at by (reason, is) = rw is (inr by, Keeps-refl at)
+fails_run text_at service why.TooMany ending at (parts, are, many) is = rw is (parts, are, (many, Keeps-refl at))
+fails_run text_at service why.TooLong ending at (parts, are, long) is = rw is (parts, are, (refl, long, Keeps-refl at))
+fails_run text_at service (why.Trace error) ending at (some, (parts, are, readable, so)) (reason, is) =
+    rw is (parts, are, (readable, (traced service.trace some, Keeps-refl at)))
   where
     traced : (trace : Option (List ℕ)) → IsSome trace → trace ≡ Some (unwrap_or trace [])
     traced (Some path) given = refl
     traced None given = absurd (false≢true given)
-fails_run text_at service why.Memory ending at (inittab, is_text, short) is = rw is (inittab, is_text, (short, Keeps-refl at))
+fails_run text_at service why.Memory ending at by is = rw is (Keeps-refl at)
 
--- a run whose inittab was read ends over its text
-pub told_runs : (text_at : KnownTexts) (service : RunSaid) (inittab : List ℕ) (ending : Ending) (old new : Option (List ℕ))
-    → IsTextAt text_at service.inittab inittab → length inittab ≤ TEXT_LIMIT
-    → EndsTold service (is_unled service.level (table_of_text inittab)) (faults_text (faults_of_text inittab)) ending old new
+-- a run whose inittab was read ends over its files
+pub told_runs : (text_at : KnownTexts) (service : RunSaid) (parts : List NamedText) (ending : Ending) (old new : Option (List ℕ))
+    → AreFiles text_at service parts → are_readable (texts_of parts) ≡ true
+    → EndsTold service (is_unled service.level (table_of_texts (texts_of parts))) (faults_text parts (faults_of_parts (texts_of parts))) ending old new
     → EndsRun text_at service ending old new
-told_runs text_at service inittab (busy path) old new at short ends = let wrong = ends.1 in absurd (cc)
-told_runs text_at service inittab (unlocked path why) old new at short ends = let wrong = ends.1 in absurd (cc)
-told_runs text_at service inittab (unread path why) old new at short ends = let wrong = ends.1 in absurd (cc)
-told_runs text_at service inittab (stopped script f) old new at short ends = let wrong = ends.1 in absurd (cc)
-told_runs text_at service inittab done old new at short ends = (inittab, at, (short, ends))
-told_runs text_at service inittab (usage reason) old new at short ends = (inittab, at, (short, ends))
-told_runs text_at service inittab no_memory old new at short ends = (inittab, at, (short, ends))
-told_runs text_at service inittab unflushed old new at short ends = (inittab, at, (short, ends))
-told_runs text_at service inittab lawful old new at short ends = (inittab, at, (short, ends))
-told_runs text_at service inittab (unlawful message) old new at short ends = (inittab, at, (short, ends))
-told_runs text_at service inittab (torn line) old new at short ends = (inittab, at, (short, ends))
-told_runs text_at service inittab unwritten old new at short ends = (inittab, at, (short, ends))
-told_runs text_at service inittab (turned unled end) old new at short ends = (inittab, at, (short, ends))
-told_runs text_at service inittab (uncreated path why) old new at short ends = (inittab, at, (short, ends))
-told_runs text_at service inittab untold old new at short ends = (inittab, at, (short, ends))
-told_runs text_at service inittab unversioned old new at short ends = (inittab, at, (short, ends))
+told_runs text_at service parts (busy path) old new are read ends = let wrong = ends.1 in absurd (cc)
+told_runs text_at service parts (unlocked path why) old new are read ends = let wrong = ends.1 in absurd (cc)
+told_runs text_at service parts (unread path why) old new are read ends = let wrong = ends.1 in absurd (cc)
+told_runs text_at service parts too_many old new are read ends = let wrong = ends.1 in absurd (cc)
+told_runs text_at service parts (stopped script f) old new are read ends = let wrong = ends.1 in absurd (cc)
+told_runs text_at service parts no_memory old new are read ends = ends
+told_runs text_at service parts done old new are read ends = (parts, are, (read, ends))
+told_runs text_at service parts (usage reason) old new are read ends = (parts, are, (read, ends))
+told_runs text_at service parts unflushed old new are read ends = (parts, are, (read, ends))
+told_runs text_at service parts lawful old new are read ends = (parts, are, (read, ends))
+told_runs text_at service parts (unlawful message) old new are read ends = (parts, are, (read, ends))
+told_runs text_at service parts (torn line) old new are read ends = (parts, are, (read, ends))
+told_runs text_at service parts unwritten old new are read ends = (parts, are, (read, ends))
+told_runs text_at service parts (turned unled end) old new are read ends = (parts, are, (read, ends))
+told_runs text_at service parts (uncreated path why) old new are read ends = (parts, are, (read, ends))
+told_runs text_at service parts untold old new are read ends = (parts, are, (read, ends))
+told_runs text_at service parts unversioned old new are read ends = (parts, are, (read, ends))
 
 -- a run over an inittab that was read ends as is told of it
 pub opened_runs : (text_at : KnownTexts) (service : RunSaid) (unled : Bool) (faults : List ℕ) (ending : Ending) (old new : Option (List ℕ))
-    → HasInittab text_at service.inittab (λ inittab. (faults ≡ faults_text (faults_of_text inittab)) × (unled ≡ is_unled service.level (table_of_text inittab)))
+    → HasInittab text_at service (λ parts. (faults ≡ faults_text parts (faults_of_parts (texts_of parts))) × (unled ≡ is_unled service.level (table_of_texts (texts_of parts))))
     → EndsTold service unled faults ending old new → EndsRun text_at service ending old new
-opened_runs text_at service unled faults ending old new (inittab, at, short, (told, led)) ends =
-    told_runs text_at service inittab ending old new at short
-    (subst (λ lines. EndsTold service (is_unled service.level (table_of_text inittab)) lines ending old new) told
+opened_runs text_at service unled faults ending old new (parts, are, read, (told, led)) ends =
+    told_runs text_at service parts ending old new are read
+    (subst (λ lines. EndsTold service (is_unled service.level (table_of_texts (texts_of parts))) lines ending old new) told
     (subst (λ b. EndsTold service b faults ending old new) led ends))
 
 -- the endings that faults are which end a run before its first turn
@@ -110,6 +113,14 @@ pub of_inittab : (service : RunSaid) (fault : RunFault) (error : Error) (path re
     → IsOfFault service fault (unread path reason)
 of_inittab service fault error path reason is at =
     subst (λ f. IsOfFault service f (unread path reason)) (sym is) (reason, ap (λ p. unread p reason) at)
+
+pub of_folder : (service : RunSaid) (fault : RunFault) (named : String) (error : Error) (path reason : List ℕ) → fault ≡ why.Folder named error → path ≡ string_bytes named
+    → IsOfFault service fault (unread path reason)
+of_folder service fault named error path reason is at =
+    subst (λ f. IsOfFault service f (unread path reason)) (sym is) (reason, ap (λ p. unread p reason) at)
+
+pub of_many : (service : RunSaid) (given : RunFault) → given ≡ why.TooMany → IsOfFault service given too_many
+of_many service given is = subst (λ f. IsOfFault service f too_many) (sym is) refl
 
 pub of_long : (service : RunSaid) (given : RunFault) → given ≡ why.TooLong → IsOfFault service given (stopped [] fault.Table)
 of_long service given is = subst (λ f. IsOfFault service f (stopped [] fault.Table)) (sym is) refl

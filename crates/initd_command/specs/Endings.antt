@@ -10,14 +10,14 @@ use Rattle.simulated_system.specs.declared.objections.Objection.{Objection}
 use Rattle.simulated_system.specs.Objections.{objection_text}
 use Rattle.initd_command.specs.Lines.{line_at, line_told}
 use Rattle.initd_command.specs.declared.check.TheConstants.{UNWRITTEN}
-use Rattle.initd_command.specs.declared.reports.TheConstants.{NO_MEMORY}
+use Rattle.initd_command.specs.declared.reports.TheConstants.{NO_MEMORY, TOO_MANY}
 use Rattle.initd_command.specs.declared.command.TheConstants.{UNVERSIONED, USAGE}
 use Rattle.initd_command.specs.declared.run.TheConstants.{UNLED, UNTOLD}
 use Rattle.initd_command.specs.Turned.{End, ReportsEnd, ReportsText, end_status}
 use Rattle.command_words.specs.Faults.{usage_report}
 
--- done; the words are no command line, and why, or memory ran out; the file of a path was not read, and why; the run
--- over this script ended before its end; the writer could not be flushed; a trace is lawful, or unlawful, of which this
+-- done; the words are no command line, and why, or memory ran out; the file of a path was not read, and why; the inittab
+-- has too many files; the run over this script ended before its end; the writer could not be flushed; a trace is lawful, or unlawful, of which this
 -- is told; its line of this number is none; the verdict could not be written; the channel of a run over the operating
 -- system is in use, or was not locked, and why; its turns ended so, where nothing names its level or something does; the
 -- file of its trace was not created, and why; the faults of its inittab could not be written; the version could not be
@@ -26,6 +26,7 @@ pub data Ending : Type 0 where
   usage : List ℕ → Ending
   no_memory : Ending
   unread : List ℕ → List ℕ → Ending
+  too_many : Ending
   stopped : List ℕ → SimFault → Ending
   unflushed : Ending
   lawful : Ending
@@ -51,6 +52,7 @@ status_of done = DONE
 status_of (usage reason) = REFUSED
 status_of no_memory = DEVICE_FAULT
 status_of (unread path why) = DEVICE_FAULT
+status_of too_many = REFUSED
 status_of (stopped script f) = fault_status f
 status_of unflushed = DEVICE_FAULT
 status_of lawful = DONE
@@ -105,6 +107,7 @@ Reports done old new = Keeps old new
 Reports (usage reason) old new = AppendsPrefix old new (usage_report (codes "initd") reason USAGE.now)
 Reports no_memory old new = AppendsPrefix old new NO_MEMORY.now
 Reports (unread path why) old new = ReportsText (file_message path why) old new
+Reports too_many old new = AppendsPrefix old new TOO_MANY.now
 Reports (stopped script f) old new = ReportsText (fault_message script f) old new
 Reports unflushed old new = ReportsText (fault_message [] fault.Write) old new
 Reports lawful old new = Keeps old new

@@ -1,11 +1,11 @@
 -- How a run over the operating system ends. Its host tells nothing of what was asked of it, so this is what is written,
 -- and how the exit status follows from what ended the turns.
-use Rattle.std.specs.Prelude.{◌≡◌, ◌≤◌, ◌<◌, ◌⊎◌, ◌&&◌, ◌==◌, min, if◌then◌else◌, ℕ, Bool, true, false, List, [], length, Option, Some, None, option_map, is_none, unwrap_or, IsSome, IsTrue, ⊤}
+use Rattle.std.specs.Prelude.{◌≡◌, ◌≤◌, ◌<◌, ◌⊎◌, ◌&&◌, ◌==◌, min, if◌then◌else◌, ℕ, Bool, true, false, List, [], ◌∷◌, string_bytes, Option, Some, None, option_map, is_none, unwrap_or, IsSome, IsTrue, ⊤}
 use Rattle.std.specs.Io.KnownBytes.{Appends, Keeps}
 use Rattle.program_io.specs.Writing.{AppendsPrefix}
 use Rattle.path_texts.specs.Known.{IsTextAt, KnownTexts}
-use Rattle.inittab_text.specs.declared.reading.TheConstants.{TEXT_LIMIT}
-use Rattle.inittab_text.specs.Reading.{faults_of_text, table_of_text}
+use Rattle.init_words.specs.Parts.{NamedText, texts_of}
+use Rattle.inittab_text.specs.Parts.{AreTooLong, AreTooMany, are_readable, faults_of_parts, table_of_texts}
 use Rattle.inittab_text.specs.Tables.{default_level_of}
 use Rattle.init_words.specs.declared.entries.Entry.{Entry}
 use Rattle.init_words.specs.declared.levels.Level.{Level}
@@ -22,9 +22,10 @@ use Rattle.host_trace.specs.Leads.{are_carried, is_allowed}
 use Rattle.host_trace.specs.Point.{point_after}
 use Rattle.supervisor.specs.declared.serving.Served.{Served}
 use Rattle.supervisor.specs.Opening.{opening_point}
+use Rattle.initd_command.specs.declared.run.Inittab.{Inittab}
 use Rattle.initd_command.specs.declared.run.RunFault.{RunFault}
 use Rattle.initd_command.specs.declared.run.RunFault.TheVariants as why
-use Rattle.initd_command.specs.Endings.{Ending, no_memory, unread, stopped, busy, turned, uncreated, unlocked, untold}
+use Rattle.initd_command.specs.Endings.{Ending, no_memory, unread, too_many, stopped, busy, turned, uncreated, unlocked, untold}
 use Rattle.initd_command.specs.Turned.{End, EntryEnd, ReportsEnd, drained, end_status, limited, unlogged}
 use Rattle.os_host.specs.LineFaults.{faults_text}
 use Rattle.initd_options.specs.Options.{RunSaid}
@@ -101,27 +102,44 @@ EndsTold service unled told untold old new = AppendsPrefix old new told
 EndsTold service unled told ending old new =
     (end : End) × (ending ≡ turned unled end) × EndsServed service end × Appends old new told
 
--- how a run ends over the text of an inittab: it is too long and nothing written, or the faults of its lines are told
-abbrev pub EndsOver : RunSaid → List ℕ → Ending → Option (List ℕ) → Option (List ℕ) → Type 0
-EndsOver service inittab (stopped script f) old new =
-    (f ≡ fault.Table) × (TEXT_LIMIT < length inittab) × Keeps old new
-EndsOver service inittab ending old new =
-    (length inittab ≤ TEXT_LIMIT)
-    × EndsTold service (is_unled service.level (table_of_text inittab)) (faults_text (faults_of_text inittab)) ending old new
+-- they are the files of a run's inittab: its own, which is not known to have another text, and others only where it
+-- has a folder
+abbrev pub AreFiles : KnownTexts → RunSaid → List NamedText → Type 0
+AreFiles text_at service parts =
+    (inittab : List ℕ) × (more : List NamedText) × IsTextAt text_at service.inittab inittab
+    × (parts ≡ record { name = service.inittab; bytes = inittab } ∷ more) × (service.inittab_dir ≡ None → more ≡ [])
 
--- how a run ends: its channel is in use or not locked, or its inittab not read, and nothing written, or it ends over
--- what was read
+-- how a run ends over the files of an inittab: they are too many or too long and nothing written, or the faults of their
+-- lines are told
+abbrev pub EndsOver : RunSaid → List NamedText → Ending → Option (List ℕ) → Option (List ℕ) → Type 0
+EndsOver service parts too_many old new = AreTooMany (texts_of parts) × Keeps old new
+EndsOver service parts (stopped script f) old new = (f ≡ fault.Table) × AreTooLong (texts_of parts) × Keeps old new
+EndsOver service parts ending old new =
+    (are_readable (texts_of parts) ≡ true)
+    × EndsTold service (is_unled service.level (table_of_texts (texts_of parts)))
+    (faults_text parts (faults_of_parts (texts_of parts))) ending old new
+
+-- how a run ends: its channel is in use or not locked, or a file of its inittab not read, or there is no memory to read
+-- them, and nothing written, or it ends over what was read
 abbrev pub EndsRun : KnownTexts → RunSaid → Ending → Option (List ℕ) → Option (List ℕ) → Type 0
 EndsRun text_at service (busy path) old new = (path ≡ service.initctl) × Keeps old new
 EndsRun text_at service (unlocked path why) old new = (path ≡ service.initctl) × Keeps old new
-EndsRun text_at service (unread path why) old new = (path ≡ service.inittab) × Keeps old new
+EndsRun text_at service (unread path why) old new =
+    ((path ≡ service.inittab) ⊎ IsSome service.inittab_dir) × Keeps old new
+EndsRun text_at service no_memory old new = Keeps old new
 EndsRun text_at service ending old new =
-    (inittab : List ℕ) × IsTextAt text_at service.inittab inittab × EndsOver service inittab ending old new
+    (parts : List NamedText) × AreFiles text_at service parts × EndsOver service parts ending old new
 
--- the text at the path is not too long, and so
-abbrev pub HasInittab : KnownTexts → List ℕ → (List ℕ → Type 0) → Type 0
-HasInittab text_at path So =
-    (inittab : List ℕ) × IsTextAt text_at path inittab × (length inittab ≤ TEXT_LIMIT) × So inittab
+-- the files are neither too many nor too long, and so
+abbrev pub HasInittab : KnownTexts → RunSaid → (List NamedText → Type 0) → Type 0
+HasInittab text_at service So =
+    (parts : List NamedText) × AreFiles text_at service parts × (are_readable (texts_of parts) ≡ true) × So parts
+
+-- the table of the files, and the lines that tell their faults
+abbrev pub IsReadOf : List NamedText → Inittab → Type 0
+IsReadOf parts read =
+    (read.faults.items ≡ faults_text parts (faults_of_parts (texts_of parts)))
+    × (read.table ≡ table_of_texts (texts_of parts))
 
 -- Why a run ended before its first turn, and what is so then.
 abbrev pub FailsToLock : RunFault → Type 0
@@ -129,13 +147,24 @@ FailsToLock why.Busy = ⊤
 FailsToLock (why.Channel error) = ⊤
 FailsToLock _ = ⊥
 
-abbrev pub FailsToRead : KnownTexts → List ℕ → RunFault → Type 0
-FailsToRead text_at path (why.Inittab error) = ⊤
-FailsToRead text_at path why.TooLong =
-    (inittab : List ℕ) × IsTextAt text_at path inittab × (TEXT_LIMIT < length inittab)
-FailsToRead text_at path why.Memory =
-    (inittab : List ℕ) × IsTextAt text_at path inittab × (length inittab ≤ TEXT_LIMIT)
-FailsToRead text_at path _ = ⊥
+abbrev pub FailsToGet : RunSaid → RunFault → Type 0
+FailsToGet service (why.Inittab error) = ⊤
+FailsToGet service (why.Folder path error) = IsSome service.inittab_dir
+FailsToGet service why.Memory = ⊤
+FailsToGet service _ = ⊥
+
+abbrev pub FailsOn : List NamedText → RunFault → Type 0
+FailsOn parts why.TooMany = AreTooMany (texts_of parts)
+FailsOn parts why.TooLong = AreTooLong (texts_of parts)
+FailsOn parts why.Memory = ⊤
+FailsOn parts _ = ⊥
+
+abbrev pub FailsToRead : KnownTexts → RunSaid → RunFault → Type 0
+FailsToRead text_at service why.TooMany =
+    (parts : List NamedText) × AreFiles text_at service parts × AreTooMany (texts_of parts)
+FailsToRead text_at service why.TooLong =
+    (parts : List NamedText) × AreFiles text_at service parts × AreTooLong (texts_of parts)
+FailsToRead text_at service fault = FailsToGet service fault
 
 abbrev pub FailsOver : RunSaid → RunFault → Type 0
 FailsOver service (why.Trace error) = IsSome service.trace
@@ -145,15 +174,18 @@ FailsOver service _ = ⊥
 abbrev pub FailsBy : KnownTexts → RunSaid → RunFault → Type 0
 FailsBy text_at service why.Busy = ⊤
 FailsBy text_at service (why.Channel error) = ⊤
-FailsBy text_at service (why.Trace error) = IsSome service.trace × ((inittab : List ℕ)
-    × IsTextAt text_at service.inittab inittab × (length inittab ≤ TEXT_LIMIT))
-FailsBy text_at service fault = FailsToRead text_at service.inittab fault
+FailsBy text_at service (why.Trace error) =
+    IsSome service.trace × HasInittab text_at service (λ _. ⊤)
+FailsBy text_at service fault = FailsToRead text_at service fault
 
 -- the ending that such a fault is
 abbrev pub IsOfFault : RunSaid → RunFault → Ending → Type 0
 IsOfFault service why.Busy ending = ending ≡ busy service.initctl
 IsOfFault service (why.Channel error) ending = (reason : List ℕ) × (ending ≡ unlocked service.initctl reason)
 IsOfFault service (why.Inittab error) ending = (reason : List ℕ) × (ending ≡ unread service.inittab reason)
+IsOfFault service (why.Folder path error) ending =
+    (reason : List ℕ) × (ending ≡ unread (string_bytes path) reason)
+IsOfFault service why.TooMany ending = ending ≡ too_many
 IsOfFault service why.TooLong ending = ending ≡ stopped [] fault.Table
 IsOfFault service (why.Trace error) ending =
     (reason : List ℕ) × (ending ≡ uncreated (unwrap_or service.trace []) reason)

@@ -15,6 +15,9 @@ use std::io::Write;
 /// What is reported where memory runs out, also for the message itself.
 pub(crate) const NO_MEMORY: &str = "initd: out of memory\n";
 
+/// What is reported where the inittab has too many files.
+pub(crate) const TOO_MANY: &str = "initd: inittab has more than 256 files: put some together\n";
+
 /// Reports a fault of a run over a script, and gives the exit status.
 pub(crate) fn report_fault<E: Write>(
     alloc: Global,
@@ -216,6 +219,15 @@ pub(crate) fn report_memory<E: Write>(err: &mut E) -> u8
 {
     report(NO_MEMORY, err);
     DEVICE_FAULT
+}
+
+/// Reports that the inittab has too many files, and gives the exit status.
+pub(crate) fn report_too_many<E: Write>(err: &mut E) -> u8
+    ensures status { result ≡ REFUSED }
+    ensures reported { AppendsPrefix (E.contents err.old) (E.contents err.new) TOO_MANY.now }
+{
+    report(TOO_MANY, err);
+    REFUSED
 }
 
 /// Writes a text and sees that it is out.

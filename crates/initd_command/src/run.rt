@@ -1,5 +1,6 @@
-ghost use Rattle.std.specs.Prelude.{◌≡◌, ℕ, List, Option, Some, [], unwrap_or, IfErr, IfOk};
-ghost use Rattle.inittab_text.specs.Reading.{faults_of_text, table_of_text};
+ghost use Rattle.std.specs.Prelude.{◌≡◌, ◌∷◌, ℕ, List, Option, None, Some, [], option_map, unwrap_or, IfErr, IfOk};
+ghost use Rattle.init_words.specs.Parts.{NamedText, texts_of};
+ghost use Rattle.inittab_text.specs.Parts.{faults_of_parts, table_of_texts};
 ghost use Rattle.initd_command.specs.Endings.{Ending, Reports, ReportsUnled, status_of};
 ghost use Rattle.init_words.specs.declared.entries.Entry.{Entry};
 ghost use Rattle.init_words.specs.declared.levels.Level.{Level};
@@ -7,20 +8,20 @@ ghost use Rattle.child_host.specs.Record.{Since};
 ghost use Rattle.supervisor.specs.Opening.{IsOpeningOf};
 ghost use Rattle.os_host.specs.LineFaults.{faults_text};
 ghost use Rattle.initd_options.specs.Options.{run_of};
-ghost use Rattle.initd_command.specs.Services.{EndsRun, EndsTold, FailsBy, FailsOver, FailsToLock, FailsToRead, HasInittab, IsOfFault, Turns, TurnsFrom, TurnsOver, is_unled};
+ghost use Rattle.initd_command.specs.Services.{AreFiles, EndsRun, EndsTold, FailsBy, FailsOn, FailsOver, FailsToGet, FailsToLock, FailsToRead, HasInittab, IsOfFault, IsReadOf, Turns, TurnsFrom, TurnsOver, is_unled};
 
 use crate::ends::report_end;
 use crate::logs::{LoudLog, NoLog, TraceFile};
 use crate::reports::{
-    report, report_busy, report_fault, report_memory, report_uncreated, report_unlocked,
-    report_unread, tell,
+    report, report_busy, report_fault, report_memory, report_too_many, report_uncreated,
+    report_unlocked, report_unread, tell,
 };
 use channel_files::{ChannelLock, lock_channel};
 use child_host::Host;
-use init_words::{Level, Memory};
+use init_words::{Level, Memory, Part};
 use initd_options::RunWords;
-use inittab_text::{Table, TableFault};
-use os_host::{OsHost, faults_text};
+use inittab_text::{Table, TableFault, read_parts};
+use os_host::{FolderFault, OsHost, faults_text, with_folder};
 use path_texts::Texts;
 use program_io::DEVICE_FAULT;
 use run_notes::RunNotes;
@@ -50,6 +51,10 @@ enum RunFault {
     Channel(io::Error),
     /// The inittab could not be read.
     Inittab(io::Error),
+    /// The folder of this path could not be listed, or the file of this path in it not be read.
+    Folder(String, io::Error),
+    /// The inittab has too many files.
+    TooMany,
     /// The inittab is too long.
     TooLong,
     /// The file of the trace could not be created.
@@ -134,14 +139,13 @@ fn open_run<R, T: Texts>(
 ) -> Result<Run<R>, RunFault>
 where
     R: Processes + Files<File = File> + Clock + Print + Eprint + Clone + Drop,
-    ensures ok { IfOk result (λ run. HasInittab (T.text_at texts.now)
-        (run_of said.now).inittab (λ inittab.
-        (run.faults.items ≡ faults_text (faults_of_text inittab))
-        × (run.is_unled ≡ is_unled said.now.level (table_of_text inittab)))) }
+    ensures ok { IfOk result (λ run. HasInittab (T.text_at texts.now) (run_of said.now)
+        (λ parts. (run.faults.items ≡ faults_text parts (faults_of_parts (texts_of parts)))
+        × (run.is_unled ≡ is_unled said.now.level (table_of_texts (texts_of parts))))) }
     ensures err { IfErr result (FailsBy (T.text_at texts.now) (run_of said.now)) }
 {
     let lock = take_lock(rt, said.initctl.as_str())?;
-    let inittab = read_inittab(texts, alloc, said.inittab.as_str())?;
+    let inittab = read_inittab(rt, texts, alloc, said)?;
     open_over(rt, alloc, said, lock, inittab)
 }
 
@@ -195,25 +199,82 @@ fn take_lock<R: Files<File = File>>(rt: &R, path: &str) -> Result<ChannelLock, R
     }
 }
 
-fn read_inittab<T: Texts>(texts: &T, alloc: Global, path: &str) -> Result<Inittab, RunFault>
-    ensures ok { IfOk result (λ read. HasInittab (T.text_at texts.now) path.now
-        (λ inittab. (read.faults.items ≡ faults_text (faults_of_text inittab))
-        × (read.table ≡ table_of_text inittab))) }
-    ensures err { IfErr result (FailsToRead (T.text_at texts.now) path.now) }
+/// The folder of the inittab's further files, where words name one.
+fn folder_of(said: &RunWords) -> Option<&str>
+    ensures { option_map (λ path. path.now) result ≡ (run_of said.now).inittab_dir }
 {
-    let text = match texts.read(alloc, path) {
-        Ok(text) => text,
+    match &said.inittab_dir {
+        Some(folder) => Some(folder.as_str()),
+        None => None,
+    }
+}
+
+/// The inittab's own file, and those of its folder, where it has one.
+fn add_folder<R: Files + Eprint>(
+    rt: &R,
+    alloc: Global,
+    said: &RunWords,
+    own: Part,
+) -> Result<Vec<Part>, RunFault>
+    ensures own { IfOk result (λ parts. (more : List NamedText) × (parts.items ≡ own ∷ more)) }
+    ensures alone { (run_of said.now).inittab_dir ≡ None
+        → IfOk result (λ parts. parts.items ≡ own ∷ []) }
+    ensures err { IfErr result (FailsToGet (run_of said.now)) }
+{
+    match with_folder(rt, alloc, own, folder_of(said), said.verbose) {
+        Ok(parts) => Ok(parts),
+        Err(FolderFault::Unread(path, error)) => Err(RunFault::Folder(path, error)),
+        Err(FolderFault::Memory) => Err(RunFault::Memory),
+    }
+}
+
+/// The files of the inittab.
+fn files_of<R: Files + Eprint, T: Texts>(
+    rt: &R,
+    texts: &T,
+    alloc: Global,
+    said: &RunWords,
+) -> Result<Vec<Part>, RunFault>
+    ensures ok { IfOk result (λ parts.
+        AreFiles (T.text_at texts.now) (run_of said.now) parts.items) }
+    ensures err { IfErr result (FailsToGet (run_of said.now)) }
+{
+    let bytes = match texts.read(alloc, said.inittab.as_str()) {
+        Ok(bytes) => bytes,
         Err(error) => return Err(RunFault::Inittab(error)),
     };
-    match inittab_text::read(alloc, &text) {
+    let name = String::from_str(alloc, said.inittab.as_str())?;
+    add_folder(rt, alloc, said, Part { name, bytes })
+}
+
+/// The table of the files of an inittab, and the lines that tell their faults.
+fn inittab_of(alloc: Global, parts: &[Part]) -> Result<Inittab, RunFault>
+    ensures ok { IfOk result (IsReadOf parts.now) }
+    ensures err { IfErr result (FailsOn parts.now) }
+{
+    match read_parts(alloc, parts) {
         Ok((table, faults)) => Ok(Inittab {
             table,
-            faults: faults_text(alloc, &faults)?,
+            faults: faults_text(alloc, parts, &faults)?,
         }),
         Err(TableFault::TooLong) => Err(RunFault::TooLong),
+        Err(TableFault::Parts) => Err(RunFault::TooMany),
         Err(TableFault::Memory) => Err(RunFault::Memory),
-        Err(TableFault::Parts) => unreachable!(),
     }
+}
+
+fn read_inittab<R: Files + Eprint, T: Texts>(
+    rt: &R,
+    texts: &T,
+    alloc: Global,
+    said: &RunWords,
+) -> Result<Inittab, RunFault>
+    ensures ok { IfOk result (λ read. HasInittab (T.text_at texts.now) (run_of said.now)
+        (λ parts. IsReadOf parts read)) }
+    ensures err { IfErr result (FailsToRead (T.text_at texts.now) (run_of said.now)) }
+{
+    let parts = files_of(rt, texts, alloc, said)?;
+    inittab_of(alloc, &parts)
 }
 
 /// The file of the trace, created anew, where one is to be written.
@@ -237,7 +298,7 @@ where
     let inittab = said.inittab.as_str();
     let initctl = said.initctl.as_str();
     let state = said.state.as_str();
-    let host = OsHost::new(rt.clone()?, alloc, inittab, initctl, state)?;
+    let host = OsHost::new(rt.clone()?, alloc, inittab, initctl, state, folder_of(said))?;
     let host = host.with_pause(said.pause.as_str())?;
     let host = if said.fresh { host.fresh() } else { host };
     let host = if said.verbose { host.verbose() } else { host };
@@ -258,6 +319,8 @@ fn report_run_fault<E: Write>(alloc: Global, said: &RunWords, fault: &RunFault, 
         RunFault::Busy => report_busy(alloc, initctl, err),
         RunFault::Channel(error) => report_unlocked(alloc, initctl, error, err),
         RunFault::Inittab(error) => report_unread(alloc, said.inittab.as_str(), error, err),
+        RunFault::Folder(path, error) => report_unread(alloc, path.as_str(), error, err),
+        RunFault::TooMany => report_too_many(err),
         RunFault::TooLong => report_fault(alloc, &[], &SimFault::Table, err),
         RunFault::Trace(error) => report_uncreated(alloc, trace_of(said), error, err),
         RunFault::Memory => report_memory(err),

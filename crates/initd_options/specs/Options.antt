@@ -1,6 +1,6 @@
--- The command line `initd run [--inittab P] [--initctl P] [--fresh] [--state P] [--trace P] [--level L]
--- [--turns N | --forever] [--drain] [--pause SEC] [--result ID] [--verbose] [--logs DIR]`, by clap's own words, and
--- what it says.
+-- The command line `initd run [--inittab P] [--inittab-dir DIR] [--initctl P] [--fresh] [--state P] [--trace P]
+-- [--level L] [--turns N | --forever] [--drain] [--pause SEC] [--result ID] [--verbose] [--logs DIR]`, by clap's own
+-- words, and what it says.
 use Rattle.std.specs.Prelude.{ℕ, Bool, true, false, ◌+◌, ◌-◌, ◌*◌, ◌&&◌, if◌then◌else◌, nat_lt, nat_le, List, [], ◌∷◌, codes, Option, Some, None, option_and_then, option_map, string_bytes}
 use Rattle.std.specs.Char.{is_ascii_digit}
 use Rattle.clap.specs.Words.{App, Row, Text, first_of, new_app}
@@ -28,6 +28,7 @@ run_line = with_rules (new_app (codes "run")) (
     ∷ value_rule (codes "result")
     ∷ switch_rule (codes "verbose")
     ∷ value_rule (codes "logs")
+    ∷ value_rule (codes "inittab-dir")
     ∷ [])
 
 -- a number of turns: 1 to the limit
@@ -88,12 +89,14 @@ result_in (Some word) = option_map Some (id_read word)
 abbrev pub result_said : List Row → Option (Option (List ℕ))
 result_said rows = result_in (first_of (codes "result") rows)
 
--- The paths of the inittab, of the channel of requests and of the text of init's state; whether the requests that the
--- channel has already are left out; the path of the trace and the level to go to, if they are given; the greatest
--- number of turns; whether the run ends where it is drained; the seconds of a pause; the entry whose last status is the
--- run's, if one is given; whether each start and end is told; and the folder of the children's output, if it is given.
+-- The paths of the inittab, of the folder of its further files, if it is given, of the channel of requests and of the
+-- text of init's state; whether the requests that the channel has already are left out; the path of the trace and the
+-- level to go to, if they are given; the greatest number of turns; whether the run ends where it is drained; the seconds
+-- of a pause; the entry whose last status is the run's, if one is given; whether each start and end is told; and the
+-- folder of the children's output, if it is given.
 pub record RunSaid : Type 0 where
   pub inittab : Text
+  pub inittab_dir : Option Text
   pub initctl : Text
   pub fresh : Bool
   pub state : Text
@@ -109,6 +112,7 @@ pub record RunSaid : Type 0 where
 abbrev pub run_of : RunWords → RunSaid
 run_of said = record {
   inittab = string_bytes said.inittab;
+  inittab_dir = option_map (λ (path : _). string_bytes path) said.inittab_dir;
   initctl = string_bytes said.initctl;
   fresh = said.fresh;
   state = string_bytes said.state;
@@ -126,6 +130,7 @@ run_of said = record {
 abbrev pub service_with : List Row → Option Level → ℕ → Text → Option (List ℕ) → RunSaid
 service_with rows level turns pause result = record {
   inittab = value_said (codes "inittab") rows;
+  inittab_dir = first_of (codes "inittab-dir") rows;
   initctl = value_said (codes "initctl") rows;
   fresh = is_set (codes "fresh") rows;
   state = value_said (codes "state") rows;

@@ -17,6 +17,8 @@ use text_lines::{cut, read_below};
 pub struct RunWords {
     /// The path of the inittab(5).
     pub inittab: String,
+    /// The folder of the inittab's further files, where one is given.
+    pub inittab_dir: Option<String>,
     /// The path of the channel of requests (initreq.h).
     pub initctl: String,
     /// The requests that the channel has already are left out.
@@ -73,7 +75,8 @@ pub(crate) fn run_line<'a>(alloc: Global) -> Result<Command<'a>, AllocError>
     let line = with_default(alloc, line, "pause", "1")?;
     let line = with_value(alloc, line, "result")?;
     let line = with_switch(alloc, line, "verbose")?;
-    with_value(alloc, line, "logs")
+    let line = with_value(alloc, line, "logs")?;
+    with_value(alloc, line, "inittab-dir")
 }
 
 /// What the words after `run` say.
@@ -89,6 +92,7 @@ pub(crate) fn read_run(alloc: Global, matches: &ArgMatches) -> Result<RunWords, 
     let result = read_result(alloc, matches)?;
     Ok(RunWords {
         inittab: String::from_str(alloc, value_of(matches, "inittab"))?,
+        inittab_dir: read_path(alloc, matches, "inittab-dir")?,
         initctl: String::from_str(alloc, value_of(matches, "initctl"))?,
         fresh: is_set(matches, "fresh"),
         state: String::from_str(alloc, value_of(matches, "state"))?,

@@ -1,5 +1,6 @@
 pub mod Announced
 pub mod Commands
+pub mod Folders
 pub mod LineFaults
 pub mod Logs
 pub mod News

@@ -1,10 +1,26 @@
--- What is printed of an inittab's lines that were left out, where it is read again.
-use Rattle.std.specs.Prelude.{ℕ, List, ◌++◌, flat_map, codes}
-use Rattle.inittab_text.specs.declared.faults.LineFault.{LineFault}
-use Rattle.inittab_text.specs.Faults.{line_fault_text}
+-- What is printed of the lines of an inittab's files that were left out.
+use Rattle.std.specs.Prelude.{ℕ, if◌then◌else◌, ◌==◌, List, [], ◌++◌, flat_map, codes, decimal, Option, Some, None, slice_get}
+use Rattle.init_words.specs.Parts.{NamedText}
+use Rattle.inittab_text.specs.declared.faults.LineKind.{LineKind}
+use Rattle.inittab_text.specs.declared.faults.PartFault.{PartFault}
+use Rattle.inittab_text.specs.Faults.{kind_text}
 
-abbrev pub fault_line : LineFault → List ℕ
-fault_line fault = codes "initd: " ++ line_fault_text fault ++ codes "\n"
+-- the name of a file, and a blank
+abbrev pub name_text : Option NamedText → List ℕ
+name_text None = []
+name_text (Some part) = part.name ++ codes " "
 
-abbrev pub faults_text : List LineFault → List ℕ
-faults_text faults = flat_map fault_line faults
+-- which file a fault is in, by its number: nothing for the first
+abbrev pub place_text : List NamedText → ℕ → List ℕ
+place_text parts number = if number == 0 then [] else name_text (slice_get parts number)
+
+-- a line of a file, and the check that it fails
+abbrev pub line_text : ℕ → LineKind → List ℕ
+line_text line kind = codes "line " ++ decimal line ++ codes ": " ++ kind_text kind ++ codes "\n"
+
+abbrev pub fault_line : List NamedText → PartFault → List ℕ
+fault_line parts fault =
+    codes "initd: inittab " ++ place_text parts fault.part ++ line_text fault.line fault.kind
+
+abbrev pub faults_text : List NamedText → List PartFault → List ℕ
+faults_text parts faults = flat_map (fault_line parts) faults

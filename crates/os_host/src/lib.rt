@@ -1,11 +1,12 @@
-//! A host that asks the operating system: real children, the channel of requests, the inittab, the text of init's
-//! state.
+//! A host that asks the operating system: real children, the channel of requests, the files of the inittab, the text
+//! of init's state.
 #![tactic(auto)]
 
 mod announcements;
 mod channels;
 mod children;
 mod commands;
+mod folders;
 mod line_faults;
 mod logs;
 mod news;
@@ -19,5 +20,6 @@ mod steady_clocks;
 mod troubles;
 
 pub use announcements::announcement_text;
+pub use folders::{FolderFault, with_folder};
 pub use line_faults::faults_text;
 pub use os_hosts::OsHost;

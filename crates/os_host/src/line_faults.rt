@@ -1,7 +1,8 @@
-ghost use Rattle.std.specs.Prelude.{◌≡◌, ◌++◌, IfOk, OnOk};
-ghost use Rattle.os_host.specs.LineFaults.{fault_line, faults_text};
+ghost use Rattle.std.specs.Prelude.{◌≡◌, ◌++◌, string_bytes, IfOk, OnOk};
+ghost use Rattle.os_host.specs.LineFaults.{fault_line, faults_text, line_text, place_text};
 
-use inittab_text::{LineFault, TableFault, read};
+use init_words::Part;
+use inittab_text::{LineKind, PartFault, TableFault, read_parts};
 use std::alloc::{AllocError, Allocator};
 use std::io;
 use std::io::{ErrorKind, Write};
@@ -22,27 +23,35 @@ impl<A: Allocator + Copy> LineFaults<A> {
         }
     }
 
-    /// Prints the faults of the lines of an inittab's text, where they are not those that were printed last, and gives
-    /// how many bytes that are. That the text is too long is told on standard error.
-    pub(crate) fn tell<R: Print + Eprint>(
+    /// Prints the faults of the lines of an inittab's parts, where they are not those that were printed last, and gives
+    /// how many bytes that are. That the parts are too long or too many is told on standard error.
+    pub(crate) fn tell<R: Print + Eprint, B: Allocator>(
         &mut self,
         rt: &R,
         path: &str,
-        text: &[u8],
+        parts: &[Part<B>],
     ) -> io::Result<usize> {
-        match read(self.alloc, text) {
-            Ok((_, faults)) => self.print(rt, &faults),
+        match read_parts(self.alloc, parts) {
+            Ok((_, faults)) => self.print(rt, parts, &faults),
             Err(TableFault::TooLong) => {
                 say_too_long(rt, path);
                 Ok(0)
             }
+            Err(TableFault::Parts) => {
+                say_too_many(rt, path);
+                Ok(0)
+            }
             Err(TableFault::Memory) => Err(io::Error::from(ErrorKind::OutOfMemory)),
-            Err(TableFault::Parts) => unreachable!(),
         }
     }
 
-    fn print<R: Print>(&mut self, rt: &R, faults: &[LineFault]) -> io::Result<usize> {
-        let text = faults_text(self.alloc, faults)?;
+    fn print<R: Print, B: Allocator>(
+        &mut self,
+        rt: &R,
+        parts: &[Part<B>],
+        faults: &[PartFault],
+    ) -> io::Result<usize> {
+        let text = faults_text(self.alloc, parts, faults)?;
         if text.as_slice() == self.printed.as_slice() {
             return Ok(0);
         }
@@ -53,34 +62,74 @@ impl<A: Allocator + Copy> LineFaults<A> {
     }
 }
 
-/// The lines that tell of the lines of an inittab that were left out: a fault each.
-pub fn faults_text<A: Allocator + Copy>(
+/// The lines that tell of the lines of an inittab's parts that were left out: a fault each, with the name of its part,
+/// but for the first part.
+pub fn faults_text<A: Allocator + Copy, B: Allocator>(
     alloc: A,
-    faults: &[LineFault],
+    parts: &[Part<B>],
+    faults: &[PartFault],
 ) -> Result<Vec<u8, A>, AllocError>
-    ensures { IfOk result (λ text. text.items ≡ faults_text faults.now) }
+    ensures { IfOk result (λ text. text.items ≡ faults_text parts.now faults.now) }
 {
     let mut text = Vec::new(alloc);
     for fault in faults {
-        add_fault(alloc, &mut text, fault)?;
+        add_fault(alloc, &mut text, parts, fault)?;
     }
     Ok(text)
 }
 
-fn add_fault<A: Allocator + Copy>(
+fn add_fault<A: Allocator + Copy, B: Allocator>(
     alloc: A,
     text: &mut Vec<u8, A>,
-    fault: &LineFault,
+    parts: &[Part<B>],
+    fault: &PartFault,
 ) -> Result<(), AllocError>
-    ensures { OnOk result (text.new.items ≡ text.old.items ++ fault_line fault.now) }
+    ensures { OnOk result (text.new.items ≡ text.old.items ++ fault_line parts.now fault.now) }
 {
-    let line = format!(in alloc; "initd: {fault}\n")?;
+    let line = line_text(alloc, fault.line, fault.kind)?;
+    text.extend_from_slice(b"initd: inittab ")?;
+    add_place(text, parts, fault.part)?;
     text.extend_from_slice(line.as_bytes())?;
+    Ok(())
+}
+
+/// A line's number, and the check that it fails.
+fn line_text<A: Allocator + Copy>(
+    alloc: A,
+    line: u32,
+    kind: LineKind,
+) -> Result<String<A>, AllocError>
+    ensures { IfOk result (λ text. string_bytes text ≡ line_text line kind) }
+{
+    format!(in alloc; "line {line}: {kind}\n")
+}
+
+/// Adds the name of the part of a number, and a blank; nothing for the first part.
+fn add_place<A: Allocator, B: Allocator>(
+    text: &mut Vec<u8, A>,
+    parts: &[Part<B>],
+    number: u32,
+) -> Result<(), AllocError>
+    ensures { OnOk result (text.new.items ≡ text.old.items ++ place_text parts.now number) }
+{
+    if number == 0 {
+        return Ok(());
+    }
+    if let Some(part) = parts.get(number as usize) {
+        text.extend_from_slice(part.name.as_bytes())?;
+        text.push(b' ')?;
+    }
     Ok(())
 }
 
 fn say_too_long(rt: &impl Eprint, path: &str) {
     let _ = eprintln!(rt;
         "initd: {path} is longer than 1048576 bytes: shorten it, and give telinit q"
+    );
+}
+
+fn say_too_many(rt: &impl Eprint, path: &str) {
+    let _ = eprintln!(rt;
+        "initd: {path} and its folder are more than 256 files: put some together, and give telinit q"
     );
 }

@@ -89,7 +89,7 @@ fn are_log_bytes(bytes: &[u8]) -> bool
     bytes.iter().all(|byte| is_log_byte(*byte))
 }
 
-fn is_hidden(id: &[u8]) -> bool
+pub(crate) fn is_hidden(id: &[u8]) -> bool
     ensures { result ≡ is_hidden id.now }
 {
     match id {

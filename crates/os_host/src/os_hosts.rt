@@ -10,7 +10,7 @@ use crate::steady_clocks::SteadyClock;
 use crate::troubles::Trouble;
 use child_host::{Host, HostFault, Reply, counted, is_failed_reply};
 use init_trace::HappeningIn;
-use init_words::{Answer, ChildNo, Id, Memory, Sig};
+use init_words::{Answer, ChildNo, Id, Memory, Part, Sig};
 use std::alloc::{Allocator, Global};
 use std::io::ErrorKind;
 use std::marker::Model;
@@ -27,7 +27,7 @@ use std::{io, thread};
 /// the seconds since the beginning of 1970 at its first reading, and goes on from there by the monotonic clock. What
 /// fails is told on standard error once when it begins and once when it is over; told too are requests that stand in
 /// the channel before its first reading, those that init passes over, and that it ends within a request. The faults of
-/// an inittab's lines are printed, where they are not those that were printed last.
+/// the lines of an inittab's files are printed, where they are not those that were printed last.
 #[derive(Drop)]
 pub struct OsHost<R: Processes + Files + Clock + Print + Eprint + Drop, A: Allocator = Global> {
     rt: R,
@@ -51,15 +51,17 @@ impl<R: Processes + Files + Clock + Print + Eprint + Drop, A: Allocator> Model f
 }
 
 impl<R: Processes + Files + Clock + Print + Eprint + Drop, A: Allocator + Copy> OsHost<R, A> {
-    /// A host without children, over the paths of the inittab, of the channel of requests and of the text of init's
-    /// state. A text of the state is written to the path with `.new` after it before it is put in its place. Each of
-    /// its pauses lasts a second.
+    /// A host without children, over the paths of the inittab, of the channel of requests, of the text of init's state
+    /// and of the folder of the inittab's further files, where it has one, which `with_folder` reads. A text of the
+    /// state is written to the path with `.new` after it before it is put in its place. Each of its pauses lasts a
+    /// second.
     pub fn new(
         rt: R,
         alloc: A,
         inittab: &str,
         channel: &str,
         state: &str,
+        folder: Option<&str>,
     ) -> Result<OsHost<R, A>, Memory>
         ensures { IfOk result (λ host. host.faults ≡ 0) }
     {
@@ -68,7 +70,7 @@ impl<R: Processes + Files + Clock + Print + Eprint + Drop, A: Allocator + Copy> 
             alloc,
             children: Children::new(alloc),
             channel: Channel::new(alloc, channel)?,
-            paths: Paths::new(alloc, inittab, state)?,
+            paths: Paths::new(alloc, inittab, folder, state)?,
             line_faults: LineFaults::new(alloc),
             pauses: Pauses::of_a_second(),
             clock: SteadyClock::new(),
@@ -88,11 +90,13 @@ impl<R: Processes + Files + Clock + Print + Eprint + Drop, A: Allocator + Copy> 
         Ok(self)
     }
 
-    /// The host that tells on standard error of each birth, each end and each signal of a child.
+    /// The host that tells on standard error of each birth, each end and each signal of a child, and of each file in
+    /// the inittab's folder that it passes over.
     pub fn verbose(mut self) -> OsHost<R, A>
         ensures { result.faults ≡ self.faults }
     {
         self.children.tell_all();
+        self.paths.tell_all();
         self
     }
 
@@ -118,12 +122,12 @@ impl<R: Processes + Files + Clock + Print + Eprint + Drop, A: Allocator + Copy> 
 }
 
 impl<R: Processes + Files + Clock + Print + Eprint + Drop, A: Allocator + Copy> OsHost<R, A> {
-    /// Prints the faults of the lines of an inittab's text that was read again, and gives whether it could. What fails
-    /// is told.
-    fn tell_line_faults(&mut self, text: &[u8]) -> bool
+    /// Prints the faults of the lines of an inittab's parts that were read again, and gives whether it could. What
+    /// fails is told.
+    fn tell_line_faults<B: Allocator>(&mut self, parts: &[Part<B>]) -> bool
         ensures { self.new.faults ≡ self.old.faults }
     {
-        let told = self.line_faults.tell(&self.rt, self.paths.inittab(), text);
+        let told = self.line_faults.tell(&self.rt, self.paths.inittab(), parts);
         if !matches!(told, Ok(0)) {
             self.saying.tell(&self.rt, "standard output", &told);
         }
@@ -216,14 +220,14 @@ impl<R: Processes + Files + Clock + Print + Eprint + Drop, A: Allocator + Copy> 
         taken
     }
 
-    fn read_table<B: Allocator + Copy>(&mut self, alloc: B) -> Result<Vec<u8, B>, HostFault> {
-        let text = host_result(self.paths.read_table(&self.rt, alloc));
-        let told = match &text {
-            Ok(text) => self.tell_line_faults(text),
+    fn read_tables<B: Allocator + Copy>(&mut self, alloc: B) -> Result<Vec<Part<B>, B>, HostFault> {
+        let parts = host_result(self.paths.read_tables(&self.rt, alloc));
+        let told = match &parts {
+            Ok(parts) => self.tell_line_faults(parts),
             Err(_) => true,
         };
-        self.faults = counted(self.faults, text.is_err() || !told);
-        text
+        self.faults = counted(self.faults, parts.is_err() || !told);
+        parts
     }
 
     fn carry<B: Allocator + Copy>(

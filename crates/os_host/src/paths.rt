@@ -1,16 +1,23 @@
+use crate::folders::{FolderFault, with_folder};
 use crate::troubles::Trouble;
-use init_words::Memory;
+use init_words::{Memory, Part};
 use program_io::{read_file, write_text};
 use std::alloc::Allocator;
 use std::fs::{File, OpenFile};
+use std::io::ErrorKind;
 use std::rt::Files;
 use std::{fs, io};
 
-/// The files of a host that are read or written whole: the inittab, and the text of init's state.
+/// The files of a host that are read or written whole: those of the inittab, and the text of init's state.
 #[derive(Drop)]
 pub(crate) struct Paths<A: Allocator> {
     inittab: String<A>,
     reading: Trouble,
+    /// The folder of the inittab's further files, where it has one.
+    folder: Option<String<A>>,
+    listing: Trouble,
+    /// The files in the folder that are passed over are told.
+    verbose: bool,
     state: String<A>,
     /// Where a text of the state is written first.
     beside: String<A>,
@@ -19,10 +26,18 @@ pub(crate) struct Paths<A: Allocator> {
 
 impl<A: Allocator + Copy> Paths<A> {
     /// These paths.
-    pub(crate) fn new(alloc: A, inittab: &str, state: &str) -> Result<Paths<A>, Memory> {
+    pub(crate) fn new(
+        alloc: A,
+        inittab: &str,
+        folder: Option<&str>,
+        state: &str,
+    ) -> Result<Paths<A>, Memory> {
         Ok(Paths {
             inittab: String::from_str(alloc, inittab)?,
             reading: Trouble::new("read", "read"),
+            folder: path_copy(alloc, folder)?,
+            listing: Trouble::new("read", "read"),
+            verbose: false,
             state: String::from_str(alloc, state)?,
             beside: format!(in alloc; "{state}.new")?,
             carrying: Trouble::new("write and read back", "written and read back"),
@@ -36,15 +51,43 @@ impl<A: Allocator> Paths<A> {
         self.inittab.as_str()
     }
 
-    /// The text of the inittab.
-    pub(crate) fn read_table<R: Files + Eprint, B: Allocator>(
+    /// From now on the files in the folder that are passed over are told.
+    pub(crate) fn tell_all(&mut self) {
+        self.verbose = true;
+    }
+
+    /// The parts of the inittab: its file, and those of its folder, where it has one.
+    pub(crate) fn read_tables<R: Files + Eprint, B: Allocator + Copy>(
         &mut self,
         rt: &R,
         alloc: B,
-    ) -> io::Result<Vec<u8, B>> {
+    ) -> io::Result<Vec<Part<B>, B>> {
         let text = read_file(rt, alloc, self.inittab.as_str());
         self.reading.tell(rt, self.inittab.as_str(), &text);
-        text
+        let name = String::from_str(alloc, self.inittab.as_str())?;
+        self.with_folder(rt, alloc, Part { name, bytes: text? })
+    }
+
+    /// The part, and those of the folder.
+    fn with_folder<R: Files + Eprint, B: Allocator + Copy>(
+        &mut self,
+        rt: &R,
+        alloc: B,
+        own: Part<B>,
+    ) -> io::Result<Vec<Part<B>, B>> {
+        let folder = path_in(&self.folder);
+        let outcome = with_folder(rt, alloc, own, folder, self.verbose);
+        match outcome {
+            Ok(parts) => {
+                self.listing.tell_over(rt, folder.unwrap_or(""));
+                Ok(parts)
+            }
+            Err(FolderFault::Unread(path, error)) => {
+                self.listing.tell_begun(rt, path.as_str(), &error);
+                Err(error)
+            }
+            Err(FolderFault::Memory) => Err(io::Error::from(ErrorKind::OutOfMemory)),
+        }
     }
 
     /// Writes the text beside the state's path and puts it there whole; then reads what is there.
@@ -68,6 +111,22 @@ impl<A: Allocator> Paths<A> {
         write_whole(rt, self.beside.as_str(), text)?;
         fs::rename(rt, self.beside.as_str(), self.state.as_str())?;
         read_file(rt, alloc, self.state.as_str())
+    }
+}
+
+/// The path, where there is one.
+fn path_in<A: Allocator>(path: &Option<String<A>>) -> Option<&str> {
+    match path {
+        Some(path) => Some(path.as_str()),
+        None => None,
+    }
+}
+
+/// A copy of a path, where there is one.
+fn path_copy<A: Allocator>(alloc: A, path: Option<&str>) -> Result<Option<String<A>>, Memory> {
+    match path {
+        Some(path) => Ok(Some(String::from_str(alloc, path)?)),
+        None => Ok(None),
     }
 }
 

@@ -28,14 +28,14 @@ impl Trouble {
         }
     }
 
-    fn tell_begun(&mut self, rt: &impl Eprint, what: &str, error: &io::Error) {
+    pub(crate) fn tell_begun(&mut self, rt: &impl Eprint, what: &str, error: &io::Error) {
         if !self.told {
             let _ = eprintln!(rt; "initd: cannot {} {what}: {error}", self.doing);
         }
         self.told = true;
     }
 
-    fn tell_over(&mut self, rt: &impl Eprint, what: &str) {
+    pub(crate) fn tell_over(&mut self, rt: &impl Eprint, what: &str) {
         if self.told {
             let _ = eprintln!(rt; "initd: {what}: {} again", self.done);
         }

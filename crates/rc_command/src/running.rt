@@ -106,7 +106,7 @@ where
     let Ok(own) = rt.clone() else {
         return report_no_memory("rc", err);
     };
-    let Ok(mut host) = OsHost::new(own, alloc, "", "", "") else {
+    let Ok(mut host) = OsHost::new(own, alloc, "", "", "", None) else {
         return report_no_memory("rc", err);
     };
     let ended = run_links(alloc, &mut rc, &mut host, path, PAUSES_LIMIT, out);

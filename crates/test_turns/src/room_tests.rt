@@ -111,7 +111,7 @@ fn was_read(host: &MemoryHost) -> bool {
         return false;
     };
     for call in calls {
-        if matches!(call, Call::ReadTable(Ok(_))) {
+        if matches!(call, Call::ReadTables(Ok(_))) {
             return true;
         }
     }

@@ -135,7 +135,7 @@ fn letter_of<A: Allocator>(call: &CallIn<A>) -> u8 {
         Call::Clock(_) => b'C',
         Call::TakeBytes(_, _) => b'B',
         Call::Late(_) => b'L',
-        Call::ReadTable(_) => b'T',
+        Call::ReadTables(_) => b'T',
         Call::Start(_, _, _) => b'S',
         Call::Look(_, _) => b'O',
         Call::Signal(_, _, _) => b'G',

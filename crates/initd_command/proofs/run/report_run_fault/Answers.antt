@@ -1,8 +1,8 @@
 use Rattle.simulator.specs.declared.running.SimFault.TheVariants as fault
 use Rattle.std.proofs.Common.{[]}
 use Rattle.initd_options.specs.Options.{run_of}
-use Rattle.initd_command.specs.Endings.{busy, no_memory, stopped, uncreated, unlocked, unread}
-use Rattle.initd_command.proofs.Ended.{of_busy, of_channel, of_inittab, of_long, of_memory, of_trace}
+use Rattle.initd_command.specs.Endings.{busy, no_memory, stopped, too_many, uncreated, unlocked, unread}
+use Rattle.initd_command.proofs.Ended.{of_busy, of_channel, of_folder, of_inittab, of_long, of_many, of_memory, of_trace}
 use Rattle.initd_command.proofs.run.report_run_fault.Goals as goal
 
 pub returns-in-Busy : goal.returns-in-Busy
@@ -33,6 +33,24 @@ returns-in-Inittab g c =
       of_inittab (run_of c.args.said.now) c.args.fault.now c.in-Inittab.error path reason c.in-Inittab.is c.as_str.ensures.value,
       reported,
     )
+
+pub returns-in-Folder : goal.returns-in-Folder
+returns-in-Folder g c =
+    let path = c.as_str.result.now in
+    let (reason, reported) = c.report_unread.ensures.reported in (
+      unread path reason,
+      c.report_unread.ensures.status,
+      of_folder (run_of c.args.said.now) c.args.fault.now c.in-Folder.path c.in-Folder.error path reason c.in-Folder.is c.as_str.ensures.value,
+      reported,
+    )
+
+pub returns-in-TooMany : goal.returns-in-TooMany
+returns-in-TooMany g c = (
+  too_many,
+  c.report_too_many.ensures.status,
+  of_many (run_of c.args.said.now) c.args.fault.now c.in-TooMany.is,
+  c.report_too_many.ensures.reported,
+)
 
 pub returns-in-TooLong : goal.returns-in-TooLong
 returns-in-TooLong g c = (

@@ -20,4 +20,5 @@ returns c =
     let pause = adds_line c.in_ok-line-9.line (default_rule (codes "pause") (codes "1")) _ drain c.in_ok-line-10.line c.in_ok-line-10.ensures in
     let result = adds_line c.in_ok-line-10.line (value_rule (codes "result")) _ pause c.in_ok-line-11.line c.in_ok-line-11.ensures in
     let verbose = adds_line c.in_ok-line-11.line (switch_rule (codes "verbose")) _ result c.in_ok-line-12.line c.in_ok-line-12.ensures in
-    IfOk-weaker c.with_value-5.result _ _ (adds_line c.in_ok-line-12.line (value_rule (codes "logs")) _ verbose) c.with_value-5.ensures
+    let logs = adds_line c.in_ok-line-12.line (value_rule (codes "logs")) _ verbose c.in_ok-line-13.line c.in_ok-line-13.ensures in
+    IfOk-weaker c.with_value-6.result _ _ (adds_line c.in_ok-line-13.line (value_rule (codes "inittab-dir")) _ logs) c.with_value-6.ensures
