@@ -4,7 +4,7 @@ use crate::logs::{finished, lines_of, trace_of, unfinished};
 use init_trace::HappeningIn;
 use std::alloc::Global;
 use std::test::Fail;
-use trace_check::Verdict;
+use trace_check::{Law, Verdict};
 use trace_log::ListLog;
 
 /// A trace and its brief form, their lines parted by ` / `; the verdicts on both; and how many happenings are held back
@@ -77,7 +77,7 @@ const ROWS: &[Row] = &[
                 clock 104 / nudge / ask a kill",
         brief: "use 1 / a:3:respawn:x / clock 100 / enter 3 5 / ask a start / birth a 10 / told a / enter 1 5 / \
                 ask a term / hit a / told a / clock 104 / nudge / ask a kill",
-        verdicts: (Verdict::Breach(17, 7), Verdict::Breach(12, 7)),
+        verdicts: (Verdict::Breach(17, Law::SignalNotDue), Verdict::Breach(12, Law::SignalNotDue)),
         held: 0,
     },
     // A level that is announced too early.
@@ -85,7 +85,7 @@ const ROWS: &[Row] = &[
         trace: "use 1 / a:3:respawn:x / enter 3 5 / clock 100 / nudge / ask a look / still a / told a / \
                 clock 101 / nudge / settle 3",
         brief: "use 1 / a:3:respawn:x / enter 3 5 / clock 101 / nudge / settle 3",
-        verdicts: (Verdict::Breach(9, 5), Verdict::Breach(4, 5)),
+        verdicts: (Verdict::Breach(9, Law::NotSettled), Verdict::Breach(4, Law::NotSettled)),
         held: 0,
     },
     // A look within a look stays.

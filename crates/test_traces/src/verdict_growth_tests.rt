@@ -7,7 +7,7 @@ use linked_list_allocator::LocalHeap;
 use std::alloc::Global;
 use std::process::Abort;
 use std::test::Fail;
-use trace_check::Verdict;
+use trace_check::{Law, Verdict};
 
 const TRACE: &[u8] =
     b"use 2\na:3:once:x\nb:1:once:y\nenter 3 5\nask a start\nbirth a 10\ntold a\nenter 1 5\nask b start\nbirth b 11\n";
@@ -29,7 +29,7 @@ fn counts(rt: &impl Abort, alloc: Global) -> Result<(usize, usize, usize), Fail>
             Err(ReadFault::Memory) => unread = unread.wrapping_add(1),
             Ok(Err(Memory)) => unjudged = unjudged.wrapping_add(1),
             Ok(Ok(verdict)) => {
-                assert!(rt; verdict == Verdict::Breach(7, 4));
+                assert!(rt; verdict == Verdict::Breach(7, Law::BesideExcluded));
                 done = done.wrapping_add(1);
             }
             Err(ReadFault::Line(_)) => return Err(Fail::from("an unread line")),

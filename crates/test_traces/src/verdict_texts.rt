@@ -51,7 +51,10 @@ fn verdict_on(alloc: Global, trace: &[HappeningIn<Global>], text: &str) -> Resul
     }
     match trace_check::check(alloc, trace)? {
         Verdict::Lawful => Ok(String::from_str(alloc, ".")?),
-        Verdict::Breach(place, law) => Ok(format!(in alloc; "{place}:{law}")?),
+        Verdict::Breach(place, law) => {
+            let number = law.number();
+            Ok(format!(in alloc; "{place}:{number}")?)
+        }
     }
 }
 

@@ -19,8 +19,8 @@ use Rattle.trace_laws.proofs.Lone.{is_lone, lone_filter}
 use Rattle.trace_check.specs.declared.children.UnreapedChild.{UnreapedChild}
 use Rattle.trace_check.specs.After.{is_numbered, child_after, spares, excludes, earliest, term_after}
 use Rattle.trace_check.proofs.Lookups.{none_both}
-use Rattle.trace_check.proofs.Lone.{child_of, by_child, left_if, lone_left}
-use Rattle.trace_check.proofs.Reading.{has_sent, living_of, least_term, term_of}
+use Rattle.trace_check.proofs.Lone.{by_child, left_if, lone_left}
+use Rattle.trace_check.specs.Reading.{child_of, has_sent, living_of, least_term, term_of}
 use Rattle.trace_check.proofs.Terms.{told_terms}
 
 -- at most one child of an id is unreaped, as long as each birth is of an id with none

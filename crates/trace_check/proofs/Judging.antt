@@ -13,7 +13,7 @@ use Rattle.init_words.specs.declared.orders.Ask.TheVariants.{Start, Term, Kill}
 use Rattle.init_words.specs.Ids.{same_id}
 use Rattle.init_words.specs.Levels.{names}
 use Rattle.init_words.specs.Actions.{served_by}
-use Rattle.inittab_text.specs.Tables.{entry_of}
+use Rattle.inittab_text.specs.Tables.{entry_of, is_distinct}
 use Rattle.init_trace.specs.declared.happenings.Happening.TheVariants.{Asked, Hold, Settle, Birth}
 use Rattle.init_trace.specs.Event.{Event}
 use Rattle.init_trace.specs.Past.{table_of, stage_of, grace_of, time_of, Child, is_of, has_child, unreaped_children}
@@ -25,13 +25,13 @@ use Rattle.init_trace.specs.Due.{is_served, is_settled}
 use Rattle.init_trace.specs.Lawful.{is_placed, is_in_turn, is_limited_id, is_free, is_due_hold, may_term, may_kill, broken}
 use Rattle.init_words.proofs.Same.{same_id-is, same_id-self}
 use Rattle.init_words.proofs.Tests.{same_tests, any_less, any_same, Passing, passing, found_any, and_three}
-use Rattle.trace_laws.proofs.Lone.{lone_any}
+use Rattle.trace_laws.proofs.Lone.{is_lone, lone_any}
 use Rattle.trace_check.specs.declared.children.UnreapedChild.{UnreapedChild}
 use Rattle.trace_check.specs.State.{JudgeState, at, among}
 use Rattle.trace_check.specs.Flaws.{is_alive, is_excluded_in, none_excluded_in, is_placed_in, is_owed_in, is_in_turn_in, is_held_in, is_full_in, is_free_in, is_due_hold_in, is_served_in, is_settled_in, is_over_in, may_kill_in, flaw_in}
-use Rattle.trace_check.proofs.Lone.{child_of, found_test, by_child}
+use Rattle.trace_check.proofs.Lone.{found_test, by_child}
 use Rattle.trace_check.proofs.Found.{found_all, found_before}
-use Rattle.trace_check.proofs.Reading.{living_of, least_term, term_of, newest, Reads}
+use Rattle.trace_check.specs.Reading.{child_of, living_of, least_term, term_of, newest, Reads}
 use Rattle.trace_check.proofs.Windows.{full_by_last, held_by_last}
 use Rattle.trace_check.proofs.Terms.{over_age, ripe_least}
 
@@ -39,7 +39,7 @@ use Rattle.trace_check.proofs.Terms.{over_age, ripe_least}
 abbrev is_ripe_child : List Event → Child → Bool
 is_ripe_child past child = list_any (is_ripe (grace_of past) (time_of past)) (spell_hits child past)
 
-module _ (s : JudgeState) (past : List Event) (r : Reads s past) where
+module _ (s : JudgeState) (past : List Event) (r : Reads s past) (lone : (id : List ℕ) → is_lone (is_of id) (unreaped_children past) ≡ true) (distinct : is_distinct (table_of past) ≡ true) where
   pub alive : (id : List ℕ) → is_alive s id ≡ has_child id (unreaped_children past)
   alive id = ap is_some (r.children id) ∙ found_any living_of (is_of id) (unreaped_children past)
 
@@ -62,7 +62,7 @@ module _ (s : JudgeState) (past : List Event) (r : Reads s past) where
         let id : List ℕ = child.item.id in
         let own : is_of id child.item ≡ true = same_id-self id in
         let is : is_excluded_in (table_of past) s id ≡ true =
-        excluded id ∙ sym (lone_any (is_of id) (is_excluded past) (unreaped_children past) (r.lone id))
+        excluded id ∙ sym (lone_any (is_of id) (is_excluded past) (unreaped_children past) (lone id))
         ∙ child.within (λ c. is_of id c && is_excluded past c) (and_from (is_of id child.item) (is_excluded past child.item) own child.passes) in
         let key : list_any (same_id id) (keys_of s.children) ≡ true =
         sym (is_some-lookup (same_id id) s.children) ∙ alive id ∙ child.within (is_of id) own in
@@ -79,7 +79,7 @@ module _ (s : JudgeState) (past : List Event) (r : Reads s past) where
   owed e found = rw (r.kept e.id, r.orders e.id, r.asked e.id, r.stage, called e found) refl
 
   in_turn : (id : List ℕ) → is_in_turn_in (table_of past) s id ≡ is_in_turn id past
-  in_turn id = ap not (found_before (is_owed_in s) (λ e. is_owed e past) id (table_of past) r.distinct owed)
+  in_turn id = ap not (found_before (is_owed_in s) (λ e. is_owed e past) id (table_of past) distinct owed)
 
   held : (id : List ℕ) → is_held_in s id ≡ is_held id past
   held id = ap (λ o. option_map_or (λ began. nat_lt (s.time - began) HOLD) o false) (r.holds id) ∙ ap (λ now. option_map_or (λ began. nat_lt (now - began) HOLD) (newest (hold_times id past)) false) r.time ∙ held_by_last id past
@@ -107,10 +107,10 @@ module _ (s : JudgeState) (past : List Event) (r : Reads s past) where
   settled level =
       ap (λ now. is_level level now && none_excluded_in (table_of past) s && list_all (is_served_in level s) (table_of past)) r.stage
       ∙ ap (λ b. is_level level (stage_of past) && not b && list_all (is_served_in level s) (table_of past)) any_excluded
-      ∙ ap (λ b. is_level level (stage_of past) && not (list_any (is_excluded past) (unreaped_children past)) && b) (found_all (is_served_in level s) (is_served level (unreaped_children past) past) (table_of past) r.distinct (served level))
+      ∙ ap (λ b. is_level level (stage_of past) && not (list_any (is_excluded past) (unreaped_children past)) && b) (found_all (is_served_in level s) (is_served level (unreaped_children past) past) (table_of past) distinct (served level))
 
   may_be_termed : (id : List ℕ) → is_excluded_in (table_of past) s id ≡ may_term id past
-  may_be_termed id = excluded id ∙ sym (lone_any (is_of id) (is_excluded past) (unreaped_children past) (r.lone id))
+  may_be_termed id = excluded id ∙ sym (lone_any (is_of id) (is_excluded past) (unreaped_children past) (lone id))
 
   over : (id : List ℕ) → is_over_in s id ≡ option_map_or (is_ripe_child past) (child_of id past) false
   over id = aged (r.termed id) ∙ by_child (λ x o. option_map_or (λ told. nat_le told s.time && nat_le s.grace (s.time - told)) (term_of past o) false ≡ option_map_or (is_ripe_child past) o false) (λ x. refl) child id past where
@@ -136,7 +136,7 @@ module _ (s : JudgeState) (past : List Event) (r : Reads s past) where
   may_be_killed id =
       ap (λ b. b && is_over_in s id) (excluded id) ∙ ap (λ b. option_map_or (is_excluded past) (child_of id past) false && b) (over id)
       ∙ both_found (is_excluded past) (is_ripe_child past) (child_of id past)
-      ∙ sym (lone_any (is_of id) (λ c. is_excluded past c && is_ripe_child past c) (unreaped_children past) (r.lone id))
+      ∙ sym (lone_any (is_of id) (λ c. is_excluded past c && is_ripe_child past c) (unreaped_children past) (lone id))
       ∙ any_same (λ c. is_of id c && (is_excluded past c && is_ripe_child past c)) (λ c. is_of id c && is_excluded past c && is_ripe_child past c) (λ c. and_three (is_of id c) (is_excluded past c) (is_ripe_child past c)) (unreaped_children past)
 
   not_not : (b : Bool) (x y : Option ℕ) → cond b x y ≡ cond (not (not b)) x y

@@ -23,7 +23,7 @@ use Rattle.trace_laws.proofs.Tests.{never}
 use Rattle.trace_check.specs.After.{table_after, stage_after, grace_after, time_after, order_after, kept_after, is_changed, asked_after, is_named, stays_called_in, called_after, sent_after, starts_after, hold_after}
 use Rattle.trace_check.proofs.Lone.{found_passes}
 use Rattle.trace_check.proofs.Found.{entry_any, id_any}
-use Rattle.trace_check.proofs.Reading.{calls_of, has_sent, newest}
+use Rattle.trace_check.specs.Reading.{calls_of, has_sent, newest}
 
 pub table_step : (happening : Event) (past : List Event) → table_after happening (table_of past) ≡ table_of (happening ∷ past)
 table_step (NewTable table) past = refl

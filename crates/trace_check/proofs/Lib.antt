@@ -2,7 +2,6 @@ pub mod Walks
 pub mod Lookups
 pub mod Lone
 pub mod Found
-pub mod Reading
 pub mod Windows
 pub mod Terms
 pub mod Keeping

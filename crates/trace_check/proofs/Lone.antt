@@ -9,10 +9,7 @@ use Rattle.init_trace.specs.Past.{Child, is_of, unreaped_children}
 use Rattle.init_words.proofs.Same.{same_id-is}
 use Rattle.init_words.proofs.Tests.{find_none}
 use Rattle.trace_laws.proofs.Lone.{none_filtered, is_lone}
-
--- the youngest unreaped child of an id
-abbrev pub child_of : List ℕ → List Event → Option Child
-child_of id past = find (is_of id) (unreaped_children past)
+use Rattle.trace_check.specs.Reading.{child_of}
 
 -- what is found passes
 pub found_passes : {X : Type 0} (p : X → Bool) (xs : List X) (x : X) → find p xs ≡ Some x → p x ≡ true

@@ -9,7 +9,7 @@ use Rattle.init_trace.specs.Wanted.{is_order}
 use Rattle.init_trace.specs.Spells.{Signal, told_at, is_ripe}
 use Rattle.init_words.proofs.Tests.{or_false}
 use Rattle.trace_check.specs.After.{earliest}
-use Rattle.trace_check.proofs.Reading.{least_term}
+use Rattle.trace_check.specs.Reading.{least_term}
 
 earliest_twice : (time : ℕ) (o : Option ℕ) → earliest time (Some (earliest time o)) ≡ earliest time o
 earliest_twice time None = omega arith

@@ -11,7 +11,7 @@ use Rattle.init_trace.specs.Event.{Event}
 use Rattle.init_trace.specs.Past.{time_of}
 use Rattle.init_trace.specs.Timing.{start_times, hold_times, is_held, is_full}
 use Rattle.init_words.proofs.Tests.{same_tests, or_either}
-use Rattle.trace_check.proofs.Reading.{newest}
+use Rattle.trace_check.specs.Reading.{newest}
 use Rattle.trace_laws.proofs.Pace.{Falling, falls_below, starts_fall, is_young, old_later}
 
 one_more : (b : Bool) (now : ℕ) (ts : List ℕ) → Falling now ts → Falling now (cond b (now ∷ ts) ts)

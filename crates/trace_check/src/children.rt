@@ -3,9 +3,10 @@ ghost use Rattle.trace_check.specs.State.{at};
 ghost use Rattle.trace_check.specs.After.{is_numbered, child_after};
 
 use crate::maps::ById;
-use crate::tables::InForce;
+use crate::tables::act;
 use init_trace::{Happening, HappeningIn};
 use init_words::{Act, ChildNo, Memory};
+use inittab_text::Table;
 use std::alloc::Allocator;
 
 /// An unreaped child: its number, and the action that its id had when it was born.
@@ -18,7 +19,7 @@ pub(crate) struct UnreapedChild {
 /// The unreaped child of each id.
 pub(crate) fn take_child<A: Allocator, B: Allocator>(
     children: &mut ById<UnreapedChild, A>,
-    table: &InForce<'_, B>,
+    table: &Table<A>,
     happening: &HappeningIn<B>,
 ) -> Result<(), Memory>
     ensures { OnOk result ((id : List ℕ) → at id children.new.entries
@@ -28,7 +29,7 @@ pub(crate) fn take_child<A: Allocator, B: Allocator>(
         Happening::Birth(id, number) => {
             let living = UnreapedChild {
                 number: *number,
-                act: table.act(id),
+                act: act(table, id),
             };
             children.insert(*id, living)?;
             Ok(())

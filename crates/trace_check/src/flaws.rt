@@ -1,20 +1,23 @@
-ghost use Rattle.std.specs.Prelude.{◌≡◌, not, if◌then◌else◌};
+ghost use Rattle.std.specs.Prelude.{◌≡◌, not, if◌then◌else◌, option_map};
+ghost use Rattle.trace_check.specs.Laws.{law_number};
 ghost use Rattle.trace_check.specs.Flaws.{is_limited_in};
 
 use crate::judge::Judge;
+use crate::laws::Law;
 use crate::parts::is_open;
 use crate::spells::excludes;
-use crate::tables::{InForce, starts_in};
+use crate::tables::{act, entry_at, starts_in};
 use init_trace::{Happening, HappeningIn};
 use init_words::{Ask, Entry, Id, Level, Stage, waited};
+use inittab_text::Table;
 use respawn_limit::HOLD;
 use std::alloc::Allocator;
 
 /// The respawn limit holds for the id's entry (init(8)).
-fn is_limited<B: Allocator>(table: &InForce<'_, B>, id: &Id) -> bool
+fn is_limited<B: Allocator>(table: &Table<B>, id: &Id) -> bool
     ensures { result ≡ is_limited_in table.now id.now }
 {
-    match table.act(id) {
+    match act(table, id) {
         Some(act) => act.is_limited(),
         None => false,
     }
@@ -29,33 +32,36 @@ impl<A: Allocator> Judge<A> {
     /// The least law that the happening breaks, where `table` is in force before it.
     pub(crate) fn flaw<B: Allocator>(
         &self,
-        table: &InForce<'_, B>,
+        table: &Table<A>,
         happening: &HappeningIn<B>,
-    ) -> Option<u8>
-        ensures { result ≡ flaw_in table.now self.now happening.now }
+    ) -> Option<Law>
+        ensures { option_map law_number result ≡ flaw_in table.now self.now happening.now }
     {
         match happening {
             Happening::Birth(id, _) => self.flaw_of_birth(table, id),
-            Happening::Settle(level) => unless(self.is_settled(*level, table), 5),
-            Happening::Asked(id, Ask::Start) => unless(self.is_free(table, id), 6),
-            Happening::Hold(id) => unless(self.is_due_hold(table, id), 6),
-            Happening::Asked(id, Ask::Term) => unless(self.is_excluded(table, id), 7),
-            Happening::Asked(id, Ask::Kill) => unless(self.may_kill(table, id), 7),
+            Happening::Settle(level) => unless(self.is_settled(*level, table), Law::NotSettled),
+            Happening::Asked(id, Ask::Start) => unless(self.is_free(table, id), Law::RespawnLimit),
+            Happening::Hold(id) => unless(self.is_due_hold(table, id), Law::RespawnLimit),
+            Happening::Asked(id, Ask::Term) => unless(
+                self.is_excluded(table, id),
+                Law::SignalNotDue,
+            ),
+            Happening::Asked(id, Ask::Kill) => unless(self.may_kill(table, id), Law::SignalNotDue),
             _ => None,
         }
     }
 
-    fn flaw_of_birth<B: Allocator>(&self, table: &InForce<'_, B>, id: &Id) -> Option<u8>
-        ensures { result ≡ flaw_of_birth table.now self.now id.now }
+    fn flaw_of_birth(&self, table: &Table<A>, id: &Id) -> Option<Law>
+        ensures { option_map law_number result ≡ flaw_of_birth table.now self.now id.now }
     {
         if self.is_alive(id) {
-            Some(1)
+            Some(Law::SecondChild)
         } else if !self.is_placed(table, id) {
-            Some(2)
+            Some(Law::OutOfStage)
         } else if !self.is_in_turn(table, id) {
-            Some(3)
+            Some(Law::OutOfTurn)
         } else {
-            unless(self.none_excluded(table), 4)
+            unless(self.none_excluded(table), Law::BesideExcluded)
         }
     }
 
@@ -66,19 +72,19 @@ impl<A: Allocator> Judge<A> {
     }
 
     /// The child of the id is excluded.
-    fn is_excluded<B: Allocator>(&self, table: &InForce<'_, B>, id: &Id) -> bool
+    fn is_excluded(&self, table: &Table<A>, id: &Id) -> bool
         ensures { result ≡ is_excluded_in table.now self.now id.now }
     {
         excludes(table, self.stage, &self.children, id)
     }
 
-    fn none_excluded<B: Allocator>(&self, table: &InForce<'_, B>) -> bool
+    fn none_excluded(&self, table: &Table<A>) -> bool
         ensures { result ≡ none_excluded_in table.now self.now }
     {
         !self.any_excluded(table)
     }
 
-    fn any_excluded<B: Allocator>(&self, table: &InForce<'_, B>) -> bool
+    fn any_excluded(&self, table: &Table<A>) -> bool
         ensures { result
             ≡ list_any (is_excluded_in table.now self.now) (keys_of self.now.children) }
     {
@@ -86,7 +92,7 @@ impl<A: Allocator> Judge<A> {
     }
 
     /// The id has an entry, which starts in the stage.
-    fn is_placed<B: Allocator>(&self, table: &InForce<'_, B>, id: &Id) -> bool
+    fn is_placed(&self, table: &Table<A>, id: &Id) -> bool
         ensures { result ≡ is_placed_in table.now self.now id.now }
     {
         match table.get(id) {
@@ -120,11 +126,11 @@ impl<A: Allocator> Judge<A> {
     }
 
     /// No entry before the id's is owed.
-    fn is_in_turn<B: Allocator>(&self, table: &InForce<'_, B>, id: &Id) -> bool
+    fn is_in_turn(&self, table: &Table<A>, id: &Id) -> bool
         ensures { result ≡ is_in_turn_in table.now self.now id.now }
     {
         for place in 0..table.len() {
-            let entry = table.entry(place);
+            let entry = entry_at(table, place);
             if *id == entry.id {
                 return true;
             }
@@ -155,13 +161,13 @@ impl<A: Allocator> Judge<A> {
         }
     }
 
-    fn is_free<B: Allocator>(&self, table: &InForce<'_, B>, id: &Id) -> bool
+    fn is_free(&self, table: &Table<A>, id: &Id) -> bool
         ensures { result ≡ is_free_in table.now self.now id.now }
     {
         !is_limited(table, id) || !self.is_held(id) && !self.is_full(id)
     }
 
-    fn is_due_hold<B: Allocator>(&self, table: &InForce<'_, B>, id: &Id) -> bool
+    fn is_due_hold(&self, table: &Table<A>, id: &Id) -> bool
         ensures { result ≡ is_due_hold_in table.now self.now id.now }
     {
         is_limited(table, id) && !self.is_held(id) && self.is_full(id)
@@ -179,11 +185,11 @@ impl<A: Allocator> Judge<A> {
         !entry.names_level(level) || entry.act.is_served(asked, kept_up)
     }
 
-    fn all_served<B: Allocator>(&self, level: Level, table: &InForce<'_, B>) -> bool
+    fn all_served(&self, level: Level, table: &Table<A>) -> bool
         ensures { result ≡ list_all (is_served_in level self.now) table.now }
     {
         for place in 0..table.len() {
-            if !self.is_served(level, table.entry(place)) {
+            if !self.is_served(level, entry_at(table, place)) {
                 return false;
             }
         }
@@ -199,7 +205,7 @@ impl<A: Allocator> Judge<A> {
         }
     }
 
-    fn is_settled<B: Allocator>(&self, level: Level, table: &InForce<'_, B>) -> bool
+    fn is_settled(&self, level: Level, table: &Table<A>) -> bool
         ensures { result ≡ is_settled_in level table.now self.now }
     {
         self.is_in_level(level) && self.none_excluded(table) && self.all_served(level, table)
@@ -215,7 +221,7 @@ impl<A: Allocator> Judge<A> {
         }
     }
 
-    fn may_kill<B: Allocator>(&self, table: &InForce<'_, B>, id: &Id) -> bool
+    fn may_kill(&self, table: &Table<A>, id: &Id) -> bool
         ensures { result ≡ may_kill_in table.now self.now id.now }
     {
         self.is_excluded(table, id) && self.is_over(id)
@@ -223,8 +229,8 @@ impl<A: Allocator> Judge<A> {
 }
 
 /// The law is broken where its test fails.
-fn unless(test: bool, law: u8) -> Option<u8>
-    ensures { result ≡ (if not test then Some law else None) }
+fn unless(test: bool, law: Law) -> Option<Law>
+    ensures { option_map law_number result ≡ (if not test then Some (law_number law) else None) }
 {
     if test { None } else { Some(law) }
 }

@@ -7,14 +7,13 @@ use crate::parts::{
     grace_after, stage_after, take_asked, take_called, take_kept, take_order, take_sent, time_after,
 };
 use crate::spells::take_term;
-use crate::tables::InForce;
 use init_trace::HappeningIn;
 use init_words::{Ask, Memory, Stage};
+use inittab_text::Table;
 use std::alloc::Allocator;
 use std::marker::Model;
 
-/// What the checker keeps between two happenings: all that the laws ask of the past but the table, which the trace
-/// lends.
+/// What the checker keeps between two happenings: all that the laws ask of the past but the table.
 #[derive(Drop)]
 pub(crate) struct Judge<A: Allocator> {
     pub(crate) stage: Option<Stage>,
@@ -79,7 +78,7 @@ impl<A: Allocator + Copy> Judge<A> {
     /// Takes the happening in, where `table` was in force before it.
     pub(crate) fn take<B: Allocator>(
         &mut self,
-        table: &InForce<'_, B>,
+        table: &Table<A>,
         happening: &HappeningIn<B>,
     ) -> Result<(), Memory>
         ensures { OnOk result (TakesIn table.now self.old self.new happening.now) }

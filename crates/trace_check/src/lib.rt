@@ -7,11 +7,15 @@
 mod children;
 mod flaws;
 mod judge;
+mod laws;
 mod limits;
 mod maps;
 mod parts;
 mod pass;
 mod spells;
 mod tables;
+mod trace_judges;
 
+pub use laws::Law;
 pub use pass::{Verdict, check};
+pub use trace_judges::TraceJudge;

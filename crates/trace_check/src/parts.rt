@@ -7,9 +7,10 @@ ghost use Rattle.trace_check.specs.After.{stage_after, grace_after, time_after, 
 
 use crate::children::UnreapedChild;
 use crate::maps::{ById, Ids, add_if, drop_if, forget_ids, set_if};
-use crate::tables::{InForce, starts_in};
+use crate::tables::{act, entry_at, is_changed, starts_in};
 use init_trace::{Happening, HappeningIn};
 use init_words::{Ask, Entry, Id, Mark, Memory, Stage, names};
+use inittab_text::Table;
 use respawn_limit::CLOCK_LIMIT;
 use std::alloc::Allocator;
 
@@ -87,7 +88,7 @@ pub(crate) fn take_kept<A: Allocator, B: Allocator>(
 /// The ids of which a start was asked.
 pub(crate) fn take_asked<A: Allocator + Copy, B: Allocator>(
     asked: &mut Ids<A>,
-    table: &InForce<'_, B>,
+    table: &Table<A>,
     happening: &HappeningIn<B>,
 ) -> Result<(), Memory>
     ensures { OnOk result ((id : List ℕ) → among id asked.new.keys
@@ -99,7 +100,7 @@ pub(crate) fn take_asked<A: Allocator + Copy, B: Allocator>(
             Ok(())
         }
         Happening::NewTable(next) => {
-            drop_brought(asked, table, &InForce::of(next));
+            drop_brought(asked, table, next);
             Ok(())
         }
         Happening::Asked(id, Ask::Start) => {
@@ -111,18 +112,14 @@ pub(crate) fn take_asked<A: Allocator + Copy, B: Allocator>(
 }
 
 /// The entries that a table brings begin anew.
-fn drop_brought<A: Allocator, B: Allocator>(
-    asked: &mut Ids<A>,
-    before: &InForce<'_, B>,
-    next: &InForce<'_, B>,
-)
+fn drop_brought<A: Allocator, B: Allocator>(asked: &mut Ids<A>, before: &Table<A>, next: &Table<B>)
     ensures { (id : List ℕ) → among id asked.new.keys
         ≡ (not (list_any (λ e. has_id id e && is_changed e.id next.now before.now) next.now)
         && among id asked.old.keys) }
 {
     for place in 0..next.len() {
-        let entry = next.entry(place);
-        drop_if(asked, &entry.id, next.is_changed(before, &entry.id));
+        let entry = entry_at(next, place);
+        drop_if(asked, &entry.id, is_changed(next, before, &entry.id));
     }
 }
 
@@ -147,10 +144,10 @@ fn is_called<B: Allocator>(happening: &HappeningIn<B>, stage: Option<Stage>, ent
 }
 
 /// The id's entry stays called when it is started.
-fn stays_called<B: Allocator>(table: &InForce<'_, B>, id: &Id) -> bool
+fn stays_called<B: Allocator>(table: &Table<B>, id: &Id) -> bool
     ensures { result ≡ stays_called_in table.now id.now }
 {
-    match table.act(id) {
+    match act(table, id) {
         Some(act) => act.stays_called(),
         None => false,
     }
@@ -159,7 +156,7 @@ fn stays_called<B: Allocator>(table: &InForce<'_, B>, id: &Id) -> bool
 /// The entries that are called.
 pub(crate) fn take_called<A: Allocator + Copy, B: Allocator>(
     called: &mut Ids<A>,
-    table: &InForce<'_, B>,
+    table: &Table<A>,
     stage: Option<Stage>,
     happening: &HappeningIn<B>,
 ) -> Result<(), Memory>
@@ -182,7 +179,7 @@ pub(crate) fn take_called<A: Allocator + Copy, B: Allocator>(
 
 fn add_named<A: Allocator, B: Allocator>(
     called: &mut Ids<A>,
-    table: &InForce<'_, B>,
+    table: &Table<A>,
     stage: Option<Stage>,
     happening: &HappeningIn<B>,
 ) -> Result<(), Memory>
@@ -190,7 +187,7 @@ fn add_named<A: Allocator, B: Allocator>(
         ≡ (is_named_at table.now stage happening.now id || among id called.old.keys)) }
 {
     for place in 0..table.len() {
-        let entry = table.entry(place);
+        let entry = entry_at(table, place);
         add_if(called, &entry.id, is_called(happening, stage, entry))?;
     }
     Ok(())

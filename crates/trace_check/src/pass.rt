@@ -1,10 +1,10 @@
-ghost use Rattle.std.specs.Prelude.{◌≡◌, IfOk, reverse};
+ghost use Rattle.std.specs.Prelude.{◌≡◌, IfOk, reverse, []};
 ghost use Rattle.init_trace.specs.Lawful.{first_breach};
 ghost use Rattle.trace_check.specs.Faults.{fault_of};
-ghost use Rattle.trace_check.specs.State.{opening};
+ghost use Rattle.trace_check.specs.Judging.{Judged};
 
-use crate::judge::Judge;
-use crate::tables::{InForce, table_after};
+use crate::laws::Law;
+use crate::trace_judges::TraceJudge;
 use init_trace::HappeningIn;
 use init_words::Memory;
 use std::alloc::Allocator;
@@ -14,8 +14,8 @@ use std::alloc::Allocator;
 pub enum Verdict {
     /// No happening breaks a law.
     Lawful,
-    /// The first happening that breaks one, by its place from 0, and the least of its laws, from 1 to 7.
-    Breach(usize, u8),
+    /// The first happening that breaks one, by its place from 0, and the least law that it breaks.
+    Breach(usize, Law),
 }
 
 /// The first breach of a trace, the oldest happening first, by the seven laws of init(8)'s runs: no child is born to an
@@ -28,25 +28,22 @@ pub fn check<A: Allocator + Copy, B: Allocator>(
 ) -> Result<Verdict, Memory>
     ensures { IfOk result (λ verdict. fault_of verdict ≡ first_breach (reverse trace.now)) }
 {
-    let mut judge = Judge::new(alloc);
+    let mut judge = TraceJudge::new(alloc);
     first_breach(&mut judge, trace)
 }
 
-/// The verdict of a judge that has taken nothing in.
+/// The verdict of a judge that has taken nothing.
 fn first_breach<A: Allocator + Copy, B: Allocator>(
-    judge: &mut Judge<A>,
+    judge: &mut TraceJudge<A>,
     trace: &[HappeningIn<B>],
 ) -> Result<Verdict, Memory>
-    requires { judge.old ≡ opening }
+    requires { Judged judge.old [] }
     ensures { IfOk result (λ verdict. fault_of verdict ≡ first_breach (reverse trace.now)) }
 {
-    let mut table = InForce::none();
     for (place, happening) in trace.iter().enumerate() {
-        if let Some(law) = judge.flaw(&table, happening) {
+        if let Some(law) = judge.take(happening)? {
             return Ok(Verdict::Breach(place, law));
         }
-        judge.take(&table, happening)?;
-        table = table_after(table, happening);
     }
     Ok(Verdict::Lawful)
 }

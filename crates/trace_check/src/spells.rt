@@ -5,14 +5,15 @@ ghost use Rattle.trace_check.specs.After.{spares, excludes, earliest, term_after
 
 use crate::children::{UnreapedChild, is_numbered};
 use crate::maps::{ById, Ids};
-use crate::tables::{InForce, may_live};
+use crate::tables::may_live;
 use init_trace::{Happening, HappeningIn};
 use init_words::{Id, Memory, Stage};
+use inittab_text::Table;
 use std::alloc::Allocator;
 
 /// The child of the id may live by this table and in this stage.
 fn spares<A: Allocator, B: Allocator>(
-    table: &InForce<'_, B>,
+    table: &Table<B>,
     stage: Option<Stage>,
     children: &ById<UnreapedChild, A>,
     id: &Id,
@@ -27,7 +28,7 @@ fn spares<A: Allocator, B: Allocator>(
 
 /// The child of the id is excluded: it may not live, and is stopped (init(8)).
 pub(crate) fn excludes<A: Allocator, B: Allocator>(
-    table: &InForce<'_, B>,
+    table: &Table<B>,
     stage: Option<Stage>,
     children: &ById<UnreapedChild, A>,
     id: &Id,
@@ -45,7 +46,7 @@ pub(crate) fn take_term<A: Allocator + Copy, B: Allocator>(
     termed: &mut ById<u64, A>,
     children: &ById<UnreapedChild, A>,
     sent: &Ids<A>,
-    table: &InForce<'_, B>,
+    table: &Table<A>,
     stage: Option<Stage>,
     time: u64,
     happening: &HappeningIn<B>,
@@ -72,7 +73,7 @@ pub(crate) fn take_term<A: Allocator + Copy, B: Allocator>(
             Ok(())
         }
         Happening::NewTable(next) => {
-            end_spells(termed, children, &InForce::of(next), stage);
+            end_spells(termed, children, next, stage);
             Ok(())
         }
         Happening::Enter(next, _) => {
@@ -100,7 +101,7 @@ fn note_term<A: Allocator>(termed: &mut ById<u64, A>, id: Id, time: u64) -> Resu
 fn end_spells<A: Allocator, B: Allocator>(
     termed: &mut ById<u64, A>,
     children: &ById<UnreapedChild, A>,
-    table: &InForce<'_, B>,
+    table: &Table<B>,
     stage: Option<Stage>,
 )
     ensures { (id : List ℕ) → at id termed.new.entries

@@ -9,5 +9,5 @@ use Rattle.trace_check.proofs.parts.add_named.Goals as goal
 
 pub loop-place-preserved : goal.loop-place-preserved
 loop-place-preserved g c id =
-    one_added (has_id id) (λ (e : Entry). is_named c.args.happening.now e && starts_in e c.args.stage) c.args.table.now c.loop-place.place c.entry-entry.result.now c.is_called.result
-    (among id c.loop-place.called.keys) (among id c.add_if.new.ids.keys) (among id c.args.called.now.keys) c.entry-entry.ensures c.is_called.ensures (c.in_ok-add_if.ensures id) (c.loop-place.invariant id)
+    one_added (has_id id) (λ (e : Entry). is_named c.args.happening.now e && starts_in e c.args.stage) c.args.table.now c.loop-place.place c.entry_at-entry.result.now c.is_called.result
+    (among id c.loop-place.called.keys) (among id c.add_if.new.ids.keys) (among id c.args.called.now.keys) c.entry_at-entry.ensures c.is_called.ensures (c.in_ok-add_if.ensures id) (c.loop-place.invariant id)

@@ -1,6 +1,7 @@
-use Rattle.trace_check.proofs.Passing.{Passed}
+use Rattle.std.proofs.Common.{reverse, take}
+use Rattle.trace_check.specs.Judging.{Judged}
 use Rattle.trace_check.proofs.pass.first_breach.Given as goal
 
--- the happenings so far are passed
+-- the happenings so far are judged
 abbrev pub invariant-loop-place : goal.invariant-loop-place
-invariant-loop-place g l = Passed l.judge l.table l.place l.trace
+invariant-loop-place g l = Judged l.judge (reverse (take l.place l.trace))

@@ -4,10 +4,10 @@ use Rattle.trace_check.proofs.Walks.{before_next, before_end, before_found}
 use Rattle.trace_check.proofs.judge.Judge.is_in_turn.Goals as goal
 
 pub returns-then-eq : goal.returns-then-eq
-returns-then-eq g c = before_end (is_owed_in c.args.self.now) c.args.id.now c.args.table.now c.loop-place.place c.entry-entry.result.now c.entry-entry.ensures c.loop-place.invariant (sym c.eq.ensures ∙ c.if-eq.true)
+returns-then-eq g c = before_end (is_owed_in c.args.self.now) c.args.id.now c.args.table.now c.loop-place.place c.entry_at-entry.result.now c.entry_at-entry.ensures c.loop-place.invariant (sym c.eq.ensures ∙ c.if-eq.true)
 
 pub returns-then-is_owed : goal.returns-then-is_owed
-returns-then-is_owed g c = before_found (is_owed_in c.args.self.now) c.args.id.now c.args.table.now c.loop-place.place c.entry-entry.result.now c.entry-entry.ensures c.loop-place.invariant (sym c.eq.ensures ∙ c.if-eq.false) (sym c.is_owed.ensures ∙ c.if-is_owed.true)
+returns-then-is_owed g c = before_found (is_owed_in c.args.self.now) c.args.id.now c.args.table.now c.loop-place.place c.entry_at-entry.result.now c.entry_at-entry.ensures c.loop-place.invariant (sym c.eq.ensures ∙ c.if-eq.false) (sym c.is_owed.ensures ∙ c.if-is_owed.true)
 
 pub loop-place-preserved : goal.loop-place-preserved
-loop-place-preserved g c = before_next (is_owed_in c.args.self.now) c.args.id.now c.args.table.now c.loop-place.place c.entry-entry.result.now c.entry-entry.ensures c.loop-place.invariant (sym c.eq.ensures ∙ c.if-eq.false) (sym c.is_owed.ensures ∙ c.if-is_owed.false)
+loop-place-preserved g c = before_next (is_owed_in c.args.self.now) c.args.id.now c.args.table.now c.loop-place.place c.entry_at-entry.result.now c.entry_at-entry.ensures c.loop-place.invariant (sym c.eq.ensures ∙ c.if-eq.false) (sym c.is_owed.ensures ∙ c.if-is_owed.false)

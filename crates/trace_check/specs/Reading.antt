@@ -1,20 +1,18 @@
 -- The state says what the past says, an equation a definition.
-use Rattle.std.proofs.Common.{◌≡◌, ℕ, Bool, true, false, List, [], ◌∷◌, take, cond, Option, Some, None}
+use Rattle.std.specs.Prelude.{◌≡◌, ℕ, Bool, false, List, [], ◌∷◌, take, if◌then◌else◌, find, Option, Some, None}
 use Rattle.std.specs.List.{list_any}
 use Rattle.std.specs.Option.{option_map, option_map_or}
 use Rattle.respawn_limit.specs.declared.TheConstants.{STARTS}
 use Rattle.init_words.specs.declared.orders.Ask.TheVariants.{Term}
-use Rattle.inittab_text.specs.Tables.{entry_of, is_distinct}
+use Rattle.inittab_text.specs.Tables.{entry_of}
 use Rattle.init_trace.specs.Event.{Event}
 use Rattle.init_trace.specs.Past.{table_of, stage_of, grace_of, time_of, Child, is_of, has_child, open_of, unreaped_children, kept_children}
 use Rattle.init_trace.specs.Wanted.{is_order, is_asked, is_called}
 use Rattle.init_trace.specs.Spells.{Signal, untold_hits, spell_hits}
 use Rattle.init_trace.specs.Timing.{start_times, hold_times}
-use Rattle.trace_laws.proofs.Lone.{is_lone}
 use Rattle.trace_check.specs.declared.children.UnreapedChild.{UnreapedChild}
 use Rattle.trace_check.specs.State.{JudgeState, at, among, times_at}
 use Rattle.trace_check.specs.After.{earliest}
-use Rattle.trace_check.proofs.Lone.{child_of}
 
 -- the entry of the id, if it has one, is called
 abbrev pub calls_of : List ℕ → List Event → Bool
@@ -23,6 +21,10 @@ calls_of id past = option_map_or (λ e. is_called e past) (entry_of id (table_of
 -- a TERM of the id was sent and is not told
 abbrev pub has_sent : List ℕ → List Event → Bool
 has_sent id past = list_any (is_order Term) (untold_hits id past)
+
+-- the youngest unreaped child of an id
+abbrev pub child_of : List ℕ → List Event → Option Child
+child_of id past = find (is_of id) (unreaped_children past)
 
 -- the first of a list
 abbrev pub newest : List ℕ → Option ℕ
@@ -36,13 +38,15 @@ living_of child = record { number = child.number; act = child.act }
 -- the least time of a TERM among the signals
 abbrev pub least_term : List Signal → Option ℕ
 least_term [] = None
-least_term (signal ∷ signals) = cond (is_order Term signal.order) (Some (earliest signal.time (least_term signals))) (least_term signals)
+least_term (signal ∷ signals) =
+    if is_order Term signal.order then Some (earliest signal.time (least_term signals)) else least_term signals
 
 -- the least time of a TERM in the spell of the child, where there is one
 abbrev pub term_of : List Event → Option Child → Option ℕ
 term_of past None = None
 term_of past (Some child) = least_term (spell_hits child past)
 
+-- the state recalls the past
 pub record Reads (s : JudgeState) (past : List Event) : Type 0 where
   pub stage : s.stage ≡ stage_of past
   pub grace : s.grace ≡ grace_of past
@@ -56,5 +60,3 @@ pub record Reads (s : JudgeState) (past : List Event) : Type 0 where
   pub holds : (id : List ℕ) → at id s.holds ≡ newest (hold_times id past)
   pub children : (id : List ℕ) → at id s.children ≡ option_map living_of (child_of id past)
   pub termed : (id : List ℕ) → at id s.termed ≡ term_of past (child_of id past)
-  pub lone : (id : List ℕ) → is_lone (is_of id) (unreaped_children past) ≡ true
-  pub distinct : is_distinct (table_of past) ≡ true

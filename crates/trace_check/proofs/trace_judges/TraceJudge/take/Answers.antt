@@ -1,0 +1,21 @@
+use Rattle.std.proofs.Common.{sym, ◌∙◌, subst}
+use Rattle.trace_check.specs.Flaws.{flaw_in}
+use Rattle.trace_check.specs.Judging.{Judging, Judged}
+use Rattle.trace_check.proofs.Passing.{flaw_is, judged_more}
+use Rattle.trace_check.proofs.trace_judges.TraceJudge.take.Goals as goal
+
+pub returns-in-Some-clause-law : goal.returns-in-Some-clause-law
+returns-in-Some-clause-law g c = λ past judged.
+    let old : Judging = record { table = c.self.inside.table; state = c.self.inside.judge } in
+    ◌∙◌ {b = flaw_in old.table old.state c.args.happening.now} c.in-Some.ensures (flaw_is c.args.happening.now past old c.len-len.ensures.distinct (subst (λ j. Judged j past) (sym c.self.view_is) judged))
+
+pub returns-clause-law : goal.returns-clause-law
+returns-clause-law g c = λ past judged.
+    let old : Judging = record { table = c.self.inside.table; state = c.self.inside.judge } in
+    ◌∙◌ {b = flaw_in old.table old.state c.args.happening.now} c.in_default.ensures (flaw_is c.args.happening.now past old c.len-len.ensures.distinct (subst (λ j. Judged j past) (sym c.self.view_is) judged))
+
+pub returns-clause-next : goal.returns-clause-next
+returns-clause-next g c = λ past judged.
+    let old : Judging = record { table = c.self.inside.table; state = c.self.inside.judge } in
+    let new : Judging = record { table = c.take_table.new.table; state = c.take.new.self } in
+    judged_more c.args.happening.now old new c.len-len.ensures.distinct (sym c.in_default.ensures) c.in_ok-take.ensures c.in_ok-take_table.ensures past (subst (λ j. Judged j past) (sym c.self.view_is) judged)

@@ -1,0 +1,66 @@
+ghost use Rattle.std.specs.Prelude.{◌≡◌, List, option_map, IfOk};
+ghost use Rattle.init_trace.specs.Event.{Event};
+ghost use Rattle.init_trace.specs.Lawful.{broken};
+ghost use Rattle.trace_check.specs.Laws.{law_number};
+ghost use Rattle.trace_check.specs.Judging.{unjudged, Judged, TakesNext};
+
+use crate::judge::Judge;
+use crate::laws::Law;
+use crate::tables::take_table;
+use init_trace::HappeningIn;
+use init_words::Memory;
+use inittab_text::Table;
+use std::alloc::{Allocator, Global};
+use std::marker::Model;
+
+/// A judge of a trace that comes one happening after another, the oldest first. It keeps what the laws ask of the
+/// past, by the ids of the table and of the living children, and never the past itself.
+///
+/// A contract sees of it which pasts it has judged (`Judged`).
+#[derive(Drop)]
+pub struct TraceJudge<A: Allocator = Global> {
+    alloc: A,
+    table: Table<A>,
+    judge: Judge<A>,
+}
+
+impl<A: Allocator> Model for TraceJudge<A> {
+    ghost use Rattle.trace_check.specs.Judging.{Judging};
+
+    ghost Value = { Judging };
+
+    ghost view = { λ j. record { table = j.table; state = j.judge } };
+}
+
+impl<A: Allocator + Copy> TraceJudge<A> {
+    ghost use Rattle.std.specs.Prelude.{[]};
+
+    /// A judge that has taken nothing. It takes no memory.
+    pub fn new(alloc: A) -> TraceJudge<A>
+        ensures value { result ≡ unjudged }
+        ensures judged { Judged result [] }
+    {
+        TraceJudge {
+            alloc,
+            table: Table::new(alloc),
+            judge: Judge::new(alloc),
+        }
+    }
+
+    /// Takes the next happening, and gives the least law that it breaks. One that breaks a law isn't taken: the judge
+    /// stays as it was. Where memory runs out a part of the happening may be taken, and the judge is of no more use.
+    pub fn take<B: Allocator>(&mut self, happening: &HappeningIn<B>) -> Result<Option<Law>, Memory>
+        ensures law { IfOk result (λ law. (past : List Event) → Judged self.old past
+            → option_map law_number law ≡ broken happening.now past) }
+        ensures next { IfOk result (λ law. TakesNext law self.old self.new happening.now) }
+    {
+        // It says that no id stands twice.
+        let _len = self.table.len();
+        if let Some(law) = self.judge.flaw(&self.table, happening) {
+            return Ok(Some(law));
+        }
+        self.judge.take(&self.table, happening)?;
+        take_table(&mut self.table, self.alloc, happening)?;
+        Ok(None)
+    }
+}
