@@ -7,13 +7,14 @@ use Rattle.init_trace.specs.Event.{Event}
 use Rattle.trace_log.specs.Logs.{LogState}
 use Rattle.child_host.specs.Calls.{HostCall}
 use Rattle.host_trace.specs.Leads.{Took, Takes}
+use Rattle.host_trace.specs.Point.{point_after}
 use Rattle.child_host.specs.Record.{Since}
 use Rattle.run_notes.specs.declared.LastEnd.TheVariants.{Unnoted}
 use Rattle.run_notes.specs.Ends.{last_end}
 use Rattle.run_notes.specs.Notes.{Notes, are_noted, end_in, last_noted, last_of, notes_state, told_of}
 use Rattle.run_notes.proofs.Noted.{births_noted, last_by_told, told_noted}
 use Rattle.supervisor.specs.declared.serving.Served.{Served}
-use Rattle.supervisor.specs.Opening.{Opens}
+use Rattle.supervisor.specs.Opening.{Opens, opening_point}
 use Rattle.initd_options.specs.Options.{RunSaid}
 use Rattle.initd_command.specs.Turned.{ReportsEnd, end_status}
 use Rattle.initd_command.specs.Services.{IsNoted, IsServed, TurnsFrom, TurnsOver, end_of, noted_of}
@@ -48,15 +49,20 @@ not_so : (b : Bool) → not b ≡ true → b ≡ false
 not_so true h = sym h
 not_so false h = refl
 
-pub turns_over : {L : Type 0} (notes : Notes L) (inner old : LogState) (service : RunSaid) (level : Option Level) (table : List Entry) (served : Served) (status : ℕ)
-    (told now_told : Option (List HostCall)) (err now_err : Option (List ℕ)) → old.taken ≡ Some [] → served.logged ≡ not inner.failed → IsServed service served
-    → status ≡ end_status (end_of service (noted_of notes) served) → ReportsEnd (end_of service (noted_of notes) served) err now_err
+-- and the log was ended behind it: what was noted stays, and it took the trace whole only where it had before
+pub turns_over : {L : Type 0} (notes now : Notes L) (inner old : LogState) (service : RunSaid) (level : Option Level) (table : List Entry) (served ended : Served) (status : ℕ)
+    (told now_told : Option (List HostCall)) (err now_err : Option (List ℕ)) → now ≡ record notes { log = now.log } → ended ≡ record served { logged = ended.logged } → (ended.logged ≡ true → served.logged ≡ true)
+    → old.taken ≡ Some [] → served.logged ≡ not inner.failed → IsServed service served
+    → status ≡ end_status (end_of service (noted_of now) ended) → ReportsEnd (end_of service (noted_of now) ended) err now_err
     → Opens told now_told old (notes_state notes inner) level table service.drain served.turns served.drained
     → Since told now_told (λ calls. TurnsFrom level table calls (TurnsOver service status err now_err))
-turns_over notes inner old service level table served status told now_told err now_err none logged limits is reports (calls, are_told, (turns, leads)) = (
+turns_over notes now inner old service level table served ended status told now_told err now_err kept goes whole none logged limits is reports (calls, are_told, (turns, leads)) = (
   calls,
   are_told,
   λ allowed carried.
       let went = (leads allowed).1 carried in
-      (served, noted_of notes, is, limits, (λ whole. noted_of_trace notes inner.taken _ (taken_all old (notes_state notes inner) _ went.log none (not_so inner.failed (sym logged ∙ whole)))), reports),
+      let past = (point_after calls (opening_point table)).past in
+      let noted : noted_of now ≡ noted_of notes = ap noted_of kept in
+      (ended, noted_of now, is, subst (IsServed service) (sym goes) limits,
+      (λ all. subst (λ n. IsNoted n past) (sym noted) (noted_of_trace notes inner.taken past (taken_all old (notes_state notes inner) past went.log none (not_so inner.failed (sym logged ∙ whole all))))), reports),
 )

@@ -62,7 +62,7 @@ fn check_trace<W: Write, E: Write>(
 {
     match trace_check::check(alloc, trace) {
         Ok(Verdict::Lawful) => tell_lawful(out, err),
-        Ok(Verdict::Breach(place, law)) => tell_breach(alloc, trace, place, law, out, err),
+        Ok(Verdict::Breach(place, law)) => tell_breach(alloc, trace, place, law.number(), out, err),
         Err(Memory) => report_memory(err),
     }
 }

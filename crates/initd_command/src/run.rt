@@ -1,6 +1,6 @@
-ghost use Rattle.std.specs.Prelude.{◌≡◌, ◌∷◌, ℕ, List, Option, None, Some, [], option_map, unwrap_or, IfErr, IfOk};
+ghost use Rattle.std.specs.Prelude.{◌≡◌, ◌∷◌, not, true, ℕ, List, Option, None, Some, [], option_map, unwrap_or, IfErr, IfOk};
 ghost use Rattle.init_words.specs.Parts.{NamedText, texts_of};
-ghost use Rattle.inittab_text.specs.Parts.{faults_of_parts, table_of_texts};
+ghost use Rattle.inittab_text.specs.Parts.{are_readable, faults_of_parts, table_of_texts};
 ghost use Rattle.initd_command.specs.Endings.{Ending, Reports, ReportsUnled, status_of};
 ghost use Rattle.init_words.specs.declared.entries.Entry.{Entry};
 ghost use Rattle.init_words.specs.declared.levels.Level.{Level};
@@ -11,7 +11,8 @@ ghost use Rattle.initd_options.specs.Options.{run_of};
 ghost use Rattle.initd_command.specs.Services.{AreFiles, EndsRun, EndsTold, FailsBy, FailsOn, FailsOver, FailsToGet, FailsToLock, FailsToRead, HasInittab, IsOfFault, IsReadOf, Turns, TurnsFrom, TurnsOver, is_unled};
 
 use crate::ends::report_end;
-use crate::logs::{LoudLog, NoLog, TraceFile};
+use crate::logs::{FileLog, LoudLog, NoLog};
+use brief_log::BriefLog;
 use crate::reports::{
     report, report_busy, report_fault, report_memory, report_too_many, report_uncreated,
     report_unlocked, report_unread, tell,
@@ -32,8 +33,8 @@ use std::io;
 use std::io::Write;
 use std::process::Processes;
 use std::rt::{Clock, Files};
-use supervisor::Opening;
-use trace_log::{Log, StreamLog};
+use supervisor::{Opening, Served};
+use trace_log::Log;
 
 /// What is reported where the faults of inittab's lines could not be written.
 const UNTOLD: &str = "initd: the faults of the inittab could not be written\n";
@@ -249,6 +250,7 @@ fn files_of<R: Files + Eprint, T: Texts>(
 
 /// The table of the files of an inittab, and the lines that tell their faults.
 fn inittab_of(alloc: Global, parts: &[Part]) -> Result<Inittab, RunFault>
+    ensures readable { IfOk result (λ _. are_readable (texts_of parts.now) ≡ true) }
     ensures ok { IfOk result (IsReadOf parts.now) }
     ensures err { IfErr result (FailsOn parts.now) }
 {
@@ -385,8 +387,12 @@ where
     let Some(file) = trace else {
         return make_turns(alloc, said, opening, &mut host, NoLog {}, err);
     };
-    let log = StreamLog::new(alloc, TraceFile { file });
-    make_turns(alloc, said, opening, &mut host, LoudLog { rt, log }, err)
+    let log = FileLog::new(rt, alloc, trace_of(said), file);
+    let log = LoudLog { rt, log };
+    if said.brief {
+        return make_turns(alloc, said, opening, &mut host, BriefLog::new(log), err);
+    }
+    make_turns(alloc, said, opening, &mut host, log, err)
 }
 
 /// Reports that nothing names a level, where that is so.
@@ -418,5 +424,17 @@ where
 {
     let mut notes = RunNotes::new(alloc, log);
     let served = opening.serve(alloc, host, &mut notes, said.turns, said.drain);
+    let served = end_log(&mut notes, served);
     report_end(alloc, said, &served, &notes, err)
+}
+
+/// Ends the log of turns that were made. Where it can't hand on what it holds back, the trace isn't whole.
+fn end_log<L: Log>(notes: &mut RunNotes<L>, served: Served) -> Served
+    requires { served.logged ≡ not (L.state notes.old.log).failed }
+    ensures notes { notes.new ≡ record notes.old { log = notes.new.log } }
+    ensures turns { result ≡ record served { logged = result.logged } }
+    ensures logged { result.logged ≡ true → served.logged ≡ true }
+{
+    let logged = served.logged && notes.end().is_ok();
+    Served { logged, ..served }
 }

@@ -1,6 +1,6 @@
--- The command line `initd run [--inittab P] [--inittab-dir DIR] [--initctl P] [--fresh] [--state P] [--trace P]
--- [--level L] [--turns N | --forever] [--drain] [--pause SEC] [--result ID] [--verbose] [--logs DIR]`, by clap's own
--- words, and what it says.
+-- The command line `initd run [--inittab P] [--inittab-dir DIR] [--initctl P] [--fresh] [--state P] [--trace P
+-- [--brief]] [--level L] [--turns N | --forever] [--drain] [--pause SEC] [--result ID] [--verbose] [--logs DIR]`, by
+-- clap's own words, and what it says.
 use Rattle.std.specs.Prelude.{ℕ, Bool, true, false, ◌+◌, ◌-◌, ◌*◌, ◌&&◌, if◌then◌else◌, nat_lt, nat_le, List, [], ◌∷◌, codes, Option, Some, None, option_and_then, option_map, string_bytes}
 use Rattle.std.specs.Char.{is_ascii_digit}
 use Rattle.clap.specs.Words.{App, Row, Text, first_of, new_app}
@@ -29,6 +29,7 @@ run_line = with_rules (new_app (codes "run")) (
     ∷ switch_rule (codes "verbose")
     ∷ value_rule (codes "logs")
     ∷ value_rule (codes "inittab-dir")
+    ∷ switch_rule (codes "brief")
     ∷ [])
 
 -- a number of turns: 1 to the limit
@@ -89,9 +90,17 @@ result_in (Some word) = option_map Some (id_read word)
 abbrev pub result_said : List Row → Option (Option (List ℕ))
 result_said rows = result_in (first_of (codes "result") rows)
 
+-- whether the trace is brief, which is said of a trace alone
+abbrev pub brief_in : Bool → Option Text → Option Bool
+brief_in true None = None
+brief_in brief trace = Some brief
+
+abbrev pub brief_said : List Row → Option Bool
+brief_said rows = brief_in (is_set (codes "brief") rows) (first_of (codes "trace") rows)
+
 -- The paths of the inittab, of the folder of its further files, if it is given, of the channel of requests and of the
--- text of init's state; whether the requests that the channel has already are left out; the path of the trace and the
--- level to go to, if they are given; the greatest number of turns; whether the run ends where it is drained; the seconds
+-- text of init's state; whether the requests that the channel has already are left out; the path of the trace, if
+-- it is given, and whether it is brief; the level to go to, if it is given; the greatest number of turns; whether the run ends where it is drained; the seconds
 -- of a pause; the entry whose last status is the run's, if one is given; whether each start and end is told; and the
 -- folder of the children's output, if it is given.
 pub record RunSaid : Type 0 where
@@ -101,6 +110,7 @@ pub record RunSaid : Type 0 where
   pub fresh : Bool
   pub state : Text
   pub trace : Option Text
+  pub brief : Bool
   pub level : Option Level
   pub turns : ℕ
   pub drain : Bool
@@ -117,6 +127,7 @@ run_of said = record {
   fresh = said.fresh;
   state = string_bytes said.state;
   trace = option_map (λ (path : _). string_bytes path) said.trace;
+  brief = said.brief;
   level = said.level;
   turns = said.turns;
   drain = said.drain;
@@ -127,14 +138,15 @@ run_of said = record {
 }
 
 -- what the words say, with these values of the options that may be refused
-abbrev pub service_with : List Row → Option Level → ℕ → Text → Option (List ℕ) → RunSaid
-service_with rows level turns pause result = record {
+abbrev pub service_with : List Row → Option Level → ℕ → Text → Option (List ℕ) → Bool → RunSaid
+service_with rows level turns pause result brief = record {
   inittab = value_said (codes "inittab") rows;
   inittab_dir = first_of (codes "inittab-dir") rows;
   initctl = value_said (codes "initctl") rows;
   fresh = is_set (codes "fresh") rows;
   state = value_said (codes "state") rows;
   trace = first_of (codes "trace") rows;
+  brief = brief;
   level = level;
   turns = turns;
   drain = is_set (codes "drain") rows;
@@ -144,13 +156,16 @@ service_with rows level turns pause result = record {
   logs = first_of (codes "logs") rows;
 }
 
--- what the words after `run` say; nothing where the level, the turns, the pause or the entry are none
+-- what the words after `run` say; nothing where the level, the turns, the pause or the entry are none, or a brief trace
+-- is none
 abbrev pub run_said : List Row → Option RunSaid
 run_said rows =
     option_and_then
     (λ level. option_and_then
     (λ turns. option_and_then
-    (λ pause. option_map (λ result. service_with rows level turns pause result) (result_said rows))
+    (λ pause. option_and_then
+    (λ result. option_map (λ brief. service_with rows level turns pause result brief) (brief_said rows))
+    (result_said rows))
     (pause_said rows))
     (turns_said rows))
     (level_said rows)

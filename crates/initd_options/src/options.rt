@@ -2,7 +2,7 @@ ghost use Rattle.std.specs.Prelude.{◌≡◌, ◌<◌, codes, option_map, strin
 ghost use Rattle.clap.specs.Words.{first_of, found_of, rows_of};
 ghost use Rattle.command_words.specs.CommandLines.{IsLine};
 ghost use Rattle.command_words.specs.Faults.{reason_of};
-ghost use Rattle.initd_options.specs.Options.{digit_read, hundredths_read, is_pause, part_read, pause_said, result_said, run_line, run_of, run_said, turns_read, turns_said};
+ghost use Rattle.initd_options.specs.Options.{brief_said, digit_read, hundredths_read, is_pause, part_read, pause_said, result_said, run_line, run_of, run_said, turns_read, turns_said};
 ghost use Rattle.initd_options.specs.Values.{is_set};
 
 use crate::values::{is_set, read_level_option, refused, word_of};
@@ -27,6 +27,8 @@ pub struct RunWords {
     pub state: String,
     /// The path of the trace, where one is to be written.
     pub trace: Option<String>,
+    /// The trace is brief: rounds in which nothing happened are left out of it.
+    pub brief: bool,
     /// The runlevel to go to, where one is given.
     pub level: Option<Level>,
     /// The greatest number of turns; without a limit it is `u64::MAX`.
@@ -76,7 +78,8 @@ pub(crate) fn run_line<'a>(alloc: Global) -> Result<Command<'a>, AllocError>
     let line = with_value(alloc, line, "result")?;
     let line = with_switch(alloc, line, "verbose")?;
     let line = with_value(alloc, line, "logs")?;
-    with_value(alloc, line, "inittab-dir")
+    let line = with_value(alloc, line, "inittab-dir")?;
+    with_switch(alloc, line, "brief")
 }
 
 /// What the words after `run` say.
@@ -90,6 +93,7 @@ pub(crate) fn read_run(alloc: Global, matches: &ArgMatches) -> Result<RunWords, 
     let turns = read_turns_option(alloc, matches)?;
     let pause = read_pause(alloc, matches)?;
     let result = read_result(alloc, matches)?;
+    let brief = read_brief(alloc, matches)?;
     Ok(RunWords {
         inittab: String::from_str(alloc, value_of(matches, "inittab"))?,
         inittab_dir: read_path(alloc, matches, "inittab-dir")?,
@@ -97,6 +101,7 @@ pub(crate) fn read_run(alloc: Global, matches: &ArgMatches) -> Result<RunWords, 
         fresh: is_set(matches, "fresh"),
         state: String::from_str(alloc, value_of(matches, "state"))?,
         trace: read_path(alloc, matches, "trace")?,
+        brief,
         level,
         turns,
         drain: is_set(matches, "drain"),
@@ -201,6 +206,21 @@ fn read_digit(byte: u8) -> Option<u64>
     } else {
         None
     }
+}
+
+/// The trace is brief, where one is to be written.
+fn read_brief(alloc: Global, matches: &ArgMatches) -> Result<bool, WordFault>
+    ensures ok { IfOk result (λ brief.
+        brief_said (rows_of (found_of matches.now)) ≡ Some brief) }
+    ensures usage { IfErr result (λ fault. IsSome (reason_of fault)
+        → brief_said (rows_of (found_of matches.now)) ≡ None) }
+{
+    let brief = is_set(matches, "brief");
+    if brief && word_of(matches, "trace").is_none() {
+        let reason = String::from_str(alloc, "--brief: not without --trace")?;
+        return Err(WordFault::Usage(reason));
+    }
+    Ok(brief)
 }
 
 /// The entry whose last status is the run's, where one is given.

@@ -36,11 +36,11 @@ returns-in-Inittab g c =
 
 pub returns-in-Folder : goal.returns-in-Folder
 returns-in-Folder g c =
-    let path = c.as_str.result.now in
-    let (reason, reported) = c.report_unread.ensures.reported in (
+    let path = c.as_str-in-Folder.result.now in
+    let (reason, reported) = c.report_unread-in-Folder.ensures.reported in (
       unread path reason,
-      c.report_unread.ensures.status,
-      of_folder (run_of c.args.said.now) c.args.fault.now c.in-Folder.path c.in-Folder.error path reason c.in-Folder.is c.as_str.ensures.value,
+      c.report_unread-in-Folder.ensures.status,
+      of_folder (run_of c.args.said.now) c.args.fault.now c.in-Folder.path c.in-Folder.error path reason c.in-Folder.is c.as_str-in-Folder.ensures.value,
       reported,
     )
 

@@ -2,7 +2,7 @@ use Rattle.std.proofs.Common.{rules, ◌≡◌, refl, sym, ◌∙◌, ap, ◌∷
 use Rattle.std.proofs.lemmas.Bool.{false≢true}
 use Rattle.init_words.specs.Parts.{texts_of}
 use Rattle.inittab_text.specs.Parts.{table_of_texts}
-use Rattle.inittab_text.proofs.PartLemmas.{readable}
+use Rattle.inittab_text.proofs.PartLemmas.{read_from}
 use Rattle.init_trace.specs.declared.happenings.Happening.TheVariants.{NewTable}
 use Rattle.init_trace.specs.Event.{Event}
 use Rattle.child_table.specs.Lists.{is_quiet}
@@ -26,12 +26,9 @@ returns-clause-lasts g c taken =
     let works : is_err c.adopt.result ≡ false = search rules in
     adopt_lasts c.args.core.now c.adopt.new.self c.in-Ok.table (was_ok c.adopt.result _ works c.adopt.ensures.adopted)
 
-none_of : {X E : Type 0} (P : Type 0) (x : X) (why : E) → (P → Ok x ≡ Err why) → P → ⊥
-none_of P x why fails h = let no = fails h in cc
-
 pub returns-clause-readable : goal.returns-clause-readable
 returns-clause-readable g c taken =
-    readable (texts_of c.args.parts.now) (none_of _ _ _ c.in-Ok.ensures.parts.1) (none_of _ _ _ c.in-Ok.ensures.too_long.1)
+    read_from _ (texts_of c.args.parts.now) c.in-Ok.ensures.parts c.in-Ok.ensures.too_long
 
 was_quiet : {E : Type 0} (quiet : Bool) (result : Result (Unit {0}) E) (why : E) → (quiet ≡ false → result ≡ Err why) → is_err result ≡ false → quiet ≡ true
 was_quiet true result why busy works = refl
