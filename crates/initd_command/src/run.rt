@@ -8,7 +8,7 @@ ghost use Rattle.host_trace.specs.Record.{Since};
 ghost use Rattle.supervisor.specs.Opening.{IsOpeningOf};
 ghost use Rattle.os_host.specs.LineFaults.{faults_text};
 ghost use Rattle.initd_options.specs.Options.{run_of};
-ghost use Rattle.initd_command.specs.Services.{AreFiles, EndsRun, EndsTold, FailsBy, FailsOn, FailsOver, FailsToGet, FailsToLock, FailsToRead, HasInittab, IsOfFault, IsReadOf, Turns, TurnsFrom, TurnsOver, is_unled};
+ghost use Rattle.initd_command.specs.Services.{AreFiles, EndsRun, EndsTold, FailsBy, FailsOn, FailsOver, FailsToGet, FailsToLock, FailsToRead, HasInittab, IsInittab, IsOfFault, IsReadOf, Turns, TurnsFrom, TurnsOver, is_unled};
 
 use crate::ends::report_end;
 use crate::logs::{LoudLog, NoLog, TraceFile};
@@ -269,8 +269,7 @@ fn read_inittab<R: Files + Eprint, T: Texts>(
     alloc: Global,
     said: &RunWords,
 ) -> Result<Inittab, RunFault>
-    ensures ok { IfOk result (λ read. HasInittab (T.text_at texts.now) (run_of said.now)
-        (λ parts. IsReadOf parts read)) }
+    ensures ok { IfOk result (IsInittab (T.text_at texts.now) (run_of said.now)) }
     ensures err { IfErr result (FailsToRead (T.text_at texts.now) (run_of said.now)) }
 {
     let parts = files_of(rt, texts, alloc, said)?;

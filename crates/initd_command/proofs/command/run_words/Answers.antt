@@ -2,7 +2,7 @@ use Rattle.std.proofs.Common.{◌≡◌, rules, List, ℕ, Option, Some, None, m
 use Rattle.std.proofs.KnownBytes.{Keeps-refl}
 use Rattle.path_texts.specs.Known.{KnownTexts}
 use Rattle.initd_options.specs.CommandLine.{Said, judges, read_of, simulation_of, simulates, runs, version}
-use Rattle.initd_command.specs.Endings.{Ending, busy, done, lawful, no_memory, stopped, torn, turned, uncreated, unflushed, unlawful, unlocked, unread, untold, unversioned, unwritten, usage}
+use Rattle.initd_command.specs.Endings.{Ending, busy, done, lawful, no_memory, stopped, too_many, torn, turned, uncreated, unflushed, unlawful, unlocked, unread, untold, unversioned, unwritten, usage}
 use Rattle.initd_options.specs.Options.{run_of}
 use Rattle.init_trace.specs.Event.{Event}
 use Rattle.init_trace.specs.Lawful.{Fault, first_breach}
@@ -24,10 +24,11 @@ ends_by text_at words (simulates run) is (usage reason) old new ends = absurd en
 ends_by text_at words (judges path) is (usage reason) old new ends = absurd (no_usage ends.2.0 (first_breach (reverse ends.2.0)) reason old new ends.2.3)
 ends_by text_at words (runs service) is (usage reason) old new ends = let wrong = ends.2.1.1 in absurd (cc)
 ends_by text_at words version is no_memory old new ends = absurd ends
-ends_by text_at words (runs service) is no_memory old new ends = ends.2.1
+ends_by text_at words (runs service) is no_memory old new ends = ends
 ends_by text_at words (simulates run) is no_memory old new ends = absurd ends.4
 ends_by text_at words (judges path) is no_memory old new ends = ends.2
 ends_by text_at words said is (unread path why) old new ends = (said, is, ends)
+ends_by text_at words said is too_many old new ends = (said, is, ends)
 ends_by text_at words said is (stopped script f) old new ends = (said, is, ends)
 ends_by text_at words said is unflushed old new ends = (said, is, ends)
 ends_by text_at words said is lawful old new ends = (said, is, ends)
