@@ -114,11 +114,6 @@ pub of_inittab : (service : RunSaid) (fault : RunFault) (error : Error) (path re
 of_inittab service fault error path reason is at =
     subst (λ f. IsOfFault service f (unread path reason)) (sym is) (reason, ap (λ p. unread p reason) at)
 
-pub of_folder : (service : RunSaid) (fault : RunFault) (named : String) (error : Error) (path reason : List ℕ) → fault ≡ why.Folder named error → path ≡ string_bytes named
-    → IsOfFault service fault (unread path reason)
-of_folder service fault named error path reason is at =
-    subst (λ f. IsOfFault service f (unread path reason)) (sym is) (reason, ap (λ p. unread p reason) at)
-
 pub of_many : (service : RunSaid) (given : RunFault) → given ≡ why.TooMany → IsOfFault service given too_many
 of_many service given is = subst (λ f. IsOfFault service f too_many) (sym is) refl
 

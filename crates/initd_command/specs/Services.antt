@@ -130,16 +130,21 @@ EndsRun text_at service no_memory old new = Keeps old new
 EndsRun text_at service ending old new =
     (parts : List NamedText) × AreFiles text_at service parts × EndsOver service parts ending old new
 
--- the files are neither too many nor too long, and so
+-- so of the files, which are neither too many nor too long
 abbrev pub HasInittab : KnownTexts → RunSaid → (List NamedText → Type 0) → Type 0
 HasInittab text_at service So =
     (parts : List NamedText) × AreFiles text_at service parts × (are_readable (texts_of parts) ≡ true) × So parts
 
--- the table of the files, and the lines that tell their faults
+-- the table of the files, which are neither too many nor too long, and the lines that tell their faults
 abbrev pub IsReadOf : List NamedText → Inittab → Type 0
 IsReadOf parts read =
-    (read.faults.items ≡ faults_text parts (faults_of_parts (texts_of parts)))
+    (are_readable (texts_of parts) ≡ true)
+    × (read.faults.items ≡ faults_text parts (faults_of_parts (texts_of parts)))
     × (read.table ≡ table_of_texts (texts_of parts))
+
+-- the files are there, and this was read of them
+abbrev pub IsInittab : KnownTexts → RunSaid → Inittab → Type 0
+IsInittab text_at service read = (parts : List NamedText) × AreFiles text_at service parts × IsReadOf parts read
 
 -- Why a run ended before its first turn, and what is so then.
 abbrev pub FailsToLock : RunFault → Type 0

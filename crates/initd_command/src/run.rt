@@ -1,6 +1,6 @@
 ghost use Rattle.std.specs.Prelude.{◌≡◌, ◌∷◌, not, true, ℕ, List, Option, None, Some, [], option_map, unwrap_or, IfErr, IfOk};
 ghost use Rattle.init_words.specs.Parts.{NamedText, texts_of};
-ghost use Rattle.inittab_text.specs.Parts.{are_readable, faults_of_parts, table_of_texts};
+ghost use Rattle.inittab_text.specs.Parts.{faults_of_parts, table_of_texts};
 ghost use Rattle.initd_command.specs.Endings.{Ending, Reports, ReportsUnled, status_of};
 ghost use Rattle.init_words.specs.declared.entries.Entry.{Entry};
 ghost use Rattle.init_words.specs.declared.levels.Level.{Level};
@@ -8,7 +8,7 @@ ghost use Rattle.child_host.specs.Record.{Since};
 ghost use Rattle.supervisor.specs.Opening.{IsOpeningOf};
 ghost use Rattle.os_host.specs.LineFaults.{faults_text};
 ghost use Rattle.initd_options.specs.Options.{run_of};
-ghost use Rattle.initd_command.specs.Services.{AreFiles, EndsRun, EndsTold, FailsBy, FailsOn, FailsOver, FailsToGet, FailsToLock, FailsToRead, HasInittab, IsOfFault, IsReadOf, Turns, TurnsFrom, TurnsOver, is_unled};
+ghost use Rattle.initd_command.specs.Services.{AreFiles, EndsRun, EndsTold, FailsBy, FailsOn, FailsOver, FailsToGet, FailsToLock, FailsToRead, HasInittab, IsInittab, IsOfFault, IsReadOf, Turns, TurnsFrom, TurnsOver, is_unled};
 
 use crate::ends::report_end;
 use crate::logs::{FileLog, LoudLog, NoLog};
@@ -250,7 +250,6 @@ fn files_of<R: Files + Eprint, T: Texts>(
 
 /// The table of the files of an inittab, and the lines that tell their faults.
 fn inittab_of(alloc: Global, parts: &[Part]) -> Result<Inittab, RunFault>
-    ensures readable { IfOk result (λ _. are_readable (texts_of parts.now) ≡ true) }
     ensures ok { IfOk result (IsReadOf parts.now) }
     ensures err { IfErr result (FailsOn parts.now) }
 {
@@ -271,8 +270,7 @@ fn read_inittab<R: Files + Eprint, T: Texts>(
     alloc: Global,
     said: &RunWords,
 ) -> Result<Inittab, RunFault>
-    ensures ok { IfOk result (λ read. HasInittab (T.text_at texts.now) (run_of said.now)
-        (λ parts. IsReadOf parts read)) }
+    ensures ok { IfOk result (IsInittab (T.text_at texts.now) (run_of said.now)) }
     ensures err { IfErr result (FailsToRead (T.text_at texts.now) (run_of said.now)) }
 {
     let parts = files_of(rt, texts, alloc, said)?;

@@ -1,8 +1,8 @@
 //! Growths are refused in turn, on heaps of more and more room, until a call meets no refusal: what is answered is lack
 //! of memory, and a table that was there is as it was.
 
-use init_words::Memory;
-use inittab_text::{Table, TableFault};
+use init_words::{Memory, Part};
+use inittab_text::{Table, TableFault, read_parts};
 use linked_list_allocator::LocalHeap;
 use std::alloc::Global;
 use std::process::Abort;
@@ -12,6 +12,7 @@ use std::test::Fail;
 #[derive(Clone, Copy)]
 enum Call {
     Read,
+    ReadParts,
     Write,
     ReadWritten,
     Copy,
@@ -26,11 +27,37 @@ const WRITTEN: &[u8] = b"id:3:initdefault:\na:3:respawn:/bin/x 1\n";
 /// some heap.
 const STEP: usize = 16;
 
-const CALLS: &[Call] = &[Call::Read, Call::Write, Call::ReadWritten, Call::Copy];
+const CALLS: &[Call] = &[
+    Call::Read,
+    Call::ReadParts,
+    Call::Write,
+    Call::ReadWritten,
+    Call::Copy,
+];
 
 /// The table has these entries.
 fn is_table<A: std::alloc::Allocator>(alloc: Global, table: &Table<A>) -> Result<bool, Memory> {
     Ok(inittab_text::write(alloc, table)?.as_slice() == WRITTEN)
+}
+
+/// The text, cut in two parts.
+fn two_parts(alloc: Global) -> Result<[Part; 2], Memory> {
+    Ok([part_of(alloc, &TEXT[..26])?, part_of(alloc, &TEXT[26..])?])
+}
+
+fn part_of(alloc: Global, text: &[u8]) -> Result<Part, Memory> {
+    Ok(Part {
+        name: String::new(alloc),
+        bytes: Vec::from_slice(alloc, text)?,
+    })
+}
+
+fn parts_answer(alloc: Global, heap: &LocalHeap) -> Result<Option<bool>, Memory> {
+    match read_parts(heap, &two_parts(alloc)?) {
+        Ok((read, faults)) => Ok(Some(faults.len() == 2 && is_table(alloc, &read)?)),
+        Err(TableFault::Memory) => Ok(None),
+        Err(TableFault::TooLong | TableFault::Parts) => Ok(Some(false)),
+    }
 }
 
 /// The call's answer on a heap is right; where it is a refusal, it is one for lack of memory, given as `None`.
@@ -46,6 +73,7 @@ fn answer(
             Err(TableFault::Memory) => Ok(None),
             Err(TableFault::TooLong | TableFault::Parts) => Ok(Some(false)),
         },
+        Call::ReadParts => parts_answer(alloc, heap),
         Call::Write => match inittab_text::write(heap, table) {
             Ok(text) => Ok(Some(text.as_slice() == WRITTEN)),
             Err(Memory) => Ok(None),

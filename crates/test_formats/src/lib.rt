@@ -9,4 +9,6 @@ mod growth_tests;
 #[cfg(test)]
 mod inittab_tests;
 #[cfg(test)]
+mod part_tests;
+#[cfg(test)]
 mod respawn_tests;

@@ -471,6 +471,7 @@ const FAULTY: &[&str] = &[
     "run --forever=1",
     "run --result",
     "run --logs",
+    "run --inittab-dir",
     "--version run",
     "run --version",
 ];

@@ -1,8 +1,8 @@
 //! Each call takes the first of its queue, and has an answer of its own where the queue is empty.
 
 use crate::fixtures::{fill, id_of};
-use child_host::{Bytes, Host, HostFault, Reply};
-use init_words::{Answer, ChildNo, Id, Memory, Sig, Status};
+use child_host::{Bytes, Host, HostFault, PartList, Reply};
+use init_words::{Answer, ChildNo, Id, Memory, Part, Sig, Status};
 use linked_list_allocator::LocalHeap;
 use memory_host::MemoryHost;
 use std::alloc::Global;
@@ -10,6 +10,9 @@ use std::process::Abort;
 use std::test::Fail;
 
 type Text = Result<&'static [u8], HostFault>;
+
+/// The files of an inittab, each with its name and its text.
+type Files = Result<&'static [(&'static str, &'static [u8])], HostFault>;
 
 type Reading = Result<u64, HostFault>;
 
@@ -23,7 +26,7 @@ enum Gift {
     Late(Option<bool>),
     Clock(Reading),
     Bytes(Text),
-    Table(Text),
+    Table(Files),
     Carry(Text),
 }
 
@@ -37,7 +40,7 @@ enum Want {
     Late(Option<bool>),
     Clock(Reading),
     Bytes(usize, Text),
-    Table(Text),
+    Table(Files),
     Carry(Text),
     NoTable,
     NoCarry,
@@ -50,7 +53,13 @@ struct Row {
     faults: u64,
 }
 
-const INITTAB: Text = Ok(b"id:3:initdefault:\n");
+const TEXT: Text = Ok(b"id:3:initdefault:\n");
+
+const INITTAB: Files = Ok(&[
+    ("inittab", b"id:3:initdefault:\n"),
+    ("10-b.tab", b"b:3:once:y"),
+    ("20-a.tab", b""),
+]);
 
 const STATE: &[u8] = b"state";
 
@@ -182,26 +191,26 @@ const ROWS: &[Row] = &[
     Row {
         gifts: &[
             Gift::Table(INITTAB),
-            Gift::Table(DEVICE),
-            Gift::Table(Ok(b"x")),
+            Gift::Table(Err(HostFault::Device)),
+            Gift::Table(Ok(&[("x", b"x")])),
         ],
         calls: &[
             Want::Table(INITTAB),
-            Want::Table(DEVICE),
-            Want::Table(Ok(b"x")),
-            Want::Table(Ok(b"")),
+            Want::Table(Err(HostFault::Device)),
+            Want::Table(Ok(&[("x", b"x")])),
+            Want::Table(Ok(&[])),
         ],
         faults: 1,
     },
     // A text that is carried.
     Row {
         gifts: &[
-            Gift::Carry(INITTAB),
+            Gift::Carry(TEXT),
             Gift::Carry(DEVICE),
             Gift::Carry(Ok(b"x")),
         ],
         calls: &[
-            Want::Carry(INITTAB),
+            Want::Carry(TEXT),
             Want::Carry(DEVICE),
             Want::Carry(Ok(b"x")),
             Want::Carry(Ok(STATE)),
@@ -248,8 +257,22 @@ fn give_bytes(alloc: Global, host: &mut MemoryHost, text: Text) -> Result<(), Me
     host.give_bytes(item_of(alloc, text)?)
 }
 
-fn give_table(alloc: Global, host: &mut MemoryHost, text: Text) -> Result<(), Memory> {
-    host.give_table(item_of(alloc, text)?)
+fn parts_of(alloc: Global, files: &[(&str, &[u8])]) -> Result<PartList, Memory> {
+    let mut parts = Vec::new(alloc);
+    for (name, text) in files {
+        parts.push(Part {
+            name: String::from_str(alloc, name)?,
+            bytes: Vec::from_slice(alloc, text)?,
+        })?;
+    }
+    Ok(PartList::of(parts))
+}
+
+fn give_table(alloc: Global, host: &mut MemoryHost, files: Files) -> Result<(), Memory> {
+    match files {
+        Ok(files) => host.give_table(Ok(parts_of(alloc, files)?)),
+        Err(fault) => host.give_table(Err(fault)),
+    }
 }
 
 fn give_carry(alloc: Global, host: &mut MemoryHost, text: Text) -> Result<(), Memory> {
@@ -287,6 +310,26 @@ fn is_text(given: Result<Vec<u8>, HostFault>, want: Text) -> bool {
     }
 }
 
+fn are_parts(parts: &[Part], files: &[(&str, &[u8])]) -> bool {
+    if parts.len() != files.len() {
+        return false;
+    }
+    for (part, (name, text)) in parts.iter().zip(files) {
+        if part.name.as_str() != *name || part.bytes.as_slice() != *text {
+            return false;
+        }
+    }
+    true
+}
+
+fn are_files(given: Result<Vec<Part>, HostFault>, want: Files) -> bool {
+    match (given, want) {
+        (Ok(parts), Ok(files)) => are_parts(&parts, files),
+        (Err(fault), Err(want)) => fault == want,
+        _ => false,
+    }
+}
+
 /// The fault of a call that gives a text in memory of a full heap.
 fn fault_over(
     alloc: Global,
@@ -296,7 +339,7 @@ fn fault_over(
 ) -> Result<Option<HostFault>, Fail> {
     let _fillers = fill(alloc, heap)?;
     if is_table {
-        return Ok(host.read_table(heap).err());
+        return Ok(host.read_tables(heap).err());
     }
     Ok(host.carry(heap, STATE).err())
 }
@@ -315,7 +358,7 @@ fn is_given(alloc: Global, host: &mut MemoryHost, id: Id, call: Want) -> Result<
         Want::Late(is_hit) => host.late() == late_of(id, is_hit),
         Want::Clock(want) => host.clock() == want,
         Want::Bytes(room, want) => gives(host, room, want),
-        Want::Table(want) => is_text(host.read_table(alloc), want),
+        Want::Table(want) => are_files(host.read_tables(alloc), want),
         Want::Carry(want) => is_text(host.carry(alloc, STATE), want),
         Want::NoTable => return has_no_room(alloc, host, true),
         Want::NoCarry => return has_no_room(alloc, host, false),

@@ -55,7 +55,7 @@ fn takes<A: Allocator + Copy>(alloc: Global, host: &mut MemoryHost<A>, queue: u8
         3 => host.late().is_some(),
         4 => host.clock() == Ok(5),
         5 => host.take_bytes(&mut [0u8; 4]).is_err(),
-        6 => host.read_table(alloc).is_err(),
+        6 => host.read_tables(alloc).is_err(),
         _ => host.carry(alloc, b"state").is_err(),
     }
 }
@@ -103,7 +103,7 @@ fn is_told<A: Allocator + Copy>(host: &mut MemoryHost<A>, alloc: Global, call: u
             let _ = host.start(alloc, id, b"/bin/serv");
         }
         2 => {
-            let _ = host.read_table(alloc);
+            let _ = host.read_tables(alloc);
         }
         3 => {
             let _ = host.carry(alloc, b"state");

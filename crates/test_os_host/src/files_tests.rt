@@ -1,6 +1,6 @@
 //! The channel of requests, the inittab and the text of init's state.
 
-use crate::hosts::{Paths, SystemHost, host_of};
+use crate::hosts::{Paths, SystemHost, host_of, is_only};
 use child_host::{Host, HostFault};
 use linked_list_allocator::LocalHeap;
 use std::alloc::Global;
@@ -86,26 +86,31 @@ fn is_fault(given: Result<Vec<u8>, HostFault>) -> bool {
 const TABLE: &[u8] = &[b'#'; 20_000];
 
 fn all_fail(host: &mut SystemHost, alloc: Global) -> bool {
-    is_fault(host.read_table(alloc))
+    host.read_tables(alloc).err() == Some(HostFault::Device)
         && host.take_bytes(&mut [0; 4]) == Err(HostFault::Device)
         && is_fault(host.carry(alloc, b"state"))
         && host.faults() == 3
 }
 
+/// The inittab is read, as its only file.
+fn is_table(host: &mut SystemHost, alloc: Global) -> bool {
+    match host.read_tables(alloc) {
+        Ok(parts) => is_only(&parts, "f.tab", TABLE),
+        Err(_) => false,
+    }
+}
+
 /// There is no room for the text of the inittab.
 fn has_no_room(host: &mut SystemHost, alloc: Global) -> bool {
     match LocalHeap::new(alloc, 64) {
-        Ok(heap) => host.read_table(&heap).err() == Some(HostFault::Memory),
+        Ok(heap) => host.read_tables(&heap).err() == Some(HostFault::Memory),
         Err(_) => false,
     }
 }
 
 /// The inittab is read, and the clock, and there is no room for the inittab's text.
 fn reads(host: &mut SystemHost, alloc: Global) -> bool {
-    is_text(host.read_table(alloc), TABLE)
-        && has_no_room(host, alloc)
-        && host.clock().is_ok()
-        && host.faults() == 4
+    is_table(host, alloc) && has_no_room(host, alloc) && host.clock().is_ok() && host.faults() == 4
 }
 
 const FAULT_PATHS: &Paths = &Paths {

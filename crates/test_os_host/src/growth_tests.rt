@@ -1,7 +1,7 @@
 //! Growths are refused in turn, on heaps of more and more room, until a call meets no refusal: what is answered is lack
 //! of memory, and the files are as they were.
 
-use crate::hosts::{Paths, SystemHost, host_of};
+use crate::hosts::{Paths, SystemHost, host_of, is_only};
 use child_host::{Host, HostFault};
 use init_words::Memory;
 use linked_list_allocator::LocalHeap;
@@ -37,19 +37,23 @@ fn has_room(
     call: Call,
 ) -> Result<bool, Fail> {
     let before = host.faults();
-    let text = match call {
-        Call::Table => host.read_table(heap),
-        Call::Carry => host.carry(heap, TABLE.as_bytes()),
-    };
-    match text {
-        Ok(text) => {
-            assert!(rt; text.as_slice() == TABLE.as_bytes() && host.faults() == before);
+    match given(heap, host, call) {
+        Ok(is_text) => {
+            assert!(rt; is_text && host.faults() == before);
             Ok(true)
         }
         Err(why) => {
             assert!(rt; why == HostFault::Memory && host.faults() > before);
             Ok(false)
         }
+    }
+}
+
+/// Whether what a call gives is the text.
+fn given(heap: &LocalHeap, host: &mut SystemHost, call: Call) -> Result<bool, HostFault> {
+    match call {
+        Call::Table => Ok(is_only(&host.read_tables(heap)?, PATHS.inittab, TABLE.as_bytes())),
+        Call::Carry => Ok(host.carry(heap, TABLE.as_bytes())?.as_slice() == TABLE.as_bytes()),
     }
 }
 

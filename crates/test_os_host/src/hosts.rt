@@ -1,6 +1,6 @@
 //! Hosts over the operating system.
 
-use init_words::{Id, Memory};
+use init_words::{Id, Memory, Part};
 use os_host::OsHost;
 use std::alloc::{Allocator, Global};
 use std::test::Fail;
@@ -25,7 +25,32 @@ pub(crate) fn host_of<A: Allocator + Copy>(
     alloc: A,
     paths: &Paths,
 ) -> Result<SystemHost<A>, Memory> {
-    OsHost::new(*rt, alloc, paths.inittab, paths.channel, paths.state)
+    OsHost::new(*rt, alloc, paths.inittab, paths.channel, paths.state, None)
+}
+
+/// A host of these paths, whose inittab has a folder.
+pub(crate) fn with_folder(
+    rt: &HostRuntime,
+    alloc: Global,
+    paths: &Paths,
+    folder: &str,
+) -> Result<SystemHost, Memory> {
+    OsHost::new(
+        *rt,
+        alloc,
+        paths.inittab,
+        paths.channel,
+        paths.state,
+        Some(folder),
+    )
+}
+
+/// The only part that a call gave, where it is named so and has this text.
+pub(crate) fn is_only<A: Allocator>(parts: &[Part<A>], name: &str, text: &[u8]) -> bool {
+    match parts {
+        [part] => part.name.as_str() == name && part.bytes.as_slice() == text,
+        _ => false,
+    }
 }
 
 /// A host that pauses so.

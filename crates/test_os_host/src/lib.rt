@@ -8,6 +8,8 @@ mod children_tests;
 #[cfg(test)]
 mod files_tests;
 #[cfg(test)]
+mod folder_tests;
+#[cfg(test)]
 mod growth_tests;
 #[cfg(test)]
 mod hosts;

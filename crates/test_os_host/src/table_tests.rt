@@ -1,6 +1,6 @@
 //! What is told of an inittab that is read again.
 
-use crate::hosts::{Paths, SystemHost, host_of};
+use crate::hosts::{Paths, SystemHost, host_of, is_only};
 use child_host::Host;
 use std::alloc::Global;
 use std::fs;
@@ -41,8 +41,8 @@ const ERR: &str = "initd: t.tab is longer than 1048576 bytes: shorten it, and gi
 /// The inittab has this text, and is read whole.
 fn reads(rt: &HostRuntime, host: &mut SystemHost, alloc: Global, text: &str) -> Result<(), Fail> {
     fs::write(rt, PATHS.inittab, text)?;
-    match host.read_table(alloc) {
-        Ok(read) if read.as_slice() == text.as_bytes() => Ok(()),
+    match host.read_tables(alloc) {
+        Ok(read) if is_only(&read, PATHS.inittab, text.as_bytes()) => Ok(()),
         _ => Err(Fail::from("another text")),
     }
 }

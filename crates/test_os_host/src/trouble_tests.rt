@@ -39,7 +39,7 @@ fn change_channel(rt: &HostRuntime, host: &mut SystemHost) -> Result<(), Fail> {
 
 fn read(host: &mut SystemHost, alloc: Global) {
     for _ in 0..2u32 {
-        let _ = host.read_table(alloc);
+        let _ = host.read_tables(alloc);
     }
 }
 

@@ -5,6 +5,7 @@ use initd_command::run_words;
 use std::alloc::AllocError;
 use std::fs;
 use std::process::Abort;
+use std::test::Fail;
 use test_again::is_line;
 use test_support::line_words;
 
@@ -226,4 +227,65 @@ const STAYS: &Run = &Run {
 #[test]
 fn a_child_that_stays_is_killed(rt: HostRuntime) {
     assert!(rt; is_run(&rt, STAYS));
+}
+
+/// Three files of an inittab, a child of each. One that waits for them breaks a file and has it read again: the child of
+/// the entry that is lost stops, and the others go on until runlevel 1 is asked for.
+const BROKEN: &Run = &Run {
+    files: &[
+        (
+            "broken.tab",
+            "id:3:initdefault:\na:3:respawn:sh stay.sh a\nt:3:once:sh break.sh\n",
+        ),
+        ("broken.d/10-b.tab", "b:3:respawn:sh stay.sh b"),
+        (
+            "broken.d/20-c.tab",
+            "# c\na:3:once:z\nc:3:respawn:sh stay.sh c\n",
+        ),
+        (
+            "stay.sh",
+            "trap \": > $1.down; exit 5\" TERM\n: > $1.up\nfor t in 1 2 3 4 5 6; do for i in 1 2 3 4 5 6 7 8 9 10; do\nfor k in 1 2 3 4 5 6 7 8 9 10; do sleep 0.1; done; done; done\n",
+        ),
+        (
+            "break.sh",
+            "wait_for() { for i in 1 2 3 4 5 6 7 8 9 10; do if test -e $1; then return 0; fi; sleep 1; done; exit 1; }\n\
+             wait_for a.up; wait_for b.up; wait_for c.up\necho 'b:3:respwan:sh stay.sh b' > broken.d/10-b.tab\n\
+             head -c 384 asked >> broken.ctl\nwait_for b.down\ntest -e a.down || test -e c.down || : > gone.on\n\
+             tail -c 384 asked >> broken.ctl\n",
+        ),
+    ],
+    requests: Requests {
+        path: "asked",
+        codes: b"q1",
+        seconds: 5,
+    },
+    line: "run --inittab broken.tab --inittab-dir broken.d --initctl broken.ctl --trace broken.trace --turns 1000 --drain --pause 0.2",
+    said: "initd: inittab 20-c.tab line 2: duplicate id\n",
+    check: "check broken.trace",
+    trace: "broken.trace",
+    parts: &[
+        &[
+            "use 5",
+            "b:3:respawn:sh stay.sh b",
+            "settle 3",
+            "got reload",
+            "use 4",
+            "ask b term",
+            "reaped b * exit 5",
+            "got level 1 5",
+            "enter 1 5",
+            "ask a term",
+            "ask c term",
+            "settle 1",
+        ],
+        &["enter 1 5", "reaped a * exit 5"],
+        &["enter 1 5", "reaped c * exit 5"],
+    ],
+};
+
+#[test]
+fn a_file_that_is_broken_stops_its_own_entries(rt: HostRuntime) -> Result<(), Fail> {
+    fs::create_dir(&rt, "broken.d")?;
+    assert!(rt; is_run(&rt, BROKEN) && fs::metadata(&rt, "gone.on").is_ok());
+    Ok(())
 }

@@ -41,11 +41,13 @@ fn write_files(rt: &HostRuntime, files: &[(&str, &str)]) -> Result<(), Fail> {
     Ok(())
 }
 
-fn is_answered(rt: &HostRuntime, row: &Row) -> Result<(), Fail> {
+/// The answer is that of the row, and this is written.
+fn is_answered(rt: &HostRuntime, row: &Row, out: &str) -> Result<(), Fail> {
     write_files(rt, row.files)?;
     let given = answer_to(rt, row.line)?;
     let is_reported = given.err.as_slice() == row.err.as_bytes();
-    if given.status == row.status && given.out.is_empty() && is_reported {
+    let is_written = given.out.as_slice() == out.as_bytes();
+    if given.status == row.status && is_written && is_reported {
         Ok(())
     } else {
         Err(Fail::from(row.line))
@@ -111,9 +113,77 @@ const DRAINED: &[Row] = &[
 #[test]
 fn drained_runs_end_with_an_entrys_result(rt: HostRuntime) -> Result<(), Fail> {
     for row in DRAINED {
-        is_answered(&rt, row)?;
+        is_answered(&rt, row, "")?;
     }
     fs::remove_file(&rt, "w.ctl")?;
+    Ok(())
+}
+
+/// Runs over a folder, with what is written of their files.
+const FOLDERS: &[(Row, &str)] = &[
+    // A last line without a newline ends with its file.
+    (
+        Row {
+            files: &[
+                ("parts.tab", "id:3:initdefault:\na:3:once:true\n"),
+                ("parts.d/10-b.tab", "b:3:once:true"),
+                ("parts.d/20-a.tab", "# c\na:3:once:false\n"),
+            ],
+            line: "run --inittab parts.tab --inittab-dir parts.d --initctl p.ctl --drain --pause 0.1 --result b",
+            status: 0,
+            err: "initd: b ended with 0\n",
+        },
+        "initd: inittab 20-a.tab line 2: duplicate id\n",
+    ),
+    // What can't be read is a fault of the whole reading.
+    (
+        Row {
+            files: &[],
+            line: "run --inittab parts.tab --inittab-dir none.d --initctl p.ctl --drain",
+            status: 4,
+            err: "initd: cannot read none.d: No such file or directory (os error 2)\n",
+        },
+        "",
+    ),
+    (
+        Row {
+            files: &[],
+            line: "run --inittab parts.tab --inittab-dir wrong.d --initctl p.ctl --drain",
+            status: 4,
+            err: "initd: cannot read wrong.d/x.tab: Is a directory (os error 21)\n",
+        },
+        "",
+    ),
+    // 256 files and the inittab are too many.
+    (
+        Row {
+            files: &[],
+            line: "run --inittab parts.tab --inittab-dir many.d --initctl p.ctl --drain",
+            status: 1,
+            err: "initd: inittab has more than 256 files: put some together\n",
+        },
+        "",
+    ),
+];
+
+/// Makes a folder of so many empty files that count.
+fn make_many(rt: &HostRuntime, folder: &str, count: u32) -> Result<(), Fail> {
+    fs::create_dir(rt, folder)?;
+    for number in 0..count {
+        let path = format!(in rt.alloc(); "{folder}/{number}.tab")?;
+        fs::write(rt, path.as_str(), "")?;
+    }
+    Ok(())
+}
+
+#[test]
+fn runs_over_a_folder(rt: HostRuntime) -> Result<(), Fail> {
+    fs::create_dir(&rt, "parts.d")?;
+    fs::create_dir_all(&rt, "wrong.d/x.tab")?;
+    make_many(&rt, "many.d", 256)?;
+    for (row, out) in FOLDERS {
+        is_answered(&rt, row, out)?;
+    }
     Ok(())
 }
 
@@ -131,7 +201,7 @@ const BUSY: &Row = &Row {
 #[test]
 fn a_channel_has_one_init(rt: HostRuntime) -> Result<(), Fail> {
     let held = lock_channel(&rt, "busy.ctl")?;
-    is_answered(&rt, BUSY)?;
+    is_answered(&rt, BUSY, "")?;
     assert!(rt; held.is_some() && fs::metadata(&rt, "busy.up").is_err());
     assert!(rt; fs::read_to_string(&rt, "busy.trace")?.as_str() == "old\n");
     drop(held);
@@ -203,7 +273,7 @@ const FULL: &Row = &Row {
 #[test]
 fn a_trace_that_is_not_written_is_told_at_once(rt: HostRuntime) -> Result<(), Fail> {
     if is_again(&rt) {
-        return is_answered(&rt, FULL);
+        return is_answered(&rt, FULL, "");
     }
     assert!(rt; is_said(&rt, rt.alloc(), UNLOGGED)?);
     Ok(())

@@ -3,13 +3,14 @@
 //!
 //! `start`, `look` and `signal` have a reply: an answer, or `later`. `late` has the id before the answer, or nothing
 //! for the end of a round; `lates` has a number of answers that nobody asked for. `clock` has a reading, `table` the
-//! lines of an inittab parted by `|`, `carry` those of what comes back of a state text, `bytes` the requests of a
-//! piece, and `piece` two places before them, between which their bytes are given. A reading, a piece, a table and what
-//! comes back can be `fails`.
+//! files of an inittab parted by ` + `, the lines of each parted by `|`, or `none`, or `long` for one file that is a
+//! byte too long, or `many` for 257 files. `carry` has the lines of what comes back of a state text, `bytes` the
+//! requests of a piece, and `piece` two places before them, between which their bytes are given. A reading, a piece, a
+//! table and what comes back can be `fails`.
 
 use crate::runs::lines_of;
-use child_host::{Bytes, HostFault, Reply};
-use init_words::{Answer, ChildNo, Id, Status};
+use child_host::{Bytes, HostFault, PartList, Reply};
+use init_words::{Answer, ChildNo, Id, Part, Status};
 use initctl_frame::{Request, Sign, encode};
 use memory_host::MemoryHost;
 use std::alloc::{Allocator, Global};
@@ -181,11 +182,61 @@ fn too_long(alloc: Global) -> Option<Vec<u8>> {
     Some(text)
 }
 
-fn give_text<A: Allocator + Copy>(alloc: A, host: &mut MemoryHost<A>, text: &[u8]) -> bool {
-    let Ok(bytes) = Bytes::copy_of(alloc, text) else {
-        return false;
-    };
-    host.give_table(Ok(bytes)).is_ok()
+/// A file of this text.
+fn part_of<A: Allocator + Copy>(alloc: A, text: &[u8]) -> Option<Part<A>> {
+    Some(Part {
+        name: String::from_str(alloc, "part").ok()?,
+        bytes: Vec::from_slice(alloc, text).ok()?,
+    })
+}
+
+fn add_part<A: Allocator + Copy>(alloc: A, parts: &mut Vec<Part<A>, A>, text: &[u8]) -> bool {
+    match part_of(alloc, text) {
+        Some(part) => parts.push(part).is_ok(),
+        None => false,
+    }
+}
+
+fn add_lines<A: Allocator + Copy>(
+    own: Global,
+    alloc: A,
+    parts: &mut Vec<Part<A>, A>,
+    lines: &str,
+) -> bool {
+    match &lines_of(own, lines, "|") {
+        Some(text) => add_part(alloc, parts, text.as_slice()),
+        None => false,
+    }
+}
+
+fn add_long<A: Allocator + Copy>(own: Global, alloc: A, parts: &mut Vec<Part<A>, A>) -> bool {
+    match &too_long(own) {
+        Some(text) => add_part(alloc, parts, text.as_slice()),
+        None => false,
+    }
+}
+
+fn add_many<A: Allocator + Copy>(alloc: A, parts: &mut Vec<Part<A>, A>) -> bool {
+    for _ in 0..257u32 {
+        if !add_part(alloc, parts, b"") {
+            return false;
+        }
+    }
+    true
+}
+
+fn add_all<A: Allocator + Copy>(
+    own: Global,
+    alloc: A,
+    parts: &mut Vec<Part<A>, A>,
+    text: &str,
+) -> bool {
+    for lines in text.split(" + ") {
+        if !add_lines(own, alloc, parts, lines) {
+            return false;
+        }
+    }
+    true
 }
 
 fn give_table<A: Allocator + Copy>(
@@ -194,15 +245,14 @@ fn give_table<A: Allocator + Copy>(
     host: &mut MemoryHost<A>,
     text: &str,
 ) -> bool {
-    let given = if text == "long" {
-        too_long(own)
-    } else {
-        lines_of(own, text, "|")
+    let mut parts = Vec::new(alloc);
+    let are_added = match text {
+        "none" => true,
+        "long" => add_long(own, alloc, &mut parts),
+        "many" => add_many(alloc, &mut parts),
+        _ => add_all(own, alloc, &mut parts, text),
     };
-    match &given {
-        Some(lines) => give_text(alloc, host, lines.as_slice()),
-        None => false,
-    }
+    are_added && host.give_table(Ok(PartList::of(parts))).is_ok()
 }
 
 fn give_back<A: Allocator + Copy>(alloc: A, host: &mut MemoryHost<A>, text: &[u8]) -> bool {

@@ -73,6 +73,31 @@ const ROWS: &[Row] = &[
                 enter sysinit 5 / use 2 / id:3:initdefault: / d:B:ondemand:x / enter boot 5 / enter 2 5 / call B / \
                 ask d start / birth d 5 / told d / settle 2",
     },
+    // Of three files one lost its entry: its child alone is stopped.
+    Row {
+        inittab: "id:3:initdefault:|a:3:respawn:one|b:3:respawn:two|c:3:respawn:three",
+        gifts: "start birth 1 / start birth 2 / start birth 3 / bytes / bytes q / \
+                table id:3:initdefault:|a:3:respawn:one + b:3:respawn:two + # none / \
+                signal hit / look still / look still / look exit 0",
+        limit: (2, false),
+        ended: (2, false),
+        faults: 0,
+        trace: "clock 0 / nudge / enter sysinit 5 / enter boot 5 / enter 3 5 / ask a start / birth a 1 / told a / \
+                ask b start / birth b 2 / told b / ask c start / birth c 3 / told c / settle 3 / \
+                clock 0 / got reload / nudge / use 3 / id:3:initdefault: / a:3:respawn:one / b:3:respawn:two / \
+                ask c term / hit c / told c / ask a look / still a / told a / ask b look / still b / told b / \
+                ask c look / death 3 / reaped c 3 exit 0 / told c / settle 3",
+    },
+    // An inittab without files is a table without entries; one of too many is not read.
+    Row {
+        inittab: "# none",
+        gifts: "bytes q / bytes / bytes q / table none / table many",
+        limit: (2, false),
+        ended: (2, true),
+        faults: 0,
+        trace: "clock 0 / got reload / nudge / enter sysinit 5 / use 0 / enter S 5 / settle S / \
+                clock 0 / got reload / nudge / notread",
+    },
     // A turn takes no more than ten blocks and two thirds.
     Row {
         inittab: "# none",

@@ -1,8 +1,9 @@
 use Rattle.simulator.specs.declared.running.SimFault.TheVariants as fault
-use Rattle.std.proofs.Common.{[]}
+use Rattle.std.proofs.Common.{[], ap, subst, sym}
 use Rattle.initd_options.specs.Options.{run_of}
 use Rattle.initd_command.specs.Endings.{busy, no_memory, stopped, too_many, uncreated, unlocked, unread}
-use Rattle.initd_command.proofs.Ended.{of_busy, of_channel, of_folder, of_inittab, of_long, of_many, of_memory, of_trace}
+use Rattle.initd_command.specs.Services.{IsOfFault}
+use Rattle.initd_command.proofs.Ended.{of_busy, of_channel, of_inittab, of_long, of_many, of_memory, of_trace}
 use Rattle.initd_command.proofs.run.report_run_fault.Goals as goal
 
 pub returns-in-Busy : goal.returns-in-Busy
@@ -40,7 +41,7 @@ returns-in-Folder g c =
     let (reason, reported) = c.report_unread-in-Folder.ensures.reported in (
       unread path reason,
       c.report_unread-in-Folder.ensures.status,
-      of_folder (run_of c.args.said.now) c.args.fault.now c.in-Folder.path c.in-Folder.error path reason c.in-Folder.is c.as_str-in-Folder.ensures.value,
+      subst (λ f. IsOfFault (run_of c.args.said.now) f (unread path reason)) (sym c.in-Folder.is) (reason, ap (λ p. unread p reason) c.as_str-in-Folder.ensures.value),
       reported,
     )
 

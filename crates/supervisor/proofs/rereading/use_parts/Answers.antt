@@ -2,7 +2,7 @@ use Rattle.std.proofs.Common.{rules, ◌≡◌, refl, sym, ◌∙◌, ap, ◌∷
 use Rattle.std.proofs.lemmas.Bool.{false≢true}
 use Rattle.init_words.specs.Parts.{texts_of}
 use Rattle.inittab_text.specs.Parts.{table_of_texts}
-use Rattle.inittab_text.proofs.PartLemmas.{read_from}
+use Rattle.inittab_text.proofs.PartLemmas.{was_readable}
 use Rattle.init_trace.specs.declared.happenings.Happening.TheVariants.{NewTable}
 use Rattle.init_trace.specs.Event.{Event}
 use Rattle.child_table.specs.Lists.{is_quiet}
@@ -28,7 +28,7 @@ returns-clause-lasts g c taken =
 
 pub returns-clause-readable : goal.returns-clause-readable
 returns-clause-readable g c taken =
-    read_from _ (texts_of c.args.parts.now) c.in-Ok.ensures.parts c.in-Ok.ensures.too_long
+    was_readable c.read_parts.result _ (texts_of c.args.parts.now) c.in-Ok.is c.in-Ok.ensures.parts c.in-Ok.ensures.too_long
 
 was_quiet : {E : Type 0} (quiet : Bool) (result : Result (Unit {0}) E) (why : E) → (quiet ≡ false → result ≡ Err why) → is_err result ≡ false → quiet ≡ true
 was_quiet true result why busy works = refl
