@@ -22,7 +22,7 @@ use Rattle.simulated_system.specs.Follows.{Follows}
 use Rattle.simulator.specs.declared.running.SimFault.{SimFault}
 use Rattle.simulator.specs.declared.running.SimFault.TheVariants as fault
 use Rattle.simulator.specs.Faults.{Leaves}
-use Rattle.simulator.specs.Handing.{may_hand}
+use Rattle.simulator.specs.Handing.{are_handed, may_hand}
 use Rattle.simulator.specs.Moments.{LastsTo, Moment, AtRest, GoesOn}
 use Rattle.simulator.specs.Said.{is_scripted, may_be_scripted, first_table, heard}
 use Rattle.simulator.specs.Simulation.{past_text}
@@ -90,6 +90,24 @@ step_heard goal Reread past runs = refl
 step_heard goal Reexec past runs = refl
 step_heard goal Idle past runs = refl
 
+step_handed : (goal : Goal) (s : Step) (past : List Event) → are_handed goal (with_step s past) ≡ are_handed goal past
+step_handed goal (Enter now grace) past = refl
+step_handed goal (Call letter) past = refl
+step_handed goal (Power kind) past = refl
+step_handed goal (Order id ask) past = refl
+step_handed goal (Hold id) past = refl
+step_handed goal (Settle level) past = refl
+step_handed goal Reread past = refl
+step_handed goal Reexec past = refl
+step_handed goal Idle past = refl
+
+-- what may be said may be handed over, where it is a hand-over
+pub handed_part : (goal : Goal) (happening : Event) (past : List Event) → may_be_scripted goal happening past ≡ true → may_hand goal happening past ≡ true
+handed_part goal happening past may =
+    let outer = and_parts (is_scripted happening && may_hand goal happening past && is_next (first (due goal past)) happening) (may_come goal happening past) may in
+    let inner = and_parts (is_scripted happening && may_hand goal happening past) (is_next (first (due goal past)) happening) outer.0 in
+    (and_parts (is_scripted happening) (may_hand goal happening past) inner.0).1
+
 -- what may be said is of a script, and init waits for it, and it may come
 pub said_parts : (goal : Goal) (happening : Event) (past : List Event) → may_be_scripted goal happening past ≡ true
     → (is_scripted happening ≡ true) × (is_next (first (due goal past)) happening ≡ true) × (may_come goal happening past ≡ true)
@@ -121,12 +139,13 @@ past_text-more happening past = ap trace_text (reverse_onto past happening []) �
 pub goes_step : (goal : Goal) (s : Step) (happening : Event) (past next : List Event) (more : List ℕ) → is_run goal next ≡ true → with_step s next ≡ happening ∷ next → GoesOn past next more → GoesOn past (happening ∷ next) (more ++ event_text happening)
 goes_step goal s happening past next more runs added goes = record {
   opens = ap first_table (sym added) ∙ step_first goal s next runs ∙ goes.opens;
+  handed = λ of. ap (are_handed of) (sym added) ∙ step_handed of s next ∙ goes.handed of;
   hears = ap heard (sym added) ∙ step_heard goal s next runs ∙ goes.hears;
   text = past_text-more happening next ∙ ap (λ text. text ++ event_text happening) goes.text ∙ append_assoc (past_text past) more (event_text happening);
 }
 
 pub goes_none : (past : List Event) → GoesOn past past []
-goes_none past = record { opens = refl; hears = refl; text = sym (append-nil (past_text past)) }
+goes_none past = record { opens = refl; handed = λ goal. refl; hears = refl; text = sym (append-nil (past_text past)) }
 
 -- a run with one step more
 pub more_run : (goal : Goal) (past : List Event) (happening : Event) (s : Step) → s ≡ first (due goal past) → with_step s past ≡ happening ∷ past → is_run goal past ≡ true → is_run goal (happening ∷ past) ≡ true

@@ -40,12 +40,13 @@ pub first_moment : (inittab : List ℕ) (goal : Goal) (core : CoreState) (side :
 first_moment inittab goal core side fits lasts follows = record { runs = distinct_text inittab; fits = fits; lasts = lasts; follows = follows }
 
 first_run : (s : Scenario) → RunOver s (script_in s) (opening s)
-first_run s = record { runs = distinct_text s.inittab; opens = refl; are = refl; hears = refl }
+first_run s = record { runs = distinct_text s.inittab; handed = refl; opens = refl; are = refl; hears = refl }
 
 -- nothing was heard yet, and init went on
 run_first : (s : Scenario) (next : List Event) (more : List ℕ) → is_run (goal_in s) next ≡ true → GoesOn (opening s) next more → RunOver s (script_in s) next
 run_first s next more runs goes = record {
   runs = runs;
+  handed = goes.handed (goal_in s);
   opens = goes.opens;
   are = ap are_in_range goes.hears;
   hears = ap (λ es. past_text es ++ script_in s) goes.hears;
@@ -93,9 +94,10 @@ broken_ends s fault.Memory old new broken = broken
 
 -- the run over one happening more of the script
 run_more : (s : Scenario) (rest behind : List ℕ) (past next : List Event) (happening : Event) (more : List ℕ) → RunOver s rest past → is_run (goal_in s) next ≡ true
-    → event_text happening ++ behind ≡ rest → HearsLine past next (event_text happening) more → RunOver s behind next
+    → event_text happening ++ behind ≡ rest → HearsLine (goal_in s) past next (event_text happening) more → RunOver s behind next
 run_more s rest behind past next happening more run runs begins hears = record {
   runs = runs;
+  handed = hears.handed run.handed;
   opens = hears.opens ∙ run.opens;
   are = hears.are run.are;
   hears = ap (λ t. t ++ behind) hears.hears ∙ append_assoc (heard_text past) (event_text happening) behind ∙ ap (λ t. heard_text past ++ t) begins ∙ run.hears;

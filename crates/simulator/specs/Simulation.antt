@@ -17,6 +17,7 @@ use Rattle.simulated_system.specs.declared.objections.Objection.{Objection}
 use Rattle.simulator.specs.declared.running.SimFault.{SimFault}
 use Rattle.simulator.specs.declared.running.SimFault.TheVariants as fault
 use Rattle.simulator.specs.Faults.{Leaves}
+use Rattle.simulator.specs.Handing.{are_handed}
 use Rattle.simulator.specs.Said.{may_be_scripted, IsObjected, first_table, heard}
 
 -- what is simulated: the level to go to, if one is given, an inittab and a script
@@ -47,9 +48,10 @@ abbrev pub heard_text : List Event → List ℕ
 heard_text past = past_text (heard past)
 
 -- the run over the script up to this rest of it: it begins with the inittab's table, init takes first due steps, and
--- hears what the script says in turn when it rests
+-- hears what the script says in turn when it rests; each hand-over comes where it may be made
 pub record RunOver (s : Scenario) (rest : List ℕ) (past : List Event) : Type 0 where
   pub runs : is_run (goal_in s) past ≡ true
+  pub handed : are_handed (goal_in s) past ≡ true
   pub opens : first_table past ≡ table_in s
   pub are : are_in_range (heard past) ≡ true
   pub hears : heard_text past ++ rest ≡ script_in s

@@ -55,7 +55,7 @@ returns-clause-ok g c = ok_gives c.run_until_rest.result _ _ c.run_until_rest.en
       next,
       event_text c.args.happening.now ++ more,
       at_rest,
-      hears_goes past (c.args.happening.now ∷ past) next (event_text c.args.happening.now) (event_text c.args.happening.now) more (hears_one goal past c.args.happening.now at.moment.runs c.requires.ranged may) goes,
+      hears_goes goal past (c.args.happening.now ∷ past) next (event_text c.args.happening.now) (event_text c.args.happening.now) more (hears_one goal past c.args.happening.now at.moment.runs c.requires.ranged may) goes,
       Appends-trans (g.W.Write.contents c.args.out.now) (g.W.Write.contents c.hear.new.out) (g.W.Write.contents c.run_until_rest.new.out) (event_text c.args.happening.now) more c.in_ok-hear.ensures.text written,
     ))
 
@@ -67,7 +67,7 @@ returns-clause-err g c = err_then c.run_until_rest.result _ _ c.run_until_rest.e
       next,
       event_text c.args.happening.now ++ more,
       runs,
-      hears_goes past (c.args.happening.now ∷ past) next (event_text c.args.happening.now) (event_text c.args.happening.now) more (hears_one goal past c.args.happening.now at.moment.runs c.requires.ranged may) goes,
+      hears_goes goal past (c.args.happening.now ∷ past) next (event_text c.args.happening.now) (event_text c.args.happening.now) more (hears_one goal past c.args.happening.now at.moment.runs c.requires.ranged may) goes,
       leaves_behind f (g.W.Write.contents c.args.out.now) (g.W.Write.contents c.hear.new.out) (g.W.Write.contents c.run_until_rest.new.out)
           (event_text c.args.happening.now) more c.in_ok-hear.ensures.text leaves,
     ))
