@@ -14,6 +14,14 @@ use Rattle.lsb_header.specs.Blocks.{args_of, begun, block_fault, block_of, descr
 abbrev pub text_at : Keyword → List (List ℕ) → List ℕ
 text_at keyword block = unwrap_or (args_of keyword block) []
 
+-- the fault of a text with no line that begins a header, or none after it that ends it
+abbrev pub frame_of : Option (ℕ × List (List ℕ)) → Option HeaderFault
+frame_of None = Some fault.NoBegin
+frame_of (Some (number, lines)) = if list_any is_end lines then None else Some fault.NoEnd
+
+unfoldable pub frame_fault : List ℕ → Option HeaderFault
+frame_fault text = frame_of (begun 1 (lines_of text))
+
 -- what the lines of a header say
 abbrev pub header_of : List (List ℕ) → HeaderText
 header_of block = record {

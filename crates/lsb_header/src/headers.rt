@@ -1,9 +1,9 @@
-ghost use Rattle.std.specs.Prelude.{◌≡◌, ◌≢◌, Ok, Err, map, string_bytes, IfOk, IfErr};
+ghost use Rattle.std.specs.Prelude.{◌≡◌, ◌≢◌, Ok, Err, map, string_bytes, IfOk, IfErr, IfSome};
 ghost use Rattle.std.specs.List.{AllByRecursion};
 ghost use Rattle.std.specs.Str.{IsUtf8};
 ghost use Rattle.text_lines.specs.Lines.{words_of};
 ghost use Rattle.lsb_header.specs.Blocks.{block_in};
-ghost use Rattle.lsb_header.specs.Headers.{header_of, header_read, text_at};
+ghost use Rattle.lsb_header.specs.Headers.{frame_fault, header_of, header_read, text_at};
 
 use crate::blocks::{begun, has_end};
 use crate::checks::check;
@@ -144,11 +144,13 @@ fn header_of<A: Allocator + Copy>(alloc: A, body: &[u8]) -> Result<Header<A>, Me
 }
 
 /// Reads the header of an init script, or says which check fails first.
-#[tactic(auto, unfolding(crate::specs::Headers::header_read))]
+#[tactic(auto, unfolding(crate::specs::Headers::frame_fault, crate::specs::Headers::header_read))]
 pub fn read<A: Allocator + Copy>(alloc: A, text: &[u8]) -> Result<Header<A>, HeaderFault>
     ensures header { IfOk result (λ header. header_read text.now ≡ Ok header) }
     ensures fault { IfErr result (λ fault.
         fault ≢ HeaderFault.Memory → header_read text.now ≡ Err fault) }
+    // A header without its first or its last line takes no memory to refuse.
+    ensures frame { IfSome (frame_fault text.now) (λ fault. result ≡ Err fault) }
 {
     let Some((number, body)) = begun(text) else {
         return Err(HeaderFault::NoBegin);

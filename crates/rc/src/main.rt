@@ -8,7 +8,14 @@ use std::process::ExitCode;
 
 fn main(rt: HostRuntime) -> ExitCode {
     let status = match words(&rt, rt.alloc()) {
-        Ok(words) => run_words(&rt, rt.alloc(), words, &mut rt.stdout(), &mut rt.stderr()),
+        Ok(words) => run_words(
+            &rt,
+            &rt,
+            rt.alloc(),
+            words,
+            &mut rt.stdout(),
+            &mut rt.stderr(),
+        ),
         Err(error) => report_unread_words("rc", USAGE, &error, &mut rt.stderr()),
     };
     ExitCode::from(status)

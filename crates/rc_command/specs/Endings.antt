@@ -1,17 +1,66 @@
--- What is written of a run of `rc`.
-use Rattle.std.specs.Prelude.{◌≡◌, ℕ, List, length, Option}
+-- How a run of `rc` ends, and what is written of it.
+use Rattle.std.specs.Prelude.{◌≡◌, ℕ, false, List, length, Option, Some}
 use Rattle.std.specs.Io.KnownBytes.{Appends}
 use Rattle.program_io.specs.Writing.{AppendsPrefix}
+use Rattle.program_io.specs.declared.statuses.TheConstants.{DEVICE_FAULT, DONE, LIMIT_REACHED}
+use Rattle.child_host.specs.Calls.{HostCall}
+use Rattle.rc_driver.specs.declared.driving.RunEnd.{RunEnd}
+use Rattle.rc_driver.specs.declared.driving.RunEnd.TheVariants as run_end
 use Rattle.rc_driver.specs.declared.runs.RcAnswer.{RcAnswer}
 use Rattle.rc_driver.specs.Report.{report}
-use Rattle.rc_driver.specs.Runs.{rc_run}
+use Rattle.rc_driver.specs.Runs.{RcState, rc_run}
+use Rattle.rc_driver.specs.Told.{RunsLinks}
+use Rattle.rc_command.specs.CommandLine.{Said, read_of}
+use Rattle.rc_command.specs.declared.running.TheConstants.{PAUSES_LIMIT}
+use Rattle.rc_command.specs.Folders.{AreNamesAt, ArePrevious, KnownNames, folder_of}
 
--- the lines of all scripts of two folders, whatever names were found in them
-abbrev pub Reports : Option (List ℕ) → Option (List ℕ) → Type 0
-Reports old new = (previous names : List (List ℕ)) × (answers : List RcAnswer)
+-- the exit status of a run that ended so
+abbrev pub status_of : RunEnd → ℕ
+status_of run_end.Done = DONE
+status_of run_end.Limit = LIMIT_REACHED
+status_of _ = DEVICE_FAULT
+
+-- the scripts by the names in two folders, none of them handed out
+abbrev pub rc_of : List (List ℕ) → List (List ℕ) → RcState
+rc_of previous names = record { left = rc_run previous names; waits = false }
+
+-- the scripts of two folders' names were run from the folder at the path, with these calls, and the status is that of
+-- how the run ended
+abbrev pub RunsNames : List ℕ → List (List ℕ) → List (List ℕ) → Option (List ℕ) → ℕ → Option (List ℕ) → List HostCall
+    → Type 0
+RunsNames path previous names before status after calls = (ended : RunEnd) × (new : RcState)
+    × RunsLinks path PAUSES_LIMIT (rc_of previous names) before ended new after calls × (status ≡ status_of ended)
+
+-- the names are those in the two folders that a command line names, where they are known
+abbrev pub AreNames : KnownNames → Said → List (List ℕ) → List (List ℕ) → Type 0
+AreNames names_at said previous names =
+    ArePrevious names_at said.dir said.previous previous × AreNamesAt names_at (folder_of said.dir said.new) names
+
+-- the scripts that a command line asks for were run so
+abbrev pub RunsSaid : KnownNames → Said → Option (List ℕ) → ℕ → Option (List ℕ) → Type 0
+RunsSaid names_at said before status after = (previous names : List (List ℕ)) × AreNames names_at said previous names
+    × (calls : List HostCall) × RunsNames (folder_of said.dir said.new) previous names before status after calls
+
+-- the lines of all scripts by the names in two folders
+abbrev pub ReportsNames : List (List ℕ) → List (List ℕ) → Option (List ℕ) → Option (List ℕ) → Type 0
+ReportsNames previous names old new = (answers : List RcAnswer)
     × (length answers ≡ length (rc_run previous names)) × Appends old new (report (rc_run previous names) answers)
 
--- a prefix of the lines of the first scripts of two folders
-abbrev pub ReportsPart : Option (List ℕ) → Option (List ℕ) → Type 0
-ReportsPart old new = (previous names : List (List ℕ)) × (answers : List RcAnswer)
-    × AppendsPrefix old new (report (rc_run previous names) answers)
+-- a prefix of the lines of the first of them
+abbrev pub ReportsFirst : List (List ℕ) → List (List ℕ) → Option (List ℕ) → Option (List ℕ) → Type 0
+ReportsFirst previous names old new =
+    (answers : List RcAnswer) × AppendsPrefix old new (report (rc_run previous names) answers)
+
+-- the lines of all scripts of the two folders that a command line names
+abbrev pub Reports : KnownNames → Said → Option (List ℕ) → Option (List ℕ) → Type 0
+Reports names_at said old new =
+    (previous names : List (List ℕ)) × AreNames names_at said previous names × ReportsNames previous names old new
+
+-- a prefix of the lines of the first of them
+abbrev pub ReportsPart : KnownNames → Said → Option (List ℕ) → Option (List ℕ) → Type 0
+ReportsPart names_at said old new =
+    (previous names : List (List ℕ)) × AreNames names_at said previous names × ReportsFirst previous names old new
+
+-- what words say, and that it has this
+abbrev pub Asks : List (List ℕ) → (Said → Type 0) → Type 0
+Asks words P = (said : Said) × (read_of words ≡ Some said) × P said

@@ -1,3 +1,7 @@
+ghost use Rattle.std.specs.Prelude.{◌≡◌, map, string_bytes, IfOk, IfErr, IsSome};
+ghost use Rattle.std.specs.IoError.{error_kind};
+ghost use Rattle.rc_command.specs.Folders.{AreNamesAt, ArePrevious, KnownNames, folder_of};
+
 use init_words::Level;
 use std::alloc::{AllocError, Allocator, Global};
 use std::fs::{DirEntry, read_dir};
@@ -5,10 +9,34 @@ use std::io;
 use std::io::ErrorKind;
 use std::rt::Files;
 
-/// The path of a runlevel's folder.
-pub(crate) fn folder_of(alloc: Global, dir: &str, level: Level) -> Result<String, AllocError> {
-    let code = char::from(level.code());
-    format!(in alloc; "{dir}/rc{code}.d")
+/// What lists the folder at a path.
+///
+/// A contract sees of it the names in the folder, where they are known. They may be known of no path.
+pub trait Folders {
+    /// The names in the folder at a path; None where they aren't known.
+    ghost names_at: { Self → KnownNames };
+
+    /// The names in the folder at a path. Names that are known are refused only for lack of memory.
+    fn names(&self, alloc: Global, path: &str) -> io::Result<Vec<String>>
+        ensures names { IfOk result (λ names.
+            AreNamesAt (names_at self.now) path.now (map string_bytes names.items)) }
+        ensures refused { IfErr result (λ why. IsSome (names_at self.now path.now)
+            → error_kind why ≡ ErrorKind.OutOfMemory) };
+}
+
+/// The folders of the operating system. Nothing is known of their names.
+impl<R: Files + Alloc + Clone + Drop> Folders for R {
+    ghost use Rattle.std.specs.Prelude.{None};
+
+    ghost names_at = { λ _ _. None };
+
+    fn names(&self, alloc: Global, path: &str) -> io::Result<Vec<String>> {
+        let mut names = Vec::new(alloc);
+        for entry in read_dir(self, path)? {
+            add_name(alloc, &mut names, entry)?;
+        }
+        Ok(names)
+    }
 }
 
 /// Adds the name of an entry. A name that is not UTF-8 is passed over, since no link has one.
@@ -25,32 +53,30 @@ fn add_name<R: Files + Drop, A: Allocator>(
     Ok(())
 }
 
-/// The names in a folder.
-pub(crate) fn names_in<R: Files + Alloc + Clone + Drop>(
-    rt: &R,
-    alloc: Global,
-    path: &str,
-) -> io::Result<Vec<String>> {
-    let mut names = Vec::new(alloc);
-    for entry in read_dir(rt, path)? {
-        add_name(alloc, &mut names, entry)?;
-    }
-    Ok(names)
+/// The path of a runlevel's folder.
+pub(crate) fn folder_of(alloc: Global, dir: &str, level: Level) -> Result<String, AllocError>
+    ensures { IfOk result (λ path. string_bytes path ≡ folder_of dir.now level) }
+{
+    let code = char::from(level.code());
+    format!(in alloc; "{dir}/rc{code}.d")
 }
 
 /// The names in the folder of the previous runlevel. There are none where there was no such level, and where its
 /// folder can't be listed.
-pub(crate) fn previous_names<R: Files + Alloc + Clone + Drop>(
-    rt: &R,
+pub(crate) fn previous_names<F: Folders>(
+    folders: &F,
     alloc: Global,
     dir: &str,
     previous: Option<Level>,
-) -> io::Result<Vec<String>> {
+) -> io::Result<Vec<String>>
+    ensures { IfOk result (λ names.
+        ArePrevious (F.names_at folders.now) dir.now previous (map string_bytes names.items)) }
+{
     let Some(level) = previous else {
         return Ok(Vec::new(alloc));
     };
     let path = folder_of(alloc, dir, level)?;
-    match names_in(rt, alloc, path.as_str()) {
+    match folders.names(alloc, path.as_str()) {
         Err(error) if error.kind() != ErrorKind::OutOfMemory => Ok(Vec::new(alloc)),
         outcome => outcome,
     }

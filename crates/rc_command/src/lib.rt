@@ -4,8 +4,11 @@
 
 mod command;
 mod folders;
+mod kept_folders;
 mod running;
 
 pub use command::{Words, read_words};
 pub use command_words::WordFault;
-pub use running::{PAUSES_LIMIT, USAGE, run_words};
+pub use folders::Folders;
+pub use kept_folders::KeptFolders;
+pub use running::{PAUSES_LIMIT, USAGE, run_names, run_words};

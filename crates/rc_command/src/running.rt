@@ -1,12 +1,16 @@
-ghost use Rattle.std.specs.Prelude.{◌≡◌, ◌⊎◌, true, false, codes, IsSome, map, string_bytes};
+ghost use Rattle.std.specs.Prelude.{◌≡◌, ◌≢◌, ◌⊎◌, true, false, codes, IsSome, List, map, string_bytes};
+ghost use Rattle.child_host.specs.Calls.{HostCall};
+ghost use Rattle.child_host.specs.Record.{Since};
 ghost use Rattle.command_words.specs.CommandLines.{asks_version};
 ghost use Rattle.command_words.specs.Faults.{ReportsUsage};
 ghost use Rattle.program_version.specs.VersionLine.{PrintsVersion};
-ghost use Rattle.rc_command.specs.CommandLine.{read_of};
-ghost use Rattle.rc_command.specs.Endings.{Reports, ReportsPart};
+ghost use Rattle.rc_command.specs.CommandLine.{read_of, said_of};
+ghost use Rattle.rc_command.specs.Endings.{Asks, Reports, ReportsFirst, ReportsNames, ReportsPart};
+ghost use Rattle.rc_command.specs.Endings.{RunsNames, RunsSaid, status_of};
 
 use crate::command::{Words, read_words};
-use crate::folders::{folder_of, names_in, previous_names};
+use crate::folders::{Folders, folder_of, previous_names};
+use child_host::Host;
 use command_words::{is_version, report_word_fault};
 use os_host::OsHost;
 use program_io::{DEVICE_FAULT, DONE, LIMIT_REACHED, REFUSED, report_no_memory, write_text};
@@ -33,10 +37,18 @@ pub const USAGE: &str = "usage: rc DIR PREV NEW
 /// were carried out, whatever their own statuses, or the version was written, 1 where the words are no command line, 3
 /// where a script has not ended after `PAUSES_LIMIT` pauses, 4 where NEW's folder can't be listed, the output fails or
 /// memory runs out. The version is written on `out`, where the words are `--version` alone, or a line for each script
-/// at its end; a fault is reported on `err`.
-pub fn run_words<R, W, E>(rt: &R, alloc: Global, words: Vec<String>, out: &mut W, err: &mut E) -> u8
+/// at its end; a fault is reported on `err`. The folders are listed by `folders`.
+pub fn run_words<R, F, W, E>(
+    rt: &R,
+    folders: &F,
+    alloc: Global,
+    words: Vec<String>,
+    out: &mut W,
+    err: &mut E,
+) -> u8
 where
-    R: Processes + Files + Clock + Print + Eprint + Alloc + Clone + Drop,
+    R: Processes + Files + Clock + Print + Eprint + Clone + Drop,
+    F: Folders,
     W: Write,
     E: Write,
     ensures statuses { (result ≡ DONE) ⊎ (result ≡ REFUSED) ⊎ (result ≡ LIMIT_REACHED)
@@ -46,10 +58,19 @@ where
         → PrintsVersion (codes "rc") result (W.contents out.old) (W.contents out.new) }
     ensures said { asks_version (map string_bytes words.items) ≡ false → result ≡ DONE
         → IsSome (read_of (map string_bytes words.items)) }
+    // The lines of all scripts of the two folders were written.
     ensures done { asks_version (map string_bytes words.items) ≡ false → result ≡ DONE
-        → Reports (W.contents out.old) (W.contents out.new) }
-    ensures part { asks_version (map string_bytes words.items) ≡ false
-        → (out.new ≡ out.old) ⊎ ReportsPart (W.contents out.old) (W.contents out.new) }
+        → Asks (map string_bytes words.items) (λ said. Reports (F.names_at folders.now) said
+        (W.contents out.old) (W.contents out.new)) }
+    // Nothing was written, or a prefix of those lines.
+    ensures part { asks_version (map string_bytes words.items) ≡ false → (out.new ≡ out.old)
+        ⊎ Asks (map string_bytes words.items) (λ said. ReportsPart (F.names_at folders.now) said
+        (W.contents out.old) (W.contents out.new)) }
+    // Nothing was run, or it is a call of `run_names` over the names in the two folders.
+    ensures ran { asks_version (map string_bytes words.items) ≡ false
+        → (((result ≡ REFUSED) ⊎ (result ≡ DEVICE_FAULT)) × (out.new ≡ out.old))
+        ⊎ Asks (map string_bytes words.items) (λ said. RunsSaid (F.names_at folders.now) said
+        (W.contents out.old) result (W.contents out.new)) }
     ensures report { result ≡ REFUSED
         → ReportsUsage (codes "rc") USAGE.now (E.contents err.old) (E.contents err.new) }
 {
@@ -57,35 +78,46 @@ where
         return print_version("rc", out, err);
     }
     match read_words(alloc, words.as_slice()) {
-        Ok(said) => run(rt, alloc, &said, out, err),
+        Ok(said) => run(rt, folders, alloc, &said, out, err),
         Err(fault) => report_word_fault("rc", &fault, USAGE, err),
     }
 }
 
 /// Runs the scripts of the new level's folder.
-fn run<R, W: Write, E: Write>(rt: &R, alloc: Global, said: &Words, out: &mut W, err: &mut E) -> u8
+fn run<R, F: Folders, W: Write, E: Write>(
+    rt: &R,
+    folders: &F,
+    alloc: Global,
+    said: &Words,
+    out: &mut W,
+    err: &mut E,
+) -> u8
 where
-    R: Processes + Files + Clock + Print + Eprint + Alloc + Clone + Drop,
+    R: Processes + Files + Clock + Print + Eprint + Clone + Drop,
     ensures statuses { (result ≡ DONE) ⊎ (result ≡ LIMIT_REACHED) ⊎ (result ≡ DEVICE_FAULT) }
-    ensures done { result ≡ DONE → Reports (W.contents out.old) (W.contents out.new) }
-    ensures part { (out.new ≡ out.old) ⊎ ReportsPart (W.contents out.old) (W.contents out.new) }
+    ensures done { result ≡ DONE → Reports (F.names_at folders.now) (said_of said.now)
+        (W.contents out.old) (W.contents out.new) }
+    ensures part { (out.new ≡ out.old) ⊎ ReportsPart (F.names_at folders.now) (said_of said.now)
+        (W.contents out.old) (W.contents out.new) }
+    ensures ran { ((result ≡ DEVICE_FAULT) × (out.new ≡ out.old)) ⊎ RunsSaid (F.names_at folders.now)
+        (said_of said.now) (W.contents out.old) result (W.contents out.new) }
 {
     let dir = said.dir.as_str();
     let Ok(path) = folder_of(alloc, dir, said.new) else {
         return report_no_memory("rc", err);
     };
-    let previous = match previous_names(rt, alloc, dir, said.previous) {
+    let previous = match previous_names(folders, alloc, dir, said.previous) {
         Ok(previous) => previous,
         Err(error) => return report_unlisted(dir, &error, err),
     };
-    match names_in(rt, alloc, path.as_str()) {
-        Ok(names) => run_names(rt, alloc, path.as_str(), &previous, &names, out, err),
+    match folders.names(alloc, path.as_str()) {
+        Ok(names) => run_children(rt, alloc, path.as_str(), &previous, &names, out, err),
         Err(error) => report_unlisted(path.as_str(), &error, err),
     }
 }
 
-/// Runs the scripts of a folder, from the names in the folder of the previous level and in it.
-fn run_names<R, W: Write, E: Write>(
+/// Runs the scripts of a folder as real children.
+fn run_children<R, W: Write, E: Write>(
     rt: &R,
     alloc: Global,
     path: &str,
@@ -97,30 +129,65 @@ fn run_names<R, W: Write, E: Write>(
 where
     R: Processes + Files + Clock + Print + Eprint + Clone + Drop,
     ensures statuses { (result ≡ DONE) ⊎ (result ≡ LIMIT_REACHED) ⊎ (result ≡ DEVICE_FAULT) }
-    ensures done { result ≡ DONE → Reports (W.contents out.old) (W.contents out.new) }
-    ensures part { (out.new ≡ out.old) ⊎ ReportsPart (W.contents out.old) (W.contents out.new) }
+    ensures done { result ≡ DONE → ReportsNames (map string_bytes previous.now)
+        (map string_bytes names.now) (W.contents out.old) (W.contents out.new) }
+    ensures part { (out.new ≡ out.old) ⊎ ReportsFirst (map string_bytes previous.now)
+        (map string_bytes names.now) (W.contents out.old) (W.contents out.new) }
+    ensures ran { ((result ≡ DEVICE_FAULT) × (out.new ≡ out.old)) ⊎ ((calls : List HostCall)
+        × RunsNames path.now (map string_bytes previous.now) (map string_bytes names.now)
+        (W.contents out.old) result (W.contents out.new) calls) }
 {
-    let Ok(mut rc) = Rc::new(alloc, previous, names) else {
-        return report_no_memory("rc", err);
-    };
     let Ok(own) = rt.clone() else {
         return report_no_memory("rc", err);
     };
     let Ok(mut host) = OsHost::new(own, alloc, "", "", "", None) else {
         return report_no_memory("rc", err);
     };
-    let ended = run_links(alloc, &mut rc, &mut host, path, PAUSES_LIMIT, out);
+    run_names(alloc, &mut host, path, previous, names, out, err)
+}
+
+/// Runs the scripts of the folder at `path` over a host, from the names in the folder of the previous level and in it,
+/// and gives the exit status: 0 where all were carried out, 3 where a script has not ended after `PAUSES_LIMIT` pauses,
+/// 4 where the output fails or memory runs out. A line for each script is written on `out` at its end, a fault is
+/// reported on `err`.
+pub fn run_names<H: Host, W: Write, E: Write>(
+    alloc: Global,
+    host: &mut H,
+    path: &str,
+    previous: &[String],
+    names: &[String],
+    out: &mut W,
+    err: &mut E,
+) -> u8
+    ensures statuses { (result ≡ DONE) ⊎ (result ≡ LIMIT_REACHED) ⊎ (result ≡ DEVICE_FAULT) }
+    ensures done { result ≡ DONE → ReportsNames (map string_bytes previous.now)
+        (map string_bytes names.now) (W.contents out.old) (W.contents out.new) }
+    ensures part { (out.new ≡ out.old) ⊎ ReportsFirst (map string_bytes previous.now)
+        (map string_bytes names.now) (W.contents out.old) (W.contents out.new) }
+    // There was no memory for the scripts, or they were run with the calls that the host tells.
+    ensures ran { ((result ≡ DEVICE_FAULT) × (out.new ≡ out.old) × (host.new ≡ host.old))
+        ⊎ Since (H.told host.old) (H.told host.new) (RunsNames path.now
+        (map string_bytes previous.now) (map string_bytes names.now) (W.contents out.old) result
+        (W.contents out.new)) }
+    ensures silent { result ≡ DONE → err.new ≡ err.old }
+{
+    let Ok(mut rc) = Rc::new(alloc, previous, names) else {
+        return report_no_memory("rc", err);
+    };
+    let ended = run_links(alloc, &mut rc, host, path, PAUSES_LIMIT, out);
     report_end(ended, err)
 }
 
 /// Reports how a run ended, where it wasn't done, and gives the exit status.
 fn report_end<E: Write>(ended: RunEnd, err: &mut E) -> u8
-    ensures statuses { (result ≡ DONE) ⊎ (result ≡ LIMIT_REACHED) ⊎ (result ≡ DEVICE_FAULT) }
-    ensures done { result ≡ DONE → ended ≡ RunEnd.Done }
+    requires { ended ≢ RunEnd.Waiting }
+    ensures status { result ≡ status_of ended }
+    ensures silent { result ≡ DONE → err.new ≡ err.old }
 {
     match ended {
         RunEnd::Done => DONE,
         RunEnd::Limit => report_limit(err),
+        RunEnd::Waiting => unreachable!(),
         RunEnd::Write => tell(DEVICE_FAULT, "rc: cannot write\n", err),
         RunEnd::Memory => tell(DEVICE_FAULT, "rc: out of memory\n", err),
     }

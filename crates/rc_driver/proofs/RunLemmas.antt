@@ -34,15 +34,15 @@ WritesEnds-stops old new before after ended s head waiting stops = record {
   waits = λ other. waiting;
 }
 
-limit_is_not_done : run_end.Limit ≢ run_end.Done
-limit_is_not_done = λ is. cc
+waiting_is_not_done : run_end.Waiting ≢ run_end.Done
+waiting_is_not_done = λ is. cc
 
 -- a run that can't begin, since an answer is missing
-pub WritesEnds-waiting : (rc new : RcState) (bytes : Option (List ℕ)) → (rc.waits ≡ true) × (new ≡ rc) → WritesEnds rc bytes run_end.Limit new bytes
-WritesEnds-waiting rc new bytes (waiting, same) = subst (λ r. WritesEnds rc bytes run_end.Limit r bytes) (sym same) (record {
+pub WritesEnds-waiting : (rc new : RcState) (bytes : Option (List ℕ)) → (rc.waits ≡ true) × (new ≡ rc) → WritesEnds rc bytes run_end.Waiting new bytes
+WritesEnds-waiting rc new bytes (waiting, same) = subst (λ r. WritesEnds rc bytes run_end.Waiting r bytes) (sym same) (record {
   answers = [];
   part = AppendsPrefix-none bytes (report rc.left []);
-  whole = λ is. absurd (limit_is_not_done is);
+  whole = λ is. absurd (waiting_is_not_done is);
   waits = λ more. waiting;
 })
 

@@ -2,3 +2,6 @@ pub mod Links
 pub mod Report
 pub mod Runs
 pub mod Steps
+pub mod Progress
+pub mod Told
+pub mod Parts

@@ -1,8 +1,12 @@
 ghost use Rattle.std.specs.Prelude.{◌≡◌, ◌++◌, string_bytes, None, IfOk, IfErr, IfSome, OnOk, OnErr};
 ghost use Rattle.std.specs.Io.KnownBytes.{Appends};
 ghost use Rattle.program_io.specs.Writing.{AppendsPrefix};
+ghost use Rattle.child_host.specs.Record.{Since};
+ghost use Rattle.rc_driver.specs.Parts.{Advanced, GoneTo};
 ghost use Rattle.rc_driver.specs.Report.{Advances, Stops, WritesEnds, arg_word, command_text};
 ghost use Rattle.rc_driver.specs.Report.{end_text, exit_text, line_of, script_text, status_text};
+ghost use Rattle.rc_driver.specs.Told.{EndsAt, RunsLinks};
+ghost use Rattle.rc_driver.specs.declared.progress.Progress.TheVariants as progress;
 
 use crate::progress::run_script;
 use crate::runs::{Arg, Rc, RcAnswer, RcStep};
@@ -19,8 +23,10 @@ use std::io::Write;
 pub enum RunEnd {
     /// All scripts came to their ends.
     Done,
-    /// No pause is left.
+    /// The pauses are used up, and the script that was handed out last has not come to its end.
     Limit,
+    /// The answer to a script that was handed out before is missing. Nothing was run.
+    Waiting,
     /// A line could not be written.
     Write,
     /// Out of memory.
@@ -163,8 +169,12 @@ fn run_link<A: Allocator + Copy, H: Host, W: Write>(
 ) -> Result<RcAnswer, RunEnd>
     ensures ok { IfOk result (λ answer. Appends (W.contents out.old) (W.contents out.new)
         (line_of (link.now, arg) answer)) }
+    ensures ran { IfOk result (λ answer. Since (H.told host.old) (H.told host.new) (GoneTo
+        (command_text dir.now (link.now, arg)) (progress.Over answer) pauses.old pauses.new)) }
     ensures err { IfErr result (λ ended.
         Stops ended (link.now, arg) (W.contents out.old) (W.contents out.new)) }
+    ensures ends { IfErr result (λ ended. Since (H.told host.old) (H.told host.new) (EndsAt dir.now
+        pauses.old (link.now, arg) (W.contents out.old) ended (W.contents out.new))) }
 {
     let Ok(command) = command_of(alloc, dir, link, arg) else {
         return Err(RunEnd::Memory);
@@ -172,8 +182,10 @@ fn run_link<A: Allocator + Copy, H: Host, W: Write>(
     let Some(answer) = run_script(alloc, host, command.as_bytes(), pauses) else {
         return Err(RunEnd::Limit);
     };
-    tell_end(out, link, arg, &answer)?;
-    Ok(answer)
+    match tell_end(out, link, arg, &answer) {
+        Ok(()) => Ok(answer),
+        Err(ended) => Err(ended),
+    }
 }
 
 /// Runs the next script; gives how the run ended, where it did.
@@ -189,6 +201,10 @@ fn run_next<'n, A: Allocator + Copy, B: Allocator, H: Host, W: Write>(
         WritesEnds rc.old (W.contents out.old) ended rc.new (W.contents out.new)) }
     ensures more { result ≡ None →
         Advances rc.old (W.contents out.old) rc.new (W.contents out.new) }
+    ensures last { IfSome result (λ ended. Since (H.told host.old) (H.told host.new) (RunsLinks
+        dir.now pauses.old rc.old (W.contents out.old) ended rc.new (W.contents out.new))) }
+    ensures one { result ≡ None → Since (H.told host.old) (H.told host.new) (Advanced dir.now
+        pauses.old pauses.new rc.old (W.contents out.old) rc.new (W.contents out.new)) }
 {
     match rc.next() {
         RcStep::Run(link, arg) => {
@@ -202,7 +218,7 @@ fn run_next<'n, A: Allocator + Copy, B: Allocator, H: Host, W: Write>(
                 Err(ended) => Some(ended),
             }
         }
-        RcStep::Waiting => Some(RunEnd::Limit),
+        RcStep::Waiting => Some(RunEnd::Waiting),
         RcStep::Done => Some(RunEnd::Done),
     }
 }
@@ -210,8 +226,8 @@ fn run_next<'n, A: Allocator + Copy, B: Allocator, H: Host, W: Write>(
 /// Runs the scripts that are left over a host, one at a time, and writes the line of each at its end: its link, its
 /// argument, and `exit N`, `killed` or `not started`. `dir` is the path of the new level's folder. The host is asked
 /// to start each under the id `rc`, and to look until the script has ended, with a pause between two looks; `limit` is
-/// the greatest number of pauses. How a script ends doesn't end the run. Where the run ends early, or the answer to a
-/// script was missing before it, `rc` waits for the answer to the script that was handed out last.
+/// the greatest number of pauses. How a script ends doesn't end the run. Where the run ends early, `rc` waits for the
+/// answer to the script that was handed out last; where it waited for one before, nothing is run.
 pub fn run_links<'n, A: Allocator + Copy, B: Allocator, H: Host, W: Write>(
     alloc: A,
     rc: &mut Rc<'n, B>,
@@ -220,7 +236,9 @@ pub fn run_links<'n, A: Allocator + Copy, B: Allocator, H: Host, W: Write>(
     limit: u32,
     out: &mut W,
 ) -> RunEnd
-    ensures { WritesEnds rc.old (W.contents out.old) result rc.new (W.contents out.new) }
+    ensures written { WritesEnds rc.old (W.contents out.old) result rc.new (W.contents out.new) }
+    ensures calls { Since (H.told host.old) (H.told host.new) (RunsLinks dir.now limit rc.old
+        (W.contents out.old) result rc.new (W.contents out.new)) }
 {
     let mut pauses = limit;
     loop {

@@ -1,8 +1,7 @@
 -- The words that ask for the version don't ask for the usage.
-use Rattle.std.proofs.Common.{◌≡◌, List, ℕ, [], ◌∷◌, Bool, true, false, codes, refl, sym, subst}
+use Rattle.std.proofs.Common.{◌≡◌, List, ℕ, [], ◌∷◌, true, false, codes, refl, sym, subst}
 use Rattle.std.proofs.lemmas.Bool.{true≢false}
 use Rattle.std.proofs.lemmas.Slice.Eq.{bytes_eq-Decides}
-use Rattle.std.specs.Str.{bytes_eq}
 use Rattle.command_words.specs.CommandLines.{asks_version}
 use Rattle.rclinks_command.specs.Command.{wants_usage}
 

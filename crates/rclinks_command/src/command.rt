@@ -74,24 +74,14 @@ fn scripts_of<'w, T: Texts>(
 /// file that it is about, and what to write in its place.
 fn report_reason<E: Write>(path: &str, fault: &FileFault, err: &mut E) {
     let _ = match fault {
-        FileFault::Unread(error) => {
-            writeln!(
-                err,
-                "rclinks: cannot read: {path}\nrclinks: {path}: {error}"
-            )
-        }
-        FileFault::Name => writeln!(
+        FileFault::Unread(_) => writeln!(
             err,
-            "rclinks: bad header: {path}\nrclinks: {path}: the name of a script has bytes of A-Z a-z 0-9 . _ - alone"
+            "rclinks: cannot read: {path}\nrclinks: {path}: {fault}"
         ),
-        FileFault::Header(fault, None) => {
+        FileFault::Name | FileFault::Header(_, _) => {
             writeln!(err, "rclinks: bad header: {path}\nrclinks: {path}: {fault}")
         }
-        FileFault::Header(fault, Some(number)) => writeln!(
-            err,
-            "rclinks: bad header: {path}\nrclinks: {path}: line {number}: {fault}"
-        ),
-        FileFault::Memory => writeln!(err, "rclinks: out of memory: {path}"),
+        FileFault::Memory => writeln!(err, "rclinks: {fault}: {path}"),
     };
 }
 

@@ -1,4 +1,5 @@
-ghost use Rattle.std.specs.Prelude.{◌≡◌, true, IfOk, IfErr, string_bytes};
+ghost use Rattle.std.specs.Prelude.{◌≡◌, true, false, None, Err, IfOk, IfErr, IfSome, string_bytes};
+ghost use Rattle.lsb_header.specs.Headers.{frame_fault};
 ghost use Rattle.rc_links.specs.Names.{is_name};
 ghost use Rattle.rclinks_command.specs.Files.{IsNoScript, IsNoScriptAt, IsScriptAt, IsScriptOf, file_status, last_part, refusal_of};
 
@@ -8,11 +9,12 @@ use path_texts::Texts;
 use program_io::{DEVICE_FAULT, REFUSED};
 use rc_links::{Script, is_name};
 use std::alloc::Global;
-use std::io;
+use std::error::Error;
+use std::{fmt, io};
 
 /// Why a file gives no script.
 #[derive(Clone, Copy, Debug)]
-pub(crate) enum FileFault {
+pub enum FileFault {
     /// It can't be read.
     Unread(io::Error),
     /// Its name is none that a link may have.
@@ -22,6 +24,22 @@ pub(crate) enum FileFault {
     /// Out of memory.
     Memory,
 }
+
+impl fmt::Display for FileFault {
+    fn fmt<W: fmt::Write>(&self, f: &mut fmt::Formatter<W>) -> fmt::Result {
+        match self {
+            FileFault::Unread(error) => write!(f, "{error}"),
+            FileFault::Name => {
+                f.write_str("the name of a script has bytes of A-Z a-z 0-9 . _ - alone")
+            }
+            FileFault::Header(fault, None) => write!(f, "{fault}"),
+            FileFault::Header(fault, Some(number)) => write!(f, "line {number}: {fault}"),
+            FileFault::Memory => f.write_str("out of memory"),
+        }
+    }
+}
+
+impl Error for FileFault {}
 
 impl From<Memory> for FileFault {
     ghost use Rattle.std.specs.Prelude.{◌≡◌};
@@ -36,7 +54,7 @@ impl From<Memory> for FileFault {
 
 impl FileFault {
     /// The exit status.
-    pub(crate) fn status(&self) -> u8
+    pub fn status(&self) -> u8
         ensures { result ≡ file_status self.now }
     {
         match self {
@@ -79,10 +97,15 @@ fn refusal_of(text: &[u8], fault: HeaderFault) -> FileFault
     }
 }
 
-/// The script of a file with this name and text.
-fn script_in(alloc: Global, name: &[u8], text: &[u8]) -> Result<Script, FileFault>
+/// The script of a file with this name and text, or the first fault: a name that no link may have, and then what is
+/// wrong with the header.
+pub fn script_in(alloc: Global, name: &[u8], text: &[u8]) -> Result<Script, FileFault>
     ensures script { IfOk result (IsScriptOf name.now text.now) }
     ensures fault { IfErr result (IsNoScript name.now text.now) }
+    // A name that no link may have, and a header without its first or its last line, take no memory to refuse.
+    ensures named { is_name name.now ≡ false → result ≡ Err FileFault.Name }
+    ensures frame { is_name name.now ≡ true → IfSome (frame_fault text.now) (λ fault.
+        result ≡ Err (refusal_of text.now fault)) }
 {
     if !is_name(name) {
         return Err(FileFault::Name);

@@ -6,3 +6,4 @@ mod command;
 mod files;
 
 pub use command::{USAGE, print_plan, run_words};
+pub use files::{FileFault, script_in};

@@ -34,11 +34,11 @@ use Rattle.simulated_system.specs.Follows.{Follows}
 use Rattle.simulated_system.proofs.Allowing.{none_may}
 use Rattle.simulator.specs.declared.running.SimFault.{SimFault}
 use Rattle.simulator.specs.declared.running.SimFault.TheVariants as fault
-use Rattle.simulator.specs.Handing.{made_in, has_next, is_made, text_at, text_made}
+use Rattle.simulator.specs.Handing.{are_handed, made_in, may_hand, has_next, is_made, text_at, text_made}
 use Rattle.simulator.specs.Moments.{LastsTo, Moment, AtRest, IsReadyFor, GoesOn, HearsLine, HeardBreaks, HeardEnds}
 use Rattle.simulator.specs.Said.{is_scripted, may_be_scripted, objection_in, objection_now, IsObjected, heard}
 use Rattle.simulator.specs.Simulation.{past_text}
-use Rattle.simulator.proofs.Moves.{first_more, heard_more, run_hears, hears_handed, said_parts, past_text-more}
+use Rattle.simulator.proofs.Moves.{first_more, handed_part, heard_more, run_hears, said_parts, past_text-more}
 use Rattle.simulator.proofs.Keeping.{kept_is}
 use Rattle.simulator.proofs.Rereading.{reread_quiet}
 
@@ -169,31 +169,32 @@ fits_silent goal past happening core side moment may not_table not_read not_told
 pub moment_heard : (goal : Goal) (past : List Event) (happening : Event) (core new_core : CoreState) (side new_side : SystemState) → Moment goal past core side → may_be_scripted goal happening past ≡ true → Fits new_core goal (happening ∷ past) → LastsTo new_core goal (happening ∷ past)
     → (is_sound goal (happening ∷ past) ≡ true → Follows side past → Follows new_side (happening ∷ past)) → Moment goal (happening ∷ past) new_core new_side
 moment_heard goal past happening core new_core side new_side moment may fits lasts follows =
-    let (runs, handed) = hears_handed goal happening past may (moment.runs, moment.handed) in
+    let runs = run_hears goal happening past may moment.runs in
     record {
       runs = runs;
-      handed = handed;
       fits = fits;
       lasts = lasts;
       follows = follows (run_sound goal (happening ∷ past) runs) moment.follows;
     }
 
 -- a happening was heard
-pub hears_one : (goal : Goal) (past : List Event) (happening : Event) → is_run goal past ≡ true → is_in_range happening ≡ true → may_be_scripted goal happening past ≡ true → HearsLine past (happening ∷ past) (event_text happening) (event_text happening)
+pub hears_one : (goal : Goal) (past : List Event) (happening : Event) → is_run goal past ≡ true → is_in_range happening ≡ true → may_be_scripted goal happening past ≡ true → HearsLine goal past (happening ∷ past) (event_text happening) (event_text happening)
 hears_one goal past happening runs ranged may =
     let said : is_scripted happening ≡ true = (said_parts goal happening past may).0 in
     let more : heard (happening ∷ past) ≡ happening ∷ heard past = heard_more goal happening past runs ∙ ap (λ (b : Bool). cond b (happening ∷ heard past) (heard past)) said in
     record {
       opens = first_more goal happening past runs;
+      handed = λ before. and_from (may_hand goal happening past) (are_handed goal past) (handed_part goal happening past may) before;
       are = λ are. rw more (and_from (is_in_range happening) (are_in_range (heard past)) ranged are);
       hears = ap past_text more ∙ past_text-more happening (heard past);
       text = past_text-more happening past;
     }
 
 -- a happening was heard, and init went on
-pub hears_goes : (past mid next : List Event) (said more after : List ℕ) → HearsLine past mid said more → GoesOn mid next after → HearsLine past next said (more ++ after)
-hears_goes past mid next said more after hears goes = record {
+pub hears_goes : (goal : Goal) (past mid next : List Event) (said more after : List ℕ) → HearsLine goal past mid said more → GoesOn mid next after → HearsLine goal past next said (more ++ after)
+hears_goes goal past mid next said more after hears goes = record {
   opens = goes.opens ∙ hears.opens;
+  handed = λ before. goes.handed goal ∙ hears.handed before;
   are = λ are. subst (λ es. are_in_range es ≡ true) (sym goes.hears) (hears.are are);
   hears = ap past_text goes.hears ∙ hears.hears;
   text = goes.text ∙ ap (λ t. t ++ after) hears.text ∙ append_assoc (past_text past) more after;

@@ -2,7 +2,7 @@
 use Rattle.std.proofs.Common.{Result, Ok, Err, IfErr, Bool, true, false, ◌&&◌, cond, ◌≡◌, ◌++◌, ℕ, List, [], ◌∷◌, reverse, Option, refl, sym, ap, ◌∙◌, subst, append_assoc}
 use Rattle.std.specs.Io.KnownBytes.{Appends}
 use Rattle.std.proofs.KnownBytes.{Appends-nil, Appends-trans}
-use Rattle.std.proofs.lemmas.Bool.{false≢true, and_from, and_parts}
+use Rattle.std.proofs.lemmas.Bool.{false≢true, and_parts}
 use Rattle.init_trace.specs.declared.happenings.Happening.TheVariants as event
 use Rattle.init_trace.specs.declared.steps.Step.{Step}
 use Rattle.init_trace.specs.declared.steps.Step.TheVariants.{Enter, Call, Power, Reread, Order, Hold, Settle, Reexec, Idle}
@@ -22,8 +22,8 @@ use Rattle.simulated_system.specs.Follows.{Follows}
 use Rattle.simulator.specs.declared.running.SimFault.{SimFault}
 use Rattle.simulator.specs.declared.running.SimFault.TheVariants as fault
 use Rattle.simulator.specs.Faults.{Leaves}
-use Rattle.simulator.specs.Handing.{may_hand, are_handed}
-use Rattle.simulator.specs.Moments.{LastsTo, Moment, IsHandedRun, AtRest, GoesOn}
+use Rattle.simulator.specs.Handing.{are_handed, may_hand}
+use Rattle.simulator.specs.Moments.{LastsTo, Moment, AtRest, GoesOn}
 use Rattle.simulator.specs.Said.{is_scripted, may_be_scripted, first_table, heard}
 use Rattle.simulator.specs.Simulation.{past_text}
 
@@ -44,18 +44,6 @@ run_step goal past (Settle level) is runs = both _ _ _ (rw (← is) (same_step-s
 run_step goal past Reread is runs = runs
 run_step goal past Reexec is runs = runs
 run_step goal past Idle is runs = runs
-
--- a step is no hand-over
-pub step_hands : (goal : Goal) (past : List Event) (s : Step) → are_handed goal past ≡ true → are_handed goal (with_step s past) ≡ true
-step_hands goal past (Enter now grace) h = h
-step_hands goal past (Call letter) h = h
-step_hands goal past (Power kind) h = h
-step_hands goal past (Order id ask) h = h
-step_hands goal past (Hold id) h = h
-step_hands goal past (Settle level) h = h
-step_hands goal past Reread h = h
-step_hands goal past Reexec h = h
-step_hands goal past Idle h = h
 
 -- a step at which init rests adds nothing
 pub rest_step : (s : Step) (past : List Event) → is_rest s ≡ true → with_step s past ≡ past
@@ -102,29 +90,42 @@ step_heard goal Reread past runs = refl
 step_heard goal Reexec past runs = refl
 step_heard goal Idle past runs = refl
 
--- what may be said is of a script, and the hand-over that it is may be made, and init waits for it, and it may come
+step_handed : (goal : Goal) (s : Step) (past : List Event) → are_handed goal (with_step s past) ≡ are_handed goal past
+step_handed goal (Enter now grace) past = refl
+step_handed goal (Call letter) past = refl
+step_handed goal (Power kind) past = refl
+step_handed goal (Order id ask) past = refl
+step_handed goal (Hold id) past = refl
+step_handed goal (Settle level) past = refl
+step_handed goal Reread past = refl
+step_handed goal Reexec past = refl
+step_handed goal Idle past = refl
+
+-- what may be said may be handed over, where it is a hand-over
+pub handed_part : (goal : Goal) (happening : Event) (past : List Event) → may_be_scripted goal happening past ≡ true → may_hand goal happening past ≡ true
+handed_part goal happening past may =
+    let outer = and_parts (is_scripted happening && may_hand goal happening past && is_next (first (due goal past)) happening) (may_come goal happening past) may in
+    let inner = and_parts (is_scripted happening && may_hand goal happening past) (is_next (first (due goal past)) happening) outer.0 in
+    (and_parts (is_scripted happening) (may_hand goal happening past) inner.0).1
+
+-- what may be said is of a script, and init waits for it, and it may come
 pub said_parts : (goal : Goal) (happening : Event) (past : List Event) → may_be_scripted goal happening past ≡ true
-    → (is_scripted happening ≡ true) × (may_hand goal happening past ≡ true) × (is_next (first (due goal past)) happening ≡ true) × (may_come goal happening past ≡ true)
+    → (is_scripted happening ≡ true) × (is_next (first (due goal past)) happening ≡ true) × (may_come goal happening past ≡ true)
 said_parts goal happening past may =
     let outer = and_parts (is_scripted happening && may_hand goal happening past && is_next (first (due goal past)) happening) (may_come goal happening past) may in
     let inner = and_parts (is_scripted happening && may_hand goal happening past) (is_next (first (due goal past)) happening) outer.0 in
-    let said = and_parts (is_scripted happening) (may_hand goal happening past) inner.0 in
-    (said.0, said.1, inner.1, outer.1)
+    ((and_parts (is_scripted happening) (may_hand goal happening past) inner.0).0, inner.1, outer.1)
 
 -- a happening that may be said carries the run on
 pub run_hears : (goal : Goal) (happening : Event) (past : List Event) → may_be_scripted goal happening past ≡ true → is_run goal past ≡ true → is_run goal (happening ∷ past) ≡ true
 run_hears goal happening past may runs =
     let parts = said_parts goal happening past may in
-    at happening past runs parts.2 parts.3
+    at happening past runs parts.1 parts.2
   where
     at : (h : Event) (before : List Event) → is_run goal before ≡ true → is_next (first (due goal before)) h ≡ true → may_come goal h before ≡ true → is_run goal (h ∷ before) ≡ true
     at h [] runs next come = absurd (false≢true runs)
     at (event.NewTable table) (x ∷ before) runs next come = both (is_next (first (due goal (x ∷ before))) (event.NewTable table)) (may_come goal (event.NewTable table) (x ∷ before)) (is_run goal (x ∷ before)) next come runs
     at h (x ∷ before) runs next come = both (is_next (first (due goal (x ∷ before))) h) (may_come goal h (x ∷ before)) (is_run goal (x ∷ before)) next come runs
-
--- and each hand-over came where it might be made
-pub hears_handed : (goal : Goal) (happening : Event) (past : List Event) → may_be_scripted goal happening past ≡ true → IsHandedRun goal past → IsHandedRun goal (happening ∷ past)
-hears_handed goal happening past may run = (run_hears goal happening past may run.0, and_from (may_hand goal happening past) (are_handed goal past) (said_parts goal happening past may).1 run.1)
 
 -- the text of a trace with one happening more
 pub trace_text-append : (xs ys : List Event) → trace_text (xs ++ ys) ≡ trace_text xs ++ trace_text ys
@@ -138,19 +139,17 @@ past_text-more happening past = ap trace_text (reverse_onto past happening []) �
 pub goes_step : (goal : Goal) (s : Step) (happening : Event) (past next : List Event) (more : List ℕ) → is_run goal next ≡ true → with_step s next ≡ happening ∷ next → GoesOn past next more → GoesOn past (happening ∷ next) (more ++ event_text happening)
 goes_step goal s happening past next more runs added goes = record {
   opens = ap first_table (sym added) ∙ step_first goal s next runs ∙ goes.opens;
+  handed = λ of. ap (are_handed of) (sym added) ∙ step_handed of s next ∙ goes.handed of;
   hears = ap heard (sym added) ∙ step_heard goal s next runs ∙ goes.hears;
   text = past_text-more happening next ∙ ap (λ text. text ++ event_text happening) goes.text ∙ append_assoc (past_text past) more (event_text happening);
 }
 
 pub goes_none : (past : List Event) → GoesOn past past []
-goes_none past = record { opens = refl; hears = refl; text = sym (append-nil (past_text past)) }
+goes_none past = record { opens = refl; handed = λ goal. refl; hears = refl; text = sym (append-nil (past_text past)) }
 
 -- a run with one step more
 pub more_run : (goal : Goal) (past : List Event) (happening : Event) (s : Step) → s ≡ first (due goal past) → with_step s past ≡ happening ∷ past → is_run goal past ≡ true → is_run goal (happening ∷ past) ≡ true
 more_run goal past happening s is added runs = subst (λ t. is_run goal t ≡ true) added (run_step goal past s is runs)
-
-pub more_handed : (goal : Goal) (past : List Event) (happening : Event) (s : Step) → with_step s past ≡ happening ∷ past → are_handed goal past ≡ true → are_handed goal (happening ∷ past) ≡ true
-more_handed goal past happening s added handed = subst (λ t. are_handed goal t ≡ true) added (step_hands goal past s handed)
 
 -- init went on from a moment to another, and wrote what it did
 abbrev pub WentOn : Goal → List Event → CoreState → SystemState → Option (List ℕ) → Option (List ℕ) → Type 0
@@ -167,7 +166,6 @@ module _ (core new_core : CoreState) (side new_side : SystemState) (s : Step) (h
       let runs = more_run goal past happening s (due_now goal past sound moment.fits) (added past) moment.runs in
       record {
         runs = runs;
-        handed = more_handed goal past happening s (added past) moment.handed;
         fits = subst (Fits new_core goal) (added past) (fits goal past sound moment.fits);
         lasts = subst (LastsTo new_core goal) (added past) (lasts goal past moment.fits moment.lasts);
         follows = follows goal past (run_sound goal (happening ∷ past) runs) moment.follows;
@@ -205,7 +203,6 @@ pub at_rest : (goal : Goal) (past : List Event) (s : Step) (rereads : Bool) (cor
 at_rest goal past s rereads core new_core side moment is rests read fits lasts = record {
   moment = record {
     runs = moment.runs;
-    handed = moment.handed;
     fits = subst (Fits new_core goal) (rest_step s past rests) fits;
     lasts = subst (LastsTo new_core goal) (rest_step s past rests) lasts;
     follows = moment.follows;

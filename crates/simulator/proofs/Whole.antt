@@ -13,6 +13,7 @@ use Rattle.init_trace.specs.Lines.{event_text}
 use Rattle.init_trace.specs.Range.{is_in_range, are_in_range, line_count, BeginsNone}
 use Rattle.init_trace.proofs.ReadTexts.{counted_on}
 use Rattle.text_lines.specs.Lines.{newlines}
+use Rattle.init_trace.specs.Run.{is_run}
 use Rattle.core_model.specs.State.{CoreState}
 use Rattle.core_model.specs.Fit.{Fits}
 use Rattle.simulated_system.specs.State.{SystemState}
@@ -21,7 +22,7 @@ use Rattle.simulator.specs.declared.running.SimFault.{SimFault}
 use Rattle.simulator.specs.declared.running.SimFault.TheVariants as fault
 use Rattle.simulator.specs.Faults.{Leaves}
 use Rattle.simulator.proofs.Opening.{OpeningEnds}
-use Rattle.simulator.specs.Moments.{LastsTo, Moment, IsHandedRun, GoesOn, HearsLine, ComesToRest, Breaks, FromRest, HeardOne, HeardBreaks, HeardEnds, SoFar, opening_text}
+use Rattle.simulator.specs.Moments.{LastsTo, Moment, GoesOn, HearsLine, ComesToRest, Breaks, FromRest, HeardOne, HeardBreaks, HeardEnds, SoFar, opening_text}
 use Rattle.simulator.specs.Simulation.{Scenario, table_in, goal_in, script_in, past_text, heard_text, RunOver, Broken, Ends, Done}
 use Rattle.simulator.proofs.Moves.{leaves_behind, memory_after}
 
@@ -36,16 +37,16 @@ table_text table = append-nil (event_text (NewTable table))
 -- the first moment
 pub first_moment : (inittab : List ℕ) (goal : Goal) (core : CoreState) (side : SystemState) → Fits core goal (NewTable (table_of_text inittab) ∷ []) → LastsTo core goal (NewTable (table_of_text inittab) ∷ []) → Follows side (NewTable (table_of_text inittab) ∷ [])
     → Moment goal (NewTable (table_of_text inittab) ∷ []) core side
-first_moment inittab goal core side fits lasts follows = record { runs = distinct_text inittab; handed = refl; fits = fits; lasts = lasts; follows = follows }
+first_moment inittab goal core side fits lasts follows = record { runs = distinct_text inittab; fits = fits; lasts = lasts; follows = follows }
 
 first_run : (s : Scenario) → RunOver s (script_in s) (opening s)
 first_run s = record { runs = distinct_text s.inittab; handed = refl; opens = refl; are = refl; hears = refl }
 
 -- nothing was heard yet, and init went on
-run_first : (s : Scenario) (next : List Event) (more : List ℕ) → IsHandedRun (goal_in s) next → GoesOn (opening s) next more → RunOver s (script_in s) next
-run_first s next more (runs, handed) goes = record {
+run_first : (s : Scenario) (next : List Event) (more : List ℕ) → is_run (goal_in s) next ≡ true → GoesOn (opening s) next more → RunOver s (script_in s) next
+run_first s next more runs goes = record {
   runs = runs;
-  handed = handed;
+  handed = goes.handed (goal_in s);
   opens = goes.opens;
   are = ap are_in_range goes.hears;
   hears = ap (λ es. past_text es ++ script_in s) goes.hears;
@@ -58,7 +59,7 @@ so_far_first s rereads core side old mid new before (next, more, at, goes, writt
   past = next;
   counted = ap (λ es. newlines (past_text es) + 1) (sym goes.hears);
   at = at;
-  run = run_first s next more (at.moment.runs, at.moment.handed) goes;
+  run = run_first s next more at.moment.runs goes;
   written = subst (Appends old new) (sym (goes.text ∙ ap (λ t. t ++ more) (table_text (table_in s)))) (Appends-trans old mid new (opening_text s.inittab) more before written);
 }
 
@@ -92,11 +93,11 @@ broken_ends s fault.Write old new broken = broken
 broken_ends s fault.Memory old new broken = broken
 
 -- the run over one happening more of the script
-run_more : (s : Scenario) (rest behind : List ℕ) (past next : List Event) (happening : Event) (more : List ℕ) → RunOver s rest past → IsHandedRun (goal_in s) next
-    → event_text happening ++ behind ≡ rest → HearsLine past next (event_text happening) more → RunOver s behind next
-run_more s rest behind past next happening more run (runs, handed) begins hears = record {
+run_more : (s : Scenario) (rest behind : List ℕ) (past next : List Event) (happening : Event) (more : List ℕ) → RunOver s rest past → is_run (goal_in s) next ≡ true
+    → event_text happening ++ behind ≡ rest → HearsLine (goal_in s) past next (event_text happening) more → RunOver s behind next
+run_more s rest behind past next happening more run runs begins hears = record {
   runs = runs;
-  handed = handed;
+  handed = hears.handed run.handed;
   opens = hears.opens ∙ run.opens;
   are = hears.are run.are;
   hears = ap (λ t. t ++ behind) hears.hears ∙ append_assoc (heard_text past) (event_text happening) behind ∙ ap (λ t. heard_text past ++ t) begins ∙ run.hears;
@@ -113,7 +114,7 @@ so_far_next s rest behind happening number rereads then_rereads core new_core si
       past = next;
       counted = (counted_on (heard_text so_far.past) behind rest (script_in s) happening number ranged begins so_far.run.hears so_far.counted).0 ∙ ap (λ t. newlines t + 1) (sym hears.hears);
       at = at;
-      run = run_more s rest behind so_far.past next happening more so_far.run (at.moment.runs, at.moment.handed) begins hears;
+      run = run_more s rest behind so_far.past next happening more so_far.run at.moment.runs begins hears;
       written = subst (Appends old new) (sym hears.text) (Appends-trans old mid new (past_text so_far.past) more so_far.written written);
     }
 

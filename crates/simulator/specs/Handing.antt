@@ -66,7 +66,7 @@ abbrev pub may_hand : Goal → Event → List Event → Bool
 may_hand opening (Handed how) past = may_be_handed opening how past
 may_hand opening _ past = true
 
--- each hand-over of a trace came where it might be made
+-- each hand-over in the trace came where it may be made
 abbrev pub are_handed : Goal → List Event → Bool
 are_handed opening [] = true
 are_handed opening (happening ∷ past) = may_hand opening happening past && are_handed opening past

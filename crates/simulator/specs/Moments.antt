@@ -19,7 +19,7 @@ use Rattle.simulated_system.specs.Follows.{Follows}
 use Rattle.simulator.specs.declared.running.SimFault.{SimFault}
 use Rattle.simulator.specs.declared.running.SimFault.TheVariants as fault
 use Rattle.simulator.specs.Faults.{Leaves}
-use Rattle.simulator.specs.Handing.{made_in, kept_goal, are_handed}
+use Rattle.simulator.specs.Handing.{are_handed, made_in, kept_goal}
 use Rattle.simulator.specs.Texts.{CanHand}
 use Rattle.simulator.specs.Said.{may_be_scripted, IsObjected, first_table, heard}
 use Rattle.simulator.specs.Simulation.{IsTooLong, RunOver, Scenario, goal_in, heard_text, past_text, table_in}
@@ -34,14 +34,9 @@ pub record LastsTo (core : CoreState) (opening : Goal) (past : List Event) : Typ
 -- the core fits the run so far and can be handed over, and the system's side follows the run
 pub record Moment (goal : Goal) (past : List Event) (core : CoreState) (side : SystemState) : Type 0 where
   pub runs : is_run goal past ≡ true
-  pub handed : are_handed goal past ≡ true
   pub fits : Fits core goal past
   pub lasts : LastsTo core goal past
   pub follows : Follows side past
-
--- a run in which each hand-over came where it might be made
-abbrev pub IsHandedRun : Goal → List Event → Type 0
-IsHandedRun goal past = (is_run goal past ≡ true) × (are_handed goal past ≡ true)
 
 abbrev pub SomeMoment : CoreState → SystemState → Type 0
 SomeMoment core side = (goal : Goal) × (past : List Event) × Moment goal past core side
@@ -50,9 +45,11 @@ SomeMoment core side = (goal : Goal) × (past : List Event) × Moment goal past 
 abbrev pub FromMoment : CoreState → SystemState → (Goal → List Event → Type 0) → Type 0
 FromMoment core side P = (goal : Goal) (past : List Event) → Moment goal past core side → P goal past
 
--- the trace went on from past to next: it begins with the same table, nothing was heard, and this text is more
+-- the trace went on from past to next: it begins with the same table, nothing was heard and nothing handed over, and
+-- this text is more
 pub record GoesOn (past next : List Event) (more : List ℕ) : Type 0 where
   pub opens : first_table next ≡ first_table past
+  pub handed : (goal : Goal) → are_handed goal next ≡ are_handed goal past
   pub hears : heard next ≡ heard past
   pub text : past_text next ≡ past_text past ++ more
 
@@ -79,7 +76,7 @@ ComesToRest goal past rereads core side old new =
 -- init went on, and was writing what it did when the fault came
 abbrev pub Breaks : Goal → List Event → SimFault → Option (List ℕ) → Option (List ℕ) → Type 0
 Breaks goal past f old new =
-    (next : List Event) × (more : List ℕ) × IsHandedRun goal next × GoesOn past next more × Leaves f old new more
+    (next : List Event) × (more : List ℕ) × (is_run goal next ≡ true) × GoesOn past next more × Leaves f old new more
 
 -- a table is adopted where no start and no signal is open in the core, and a hand-over is made where it can be
 abbrev pub IsReadyFor : Event → CoreState → Type 0
@@ -87,10 +84,11 @@ IsReadyFor (NewTable table) core = is_quiet core.slots ≡ true
 IsReadyFor (Handed how) core = CanHand how core
 IsReadyFor _ core = Unit {0}
 
--- the trace went on from past to next: it begins with the same table, this was heard of the script, and this text is
--- more
-pub record HearsLine (past next : List Event) (said more : List ℕ) : Type 0 where
+-- the trace went on from past to next: it begins with the same table, this was heard of the script, a hand-over where
+-- it may be made, and this text is more
+pub record HearsLine (goal : Goal) (past next : List Event) (said more : List ℕ) : Type 0 where
   pub opens : first_table next ≡ first_table past
+  pub handed : are_handed goal past ≡ true → are_handed goal next ≡ true
   pub are : are_in_range (heard past) ≡ true → are_in_range (heard next) ≡ true
   pub hears : heard_text next ≡ heard_text past ++ said
   pub text : past_text next ≡ past_text past ++ more
@@ -98,12 +96,12 @@ pub record HearsLine (past next : List Event) (said more : List ℕ) : Type 0 wh
 -- a happening was heard, and init went on until it rests, and what came was written
 abbrev pub HeardOne : Goal → List Event → Event → Bool → CoreState → SystemState → Option (List ℕ) → Option (List ℕ) → Type 0
 HeardOne goal past happening rereads core side old new = (next : List Event) × (more : List ℕ)
-    × AtRest goal next rereads core side × HearsLine past next (event_text happening) more × Appends old new more
+    × AtRest goal next rereads core side × HearsLine goal past next (event_text happening) more × Appends old new more
 
 -- a happening was heard, and what came was being written when the fault came
 abbrev pub HeardBreaks : Goal → List Event → Event → SimFault → Option (List ℕ) → Option (List ℕ) → Type 0
 HeardBreaks goal past happening f old new = (next : List Event) × (more : List ℕ)
-    × IsHandedRun goal next × HearsLine past next (event_text happening) more × Leaves f old new more
+    × (is_run goal next ≡ true) × HearsLine goal past next (event_text happening) more × Leaves f old new more
 
 -- how a happening whose line has this number may end the run; memory may also be wanting before it is heard
 abbrev pub HeardEnds : Goal → List Event → Event → ℕ → SimFault → Option (List ℕ) → Option (List ℕ) → Type 0

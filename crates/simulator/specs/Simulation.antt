@@ -48,7 +48,7 @@ abbrev pub heard_text : List Event → List ℕ
 heard_text past = past_text (heard past)
 
 -- the run over the script up to this rest of it: it begins with the inittab's table, init takes first due steps, and
--- hears what the script says in turn when it rests, a hand-over where it may be made
+-- hears what the script says in turn when it rests; each hand-over comes where it may be made
 pub record RunOver (s : Scenario) (rest : List ℕ) (past : List Event) : Type 0 where
   pub runs : is_run (goal_in s) past ≡ true
   pub handed : are_handed (goal_in s) past ≡ true

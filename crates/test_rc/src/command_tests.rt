@@ -57,7 +57,7 @@ where
 {
     let mut out: Vec<u8> = Vec::new(alloc);
     let mut err: Vec<u8> = Vec::new(alloc);
-    let status = run_words(rt, alloc, words, &mut out, &mut err);
+    let status = run_words(rt, rt, alloc, words, &mut out, &mut err);
     assert!(rt;
         status == row.1 && out.as_slice() == row.2.as_bytes() && (status == 0) == err.is_empty()
     );
@@ -140,7 +140,7 @@ where
 {
     let mut out: Vec<u8> = Vec::new(alloc);
     let mut err: Vec<u8> = Vec::new(alloc);
-    let status = run_words(rt, alloc, words, &mut out, &mut err);
+    let status = run_words(rt, rt, alloc, words, &mut out, &mut err);
     assert!(rt; status == 1 && out.is_empty() && err.as_slice() == report.as_bytes());
 }
 
@@ -183,7 +183,7 @@ where
     let (room, status, report) = *row;
     let mut out = Slow::new(alloc, room, true, false);
     let mut err: Vec<u8> = Vec::new(alloc);
-    let ended = run_words(rt, alloc, words, &mut out, &mut err);
+    let ended = run_words(rt, rt, alloc, words, &mut out, &mut err);
     assert!(rt;
         ended == status
             && err.as_slice() == report.as_bytes()

@@ -273,7 +273,7 @@ fn ends_at_once(
 fn ends_with_no_answer(rt: &impl Abort, alloc: Global, names: &[String]) -> Result<(), Fail> {
     let mut rc = Rc::new(alloc, &[], names)?;
     let _ = rc.next();
-    ends_at_once(rt, alloc, &mut rc, false, RunEnd::Limit, b"");
+    ends_at_once(rt, alloc, &mut rc, false, RunEnd::Waiting, b"");
     Ok(())
 }
 

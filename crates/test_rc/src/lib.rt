@@ -9,4 +9,6 @@ mod driving_tests;
 #[cfg(test)]
 mod growth_tests;
 #[cfg(test)]
+mod names_tests;
+#[cfg(test)]
 mod order_tests;

@@ -1,6 +1,4 @@
-use Rattle.std.proofs.Common.{inl, inr, sym}
-use Rattle.std.proofs.lemmas.Bool.{true≢false}
-use Rattle.rclinks_command.proofs.VersionWords.{no_usage}
+use Rattle.std.proofs.Common.{inl, inr}
 use Rattle.rclinks_command.proofs.command.run_words.Goals as goal
 
 pub returns-in-Ok-clause-refused : goal.returns-in-Ok-clause-refused

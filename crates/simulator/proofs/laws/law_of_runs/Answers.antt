@@ -1,11 +1,11 @@
 use Rattle.trace_laws.proofs.Laws.{lawful_unbroken}
 use Rattle.trace_laws.proofs.Runs.{run_lawful}
 use Rattle.simulator.specs.Simulation.{goal_in}
-use Rattle.simulator.proofs.OneRun.{only_run}
+use Rattle.simulator.proofs.Only.{only}
 use Rattle.simulator.proofs.laws.law_of_runs.Goals as goal
+
+pub returns-clause-only : goal.returns-clause-only
+returns-clause-only c s rest past other one two = only s rest past other one two
 
 pub returns-clause-lawful : goal.returns-clause-lawful
 returns-clause-lawful c s rest past run = lawful_unbroken past (run_lawful (goal_in s) past run.runs)
-
-pub returns-clause-only : goal.returns-clause-only
-returns-clause-only c s rest one other first second = only_run s rest one other first second

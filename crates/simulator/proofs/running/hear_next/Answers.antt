@@ -3,7 +3,7 @@ use Rattle.std.proofs.KnownBytes.{Appends-trans, Keeps-refl}
 use Rattle.init_trace.specs.Lines.{event_text}
 use Rattle.init_words.proofs.Tests.{err_is}
 use Rattle.simulator.specs.declared.running.SimFault.TheVariants as fault
-use Rattle.simulator.proofs.Moves.{err_then, leaves_behind, hears_handed}
+use Rattle.simulator.proofs.Moves.{err_then, leaves_behind, run_hears}
 use Rattle.simulator.proofs.Hearing.{may_say, objected, ready, hears_one, hears_goes, broken_heard, ok_gives}
 use Rattle.simulator.proofs.running.hear_next.Goals as goal
 
@@ -37,7 +37,7 @@ returns-in_err-hear-clause-err g c =
     broken_heard goal past c.args.happening.now c.args.number f (g.W.Write.contents c.args.out.now) (g.W.Write.contents c.hear.new.out) (
       c.args.happening.now ∷ past,
       event_text c.args.happening.now,
-      hears_handed goal c.args.happening.now past may (at.moment.runs, at.moment.handed),
+      run_hears goal c.args.happening.now past may at.moment.runs,
       hears_one goal past c.args.happening.now at.moment.runs c.requires.ranged may,
       c.in_err-hear.ensures.err,
     ))
@@ -55,7 +55,7 @@ returns-clause-ok g c = ok_gives c.run_until_rest.result _ _ c.run_until_rest.en
       next,
       event_text c.args.happening.now ++ more,
       at_rest,
-      hears_goes past (c.args.happening.now ∷ past) next (event_text c.args.happening.now) (event_text c.args.happening.now) more (hears_one goal past c.args.happening.now at.moment.runs c.requires.ranged may) goes,
+      hears_goes goal past (c.args.happening.now ∷ past) next (event_text c.args.happening.now) (event_text c.args.happening.now) more (hears_one goal past c.args.happening.now at.moment.runs c.requires.ranged may) goes,
       Appends-trans (g.W.Write.contents c.args.out.now) (g.W.Write.contents c.hear.new.out) (g.W.Write.contents c.run_until_rest.new.out) (event_text c.args.happening.now) more c.in_ok-hear.ensures.text written,
     ))
 
@@ -67,7 +67,7 @@ returns-clause-err g c = err_then c.run_until_rest.result _ _ c.run_until_rest.e
       next,
       event_text c.args.happening.now ++ more,
       runs,
-      hears_goes past (c.args.happening.now ∷ past) next (event_text c.args.happening.now) (event_text c.args.happening.now) more (hears_one goal past c.args.happening.now at.moment.runs c.requires.ranged may) goes,
+      hears_goes goal past (c.args.happening.now ∷ past) next (event_text c.args.happening.now) (event_text c.args.happening.now) more (hears_one goal past c.args.happening.now at.moment.runs c.requires.ranged may) goes,
       leaves_behind f (g.W.Write.contents c.args.out.now) (g.W.Write.contents c.hear.new.out) (g.W.Write.contents c.run_until_rest.new.out)
           (event_text c.args.happening.now) more c.in_ok-hear.ensures.text leaves,
     ))

@@ -6,7 +6,7 @@ use Rattle.simulator.specs.declared.running.SimFault.TheVariants as fault
 use Rattle.init_words.proofs.Tests.{err_is}
 use Rattle.core_model.specs.State.{CoreState}
 use Rattle.simulator.proofs.Keeping.{lasts_step, same_generation}
-use Rattle.simulator.proofs.Moves.{at_rest, moment_step, went_step, goes_step, leaves_behind, memory_after, more_run, more_handed}
+use Rattle.simulator.proofs.Moves.{at_rest, moment_step, went_step, goes_step, leaves_behind, memory_after, more_run}
 use Rattle.simulator.proofs.running.run_until_rest.Goals as goal
 
 -- init rests
@@ -33,7 +33,7 @@ returns-in_err-write_happening-clause-err g c =
     let due_now = c.next-step.ensures.due goal next (run_sound goal next moment.runs) moment.fits in (
       c.in-Some.happening ∷ next,
       more ++ event_text c.in-Some.happening,
-      (more_run goal next c.in-Some.happening c.next-step.result due_now (c.in-Some.ensures.some.1 next) moment.runs, more_handed goal next c.in-Some.happening c.next-step.result (c.in-Some.ensures.some.1 next) moment.handed),
+      more_run goal next c.in-Some.happening c.next-step.result due_now (c.in-Some.ensures.some.1 next) moment.runs,
       goes_step goal c.next-step.result c.in-Some.happening past next more moment.runs (c.in-Some.ensures.some.1 next) goes,
       leaves_behind f (g.W.Write.contents c.args.out.now) (g.W.Write.contents c.steps.out) (g.W.Write.contents c.write_happening.new.out)
           more (event_text c.in-Some.happening) written c.in_err-write_happening.ensures.err,
@@ -48,7 +48,7 @@ returns-in_err-take-clause-err g c =
     let due_now = c.next-step.ensures.due goal next (run_sound goal next moment.runs) moment.fits in (
       c.in-Some.happening ∷ next,
       more ++ event_text c.in-Some.happening,
-      (more_run goal next c.in-Some.happening c.next-step.result due_now (c.in-Some.ensures.some.1 next) moment.runs, more_handed goal next c.in-Some.happening c.next-step.result (c.in-Some.ensures.some.1 next) moment.handed),
+      more_run goal next c.in-Some.happening c.next-step.result due_now (c.in-Some.ensures.some.1 next) moment.runs,
       goes_step goal c.next-step.result c.in-Some.happening past next more moment.runs (c.in-Some.ensures.some.1 next) goes,
       memory_after (g.W.Write.contents c.args.out.now) (g.W.Write.contents c.write_happening.new.out) (more ++ event_text c.in-Some.happening)
           (Appends-trans (g.W.Write.contents c.args.out.now) (g.W.Write.contents c.steps.out) (g.W.Write.contents c.write_happening.new.out)

@@ -1,0 +1,22 @@
+use Rattle.std.proofs.Common.{◌∙◌, inl, inr, Global, List, String, map, string_bytes, ℕ}
+use Rattle.rc_command.specs.CommandLine.{said_of}
+use Rattle.rc_command.proofs.Reported.{are_names}
+use Rattle.rc_command.proofs.running.run.Goals as goal
+
+abbrev texts : List (String Global) → List (List ℕ)
+texts names = map (λ (name : String Global). string_bytes name) names
+
+pub returns-in-Ok-names-clause-part : goal.returns-in-Ok-names-clause-part
+returns-in-Ok-names-clause-part g c = elim c.run_children.ensures.part [
+  | inl same ↦ inl same
+  | inr some ↦
+      (let part = rw (c.deref.ensures.value, c.deref-in-Ok-names.ensures.value) at some in
+      let previous = texts c.in-Ok-previous_names.previous.items in
+      let names = texts c.in-Ok-names.names.items in
+      inr (
+        previous,
+        names,
+        are_names (g.F.Folders.names_at c.args.folders.now) (said_of c.args.said.now) c.as_str-dir.result.now c.as_str.result.now previous names c.as_str-dir.ensures.value (c.as_str.ensures.value ∙ c.in-Ok.ensures) c.in-Ok-previous_names.ensures c.in-Ok-names.ensures.names,
+        part,
+      ))
+]

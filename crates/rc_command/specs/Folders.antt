@@ -1,0 +1,35 @@
+-- The folders of the runlevels, and the names in them, as far as they are known.
+use Rattle.std.specs.Prelude.{◌≡◌, ℕ, List, [], ◌∷◌, ◌++◌, map, codes, Option, Some, None, IfSome}
+use Rattle.std.specs.List.{filter}
+use Rattle.std.specs.Str.{bytes_eq}
+use Rattle.init_words.specs.declared.levels.Level.{Level}
+use Rattle.init_words.specs.Levels.{level_code}
+
+-- the names in the folder at each path, where they are known
+abbrev pub KnownNames : Type 0
+KnownNames = List ℕ → Option (List (List ℕ))
+
+-- the names are those in the folder at the path, where they are known
+abbrev pub AreNamesAt : KnownNames → List ℕ → List (List ℕ) → Type 0
+AreNamesAt names_at path names = IfSome (names_at path) (λ known. names ≡ known)
+
+-- the path of a runlevel's folder in the one that holds them
+abbrev pub folder_of : List ℕ → Level → List ℕ
+folder_of dir level = dir ++ (codes "/rc" ++ level_code level ∷ codes ".d")
+
+-- the names in the folder of the level before; none where there was none
+abbrev pub ArePrevious : KnownNames → List ℕ → Option Level → List (List ℕ) → Type 0
+ArePrevious names_at dir None names = names ≡ []
+ArePrevious names_at dir (Some level) names = AreNamesAt names_at (folder_of dir level) names
+
+-- a name that is kept, and the path of the folder in which it stands
+pub record KeptName : Type 0 where
+  pub path : List ℕ
+  pub name : List ℕ
+
+abbrev pub kept_in : List ℕ → List ℕ → KeptName
+kept_in path name = record { path = path; name = name }
+
+-- the names that are kept in the folder at the path
+abbrev pub names_in : List KeptName → List ℕ → List (List ℕ)
+names_in kept path = map (λ (k : KeptName). k.name) (filter (λ (k : KeptName). bytes_eq k.path path) kept)

@@ -1,0 +1,10 @@
+use Rattle.std.proofs.Common.{sym, ap, ◌∙◌}
+use Rattle.rc_driver.specs.Progress.{by_reply, by_start}
+use Rattle.rc_driver.proofs.CallLemmas.{begins}
+use Rattle.rc_driver.proofs.progress.started.Goals as goal
+
+pub returns-in-Later : goal.returns-in-Later
+returns-in-Later g c = begins _ _ _ _ _ _ c.start.ensures.adds c.script_id.ensures (ap (by_reply by_start) (sym c.in-Later.is))
+
+pub returns-in-Now : goal.returns-in-Now
+returns-in-Now g c = begins _ _ _ _ _ _ c.start.ensures.adds c.script_id.ensures (c.by_start.ensures ∙ ap (by_reply by_start) (sym c.in-Now.is))

@@ -1,0 +1,96 @@
+//! Lists of names run over a scripted host, and folders that are kept in memory.
+
+use child_host::Reply;
+use init_words::{Answer, ChildNo, Status};
+use memory_host::MemoryHost;
+use rc_command::{Folders, KeptFolders, run_names, run_words};
+use std::alloc::Global;
+use std::process::{Abort, Processes};
+use std::rt::{Clock, Files};
+use std::test::Fail;
+use test_support::words_of;
+
+/// The names in the folder before and in the new one, how many of the scripts end, and what is written.
+type Row = (
+    &'static [&'static str],
+    &'static [&'static str],
+    usize,
+    &'static str,
+);
+
+const ROWS: &[Row] = &[
+    (&[], &[], 0, ""),
+    (&[], &["README"], 0, ""),
+    (
+        &[],
+        &["S10a", "K05c"],
+        2,
+        "K05c stop exit 0\nS10a start exit 0\n",
+    ),
+    (&["S99a"], &["S10a", "K05c"], 1, "K05c stop exit 0\n"),
+];
+
+/// A host whose next children are born and end with 0, so many of them.
+fn host_of(alloc: Global, ends: usize) -> Result<MemoryHost, Fail> {
+    let mut host = MemoryHost::new(alloc);
+    for _ in 0..ends {
+        host.give_start(Reply::Now(Answer::Born(ChildNo(7))))?;
+        host.give_look(Reply::Now(Answer::Ended(Status::Exit(0))))?;
+    }
+    Ok(host)
+}
+
+fn names_are_run(rt: &impl Abort, alloc: Global, row: &Row) -> Result<(), Fail> {
+    let previous = words_of(alloc, row.0)?;
+    let names = words_of(alloc, row.1)?;
+    let mut host = host_of(alloc, row.2)?;
+    let mut out: Vec<u8> = Vec::new(alloc);
+    let mut err: Vec<u8> = Vec::new(alloc);
+    let status = run_names(alloc, &mut host, "x", &previous, &names, &mut out, &mut err);
+    assert!(rt; status == 0 && out.as_slice() == row.3.as_bytes() && err.is_empty());
+    Ok(())
+}
+
+#[test]
+fn lists_of_names_are_run(rt: HostRuntime) -> Result<(), Fail> {
+    for row in ROWS {
+        names_are_run(&rt, rt.alloc(), row)?;
+    }
+    Ok(())
+}
+
+fn kept(alloc: Global) -> Result<KeptFolders, Fail> {
+    let mut folders = KeptFolders::new(alloc);
+    folders.keep("k/rc3.d", "README")?;
+    folders.keep("k/rc2.d", "S10a")?;
+    folders.keep("k/rc3.d", "S1")?;
+    Ok(folders)
+}
+
+#[test]
+fn the_names_of_a_folder_are_those_kept_in_it(rt: HostRuntime) -> Result<(), Fail> {
+    let folders = kept(rt.alloc())?;
+    let names = folders.names(rt.alloc(), "k/rc3.d")?;
+    let others = folders.names(rt.alloc(), "k/rc4.d")?;
+    assert!(&rt; names.len() == 2 && names[0].as_str() == "README" && others.is_empty());
+    Ok(())
+}
+
+/// No link stands in the folder, so nothing is run.
+fn nothing_is_run<R>(rt: &R, alloc: Global, folders: &KeptFolders) -> Result<(), Fail>
+where
+    R: Processes + Files + Clock + Print + Eprint + Abort + Clone + Drop,
+{
+    let words = words_of(alloc, &["k", "2", "3"])?;
+    let mut out: Vec<u8> = Vec::new(alloc);
+    let mut err: Vec<u8> = Vec::new(alloc);
+    let status = run_words(rt, folders, alloc, words, &mut out, &mut err);
+    assert!(rt; status == 0 && out.is_empty() && err.is_empty());
+    Ok(())
+}
+
+#[test]
+fn kept_folders_are_run(rt: HostRuntime) -> Result<(), Fail> {
+    let folders = kept(rt.alloc())?;
+    nothing_is_run(&rt, rt.alloc(), &folders)
+}
