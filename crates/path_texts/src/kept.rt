@@ -1,6 +1,7 @@
 ghost use Rattle.std.specs.Prelude.{◌≡◌, ◌∷◌, ◌++◌, [], OnOk, OnErr};
 ghost use Rattle.path_texts.specs.Known.{kept_at};
 
+use crate::takers::PieceTaker;
 use crate::texts::Texts;
 use std::alloc::{AllocError, Allocator, Global};
 use std::io;
@@ -61,8 +62,25 @@ impl<A: Allocator + Copy> KeptTexts<A> {
     }
 }
 
+impl<A: Allocator> KeptTexts<A> {
+    ghost use Rattle.std.specs.Prelude.{◌≡◌, option_map};
+    ghost use Rattle.path_texts.specs.Known.{text_in};
+
+    /// The text that is kept at a path.
+    fn at(&self, path: &str) -> Option<&[u8]>
+        ensures { option_map (λ text. text.now) result ≡ text_in self.now path.now }
+    {
+        for kept in &self.texts {
+            if kept.path.as_str() == path {
+                return Some(kept.text.as_slice());
+            }
+        }
+        None
+    }
+}
+
 impl<A: Allocator> Texts for KeptTexts<A> {
-    ghost use Rattle.std.specs.Prelude.{◌≡◌, List, Some, None, IfOk, IfErr, IsSome};
+    ghost use Rattle.std.specs.Prelude.{◌≡◌, ◌^◌, ◌<◌, ℕ, List, [], length, Some, None, IfOk, IfErr, IsSome, OnOk};
     ghost use Rattle.std.specs.IoError.{error_kind};
     ghost use Rattle.path_texts.specs.Known.{Kept, text_in};
 
@@ -76,11 +94,25 @@ impl<A: Allocator> Texts for KeptTexts<A> {
         ensures absent { IfErr result (λ why. text_in self.now path.now ≡ None
             → error_kind why ≡ ErrorKind.NotFound) }
     {
-        for kept in &self.texts {
-            if kept.path.as_str() == path {
-                return Ok(Vec::from_slice(alloc, kept.text.as_slice())?);
-            }
+        match self.at(path) {
+            Some(text) => Ok(Vec::from_slice(alloc, text)?),
+            None => Err(io::Error::from(ErrorKind::NotFound)),
         }
-        Err(io::Error::from(ErrorKind::NotFound))
+    }
+
+    /// It is handed over as one piece. One at which none is kept is refused as not found.
+    fn read_pieces<P: PieceTaker>(&self, path: &str, taker: &mut P) -> io::Result<()>
+        ensures text { OnOk result ((text : List ℕ) × (length text < 2 ^ 64)
+            × (text_in self.now path.now ≡ Some text)
+            × (P.has_taken taker.old [] → P.has_taken taker.new text)) }
+        ensures refused { IfErr result (λ why. IsSome (text_in self.now path.now)
+            → error_kind why ≡ ErrorKind.OutOfMemory) }
+        ensures absent { IfErr result (λ why. text_in self.now path.now ≡ None
+            → error_kind why ≡ ErrorKind.NotFound) }
+    {
+        match self.at(path) {
+            Some(text) => Ok(taker.take_piece(text)?),
+            None => Err(io::Error::from(ErrorKind::NotFound)),
+        }
     }
 }

@@ -2,7 +2,9 @@
 #![tactic(auto)]
 
 mod kept;
+mod takers;
 mod texts;
 
 pub use kept::KeptTexts;
+pub use takers::{PIECE_LIMIT, PieceTaker, READS_LIMIT, hand_over};
 pub use texts::Texts;

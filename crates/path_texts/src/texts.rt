@@ -1,9 +1,11 @@
-ghost use Rattle.std.specs.Prelude.{◌≡◌, IfOk, IfErr, IsSome};
+ghost use Rattle.std.specs.Prelude.{◌≡◌, ◌^◌, ◌<◌, [], List, ℕ, length, IfOk, IfErr, IsSome, OnOk};
 ghost use Rattle.std.specs.IoError.{error_kind};
 ghost use Rattle.path_texts.specs.Known.{IsTextAt, KnownTexts};
 
+use crate::takers::{PieceTaker, hand_over};
 use program_io::read_file;
 use std::alloc::Allocator;
+use std::fs::File;
 use std::io;
 use std::io::ErrorKind;
 use std::rt::Files;
@@ -20,6 +22,15 @@ pub trait Texts {
         ensures text { IfOk result (λ text. IsTextAt (text_at self.now) path.now text.items) }
         ensures refused { IfErr result (λ why. IsSome (text_at self.now path.now)
             → error_kind why ≡ ErrorKind.OutOfMemory) };
+
+    /// Hands the text at a path to a taker that has taken none, in pieces. A text that is known is refused only for
+    /// lack of memory.
+    fn read_pieces<P: PieceTaker>(&self, path: &str, taker: &mut P) -> io::Result<()>
+        ensures text { OnOk result ((text : List ℕ) × (length text < 2 ^ 64)
+            × IsTextAt (text_at self.now) path.now text
+            × (P.has_taken taker.old [] → P.has_taken taker.new text)) }
+        ensures refused { IfErr result (λ why. IsSome (text_at self.now path.now)
+            → error_kind why ≡ ErrorKind.OutOfMemory) };
 }
 
 /// The files of the operating system. Nothing is known of their texts.
@@ -30,5 +41,10 @@ impl<R: Files> Texts for R {
 
     fn read<A: Allocator>(&self, alloc: A, path: &str) -> io::Result<Vec<u8, A>> {
         read_file(self, alloc, path)
+    }
+
+    fn read_pieces<P: PieceTaker>(&self, path: &str, taker: &mut P) -> io::Result<()> {
+        let mut file = File::open(self, path)?;
+        hand_over(&mut file, taker)
     }
 }

@@ -1,0 +1,225 @@
+-- What stays so when more of a text comes.
+use Rattle.std.proofs.Common.{◌≡◌, ℕ, zero, suc, ◌+◌, ◌-◌, ◌<◌, ◌≤◌, true, false, nat_lt, List, [], ◌∷◌, ◌++◌, length, take, drop, Option, Some, None, option_and_then, refl, sym, ap, ◌∙◌, arith, length-append}
+use Rattle.std.specs.Option.{option_map, option_map_or}
+use Rattle.std.proofs.lemmas.Bool.Decides.{nat_tests}
+use Rattle.std.proofs.lemmas.List.{append_assoc, take-append-drop}
+use Rattle.std.proofs.lemmas.Option.{none-some}
+use Rattle.init_words.specs.declared.entries.Entry.{Entry}
+use Rattle.text_lines.specs.Lines.{cut, newlines, after_lines}
+use Rattle.text_lines.proofs.CutLemmas.{cut-parts, cut-lacks, cut-append}
+use Rattle.text_lines.proofs.PieceLemmas.{newlines-append, newlines-none, Front, after_lines-front, take-front}
+use Rattle.inittab_text.specs.Written.{table_written, table_begun}
+use Rattle.init_trace.specs.declared.happenings.Happening.TheVariants.{NewTable}
+use Rattle.init_trace.specs.Event.{Event}
+use Rattle.init_trace.specs.Lines.{event_text}
+use Rattle.init_trace.specs.Range.{Begun, line_count, is_in_range, BeginsNone}
+use Rattle.init_trace.specs.Reading.{entries_brought, words_in, words_read, begun_by, begun}
+use Rattle.init_trace.proofs.LineTexts.{begun-text, text-begun, newlines-event}
+use Rattle.trace_verdict.specs.Fronts.{lines_of, lines_due, is_unfinished}
+
+-- the first line of a longer text
+pub cut-more : (text more line rest : List ℕ) → cut 10 text ≡ Some (line, rest) → cut 10 (text ++ more) ≡ Some (line, rest ++ more)
+cut-more text more line rest is =
+    let parts = cut-parts 10 text line rest is in
+    ap (λ t. cut 10 (t ++ more)) parts.0 ∙ ap (cut 10) (append_assoc line (10 ∷ rest) more) ∙ cut-append 10 line (rest ++ more) parts.1
+
+-- a line less
+pub newlines-cut : (text line rest : List ℕ) → cut 10 text ≡ Some (line, rest) → newlines text ≡ newlines rest + 1
+newlines-cut text line rest is =
+    let parts = cut-parts 10 text line rest is in
+    let whole : newlines text ≡ newlines line + newlines (10 ∷ rest) = ap newlines parts.0 ∙ newlines-append line (10 ∷ rest) in
+    let front : newlines (10 ∷ rest) ≡ newlines (10 ∷ []) + newlines rest = newlines-append (10 ∷ []) rest in
+    omega (arith, whole, front, newlines-none line parts.1, newlines-one)
+  where
+    newlines-one : newlines (10 ∷ []) ≡ 1
+    newlines-one = refl
+
+newlines-uncut : (text : List ℕ) → cut 10 text ≡ None → newlines text ≡ 0
+newlines-uncut text is = newlines-none text (cut-lacks 10 text is)
+
+-- a happening has a line
+some_lines : (o : Option ℕ) → 1 ≤ option_map_or (λ count. count + 1) o 1
+some_lines None = omega arith
+some_lines (Some count) = omega arith
+
+pub due_some : (text : List ℕ) → 1 ≤ lines_due text
+due_some text = by (cut 10 text) where
+  by : (o : Option (List ℕ × List ℕ)) → 1 ≤ option_map_or (λ parts. lines_of parts.0) o 1
+  by None = omega arith
+  by (Some parts) = some_lines (entries_brought (words_in parts.0))
+
+due_cut : (text line rest : List ℕ) → cut 10 text ≡ Some (line, rest) → lines_due text ≡ lines_of line
+due_cut text line rest is = ap (λ o. option_map_or (λ (parts : List ℕ × List ℕ). lines_of parts.0) o 1) is
+
+due_uncut : (text : List ℕ) → cut 10 text ≡ None → lines_due text ≡ 1
+due_uncut text is = ap (λ o. option_map_or (λ (parts : List ℕ × List ℕ). lines_of parts.0) o 1) is
+
+-- no fewer lines are due of a longer text
+pub due_more : (text more : List ℕ) → lines_due text ≤ lines_due (text ++ more)
+due_more text more = by (cut 10 text) refl where
+  by : (o : Option (List ℕ × List ℕ)) → cut 10 text ≡ o → lines_due text ≤ lines_due (text ++ more)
+  by None is = omega (arith, due_uncut text is, due_some (text ++ more))
+  by (Some parts) is = omega (arith, due_cut text parts.0 parts.1 is, due_cut (text ++ more) parts.0 (parts.1 ++ more) (cut-more text more parts.0 parts.1 is))
+
+-- a finished happening's first line is whole
+pub finished_cut : (text : List ℕ) → is_unfinished text ≡ false → (parts : List ℕ × List ℕ) × (cut 10 text ≡ Some parts)
+finished_cut text finished = by (cut 10 text) refl where
+  by : (o : Option (List ℕ × List ℕ)) → cut 10 text ≡ o → (parts : List ℕ × List ℕ) × (cut 10 text ≡ Some parts)
+  by None is = absurd (few (newlines text) (lines_due text) (newlines-uncut text is) (due_some text) finished) where
+    few : (n d : ℕ) → n ≡ 0 → 1 ≤ d → nat_lt n d ≡ false → ⊥
+    few n d none some not = grind (arith, nat_tests)
+  by (Some parts) is = (parts, is)
+
+lt-false : (n d : ℕ) → nat_lt n d ≡ false → d ≤ n
+lt-false n d is = grind (arith, nat_tests)
+
+false-lt : (n d : ℕ) → d ≤ n → nat_lt n d ≡ false
+false-lt n d is = grind (arith, nat_tests)
+
+pub finished_more : (text more : List ℕ) → is_unfinished text ≡ false → is_unfinished (text ++ more) ≡ false
+finished_more text more finished =
+    let at = finished_cut text finished in
+    false-lt (newlines (text ++ more)) (lines_due (text ++ more))
+    (omega (arith, lt-false (newlines text) (lines_due text) finished, newlines-append text more, due_cut text at.0.0 at.0.1 at.1, due_cut (text ++ more) at.0.0 (at.0.1 ++ more) (cut-more text more at.0.0 at.0.1 at.1)))
+
+-- what stands after one line more
+after_cut : (n : ℕ) (text line rest : List ℕ) → cut 10 text ≡ Some (line, rest) → after_lines (suc n) text ≡ after_lines n rest
+after_cut n text line rest is = ap (λ o. option_and_then (λ (parts : List ℕ × List ℕ). after_lines n parts.1) o) is
+
+after_uncut : (n : ℕ) (text : List ℕ) → cut 10 text ≡ None → after_lines (suc n) text ≡ None
+after_uncut n text is = ap (λ o. option_and_then (λ (parts : List ℕ × List ℕ). after_lines n parts.1) o) is
+
+-- what stands after so many lines of a text that has them
+pub after_lines-some : (n : ℕ) (text : List ℕ) → n ≤ newlines text → (rest : List ℕ) × (after_lines n text ≡ Some rest)
+after_lines-some zero text enough = (text, refl)
+after_lines-some (suc n) text enough = by (cut 10 text) refl (λ rest less. after_lines-some n rest less) where
+  by : (o : Option (List ℕ × List ℕ)) → cut 10 text ≡ o → ((rest : List ℕ) → n ≤ newlines rest → (behind : List ℕ) × (after_lines n rest ≡ Some behind)) → (rest : List ℕ) × (after_lines (suc n) text ≡ Some rest)
+  by None is further = absurd (omega (arith, enough, newlines-uncut text is))
+  by (Some parts) is further =
+      let more = further parts.1 (omega (arith, enough, newlines-cut text parts.0 parts.1 is)) in
+      (more.0, after_cut n text parts.0 parts.1 is ∙ more.1)
+
+pub after_lines-more : (n : ℕ) (text more rest : List ℕ) → after_lines n text ≡ Some rest → after_lines n (text ++ more) ≡ Some (rest ++ more)
+after_lines-more zero text more rest is =
+    let same : text ≡ rest = cc in
+    ap (λ t. Some (t ++ more)) same
+after_lines-more (suc n) text more rest is = by (cut 10 text) refl (λ t h. after_lines-more n t more rest h) where
+  by : (o : Option (List ℕ × List ℕ)) → cut 10 text ≡ o → ((t : List ℕ) → after_lines n t ≡ Some rest → after_lines n (t ++ more) ≡ Some (rest ++ more)) → after_lines (suc n) (text ++ more) ≡ Some (rest ++ more)
+  by None at further = absurd (none-some rest (sym (after_uncut n text at) ∙ is))
+  by (Some parts) at further = after_cut n (text ++ more) parts.0 (parts.1 ++ more) (cut-more text more parts.0 parts.1 at) ∙ further parts.1 (sym (after_cut n text parts.0 parts.1 at) ∙ is)
+
+-- the table of so many lines that are there is that of a longer text
+table_more : (n : ℕ) (text more : List ℕ) → n ≤ newlines text → table_begun n text ≡ None → table_begun n (text ++ more) ≡ None
+table_more n text more enough none = sym whole where
+  rest : List ℕ
+  rest = (after_lines-some n text enough).0
+
+  after : after_lines n text ≡ Some rest
+  after = (after_lines-some n text enough).1
+
+  front : Front n text rest
+  front = after_lines-front n text rest after
+
+  begun_at : (t r : List ℕ) → after_lines n t ≡ Some r → table_begun n t ≡ option_map {U = List Entry × List ℕ} (λ table. (table, r)) (table_written (take (length t - length r) t))
+  begun_at t r is = ap (λ o. option_and_then {U = List Entry × List ℕ} (λ behind. option_map {U = List Entry × List ℕ} (λ table. (table, behind)) (table_written (take (length t - length behind) t))) o) is
+
+  shorter : take (length text - length rest) text ≡ front.front
+  shorter = ap (λ t. take (length t - length rest) t) front.whole ∙ take-front front.front rest
+
+  longer : take (length (text ++ more) - length (rest ++ more)) (text ++ more) ≡ front.front
+  longer =
+      ap (λ t. take (length (t ++ more) - length (rest ++ more)) (t ++ more)) front.whole
+      ∙ ap (λ t. take (length t - length (rest ++ more)) t) (append_assoc front.front rest more)
+      ∙ take-front front.front (rest ++ more)
+
+  unwritten : (o : Option (List Entry)) → option_map {U = List Entry × List ℕ} (λ table. (table, rest)) o ≡ None → option_map {U = List Entry × List ℕ} (λ table. (table, rest ++ more)) o ≡ None
+  unwritten None is = refl
+  unwritten (Some table) is = absurd (cc)
+
+  written : option_map {U = List Entry × List ℕ} (λ table. (table, rest)) (table_written front.front) ≡ None
+  written = ap (λ t. option_map {U = List Entry × List ℕ} (λ table. (table, rest)) (table_written t)) (sym shorter) ∙ sym (begun_at text rest after) ∙ none
+
+  whole : None ≡ table_begun n (text ++ more)
+  whole =
+      sym (begun_at (text ++ more) (rest ++ more) (after_lines-more n text more rest after)
+      ∙ ap (λ t. option_map {U = List Entry × List ℕ} (λ table. (table, rest ++ more)) (table_written t)) longer
+      ∙ unwritten (table_written front.front) written)
+
+-- where a finished happening is none, it is none of a longer text
+begun_more : (text more : List ℕ) → is_unfinished text ≡ false → begun text ≡ None → begun (text ++ more) ≡ None
+begun_more text more finished none = begun_at (text ++ more) line (rest ++ more) (cut-more text more line rest at) ∙ by (entries_brought (words_in line)) refl where
+  line : List ℕ
+  line = (finished_cut text finished).0.0
+
+  rest : List ℕ
+  rest = (finished_cut text finished).0.1
+
+  at : cut 10 text ≡ Some (line, rest)
+  at = (finished_cut text finished).1
+
+  begun_at : (t l r : List ℕ) → cut 10 t ≡ Some (l, r) → begun t ≡ begun_by (entries_brought (words_in l)) l r
+  begun_at t l r is = ap (λ o. option_and_then (λ (parts : List ℕ × List ℕ). begun_by (entries_brought (words_in parts.0)) parts.0 parts.1) o) is
+
+  own : begun_by (entries_brought (words_in line)) line rest ≡ None
+  own = sym (begun_at text line rest at) ∙ none
+
+  enough : (count : ℕ) → entries_brought (words_in line) ≡ Some count → count ≤ newlines rest
+  enough count is =
+      omega (arith, lt-false (newlines text) (lines_due text) finished, newlines-cut text line rest at, due_cut text line rest at, ap (λ o. option_map_or (λ n. n + 1) o 1) is)
+
+  unread : (o : Option Event) → option_map {U = Begun} (λ happening. (happening, rest)) o ≡ None → option_map {U = Begun} (λ happening. (happening, rest ++ more)) o ≡ None
+  unread None is = refl
+  unread (Some happening) is = absurd (cc)
+
+  unused : (o : Option (List Entry × List ℕ)) → option_map {U = Begun} (λ parts. (NewTable parts.0, parts.1)) o ≡ None → o ≡ None
+  unused None is = refl
+  unused (Some parts) is = absurd (cc)
+
+  by : (o : Option ℕ) → entries_brought (words_in line) ≡ o → begun_by (entries_brought (words_in line)) line (rest ++ more) ≡ None
+  by None is =
+      ap (λ o. begun_by o line (rest ++ more)) is
+      ∙ unread (words_read (words_in line)) (ap (λ o. begun_by o line rest) (sym is) ∙ own)
+  by (Some count) is =
+      ap (λ o. begun_by o line (rest ++ more)) is
+      ∙ ap (λ o. option_map {U = Begun} (λ (parts : List Entry × List ℕ). (NewTable parts.0, parts.1)) o)
+      (table_more count rest more (enough count is) (unused (table_begun count rest) (ap (λ o. begun_by o line rest) (sym is) ∙ own)))
+
+unbegun : (text : List ℕ) → BeginsNone text → begun text ≡ None
+unbegun text none = by (begun text) refl where
+  by : (o : Option Begun) → begun text ≡ o → begun text ≡ None
+  by None is = is
+  by (Some parts) is =
+      let begins = text-begun text parts.0 parts.1 is in
+      absurd (none parts.0 parts.1 begins.0 begins.1)
+
+pub none_more : (text more : List ℕ) → is_unfinished text ≡ false → BeginsNone text → BeginsNone (text ++ more)
+none_more text more finished none = λ happening rest ranged same.
+    none-some (happening, rest) (sym (begun_more text more finished (unbegun text none)) ∙ ap begun (sym same) ∙ begun-text happening rest ranged)
+
+-- what a reader has behind it, and what it has before it
+drop_front : (front rest : List ℕ) → drop (length (front ++ rest) - length rest) (front ++ rest) ≡ rest
+drop_front front rest = short (length (front ++ rest) - length rest) (omega (arith, length-append front rest)) where
+  dropped : (xs : List ℕ) → drop (length xs) (xs ++ rest) ≡ rest
+  dropped [] = refl
+  dropped (x ∷ xs) = dropped xs
+
+  short : (n : ℕ) → n ≡ length front → drop n (front ++ rest) ≡ rest
+  short n same = ap (λ k. drop k (front ++ rest)) same ∙ dropped front
+
+pub left_over : (bytes more : List ℕ) (at : ℕ) (happening : Event) → event_text happening ++ more ≡ drop at bytes → drop (length bytes - length more) bytes ≡ more
+left_over bytes more at happening begins =
+    let whole : bytes ≡ (take at bytes ++ event_text happening) ++ more =
+    sym (take-append-drop at bytes) ∙ ap (λ t. take at bytes ++ t) (sym begins) ∙ sym (append_assoc (take at bytes) (event_text happening) more) in
+    ap (λ t. drop (length t - length more) t) whole ∙ drop_front (take at bytes ++ event_text happening) more
+
+-- the newlines of a happening, and those behind it
+pub lines_off : (text more : List ℕ) (happening : Event) → is_in_range happening ≡ true → event_text happening ++ more ≡ text → newlines text ≡ line_count happening + newlines more
+lines_off text more happening is begins = ap newlines (sym begins) ∙ newlines-append (event_text happening) more ∙ ap (λ n. n + newlines more) (newlines-event happening is)
+
+pub unfinished_by : (due : ℕ) (text : List ℕ) → due ≤ lines_due text → newlines text < due → is_unfinished text ≡ true
+unfinished_by due text few less = true-lt (newlines text) (lines_due text) (omega (arith, few, less)) where
+  true-lt : (n d : ℕ) → n < d → nat_lt n d ≡ true
+  true-lt n d is = grind (arith, nat_tests)
+
+pub finished_by : (text : List ℕ) → lines_due text ≤ newlines text → is_unfinished text ≡ false
+finished_by text few = false-lt (newlines text) (lines_due text) few

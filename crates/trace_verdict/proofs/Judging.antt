@@ -1,0 +1,205 @@
+-- One happening more, and a piece more.
+use Rattle.std.proofs.Common.{◌≡◌, ℕ, zero, suc, ◌+◌, ◌^◌, ◌<◌, ◌≤◌, true, false, List, [], ◌∷◌, ◌++◌, length, reverse, slice_get, Option, Some, refl, sym, ap, ◌∙◌, subst, arith, lit≤, length-append}
+use Rattle.std.specs.Option.{option_map, option_map_or}
+use Rattle.std.proofs.lemmas.Bool.{and_parts}
+use Rattle.std.proofs.lemmas.List.{append_assoc, reverse-append, length-reverse, take-append-le}
+use Rattle.std.proofs.Math.Nat.{min-eq_left}
+use Rattle.std.proofs.Math.Seq.{take-append_seam}
+use Rattle.text_lines.specs.Lines.{newlines}
+use Rattle.text_lines.proofs.PieceLemmas.{newlines-append}
+use Rattle.init_trace.specs.declared.happenings.Happening.TheVariants.{NewTable}
+use Rattle.init_trace.specs.Event.{Event}
+use Rattle.init_trace.specs.Lawful.{broken, breach_at, earlier, first_breach}
+use Rattle.init_trace.specs.Lines.{event_text, trace_text}
+use Rattle.init_trace.specs.Range.{line_count, is_in_range, are_in_range, BeginsNone}
+use Rattle.init_trace.proofs.LineTexts.{newlines-event}
+use Rattle.init_trace.proofs.ReadTexts.{trace_text-push, are_in_range-push, newlines-few, shorter}
+use Rattle.trace_check.specs.declared.laws.Law.{Law}
+use Rattle.trace_check.specs.Laws.{law_number}
+use Rattle.trace_check.specs.Judging.{Judging, Judged}
+use Rattle.trace_check.proofs.Passing.{breach_here}
+use Rattle.trace_verdict.specs.declared.findings.Finding.{Finding}
+use Rattle.trace_verdict.specs.declared.findings.Finding.TheVariants.{Lawful, Breach, Torn}
+use Rattle.trace_verdict.specs.Fronts.{is_unfinished, line_left, IsFront, IsTorn}
+use Rattle.trace_verdict.specs.Answers.{Named, IsFirst, Answers}
+use Rattle.trace_verdict.specs.Readers.{Reading, capped, ReadsNext}
+use Rattle.trace_verdict.specs.Judges.{TextState, IsFound, HasRead, AtBy, TakenBy, left_of}
+use Rattle.trace_verdict.proofs.Fronts.{finished_cut, newlines-cut, finished_more, none_more}
+
+pub capped_is : (n : ℕ) → n < 2 ^ 64 → capped n ≡ n
+capped_is n small = min-eq_left (omega (arith, small))
+
+-- lines and happenings are no more than bytes
+one_line : (h : Event) → 1 ≤ line_count h
+one_line (NewTable table) = omega arith
+one_line _ = lit≤ tt
+
+pub lines_push : (trace : List Event) (h : Event) → is_in_range h ≡ true → newlines (trace_text (trace ++ h ∷ [])) ≡ newlines (trace_text trace) + line_count h
+lines_push trace h is = ap newlines (trace_text-push trace h) ∙ newlines-append (trace_text trace) (event_text h) ∙ ap (λ n. newlines (trace_text trace) + n) (newlines-event h is)
+
+few_happenings : (trace : List Event) → are_in_range trace ≡ true → length trace ≤ newlines (trace_text trace)
+few_happenings [] are = omega arith
+few_happenings (h ∷ trace) are =
+    let parts = and_parts (is_in_range h) (are_in_range trace) are in
+    omega (arith, few_happenings trace parts.1, newlines-append (event_text h) (trace_text trace), newlines-event h parts.0, one_line h)
+
+lines_within : (trace : List Event) (over text : List ℕ) → trace_text trace ++ over ≡ text → newlines (trace_text trace) + length over ≤ length text
+lines_within trace over text whole = omega (arith, newlines-few (trace_text trace), length-append (trace_text trace) over, ap length whole)
+
+-- the past of a trace with one happening more
+pub past_push : (trace : List Event) (h : Event) → reverse (trace ++ h ∷ []) ≡ h ∷ reverse trace
+past_push trace h = reverse-append trace (h ∷ [])
+
+got_before : {X : Type 0} (xs ys : List X) (i : ℕ) → i < length xs → slice_get (xs ++ ys) i ≡ slice_get xs i
+got_before [] ys i within = absurd (omega (arith, within))
+got_before (x ∷ xs) ys zero within = refl
+got_before (x ∷ xs) ys (suc i) within = got_before xs ys i (omega (arith, within))
+
+got_behind : {X : Type 0} (xs : List X) (x : X) → slice_get (xs ++ x ∷ []) (length xs) ≡ Some x
+got_behind [] x = refl
+got_behind (y ∷ xs) x = got_behind xs x
+
+-- the first breach stays the first
+pub first_kept : (trace : List Event) (h : Event) (breach : Named) → IsFirst trace breach → IsFirst (trace ++ h ∷ []) breach
+first_kept trace h breach is = record {
+  first = ap first_breach (past_push trace h) ∙ ap (λ o. earlier o (breach_at (length (reverse trace)) (broken h (reverse trace)))) is.first;
+  within = omega (arith, is.within, length-append trace (h ∷ []));
+  line = is.line ∙ ap (λ t. newlines (trace_text t) + 1) (sym (take-append-le breach.place trace (h ∷ []) (omega (arith, is.within))));
+  text = is.text ∙ ap (λ o. option_map_or event_text o []) (sym (got_before trace (h ∷ []) breach.place is.within));
+}
+
+pub found_kept : (finding : Finding Named) (judging : Judging) (trace : List Event) (h : Event) → (finding ≡ Lawful → ⊥) → IsFound finding judging trace → IsFound finding judging (trace ++ h ∷ [])
+found_kept Lawful judging trace h not found = absurd (not refl)
+found_kept (Breach breach) judging trace h not found = first_kept trace h breach found
+found_kept (Torn number) judging trace h not found = found
+
+pub found_breach : (trace : List Event) (h : Event) (judging : Judging) (law : Law) (breach : Named) → Judged judging (reverse trace) → Some (law_number law) ≡ broken h (reverse trace)
+    → breach ≡ record { place = length trace; law = law; line = newlines (trace_text trace) + 1; text = event_text h } → IsFirst (trace ++ h ∷ []) breach
+found_breach trace h judging law breach judged broke is = subst (IsFirst (trace ++ h ∷ [])) (sym is) (record {
+  first = ap first_breach (past_push trace h) ∙ breach_here h (reverse trace) (law_number law) judged.lawful broke ∙ ap (λ n. Some (record { place = n; law = law_number law })) (length-reverse trace);
+  within = omega (arith, length-append trace (h ∷ []));
+  line = ap (λ t. newlines (trace_text t) + 1) (sym (take-append_seam trace (h ∷ [])));
+  text = ap (λ o. option_map_or event_text o []) (sym (got_behind trace h));
+})
+
+-- by cases of what was found
+pub at_trace : (finding : Finding Named) (state : TextState) (text : List ℕ) (trace : List Event) → HasRead state trace text → state.finding ≡ finding → AtBy finding state text
+at_trace Lawful state text trace read is = (trace, read)
+at_trace (Breach breach) state text trace read is = (trace, read)
+at_trace (Torn number) state text trace read is = absurd (subst (λ f. IsFound f state.judging trace) is read.found)
+
+pub trace_at : (finding : Finding Named) (state : TextState) (text : List ℕ) → ((number : ℕ) → finding ≡ Torn number → ⊥) → AtBy finding state text → (trace : List Event) × HasRead state trace text
+trace_at Lawful state text not at = at
+trace_at (Breach breach) state text not at = at
+trace_at (Torn number) state text not at = absurd (not number refl)
+
+pub taken_at : (finding : Finding Named) (state : TextState) (text : List ℕ) → is_unfinished state.reading.over ≡ true → AtBy finding state text → TakenBy finding state text
+taken_at Lawful state text short at = (at.0, at.1, short)
+taken_at (Breach breach) state text short at = (at.0, at.1, short)
+taken_at (Torn number) state text short at = at
+
+-- a piece more
+torn_more : (text piece : List ℕ) (number : ℕ) → IsTorn text number → IsTorn (text ++ piece) number
+torn_more text piece number torn = record {
+  trace = torn.trace;
+  rest = torn.rest ++ piece;
+  are = torn.are;
+  whole = sym (append_assoc (trace_text torn.trace) torn.rest piece) ∙ ap (λ t. t ++ piece) torn.whole;
+  counted = torn.counted;
+  finished = finished_more torn.rest piece torn.finished;
+  none = none_more torn.rest piece torn.finished torn.none;
+}
+
+read_more : (old new : TextState) (trace : List Event) (text piece : List ℕ) → new ≡ record old { reading = record old.reading { over = old.reading.over ++ piece } } → HasRead old trace text → HasRead new trace (text ++ piece)
+read_more old new trace text piece is read = subst (λ s. HasRead s trace (text ++ piece)) (sym is) (record {
+  are = read.are;
+  whole = sym (append_assoc (trace_text trace) old.reading.over piece) ∙ ap (λ t. t ++ piece) read.whole;
+  lines = read.lines;
+  place = read.place;
+  found = read.found;
+})
+
+pub fed : (finding : Finding Named) (old new : TextState) (text piece : List ℕ) → new ≡ record old { reading = record old.reading { over = old.reading.over ++ piece } } → TakenBy finding old text → AtBy finding new (text ++ piece)
+fed Lawful old new text piece is taken = (taken.0, read_more old new taken.0 text piece is taken.1)
+fed (Breach breach) old new text piece is taken = (taken.0, read_more old new taken.0 text piece is taken.1)
+fed (Torn number) old new text piece is taken = torn_more text piece number taken
+
+pub still_torn : (finding : Finding Named) (state : TextState) (text piece : List ℕ) (number : ℕ) → finding ≡ Torn number → TakenBy finding state text → AtBy finding state (text ++ piece)
+still_torn (Torn n) state text piece number is taken = torn_more text piece n taken
+still_torn Lawful state text piece number is taken = absurd (cc)
+still_torn (Breach breach) state text piece number is taken = absurd (cc)
+
+pub torn_taken : (finding : Finding Named) (state : TextState) (text : List ℕ) (number : ℕ) → finding ≡ Torn number → AtBy finding state text → TakenBy finding state text
+torn_taken (Torn n) state text number is at = at
+torn_taken Lawful state text number is at = absurd (cc)
+torn_taken (Breach breach) state text number is at = absurd (cc)
+
+-- a happening more
+pub read_next : (old new : TextState) (trace : List Event) (text : List ℕ) (h : Event) → length text < 2 ^ 64 → HasRead old trace text → ReadsNext old.reading new.reading (Some h) → new.place ≡ capped (old.place + 1) → IsFound new.finding new.judging (trace ++ h ∷ []) → HasRead new (trace ++ h ∷ []) text
+read_next old new trace text h small read next place found = record {
+  are = are_in_range-push trace h read.are next.0;
+  whole = whole;
+  lines = next.2 ∙ ap (λ n. capped (n + line_count h)) read.lines ∙ capped_is (newlines (trace_text trace) + line_count h) (omega (arith, small, within, pushed)) ∙ sym pushed;
+  place = place ∙ ap (λ n. capped (n + 1)) read.place ∙ capped_is (length trace + 1) (omega (arith, small, within, few_happenings (trace ++ h ∷ []) are, longer)) ∙ sym longer;
+  found = found;
+} where
+  are : are_in_range (trace ++ h ∷ []) ≡ true
+  are = are_in_range-push trace h read.are next.0
+
+  whole : trace_text (trace ++ h ∷ []) ++ new.reading.over ≡ text
+  whole = ap (λ t. t ++ new.reading.over) (trace_text-push trace h) ∙ append_assoc (trace_text trace) (event_text h) new.reading.over ∙ ap (λ t. trace_text trace ++ t) next.1 ∙ read.whole
+
+  within : newlines (trace_text (trace ++ h ∷ [])) + length new.reading.over ≤ length text
+  within = lines_within (trace ++ h ∷ []) new.reading.over text whole
+
+  pushed : newlines (trace_text (trace ++ h ∷ [])) ≡ newlines (trace_text trace) + line_count h
+  pushed = lines_push trace h next.0
+
+  longer : length (trace ++ h ∷ []) ≡ length trace + 1
+  longer = length-append trace (h ∷ [])
+
+-- the number of the line of the next happening
+some_over : (over : List ℕ) → is_unfinished over ≡ false → 1 ≤ length over
+some_over over finished =
+    let at = finished_cut over finished in
+    omega (arith, newlines-few over, newlines-cut over at.0.0 at.0.1 at.1)
+
+next_line : (state : TextState) (trace : List Event) (text : List ℕ) → length text < 2 ^ 64 → HasRead state trace text → 1 ≤ length state.reading.over → capped (state.reading.lines + 1) ≡ newlines (trace_text trace) + 1
+next_line state trace text small read some =
+    ap (λ n. capped (n + 1)) read.lines
+    ∙ capped_is (newlines (trace_text trace) + 1) (omega (arith, small, some, lines_within trace state.reading.over text read.whole))
+
+pub line_of : (old : TextState) (new : Reading) (trace : List Event) (text : List ℕ) (h : Event) → length text < 2 ^ 64 → HasRead old trace text → ReadsNext old.reading new (Some h) → capped (old.reading.lines + 1) ≡ newlines (trace_text trace) + 1
+line_of old new trace text h small read next = next_line old trace text small read (omega (arith, shorter h new.over old.reading.over next.0 next.1))
+
+pub torn_here : (state : TextState) (text : List ℕ) (number : ℕ) (trace : List Event) → length text < 2 ^ 64 → HasRead state trace text → number ≡ capped (state.reading.lines + 1) → is_unfinished state.reading.over ≡ false → BeginsNone state.reading.over → IsTorn text number
+torn_here state text number trace small read is finished none = record {
+  trace = trace;
+  rest = state.reading.over;
+  are = read.are;
+  whole = read.whole;
+  counted = is ∙ next_line state trace text small read (some_over state.reading.over finished);
+  finished = finished;
+  none = none;
+}
+
+-- what is told of the text
+left_is : (state : TextState) (trace : List Event) (text over : List ℕ) → length text < 2 ^ 64 → HasRead state trace text → state.reading.over ≡ over → option_map capped (line_left state.reading.lines over) ≡ line_left (newlines (trace_text trace)) over
+left_is state trace text [] small read is = refl
+left_is state trace text (byte ∷ over) small read is = ap Some (next_line state trace text small read (omega (arith, ap length is)))
+
+front : (state : TextState) (trace : List Event) (text : List ℕ) (left : Option ℕ) → length text < 2 ^ 64 → HasRead state trace text → is_unfinished state.reading.over ≡ true → left ≡ option_map capped (line_left state.reading.lines state.reading.over) → IsFront trace left text
+front state trace text left small read short is = record {
+  over = state.reading.over;
+  are = read.are;
+  whole = read.whole;
+  unfinished = short;
+  at = is ∙ left_is state trace text state.reading.over small read refl;
+}
+
+pub told : (finding : Finding Named) (state : TextState) (text : List ℕ) (left : Option ℕ) → state.finding ≡ finding → length text < 2 ^ 64 → TakenBy finding state text → left ≡ left_of finding (option_map capped (line_left state.reading.lines state.reading.over)) → Answers text finding left
+told Lawful state text left is small taken at =
+    let judged : Judged state.judging (reverse taken.0) = subst (λ f. IsFound f state.judging taken.0) is taken.1.found in
+    (taken.0, front state taken.0 text left small taken.1 taken.2 at, judged.lawful)
+told (Breach breach) state text left is small taken at = (taken.0, front state taken.0 text left small taken.1 taken.2 at, subst (λ f. IsFound f state.judging taken.0) is taken.1.found)
+told (Torn number) state text left is small taken at = (taken, at)

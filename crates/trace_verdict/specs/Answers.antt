@@ -1,0 +1,34 @@
+-- What is found of a text, and when it is right.
+use Rattle.std.specs.Prelude.{◌≡◌, ℕ, ◌+◌, ◌<◌, List, [], length, take, reverse, slice_get, Option, Some, None}
+use Rattle.std.specs.Option.{option_map_or}
+use Rattle.text_lines.specs.Lines.{newlines}
+use Rattle.init_trace.specs.Event.{Event}
+use Rattle.init_trace.specs.Lawful.{first_breach}
+use Rattle.init_trace.specs.Lines.{event_text, trace_text}
+use Rattle.trace_check.specs.declared.laws.Law.{Law}
+use Rattle.trace_check.specs.Faults.{fault_at}
+use Rattle.trace_verdict.specs.declared.findings.Finding.{Finding}
+use Rattle.trace_verdict.specs.declared.findings.Finding.TheVariants.{Lawful, Breach, Torn}
+use Rattle.trace_verdict.specs.Fronts.{IsFront, IsTorn}
+
+-- a breach: its place in the trace, from 0, the least law broken there, its line in the text, from 1, and the text of
+-- its happening
+pub record Named : Type 0 where
+  pub place : ℕ
+  pub law : Law
+  pub line : ℕ
+  pub text : List ℕ
+
+-- it is the first of the trace
+pub record IsFirst (trace : List Event) (breach : Named) : Type 0 where
+  pub first : first_breach (reverse trace) ≡ Some (fault_at breach.place breach.law)
+  pub within : breach.place < length trace
+  pub line : breach.line ≡ newlines (trace_text (take breach.place trace)) + 1
+  pub text : breach.text ≡ option_map_or event_text (slice_get trace breach.place) []
+
+-- what is found of a text, and the line at which its last happening isn't finished: a line that begins no happening,
+-- else the verdict on the trace that is whole
+abbrev pub Answers : List ℕ → Finding Named → Option ℕ → Type 0
+Answers text Lawful left = (trace : List Event) × IsFront trace left text × (first_breach (reverse trace) ≡ None)
+Answers text (Breach breach) left = (trace : List Event) × IsFront trace left text × IsFirst trace breach
+Answers text (Torn number) left = IsTorn text number × (left ≡ None)

@@ -1,0 +1,61 @@
+-- A judge of a text that comes in pieces, and the texts that it has taken.
+use Rattle.std.specs.Prelude.{◌≡◌, ℕ, Bool, true, false, List, ◌++◌, length, reverse, Option, None}
+use Rattle.text_lines.specs.Lines.{newlines}
+use Rattle.init_trace.specs.Event.{Event}
+use Rattle.init_trace.specs.Lines.{trace_text}
+use Rattle.init_trace.specs.Range.{are_in_range}
+use Rattle.trace_check.specs.Judging.{Judging, Judged}
+use Rattle.trace_verdict.specs.declared.findings.Finding.{Finding}
+use Rattle.trace_verdict.specs.declared.findings.Finding.TheVariants.{Lawful, Breach, Torn}
+use Rattle.trace_verdict.specs.Fronts.{is_unfinished, IsTorn}
+use Rattle.trace_verdict.specs.Answers.{Named, IsFirst}
+use Rattle.trace_verdict.specs.Readers.{Reading}
+
+-- what it has not read, and how many lines it has read; the judge of the trace; how many happenings it has read; and
+-- what it has found
+pub record TextState : Type 0 where
+  pub reading : Reading
+  pub judging : Judging
+  pub place : ℕ
+  pub finding : Finding Named
+
+-- what was found is right of the trace so far
+abbrev pub IsFound : Finding Named → Judging → List Event → Type 0
+IsFound Lawful judging trace = Judged judging (reverse trace)
+IsFound (Breach breach) judging trace = IsFirst trace breach
+IsFound (Torn number) judging trace = ⊥
+
+-- the trace is what it has read of the text
+pub record HasRead (state : TextState) (trace : List Event) (text : List ℕ) : Type 0 where
+  pub are : are_in_range trace ≡ true
+  pub whole : trace_text trace ++ state.reading.over ≡ text
+  pub lines : state.reading.lines ≡ newlines (trace_text trace)
+  pub place : state.place ≡ length trace
+  pub found : IsFound state.finding state.judging trace
+
+-- it is at work on the text: a line of it begins no happening, or it has read a trace
+abbrev pub AtBy : Finding Named → TextState → List ℕ → Type 0
+AtBy (Torn number) state text = IsTorn text number
+AtBy _ state text = (trace : List Event) × HasRead state trace text
+
+abbrev pub IsAt : TextState → List ℕ → Type 0
+IsAt state text = AtBy state.finding state text
+
+-- it has taken the text: besides, nothing that it has not read is a whole happening
+abbrev pub TakenBy : Finding Named → TextState → List ℕ → Type 0
+TakenBy (Torn number) state text = IsTorn text number
+TakenBy _ state text =
+    (trace : List Event) × HasRead state trace text × (is_unfinished state.reading.over ≡ true)
+
+abbrev pub HasTaken : TextState → List ℕ → Type 0
+HasTaken state text = TakenBy state.finding state text
+
+-- it goes on with the text, or has taken it
+abbrev pub GoesOn : Bool → TextState → TextState → List ℕ → Type 0
+GoesOn true old new text = IsAt old text → IsAt new text
+GoesOn false old new text = IsAt old text → HasTaken new text
+
+-- the line at which it holds a happening that isn't finished
+abbrev pub left_of : Finding Named → Option ℕ → Option ℕ
+left_of (Torn number) left = None
+left_of _ left = left

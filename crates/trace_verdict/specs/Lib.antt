@@ -1,0 +1,4 @@
+pub mod Fronts
+pub mod Answers
+pub mod Readers
+pub mod Judges

@@ -1,0 +1,29 @@
+-- A reader of a text that comes in pieces.
+use Rattle.std.specs.Prelude.{◌≡◌, ℕ, ◌+◌, ◌-◌, ◌^◌, min, true, false, List, ◌++◌, Option, Some, None}
+use Rattle.init_trace.specs.declared.reading.ReadFault.{ReadFault}
+use Rattle.init_trace.specs.declared.reading.ReadFault.TheVariants as fault
+use Rattle.init_trace.specs.Event.{Event}
+use Rattle.init_trace.specs.Lines.{event_text}
+use Rattle.init_trace.specs.Range.{line_count, is_in_range, BeginsNone}
+use Rattle.trace_verdict.specs.Fronts.{is_unfinished}
+
+-- what it has not read, and how many lines it has read, as far as numbers go
+pub record Reading : Type 0 where
+  pub over : List ℕ
+  pub lines : ℕ
+
+-- a sum as far as numbers go
+abbrev pub capped : ℕ → ℕ
+capped sum = min sum (2 ^ 64 - 1)
+
+-- the next happening is read off; none is whole; no happening begins there
+abbrev pub ReadsNext : Reading → Reading → Option Event → Type 0
+ReadsNext old new None = (new ≡ old) × (is_unfinished old.over ≡ true)
+ReadsNext old new (Some happening) =
+    (is_in_range happening ≡ true) × (event_text happening ++ new.over ≡ old.over)
+    × (new.lines ≡ capped (old.lines + line_count happening))
+
+abbrev pub ReadsNone : Reading → ReadFault → Type 0
+ReadsNone old (fault.Line number) =
+    (number ≡ capped (old.lines + 1)) × (is_unfinished old.over ≡ false) × BeginsNone old.over
+ReadsNone old fault.Memory = Unit {0}

@@ -1,0 +1,140 @@
+ghost use Rattle.std.specs.Prelude.{◌≡◌, ◌≤◌, drop, length, List, ◌++◌, [], OnOk, OnErr, IfOk, IfErr, option_map};
+ghost use Rattle.trace_verdict.specs.Fronts.{line_left};
+ghost use Rattle.trace_verdict.specs.Readers.{capped, ReadsNext, ReadsNone};
+
+use crate::lines::lines_due;
+use init_trace::{HappeningIn, ReadFault, first_happening, line_count};
+use std::alloc::{AllocError, Allocator};
+use std::marker::Model;
+use text_lines::newlines;
+
+/// A reader of the happenings of a text that comes in pieces. It keeps what it has not read.
+///
+/// A happening that isn't whole is tried again once it has as many lines as it says, so that a table that comes in many
+/// pieces is read once.
+#[derive(Drop)]
+pub(crate) struct TextReader<A: Allocator> {
+    alloc: A,
+    bytes: Vec<u8, A>,
+    /// How many of the bytes are read.
+    at: usize,
+    /// How many newlines the others have.
+    whole: usize,
+    /// How many they need at least for the next happening.
+    due: usize,
+    lines: u64,
+}
+
+impl<A: Allocator> Model for TextReader<A> {
+    ghost use Rattle.std.specs.Prelude.{◌≡◌, ◌≤◌, drop, length};
+    ghost use Rattle.text_lines.specs.Lines.{newlines};
+    ghost use Rattle.trace_verdict.specs.Fronts.{lines_due};
+    ghost use Rattle.trace_verdict.specs.Readers.{Reading};
+
+    ghost Value = { Reading };
+
+    ghost view = { λ r. record { over = drop r.at r.bytes.items; lines = r.lines } };
+
+    ghost invariant = { λ r. (r.at ≤ length r.bytes.items)
+        × (r.whole ≡ newlines (drop r.at r.bytes.items))
+        × (r.due ≤ lines_due (drop r.at r.bytes.items)) };
+}
+
+/// What stands behind the first so many bytes.
+fn rest_of(bytes: &[u8], at: usize) -> &[u8]
+    requires { at ≤ length bytes.now }
+    ensures { result.now ≡ drop at bytes.now }
+{
+    &bytes[at..]
+}
+
+/// Drops the first so many bytes of a text, and adds the piece. Where nothing is dropped nothing is copied.
+fn move_on<A: Allocator + Copy>(
+    alloc: A,
+    bytes: &mut Vec<u8, A>,
+    at: usize,
+    piece: &[u8],
+) -> Result<(), AllocError>
+    requires { at ≤ length bytes.old.items }
+    ensures ok { OnOk result (bytes.new.items ≡ drop at bytes.old.items ++ piece.now) }
+    ensures err { OnErr result (bytes.new.items ≡ bytes.old.items) }
+{
+    if at == 0 {
+        return bytes.extend_from_slice(piece);
+    }
+    let mut rest = Vec::from_slice(alloc, rest_of(bytes, at))?;
+    rest.extend_from_slice(piece)?;
+    *bytes = rest;
+    Ok(())
+}
+
+impl<A: Allocator + Copy> TextReader<A> {
+    /// A reader of nothing. It takes no memory.
+    pub(crate) fn new(alloc: A) -> TextReader<A>
+        ensures { result ≡ record { over = []; lines = 0 } }
+    {
+        TextReader {
+            alloc,
+            bytes: Vec::new(alloc),
+            at: 0,
+            whole: 0,
+            due: 1,
+            lines: 0,
+        }
+    }
+
+    /// How many lines it has read.
+    pub(crate) fn lines(&self) -> u64
+        ensures { result ≡ self.now.lines }
+    {
+        self.lines
+    }
+
+    /// The number of the line at which what it has not read begins; None where it has read all.
+    pub(crate) fn left(&self) -> Option<u64>
+        ensures { result ≡ option_map capped (line_left self.now.lines self.now.over) }
+    {
+        if self.at == self.bytes.len() {
+            None
+        } else {
+            Some(self.lines.saturating_add(1))
+        }
+    }
+
+    /// Takes the next piece of the text.
+    pub(crate) fn feed(&mut self, piece: &[u8]) -> Result<(), AllocError>
+        ensures ok { OnOk result
+            (self.new ≡ record self.old { over = self.old.over ++ piece.now }) }
+        ensures err { OnErr result (self.new ≡ self.old) }
+    {
+        move_on(self.alloc, &mut self.bytes, self.at, piece)?;
+        self.at = 0;
+        self.whole += newlines(piece);
+        Ok(())
+    }
+
+    /// Reads the next happening off; None where none is whole. Where a line begins none nothing is read.
+    pub(crate) fn next(&mut self) -> Result<Option<HappeningIn<A>>, ReadFault>
+        ensures next { IfOk result (λ found. ReadsNext self.old self.new found) }
+        ensures none { IfErr result (λ fault.
+            (self.new ≡ self.old) × ReadsNone self.old fault) }
+    {
+        if self.whole < self.due {
+            return Ok(None);
+        }
+        let rest = rest_of(&self.bytes, self.at);
+        if let Some((happening, more)) = first_happening(self.alloc, rest)? {
+            let lines = line_count(&happening);
+            self.at = self.bytes.len() - more.len();
+            self.whole -= lines as usize;
+            self.due = 1;
+            self.lines = self.lines.saturating_add(lines);
+            return Ok(Some(happening));
+        }
+        self.due = lines_due(rest);
+        if self.whole < self.due {
+            return Ok(None);
+        }
+        Err(ReadFault::Line(self.lines.saturating_add(1)))
+    }
+}

@@ -1,0 +1,155 @@
+ghost use Rattle.std.specs.Prelude.{◌≡◌, ◌^◌, ◌<◌, ◌+◌, List, ℕ, ◌++◌, [], ◌∷◌, length, true, option_map, IfOk, OnOk};
+ghost use Rattle.text_lines.specs.Lines.{newlines};
+ghost use Rattle.init_trace.specs.Event.{Event};
+ghost use Rattle.init_trace.specs.Lines.{trace_text};
+ghost use Rattle.trace_verdict.specs.Fronts.{line_left};
+ghost use Rattle.trace_verdict.specs.Readers.{capped};
+ghost use Rattle.trace_verdict.specs.Answers.{Answers};
+ghost use Rattle.trace_verdict.specs.Judges.{GoesOn, HasTaken, IsAt, IsFound, left_of};
+
+use crate::findings::{Breach, Finding};
+use crate::readers::TextReader;
+use init_trace::{HappeningIn, ReadFault, print_one};
+use init_words::Memory;
+use std::alloc::{Allocator, Global};
+use std::marker::Model;
+use trace_check::TraceJudge;
+
+/// A judge of the text of a trace that comes in pieces, cut anywhere.
+///
+/// A contract sees of it which texts it has taken (`HasTaken`).
+#[derive(Drop)]
+pub struct TextJudge<A: Allocator = Global> {
+    alloc: A,
+    reader: TextReader<A>,
+    judge: TraceJudge<A>,
+    place: u64,
+    finding: Finding<Breach<A>>,
+}
+
+impl<A: Allocator> Model for TextJudge<A> {
+    ghost use Rattle.trace_verdict.specs.Judges.{TextState};
+
+    ghost Value = { TextState };
+
+    ghost view = { λ j. record {
+      reading = j.reader;
+      judging = j.judge;
+      place = j.place;
+      finding = j.finding;
+    } };
+}
+
+/// Judges the next happening, as long as none broke a law.
+fn judge_next<A: Allocator + Copy>(
+    alloc: A,
+    judge: &mut TraceJudge<A>,
+    finding: &mut Finding<Breach<A>>,
+    place: u64,
+    line: u64,
+    happening: &HappeningIn<A>,
+) -> Result<(), Memory>
+    ensures { OnOk result ((trace : List Event) → IsFound finding.old judge.old trace
+        → place ≡ length trace → line ≡ newlines (trace_text trace) + 1
+        → IsFound finding.new judge.new (trace ++ happening.now ∷ [])) }
+{
+    match finding {
+        Finding::Lawful => {}
+        _ => return Ok(()),
+    }
+    if let Some(law) = judge.take(happening)? {
+        let text = print_one(alloc, happening)?;
+        *finding = Finding::Breach(Breach::new(place, law, line, text));
+    }
+    Ok(())
+}
+
+impl<A: Allocator + Copy> TextJudge<A> {
+    /// A judge that has taken nothing. It takes no memory.
+    pub fn new(alloc: A) -> TextJudge<A>
+        ensures { HasTaken result [] }
+    {
+        TextJudge {
+            alloc,
+            reader: TextReader::new(alloc),
+            judge: TraceJudge::new(alloc),
+            place: 0,
+            finding: Finding::Lawful,
+        }
+    }
+
+    fn feed(&mut self, piece: &[u8]) -> Result<(), Memory>
+        ensures { OnOk result ((text : List ℕ) → HasTaken self.old text
+            → IsAt self.new (text ++ piece.now)) }
+    {
+        if let Finding::Torn(_) = self.finding {
+            return Ok(());
+        }
+        self.reader.feed(piece)?;
+        Ok(())
+    }
+
+    /// Takes the next happening, if one is whole.
+    fn take_next(&mut self) -> Result<bool, Memory>
+        ensures goes { IfOk result (λ more. (text : List ℕ) → length text < 2 ^ 64
+            → GoesOn more self.old self.new text) }
+        ensures shorter { IfOk result (λ more. more ≡ true
+            → length self.new.reading.over < length self.old.reading.over) }
+    {
+        if let Finding::Torn(_) = self.finding {
+            return Ok(false);
+        }
+        let line = self.reader.lines().saturating_add(1);
+        match self.reader.next() {
+            Ok(Some(happening)) => {
+                judge_next(
+                    self.alloc,
+                    &mut self.judge,
+                    &mut self.finding,
+                    self.place,
+                    line,
+                    &happening,
+                )?;
+                self.place = self.place.saturating_add(1);
+                Ok(true)
+            }
+            Ok(None) => Ok(false),
+            Err(ReadFault::Line(number)) => {
+                self.finding = Finding::Torn(number);
+                Ok(false)
+            }
+            Err(ReadFault::Memory) => Err(Memory),
+        }
+    }
+
+    /// Takes the next piece of the text. Where memory runs out a part of it may be taken, and the judge is of no more
+    /// use.
+    pub fn take(&mut self, piece: &[u8]) -> Result<(), Memory>
+        ensures { OnOk result ((text : List ℕ) → length (text ++ piece.now) < 2 ^ 64
+            → HasTaken self.old text → HasTaken self.new (text ++ piece.now)) }
+    {
+        self.feed(piece)?;
+        while self.take_next()? {}
+        Ok(())
+    }
+
+    fn left(&self) -> Option<u64>
+        ensures { result ≡ left_of self.now.finding
+            (option_map capped (line_left self.now.reading.lines self.now.reading.over)) }
+    {
+        match self.finding {
+            Finding::Torn(_) => None,
+            _ => self.reader.left(),
+        }
+    }
+
+    /// What is found of the text that it has taken, and the number of the line, from 1, at which its last happening
+    /// begins, where that isn't finished: it isn't judged.
+    pub fn answer(&self) -> (&Finding<Breach<A>>, Option<u64>)
+        ensures { (text : List ℕ) → length text < 2 ^ 64 → HasTaken self.now text
+            → Answers text result.0.now result.1 }
+    {
+        let left = self.left();
+        (&self.finding, left)
+    }
+}
