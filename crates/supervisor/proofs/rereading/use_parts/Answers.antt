@@ -28,7 +28,7 @@ returns-clause-lasts g c taken =
 
 pub returns-clause-readable : goal.returns-clause-readable
 returns-clause-readable g c taken =
-    was_readable c.read_parts.result _ (texts_of c.args.parts.now) c.in-Ok.is c.in-Ok.ensures.parts c.in-Ok.ensures.too_long
+    was_readable (Ok (c.in-Ok.table, c.in-Ok.field-0-1)) _ (texts_of c.args.parts.now) refl c.in-Ok.ensures.parts c.in-Ok.ensures.too_long
 
 was_quiet : {E : Type 0} (quiet : Bool) (result : Result (Unit {0}) E) (why : E) → (quiet ≡ false → result ≡ Err why) → is_err result ≡ false → quiet ≡ true
 was_quiet true result why busy works = refl
