@@ -8,9 +8,12 @@ init=$!
 seen() { until grep -qs "$1" "$2"; do kill -s 0 "$init" || exit 4; sleep 0.1; done; }
 seen 'Runlevel 2 settled' run/log
 telinit --initctl run/initctl A
-seen dump run/notes
+seen '^birth 2 ' run/trace
 telinit --initctl run/initctl 0
 seen 'Runlevel 0 settled' run/log
+# What a letter started lives on in the levels 0 to 9, and ends in S.
+telinit --initctl run/initctl S
+seen 'Runlevel S settled' run/log
 kill "$init"
 wait "$init" 2>/dev/null
 cat run/notes
