@@ -3,6 +3,8 @@
 #![tactic(auto)]
 
 #[cfg(test)]
+mod brief_tests;
+#[cfg(test)]
 mod growth_tests;
 #[cfg(test)]
 mod line_tests;

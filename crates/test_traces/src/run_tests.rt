@@ -40,7 +40,7 @@ fn is_run(alloc: Global, inittab: &str, level: Option<Level>, script: &str, trac
 }
 
 /// An inittab, a script, and the trace.
-const RUNS: &[(&str, &str, &str)] = &[
+pub(crate) const RUNS: &[(&str, &str, &str)] = &[
     // Nothing to do.
     ("", "", "use 0 / enter sysinit 5 / enter S 5 / settle S"),
     // A waited entry ends before the next starts.

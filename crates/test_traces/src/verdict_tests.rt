@@ -5,7 +5,7 @@ use std::test::Fail;
 
 /// Traces, where ` / ` stands for line ends, and their verdicts: `.` where it is lawful, else the place of the first
 /// breach from 0 and its law.
-const VERDICTS: &[(&str, &str)] = &[
+pub(crate) const VERDICTS: &[(&str, &str)] = &[
     ("", "."),
     // A waited entry ends before the next starts.
     (
@@ -170,7 +170,7 @@ const VERDICTS: &[(&str, &str)] = &[
 
 /// Worked traces, and the verdicts on them with each of their lines dropped, doubled, and exchanged with the next one
 /// in turn; `?` and the number of a line where no happening begins there.
-const CHANGED: &[(&str, &str, &str, &str)] = &[
+pub(crate) const CHANGED: &[(&str, &str, &str, &str)] = &[
     // Nothing to do.
     (
         "use 0 / enter sysinit 5 / enter S 5 / settle S",
