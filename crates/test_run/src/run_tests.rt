@@ -289,3 +289,114 @@ fn a_file_that_is_broken_stops_its_own_entries(rt: HostRuntime) -> Result<(), Fa
     assert!(rt; is_run(&rt, BROKEN) && fs::metadata(&rt, "gone.on").is_ok());
     Ok(())
 }
+
+/// A child of a letter. One that lives on in each level kills it by hand and sees it come back, asks for runlevel 2, in
+/// which it lives on, and ends it by runlevel S.
+const CALLED: &Run = &Run {
+    files: &[
+        (
+            "called.tab",
+            "id:3:initdefault:\nw::boot:sh watch.sh\nd:A:ondemand:sh called.sh\nm:3:once:sh up.sh three\nn:2:once:sh up.sh two\n",
+        ),
+        ("up.sh", ": > $1.up\n"),
+        (
+            "called.sh",
+            "name=called1; if test -e called1.up; then name=called2; fi\necho $$ > $name.new; mv $name.new $name.up\nexec sleep 60\n",
+        ),
+        (
+            "watch.sh",
+            "wait_for() { for i in 1 2 3 4 5 6 7 8 9 10; do for k in 1 2 3 4 5 6 7 8 9 10; do if test -e $1; then return 0; fi; sleep 0.2; done; done; exit 1; }\n\
+             wait_for three.up; head -c 384 letters >> called.ctl\nwait_for called1.up; kill -s KILL $(cat called1.up)\n\
+             wait_for called2.up; head -c 768 letters | tail -c 384 >> called.ctl\nwait_for two.up; tail -c 384 letters >> called.ctl\n",
+        ),
+    ],
+    requests: Requests {
+        path: "letters",
+        codes: b"A2S",
+        seconds: 5,
+    },
+    line: "run --inittab called.tab --initctl called.ctl --state called.state --trace called.trace --turns 1000 --drain --pause 0.2",
+    said: "",
+    check: "check called.trace",
+    trace: "called.trace",
+    parts: &[&[
+        "settle 3",
+        "got call A",
+        "call A",
+        "ask d start",
+        "birth d *",
+        "reaped d * killed",
+        "told d",
+        "ask d start",
+        "birth d *",
+        "got level 2 5",
+        "enter 2 5",
+        "settle 2",
+        "got level S 5",
+        "enter S 5",
+        "ask d term",
+        "hit d",
+        "reaped d * killed",
+        "settle S",
+    ]],
+};
+
+#[test]
+fn a_called_child_comes_back(rt: HostRuntime) {
+    assert!(rt; is_run(&rt, CALLED));
+}
+
+/// Five children that sleep, and one that ends by itself once: a brief trace of 60 turns.
+const BRIEF_FILES: &[(&str, &str)] = &[
+    (
+        "brief.tab",
+        "id:3:initdefault:\na:3:once:sleep 5\nb:3:once:sleep 5\nc:3:once:sleep 5\nd:3:once:sleep 5\ne:3:once:sleep 5\nr:3:respawn:sh crash.sh\n",
+    ),
+    (
+        "crash.sh",
+        "if test -e crash.up; then exec sleep 5; fi\n: > crash.up\nsleep 0.3; exit 7\n",
+    ),
+];
+
+const BRIEF_LINE: &str =
+    "run --inittab brief.tab --initctl brief.ctl --state brief.state --trace brief.trace --brief --turns 60 --pause 0.02";
+
+/// The end of the one child, with what is needed to tell it, and its next start.
+const CRASH: &[&str] = &[
+    "settle 3",
+    "clock *",
+    "nudge",
+    "ask r look",
+    "death *",
+    "reaped r * exit 7",
+    "told r",
+    "ask r start",
+    "birth r *",
+    "told r",
+];
+
+/// Behind what happened last, at most a reading of the clock stands in the trace, and then a round.
+fn ends_brief(trace: &str) -> bool {
+    let mut last = ["", "", ""];
+    for line in trace.lines() {
+        last = [last[1], last[2], line];
+    }
+    match last {
+        ["told r", clock, "nudge"] => is_line(clock, "clock *"),
+        [_, "told r", after] => after == "nudge" || is_line(after, "clock *"),
+        [_, _, end] => end == "told r",
+    }
+}
+
+#[test]
+fn idle_turns_write_nothing(rt: HostRuntime) -> Result<(), Fail> {
+    let mut out = Vec::new(rt.alloc());
+    assert!(rt; are_written(&rt, BRIEF_FILES));
+    assert!(rt; answer(&rt, BRIEF_LINE, &mut out)? == 3);
+    assert!(rt; is_done(&rt, "check brief.trace", "lawful\n"));
+    let trace = fs::read_to_string(&rt, "brief.trace")?;
+    assert!(rt; is_in_order(&trace, CRASH) && ends_brief(&trace), "{trace}");
+    // The table, three stages, a start of each child, settle, the crash, and rounds between that told something.
+    assert!(rt; trace.lines().count() < 60, "{trace}");
+    Ok(())
+}
