@@ -116,10 +116,10 @@ const RUNS: &[(&str, Option<Level>, &str)] = &[
          goal 1 9 / reread / notread / got level 3 5 / goal 3 5 / reread / notread / got reload / reread / \
          notread / got reexec / reexec / handed none / got call A / got power fail / got nothing 1 / nudge / \
          ask b look / reaped b 2 exit 0 / enter 3 5 / power fail / call A / ask o start / ask d start / \
-         ask p start / nobirth o / nobirth d / nobirth p / settle 3 / got level 3 9 / goal 3 5 / got level 1 9 / \
+         ask p start / nobirth o / birth d 3 / nobirth p / settle 3 / got level 3 9 / goal 3 5 / got level 1 9 / \
          goal 3 5 / reread / got level 3 9 / reread / notread / goal 3 5 / got reload / reread / got reload / \
          reread / notread / got reexec / reexec / got reexec / reexec / handed none / got call A / call A / \
-         ask d start / nobirth d / got power fail / power fail / ask p start / nobirth p / got nothing 1",
+         got power fail / power fail / ask p start / nobirth p / got nothing 1",
     ),
     // The order of news, and of wishes.
     (
