@@ -1,5 +1,5 @@
 -- The requests of a trace are those of the bytes that its calls took.
-use Rattle.std.proofs.Common.{◌≡◌, refl, sym, ◌∙◌, ap, ℕ, Bool, true, false, cond, List, [], ◌∷◌, ◌++◌, length, nat_lt, append-nil, append_assoc, Option, Some, None, Ok, Err}
+use Rattle.std.proofs.Common.{◌≡◌, refl, sym, ◌∙◌, ap, ℕ, Bool, true, false, cond, List, [], ◌∷◌, ◌++◌, append-nil, append_assoc, Option, Some, None, Ok, Err}
 use Rattle.init_words.specs.declared.orders.Answer.{Answer}
 use Rattle.init_words.specs.declared.orders.Answer.TheVariants as answer
 use Rattle.init_words.specs.declared.orders.Ask.{Ask}
@@ -13,7 +13,7 @@ use Rattle.init_trace.specs.Event.{Event}
 use Rattle.child_host.specs.declared.calls.Call.TheVariants.{Start, Look, Signal, Late, Clock, TakeBytes, ReadTables, Carry, Announce, Pause}
 use Rattle.child_host.specs.declared.calls.Reply.{Reply}
 use Rattle.child_host.specs.declared.calls.Reply.TheVariants.{Now, Later}
-use Rattle.child_host.specs.Calls.{HostCall, PartsRead, TextRead}
+use Rattle.child_host.specs.Calls.{HostCall, PartsRead}
 use Rattle.host_trace.specs.Point.{Point, acted, is_asked_for, answered, ordered, order_for, come, is_last, nudged_if, reading, before_reading, announced, point_after, before_handing, came_whole, handed_if}
 use Rattle.host_trace.specs.Requests.{requested, Continues, requests_in, bytes_of, Brings}
 use Rattle.host_trace.proofs.Bytes.{bytes_continue}

@@ -1,6 +1,6 @@
 -- The seconds that a record of calls names: those of requests are at most an hour, and so, where its trace is sound and
 -- the seconds named before are, are all.
-use Rattle.std.proofs.Common.{◌≡◌, refl, sym, ap, ◌∙◌, map, ℕ, ℤ, pos, negsuc, ◌+◌, ◌==◌, min, Bool, true, false, ◌||◌, cond, List, [], ◌∷◌, ◌++◌, length, Option, Some, None, Ok, Err, nat_lt, arith, int_eq}
+use Rattle.std.proofs.Common.{◌≡◌, refl, sym, ap, ◌∙◌, map, ℕ, ℤ, pos, negsuc, ◌+◌, ◌==◌, min, Bool, true, false, ◌||◌, cond, List, [], ◌∷◌, ◌++◌, length, Option, Some, None, Ok, Err, arith, int_eq}
 use Rattle.std.specs.List.{list_all}
 use Rattle.std.proofs.lemmas.List.Folds.{list_all-append}
 use Rattle.std.proofs.lemmas.Bool.{false≢true, and_parts, and_from, lt-ltb}
@@ -30,7 +30,7 @@ use Rattle.trace_laws.proofs.Seconds.{is_short_request, sound_short}
 use Rattle.child_host.specs.declared.calls.Call.TheVariants.{Start, Look, Signal, Late, Clock, TakeBytes, ReadTables, Carry, Announce, Pause}
 use Rattle.child_host.specs.declared.calls.Reply.{Reply}
 use Rattle.child_host.specs.declared.calls.Reply.TheVariants.{Now, Later}
-use Rattle.child_host.specs.Calls.{HostCall, PartsRead, TextRead}
+use Rattle.child_host.specs.Calls.{HostCall, PartsRead}
 use Rattle.trace_log.specs.Logs.{LogState}
 use Rattle.host_trace.specs.Leads.{Logs, Took, are_seconds_short}
 use Rattle.host_trace.specs.Point.{Point, after, acted, announced, answered, before_handing, before_reading, byte_after, bytes_after, came_whole, come, handed_if, is_asked_for, is_last, is_announcement, nudged_if, order_for, ordered, point_after, reading}
