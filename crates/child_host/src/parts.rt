@@ -45,10 +45,7 @@ impl<A: Allocator> PartList<A> {
 }
 
 /// A copy of a file.
-fn part_copy<A: Allocator + Copy, B: Allocator>(
-    alloc: A,
-    part: &Part<B>,
-) -> Result<Part<A>, Memory>
+fn part_copy<A: Allocator + Copy, B: Allocator>(alloc: A, part: &Part<B>) -> Result<Part<A>, Memory>
     ensures { IfOk result (λ copy. copy ≡ part.now) }
 {
     Ok(Part {

@@ -1,6 +1,6 @@
 -- The seconds that a record of calls names: those of requests are at most an hour, and so, where its trace is sound and
 -- the seconds named before are, are all.
-use Rattle.std.proofs.Common.{◌≡◌, refl, sym, ap, ◌∙◌, map, ℕ, ℤ, pos, negsuc, ◌+◌, ◌==◌, min, Bool, true, false, ◌||◌, cond, List, [], ◌∷◌, ◌++◌, length, Option, Some, None, Ok, Err, nat_lt, arith, int_eq}
+use Rattle.std.proofs.Common.{◌≡◌, refl, sym, ap, ◌∙◌, map, ℕ, ℤ, pos, negsuc, ◌+◌, ◌==◌, min, Bool, true, false, ◌||◌, cond, List, [], ◌∷◌, ◌++◌, length, Option, Some, None, Ok, Err, arith, int_eq}
 use Rattle.std.specs.List.{list_all}
 use Rattle.std.proofs.lemmas.List.Folds.{list_all-append}
 use Rattle.std.proofs.lemmas.Bool.{false≢true, and_parts, and_from, lt-ltb}

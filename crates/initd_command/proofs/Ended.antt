@@ -1,5 +1,5 @@
 -- What a run left, where its writer was only flushed since.
-use Rattle.std.proofs.Common.{◌≡◌, refl, sym, ap, subst, Result, Ok, Err, IfErr, OnOk, ◌⊎◌, inl, inr, Bool, List, [], ℕ, true, string_bytes, Option, Some, None, unwrap_or, IsSome, String}
+use Rattle.std.proofs.Common.{◌≡◌, refl, sym, ap, subst, Result, Ok, Err, IfErr, OnOk, ◌⊎◌, inl, inr, Bool, List, [], ℕ, true, Option, Some, None, unwrap_or, IsSome}
 use Rattle.std.specs.Result.{IsErrAnd}
 use Rattle.std.proofs.lemmas.Bool.{false≢true}
 use Rattle.std.specs.declared.io.Error.{Error}

@@ -19,12 +19,15 @@ use std::rt::{Clock, Files};
 
 /// What standard error gets of words that are no command line, after a line that says why.
 pub const USAGE: &str =
-    "usage: initd run [--inittab P] [--initctl P] [--fresh] [--state P] [--trace P] [--level L]
-                 [--turns N | --forever] [--drain] [--pause SEC] [--result ID] [--verbose] [--logs DIR]
+    "usage: initd run [--inittab P] [--inittab-dir DIR] [--initctl P] [--fresh] [--state P]
+                 [--trace P] [--level L] [--turns N | --forever] [--drain] [--pause SEC]
+                 [--result ID] [--verbose] [--logs DIR]
        initd simulate [--level L] TABLE SCRIPT
        initd check TRACE
        initd --version
   --inittab  the inittab(5); inittab where it is left out
+  --inittab-dir
+             the folder whose files NAME.tab are read after the inittab; none where it is left out
   --initctl  the file to which telinit appends requests; initctl where it is left out
   --fresh    pass over the requests that the file has already
   --state    the file that carries init's state where init re-executes itself;
@@ -37,7 +40,8 @@ pub const USAGE: &str =
              1 where it is left out
   --result   end with the last exit status of the entry ID, in place of 0; 137 where it was killed,
              4 where it never ended
-  --verbose  tell each start and each end of a child
+  --verbose  tell each start and each end of a child, and each file of --inittab-dir that is
+             passed over
   --logs     the folder that the output of each entry is written to, a file an entry
   L       the runlevel to go to, 0 to 9, S or s; the table's initdefault where it is left out
   ID      an id of the inittab, 1 to 8 characters

@@ -1,5 +1,5 @@
 -- Texts of several parts, one after the other.
-use Rattle.std.proofs.Common.{◌≡◌, ℕ, ◌<◌, ◌≤◌, Bool, true, nat_le, List, length, Result, Ok, Err, IsErrOf, ◌↔◌, arith}
+use Rattle.std.proofs.Common.{◌≡◌, ℕ, ◌<◌, ◌≤◌, true, nat_le, List, length, Result, Ok, Err, IsErrOf, ◌↔◌, arith}
 use Rattle.std.proofs.lemmas.Bool.{and_from, le-leb}
 use Rattle.inittab_text.specs.declared.faults.TableFault.{TableFault}
 use Rattle.inittab_text.specs.declared.faults.TableFault.TheVariants as table

@@ -3,8 +3,8 @@ ghost use Rattle.std.specs.Prelude.{◌≡◌, ◌⊎◌, ◌++◌, ◌∷◌, [
 use crate::queues::{Pieces, give, next_or};
 use crate::recording::{announce_call, bytes_call, carry_call, record, start_call, tables_call};
 use child_host::{
-    Bytes, Call, CallIn, Host, HostFault, PartList, Reply, counted, is_failed_late, is_failed_reply,
-    parts_copy,
+    Bytes, Call, CallIn, Host, HostFault, PartList, Reply, counted, is_failed_late,
+    is_failed_reply, parts_copy,
 };
 use init_trace::HappeningIn;
 use init_words::{Answer, Id, Memory, Part, Sig};

@@ -1,4 +1,4 @@
-use Rattle.std.proofs.Common.{◌≡◌, ◌∙◌, sym, ap, arith, ℕ, ◌<◌, List, ◌∷◌, ◌++◌, length, length-append, Option, Some, None, Bor, option_map, IfSome}
+use Rattle.std.proofs.Common.{◌≡◌, sym, ap, arith, ℕ, ◌<◌, List, ◌∷◌, length, length-append, Option, Some, None, Bor, option_map, IfSome}
 use Rattle.text_lines.specs.Lines.{cut}
 use Rattle.text_lines.proofs.CutLemmas.{cut-parts}
 use Rattle.os_host.proofs.folders.next_name.Goals as goal
