@@ -36,8 +36,8 @@ pub(crate) fn check_file<T: Texts, W: Write, E: Write>(
     }
 }
 
-/// Judges the text of a trace.
-fn check_text<W: Write, E: Write>(alloc: Global, text: &[u8], out: &mut W, err: &mut E) -> u8
+/// Judges the text of a trace: the verdict is written, a breach or a fault reported, and the exit status given.
+pub fn check_text<W: Write, E: Write>(alloc: Global, text: &[u8], out: &mut W, err: &mut E) -> u8
     ensures { (ending : Ending) × (result ≡ status_of ending)
         × EndsTrace text.now ending (W.contents out.old) (W.contents out.new)
         × Reports ending (E.contents err.old) (E.contents err.new) }

@@ -20,8 +20,8 @@ use std::rt::{Clock, Files};
 /// What standard error gets of words that are no command line, after a line that says why.
 pub const USAGE: &str =
     "usage: initd run [--inittab P] [--inittab-dir DIR] [--initctl P] [--fresh] [--state P]
-                 [--trace P] [--level L] [--turns N | --forever] [--drain] [--pause SEC]
-                 [--result ID] [--verbose] [--logs DIR]
+                 [--trace P [--brief]] [--level L] [--turns N | --forever] [--drain]
+                 [--pause SEC] [--result ID] [--verbose] [--logs DIR]
        initd simulate [--level L] TABLE SCRIPT
        initd check TRACE
        initd --version
@@ -33,6 +33,7 @@ pub const USAGE: &str =
   --state    the file that carries init's state where init re-executes itself;
              initd.state where it is left out
   --trace    the file that the trace of the run is written to; none where it is left out
+  --brief    leave looks that found nothing and idle rounds out of the trace
   --turns    the greatest number of turns, 1 to 1000000000; 1000000 where it is left out
   --forever  no limit of turns; not with --turns
   --drain    end where nothing is left to do and nothing runs

@@ -33,13 +33,14 @@ pub(crate) fn simulate_files<T: Texts, W: Write, E: Write>(
     };
     let path = said.script.as_str();
     match texts.read(alloc, path) {
-        Ok(script) => run(alloc, &inittab, said.level, &script, out, err),
+        Ok(script) => simulate_texts(alloc, &inittab, said.level, &script, out, err),
         Err(error) => report_unread(alloc, path, &error, err),
     }
 }
 
-/// Runs init over a script, and sees that what was written is out.
-fn run<W: Write, E: Write>(
+/// Runs init over the texts of an inittab and a script, sees that what was written is out, reports a fault, and gives the
+/// exit status.
+pub fn simulate_texts<W: Write, E: Write>(
     alloc: Global,
     inittab: &[u8],
     level: Option<Level>,

@@ -1,18 +1,23 @@
 -- Texts that a core does not take over, and those that were made.
-use Rattle.std.proofs.Common.{◌≡◌, refl, sym, ap, ◌∙◌, subst, ℕ, ◌+◌, ◌-◌, ◌<◌, ◌≤◌, Bool, true, false, cond, List, [], ◌∷◌, ◌++◌, map, length, get_or, take, drop, Some, None, ◌⊎◌, inl, inr, arith, length-append, length-drop}
-use Rattle.std.specs.Prelude.{nat_le, nat_lt}
+use Rattle.std.proofs.Common.{◌≡◌, refl, sym, ap, ◌∙◌, subst, ℕ, ◌+◌, ◌-◌, ◌<◌, ◌≤◌, Bool, true, false, cond, List, [], ◌∷◌, ◌++◌, map, length, get_or, take, drop, Option, Some, None, ◌⊎◌, inl, inr, arith, length-append, length-drop}
+use Rattle.std.specs.Prelude.{nat_le, nat_lt, unwrap_or}
 use Rattle.std.proofs.lemmas.Bool.{and_parts, cases_lt, leb-true, ltb-true}
 use Rattle.std.proofs.lemmas.List.{get_or-map, get_or_append_left, length-map, map-append, take-append-drop}
 use Rattle.std.proofs.Math.Seq.{get_or-append_seam}
 use Rattle.init_trace.specs.declared.happenings.Handed.{Handed as HandOver}
 use Rattle.init_trace.specs.declared.happenings.Handed.TheVariants as handed
-use Rattle.core_model.specs.Parts.{SavedState}
+use Rattle.core_model.specs.Parts.{SavedState, state_of}
+use Rattle.core_model.specs.Rebuilding.{core_of}
+use Rattle.core_model.specs.Rules.{IsFit}
+use Rattle.core_model.specs.State.{CoreState}
+use Rattle.core_model.specs.Steps.{after_handed_on}
+use Rattle.core_model.proofs.Rebuilt.{core_is}
 use Rattle.state_text.specs.Refused.{IsTextOf}
 use Rattle.state_text.proofs.Ends.{no_prefix}
 use Rattle.state_text.proofs.Prefixes.{one_state}
 use Rattle.simulated_system.specs.declared.objections.Objection.{Objection}
-use Rattle.simulator.specs.Handing.{has_next, is_made, objection_handed}
-use Rattle.simulator.specs.Texts.{AreMade, HasTexts, IsForeign, IsOfGeneration}
+use Rattle.simulator.specs.Handing.{after_hand, has_next, is_made, kept_texts, objection_handed, taken_of, text_made}
+use Rattle.simulator.specs.Texts.{AreMade, HasTexts, IsForeign, IsOfGeneration, IsTakenOver}
 
 -- what is left of a text that is cut is that of no state
 pub cut_foreign : (text : List ℕ) (bytes generation : ℕ) (own : SavedState) → IsTextOf text own → bytes < length text → IsForeign (take bytes text) generation
@@ -45,7 +50,51 @@ may_older made size generation how is none =
     let now : objection_handed made size (handed.Older generation) ≡ None = subst (λ h. objection_handed made size h ≡ None) is none in
     no_objection (has_next made) (is_made generation made) _ _ now
 
+-- a core is taken over from its own text, and none from the text of no state of its generation
+pub own_taken : (back : List ℕ) (generation : ℕ) (core : CoreState) (taken : Option CoreState) → IsFit core → IsTextOf back (state_of core) → core.generation ≡ generation
+    → IsTakenOver back generation taken → taken ≡ Some core
+own_taken back generation core None fit says own none = absurd (none core fit says own)
+own_taken back generation core (Some other) fit says own (said, kept, its) =
+    ap (λ c. Some c) (sym (core_is other kept) ∙ ap core_of (one_state back (state_of other) (state_of core) said says) ∙ core_is core fit)
+
+pub none_taken : (back : List ℕ) (generation : ℕ) (taken : Option CoreState) → IsForeign back generation → IsTakenOver back generation taken → taken ≡ None
+none_taken back generation None foreign none = refl
+none_taken back generation (Some core) foreign (said, kept, its) = absurd (foreign (state_of core) said its)
+
+-- the core that goes on is the old one
+pub same_core : (how : HandOver) (core new : CoreState) (taken : Option CoreState) → taken ≡ taken_of how core → new ≡ unwrap_or taken core → new ≡ core
+same_core handed.Whole core new taken is goes = goes ∙ ap (λ t. unwrap_or t core) is
+same_core (handed.Cut bytes) core new taken is goes = goes ∙ ap (λ t. unwrap_or t core) is
+same_core (handed.Older generation) core new taken is goes = goes ∙ ap (λ t. unwrap_or t core) is
+same_core handed.Failed core new taken is goes = goes ∙ ap (λ t. unwrap_or t core) is
+
+-- a hand-over that did not fail hands the core on
+pub handed_then : (how : HandOver) (core : CoreState) → (how ≡ handed.Failed → ⊥) → after_handed_on core ≡ after_hand how core
+handed_then handed.Whole core some = refl
+handed_then (handed.Cut bytes) core some = refl
+handed_then (handed.Older generation) core some = refl
+handed_then handed.Failed core some = absurd (some refl)
+
+-- one more text is kept
+pub kept_more : (how : HandOver) (core : CoreState) (made now : List (List ℕ)) (text : List ℕ) → (how ≡ handed.Failed → ⊥) → text ≡ text_made core → now ≡ made ++ text ∷ []
+    → now ≡ kept_texts how core made
+kept_more handed.Whole core made now text some is more = more ∙ ap (λ t. made ++ t ∷ []) is
+kept_more (handed.Cut bytes) core made now text some is more = more ∙ ap (λ t. made ++ t ∷ []) is
+kept_more (handed.Older generation) core made now text some is more = more ∙ ap (λ t. made ++ t ∷ []) is
+kept_more handed.Failed core made now text some is more = absurd (some refl)
+
 module _ {X : Type 0} (f : X → List ℕ) where
+  -- the text that was made of a generation
+  pub made_is : (xs : List X) (older : ℕ) (x : X) (text : List ℕ) → is_made older (length xs) ≡ true → x ≡ get_or xs (older - 1) x → text ≡ f x → get_or (map f xs) (older - 1) [] ≡ text
+  made_is xs older x text made at says =
+      let most = leb-true older (length xs) (and_parts (nat_le 1 older) (nat_le older (length xs)) made).1 in
+      let least = leb-true 1 older (and_parts (nat_le 1 older) (nat_le older (length xs)) made).0 in
+      let within : older - 1 < length xs = omega (arith, most, least) in
+      get_or-map f xs (older - 1) x [] within ∙ ap f (sym at) ∙ sym says
+
+  pub kept_push : (xs ys : List X) (x : X) → ys ≡ xs ++ x ∷ [] → map f ys ≡ map f xs ++ f x ∷ []
+  kept_push xs ys x is = ap (map f) is ∙ map-append f xs (x ∷ [])
+
   -- a text that was made before is that of no state of this generation
   pub made_foreign : (xs : List X) (older generation : ℕ) (x : X) (text : List ℕ) → AreMade (map f xs) → is_made older (length xs) ≡ true → x ≡ get_or xs (older - 1) x → text ≡ f x → generation ≡ length xs + 1
       → IsForeign text generation

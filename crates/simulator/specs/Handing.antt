@@ -1,5 +1,5 @@
 -- Hand-overs of init's state in a run: what init keeps, the text that is made of it, and which may come.
-use Rattle.std.specs.Prelude.{ℕ, Bool, true, ◌&&◌, ◌+◌, ◌^◌, if◌then◌else◌, nat_le, nat_lt, List, [], ◌∷◌, length, Option, Some, None}
+use Rattle.std.specs.Prelude.{ℕ, Bool, true, ◌&&◌, ◌+◌, ◌-◌, ◌^◌, if◌then◌else◌, nat_le, nat_lt, List, [], ◌∷◌, ◌++◌, get_or, length, take, Option, Some, None}
 use Rattle.initctl_frame.specs.declared.requests.Got.TheVariants as got
 use Rattle.init_trace.specs.declared.happenings.Happening.TheVariants.{Enter, Got, Handed}
 use Rattle.init_trace.specs.declared.happenings.Handed.{Handed as HandOver}
@@ -88,3 +88,21 @@ objection_handed made size (handed.Older generation) =
 abbrev pub after_hand : HandOver → CoreState → CoreState
 after_hand handed.Failed core = after_handed core
 after_hand how core = after_handed_on core
+
+-- what reaches the next init of a text, where these were made before: the text, its front, or an older one; nothing
+-- where the hand-over failed
+abbrev pub comes_back : HandOver → List ℕ → List (List ℕ) → Option (List ℕ)
+comes_back handed.Whole text made = Some text
+comes_back (handed.Cut bytes) text made = Some (take bytes text)
+comes_back (handed.Older generation) text made = Some (get_or made (generation - 1) [])
+comes_back handed.Failed text made = None
+
+-- the core that is taken over of a core's own text: the same, where it came back whole
+abbrev pub taken_of : HandOver → CoreState → Option CoreState
+taken_of handed.Whole core = Some core
+taken_of _ core = None
+
+-- the texts that are kept after a hand-over of a core: one more, but after one that failed
+abbrev pub kept_texts : HandOver → CoreState → List (List ℕ) → List (List ℕ)
+kept_texts handed.Failed core made = made
+kept_texts how core made = made ++ text_made core ∷ []

@@ -1,7 +1,8 @@
 -- The state texts that were made in a run, and what the core must be for another.
-use Rattle.std.specs.Prelude.{◌≡◌, ◌≢◌, ℕ, true, ◌+◌, ◌<◌, List, [], get_or, length, None}
+use Rattle.std.specs.Prelude.{◌≡◌, ◌≢◌, ℕ, true, ◌+◌, ◌<◌, List, [], get_or, length, Option, Some, None}
 use Rattle.init_trace.specs.declared.happenings.Handed.{Handed as HandOver}
-use Rattle.core_model.specs.Parts.{SavedState}
+use Rattle.core_model.specs.Parts.{SavedState, state_of}
+use Rattle.core_model.specs.Rules.{IsFit}
 use Rattle.core_model.specs.State.{CoreState}
 use Rattle.state_text.specs.Range.{has_short_seconds}
 use Rattle.state_text.specs.Refused.{IsTextOf}
@@ -28,3 +29,10 @@ IsForeign text generation = (state : SavedState) → IsTextOf text state → sta
 pub record CanHand (how : HandOver) (core : CoreState) : Type 0 where
   pub short : has_short_seconds core ≡ true
   pub may : objection_handed core.generation (length (text_made core)) how ≡ None
+
+-- the core that is taken over from a text, of an init of this generation; none where no core that keeps the rules has it
+abbrev pub IsTakenOver : List ℕ → ℕ → Option CoreState → Type 0
+IsTakenOver back generation (Some core) =
+    IsTextOf back (state_of core) × IsFit core × (core.generation ≡ generation)
+IsTakenOver back generation None = (core : CoreState) → IsFit core → IsTextOf back (state_of core)
+    → core.generation ≡ generation → ⊥

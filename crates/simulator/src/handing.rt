@@ -1,6 +1,6 @@
 //! The hand-overs of a script: init's state is written, carried and taken over as when init re-executes itself.
 
-ghost use Rattle.std.specs.Prelude.{◌≡◌, ◌+◌, ◌∷◌, length, map, true, IfOk, None, OnOk};
+ghost use Rattle.std.specs.Prelude.{◌≡◌, ◌+◌, ◌∷◌, length, map, true, IfOk, IfSome, None, OnOk, unwrap_or};
 ghost use Rattle.init_trace.specs.declared.happenings.Happening.TheVariants as happening;
 ghost use Rattle.init_trace.specs.declared.happenings.Handed.{Handed};
 ghost use Rattle.core_model.specs.Fit.{Fits, OnEachTrace};
@@ -9,8 +9,9 @@ ghost use Rattle.core_model.specs.Rules.{IsFit};
 ghost use Rattle.core_model.specs.Steps.{after_handed_on};
 ghost use Rattle.state_text.specs.Range.{has_short_seconds};
 ghost use Rattle.state_text.specs.Refused.{IsTextOf};
-ghost use Rattle.simulator.specs.Handing.{after_hand, has_next, is_made, objection_handed, text_made};
-ghost use Rattle.simulator.specs.Texts.{AreMade, CanHand, HasTexts, IsForeign};
+ghost use Rattle.simulator.specs.Handing.{after_hand, comes_back, has_next, is_made, kept_texts};
+ghost use Rattle.simulator.specs.Handing.{objection_handed, taken_of, text_made};
+ghost use Rattle.simulator.specs.Texts.{AreMade, CanHand, HasTexts, IsTakenOver};
 
 use core_model::Heads;
 use init_trace::Handed;
@@ -93,57 +94,56 @@ fn make_text<A: Allocator + Copy>(alloc: A, core: &mut Core<A>) -> Result<Vec<u8
     }
 }
 
-/// Takes over the core's own text: the core that comes of it is the same.
-fn take_own<A: Allocator + Copy>(alloc: A, core: &mut Core<A>, text: &[u8]) -> Result<(), Memory>
-    requires says { IsTextOf text.now (state_of core.old) }
-    requires fit { IsFit core.old }
-    ensures { OnOk result (core.new ≡ core.old) }
+/// The core that the next init takes over from what came back; None where that is the text of no core of the
+/// generation.
+fn taken<A: Allocator + Copy>(
+    alloc: A,
+    back: &[u8],
+    generation: u64,
+) -> Result<Option<Core<A>>, Memory>
+    ensures { IfOk result (λ taken. IsTakenOver back.now generation taken) }
 {
-    match take_over(alloc, text, core.generation()) {
-        Ok(taken) => {
-            *core = taken;
-            Ok(())
-        }
+    match take_over(alloc, back, generation) {
+        Ok(taken) => Ok(Some(taken)),
         Err(Over::Memory) => Err(Memory),
-        Err(_) => unreachable!(),
+        Err(_) => Ok(None),
     }
 }
 
-/// Takes over a text that no state of the core's generation has: it is refused.
-fn take_foreign<A: Allocator + Copy>(alloc: A, core: &Core<A>, text: &[u8]) -> Result<(), Memory>
-    requires { IsForeign text.now core.now.generation }
-{
-    match take_over(alloc, text, core.generation()) {
-        Ok(_) => unreachable!(),
-        Err(Over::Memory) => Err(Memory),
-        Err(_) => Ok(()),
-    }
-}
-
-/// The core's own text comes back whole, or cut, or an older one in its place: the core is as before. Given are the
-/// texts that were made before.
+/// The core's own text comes back whole, or cut, or an older one in its place, and the next init takes over what came:
+/// the core that it has then, the same as this one, or none. Given are the texts that were made before.
 fn carry<A: Allocator + Copy>(
     alloc: A,
-    core: &mut Core<A>,
+    core: &Core<A>,
     text: &[u8],
     made: &[Vec<u8, A>],
     how: Handed,
-) -> Result<(), Memory>
-    requires says { IsTextOf text.now (state_of core.old) }
-    requires fit { IsFit core.old }
+) -> Result<Option<Core<A>>, Memory>
+    requires says { IsTextOf text.now (state_of core.now) }
+    requires fit { IsFit core.now }
     requires made { AreMade (map (λ text. text.items) made.now) }
-    requires next { core.old.generation ≡ length made.now + 1 }
+    requires next { core.now.generation ≡ length made.now + 1 }
     requires may { objection_handed (length made.now) (length text.now) how ≡ None }
-    ensures { OnOk result (core.new ≡ core.old) }
+    ensures back { IfOk result (λ taken. IfSome (comes_back how text.now
+        (map (λ text. text.items) made.now))
+        (λ back. IsTakenOver back core.now.generation taken)) }
+    ensures taken { IfOk result (λ taken. taken ≡ taken_of how core.now) }
 {
+    let generation = core.generation();
     match how {
-        Handed::Whole => take_own(alloc, core, text),
-        Handed::Cut(bytes) => take_foreign(alloc, core, &text[..bytes as usize]),
-        Handed::Older(generation) => {
-            let older = &made[(generation - 1) as usize];
-            take_foreign(alloc, core, older.as_slice())
-        }
-        Handed::Failed => Ok(()),
+        Handed::Whole => taken(alloc, text, generation),
+        Handed::Cut(bytes) => taken(alloc, &text[..bytes as usize], generation),
+        Handed::Older(older) => taken(alloc, made[(older - 1) as usize].as_slice(), generation),
+        Handed::Failed => Ok(None),
+    }
+}
+
+/// The core that was taken over goes on; where none was, the old one.
+fn go_on_as<A: Allocator>(core: &mut Core<A>, taken: Option<Core<A>>)
+    ensures { core.new ≡ unwrap_or taken core.old }
+{
+    if let Some(taken) = taken {
+        *core = taken;
     }
 }
 
@@ -162,13 +162,16 @@ pub(crate) fn hand<A: Allocator + Copy>(
         Fits core.new goal (happening.Handed how ∷ past))) }
     ensures made { OnOk result
         (HasTexts (map (λ text. text.items) made.new.items) core.new.generation) }
+    ensures kept { OnOk result (map (λ text. text.items) made.new.items
+        ≡ kept_texts how core.old (map (λ text. text.items) made.old.items)) }
 {
-    if how == Handed::Failed {
+    if let Handed::Failed = how {
         core.not_handed();
         return Ok(());
     }
     let text = make_text(alloc, core)?;
-    carry(alloc, core, &text, made, how)?;
+    let taken = carry(alloc, core, &text, made, how)?;
+    go_on_as(core, taken);
     made.push(text)?;
     Ok(())
 }

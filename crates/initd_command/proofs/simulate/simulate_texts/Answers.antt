@@ -3,7 +3,7 @@ use Rattle.std.proofs.KnownBytes.{Keeps-refl}
 use Rattle.simulator.specs.Simulation.{Done, Ends, scenario}
 use Rattle.initd_command.specs.Endings.{done, stopped, unflushed}
 use Rattle.initd_command.proofs.Ended.{done_kept, either_end, either_kept, ends_kept}
-use Rattle.initd_command.proofs.simulate.run.Goals as goal
+use Rattle.initd_command.proofs.simulate.simulate_texts.Goals as goal
 
 -- the writer could not be flushed
 pub returns-then-is_err : goal.returns-then-is_err
