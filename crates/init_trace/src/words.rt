@@ -384,7 +384,7 @@ fn read_count(word: &[u8], rest: &[u8]) -> Option<usize>
 }
 
 /// How many entries the table has that a line brings, `use` and their number; None where it is no such line.
-pub(crate) fn read_use(line: &[u8]) -> Option<usize>
+pub fn read_use(line: &[u8]) -> Option<usize>
     ensures { result ≡ entries_brought (words_in line.now) }
 {
     match cut(b' ', line) {

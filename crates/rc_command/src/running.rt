@@ -99,8 +99,9 @@ where
         (W.contents out.old) (W.contents out.new) }
     ensures part { (out.new ≡ out.old) ⊎ ReportsPart (F.names_at folders.now) (said_of said.now)
         (W.contents out.old) (W.contents out.new) }
-    ensures ran { ((result ≡ DEVICE_FAULT) × (out.new ≡ out.old)) ⊎ RunsSaid (F.names_at folders.now)
-        (said_of said.now) (W.contents out.old) result (W.contents out.new) }
+    ensures ran { ((result ≡ DEVICE_FAULT) × (out.new ≡ out.old))
+        ⊎ RunsSaid (F.names_at folders.now) (said_of said.now) (W.contents out.old) result
+        (W.contents out.new) }
 {
     let dir = said.dir.as_str();
     let Ok(path) = folder_of(alloc, dir, said.new) else {

@@ -1,6 +1,6 @@
 use Rattle.program_io.proofs.WritingLemmas.{AppendsFront-prefix}
-use Rattle.rc_driver.proofs.WritingLemmas.{after_error_too}
+use Rattle.rc_driver.proofs.WritingLemmas.{after_error}
 use Rattle.rc_driver.proofs.driving.write_one.Goals as goal
 
 pub returns-clause-err : goal.returns-clause-err
-returns-clause-err g c = after_error_too _ _ _ (AppendsFront-prefix _ _ _) c.write_text.ensures.err
+returns-clause-err g c = after_error _ _ _ (AppendsFront-prefix _ _ _) c.write_text.ensures.err
