@@ -1,6 +1,5 @@
 use Rattle.std.proofs.KnownBytes.{Appends-trans}
-use Rattle.program_io.proofs.WritingLemmas.{AppendsPrefix-first, AppendsPrefix-then}
-use Rattle.program_io.proofs.WritingLemmas.{on_err}
+use Rattle.program_io.proofs.WritingLemmas.{AppendsPrefix-first, AppendsPrefix-then, on_err}
 use Rattle.rc_driver.proofs.driving.write_line.Goals as goal
 
 pub returns-in_err-write_script-clause-err : goal.returns-in_err-write_script-clause-err
