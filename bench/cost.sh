@@ -1,6 +1,7 @@
 #!/bin/bash
-# What a line of a script costs `initd simulate` over tables of 16, 512 and 4,096 respawn entries, and what 60 turns cost
-# `initd run` over 500 children that sleep, in processor time.
+# What a line of a script costs `initd simulate` over tables of 16, 512 and 4,096 respawn entries, what 60 turns cost
+# `initd run` over 500 children that sleep, and what a trace of 10,000,000 lines costs `initd check`, in processor time;
+# of the last also the memory.
 # usage: bench/cost.sh INITD     (the program, as `rt run` leaves it in crates/initd/out/initd)
 set -eu
 initd=$(realpath "$1")
@@ -28,3 +29,18 @@ echo "500 children, 60 turns"
 ( time "$initd" run --level 3 --turns 60 --pause 0.05 --trace trace > said 2>&1 || [ $? = 3 ] ) 2>&1 | grep -e user -e sys
 echo "the trace, $(wc -l < trace) lines, is judged"
 ( time "$initd" check trace ) 2>&1 | grep -e user -e lawful
+
+# idle rounds over five children, a day of them every 86,400
+awk 'BEGIN {
+    print "use 6\nid:3:initdefault:"
+    for (i = 0; i < 5; i++) printf "c%d:3:respawn:x\n", i
+    print "enter sysinit 5\nenter boot 5\nenter 3 5"
+    for (i = 0; i < 5; i++) printf "ask c%d start\nbirth c%d %d\ntold c%d\n", i, i, 10 + i, i
+    print "settle 3"
+    for (lines = 26; lines + 17 <= 10000000; lines += 17) {
+        printf "clock %d\nnudge\n", lines / 17
+        for (i = 0; i < 5; i++) printf "ask c%d look\nstill c%d\ntold c%d\n", i, i, i
+    }
+}' > long
+echo "a trace of $(wc -l < long) lines, $(wc -c < long) bytes, is judged"
+/usr/bin/time -f '%U seconds of user time, %S of system time, %M KiB at most' "$initd" check long

@@ -1,3 +1,2 @@
-pub mod Breaches
 pub mod Ended
 pub mod Noted

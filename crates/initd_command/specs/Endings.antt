@@ -1,5 +1,5 @@
 -- How a command line of initd ends: its exit status, what was written, and what is reported of it.
-use Rattle.std.specs.Prelude.{ℕ, Bool, true, false, List, [], ◌++◌, codes, decimal, Option}
+use Rattle.std.specs.Prelude.{ℕ, Bool, true, false, List, [], ◌++◌, codes, decimal, Option, Some, None}
 use Rattle.std.specs.Io.KnownBytes.{Keeps}
 use Rattle.program_io.specs.Writing.{AppendsPrefix}
 use Rattle.program_io.specs.declared.statuses.TheConstants.{DONE, REFUSED, UNLAWFUL, DEVICE_FAULT}
@@ -17,10 +17,11 @@ use Rattle.initd_command.specs.Turned.{End, ReportsEnd, ReportsText, end_status}
 use Rattle.command_words.specs.Faults.{usage_report}
 
 -- done; the words are no command line, and why, or memory ran out; the file of a path was not read, and why; the inittab
--- has too many files; the run over this script ended before its end; the writer could not be flushed; a trace is lawful, or unlawful, of which this
--- is told; its line of this number is none; the verdict could not be written; the channel of a run over the operating
--- system is in use, or was not locked, and why; its turns ended so, where nothing names its level or something does; the
--- file of its trace was not created, and why; the faults of its inittab could not be written; the version could not be
+-- has too many files; the run over this script ended before its end; the writer could not be flushed; a trace is lawful,
+-- or unlawful, of which this is told, and its last happening isn't finished at this line, if at any; its line of this
+-- number is none; the verdict could not be written; the channel of a run over the operating system is in use, or was not
+-- locked, and why; its turns ended so, where nothing names its level or something does; the file of its trace was not
+-- created, and why; the faults of its inittab could not be written; the version could not be
 pub data Ending : Type 0 where
   done : Ending
   usage : List ℕ → Ending
@@ -29,8 +30,8 @@ pub data Ending : Type 0 where
   too_many : Ending
   stopped : List ℕ → SimFault → Ending
   unflushed : Ending
-  lawful : Ending
-  unlawful : List ℕ → Ending
+  lawful : Option ℕ → Ending
+  unlawful : List ℕ → Option ℕ → Ending
   torn : ℕ → Ending
   unwritten : Ending
   busy : List ℕ → Ending
@@ -55,8 +56,8 @@ status_of (unread path why) = DEVICE_FAULT
 status_of too_many = REFUSED
 status_of (stopped script f) = fault_status f
 status_of unflushed = DEVICE_FAULT
-status_of lawful = DONE
-status_of (unlawful message) = UNLAWFUL
+status_of (lawful left) = DONE
+status_of (unlawful message left) = UNLAWFUL
 status_of (torn line) = REFUSED
 status_of unwritten = DEVICE_FAULT
 status_of (busy path) = DEVICE_FAULT
@@ -88,6 +89,11 @@ created_message path why = codes "initd: cannot create " ++ path ++ codes ": " +
 abbrev pub torn_message : ℕ → List ℕ
 torn_message line = codes "initd: trace line " ++ decimal line ++ codes " is not a line\n"
 
+abbrev pub unfinished_message : ℕ → List ℕ
+unfinished_message line =
+    codes "initd: the happening at trace line " ++ decimal line
+    ++ codes " is not finished: judged up to the line before it\n"
+
 abbrev pub busy_message : List ℕ → List ℕ
 busy_message path =
     codes "initd: " ++ path
@@ -101,6 +107,11 @@ abbrev pub ReportsUnled : Bool → Option (List ℕ) → Option (List ℕ) → T
 ReportsUnled false old new = Keeps old new
 ReportsUnled true old new = AppendsPrefix old new UNLED.now
 
+-- what is told of a happening that isn't finished
+abbrev pub ReportsLeft : Option ℕ → Option (List ℕ) → Option (List ℕ) → Type 0
+ReportsLeft None old new = Keeps old new
+ReportsLeft (Some line) old new = ReportsText (unfinished_message line) old new
+
 -- what is reported of an ending
 abbrev pub Reports : Ending → Option (List ℕ) → Option (List ℕ) → Type 0
 Reports done old new = Keeps old new
@@ -110,8 +121,8 @@ Reports (unread path why) old new = ReportsText (file_message path why) old new
 Reports too_many old new = AppendsPrefix old new TOO_MANY.now
 Reports (stopped script f) old new = ReportsText (fault_message script f) old new
 Reports unflushed old new = ReportsText (fault_message [] fault.Write) old new
-Reports lawful old new = Keeps old new
-Reports (unlawful message) old new = AppendsPrefix old new message
+Reports (lawful left) old new = ReportsLeft left old new
+Reports (unlawful message left) old new = (mid : Option (List ℕ)) × AppendsPrefix old mid message × ReportsLeft left mid new
 Reports (torn line) old new = ReportsText (torn_message line) old new
 Reports unwritten old new = AppendsPrefix old new UNWRITTEN.now
 Reports (busy path) old new = ReportsText (busy_message path) old new

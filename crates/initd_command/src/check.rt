@@ -1,22 +1,39 @@
-ghost use Rattle.std.specs.Prelude.{◌≡◌, ◌<◌, ℕ, List, Some, length, slice_get, take, string_bytes, codes, IfOk};
+ghost use Rattle.std.specs.Prelude.{◌≡◌, ℕ, List, Some, [], string_bytes, codes, IfOk};
 ghost use Rattle.std.specs.Io.KnownBytes.{Appends};
 ghost use Rattle.program_io.specs.Writing.{AppendsPrefix};
-ghost use Rattle.init_trace.specs.Lawful.{Fault};
-ghost use Rattle.initd_command.specs.Endings.{Ending, Reports, status_of, torn_message};
+ghost use Rattle.trace_verdict.specs.Judges.{HasTaken};
+ghost use Rattle.initd_command.specs.Endings.{Ending, Reports, ReportsLeft, status_of, torn_message, unfinished_message};
 ghost use Rattle.initd_command.specs.Turned.{ReportsText};
-ghost use Rattle.initd_command.specs.Verdicts.{EndsBreach, EndsCheck, EndsLawful, EndsTrace, EndsVerdict, breach_message, fault_at, law_text, message_of, unlawful_text};
+ghost use Rattle.initd_command.specs.Verdicts.{EndsBreach, EndsCheck, EndsFound, EndsLawful, breach_message, message_of, unlawful_text, verdict_text};
 
 use crate::lines::front_line;
 use crate::reports::{report, report_bytes, report_made, report_memory, report_unread, tell};
-use init_trace::{HappeningIn, ReadFault};
 use init_words::Memory;
 use itoa::Buffer;
-use path_texts::Texts;
+use path_texts::{PieceTaker, Texts};
 use program_io::{DEVICE_FAULT, DONE, REFUSED, UNLAWFUL};
 use std::alloc::{AllocError, Global};
 use std::io::Write;
-use text_lines::newlines;
-use trace_check::Verdict;
+use trace_verdict::{Breach, Finding, TextJudge};
+
+/// The judge of a trace whose text is read in pieces.
+#[derive(Drop)]
+struct FileJudge {
+    judge: TextJudge,
+}
+
+impl PieceTaker for FileJudge {
+    ghost use Rattle.trace_verdict.specs.Judges.{HasTaken};
+
+    ghost has_taken = { λ file text. HasTaken file.judge text };
+
+    fn take_piece(&mut self, piece: &[u8]) -> Result<(), AllocError> {
+        match self.judge.take(piece) {
+            Ok(()) => Ok(()),
+            Err(Memory) => Err(AllocError),
+        }
+    }
+}
 
 /// Reads the trace of a path and judges it.
 pub(crate) fn check_file<T: Texts, W: Write, E: Write>(
@@ -30,40 +47,51 @@ pub(crate) fn check_file<T: Texts, W: Write, E: Write>(
         × EndsCheck (T.text_at texts.now) path.now ending (W.contents out.old) (W.contents out.new)
         × Reports ending (E.contents err.old) (E.contents err.new) }
 {
-    match texts.read(alloc, path) {
-        Ok(text) => check_text(alloc, &text, out, err),
+    let mut file = FileJudge {
+        judge: TextJudge::new(alloc),
+    };
+    judge_text(texts, alloc, path, &mut file, out, err)
+}
+
+/// Hands the text of a path to a judge that has taken none, and tells what it found.
+fn judge_text<T: Texts, W: Write, E: Write>(
+    texts: &T,
+    alloc: Global,
+    path: &str,
+    file: &mut FileJudge,
+    out: &mut W,
+    err: &mut E,
+) -> u8
+    requires { HasTaken file.old.judge [] }
+    ensures { (ending : Ending) × (result ≡ status_of ending)
+        × EndsCheck (T.text_at texts.now) path.now ending (W.contents out.old) (W.contents out.new)
+        × Reports ending (E.contents err.old) (E.contents err.new) }
+{
+    match texts.read_pieces(path, file) {
+        Ok(()) => {
+            let (finding, left) = file.judge.answer();
+            tell_finding(alloc, finding, left, out, err)
+        }
         Err(error) => report_unread(alloc, path, &error, err),
     }
 }
 
-/// Judges the text of a trace: the verdict is written, a breach or a fault reported, and the exit status given.
-pub fn check_text<W: Write, E: Write>(alloc: Global, text: &[u8], out: &mut W, err: &mut E) -> u8
-    ensures { (ending : Ending) × (result ≡ status_of ending)
-        × EndsTrace text.now ending (W.contents out.old) (W.contents out.new)
-        × Reports ending (E.contents err.old) (E.contents err.new) }
-{
-    match init_trace::read(alloc, text) {
-        Ok(trace) => check_trace(alloc, &trace, out, err),
-        Err(ReadFault::Line(number)) => report_torn(alloc, number, err),
-        Err(ReadFault::Memory) => report_memory(err),
-    }
-}
-
-/// Judges a trace: the verdict is written, and a breach told in words.
-fn check_trace<W: Write, E: Write>(
+/// Tells what is found of a text, and the line at which its last happening isn't finished.
+fn tell_finding<W: Write, E: Write>(
     alloc: Global,
-    trace: &[HappeningIn<Global>],
+    finding: &Finding,
+    left: Option<u64>,
     out: &mut W,
     err: &mut E,
 ) -> u8
     ensures { (ending : Ending) × (result ≡ status_of ending)
-        × EndsVerdict trace.now ending (W.contents out.old) (W.contents out.new)
+        × EndsFound finding.now left ending (W.contents out.old) (W.contents out.new)
         × Reports ending (E.contents err.old) (E.contents err.new) }
 {
-    match trace_check::check(alloc, trace) {
-        Ok(Verdict::Lawful) => tell_lawful(out, err),
-        Ok(Verdict::Breach(place, law)) => tell_breach(alloc, trace, place, law.number(), out, err),
-        Err(Memory) => report_memory(err),
+    match finding {
+        Finding::Lawful => tell_lawful(alloc, left, out, err),
+        Finding::Breach(breach) => tell_breach(alloc, breach, left, out, err),
+        Finding::Torn(number) => report_torn(alloc, *number, err),
     }
 }
 
@@ -71,36 +99,35 @@ fn check_trace<W: Write, E: Write>(
 const UNWRITTEN: &str = "initd: the verdict could not be written\n";
 
 /// Writes that the trace is lawful.
-fn tell_lawful<W: Write, E: Write>(out: &mut W, err: &mut E) -> u8
+fn tell_lawful<W: Write, E: Write>(alloc: Global, left: Option<u64>, out: &mut W, err: &mut E) -> u8
     ensures { (ending : Ending) × (result ≡ status_of ending)
-        × EndsLawful ending (W.contents out.old) (W.contents out.new)
+        × EndsLawful left ending (W.contents out.old) (W.contents out.new)
         × Reports ending (E.contents err.old) (E.contents err.new) }
 {
-    if tell(b"lawful\n", out) {
-        return DONE;
+    if !tell(b"lawful\n", out) {
+        report(UNWRITTEN, err);
+        return DEVICE_FAULT;
     }
-    report(UNWRITTEN, err);
-    DEVICE_FAULT
+    report_left(alloc, left, err);
+    DONE
 }
 
 /// Writes where the breach is, and tells a person its line and the law.
 fn tell_breach<W: Write, E: Write>(
     alloc: Global,
-    trace: &[HappeningIn<Global>],
-    place: usize,
-    law: u8,
+    breach: &Breach,
+    left: Option<u64>,
     out: &mut W,
     err: &mut E,
 ) -> u8
-    requires { place < length trace.now }
     ensures { (ending : Ending) × (result ≡ status_of ending)
-        × EndsBreach trace.now (fault_at place law) ending (W.contents out.old) (W.contents out.new)
+        × EndsBreach breach.now left ending (W.contents out.old) (W.contents out.new)
         × Reports ending (E.contents err.old) (E.contents err.new) }
 {
-    let Ok(verdict) = verdict_line(alloc, place, law) else {
+    let Ok(verdict) = verdict_line(alloc, breach) else {
         return report_memory(err);
     };
-    let Ok(message) = breach_message(alloc, trace, place, law) else {
+    let Ok(message) = breach_message(alloc, breach) else {
         return report_memory(err);
     };
     if !tell(verdict.as_bytes(), out) {
@@ -108,34 +135,28 @@ fn tell_breach<W: Write, E: Write>(
         return DEVICE_FAULT;
     }
     report_bytes(&message, err);
+    report_left(alloc, left, err);
     UNLAWFUL
 }
 
-fn verdict_line(alloc: Global, place: usize, law: u8) -> Result<String, AllocError>
-    ensures { IfOk result (λ text. string_bytes text ≡ unlawful_text (fault_at place law)) }
+fn verdict_line(alloc: Global, breach: &Breach) -> Result<String, AllocError>
+    ensures { IfOk result (λ text. string_bytes text ≡ unlawful_text breach.now) }
+{
+    verdict_text(alloc, breach.place(), breach.law().number())
+}
+
+fn verdict_text(alloc: Global, place: u64, law: u8) -> Result<String, AllocError>
+    ensures { IfOk result (λ text. string_bytes text ≡ verdict_text place law) }
 {
     format!(in alloc; "unlawful: happening {place}, law {law}\n")
 }
 
 /// The line of the trace at fault with its number, and the law in words.
-fn breach_message(
-    alloc: Global,
-    trace: &[HappeningIn<Global>],
-    place: usize,
-    law: u8,
-) -> Result<Vec<u8>, Memory>
-    requires { place < length trace.now }
-    ensures { IfOk result (λ text. text.items ≡ breach_message trace.now (fault_at place law)) }
+fn breach_message(alloc: Global, breach: &Breach) -> Result<Vec<u8>, AllocError>
+    ensures { IfOk result (λ text. text.items ≡ breach_message breach.now) }
 {
-    let before = init_trace::print(alloc, &trace[..place])?;
-    let own = init_trace::print_one(alloc, &trace[place])?;
-    let text = message_of(
-        alloc,
-        newlines(&before) as u64 + 1,
-        front_line(&own),
-        law_text(law),
-    )?;
-    Ok(text)
+    let why = breach.law().words().as_bytes();
+    message_of(alloc, breach.line(), front_line(breach.text()), why)
 }
 
 fn message_of(alloc: Global, number: u64, line: &[u8], why: &[u8]) -> Result<Vec<u8>, AllocError>
@@ -153,19 +174,21 @@ fn message_of(alloc: Global, number: u64, line: &[u8], why: &[u8]) -> Result<Vec
     Ok(text)
 }
 
-/// What breaks a law, in words.
-fn law_text(law: u8) -> &'static [u8]
-    ensures { result.now ≡ law_text law }
+/// Tells the line at which the last happening of a trace isn't finished.
+fn report_left<E: Write>(alloc: Global, left: Option<u64>, err: &mut E)
+    ensures { ReportsLeft left (E.contents err.old) (E.contents err.new) }
 {
-    match law {
-        1 => b"the id has an unreaped child",
-        2 => b"the id has no entry that starts in the stage",
-        3 => b"init waits for an earlier entry",
-        4 => b"an excluded child is unreaped",
-        5 => b"the level is not settled",
-        6 => b"the respawn limit is not kept",
-        _ => b"the signal is not due",
+    if let Some(line) = left {
+        report_made(unfinished_text(alloc, line), err);
     }
+}
+
+fn unfinished_text(alloc: Global, line: u64) -> Result<String, AllocError>
+    ensures { IfOk result (λ text. string_bytes text ≡ unfinished_message line) }
+{
+    format!(in alloc;
+        "initd: the happening at trace line {line} is not finished: judged up to the line before it\n"
+    )
 }
 
 /// Reports that a line of a trace is none, and gives the exit status.

@@ -10,7 +10,6 @@ mod reports;
 mod run;
 mod simulate;
 
-pub use check::check_text;
 pub use command::{USAGE, run_words};
 pub use run::make_turns;
 pub use simulate::simulate_texts;

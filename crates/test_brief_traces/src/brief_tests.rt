@@ -77,7 +77,10 @@ const ROWS: &[Row] = &[
                 clock 104 / nudge / ask a kill",
         brief: "use 1 / a:3:respawn:x / clock 100 / enter 3 5 / ask a start / birth a 10 / told a / enter 1 5 / \
                 ask a term / hit a / told a / clock 104 / nudge / ask a kill",
-        verdicts: (Verdict::Breach(17, Law::SignalNotDue), Verdict::Breach(12, Law::SignalNotDue)),
+        verdicts: (
+            Verdict::Breach(17, Law::SignalNotDue),
+            Verdict::Breach(12, Law::SignalNotDue),
+        ),
         held: 0,
     },
     // A level that is announced too early.
@@ -85,7 +88,10 @@ const ROWS: &[Row] = &[
         trace: "use 1 / a:3:respawn:x / enter 3 5 / clock 100 / nudge / ask a look / still a / told a / \
                 clock 101 / nudge / settle 3",
         brief: "use 1 / a:3:respawn:x / enter 3 5 / clock 101 / nudge / settle 3",
-        verdicts: (Verdict::Breach(9, Law::NotSettled), Verdict::Breach(4, Law::NotSettled)),
+        verdicts: (
+            Verdict::Breach(9, Law::NotSettled),
+            Verdict::Breach(4, Law::NotSettled),
+        ),
         held: 0,
     },
     // A look within a look stays.

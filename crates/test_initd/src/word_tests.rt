@@ -193,10 +193,33 @@ const OVER_FILES: &[(&[u8], &[u8], &str, u8, &str)] = &[
     ),
     (
         b"",
-        b"nudge\nnudge",
+        b"nudge\nnudge \nnudge\n",
         "check row-script",
         1,
         "--\ninitd: trace line 2 is not a line\n",
+    ),
+    // A line that is none is told, also behind a breach.
+    (
+        b"",
+        b"settle 3\nnudge \n",
+        "check row-script",
+        1,
+        "--\ninitd: trace line 2 is not a line\n",
+    ),
+    // A trace that is still being written is judged up to its last whole happening.
+    (
+        b"",
+        b"nudge\nnud",
+        "check row-script",
+        0,
+        "lawful\n--\ninitd: the happening at trace line 2 is not finished: judged up to the line before it\n",
+    ),
+    (
+        b"",
+        b"settle 3\nuse 2\na:3:once:x\n",
+        "check row-script",
+        2,
+        "unlawful: happening 0, law 5\n--\nline 1: settle 3: the level is not settled\ninitd: the happening at trace line 2 is not finished: judged up to the line before it\n",
     ),
     (
         b"",
@@ -376,6 +399,13 @@ const OVER_KEPT: &[(&[u8], &[u8], &str, u8, &str)] = &[
         "check said",
         2,
         "unlawful: happening 0, law 5\n--\nline 1: settle 3: the level is not settled\n",
+    ),
+    (
+        b"",
+        b"nudge\nnud",
+        "check said",
+        0,
+        "lawful\n--\ninitd: the happening at trace line 2 is not finished: judged up to the line before it\n",
     ),
     (
         b"",

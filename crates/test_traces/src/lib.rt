@@ -9,6 +9,10 @@ mod growth_tests;
 #[cfg(test)]
 mod line_tests;
 #[cfg(test)]
+mod piece_tests;
+#[cfg(test)]
+mod pieces;
+#[cfg(test)]
 mod run_tests;
 #[cfg(test)]
 mod side_tests;

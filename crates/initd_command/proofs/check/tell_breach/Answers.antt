@@ -3,7 +3,7 @@ use Rattle.std.specs.Io.KnownBytes.{Appends}
 use Rattle.program_io.specs.Writing.{AppendsPrefix}
 use Rattle.std.proofs.KnownBytes.{Keeps-refl}
 use Rattle.initd_command.specs.Endings.{no_memory, unlawful, unwritten}
-use Rattle.initd_command.specs.Verdicts.{breach_message, fault_at, unlawful_text}
+use Rattle.initd_command.specs.Verdicts.{breach_message, unlawful_text}
 use Rattle.initd_command.proofs.check.tell_breach.Goals as goal
 
 pub returns-in_default : goal.returns-in_default
@@ -14,11 +14,12 @@ returns-in_default-breach_message g c = (no_memory, c.report_memory-in_default-b
 
 pub returns-then-not-tell : goal.returns-then-not-tell
 returns-then-not-tell g c =
-    let verdict : c.as_bytes.result.now ≡ unlawful_text (fault_at c.args.place c.args.law) = search rules in
+    let verdict : c.as_bytes.result.now ≡ unlawful_text c.args.breach.now = search rules in
     (unwritten, refl, subst (λ text. AppendsPrefix (g.W.Write.contents c.args.out.now) (g.W.Write.contents c.tell.new.out) text) verdict c.tell.ensures.part, c.report.ensures)
 
 pub returns : goal.returns
 returns g c =
-    let verdict : c.as_bytes.result.now ≡ unlawful_text (fault_at c.args.place c.args.law) = search rules in
-    let message : c.deref.result.now ≡ breach_message c.args.trace.now (fault_at c.args.place c.args.law) = search rules in
-    (unlawful c.deref.result.now, refl, (message, subst (λ text. Appends (g.W.Write.contents c.args.out.now) (g.W.Write.contents c.tell.new.out) text) verdict (c.tell.ensures.whole (search rules))), c.report_bytes.ensures)
+    let verdict : c.as_bytes.result.now ≡ unlawful_text c.args.breach.now = search rules in
+    let message : c.deref.result.now ≡ breach_message c.args.breach.now = search rules in
+    let said : Appends (g.W.Write.contents c.args.out.now) (g.W.Write.contents c.tell.new.out) (unlawful_text c.args.breach.now) = subst (λ text. Appends (g.W.Write.contents c.args.out.now) (g.W.Write.contents c.tell.new.out) text) verdict (c.tell.ensures.whole (search rules)) in
+    (unlawful c.deref.result.now c.args.left, refl, (message, refl, said), (g.E.Write.contents c.report_bytes.new.err, c.report_bytes.ensures, c.report_left.ensures))

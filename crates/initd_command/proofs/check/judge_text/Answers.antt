@@ -1,7 +1,7 @@
 use Rattle.std.proofs.Common.{refl}
 use Rattle.std.proofs.KnownBytes.{Keeps-refl}
 use Rattle.initd_command.specs.Endings.{unread}
-use Rattle.initd_command.proofs.check.check_file.Goals as goal
+use Rattle.initd_command.proofs.check.judge_text.Goals as goal
 
 pub returns-in-Err : goal.returns-in-Err
 returns-in-Err g c =

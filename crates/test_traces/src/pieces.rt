@@ -1,0 +1,41 @@
+use init_words::Memory;
+use std::alloc::{Allocator, Global};
+use std::test::Fail;
+use trace_verdict::{Breach, Finding, TextJudge};
+
+/// Hands a text to a judge in pieces of a size.
+pub(crate) fn hand_over<A: Allocator + Copy>(
+    judge: &mut TextJudge<A>,
+    text: &[u8],
+    size: usize,
+) -> Result<(), Memory> {
+    let mut rest = text;
+    while !rest.is_empty() {
+        let cut = rest.len().min(size.max(1));
+        judge.take(&rest[..cut])?;
+        rest = &rest[cut..];
+    }
+    Ok(())
+}
+
+fn said_of(alloc: Global, finding: &Finding) -> Result<String, Fail> {
+    match finding {
+        Finding::Lawful => Ok(String::from_str(alloc, ".")?),
+        Finding::Breach(breach) => breach_said(alloc, breach),
+        Finding::Torn(number) => Ok(format!(in alloc; "?{number}")?),
+    }
+}
+
+fn breach_said(alloc: Global, breach: &Breach) -> Result<String, Fail> {
+    let place = breach.place();
+    let law = breach.law().number();
+    Ok(format!(in alloc; "{place}:{law}")?)
+}
+
+/// The verdict on a text in pieces of a size: `.`, the place of the first breach and its law, or `?` and a line.
+pub(crate) fn judged_in_pieces(alloc: Global, text: &str, size: usize) -> Result<String, Fail> {
+    let mut judge = TextJudge::new(alloc);
+    hand_over(&mut judge, text.as_bytes(), size)?;
+    let (finding, _left) = judge.answer();
+    said_of(alloc, finding)
+}
