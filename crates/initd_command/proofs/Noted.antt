@@ -62,7 +62,12 @@ turns_over notes now inner old service level table served ended status told now_
   λ allowed carried.
       let went = (leads allowed).1 carried in
       let past = (point_after calls (opening_point table)).past in
-      let noted : noted_of now ≡ noted_of notes = ap noted_of kept in
-      (ended, noted_of now, is, subst (IsServed service) (sym goes) limits,
-      (λ all. subst (λ n. IsNoted n past) (sym noted) (noted_of_trace notes inner.taken past (taken_all old (notes_state notes inner) past went.log none (not_so inner.failed (sym logged ∙ whole all))))), reports),
+      let noted : noted_of now ≡ noted_of notes = ap noted_of kept in (
+        ended,
+        noted_of now,
+        is,
+        subst (IsServed service) (sym goes) limits,
+        (λ all. subst (λ n. IsNoted n past) (sym noted) (noted_of_trace notes inner.taken past (taken_all old (notes_state notes inner) past went.log none (not_so inner.failed (sym logged ∙ whole all))))),
+        reports,
+      ),
 )

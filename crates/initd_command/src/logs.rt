@@ -81,7 +81,8 @@ impl<'a, R: Files<File = File> + Eprint> FileLog<'a, R> {
             Err(error) if error.kind() == ErrorKind::AlreadyExists => {}
             Err(error) => {
                 let _ = eprint!(self.rt;
-                    "initd: trace {}: {error}: it goes on in the file that was there before\n", self.path
+                    "initd: trace {}: {error}: it goes on in the file that was there before\n",
+                    self.path
                 );
             }
         }

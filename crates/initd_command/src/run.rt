@@ -12,11 +12,11 @@ ghost use Rattle.initd_command.specs.Services.{AreFiles, EndsRun, EndsTold, Fail
 
 use crate::ends::report_end;
 use crate::logs::{FileLog, LoudLog, NoLog};
-use brief_log::BriefLog;
 use crate::reports::{
     report, report_busy, report_fault, report_memory, report_too_many, report_uncreated,
     report_unlocked, report_unread, tell,
 };
+use brief_log::BriefLog;
 use channel_files::{ChannelLock, lock_channel};
 use child_host::Host;
 use init_words::{Level, Memory, Part};

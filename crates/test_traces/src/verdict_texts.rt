@@ -21,7 +21,12 @@ fn add_line(text: &mut String, line: &str) -> Result<(), AllocError> {
 }
 
 /// A text of lines from one in which ` / ` stands for line ends, its line at a place changed.
-pub(crate) fn changed(alloc: Global, trace: &str, place: usize, change: Change) -> Result<String, AllocError> {
+pub(crate) fn changed(
+    alloc: Global,
+    trace: &str,
+    place: usize,
+    change: Change,
+) -> Result<String, AllocError> {
     let mut text = String::new(alloc);
     let mut held = None;
     for (at, line) in trace.split(" / ").enumerate() {
