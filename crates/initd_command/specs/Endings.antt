@@ -122,7 +122,8 @@ Reports too_many old new = AppendsPrefix old new TOO_MANY.now
 Reports (stopped script f) old new = ReportsText (fault_message script f) old new
 Reports unflushed old new = ReportsText (fault_message [] fault.Write) old new
 Reports (lawful left) old new = ReportsLeft left old new
-Reports (unlawful message left) old new = (mid : Option (List ℕ)) × AppendsPrefix old mid message × ReportsLeft left mid new
+Reports (unlawful message left) old new =
+    (mid : Option (List ℕ)) × AppendsPrefix old mid message × ReportsLeft left mid new
 Reports (torn line) old new = ReportsText (torn_message line) old new
 Reports unwritten old new = AppendsPrefix old new UNWRITTEN.now
 Reports (busy path) old new = ReportsText (busy_message path) old new
