@@ -30,6 +30,10 @@ echo "500 children, 60 turns"
 echo "the trace, $(wc -l < trace) lines, is judged"
 ( time "$initd" check trace ) 2>&1 | grep -e user -e lawful
 
+echo "the same with a brief trace"
+( time "$initd" run --level 3 --turns 60 --pause 0.05 --trace brief --brief > said 2>&1 || [ $? = 3 ] ) 2>&1 | grep -e user -e sys
+echo "$(wc -l < brief) lines"
+
 # idle rounds over five children, a day of them every 86,400
 awk 'BEGIN {
     print "use 6\nid:3:initdefault:"
