@@ -9,11 +9,8 @@ pub(crate) fn hand_over<A: Allocator + Copy>(
     text: &[u8],
     size: usize,
 ) -> Result<(), Memory> {
-    let mut rest = text;
-    while !rest.is_empty() {
-        let cut = rest.len().min(size.max(1));
-        judge.take(&rest[..cut])?;
-        rest = &rest[cut..];
+    for piece in text.chunks(size.max(1)) {
+        judge.take(piece)?;
     }
     Ok(())
 }
