@@ -264,77 +264,81 @@ const VERSION_END: usize = 13;
 /// Where the digit of the generation stands.
 const GENERATION_AT: usize = 25;
 
-/// With each other byte at the place.
-fn are_answered(
-    rt: &impl Abort,
-    alloc: Global,
-    text: &str,
-    rows: &[Row],
-    place: &Place,
-    own: u8,
-) -> Result<(), Fail> {
-    for byte in 0..=255u8 {
-        if byte != own {
-            let made = changed(alloc, text, place.at, byte)?;
-            let (got, whole) = answer(alloc, &made)?;
-            let want = wanted(rows, place.line, place.column, byte);
-            assert!(rt;
-                got == want && whole,
-                "{}, {}: {byte}",
-                place.line,
-                place.column
-            );
-        }
+/// Whether the text is answered as its rows say with this byte at the place.
+fn is_answered(alloc: Global, text: &str, rows: &[Row], place: &Place, byte: u8) -> bool {
+    let Ok(made) = changed(alloc, text, place.at, byte) else {
+        return false;
+    };
+    match answer(alloc, &made) {
+        Ok((got, whole)) => got == wanted(rows, place.line, place.column, byte) && whole,
+        Err(_) => false,
     }
-    Ok(())
 }
 
-/// With each other byte at each place of these lines, the first and the last.
-fn are_changed(
-    rt: &impl Abort,
+/// The first byte, other than its own, with which the place is answered otherwise than the rows say.
+fn wrong_byte(alloc: Global, text: &str, rows: &[Row], place: &Place, own: u8) -> Option<u8> {
+    for byte in 0..=255u8 {
+        if byte != own && !is_answered(alloc, text, rows, place, byte) {
+            return Some(byte);
+        }
+    }
+    None
+}
+
+/// The line, the column and the byte of the first change of these lines, the first and the last, that is answered
+/// otherwise than the rows say.
+fn wrong_change(
     alloc: Global,
     text: &str,
     rows: &[Row],
     first: usize,
     last: usize,
-) -> Result<(), Fail> {
+) -> Option<(usize, usize, u8)> {
     let mut place = Place {
         at: 0,
         line: 1,
         column: 0,
     };
     for own in text.bytes() {
-        if first <= place.line && place.line <= last {
-            are_answered(rt, alloc, text, rows, &place, own)?;
+        if first <= place.line
+            && place.line <= last
+            && let Some(byte) = wrong_byte(alloc, text, rows, &place, own)
+        {
+            return Some((place.line, place.column, byte));
         }
         place = place.next(own);
     }
-    Ok(())
+    None
 }
 
 #[test]
-fn each_byte_of_heads_is_changed(rt: HostRuntime) -> Result<(), Fail> {
-    are_changed(&rt, rt.alloc(), STARTED_NOW, OF_STARTED, 1, 7)
+fn each_byte_of_heads_is_changed(rt: HostRuntime) {
+    let wrong = wrong_change(rt.alloc(), STARTED_NOW, OF_STARTED, 1, 7);
+    assert!(rt; wrong.is_none(), "{wrong:?}");
 }
 
 #[test]
-fn each_byte_of_a_table_is_changed(rt: HostRuntime) -> Result<(), Fail> {
-    are_changed(&rt, rt.alloc(), STARTED_NOW, OF_STARTED, 8, 11)
+fn each_byte_of_a_table_is_changed(rt: HostRuntime) {
+    let wrong = wrong_change(rt.alloc(), STARTED_NOW, OF_STARTED, 8, 11);
+    assert!(rt; wrong.is_none(), "{wrong:?}");
 }
 
 #[test]
-fn each_byte_of_records_is_changed(rt: HostRuntime) -> Result<(), Fail> {
-    are_changed(&rt, rt.alloc(), STARTED_NOW, OF_STARTED, 12, 13)
+fn each_byte_of_records_is_changed(rt: HostRuntime) {
+    let wrong = wrong_change(rt.alloc(), STARTED_NOW, OF_STARTED, 12, 13);
+    assert!(rt; wrong.is_none(), "{wrong:?}");
 }
 
 #[test]
-fn each_byte_of_the_end_is_changed(rt: HostRuntime) -> Result<(), Fail> {
-    are_changed(&rt, rt.alloc(), STARTED_NOW, OF_STARTED, 14, ALL)
+fn each_byte_of_the_end_is_changed(rt: HostRuntime) {
+    let wrong = wrong_change(rt.alloc(), STARTED_NOW, OF_STARTED, 14, ALL);
+    assert!(rt; wrong.is_none(), "{wrong:?}");
 }
 
 #[test]
-fn each_byte_without_records_is_changed(rt: HostRuntime) -> Result<(), Fail> {
-    are_changed(&rt, rt.alloc(), OPENING_NOW, OF_OPENING, 1, ALL)
+fn each_byte_without_records_is_changed(rt: HostRuntime) {
+    let wrong = wrong_change(rt.alloc(), OPENING_NOW, OF_OPENING, 1, ALL);
+    assert!(rt; wrong.is_none(), "{wrong:?}");
 }
 
 /// A text, the generation that is asked for, and what is answered.
