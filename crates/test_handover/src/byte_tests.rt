@@ -265,80 +265,89 @@ const VERSION_END: usize = 13;
 const GENERATION_AT: usize = 25;
 
 /// Whether the text is answered as its rows say with this byte at the place.
-fn is_answered(alloc: Global, text: &str, rows: &[Row], place: &Place, byte: u8) -> bool {
-    let Ok(made) = changed(alloc, text, place.at, byte) else {
-        return false;
-    };
-    match answer(alloc, &made) {
-        Ok((got, whole)) => got == wanted(rows, place.line, place.column, byte) && whole,
-        Err(_) => false,
-    }
-}
-
-/// The first byte, other than its own, with which the place is answered otherwise than the rows say.
-fn wrong_byte(alloc: Global, text: &str, rows: &[Row], place: &Place, own: u8) -> Option<u8> {
-    for byte in 0..=255u8 {
-        if byte != own && !is_answered(alloc, text, rows, place, byte) {
-            return Some(byte);
-        }
-    }
-    None
-}
-
-/// The line, the column and the byte of the first change of these lines, the first and the last, that is answered
-/// otherwise than the rows say.
-fn wrong_change(
+fn is_answered(
     alloc: Global,
     text: &str,
     rows: &[Row],
-    first: usize,
-    last: usize,
-) -> Option<(usize, usize, u8)> {
+    place: &Place,
+    byte: u8,
+) -> Result<bool, Fail> {
+    let made = changed(alloc, text, place.at, byte)?;
+    let (got, whole) = answer(alloc, &made)?;
+    Ok(got == wanted(rows, place.line, place.column, byte) && whole)
+}
+
+/// The first byte, other than its own, with which the place is answered otherwise than the rows say.
+fn wrong_byte(
+    alloc: Global,
+    text: &str,
+    rows: &[Row],
+    place: &Place,
+    own: u8,
+) -> Result<Option<u8>, Fail> {
+    for byte in 0..=255u8 {
+        if byte != own && !is_answered(alloc, text, rows, place, byte)? {
+            return Ok(Some(byte));
+        }
+    }
+    Ok(None)
+}
+
+/// A text, the rows of its bytes, and lines of it, the first and the last.
+type Part = (&'static str, &'static [Row], usize, usize);
+
+/// The line, the column and the byte of the first change of these lines that is answered otherwise than the rows say.
+fn wrong_change(alloc: Global, part: &Part) -> Result<Option<(usize, usize, u8)>, Fail> {
+    let (text, rows, first, last) = *part;
     let mut place = Place {
         at: 0,
         line: 1,
         column: 0,
     };
     for own in text.bytes() {
-        if first <= place.line
-            && place.line <= last
-            && let Some(byte) = wrong_byte(alloc, text, rows, &place, own)
-        {
-            return Some((place.line, place.column, byte));
+        if first <= place.line && place.line <= last {
+            if let Some(byte) = wrong_byte(alloc, text, rows, &place, own)? {
+                return Ok(Some((place.line, place.column, byte)));
+            }
         }
         place = place.next(own);
     }
-    None
+    Ok(None)
 }
 
 #[test]
-fn each_byte_of_heads_is_changed(rt: HostRuntime) {
-    let wrong = wrong_change(rt.alloc(), STARTED_NOW, OF_STARTED, 1, 7);
+fn each_byte_of_heads_is_changed(rt: HostRuntime) -> Result<(), Fail> {
+    let wrong = wrong_change(rt.alloc(), &(STARTED_NOW, OF_STARTED, 1, 7))?;
     assert!(rt; wrong.is_none(), "{wrong:?}");
+    Ok(())
 }
 
 #[test]
-fn each_byte_of_a_table_is_changed(rt: HostRuntime) {
-    let wrong = wrong_change(rt.alloc(), STARTED_NOW, OF_STARTED, 8, 11);
+fn each_byte_of_a_table_is_changed(rt: HostRuntime) -> Result<(), Fail> {
+    let wrong = wrong_change(rt.alloc(), &(STARTED_NOW, OF_STARTED, 8, 11))?;
     assert!(rt; wrong.is_none(), "{wrong:?}");
+    Ok(())
 }
 
 #[test]
-fn each_byte_of_records_is_changed(rt: HostRuntime) {
-    let wrong = wrong_change(rt.alloc(), STARTED_NOW, OF_STARTED, 12, 13);
+fn each_byte_of_records_is_changed(rt: HostRuntime) -> Result<(), Fail> {
+    let wrong = wrong_change(rt.alloc(), &(STARTED_NOW, OF_STARTED, 12, 13))?;
     assert!(rt; wrong.is_none(), "{wrong:?}");
+    Ok(())
 }
 
 #[test]
-fn each_byte_of_the_end_is_changed(rt: HostRuntime) {
-    let wrong = wrong_change(rt.alloc(), STARTED_NOW, OF_STARTED, 14, ALL);
+fn each_byte_of_the_end_is_changed(rt: HostRuntime) -> Result<(), Fail> {
+    let wrong = wrong_change(rt.alloc(), &(STARTED_NOW, OF_STARTED, 14, ALL))?;
     assert!(rt; wrong.is_none(), "{wrong:?}");
+    Ok(())
 }
 
 #[test]
-fn each_byte_without_records_is_changed(rt: HostRuntime) {
-    let wrong = wrong_change(rt.alloc(), OPENING_NOW, OF_OPENING, 1, ALL);
+fn each_byte_without_records_is_changed(rt: HostRuntime) -> Result<(), Fail> {
+    let wrong = wrong_change(rt.alloc(), &(OPENING_NOW, OF_OPENING, 1, ALL))?;
     assert!(rt; wrong.is_none(), "{wrong:?}");
+    Ok(())
 }
 
 /// A text, the generation that is asked for, and what is answered.
