@@ -9,9 +9,15 @@ mod growth_tests;
 #[cfg(test)]
 mod line_tests;
 #[cfg(test)]
+mod log_fault_tests;
+#[cfg(test)]
+mod logs;
+#[cfg(test)]
 mod piece_tests;
 #[cfg(test)]
 mod pieces;
+#[cfg(test)]
+mod shortened_tests;
 #[cfg(test)]
 mod side_tests;
 #[cfg(test)]
