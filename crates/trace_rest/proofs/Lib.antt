@@ -1,0 +1,9 @@
+pub mod Idle
+pub mod Rest
+pub mod Settled
+pub mod Stops
+pub mod Once
+pub mod Progress
+pub mod Rounds
+mod Rows
+mod Forgotten

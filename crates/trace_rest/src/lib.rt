@@ -1,0 +1,71 @@
+//! Where init is at rest, and whose end it awaits there: init never waits for nothing, and a level is settled at last.
+//!
+//! The words are those of `init_trace`, and of `specs/Rest`. A trace is a list of happenings, the newest first. The laws
+//! stand for all readings of the clock and whatever is asked of init, before a stretch of which they say that nothing is
+//! asked in it.
+#![tactic(auto)]
+
+ghost use Rattle.std.specs.Prelude.{◌≡◌, ◌<◌, IsTrue, false, not, ◌||◌, List, ◌++◌, length};
+ghost use Rattle.std.specs.List.{list_any, list_all};
+ghost use Rattle.init_trace.specs.declared.steps.Goal.{Goal};
+ghost use Rattle.init_trace.specs.declared.steps.Step.TheVariants.{Idle};
+ghost use Rattle.init_trace.specs.Event.{Event};
+ghost use Rattle.init_trace.specs.Past.{is_idle, stage_of, kept_children, known_children};
+ghost use Rattle.init_trace.specs.Wanted.{is_excluded};
+ghost use Rattle.init_trace.specs.Wishes.{in_run, wish_stands};
+ghost use Rattle.init_trace.specs.Due.{is_announced};
+ghost use Rattle.init_trace.specs.Sound.{is_sound};
+ghost use Rattle.trace_laws.specs.Moments.{AtEachMoment};
+ghost use Rattle.core_model.specs.State.{CoreState};
+ghost use Rattle.core_model.specs.Decide.{decide};
+ghost use Rattle.core_model.specs.Fit.{OnEachTrace};
+ghost use Rattle.trace_rest.specs.Rest.{AtRest, AtEachRest, is_level_announced, awaited_children, is_empty, is_stopping, is_looked_at, is_on_power, is_waited_id, BetweenCalmStarts, is_gone, is_waited_start, BetweenRests, to_come, after_rounds, AreRounds};
+
+/// Why init awaits the end of a child.
+#[derive(Clone, Copy, Debug, PartialEq, Eq)]
+pub enum Why {
+    /// The stage excludes it: it is stopped.
+    Excluded,
+    /// Init waits for its entry before it starts a later one, or enters the next stage.
+    WaitedFor,
+    /// Its entry is wanted again, and is started once this child is gone.
+    InTheWay,
+}
+
+/// Init never waits for nothing. It does nothing: its contract says the laws.
+pub fn law_of_rest()
+    // at each moment at which no step is due, an order is open, or the level is announced settled, or there is a child
+    // whose end is awaited
+    ensures rest { AtEachRest (λ past. IsTrue
+        (not (is_idle past) || is_level_announced past || not (is_empty (awaited_children past)))) }
+    // where no order is open there, no wish stands
+    ensures heard { AtEachRest (λ past. IsTrue (is_idle past) → wish_stands past ≡ false) }
+    // and each excluded child is being stopped: a TERM was sent to it and its grace is not over, or a KILL was; or a
+    // signal missed it, and is tried again in the next round
+    ensures stopping { AtEachRest (λ past. IsTrue (is_idle past)
+        → IsTrue (list_all (is_stopping past) (kept_children past))) }
+    // each known child was looked at since the last round began, or an order of its id is open
+    ensures looked { AtEachRest (λ past. IsTrue (list_all (is_looked_at past) (known_children past))) }
+    // and of each core that fits the trace: it decides on Idle there, and nowhere else
+    ensures idle { (core : CoreState) → OnEachTrace core (λ goal past.
+        (decide core ≡ Idle → AtRest goal past) × (AtRest goal past → decide core ≡ Idle)) }
+    // the converse: while a level is announced no kept child is excluded, and none is awaited but those of entries that
+    // news of the power calls
+    ensures spared { AtEachMoment (λ past. IsTrue (is_announced past)
+        → IsTrue (in_run (stage_of past)) × (list_any (is_excluded past) (kept_children past) ≡ false)) }
+    ensures settled { AtEachMoment (λ past. IsTrue (is_announced past)
+        → IsTrue (list_all (is_on_power past) (awaited_children past))) }
+    // over a calm stretch, in which no stage is entered, no table comes and nothing is called, an entry that init waits
+    // for starts once
+    ensures once { BetweenCalmStarts (λ id past. is_waited_id id past ≡ false) }
+    // from a rest to another over such a stretch, with no order open at both: where no child is left that was awaited at
+    // the first, a waited entry was started between, or the level is announced
+    ensures progress { BetweenRests (λ between past.
+        IsTrue (list_all (is_gone between past) (awaited_children past))
+        → is_level_announced (between ++ past) ≡ false
+        → IsTrue (list_any (is_waited_start past) between)) }
+    // so after more such rounds than waited entries were to come at the first rest, the level is announced
+    ensures bound { (goal : Goal) (later : List Event) (rounds : List (List Event)) (past : List Event)
+        → IsTrue (is_sound goal (later ++ after_rounds rounds past)) → AreRounds goal rounds past
+        → to_come past < length rounds → IsTrue (is_level_announced (after_rounds rounds past)) }
+{}
