@@ -5,5 +5,6 @@ pub mod Stops
 pub mod Once
 pub mod Progress
 pub mod Rounds
+pub mod Coming
 mod Rows
 mod Forgotten

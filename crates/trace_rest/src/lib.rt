@@ -5,20 +5,23 @@
 //! asked in it.
 #![tactic(auto)]
 
-ghost use Rattle.std.specs.Prelude.{◌≡◌, ◌<◌, IsTrue, false, not, ◌||◌, List, ◌++◌, length};
+ghost use Rattle.std.specs.Prelude.{◌≡◌, ◌<◌, ℕ, IsTrue, false, not, ◌||◌, List, ◌++◌, length};
 ghost use Rattle.std.specs.List.{list_any, list_all};
 ghost use Rattle.init_trace.specs.declared.steps.Goal.{Goal};
 ghost use Rattle.init_trace.specs.declared.steps.Step.TheVariants.{Idle};
 ghost use Rattle.init_trace.specs.Event.{Event};
 ghost use Rattle.init_trace.specs.Past.{is_idle, stage_of, kept_children, known_children};
 ghost use Rattle.init_trace.specs.Wanted.{is_excluded};
-ghost use Rattle.init_trace.specs.Wishes.{in_run, wish_stands};
-ghost use Rattle.init_trace.specs.Due.{is_announced};
+ghost use Rattle.init_trace.specs.Wishes.{in_run, wants_reexec, wants_reread, wish_stands};
+ghost use Rattle.init_trace.specs.Due.{due, first, is_announced};
+ghost use Rattle.init_trace.specs.Run.{is_rest};
 ghost use Rattle.init_trace.specs.Sound.{is_sound};
 ghost use Rattle.trace_laws.specs.Moments.{AtEachMoment};
 ghost use Rattle.core_model.specs.State.{CoreState};
 ghost use Rattle.core_model.specs.Decide.{decide};
-ghost use Rattle.core_model.specs.Fit.{OnEachTrace};
+ghost use Rattle.core_model.specs.Fit.{Fits, OnEachTrace};
+ghost use Rattle.core_model.specs.Work.{work_left};
+ghost use Rattle.trace_rest.specs.Coming.{with_own_steps, after_own_steps};
 ghost use Rattle.trace_rest.specs.Rest.{AtRest, AtEachRest, is_level_announced, awaited_children, is_empty, is_stopping, is_looked_at, is_on_power, is_waited_id, BetweenCalmStarts, is_gone, is_waited_start, BetweenRests, to_come, after_rounds, AreRounds};
 
 /// Why init awaits the end of a child.
@@ -68,4 +71,20 @@ pub fn law_of_rest()
     ensures bound { (goal : Goal) (later : List Event) (rounds : List (List Event)) (past : List Event)
         → IsTrue (is_sound goal (later ++ after_rounds rounds past)) → AreRounds goal rounds past
         → to_come past < length rounds → IsTrue (is_level_announced (after_rounds rounds past)) }
+{}
+
+/// Init's own steps end, and where they end it rests. It does nothing: its contract says the laws.
+pub fn law_of_coming()
+    // after each happening: in no more of its own steps, each the first that is due, than there is work left, init comes
+    // to where nothing is due, or inittab is to be read, or init to be re-executed
+    ensures comes { (core : CoreState) → OnEachTrace core (λ goal past.
+        IsTrue (is_rest (first (due goal (with_own_steps goal (work_left core) past))))) }
+    // where neither of the two is wished for, nothing is due there
+    ensures arrives { (core : CoreState) → OnEachTrace core (λ goal past.
+        (wants_reexec past || wants_reread past) ≡ false
+        → AtRest goal (with_own_steps goal (work_left core) past)) }
+    // and after so many of its own steps the trace is sound, and what init keeps fits it
+    ensures fits { (core : CoreState) → OnEachTrace core (λ goal past. (n : ℕ)
+        → IsTrue (is_sound goal (with_own_steps goal n past))
+        × Fits (after_own_steps n core) goal (with_own_steps goal n past)) }
 {}
