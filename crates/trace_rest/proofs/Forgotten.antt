@@ -1,6 +1,7 @@
 -- A list of due steps that forgot one of its ten ranks would break the law: for each rank a sound trace that takes no
 -- step of that rank, at whose end nothing of the other nine is due and no order is open, and of which a clause is wrong.
-use Rattle.std.proofs.Common.{◌≡◌, refl, ℕ, Bool, zero, suc, true, false, not, ◌||◌, List, [], ◌∷◌, ◌++◌, codes}
+-- And for each reason a rest at which `rest` would be wrong without it.
+use Rattle.std.proofs.Common.{◌≡◌, refl, ℕ, Bool, zero, suc, true, false, not, ◌||◌, List, [], ◌∷◌, ◌++◌, filter, codes, Option, Some}
 use Rattle.std.specs.List.{list_all}
 use Rattle.init_words.specs.declared.entries.Entry.{Entry}
 use Rattle.init_words.specs.declared.actions.Act.TheVariants as act
@@ -13,12 +14,14 @@ use Rattle.init_trace.specs.declared.happenings.Happening.TheVariants.{NewTable,
 use Rattle.init_trace.specs.declared.steps.Goal.{Goal}
 use Rattle.init_trace.specs.declared.steps.Step.{Step}
 use Rattle.init_trace.specs.Event.{Event}
-use Rattle.init_trace.specs.Past.{stage_of, is_idle, kept_children, known_children}
+use Rattle.init_trace.specs.Past.{stage_of, Child, is_idle, kept_children, known_children}
 use Rattle.init_trace.specs.Wishes.{wish_stands}
 use Rattle.init_trace.specs.Due.{due_first, due_reexec, due_reread, due_level, due_news, due_stops, due_starts, due_stage, due_settle, due_looks, due}
 use Rattle.init_trace.specs.Sound.{is_sound}
-use Rattle.trace_rest.specs.Rest.{awaited_children, is_level_announced, is_empty, is_stopping, is_looked_at}
-use Rattle.trace_rest.proofs.Rows.{entry, opening, started, goes_to, entered}
+use Rattle.trace_rest.specs.declared.Why.{Why}
+use Rattle.trace_rest.specs.declared.Why.TheVariants.{Excluded, WaitedFor, InTheWay}
+use Rattle.trace_rest.specs.Rest.{why_awaited, awaited_children, is_level_announced, is_empty, is_stopping, is_looked_at}
+use Rattle.trace_rest.proofs.Rows.{entry, opening, started, goes_to, entered, stopped, waited_for, in_its_way}
 
 -- the ten ranks, and what is due of all of them but the one of this number
 abbrev ranks : Goal → List Event → List (List Step)
@@ -103,3 +106,27 @@ settles = record { sound = refl; rests = refl; idle = refl; broken = refl }
 
 looks : Breaks 10 (opening level.L3) (Nudge ∷ settled) (list_all (is_looked_at (Nudge ∷ settled)) (known_children (Nudge ∷ settled)))
 looks = record { sound = refl; rests = refl; idle = refl; broken = refl }
+
+-- the awaited children but for those of this reason, and a rest at which they are none
+abbrev is_for : Why → Option Why → Bool
+is_for Excluded (Some Excluded) = true
+is_for WaitedFor (Some WaitedFor) = true
+is_for InTheWay (Some InTheWay) = true
+is_for _ _ = false
+
+abbrev awaited_but : Why → List Event → List Child
+awaited_but why past = filter (λ child. not (is_for why (why_awaited past child))) (awaited_children past)
+
+record Needs (why : Why) (goal : Goal) (past : List Event) : Type 0 where
+  sound : is_sound goal past ≡ true
+  rests : due goal past ≡ []
+  broken : (not (is_idle past) || is_level_announced past || not (is_empty (awaited_but why past))) ≡ false
+
+excluded : Needs Excluded (opening level.L3) stopped
+excluded = record { sound = refl; rests = refl; broken = refl }
+
+waited : Needs WaitedFor (opening level.L3) waited_for
+waited = record { sound = refl; rests = refl; broken = refl }
+
+in_the_way : Needs InTheWay (opening level.L3) in_its_way
+in_the_way = record { sound = refl; rests = refl; broken = refl }

@@ -61,7 +61,7 @@ abbrev failed : List Event
 failed = Told (codes "r") ∷ NoBirth (codes "r") ∷ Asked (codes "r") Start ∷ []
 
 -- a respawn entry's child that the new level excludes: TERM was sent, and its grace is not over
-abbrev stopped : List Event
+abbrev pub stopped : List Event
 stopped = termed (codes "r") ++ goes_to level.L2 ++ Settle level.L3 ∷ started (codes "r") 7 ++ entered level.L3 ((entry (codes "r") (At level.L3 ∷ []) act.Respawn) ∷ [])
 
 stopped-is_sound : is_sound (opening level.L3) stopped ≡ true
@@ -127,7 +127,7 @@ left_the_table-why : whys left_the_table ≡ Some Excluded ∷ []
 left_the_table-why = refl
 
 -- a wait entry runs: the one behind it has to wait
-abbrev waited_for : List Event
+abbrev pub waited_for : List Event
 waited_for = started (codes "w") 7 ++ entered level.L3 ((entry (codes "w") (At level.L3 ∷ []) act.Wait) ∷ (entry (codes "r") (At level.L3 ∷ []) act.Respawn) ∷ [])
 
 waited_for-is_sound : is_sound (opening level.L3) waited_for ≡ true
@@ -171,7 +171,7 @@ boot_waits-why : whys boot_waits ≡ Some WaitedFor ∷ []
 boot_waits-why = refl
 
 -- a once entry's child of the last level lives on: the entry starts again in this level once it is gone
-abbrev in_its_way : List Event
+abbrev pub in_its_way : List Event
 in_its_way = goes_to level.L2 ++ Settle level.L3 ∷ started (codes "o") 7 ++ entered level.L3 ((entry (codes "o") (At level.L2 ∷ At level.L3 ∷ []) act.Once) ∷ [])
 
 in_its_way-is_sound : is_sound (opening level.L3) in_its_way ≡ true
