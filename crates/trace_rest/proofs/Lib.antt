@@ -6,5 +6,6 @@ pub mod Once
 pub mod Progress
 pub mod Rounds
 pub mod Coming
+pub mod Awaiting
 mod Rows
 mod Forgotten

@@ -5,12 +5,12 @@
 //! asked in it.
 #![tactic(auto)]
 
-ghost use Rattle.std.specs.Prelude.{◌≡◌, ◌<◌, ℕ, IsTrue, false, not, ◌||◌, List, ◌++◌, length};
+ghost use Rattle.std.specs.Prelude.{◌≡◌, ◌<◌, ℕ, Bool, IsTrue, false, not, ◌||◌, List, ◌++◌, length, filter_map};
 ghost use Rattle.std.specs.List.{list_any, list_all};
 ghost use Rattle.init_trace.specs.declared.steps.Goal.{Goal};
 ghost use Rattle.init_trace.specs.declared.steps.Step.TheVariants.{Idle};
 ghost use Rattle.init_trace.specs.Event.{Event};
-ghost use Rattle.init_trace.specs.Past.{is_idle, stage_of, kept_children, known_children};
+ghost use Rattle.init_trace.specs.Past.{is_idle, is_quiet, stage_of, kept_children, known_children};
 ghost use Rattle.init_trace.specs.Wanted.{is_excluded};
 ghost use Rattle.init_trace.specs.Wishes.{in_run, wants_reexec, wants_reread, wish_stands};
 ghost use Rattle.init_trace.specs.Due.{due, first, is_announced};
@@ -21,11 +21,15 @@ ghost use Rattle.core_model.specs.State.{CoreState};
 ghost use Rattle.core_model.specs.Decide.{decide};
 ghost use Rattle.core_model.specs.Fit.{Fits, OnEachTrace};
 ghost use Rattle.core_model.specs.Work.{work_left};
+ghost use Rattle.trace_rest.specs.Awaiting.{with_why, in_record_order, awaited_known, awaited_by};
 ghost use Rattle.trace_rest.specs.Coming.{with_own_steps, after_own_steps};
 ghost use Rattle.trace_rest.specs.Rest.{AtRest, AtEachRest, is_level_announced, awaited_children, is_empty, is_stopping, is_looked_at, is_on_power, is_waited_id, BetweenCalmStarts, is_gone, is_waited_start, BetweenRests, to_come, after_rounds, AreRounds};
+ghost use Rattle.trace_rest.specs.declared.Awaited.{Awaited};
+
+use init_words::{ChildNo, Id};
 
 /// Why init awaits the end of a child.
-#[derive(Clone, Copy, Debug, PartialEq, Eq)]
+#[derive(Clone, Copy)]
 pub enum Why {
     /// The stage excludes it: it is stopped.
     Excluded,
@@ -33,6 +37,15 @@ pub enum Why {
     WaitedFor,
     /// Its entry is wanted again, and is started once this child is gone.
     InTheWay,
+}
+
+/// A child whose end init awaits.
+#[derive(Clone, Copy)]
+pub struct Awaited {
+    /// The id of its entry, or of one that left the table.
+    pub id: Id,
+    pub number: ChildNo,
+    pub why: Why,
 }
 
 /// Init never waits for nothing. It does nothing: its contract says the laws.
@@ -87,4 +100,18 @@ pub fn law_of_coming()
     ensures fits { (core : CoreState) → OnEachTrace core (λ goal past. (n : ℕ)
         → IsTrue (is_sound goal (with_own_steps goal n past))
         × Fits (after_own_steps n core) goal (with_own_steps goal n past)) }
+{}
+
+/// By what it keeps init can name each child whose end it awaits. It does nothing: its contract says the laws.
+pub fn law_of_awaited()
+    // of each core that fits the trace: it names the known children whose end is awaited, in record order
+    ensures known { (core : CoreState) → OnEachTrace core (λ goal past.
+        awaited_by core ≡ in_record_order (awaited_known past) past) }
+    // where no start and no signal is open, those are the children whose end is awaited
+    ensures all { (core : CoreState) → OnEachTrace core (λ goal past. IsTrue (is_quiet past)
+        → awaited_by core ≡ in_record_order (awaited_children past) past) }
+    // of which record order leaves out none, and has no other
+    ensures listed { AtEachMoment (λ past. IsTrue (is_quiet past) → (test : Awaited → Bool)
+        → list_any test (in_record_order (awaited_children past) past)
+        ≡ list_any test (filter_map (with_why past) (awaited_children past))) }
 {}
