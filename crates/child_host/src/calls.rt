@@ -9,7 +9,7 @@ use std::marker::Model;
 use thiserror::Error;
 
 /// What a host answers to an order: its answer, or that the answer comes later.
-#[derive(Clone, Copy, Debug, PartialEq, Eq)]
+#[derive(Clone, Copy, PartialEq, Eq)]
 pub enum Reply {
     /// The answer.
     Now(Answer),

@@ -1,7 +1,7 @@
 use init_words::{Act, ChildNo};
 
 /// A child that init knows of.
-#[derive(Clone, Copy, Debug, PartialEq, Eq)]
+#[derive(Clone, Copy, PartialEq, Eq)]
 pub struct KnownChild {
     pub number: ChildNo,
     /// The action that its id had in the table when it was born.
@@ -9,7 +9,7 @@ pub struct KnownChild {
 }
 
 /// How far the stopping of an excluded child has come (init(8)): SIGTERM first, then SIGKILL.
-#[derive(Clone, Copy, Debug, PartialEq, Eq)]
+#[derive(Clone, Copy, PartialEq, Eq)]
 pub enum Stop {
     /// No signal was sent yet.
     Due,

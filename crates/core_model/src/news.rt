@@ -5,7 +5,7 @@ use init_trace::Step;
 use init_words::{Letter, PowerKind};
 
 /// What init heard of the power and which letters it was asked to call, and did not carry out yet (telinit(8)).
-#[derive(Clone, Copy, Debug, PartialEq, Eq)]
+#[derive(Clone, Copy, PartialEq, Eq)]
 pub struct News {
     /// The power failed.
     pub fail: bool,

@@ -4,7 +4,7 @@ use inittab_text::Table;
 
 /// One happening of a run. Acts of init: a table in force, `Enter` to `Settle`. Acts of the system: `Birth` to `Miss`.
 /// What passes between them: the rest. Seconds are whole; numbers of children are the system's.
-#[derive(Clone, Debug, Drop, PartialEq, Eq)]
+#[derive(Drop)]
 pub enum Happening<T = Table> {
     /// This table is in force from here on.
     NewTable(T),
@@ -51,7 +51,7 @@ pub enum Happening<T = Table> {
 }
 
 /// How a hand-over of init's state went.
-#[derive(Clone, Copy, Debug, PartialEq, Eq)]
+#[derive(Clone, Copy, PartialEq, Eq)]
 pub enum Handed {
     /// The text came back whole and was taken.
     Whole,

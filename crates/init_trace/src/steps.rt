@@ -1,7 +1,7 @@
 use init_words::{Ask, Id, Letter, Level, PowerKind, Stage};
 
 /// What init does next.
-#[derive(Clone, Copy, Debug, PartialEq, Eq)]
+#[derive(Clone, Copy, PartialEq, Eq)]
 pub enum Step {
     /// Enter a stage, with the given number of seconds between the two signals that stop a child.
     Enter(Stage, u16),
@@ -24,7 +24,7 @@ pub enum Step {
 }
 
 /// The runlevel to go to, and the seconds between the two signals that stop a child.
-#[derive(Clone, Copy, Debug, PartialEq, Eq)]
+#[derive(Clone, Copy, PartialEq, Eq)]
 pub struct Goal {
     pub level: Level,
     pub grace: u16,

@@ -6,7 +6,7 @@ use crate::orders::PowerKind;
 use crate::stages::Stage;
 
 /// What an inittab entry's third field asks for (inittab(5)).
-#[derive(Clone, Copy, Debug, PartialEq, Eq)]
+#[derive(Clone, Copy, PartialEq, Eq)]
 pub enum Act {
     Sysinit,
     Boot,

@@ -15,7 +15,7 @@ impl Model for ChildNo {
 }
 
 /// How a child ended: by itself with an exit status, or killed by a signal.
-#[derive(Clone, Copy, Debug, PartialEq, Eq)]
+#[derive(Clone, Copy, PartialEq, Eq)]
 pub enum Status {
     Exit(u8),
     Killed,

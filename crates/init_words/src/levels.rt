@@ -2,7 +2,7 @@ ghost use Rattle.std.specs.Prelude.{◌≡◌, not};
 ghost use Rattle.init_words.specs.Levels.{level_code, level_read, letter_code, letter_read, same_level, names};
 
 /// A runlevel: `0` to `9`, or `S` for single user (init(8)).
-#[derive(Clone, Copy, Debug, PartialEq, Eq)]
+#[derive(Clone, Copy, PartialEq, Eq)]
 pub enum Level {
     L0,
     L1,
@@ -18,7 +18,7 @@ pub enum Level {
 }
 
 /// The letter of an ondemand entry (inittab(5)).
-#[derive(Clone, Copy, Debug, PartialEq, Eq)]
+#[derive(Clone, Copy, PartialEq, Eq)]
 pub enum Letter {
     A,
     B,
@@ -26,7 +26,7 @@ pub enum Letter {
 }
 
 /// One character of an entry's runlevels field: a level, or the letter of an ondemand entry.
-#[derive(Clone, Copy, Debug, PartialEq, Eq)]
+#[derive(Clone, Copy, PartialEq, Eq)]
 pub enum Mark {
     At(Level),
     OnCall(Letter),

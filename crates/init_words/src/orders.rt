@@ -4,7 +4,7 @@ ghost use Rattle.init_words.specs.Orders.{answers};
 use crate::children::{ChildNo, Status};
 
 /// What init asks of the system about one entry.
-#[derive(Clone, Copy, Debug, PartialEq, Eq)]
+#[derive(Clone, Copy, PartialEq, Eq)]
 pub enum Ask {
     Start,
     Look,
@@ -13,7 +13,7 @@ pub enum Ask {
 }
 
 /// What the system answered to an order.
-#[derive(Clone, Copy, Debug, PartialEq, Eq)]
+#[derive(Clone, Copy, PartialEq, Eq)]
 pub enum Answer {
     /// A start: the child of that number runs.
     Born(ChildNo),
@@ -46,14 +46,14 @@ impl Answer {
 }
 
 /// The two signals that stop a child (init(8)).
-#[derive(Clone, Copy, Debug, PartialEq, Eq)]
+#[derive(Clone, Copy, PartialEq, Eq)]
 pub enum Sig {
     Term,
     Kill,
 }
 
 /// News of the power (initreq.h): it fails, the battery is almost empty, it is back.
-#[derive(Clone, Copy, Debug, PartialEq, Eq)]
+#[derive(Clone, Copy, PartialEq, Eq)]
 pub enum PowerKind {
     Fail,
     FailNow,

@@ -1,7 +1,7 @@
 use crate::levels::Level;
 
 /// Where init is on its way: the boot's two stages, then a runlevel (init(8)).
-#[derive(Clone, Copy, Debug, PartialEq, Eq)]
+#[derive(Clone, Copy, PartialEq, Eq)]
 pub enum Stage {
     Sysinit,
     Boot,

@@ -2,7 +2,7 @@ use crate::signs::Sign;
 use init_words::{Letter, Level, PowerKind};
 
 /// What init got by a request block (initreq.h, telinit(8)).
-#[derive(Clone, Copy, Debug, PartialEq, Eq)]
+#[derive(Clone, Copy, PartialEq, Eq)]
 pub enum Got {
     /// Go to the runlevel, with the given number of seconds between the two signals that stop a child, 0 to 3,600.
     Level(Level, u16),
@@ -19,7 +19,7 @@ pub enum Got {
 }
 
 /// Why a request block is ignored.
-#[derive(Clone, Copy, Debug, PartialEq, Eq)]
+#[derive(Clone, Copy, PartialEq, Eq)]
 pub enum Cause {
     /// Its first int is not the magic number.
     Magic,
@@ -32,7 +32,7 @@ pub enum Cause {
 }
 
 /// What is asked of init by a request block.
-#[derive(Clone, Copy, Debug, PartialEq, Eq)]
+#[derive(Clone, Copy, PartialEq, Eq)]
 pub enum Request {
     /// RUNLVL of initreq.h: a character of telinit(8), and the seconds between the two signals that stop a child.
     Runlvl(Sign, u16),

@@ -4,7 +4,7 @@ ghost use Rattle.initctl_frame.specs.Signs.{is_sign, sign_read};
 use std::marker::Model;
 
 /// A character of telinit(8), one of `0-9 S s A B C a b c Q q U u`, as it was typed.
-#[derive(Clone, Copy, Debug, PartialEq, Eq)]
+#[derive(Clone, Copy, PartialEq, Eq)]
 pub struct Sign {
     code: u8,
 }

@@ -36,7 +36,7 @@ pub struct LineFault {
 }
 
 /// A line that was left out of one of several parts.
-#[derive(Clone, Copy, Debug, PartialEq, Eq)]
+#[derive(Clone, Copy, PartialEq, Eq)]
 pub struct PartFault {
     /// The part's number, from 0.
     pub part: u32,

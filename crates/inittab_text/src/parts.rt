@@ -2,6 +2,7 @@ ghost use Rattle.std.specs.Prelude.{◌≡◌, ◌≤◌, ◌++◌, ◌↔◌, m
 ghost use Rattle.text_lines.specs.Lines.{lines_of};
 ghost use Rattle.init_words.specs.Parts.{texts_of};
 ghost use Rattle.inittab_text.specs.declared.reading.TheConstants.{TEXT_LIMIT};
+ghost use Rattle.inittab_text.specs.declared.parts.TheConstants.{PART_LIMIT};
 ghost use Rattle.inittab_text.specs.Reading.{entries_from, faults_from};
 ghost use Rattle.inittab_text.specs.Parts.{AreTooMany, AreTooLong, size_of_texts, in_part};
 ghost use Rattle.inittab_text.specs.Parts.{table_of_texts, faults_of_parts};
@@ -67,6 +68,27 @@ fn take_part<A: Allocator + Copy>(
     add_faults(faults, part, &found)
 }
 
+/// Reads parts that are few enough and short enough.
+fn read_fitting<A: Allocator + Copy, B: Allocator>(
+    alloc: A,
+    parts: &[Part<B>],
+) -> Result<(Table<A>, Vec<PartFault, A>), TableFault>
+    requires few { length parts.now ≤ PART_LIMIT }
+    requires short { size_of_texts (texts_of parts.now) ≤ TEXT_LIMIT }
+    ensures table { IfOk result (λ got. got.0 ≡ table_of_texts (texts_of parts.now)) }
+    ensures faults { IfOk result (λ got. got.1.items ≡ faults_of_parts (texts_of parts.now)) }
+    ensures memory { IfErr result (λ fault. fault ≡ TableFault.Memory) }
+{
+    let mut table = Table::new(alloc);
+    let mut faults = Vec::new(alloc);
+    let mut number = 0;
+    for part in parts {
+        take_part(alloc, &mut table, &mut faults, number, &part.bytes)?;
+        number += 1;
+    }
+    Ok((table, faults))
+}
+
 /// Reads an inittab(5) of several parts, in their order: the entries of the lines that pass all checks, and the faults
 /// of the others. Each part is cut into lines by itself, and an entry is checked against those of all parts before it.
 /// Over 256 parts are refused, and parts of over 1,048,576 bytes together.
@@ -85,12 +107,5 @@ pub fn read_parts<A: Allocator + Copy, B: Allocator>(
     if are_too_long(parts) {
         return Err(TableFault::TooLong);
     }
-    let mut table = Table::new(alloc);
-    let mut faults = Vec::new(alloc);
-    let mut number = 0;
-    for part in parts {
-        take_part(alloc, &mut table, &mut faults, number, &part.bytes)?;
-        number += 1;
-    }
-    Ok((table, faults))
+    read_fitting(alloc, parts)
 }

@@ -13,7 +13,7 @@ use std::marker::Model;
 pub const ENTRY_LIMIT: usize = 4_096;
 
 /// The entries of an inittab(5), in the order of their lines, each id once.
-#[derive(Clone, Drop)]
+#[derive(Drop)]
 pub struct Table<A: Allocator = Global> {
     entries: IndexMap<Id, Entry, BuildHasherDefault<FoldHasher>, A>,
 }

@@ -12,7 +12,7 @@ use rc_links::is_name_byte;
 use std::alloc::{AllocError, Global};
 
 /// What a command line says.
-#[derive(Debug, Drop)]
+#[derive(Drop)]
 pub struct Words {
     /// The folder that holds those of the runlevels.
     pub dir: String,

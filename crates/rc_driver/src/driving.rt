@@ -19,7 +19,7 @@ use std::io;
 use std::io::Write;
 
 /// How a run of scripts over a host ended.
-#[derive(Clone, Copy, Debug, PartialEq, Eq)]
+#[derive(Clone, Copy, PartialEq, Eq)]
 pub enum RunEnd {
     /// All scripts came to their ends.
     Done,

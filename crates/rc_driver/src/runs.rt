@@ -10,7 +10,7 @@ use std::marker::Model;
 use thiserror::Error;
 
 /// The argument that a script is run with (LSB Core 5.0, init script actions).
-#[derive(Clone, Copy, Debug, PartialEq, Eq)]
+#[derive(Clone, Copy, PartialEq, Eq)]
 pub enum Arg {
     /// The service is started.
     Start,
@@ -19,7 +19,7 @@ pub enum Arg {
 }
 
 /// What is to be done next in a run of scripts.
-#[derive(Clone, Copy, Debug, PartialEq, Eq)]
+#[derive(Clone, Copy, PartialEq, Eq)]
 pub enum RcStep<'n> {
     /// The script of this link is to be run with this argument.
     Run(&'n str, Arg),
@@ -30,7 +30,7 @@ pub enum RcStep<'n> {
 }
 
 /// How a script that was handed out came to its end.
-#[derive(Clone, Copy, Debug, PartialEq, Eq)]
+#[derive(Clone, Copy, PartialEq, Eq)]
 pub enum RcAnswer {
     /// It ended so.
     Ended(Status),

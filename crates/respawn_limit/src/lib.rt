@@ -27,7 +27,7 @@ pub const HOLD: u64 = 300;
 pub const CLOCK_LIMIT: u64 = 1_000_000_000_000;
 
 /// What a limiter answers.
-#[derive(Clone, Copy, Debug, PartialEq, Eq)]
+#[derive(Clone, Copy, PartialEq, Eq)]
 pub enum May {
     /// A start may be made and noted now.
     Yes,
@@ -40,7 +40,7 @@ pub enum May {
 /// The window slides: a start counts for 120 seconds, and while ten count there may be no other.
 /// A hold made then stands for 300 seconds. The value keeps ten starts at most and never allocates.
 /// A contract sees it as a record of `starts`, oldest first, and `held`, the end of the last hold.
-#[derive(Debug, Drop, PartialEq, Eq)]
+#[derive(Drop, PartialEq, Eq)]
 pub struct Limiter {
     starts: ArrayVec<u64, STARTS>,
     held: Option<u64>,

@@ -23,7 +23,7 @@ pub type Numbers<A = Global> = IndexMap<Id, ChildNo, BuildHasherDefault<FoldHash
 type Ends<A> = IndexMap<Id, Status, BuildHasherDefault<FoldHasher>, A>;
 
 /// How the last child of an id that ended did so.
-#[derive(Clone, Copy, Debug, PartialEq, Eq)]
+#[derive(Clone, Copy, PartialEq, Eq)]
 pub enum LastEnd {
     Ended(Status),
     /// None has ended.

@@ -16,7 +16,7 @@ use std::alloc::Allocator;
 use trace_log::Log;
 
 /// How a run of turns ended.
-#[derive(Clone, Copy, Debug, PartialEq, Eq)]
+#[derive(Clone, Copy, PartialEq, Eq)]
 pub struct Served {
     /// How many turns were made.
     pub turns: u64,

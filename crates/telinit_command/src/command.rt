@@ -13,7 +13,7 @@ use init_words::GRACE_LIMIT;
 use std::alloc::{AllocError, Global};
 
 /// What a command line says.
-#[derive(Debug, Drop)]
+#[derive(Drop)]
 pub struct Words {
     /// The seconds between the two signals that stop a child, 0 to 3,600.
     pub secs: u16,

@@ -4,7 +4,7 @@ ghost use Rattle.trace_check.specs.Laws.{law_number, law_words};
 use std::fmt;
 
 /// A law of init(8)'s runs.
-#[derive(Clone, Copy, Debug, PartialEq, Eq)]
+#[derive(Clone, Copy, PartialEq, Eq)]
 pub enum Law {
     /// No child is born to an id with an unreaped one.
     SecondChild,

@@ -10,7 +10,7 @@ use init_words::Memory;
 use std::alloc::Allocator;
 
 /// What the checker says of a trace.
-#[derive(Clone, Copy, Debug, PartialEq, Eq)]
+#[derive(Clone, Copy, PartialEq, Eq)]
 pub enum Verdict {
     /// No happening breaks a law.
     Lawful,

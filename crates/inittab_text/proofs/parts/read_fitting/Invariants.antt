@@ -3,7 +3,7 @@ use Rattle.init_words.specs.Parts.{texts_of}
 use Rattle.inittab_text.specs.declared.reading.TheConstants.{TEXT_LIMIT}
 use Rattle.inittab_text.specs.declared.parts.TheConstants.{PART_LIMIT}
 use Rattle.inittab_text.specs.Parts.{entries_of_texts, faults_of_texts, faults_of_parts, size_of_texts, table_of_texts}
-use Rattle.inittab_text.proofs.parts.read_parts.Given as goal
+use Rattle.inittab_text.proofs.parts.read_fitting.Given as goal
 
 abbrev pub invariant-loop-part : goal.invariant-loop-part
 invariant-loop-part g l = record {
