@@ -25,7 +25,7 @@ use Rattle.trace_laws.proofs.Known.{quiet_known, known_single}
 use Rattle.trace_laws.proofs.Stopping.{hits_are, hits_shape}
 use Rattle.trace_laws.proofs.Records.{child_in_records}
 use Rattle.trace_rest.specs.Rest.{AtRest, are_in_force, is_stopping, is_looked_at}
-use Rattle.trace_rest.proofs.Rest.{Rest, at_rest, nil_parts, none_if, none_of, no_wish, idle_quiet}
+use Rattle.trace_rest.proofs.Rest.{Rest, at_rest, nil_parts, none_if, none_of, no_wish, idle_quiet, not_first}
 
 -- every child passes that no child fails
 all_from : (p : Child → Bool) (xs : List Child) → list_any (λ child. not (p child)) xs ≡ false → list_all p xs ≡ true
@@ -149,9 +149,6 @@ looks_at goal past sound h = all_from (is_looked_at past) (known_children past) 
         fails b None true own h = and_from (b && true) true (and_from b true own refl) refl
         fails b None false own h = absurd (false≢true h)
         fails b (Some ask) c own h = absurd (false≢true h)
-
-not_first : (goal : Goal) → AtRest goal [] → ⊥
-not_first goal h = cc
 
 pub rest_stopping : (goal : Goal) (later past : List Event) → is_sound goal (later ++ past) ≡ true → AtRest goal past → is_idle past ≡ true → list_all (is_stopping past) (kept_children past) ≡ true
 rest_stopping goal later past sound = at_moment goal (λ before. AtRest goal before → is_idle before ≡ true → list_all (is_stopping before) (kept_children before) ≡ true) (λ h. absurd (not_first goal h)) (stops_at goal) later past sound

@@ -61,14 +61,16 @@ pub fn law_of_rest()
     ensures stopping { AtEachRest (λ past. IsTrue (is_idle past)
         → IsTrue (list_all (is_stopping past) (kept_children past))) }
     // each known child was looked at since the last round began, or an order of its id is open
-    ensures looked { AtEachRest (λ past. IsTrue (list_all (is_looked_at past) (known_children past))) }
+    ensures looked { AtEachRest (λ past.
+        IsTrue (list_all (is_looked_at past) (known_children past))) }
     // and of each core that fits the trace: it decides on Idle there, and nowhere else
     ensures idle { (core : CoreState) → OnEachTrace core (λ goal past.
         (decide core ≡ Idle → AtRest goal past) × (AtRest goal past → decide core ≡ Idle)) }
     // the converse: while a level is announced no kept child is excluded, and none is awaited but those of entries that
     // news of the power calls
     ensures spared { AtEachMoment (λ past. IsTrue (is_announced past)
-        → IsTrue (in_run (stage_of past)) × (list_any (is_excluded past) (kept_children past) ≡ false)) }
+        → IsTrue (in_run (stage_of past))
+        × (list_any (is_excluded past) (kept_children past) ≡ false)) }
     ensures settled { AtEachMoment (λ past. IsTrue (is_announced past)
         → IsTrue (list_all (is_on_power past) (awaited_children past))) }
     // over a calm stretch, in which no stage is entered, no table comes and nothing is called, an entry that init waits
@@ -81,7 +83,8 @@ pub fn law_of_rest()
         → is_level_announced (between ++ past) ≡ false
         → IsTrue (list_any (is_waited_start past) between)) }
     // so after more such rounds than waited entries were to come at the first rest, the level is announced
-    ensures bound { (goal : Goal) (later : List Event) (rounds : List (List Event)) (past : List Event)
+    ensures bound { (goal : Goal) (later : List Event)
+        (rounds : List (List Event)) (past : List Event)
         → IsTrue (is_sound goal (later ++ after_rounds rounds past)) → AreRounds goal rounds past
         → to_come past < length rounds → IsTrue (is_level_announced (after_rounds rounds past)) }
 {}
