@@ -1,2 +1,3 @@
 pub mod Ended
 pub mod Noted
+pub mod Reported

@@ -1,5 +1,5 @@
--- What turns noted over a host that tells its calls, where their log told all happenings from the first on.
-use Rattle.std.proofs.Common.{◌≡◌, refl, sym, ◌∙◌, ap, subst, inl, inr, ◌⊎◌, ℕ, Bool, true, false, not, if◌then◌else◌, List, [], ◌++◌, reverse, Option, Some, IfSome}
+-- What turns noted over a host that tells its calls, and what their judge found.
+use Rattle.std.proofs.Common.{◌≡◌, refl, sym, ◌∙◌, ap, subst, inl, inr, ◌⊎◌, ℕ, Bool, true, false, not, if◌then◌else◌, List, [], ◌++◌, reverse, Option, Some, None, is_some, IfSome}
 use Rattle.std.proofs.lemmas.List.{append-nil, reverse-reverse}
 use Rattle.init_words.specs.declared.entries.Entry.{Entry}
 use Rattle.init_words.specs.declared.levels.Level.{Level}
@@ -17,14 +17,50 @@ use Rattle.supervisor.specs.declared.serving.Served.{Served}
 use Rattle.supervisor.specs.Opening.{Opens, opening_point}
 use Rattle.initd_options.specs.Options.{RunSaid}
 use Rattle.initd_command.specs.Turned.{ReportsEnd, end_status}
-use Rattle.initd_command.specs.Services.{IsNoted, IsServed, TurnsFrom, TurnsOver, end_of, noted_of}
+use Rattle.judged_log.specs.declared.judgements.Judgement.{Judgement}
+use Rattle.judged_log.specs.Judgements.{Finds}
+use Rattle.initd_command.specs.Services.{IsNoted, IsServed, TurnsFrom, TurnsOver, end_of, judgement_for, noted_of}
+
+-- what is told of the happenings that a log took are these happenings
+told_is : {L : Type 0} (notes : Notes L) (taken all : List Event) → told_of notes (Some taken) ≡ Some all → taken ≡ all
+told_is notes taken all is = by (are_noted notes (reverse taken)) is
+  where
+    by : (noted : Bool) → (if noted then Some taken else None) ≡ Some all → taken ≡ all
+    by true same = cc
+    by false same = absurd (cc)
+
+-- what is found of happenings, where they were to be judged
+abbrev IsFound : Option Judgement → List Event → Type 0
+IsFound judgement past = IfSome judgement (λ found. Finds found past)
+
+-- what was found of the happenings that came is found of the trace
+found_of_trace : {L : Type 0} (notes : Notes L) (came past : List Event) (judgement : Option Judgement)
+    → told_of notes (Some (reverse came)) ≡ Some (reverse past) → IsFound judgement came → IsFound judgement past
+found_of_trace notes came past judgement is found =
+    subst (IsFound judgement) (sym (reverse-reverse came) ∙ ap reverse (told_is notes (reverse came) (reverse past) is) ∙ reverse-reverse past) found
+
+-- where a run is to be judged, what was found counts
+pub found_for : (service : RunSaid) (found : Judgement) (past : List Event) → Finds found past → IfSome (judgement_for service found) (λ judgement. Finds judgement past)
+found_for service found past finds = by service.judge
+  where
+    by : (asked : Bool) → IfSome (if asked then Some found else None) (λ judgement. Finds judgement past)
+    by true = finds
+    by false = tt
+
+pub judged_for : (service : RunSaid) (found : Judgement) → is_some (judgement_for service found) ≡ service.judge
+judged_for service found = by service.judge
+  where
+    by : (asked : Bool) → is_some (if asked then Some found else None) ≡ asked
+    by true = refl
+    by false = refl
 
 -- notes of a log that told this trace are notes of it
-noted_of_trace : {L : Type 0} (notes : Notes L) (told : Option (List Event)) (past : List Event) → told_of notes told ≡ Some (reverse past)
-    → IsNoted (noted_of notes) past
-noted_of_trace notes told past is = record {
+noted_of_trace : {L : Type 0} (notes : Notes L) (judgement : Option Judgement) (told : Option (List Event)) (past : List Event)
+    → told_of notes told ≡ Some (reverse past) → IfSome judgement (λ found. Finds found past) → IsNoted (noted_of notes judgement) past
+noted_of_trace notes judgement told past is finds = record {
   births = births_noted notes past noted;
   last = λ id. known id notes.complete refl;
+  judgement = finds;
 }
   where
     noted : are_noted notes past ≡ true
@@ -50,24 +86,32 @@ not_so true h = sym h
 not_so false h = refl
 
 -- and the log was ended behind it: what was noted stays, and it took the trace whole only where it had before
-pub turns_over : {L : Type 0} (notes now : Notes L) (inner old : LogState) (service : RunSaid) (level : Option Level) (table : List Entry) (served ended : Served) (status : ℕ)
-    (told now_told : Option (List HostCall)) (err now_err : Option (List ℕ)) → now ≡ record notes { log = now.log } → ended ≡ record served { logged = ended.logged } → (ended.logged ≡ true → served.logged ≡ true)
-    → old.taken ≡ Some [] → served.logged ≡ not inner.failed → IsServed service served
-    → status ≡ end_status (end_of service (noted_of now) ended) → ReportsEnd (end_of service (noted_of now) ended) err now_err
-    → Opens told now_told old (notes_state notes inner) level table service.drain served.turns served.drained
+pub turns_over : {L : Type 0} (notes now : Notes L) (came : List Event) (failed : Bool) (judgement : Option Judgement) (old : LogState) (service : RunSaid) (level : Option Level)
+    (table : List Entry) (served ended : Served) (status : ℕ) (told now_told : Option (List HostCall)) (err now_err : Option (List ℕ))
+    → now ≡ record notes { log = now.log } → ended ≡ record served { logged = ended.logged } → (ended.logged ≡ true → served.logged ≡ true)
+    → old.taken ≡ Some [] → served.logged ≡ not failed → IsServed service served
+    → is_some judgement ≡ service.judge → IfSome judgement (λ found. Finds found came)
+    → status ≡ end_status (end_of service (noted_of now judgement) ended)
+    → ReportsEnd (end_of service (noted_of now judgement) ended) err now_err
+    → Opens told now_told old (notes_state notes (record { taken = Some (reverse came); failed = failed })) level table service.drain served.turns served.drained
     → Since told now_told (λ calls. TurnsFrom level table calls (TurnsOver service status err now_err))
-turns_over notes now inner old service level table served ended status told now_told err now_err kept goes whole none logged limits is reports (calls, are_told, (turns, leads)) = (
-  calls,
-  are_told,
-  λ allowed carried.
-      let went = (leads allowed).1 carried in
-      let past = (point_after calls (opening_point table)).past in
-      let noted : noted_of now ≡ noted_of notes = ap noted_of kept in (
-        ended,
-        noted_of now,
-        is,
-        subst (IsServed service) (sym goes) limits,
-        (λ all. subst (λ n. IsNoted n past) (sym noted) (noted_of_trace notes inner.taken past (taken_all old (notes_state notes inner) past went.log none (not_so inner.failed (sym logged ∙ whole all))))),
-        reports,
-      ),
-)
+turns_over notes now came failed judgement old service level table served ended status told now_told err now_err kept goes whole none logged limits asked found is reports (calls, are_told, (turns, leads)) =
+    let state : LogState = record { taken = Some (reverse came); failed = failed } in (
+      calls,
+      are_told,
+      λ allowed carried.
+          let went = (leads allowed).1 carried in
+          let past = (point_after calls (opening_point table)).past in
+          let noted : noted_of now judgement ≡ noted_of notes judgement = ap (λ n. noted_of n judgement) kept in (
+            ended,
+            noted_of now judgement,
+            is,
+            subst (IsServed service) (sym goes) limits,
+            asked,
+            (λ all.
+                let taken = taken_all old (notes_state notes state) past went.log none (not_so failed (sym logged ∙ whole all)) in
+                subst (λ n. IsNoted n past) (sym noted)
+                (noted_of_trace notes judgement (Some (reverse came)) past taken (found_of_trace notes came past judgement taken found))),
+            reports,
+          ),
+    )

@@ -1,6 +1,6 @@
 -- How a run over the operating system ends. Its host tells nothing of what was asked of it, so this is what is written,
 -- and how the exit status follows from what ended the turns.
-use Rattle.std.specs.Prelude.{◌≡◌, ◌≤◌, ◌<◌, ◌⊎◌, ◌&&◌, ◌==◌, min, if◌then◌else◌, ℕ, Bool, true, false, List, [], ◌∷◌, string_bytes, Option, Some, None, option_map, is_none, unwrap_or, IsSome, IsTrue, ⊤}
+use Rattle.std.specs.Prelude.{◌≡◌, ◌≤◌, ◌<◌, ◌⊎◌, ◌&&◌, ◌==◌, min, if◌then◌else◌, ℕ, Bool, true, false, List, [], ◌∷◌, string_bytes, Option, Some, None, option_map, is_none, is_some, unwrap_or, IfSome, IsSome, IsTrue, ⊤}
 use Rattle.std.specs.Io.KnownBytes.{Appends, Keeps}
 use Rattle.program_io.specs.Writing.{AppendsPrefix}
 use Rattle.path_texts.specs.Known.{IsTextAt, KnownTexts}
@@ -9,6 +9,8 @@ use Rattle.inittab_text.specs.Parts.{AreTooLong, AreTooMany, are_readable, fault
 use Rattle.inittab_text.specs.Tables.{default_level_of}
 use Rattle.init_words.specs.declared.entries.Entry.{Entry}
 use Rattle.init_words.specs.declared.levels.Level.{Level}
+use Rattle.judged_log.specs.declared.judgements.Judgement.{Judgement}
+use Rattle.judged_log.specs.Judgements.{Finds}
 use Rattle.run_notes.specs.declared.LastEnd.{LastEnd}
 use Rattle.run_notes.specs.declared.LastEnd.TheVariants.{Unnoted}
 use Rattle.run_notes.specs.declared.TheConstants.{BIRTHS_LIMIT}
@@ -36,18 +38,24 @@ is_unled (Some level) table = false
 is_unled None table = is_none (default_level_of table)
 
 -- what is noted of a run: how many children were born, how the last child of an id ended, and the children that go on,
--- where all of them are known
+-- where all of them are known; and what was found of it, where it was to be judged
 pub record Noted : Type 0 where
   pub births : ℕ
   pub last : List ℕ → LastEnd
   pub running : Option (List (List ℕ × ℕ))
+  pub judgement : Option Judgement
 
-abbrev pub noted_of : {L : Type 0} → Notes L → Noted
-noted_of notes = record {
+abbrev pub noted_of : {L : Type 0} → Notes L → Option Judgement → Noted
+noted_of notes judgement = record {
   births = notes.births;
   last = λ id. last_noted id notes;
   running = if notes.complete then Some notes.running else None;
+  judgement = judgement;
 }
+
+-- what was found counts where the run was to be judged
+abbrev pub judgement_for : RunSaid → Judgement → Option Judgement
+judgement_for service judgement = if service.judge then Some judgement else None
 
 -- the end of an entry, where the run has an entry's result
 abbrev pub entry_end : (List ℕ → LastEnd) → Option (List ℕ) → Option EntryEnd
@@ -55,9 +63,9 @@ entry_end last entry = option_map (λ id. record { id = id; last = last id }) en
 
 -- how turns end: the trace was written whole or not, and the run was to end where it is drained, and is
 abbrev pub end_at : RunSaid → Noted → Bool → Bool → End
-end_at service noted false _ = unlogged
-end_at service noted true true = drained (noted.births == 0) (entry_end noted.last service.result)
-end_at service noted true false = limited noted.running
+end_at service noted false _ = unlogged noted.judgement
+end_at service noted true true = drained (noted.births == 0) (entry_end noted.last service.result) noted.judgement
+end_at service noted true false = limited noted.running noted.judgement
 
 abbrev pub end_of : RunSaid → Noted → Served → End
 end_of service noted served = end_at service noted served.logged (service.drain && served.drained)
@@ -68,9 +76,15 @@ IsServed service served =
     (served.turns ≤ service.turns)
     × (served.turns < service.turns → (service.drain ≡ true) × (served.drained ≡ true))
 
+-- something was found of the run just where it was to be judged
+abbrev pub IsJudged : RunSaid → Noted → Type 0
+IsJudged service noted = is_some noted.judgement ≡ service.judge
+
 -- turns were made that ended so
 abbrev pub EndsServed : RunSaid → End → Type 0
-EndsServed service end = (served : Served) × (noted : Noted) × (end ≡ end_of service noted served) × IsServed service served
+EndsServed service end =
+    (served : Served) × (noted : Noted) × (end ≡ end_of service noted served) × IsServed service served
+    × IsJudged service noted
 
 -- turns were made, with this exit status, and this was reported of their end
 abbrev pub Turns : RunSaid → ℕ → Option (List ℕ) → Option (List ℕ) → Type 0
@@ -81,12 +95,13 @@ Turns service status old new =
 pub record IsNoted (noted : Noted) (past : List Event) : Type 0 where
   pub births : noted.births ≡ min (births past) BIRTHS_LIMIT
   pub last : (id : List ℕ) → (noted.last id ≡ Unnoted) ⊎ (noted.last id ≡ last_of (last_end id past))
+  pub judgement : IfSome noted.judgement (λ judgement. Finds judgement past)
 
 -- the same of turns that made this trace: where it was taken whole, what is noted is noted of it
 abbrev pub TurnsOver : RunSaid → ℕ → Option (List ℕ) → Option (List ℕ) → List Event → Type 0
 TurnsOver service status old new past =
     (served : Served) × (noted : Noted) × (status ≡ end_status (end_of service noted served)) × IsServed service served
-    × (served.logged ≡ true → IsNoted noted past) × ReportsEnd (end_of service noted served) old new
+    × IsJudged service noted × (served.logged ≡ true → IsNoted noted past) × ReportsEnd (end_of service noted served) old new
 
 -- the same over a host that tells the calls that were made of it, where they are those of an opening
 abbrev pub TurnsFrom : Option Level → List Entry → List HostCall → (List Event → Type 0) → Type 0

@@ -1,12 +1,15 @@
 -- How the turns of a run ended: its exit status, and what is reported.
-use Rattle.std.specs.Prelude.{◌⊎◌, ℕ, Bool, true, false, List, [], ◌∷◌, ◌++◌, codes, decimal, Option, Some, None}
+use Rattle.std.specs.Prelude.{◌⊎◌, ◌||◌, ◌==◌, if◌then◌else◌, unwrap_or, ℕ, Bool, true, false, List, [], ◌∷◌, ◌++◌, codes, decimal, Option, Some, None}
 use Rattle.std.specs.Io.KnownBytes.{Keeps}
 use Rattle.program_io.specs.Writing.{AppendsPrefix}
-use Rattle.program_io.specs.declared.statuses.TheConstants.{DONE, LIMIT_REACHED, DEVICE_FAULT}
+use Rattle.program_io.specs.declared.statuses.TheConstants.{DONE, UNLAWFUL, LIMIT_REACHED, DEVICE_FAULT}
 use Rattle.init_words.specs.declared.children.Status.TheVariants.{Exit, Killed}
+use Rattle.judged_log.specs.declared.judgements.Judgement.{Judgement}
+use Rattle.judged_log.specs.declared.judgements.Judgement.TheVariants.{Lawful, Breach, Unjudged}
 use Rattle.run_notes.specs.declared.LastEnd.{LastEnd}
+use Rattle.trace_check.specs.Laws.{law_words}
 use Rattle.run_notes.specs.declared.LastEnd.TheVariants.{Ended, Never, Unnoted}
-use Rattle.initd_command.specs.declared.ends.TheConstants.{IDLE, KILLED, LIMITED, UNLOGGED, UNNAMED, UNNOTED}
+use Rattle.initd_command.specs.declared.ends.TheConstants.{IDLE, KILLED, LIMITED, UNJUDGED, UNLOGGED, UNNAMED, UNNOTED}
 use Rattle.initd_command.specs.declared.reports.TheConstants.{NO_MEMORY}
 
 -- The entry whose result the run's is, and how its last child that ended did so.
@@ -16,11 +19,11 @@ pub record EntryEnd : Type 0 where
 
 -- it ended drained, and nothing was started or something was, with an entry's result or without one; it made all its
 -- turns, and these children with their numbers go on, or there was no memory to note them all; or its trace was not
--- written whole
+-- written whole; with what was found of it, where it was to be judged
 pub data End : Type 0 where
-  drained : Bool → Option EntryEnd → End
-  limited : Option (List (List ℕ × ℕ)) → End
-  unlogged : End
+  drained : Bool → Option EntryEnd → Option Judgement → End
+  limited : Option (List (List ℕ × ℕ)) → Option Judgement → End
+  unlogged : Option Judgement → End
 
 -- an entry's result as an exit status
 abbrev pub result_status : LastEnd → ℕ
@@ -33,10 +36,28 @@ abbrev pub drained_status : Option EntryEnd → ℕ
 drained_status None = DONE
 drained_status (Some entry) = result_status entry.last
 
+-- a breach, and that not all was judged, as an exit status
+abbrev pub judgement_status : Judgement → Option ℕ
+judgement_status (Lawful count) = None
+judgement_status (Breach place law) = Some UNLAWFUL
+judgement_status Unjudged = Some DEVICE_FAULT
+
+-- the exit status of turns that would have this one: what was found of them stands in place of 0, and of the limit
+abbrev pub judged_status : Option Judgement → ℕ → ℕ
+judged_status None status = status
+judged_status (Some judgement) status =
+    if status == DONE || status == LIMIT_REACHED then unwrap_or (judgement_status judgement) status else status
+
+-- the exit status of how turns ended, whatever was found of them
+abbrev pub turns_status : End → ℕ
+turns_status (drained idle result judgement) = drained_status result
+turns_status (limited running judgement) = LIMIT_REACHED
+turns_status (unlogged judgement) = DEVICE_FAULT
+
 abbrev pub end_status : End → ℕ
-end_status (drained idle result) = drained_status result
-end_status (limited running) = LIMIT_REACHED
-end_status unlogged = DEVICE_FAULT
+end_status (drained idle result judgement) = judged_status judgement (drained_status result)
+end_status (limited running judgement) = judged_status judgement LIMIT_REACHED
+end_status (unlogged judgement) = DEVICE_FAULT
 
 -- how the last child of an entry ended
 abbrev pub last_text : LastEnd → List ℕ
@@ -60,6 +81,21 @@ listed_after front (child ∷ children) = front ++ (child_text child ++ listed_a
 abbrev pub running_text : List (List ℕ × ℕ) → List ℕ
 running_text children = listed_after (codes "initd: still running: ") children ++ codes "\n"
 
+-- that so many happenings broke no law: those of the whole run, or those up to where its log failed
+abbrev pub lawful_text : Bool → ℕ → List ℕ
+lawful_text true count = codes "initd: the run was lawful: " ++ (decimal count ++ codes " happenings\n")
+lawful_text false count = codes "initd: it was lawful up to there: " ++ (decimal count ++ codes " happenings\n")
+
+abbrev pub breach_text : ℕ → List ℕ → List ℕ
+breach_text place why =
+    codes "initd: the run was unlawful: happening " ++ (decimal place ++ (codes ": " ++ (why ++ codes "\n")))
+
+-- what was found of a run, which was logged whole or not, as it is reported
+abbrev pub judgement_text : Bool → Judgement → List ℕ
+judgement_text whole (Lawful count) = lawful_text whole count
+judgement_text whole (Breach place law) = breach_text place (law_words law)
+judgement_text whole Unjudged = UNJUDGED.now
+
 -- the text is reported, as far as the writer takes it, or that there was no memory for it
 abbrev pub ReportsText : List ℕ → Option (List ℕ) → Option (List ℕ) → Type 0
 ReportsText text old new = AppendsPrefix old new text ⊎ AppendsPrefix old new NO_MEMORY.now
@@ -79,10 +115,25 @@ ReportsRunning None old new = AppendsPrefix old new UNNAMED.now
 ReportsRunning (Some []) old new = Keeps old new
 ReportsRunning (Some (child ∷ children)) old new = ReportsText (running_text (child ∷ children)) old new
 
+-- what is reported of a run that was to be judged
+abbrev pub ReportsJudgement : Bool → Option Judgement → Option (List ℕ) → Option (List ℕ) → Type 0
+ReportsJudgement whole None old new = Keeps old new
+ReportsJudgement whole (Some judgement) old new = ReportsText (judgement_text whole judgement) old new
+
+-- what is reported of how turns ended
+abbrev pub ReportsTurns : End → Option (List ℕ) → Option (List ℕ) → Type 0
+ReportsTurns (drained idle result judgement) old new =
+    (mid : Option (List ℕ)) × ReportsIdle idle old mid × ReportsResult result mid new
+ReportsTurns (limited running judgement) old new =
+    (mid : Option (List ℕ)) × AppendsPrefix old mid LIMITED.now × ReportsRunning running mid new
+ReportsTurns (unlogged judgement) old new = AppendsPrefix old new UNLOGGED.now
+
+-- what is reported of what was found of them
+abbrev pub ReportsFound : End → Option (List ℕ) → Option (List ℕ) → Type 0
+ReportsFound (drained idle result judgement) old new = ReportsJudgement true judgement old new
+ReportsFound (limited running judgement) old new = ReportsJudgement true judgement old new
+ReportsFound (unlogged judgement) old new = ReportsJudgement false judgement old new
+
 -- what is reported of an end
 abbrev pub ReportsEnd : End → Option (List ℕ) → Option (List ℕ) → Type 0
-ReportsEnd (drained idle result) old new =
-    (mid : Option (List ℕ)) × ReportsIdle idle old mid × ReportsResult result mid new
-ReportsEnd (limited running) old new =
-    (mid : Option (List ℕ)) × AppendsPrefix old mid LIMITED.now × ReportsRunning running mid new
-ReportsEnd unlogged old new = AppendsPrefix old new UNLOGGED.now
+ReportsEnd end old new = (mid : Option (List ℕ)) × ReportsTurns end old mid × ReportsFound end mid new

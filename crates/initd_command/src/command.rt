@@ -20,7 +20,7 @@ use std::rt::{Clock, Files};
 /// What standard error gets of words that are no command line, after a line that says why.
 pub const USAGE: &str =
     "usage: initd run [--inittab P] [--inittab-dir DIR] [--initctl P] [--fresh] [--state P]
-                 [--trace P [--brief]] [--level L] [--turns N | --forever] [--drain]
+                 [--trace P [--brief]] [--judge] [--level L] [--turns N | --forever] [--drain]
                  [--pause SEC] [--result ID] [--verbose] [--logs DIR]
        initd simulate [--level L] TABLE SCRIPT
        initd check TRACE
@@ -34,6 +34,8 @@ pub const USAGE: &str =
              initd.state where it is left out
   --trace    the file that the trace of the run is written to; none where it is left out
   --brief    leave looks that found nothing and idle rounds out of the trace
+  --judge    judge each happening while the run goes on, as check judges a trace, and tell a breach
+             at once; the run ends with 2 then, in place of 0 or 3
   --turns    the greatest number of turns, 1 to 1000000000; 1000000 where it is left out
   --forever  no limit of turns; not with --turns
   --drain    end where nothing is left to do and nothing runs
@@ -55,11 +57,11 @@ pub const USAGE: &str =
 const UNVERSIONED: &str = "initd: the version could not be written\n";
 
 /// Runs initd on a command line without the program's name, and gives its exit status: 0 where it was carried out, 1
-/// where the words, the inittab, the script or the lines of a trace are refused, 2 where a trace is unlawful, 3 where a
-/// run used up its turns, 4 where a file can't be read, the channel is in use, the trace or the output fails or memory
-/// runs out; of a run with `--result` that ends drained, the last status of that entry. The trace of a simulated run,
-/// the verdict on a trace, the faults of the inittab of a run or the version are written on `out`, and a fault is
-/// reported on `err`.
+/// where the words, the inittab, the script or the lines of a trace are refused, 2 where a trace, or a run with
+/// `--judge`, is unlawful, 3 where a run used up its turns, 4 where a file can't be read, the channel is in use, the
+/// trace or the output fails or memory runs out; of a run with `--result` that ends drained, the last status of that
+/// entry. The trace of a simulated run, the verdict on a trace, the faults of the inittab of a run or the version are
+/// written on `out`, and a fault is reported on `err`.
 pub fn run_words<R, T, W, E>(
     rt: &R,
     texts: &T,

@@ -1,13 +1,14 @@
-ghost use Rattle.std.specs.Prelude.{◌≡◌, ◌++◌, ℕ, List, Some, string_bytes, IfOk, OnOk};
+ghost use Rattle.std.specs.Prelude.{◌≡◌, ◌++◌, ◌&&◌, ℕ, List, None, Some, string_bytes, true, IfOk, OnOk};
 ghost use Rattle.initd_options.specs.Options.{run_of};
-ghost use Rattle.initd_command.specs.Services.{end_of, entry_end, noted_of};
-ghost use Rattle.initd_command.specs.Turned.{ReportsEnd, ReportsIdle, ReportsResult, ReportsRunning, ReportsText, child_text, drained_status, end_status, last_text, result_status, result_text, running_text};
+ghost use Rattle.initd_command.specs.Services.{end_at, end_of, entry_end, noted_of};
+ghost use Rattle.initd_command.specs.Turned.{ReportsEnd, ReportsIdle, ReportsJudgement, ReportsResult, ReportsRunning, ReportsText, ReportsTurns, breach_text, child_text, drained_status, end_status, judged_status, judgement_text, last_text, lawful_text, result_status, result_text, running_text, turns_status};
 
-use crate::reports::{report, report_lines};
+use crate::reports::{report, report_lines, report_made};
 use init_words::{ChildNo, Id, Status};
 use initd_options::RunWords;
 use itoa::Buffer;
-use program_io::{DEVICE_FAULT, DONE, LIMIT_REACHED};
+use judged_log::Judgement;
+use program_io::{DEVICE_FAULT, DONE, LIMIT_REACHED, UNLAWFUL};
 use run_notes::{LastEnd, Numbers, RunNotes};
 use std::alloc::{AllocError, Global};
 use std::io::Write;
@@ -29,6 +30,9 @@ const UNNAMED: &str = "initd: there was no memory to name all children that go o
 /// What is reported behind an id whose ends were not all noted.
 const UNNOTED: &str = ": there was no memory to note how it ended\n";
 
+/// What is reported of a run whose judge had no memory to judge it to its end.
+const UNJUDGED: &str = "initd: there was no memory to judge the run to its end\n";
+
 /// The exit status of a run whose entry's last child was killed.
 const KILLED: u8 = 137;
 
@@ -38,17 +42,38 @@ pub(crate) fn report_end<L: Log, E: Write>(
     said: &RunWords,
     served: &Served,
     notes: &RunNotes<L>,
+    judgement: Option<Judgement>,
     err: &mut E,
 ) -> u8
     ensures status { result
-        ≡ end_status (end_of (run_of said.now) (noted_of notes.now) served.now) }
-    ensures reported { ReportsEnd (end_of (run_of said.now) (noted_of notes.now) served.now)
-        (E.contents err.old) (E.contents err.new) }
+        ≡ end_status (end_of (run_of said.now) (noted_of notes.now judgement) served.now) }
+    ensures reported { ReportsEnd (end_of (run_of said.now) (noted_of notes.now judgement)
+        served.now) (E.contents err.old) (E.contents err.new) }
 {
     if !served.logged {
         report(UNLOGGED, err);
+        report_judgement(alloc, false, judgement, err);
         return DEVICE_FAULT;
     }
+    let status = report_turns(alloc, said, served, notes, err);
+    report_judgement(alloc, true, judgement, err);
+    judged_status(judgement, status)
+}
+
+/// Reports how turns ended whose log took the whole trace, and gives the exit status that they have by themselves.
+fn report_turns<L: Log, E: Write>(
+    alloc: Global,
+    said: &RunWords,
+    served: &Served,
+    notes: &RunNotes<L>,
+    err: &mut E,
+) -> u8
+    ensures status { result
+        ≡ turns_status (end_at (run_of said.now) (noted_of notes.now None) true
+        ((run_of said.now).drain && served.now.drained)) }
+    ensures reported { ReportsTurns (end_at (run_of said.now) (noted_of notes.now None) true
+        ((run_of said.now).drain && served.now.drained)) (E.contents err.old) (E.contents err.new) }
+{
     if said.drain && served.drained {
         report_idle(notes.births() == 0, err);
         return report_result(alloc, said.result, notes, err);
@@ -56,6 +81,55 @@ pub(crate) fn report_end<L: Log, E: Write>(
     report(LIMITED, err);
     report_running(alloc, notes, err);
     LIMIT_REACHED
+}
+
+/// The exit status of turns that have this one by themselves: what was found of them stands in place of 0 and of the
+/// limit.
+fn judged_status(judgement: Option<Judgement>, status: u8) -> u8
+    ensures { result ≡ judged_status judgement status }
+{
+    if status != DONE && status != LIMIT_REACHED {
+        return status;
+    }
+    match judgement {
+        Some(Judgement::Breach(_, _)) => UNLAWFUL,
+        Some(Judgement::Unjudged) => DEVICE_FAULT,
+        Some(Judgement::Lawful(_)) | None => status,
+    }
+}
+
+/// Reports what was found of a run that was to be judged, and was logged whole or up to where the log failed.
+fn report_judgement<E: Write>(alloc: Global, whole: bool, judgement: Option<Judgement>, err: &mut E)
+    ensures { ReportsJudgement whole judgement (E.contents err.old) (E.contents err.new) }
+{
+    if let Some(judgement) = judgement {
+        report_made(judgement_text(alloc, whole, judgement), err);
+    }
+}
+
+fn judgement_text(alloc: Global, whole: bool, judgement: Judgement) -> Result<String, AllocError>
+    ensures { IfOk result (λ text. string_bytes text ≡ judgement_text whole judgement) }
+{
+    match judgement {
+        Judgement::Lawful(count) => lawful_text(alloc, whole, count),
+        Judgement::Breach(place, law) => breach_text(alloc, place, law.words()),
+        Judgement::Unjudged => String::from_str(alloc, UNJUDGED),
+    }
+}
+
+fn lawful_text(alloc: Global, whole: bool, count: u64) -> Result<String, AllocError>
+    ensures { IfOk result (λ text. string_bytes text ≡ lawful_text whole count) }
+{
+    if whole {
+        return format!(in alloc; "initd: the run was lawful: {count} happenings\n");
+    }
+    format!(in alloc; "initd: it was lawful up to there: {count} happenings\n")
+}
+
+fn breach_text(alloc: Global, place: u64, why: &str) -> Result<String, AllocError>
+    ensures { IfOk result (λ text. string_bytes text ≡ breach_text place why.now) }
+{
+    format!(in alloc; "initd: the run was unlawful: happening {place}: {why}\n")
 }
 
 /// Reports that nothing was started, where that is so.
@@ -74,8 +148,8 @@ fn report_result<L: Log, E: Write>(
     notes: &RunNotes<L>,
     err: &mut E,
 ) -> u8
-    ensures status { result ≡ drained_status (entry_end (noted_of notes.now).last entry) }
-    ensures reported { ReportsResult (entry_end (noted_of notes.now).last entry)
+    ensures status { result ≡ drained_status (entry_end (noted_of notes.now None).last entry) }
+    ensures reported { ReportsResult (entry_end (noted_of notes.now None).last entry)
         (E.contents err.old) (E.contents err.new) }
 {
     let Some(id) = entry else {
@@ -121,7 +195,7 @@ fn last_text(alloc: Global, last: LastEnd) -> Result<String, AllocError>
 
 /// Reports the children that go on, where there are any, or that there was no memory to note them all.
 fn report_running<L: Log, E: Write>(alloc: Global, notes: &RunNotes<L>, err: &mut E)
-    ensures { ReportsRunning (noted_of notes.now).running (E.contents err.old)
+    ensures { ReportsRunning (noted_of notes.now None).running (E.contents err.old)
         (E.contents err.new) }
 {
     match notes.running() {

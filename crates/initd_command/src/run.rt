@@ -8,7 +8,7 @@ ghost use Rattle.child_host.specs.Record.{Since};
 ghost use Rattle.supervisor.specs.Opening.{IsOpeningOf};
 ghost use Rattle.os_host.specs.LineFaults.{faults_text};
 ghost use Rattle.initd_options.specs.Options.{run_of};
-ghost use Rattle.initd_command.specs.Services.{AreFiles, EndsRun, EndsTold, FailsBy, FailsOn, FailsOver, FailsToGet, FailsToLock, FailsToRead, HasInittab, IsInittab, IsOfFault, IsReadOf, Turns, TurnsFrom, TurnsOver, is_unled};
+ghost use Rattle.initd_command.specs.Services.{AreFiles, EndsRun, EndsTold, FailsBy, FailsOn, FailsOver, FailsToGet, FailsToLock, FailsToRead, HasInittab, IsInittab, IsOfFault, IsReadOf, Turns, TurnsFrom, TurnsOver, is_unled, judgement_for};
 
 use crate::ends::report_end;
 use crate::logs::{FileLog, LoudLog, NoLog};
@@ -22,6 +22,7 @@ use child_host::Host;
 use init_words::{Level, Memory, Part};
 use initd_options::RunWords;
 use inittab_text::{Table, TableFault, read_parts};
+use judged_log::{JudgedLog, Judgement};
 use os_host::{FolderFault, OsHost, faults_text, with_folder};
 use path_texts::Texts;
 use program_io::DEVICE_FAULT;
@@ -383,14 +384,14 @@ where
     ensures { Turns (run_of said.now) result (E.contents err.old) (E.contents err.new) }
 {
     let Some(file) = trace else {
-        return make_turns(alloc, said, opening, &mut host, NoLog {}, err);
+        return make_turns(rt, alloc, said, opening, &mut host, NoLog {}, err);
     };
     let log = FileLog::new(rt, alloc, trace_of(said), file);
     let log = LoudLog { rt, log };
     if said.brief {
-        return make_turns(alloc, said, opening, &mut host, BriefLog::new(log), err);
+        return make_turns(rt, alloc, said, opening, &mut host, BriefLog::new(log), err);
     }
-    make_turns(alloc, said, opening, &mut host, log, err)
+    make_turns(rt, alloc, said, opening, &mut host, log, err)
 }
 
 /// Reports that nothing names a level, where that is so.
@@ -403,8 +404,10 @@ fn report_unled<E: Write>(is_unled: bool, err: &mut E)
 }
 
 /// Makes the turns of a run, from its opening on, and reports how they ended: the exit status is 0, or that of the
-/// entry whose result the run's is, where it ended drained, 3 at the limit of turns, and 4 where the log failed.
-pub fn make_turns<H: Host, L: Log, E: Write>(
+/// entry whose result the run's is, where it ended drained, 3 at the limit of turns, and 4 where the log failed. A run
+/// that is judged and breaks a law has 2 in place of 0 and 3, and 4 where memory ran out for the judge.
+pub fn make_turns<R: Eprint, H: Host, L: Log, E: Write>(
+    rt: &R,
     alloc: Global,
     said: &RunWords,
     opening: Opening,
@@ -416,14 +419,29 @@ where
     L: Drop,
     ensures turns { Turns (run_of said.now) result (E.contents err.old) (E.contents err.new) }
     ensures told { (level : Option Level) (table : List Entry) → IsOpeningOf level table opening
-        → (L.state log).taken ≡ Some []
         → Since (H.told host.old) (H.told host.new) (λ calls. TurnsFrom level table calls
         (TurnsOver (run_of said.now) result (E.contents err.old) (E.contents err.new))) }
 {
-    let mut notes = RunNotes::new(alloc, log);
+    let judged = JudgedLog::new(rt, alloc, log, said.judge);
+    let mut notes = RunNotes::new(alloc, judged);
     let served = opening.serve(alloc, host, &mut notes, said.turns, said.drain);
+    let found = notes.log().judgement();
     let served = end_log(&mut notes, served);
-    report_end(alloc, said, &served, &notes, err)
+    report_end(
+        alloc,
+        said,
+        &served,
+        &notes,
+        judgement_for(said, found),
+        err,
+    )
+}
+
+/// What was found of a run, where it was to be judged.
+fn judgement_for(said: &RunWords, found: Judgement) -> Option<Judgement>
+    ensures { result ≡ judgement_for (run_of said.now) found }
+{
+    if said.judge { Some(found) } else { None }
 }
 
 /// Ends the log of turns that were made. Where it can't hand on what it holds back, the trace isn't whole.

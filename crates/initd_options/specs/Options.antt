@@ -1,6 +1,6 @@
 -- The command line `initd run [--inittab P] [--inittab-dir DIR] [--initctl P] [--fresh] [--state P] [--trace P
--- [--brief]] [--level L] [--turns N | --forever] [--drain] [--pause SEC] [--result ID] [--verbose] [--logs DIR]`, by
--- clap's own words, and what it says.
+-- [--brief]] [--judge] [--level L] [--turns N | --forever] [--drain] [--pause SEC] [--result ID] [--verbose]
+-- [--logs DIR]`, by clap's own words, and what it says.
 use Rattle.std.specs.Prelude.{ℕ, Bool, true, false, ◌+◌, ◌-◌, ◌*◌, ◌&&◌, if◌then◌else◌, nat_lt, nat_le, List, [], ◌∷◌, codes, Option, Some, None, option_and_then, option_map, string_bytes}
 use Rattle.std.specs.Char.{is_ascii_digit}
 use Rattle.clap.specs.Words.{App, Row, Text, first_of, new_app}
@@ -30,6 +30,7 @@ run_line = with_rules (new_app (codes "run")) (
     ∷ value_rule (codes "logs")
     ∷ value_rule (codes "inittab-dir")
     ∷ switch_rule (codes "brief")
+    ∷ switch_rule (codes "judge")
     ∷ [])
 
 -- a number of turns: 1 to the limit
@@ -100,9 +101,10 @@ brief_said rows = brief_in (is_set (codes "brief") rows) (first_of (codes "trace
 
 -- The paths of the inittab, of the folder of its further files, if it is given, of the channel of requests and of the
 -- text of init's state; whether the requests that the channel has already are left out; the path of the trace, if
--- it is given, and whether it is brief; the level to go to, if it is given; the greatest number of turns; whether the run ends where it is drained; the seconds
--- of a pause; the entry whose last status is the run's, if one is given; whether each start and end is told; and the
--- folder of the children's output, if it is given.
+-- it is given, and whether it is brief; whether each happening is judged; the level to go to, if it is given; the
+-- greatest number of turns; whether the run ends where it is drained; the seconds of a pause; the entry whose last
+-- status is the run's, if one is given; whether each start and end is told; and the folder of the children's output,
+-- if it is given.
 pub record RunSaid : Type 0 where
   pub inittab : Text
   pub inittab_dir : Option Text
@@ -111,6 +113,7 @@ pub record RunSaid : Type 0 where
   pub state : Text
   pub trace : Option Text
   pub brief : Bool
+  pub judge : Bool
   pub level : Option Level
   pub turns : ℕ
   pub drain : Bool
@@ -128,6 +131,7 @@ run_of said = record {
   state = string_bytes said.state;
   trace = option_map (λ (path : _). string_bytes path) said.trace;
   brief = said.brief;
+  judge = said.judge;
   level = said.level;
   turns = said.turns;
   drain = said.drain;
@@ -147,6 +151,7 @@ service_with rows level turns pause result brief = record {
   state = value_said (codes "state") rows;
   trace = first_of (codes "trace") rows;
   brief = brief;
+  judge = is_set (codes "judge") rows;
   level = level;
   turns = turns;
   drain = is_set (codes "drain") rows;

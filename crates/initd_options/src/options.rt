@@ -29,6 +29,8 @@ pub struct RunWords {
     pub trace: Option<String>,
     /// The trace is brief: rounds in which nothing happened are left out of it.
     pub brief: bool,
+    /// Each happening is judged by the laws of traces while the run goes on.
+    pub judge: bool,
     /// The runlevel to go to, where one is given.
     pub level: Option<Level>,
     /// The greatest number of turns; without a limit it is `u64::MAX`.
@@ -79,7 +81,8 @@ pub(crate) fn run_line<'a>(alloc: Global) -> Result<Command<'a>, AllocError>
     let line = with_switch(alloc, line, "verbose")?;
     let line = with_value(alloc, line, "logs")?;
     let line = with_value(alloc, line, "inittab-dir")?;
-    with_switch(alloc, line, "brief")
+    let line = with_switch(alloc, line, "brief")?;
+    with_switch(alloc, line, "judge")
 }
 
 /// What the words after `run` say.
@@ -102,6 +105,7 @@ pub(crate) fn read_run(alloc: Global, matches: &ArgMatches) -> Result<RunWords, 
         state: String::from_str(alloc, value_of(matches, "state"))?,
         trace: read_path(alloc, matches, "trace")?,
         brief,
+        judge: is_set(matches, "judge"),
         level,
         turns,
         drain: is_set(matches, "drain"),

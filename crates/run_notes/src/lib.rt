@@ -78,6 +78,13 @@ impl<L: Log, A: Allocator + Copy> RunNotes<L, A> {
         }
     }
 
+    /// The log in front of which it stands.
+    pub fn log(&self) -> &L
+        ensures { result.now ≡ self.now.log }
+    {
+        &self.log
+    }
+
     /// How many children were born.
     pub fn births(&self) -> u64
         ensures value { result ≡ self.now.births }

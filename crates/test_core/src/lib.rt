@@ -3,6 +3,10 @@
 #![tactic(auto)]
 
 #[cfg(test)]
+mod awaited;
+#[cfg(test)]
+mod awaited_tests;
+#[cfg(test)]
 mod growth_tests;
 #[cfg(test)]
 mod record_growth_tests;

@@ -2,8 +2,9 @@
 //!
 //! The calls are lines of a trace. What the system does for an order, `birth` to `miss`, is told at once as its answer;
 //! `use` has the lines of the table that is adopted, and `handed` is the end of the wish to be re-executed. The steps
-//! are init's own lines, `reread` and `reexec`.
+//! are init's own lines, `reread` and `reexec`. `awaits` has the children whose end is awaited, parted by `, `, or `none`.
 
+use crate::awaited::awaits;
 use crate::steps::{add, add_steps};
 use init_trace::{Happening, HappeningIn, first_happening};
 use init_words::{Answer, ChildNo, Id, Level, Memory, Refusal, Stage};
@@ -181,6 +182,9 @@ fn cut(text: &str) -> (&str, &str) {
 /// Whether a reader gives what its line says; none where the line is no reader's.
 fn holds(core: &Core, line: &str) -> Option<bool> {
     let (word, rest) = cut(line);
+    if word == "awaits" {
+        return Some(awaits(core, rest));
+    }
     let reader = reader_of(word)?;
     let (first, second) = cut(rest);
     Some(gives(core, reader, first, second))

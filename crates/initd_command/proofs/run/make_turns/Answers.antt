@@ -1,21 +1,41 @@
-use Rattle.std.proofs.Common.{refl, sym, subst}
+use Rattle.std.proofs.Common.{◌≡◌, refl, sym, subst, [], Some, is_some, IfSome}
 use Rattle.run_notes.specs.Notes.{notes_state}
+use Rattle.judged_log.specs.Judgements.{Finds}
 use Rattle.initd_options.specs.Options.{run_of}
-use Rattle.initd_command.specs.Services.{IsServed, end_of, noted_of}
-use Rattle.initd_command.proofs.Noted.{turns_over}
+use Rattle.initd_command.specs.Services.{IsServed, end_of, judgement_for, noted_of}
+use Rattle.initd_command.proofs.Noted.{found_for, judged_for, turns_over}
 use Rattle.initd_command.proofs.run.make_turns.Goals as goal
 
 pub returns-clause-turns : goal.returns-clause-turns
-returns-clause-turns g c = (
-  end_of (run_of c.args.said.now) (noted_of c.end_log-served.new.notes) c.end_log-served.result,
-  c.report_end.ensures.status,
-  (c.end_log-served.result, noted_of c.end_log-served.new.notes, refl, subst (IsServed (run_of c.args.said.now)) (sym c.end_log-served.ensures.turns) (c.serve-served.ensures.most, c.serve-served.ensures.fewer)),
-  c.report_end.ensures.reported,
-)
+returns-clause-turns g c =
+    let service = run_of c.args.said.now in
+    let noted = noted_of c.end_log-served.new.notes c.judgement_for.result in
+    let asked : is_some c.judgement_for.result ≡ service.judge =
+    subst (λ j. is_some j ≡ service.judge) (sym c.judgement_for.ensures) (judged_for service c.judgement-found.result) in (
+      end_of service noted c.end_log-served.result,
+      c.report_end.ensures.status,
+      (
+        c.end_log-served.result,
+        noted,
+        refl,
+        subst (IsServed service) (sym c.end_log-served.ensures.turns) (c.serve-served.ensures.most, c.serve-served.ensures.fewer),
+        asked,
+      ),
+      c.report_end.ensures.reported,
+    )
 
 pub returns-clause-told : goal.returns-clause-told
-returns-clause-told g c = λ level table opens none.
-    turns_over c.serve-served.new.log c.end_log-served.new.notes (g.L.Log.state c.serve-served.new.log.log) (notes_state c.new-notes.result (g.L.Log.state c.new-notes.result.log))
-    (run_of c.args.said.now) level table c.serve-served.result c.end_log-served.result _ _ _ _ _ c.end_log-served.ensures.notes c.end_log-served.ensures.turns c.end_log-served.ensures.logged
-    (c.new-notes.ensures.told none) c.serve-served.ensures.logged
-    (c.serve-served.ensures.most, c.serve-served.ensures.fewer) c.report_end.ensures.status c.report_end.ensures.reported (c.serve-served.ensures.trace level table opens)
+returns-clause-told g c = λ level table opens.
+    let service = run_of c.args.said.now in
+    let judged = c.serve-served.new.log.log in
+    let asked : is_some c.judgement_for.result ≡ service.judge =
+    subst (λ j. is_some j ≡ service.judge) (sym c.judgement_for.ensures) (judged_for service c.judgement-found.result) in
+    let found : IfSome c.judgement_for.result (λ found. Finds found judged.came) =
+    subst (λ j. IfSome j (λ found. Finds found judged.came)) (sym c.judgement_for.ensures)
+    (found_for service c.judgement-found.result judged.came
+    (subst (λ log. Finds c.judgement-found.result log.came) c.log.ensures c.judgement-found.ensures.found)) in
+    turns_over c.serve-served.new.log c.end_log-served.new.notes judged.came (g.L.Log.state judged.log).failed c.judgement_for.result
+    (notes_state c.new-notes.result (record { taken = Some []; failed = (g.L.Log.state c.args.log).failed }))
+    service level table c.serve-served.result c.end_log-served.result _ _ _ _ _ c.end_log-served.ensures.notes c.end_log-served.ensures.turns c.end_log-served.ensures.logged
+    (c.new-notes.ensures.told refl) c.serve-served.ensures.logged
+    (c.serve-served.ensures.most, c.serve-served.ensures.fewer) asked found c.report_end.ensures.status c.report_end.ensures.reported (c.serve-served.ensures.trace level table opens)

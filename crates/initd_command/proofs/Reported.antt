@@ -1,0 +1,26 @@
+-- What is reported of an end, by what is reported of its turns and of what was found of them.
+use Rattle.std.proofs.Common.{◌≡◌, sym, subst, ◌&&◌, ℕ, Bool, true, false, List, Option, None}
+use Rattle.program_io.specs.Writing.{AppendsPrefix}
+use Rattle.judged_log.specs.declared.judgements.Judgement.{Judgement}
+use Rattle.run_notes.specs.Notes.{Notes}
+use Rattle.supervisor.specs.declared.serving.Served.{Served}
+use Rattle.initd_options.specs.Options.{RunSaid}
+use Rattle.initd_command.specs.declared.ends.TheConstants.{UNLOGGED}
+use Rattle.initd_command.specs.Turned.{ReportsEnd, ReportsJudgement, ReportsTurns}
+use Rattle.initd_command.specs.Services.{Noted, end_at, end_of, noted_of}
+
+pub reported_unlogged : (service : RunSaid) (noted : Noted) (served : Served) (old mid new : Option (List ℕ)) → served.logged ≡ false
+    → AppendsPrefix old mid UNLOGGED.now → ReportsJudgement false noted.judgement mid new → ReportsEnd (end_of service noted served) old new
+reported_unlogged service noted served old mid new missed part found =
+    subst (λ logged. ReportsEnd (end_at service noted logged (service.drain && served.drained)) old new) (sym missed) (mid, part, found)
+
+pub reported_logged : {L : Type 0} (service : RunSaid) (notes : Notes L) (judgement : Option Judgement) (served : Served) (old mid new : Option (List ℕ))
+    → served.logged ≡ true → ReportsTurns (end_at service (noted_of notes None) true (service.drain && served.drained)) old mid
+    → ReportsJudgement true judgement mid new → ReportsEnd (end_of service (noted_of notes judgement) served) old new
+reported_logged service notes judgement served old mid new all turns found =
+    subst (λ logged. ReportsEnd (end_at service (noted_of notes judgement) logged (service.drain && served.drained)) old new) (sym all)
+    (by (service.drain && served.drained) turns)
+  where
+    by : (over : Bool) → ReportsTurns (end_at service (noted_of notes None) true over) old mid → ReportsEnd (end_at service (noted_of notes judgement) true over) old new
+    by true reported = (mid, reported, found)
+    by false reported = (mid, reported, found)

@@ -1,0 +1,3 @@
+pub mod Rest
+pub mod Coming
+pub mod Awaiting
