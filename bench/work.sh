@@ -12,6 +12,15 @@ trap 'kill $(jobs -p) 2>/dev/null || true; rm -r "$folder"' EXIT
 # the milliseconds of processor time that a process has used, without its children
 used() { awk -v hertz="$(getconf CLK_TCK)" '{ print ($14 + $15) * 1000 / hertz }' "/proc/$1/stat"; }
 
+# ends init and the children that it has
+end() {
+    kill -s STOP $pid
+    children=$(pgrep -P $pid || true)
+    kill -s KILL $pid
+    wait $pid 2> /dev/null || true
+    kill $children 2> /dev/null || true
+}
+
 # waits until the trace has this many lines of this kind
 until_heard() { while [ "$(grep -c "^$1" trace)" -lt "$2" ]; do sleep 0.02; done; }
 
@@ -40,9 +49,7 @@ started=$(pgrep -c -P $pid)
 sleep 10
 echo "500 children that sleep: $(awk -v a="$before" -v b="$(used $pid)" 'BEGIN { print (b - a) / 10 }')" \
     "milliseconds a second, $started children before, $(pgrep -c -P $pid) after"
-pkill -P $pid || true
-kill $pid
-wait $pid 2> /dev/null || true
+end
 
 rm -f initctl
 echo 's:3:once:sleep 60' > inittab
@@ -54,9 +61,7 @@ begin=$(date +%s.%N)
 until_heard 'got ' 20000
 echo "20000 requests at once: heard in $(awk -v a="$begin" -v b="$(date +%s.%N)" 'BEGIN { print b - a }') seconds," \
     "$(grep -c '^got ' trace) of them"
-pkill -P $pid || true
-kill $pid
-wait $pid 2> /dev/null || true
+end
 
 rm -f initctl
 awk 'BEGIN { for (i = 0; i < 200; i++) printf "%03x:3:respawn:sleep 60\n", i }' > inittab
@@ -70,8 +75,6 @@ for _ in $(seq 1 5); do
 done
 until_heard 'got ' 20000
 sleep 2
-kill $pid
-wait $pid 2> /dev/null || true
-pkill -f 'sleep 60' || true
+end
 echo "20000 requests while 200 children die five times: $(grep -c '^got ' trace) heard," \
     "$(grep -c '^birth ' trace) births, $("$initd" check trace)"

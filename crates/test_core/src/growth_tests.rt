@@ -7,7 +7,6 @@ use inittab_text::Table;
 use level_core::Core;
 use linked_list_allocator::LocalHeap;
 use std::alloc::Global;
-use std::process::Abort;
 use std::test::Fail;
 
 const BEFORE: &[u8] = b"a:S:respawn:x\nb:S:off:y\n";
@@ -22,6 +21,8 @@ enum Refused {
     New,
     Adoption,
     Nothing,
+    /// The core is another than it was.
+    Wrong,
 }
 
 fn table_of<'a>(heap: &'a LocalHeap, text: &[u8]) -> Option<Table<&'a LocalHeap>> {
@@ -65,58 +66,62 @@ fn is_made<'a>(alloc: Global, heap: &'a LocalHeap, core: &mut Core<&'a LocalHeap
 
 /// An adoption is refused before the level is settled, and leaves the core; the next one has room.
 fn refused_then_made<'a>(
-    rt: &impl Abort,
     alloc: Global,
     heap: &'a LocalHeap,
     core: &mut Core<&'a LocalHeap>,
     id: Id,
 ) -> Option<Refused> {
-    assert!(rt; is_begun(alloc, core, id));
+    if !is_begun(alloc, core, id) {
+        return Some(Refused::Wrong);
+    }
     if !is_refused(heap, core, table_of(heap, AFTER)?)? {
         return Some(Refused::Nothing);
     }
-    assert!(rt; is_so(alloc, core, (2, 2), b"settle S") && is_made(alloc, heap, core)?);
-    Some(Refused::Adoption)
+    if is_so(alloc, core, (2, 2), b"settle S") && is_made(alloc, heap, core)? {
+        Some(Refused::Adoption)
+    } else {
+        Some(Refused::Wrong)
+    }
 }
 
 /// What is refused on a heap; none where it is something else.
-fn refused_on(rt: &impl Abort, alloc: Global, heap: &LocalHeap, id: Id) -> Option<Refused> {
+fn refused_on(alloc: Global, heap: &LocalHeap, id: Id) -> Option<Refused> {
     match Core::new(heap, table_of(heap, BEFORE)?, None) {
-        Ok(mut core) => refused_then_made(rt, alloc, heap, &mut core, id),
+        Ok(mut core) => refused_then_made(alloc, heap, &mut core, id),
         Err(Memory) => Some(Refused::New),
     }
 }
 
-fn refused_in(rt: &impl Abort, alloc: Global, room: usize, id: Id) -> Option<Refused> {
+fn refused_in(alloc: Global, room: usize, id: Id) -> Option<Refused> {
     let heap = LocalHeap::new(alloc, room).ok()?;
-    refused_on(rt, alloc, &heap, id)
+    refused_on(alloc, &heap, id)
 }
 
-/// How many heaps refuse a core, how many an adoption, and how many neither. From one heap to the next there is less
-/// more room than the least growth takes, so that each growth is refused on some heap.
-fn counts(rt: &impl Abort, alloc: Global, id: Id) -> (usize, usize, usize) {
+/// How many heaps refuse a core, how many an adoption, and how many neither; none where a core is wrong. From one heap to
+/// the next there is less more room than the least growth takes, so that each growth is refused on some heap.
+fn counts(alloc: Global, id: Id) -> Option<(usize, usize, usize)> {
     let mut new = 0usize;
     let mut adopted = 0usize;
     let mut none = 0usize;
     for step in 1..1600usize {
-        match refused_in(rt, alloc, 16 * step, id) {
+        match refused_in(alloc, 16 * step, id) {
             Some(Refused::New) => new = new.wrapping_add(1),
             Some(Refused::Adoption) => adopted = adopted.wrapping_add(1),
             Some(Refused::Nothing) => none = none.wrapping_add(1),
+            Some(Refused::Wrong) => return None,
             None => {}
         }
     }
-    (new, adopted, none)
-}
-
-fn are_counted(rt: &impl Abort, alloc: Global, id: Id) {
-    let (new, adopted, none) = counts(rt, alloc, id);
-    assert!(rt; new > 3 && adopted > 3 && none > 8);
+    Some((new, adopted, none))
 }
 
 #[test]
 fn refused_growths(rt: HostRuntime) -> Result<(), Fail> {
     let id = Id::read(b"a").ok_or("no id")?;
-    are_counted(&rt, rt.alloc(), id);
+    let (new, adopted, none) = counts(rt.alloc(), id).ok_or("a wrong core")?;
+    assert!(rt;
+        new > 3 && adopted > 3 && none > 8,
+        "{new} {adopted} {none}"
+    );
     Ok(())
 }

@@ -8,7 +8,6 @@ use inittab_text::Table;
 use linked_list_allocator::LocalHeap;
 use respawn_limit::CLOCK_LIMIT;
 use std::alloc::Global;
-use std::process::Abort;
 use std::test::Fail;
 
 const BEFORE: &[u8] = b"a:3:respawn:x\nb:3:once:y\n";
@@ -62,26 +61,26 @@ const FIRST: ChildNo = ChildNo(4_294_967_295);
 
 const SECOND: ChildNo = ChildNo(701);
 
-fn order(rt: &impl Abort, slots: &mut Slots<&LocalHeap>, id: Id, ask: Ask) {
-    assert!(rt; slots.len() > 0 && slots.can_ask(&id, ask, CLOCK_LIMIT));
+fn is_ordered(slots: &mut Slots<&LocalHeap>, id: Id, ask: Ask) -> bool {
+    if slots.len() == 0 || !slots.can_ask(&id, ask, CLOCK_LIMIT) {
+        return false;
+    }
     slots.ask(id, ask, CLOCK_LIMIT);
+    true
+}
+
+fn is_born(slots: &mut Slots<&LocalHeap>, id: Id, number: ChildNo) -> bool {
+    is_ordered(slots, id, Ask::Start) && slots.told(id, Answer::Born(number), CLOCK_LIMIT) == Ok(())
 }
 
 /// Two children that another level excludes, and the signal to one.
-fn begin<'a>(
-    rt: &impl Abort,
-    slots: &mut Slots<&'a LocalHeap>,
-    table: &Table<&'a LocalHeap>,
-    ids: &Ids,
-) -> Result<(), Fail> {
+fn is_begun<'a>(slots: &mut Slots<&'a LocalHeap>, table: &Table<&'a LocalHeap>, ids: &Ids) -> bool {
     let Ids { first, second } = *ids;
-    order(rt, slots, first, Ask::Start);
-    slots.told(first, Answer::Born(FIRST), CLOCK_LIMIT)?;
-    order(rt, slots, second, Ask::Start);
-    slots.told(second, Answer::Born(SECOND), CLOCK_LIMIT)?;
+    if !is_born(slots, first, FIRST) || !is_born(slots, second, SECOND) {
+        return false;
+    }
     slots.judge(table, Stage::Run(Level::L4));
-    order(rt, slots, second, Ask::Term);
-    Ok(())
+    is_ordered(slots, second, Ask::Term)
 }
 
 /// Whether an adoption is refused while the filler stands.
@@ -94,64 +93,68 @@ fn is_refused<'a>(
     Ok(slots.adopt(table) == Err(Memory))
 }
 
-/// An adoption is refused, and leaves the records; the next one has room.
-fn refused_then_made<'a>(
-    rt: &impl Abort,
-    alloc: Global,
-    heap: &'a LocalHeap,
-    slots: &mut Slots<&'a LocalHeap>,
-    table: &Table<&'a LocalHeap>,
-    ids: &Ids,
-) -> Result<bool, Memory> {
-    if !is_refused(heap, slots, table)? {
-        return Ok(false);
-    }
-    assert!(rt; shows(alloc, slots, SHOWN_BEFORE)? && are_kept(slots, ids, 1));
-    slots.adopt(table)?;
-    assert!(rt; shows(alloc, slots, SHOWN_AFTER)? && are_kept(slots, ids, 0));
-    Ok(true)
-}
-
 /// What a heap refuses.
 enum Refused {
     Tables,
     New,
     Adoption,
     Nothing,
+    /// The records are others than they were.
+    Wrong,
+}
+
+/// An adoption is refused, and leaves the records; the next one has room.
+fn refused_then_made<'a>(
+    alloc: Global,
+    heap: &'a LocalHeap,
+    slots: &mut Slots<&'a LocalHeap>,
+    table: &Table<&'a LocalHeap>,
+    ids: &Ids,
+) -> Result<Refused, Memory> {
+    if !is_refused(heap, slots, table)? {
+        return Ok(Refused::Nothing);
+    }
+    if !shows(alloc, slots, SHOWN_BEFORE)? || !are_kept(slots, ids, 1) {
+        return Ok(Refused::Wrong);
+    }
+    slots.adopt(table)?;
+    if shows(alloc, slots, SHOWN_AFTER)? && are_kept(slots, ids, 0) {
+        Ok(Refused::Adoption)
+    } else {
+        Ok(Refused::Wrong)
+    }
 }
 
 /// What a heap of this many bytes refuses.
-fn refused_on(
-    rt: &impl Abort,
-    alloc: Global,
-    heap: &LocalHeap,
-    ids: &Ids,
-) -> Result<Refused, Fail> {
+fn refused_on(alloc: Global, heap: &LocalHeap, ids: &Ids) -> Refused {
     let (Ok(before), Ok(after)) = (table_of(heap, BEFORE), table_of(heap, AFTER)) else {
-        return Ok(Refused::Tables);
+        return Refused::Tables;
     };
     let mut slots = match Slots::new(heap, &before) {
         Ok(slots) => slots,
-        Err(Memory) => return Ok(Refused::New),
+        Err(Memory) => return Refused::New,
     };
-    begin(rt, &mut slots, &before, ids)?;
-    match refused_then_made(rt, alloc, heap, &mut slots, &after, ids) {
-        Ok(true) => Ok(Refused::Adoption),
-        Ok(false) | Err(Memory) => Ok(Refused::Nothing),
+    if !is_begun(&mut slots, &before, ids) {
+        return Refused::Wrong;
+    }
+    match refused_then_made(alloc, heap, &mut slots, &after, ids) {
+        Ok(refused) => refused,
+        Err(Memory) => Refused::Nothing,
     }
 }
 
 /// How many heaps refuse the records, and how many an adoption alone. From one heap to the next there is less more room
 /// than the least growth takes, so that each growth is refused on some heap.
-fn counts(rt: &impl Abort, alloc: Global, ids: &Ids) -> Result<(usize, usize), Fail> {
+fn counts(alloc: Global, ids: &Ids) -> Result<(usize, usize), Fail> {
     let mut new = 0usize;
     let mut adoptions = 0usize;
     for step in 1..1600usize {
         let heap = LocalHeap::new(alloc, 16 * step)?;
-        match refused_on(rt, alloc, &heap, ids)? {
+        match refused_on(alloc, &heap, ids) {
             Refused::New => new = new.wrapping_add(1),
             Refused::Adoption => adoptions = adoptions.wrapping_add(1),
             Refused::Tables | Refused::Nothing => {}
+            Refused::Wrong => return Err(Fail::from("other records")),
         }
     }
     Ok((new, adoptions))
@@ -163,7 +166,7 @@ fn refused_adoptions(rt: HostRuntime) -> Result<(), Fail> {
         first: Id::read(b"a").ok_or("no id")?,
         second: Id::read(b"b").ok_or("no id")?,
     };
-    let (new, adoptions) = counts(&rt, rt.alloc(), &ids)?;
+    let (new, adoptions) = counts(rt.alloc(), &ids)?;
     assert!(rt; new > 3 && adoptions > 3, "{new} {adoptions}");
     Ok(())
 }

@@ -6,7 +6,6 @@ use init_words::{Answer, Ask, ChildNo, Id, Level, Memory, Refusal, Stage, Status
 use inittab_text::{Table, TableFault};
 use respawn_limit::CLOCK_LIMIT;
 use std::alloc::Global;
-use std::process::Abort;
 use std::test::Fail;
 
 /// An answer, but for a birth.
@@ -73,75 +72,91 @@ fn table_of(alloc: Global, text: &[u8]) -> Result<Table, TableFault> {
     Ok(table)
 }
 
-fn id_of(text: &[u8]) -> Result<Id, Fail> {
-    match Id::read(text) {
-        Some(id) => Ok(id),
-        None => Err(Fail::from("no id")),
+fn adopt(alloc: Global, slots: &mut Slots, text: &[u8]) -> bool {
+    match table_of(alloc, text) {
+        Ok(table) => slots.adopt(&table).is_ok(),
+        Err(_) => false,
     }
 }
 
-fn adopt(alloc: Global, slots: &mut Slots, text: &[u8]) -> Result<(), Fail> {
-    let table = table_of(alloc, text)?;
-    slots.adopt(&table)?;
-    Ok(())
+fn judge(alloc: Global, slots: &mut Slots, text: &[u8], stage: Stage) -> bool {
+    match table_of(alloc, text) {
+        Ok(table) => {
+            slots.judge(&table, stage);
+            true
+        }
+        Err(_) => false,
+    }
 }
 
-fn judge(alloc: Global, slots: &mut Slots, text: &[u8], stage: Stage) -> Result<(), Fail> {
-    let table = table_of(alloc, text)?;
-    slots.judge(&table, stage);
-    Ok(())
-}
-
-fn ask(rt: &impl Abort, slots: &mut Slots, id: Id, ask: Ask) {
-    assert!(rt; slots.len() > 0 && slots.can_ask(&id, ask, CLOCK_LIMIT));
+fn is_asked(slots: &mut Slots, id: Id, ask: Ask) -> bool {
+    if slots.len() == 0 || !slots.can_ask(&id, ask, CLOCK_LIMIT) {
+        return false;
+    }
     slots.ask(id, ask, CLOCK_LIMIT);
+    true
 }
 
-fn tell(rt: &impl Abort, slots: &mut Slots, id: Id, answer: Answer, want: Result<(), Refusal>) {
-    assert!(rt; slots.told(id, answer, CLOCK_LIMIT) == want);
+fn is_hit(slots: &mut Slots, id: Id, time: u64) -> bool {
+    time <= CLOCK_LIMIT && slots.told(id, Answer::Hit, time) == Ok(())
 }
 
-fn hit(rt: &impl Abort, slots: &mut Slots, id: Id, time: u64) {
-    assert!(rt; time <= CLOCK_LIMIT);
-    assert!(rt; slots.told(id, Answer::Hit, time) == Ok(()));
-}
-
-fn call_entry(rt: &impl Abort, slots: &mut Slots, id: Id) {
-    assert!(rt; slots.by_id(&id).is_some());
+fn is_called(slots: &mut Slots, id: Id) -> bool {
+    if slots.by_id(&id).is_none() {
+        return false;
+    }
     slots.called(id);
+    true
 }
 
-fn make(rt: &impl Abort, alloc: Global, slots: &mut Slots, call: &Call) -> Result<(), Fail> {
-    match *call {
-        Call::Ask(id, order) => ask(rt, slots, id_of(id)?, order),
+/// Makes a call about an id, and gives whether it is answered so; none where it is about no id.
+fn make_one(slots: &mut Slots, call: &Call) -> Option<bool> {
+    Some(match *call {
+        Call::Ask(id, order) => is_asked(slots, Id::read(id)?, order),
         Call::Born(id, number) => {
-            tell(rt, slots, id_of(id)?, Answer::Born(ChildNo(number)), Ok(()));
+            let born = Answer::Born(ChildNo(number));
+            slots.told(Id::read(id)?, born, CLOCK_LIMIT) == Ok(())
         }
-        Call::Told(id, ref told) => tell(rt, slots, id_of(id)?, told.answer(), Ok(())),
-        Call::Hit(id, time) => hit(rt, slots, id_of(id)?, time),
+        Call::Told(id, ref told) => {
+            slots.told(Id::read(id)?, told.answer(), CLOCK_LIMIT) == Ok(())
+        }
+        Call::Hit(id, time) => is_hit(slots, Id::read(id)?, time),
         Call::Refused(id, ref told, refusal) => {
-            tell(rt, slots, id_of(id)?, told.answer(), Err(refusal));
+            slots.told(Id::read(id)?, told.answer(), CLOCK_LIMIT) == Err(refusal)
         }
-        Call::Called(id) => call_entry(rt, slots, id_of(id)?),
-        Call::Nudge => slots.nudge(),
-        Call::Enter => slots.entered(),
-        Call::Adopt(text) => adopt(alloc, slots, text)?,
-        Call::Judge(text, stage) => judge(alloc, slots, text, stage)?,
-        Call::Child(number, id) => {
-            assert!(rt; slots.by_child(ChildNo(number)) == id.and_then(Id::read));
-        }
-        Call::Quiet(quiet) => assert!(rt; slots.quiet() == quiet),
-        Call::Due(due) => assert!(rt; slots.has_due() == due),
-        Call::FirstTermed(time) => assert!(rt; slots.first_termed() == time),
-    }
-    Ok(())
+        Call::Called(id) => is_called(slots, Id::read(id)?),
+        _ => return None,
+    })
 }
 
-fn make_all(rt: &impl Abort, alloc: Global, slots: &mut Slots, calls: &[Call]) -> Result<(), Fail> {
-    for call in calls {
-        make(rt, alloc, slots, call)?;
+/// Makes a call, and gives whether it is answered so.
+fn is_made(alloc: Global, slots: &mut Slots, call: &Call) -> bool {
+    match *call {
+        Call::Nudge => {
+            slots.nudge();
+            true
+        }
+        Call::Enter => {
+            slots.entered();
+            true
+        }
+        Call::Adopt(text) => adopt(alloc, slots, text),
+        Call::Judge(text, stage) => judge(alloc, slots, text, stage),
+        Call::Child(number, id) => slots.by_child(ChildNo(number)) == id.and_then(Id::read),
+        Call::Quiet(quiet) => slots.quiet() == quiet,
+        Call::Due(due) => slots.has_due() == due,
+        Call::FirstTermed(time) => slots.first_termed() == time,
+        _ => make_one(slots, call).unwrap_or(false),
     }
-    Ok(())
+}
+
+fn are_made(alloc: Global, slots: &mut Slots, calls: &[Call]) -> bool {
+    for call in calls {
+        if !is_made(alloc, slots, call) {
+            return false;
+        }
+    }
+    true
 }
 
 fn slots_of(alloc: Global, text: &[u8]) -> Result<Slots, Fail> {
@@ -155,28 +170,10 @@ fn text_of(alloc: Global, slots: &Slots) -> Result<Vec<u8>, Memory> {
     Ok(text)
 }
 
-/// The records of a table after some calls.
-fn text_after(
-    rt: &impl Abort,
-    alloc: Global,
-    table: &[u8],
-    calls: &[Call],
-) -> Result<Vec<u8>, Fail> {
+/// The calls are answered so, and the records are these after them.
+fn comes_to(alloc: Global, table: &[u8], calls: &[Call], want: &[u8]) -> Result<bool, Fail> {
     let mut slots = slots_of(alloc, table)?;
-    make_all(rt, alloc, &mut slots, calls)?;
-    Ok(text_of(alloc, &slots)?)
-}
-
-fn comes_to(
-    rt: &impl Abort,
-    alloc: Global,
-    table: &[u8],
-    calls: &[Call],
-    want: &[u8],
-) -> Result<(), Fail> {
-    let text = text_after(rt, alloc, table, calls)?;
-    assert!(rt; text.as_slice() == want);
-    Ok(())
+    Ok(are_made(alloc, &mut slots, calls) && text_of(alloc, &slots)?.as_slice() == want)
 }
 
 /// A table, calls, and the records after them.
@@ -414,16 +411,16 @@ const STOPS: &[(&[u8], &[Call], &[u8])] = &[
 
 #[test]
 fn runs(rt: HostRuntime) -> Result<(), Fail> {
-    for (table, calls, want) in RUNS {
-        comes_to(&rt, rt.alloc(), table, calls, want)?;
+    for (place, (table, calls, want)) in RUNS.iter().enumerate() {
+        assert!(rt; comes_to(rt.alloc(), table, calls, want)?, "run {place}");
     }
     Ok(())
 }
 
 #[test]
 fn stops(rt: HostRuntime) -> Result<(), Fail> {
-    for (table, calls, want) in STOPS {
-        comes_to(&rt, rt.alloc(), table, calls, want)?;
+    for (place, (table, calls, want)) in STOPS.iter().enumerate() {
+        assert!(rt; comes_to(rt.alloc(), table, calls, want)?, "run {place}");
     }
     Ok(())
 }

@@ -1,6 +1,6 @@
 //! Runs of a core, worked out by hand from the rules of init.
 
-use crate::runs::are_runs;
+use crate::runs::is_run;
 use init_words::Level;
 
 /// Where a start is not answered, and after it.
@@ -299,5 +299,7 @@ const RUNS: &[(&str, Option<Level>, &str)] = &[
 
 #[test]
 fn runs(rt: HostRuntime) {
-    are_runs(&rt, rt.alloc(), RUNS);
+    for (inittab, level, run) in RUNS {
+        assert!(rt; is_run(rt.alloc(), inittab, *level, run), "{run}");
+    }
 }

@@ -11,7 +11,6 @@ use init_words::{Answer, ChildNo, Id, Level, Memory, Refusal, Stage};
 use inittab_text::Table;
 use level_core::Core;
 use std::alloc::{AllocError, Global};
-use std::process::Abort;
 
 /// Whether the steps are to be taken: not yet, from the last call on, or no more.
 #[derive(Clone, Copy, PartialEq, Eq)]
@@ -260,17 +259,10 @@ fn core_of(alloc: Global, inittab: &str, level: Option<Level>) -> Option<Core> {
     Core::new(alloc, table_of(alloc, inittab)?, level).ok()
 }
 
-/// What comes of the lines of a run is its text.
-fn is_run(alloc: Global, inittab: &str, level: Option<Level>, run: &str) -> bool {
+/// What comes of the lines of a run, of an inittab and an opening level, is its text.
+pub(crate) fn is_run(alloc: Global, inittab: &str, level: Option<Level>, run: &str) -> bool {
     match core_of(alloc, inittab, level) {
         Some(mut core) => is_run_of(alloc, &mut core, run),
         None => false,
-    }
-}
-
-/// What comes of each run, of an inittab and an opening level, is its text.
-pub(crate) fn are_runs(rt: &impl Abort, alloc: Global, runs: &[(&str, Option<Level>, &str)]) {
-    for (inittab, level, run) in runs {
-        assert!(rt; is_run(alloc, inittab, *level, run), "{run}");
     }
 }

@@ -1,12 +1,9 @@
 //! Request blocks by their bytes (initreq.h), and what they ask for (telinit(8)).
 
-ghost use Rattle.std.specs.Prelude.{◌≤◌};
-
 use init_words::{Letter, Level, PowerKind};
 use initctl_frame::{
     BLOCK, Blocks, Cause, Got, Request, Sign, decode, encode, meaning, read_pieces,
 };
-use std::process::Abort;
 use std::test::Fail;
 
 /// The ints of the block that asks to read inittab again: magic, RUNLVL, `q`, 5 seconds.
@@ -57,48 +54,47 @@ const ROWS: &[(i32, i32, i32, Got)] = &[
     (1, 117, 7, Got::Reexec),
 ];
 
-fn is_got(rt: &impl Abort, command: i32, runlevel: i32, sleeptime: i32, want: Got) {
-    let block = block_of_ints(command, runlevel, sleeptime);
-    assert!(rt; decode(&block) == want);
-}
-
 #[test]
 fn ints_are_read(rt: HostRuntime) {
     for (command, runlevel, sleeptime, want) in ROWS {
-        is_got(&rt, *command, *runlevel, *sleeptime, *want);
+        let block = block_of_ints(*command, *runlevel, *sleeptime);
+        assert!(rt; decode(&block) == *want, "{command} {runlevel} {sleeptime}");
     }
 }
 
-/// The request has this block, and means this.
-fn is_written(rt: &impl Abort, request: Request, ints: &[u8; 16], want: Got) {
-    assert!(rt; encode(&request) == block_of(ints) && meaning(&request) == want);
+fn is_written(request: &Request, ints: &[u8; 16], want: Got) -> bool {
+    encode(request) == block_of(ints) && meaning(request) == want
+}
+
+fn is_reload_written() -> bool {
+    let Some(sign) = Sign::read(b'q') else {
+        return false;
+    };
+    sign.code() == b'q' && is_written(&Request::Runlvl(sign, 5), &RELOAD, Got::Reload)
+}
+
+fn is_power_written() -> bool {
+    let back = Got::Power(PowerKind::Ok);
+    is_written(&Request::Power(PowerKind::Ok), &POWER_BACK, back)
 }
 
 #[test]
-fn requests_are_written(rt: HostRuntime) -> Result<(), Fail> {
-    let sign = Sign::read(b'q').ok_or("q is a sign")?;
-    is_written(&rt, Request::Runlvl(sign, 5), &RELOAD, Got::Reload);
-    let back = Got::Power(PowerKind::Ok);
-    is_written(&rt, Request::Power(PowerKind::Ok), &POWER_BACK, back);
-    assert!(rt; sign.code() == b'q' && Sign::read(b'x').is_none());
-    Ok(())
+fn requests_are_written(rt: HostRuntime) {
+    assert!(rt; is_reload_written() && is_power_written() && Sign::read(b'x').is_none());
 }
 
-/// Feeds the piece: the given number of bytes are taken, this is got, and the given number of bytes of a block are kept
-/// then.
-fn is_fed(
-    rt: &impl Abort,
-    blocks: &mut Blocks,
-    piece: &[u8],
-    want: (usize, Option<Got>),
-    rest: usize,
-) {
+/// Whether of the piece the given number of bytes are taken, this is got, and the given number of bytes of a block are
+/// kept then.
+fn is_fed(blocks: &mut Blocks, piece: &[u8], want: (usize, Option<Got>), rest: usize) -> bool {
     let fed = blocks.feed(piece);
-    assert!(rt; fed == want && blocks.rest() == rest);
+    fed == want && blocks.rest() == rest
 }
 
-/// What a reader of 383 bytes of a block takes next.
-const NEXT: &[(&[u8], (usize, Option<Got>), usize)] = &[
+/// What a reader takes of these pieces, one after the other; its copy goes on after the third.
+const PIECES: &[(&[u8], (usize, Option<Got>), usize)] = &[
+    (&[], (0, None), 0),
+    (&RELOAD, (16, None), 16),
+    (&[0; 367], (367, None), 383),
     (&[0], (1, Some(Got::Reload)), 0),
     (&[0; 384], (384, Some(Got::Nothing(Cause::Magic))), 0),
 ];
@@ -109,23 +105,23 @@ const NEXT_OF_COPY: &[(&[u8], (usize, Option<Got>), usize)] = &[
     (&[0; 384], (1, Some(Got::Reload)), 0),
 ];
 
-fn are_fed(rt: &impl Abort, blocks: &mut Blocks, pieces: &[(&[u8], (usize, Option<Got>), usize)]) {
+fn are_fed(blocks: &mut Blocks, pieces: &[(&[u8], (usize, Option<Got>), usize)]) -> bool {
     for (piece, want, rest) in pieces {
-        is_fed(rt, blocks, piece, *want, *rest);
+        if !is_fed(blocks, piece, *want, *rest) {
+            return false;
+        }
     }
+    true
 }
 
 #[test]
 fn a_block_comes_in_pieces(rt: HostRuntime) -> Result<(), Fail> {
-    let reload = block_of(&RELOAD);
-    let (front, _) = reload.as_slice().split_at(383);
     let mut blocks = Blocks::new();
-    is_fed(&rt, &mut blocks, &[], (0, None), 0);
-    is_fed(&rt, &mut blocks, front, (383, None), 383);
+    assert!(rt; are_fed(&mut blocks, &PIECES[..3]));
     let mut copy = blocks.clone()?;
-    are_fed(&rt, &mut blocks, NEXT);
-    is_fed(&rt, &mut blocks, &reload, (384, Some(Got::Reload)), 0);
-    are_fed(&rt, &mut copy, NEXT_OF_COPY);
+    assert!(rt; are_fed(&mut blocks, &PIECES[3..]));
+    assert!(rt; is_fed(&mut blocks, &block_of(&RELOAD), (384, Some(Got::Reload)), 0));
+    assert!(rt; are_fed(&mut copy, NEXT_OF_COPY));
     Ok(())
 }
 
@@ -146,43 +142,42 @@ const THREE_GOT: [Got; 4] = [
     Got::Reexec,
 ];
 
-fn are_got(rt: &impl Abort, pieces: &[&[u8]]) {
+fn are_got(pieces: &[&[u8]]) -> bool {
     let mut room = [Got::Reexec; 4];
-    assert!(rt; read_pieces(pieces, &mut room) == 3 && room == THREE_GOT);
+    read_pieces(pieces, &mut room) == 3 && room == THREE_GOT
 }
 
-/// Cut at the first place and at each one after it.
-fn are_got_of_cuts(rt: &impl Abort, bytes: &[u8; 1152], first: usize)
-    requires { first ≤ 1152 }
-{
-    for second in first..1153 {
-        are_got(
-            rt,
-            &[&bytes[..first], &bytes[first..second], &bytes[second..]],
-        );
+/// Whether the blocks are got however they are cut in three.
+fn are_got_of_cuts(bytes: &[u8; 1152]) -> bool {
+    for first in 0..1153 {
+        for second in first..1153 {
+            if !are_got(&[&bytes[..first], &bytes[first..second], &bytes[second..]]) {
+                return false;
+            }
+        }
     }
+    true
 }
 
 #[test]
 fn cuts_change_nothing(rt: HostRuntime) {
-    let bytes = three_blocks();
-    for first in 0..1153 {
-        are_got_of_cuts(&rt, &bytes, first);
-    }
+    assert!(rt; are_got_of_cuts(&three_blocks()));
+}
+
+fn is_first_alone() -> bool {
+    let reload = block_of(&RELOAD);
+    let mut room = [Got::Reexec];
+    read_pieces(&[&reload, &reload], &mut room) == 1 && room == [Got::Reload]
 }
 
 #[test]
 fn requests_past_the_room_are_left_out(rt: HostRuntime) {
-    let reload = block_of(&RELOAD);
-    let mut room = [Got::Reexec];
-    let count = read_pieces(&[&reload, &reload], &mut room);
-    assert!(rt; count == 1 && room == [Got::Reload]);
+    assert!(rt; is_first_alone());
 }
 
 /// The block is one request, whatever its bytes are, and nothing of it is kept.
-fn is_one(rt: &impl Abort, block: &[u8; BLOCK], want: Got) {
-    let mut blocks = Blocks::new();
-    is_fed(rt, &mut blocks, block, (BLOCK, Some(want)), 0);
+fn is_one(block: &[u8; BLOCK], want: Got) -> bool {
+    is_fed(&mut Blocks::new(), block, (BLOCK, Some(want)), 0)
 }
 
 /// The request to read inittab again, with this byte at a place.
@@ -195,17 +190,19 @@ fn changed(place: usize, byte: u8) -> [u8; BLOCK] {
 }
 
 /// A block of this byte alone has no magic number, and each block with this byte in it is what its own bytes ask for.
-fn are_ones(rt: &impl Abort, byte: u8) {
-    is_one(rt, &[byte; BLOCK], Got::Nothing(Cause::Magic));
+fn are_ones(byte: u8) -> bool {
     for place in 0..BLOCK {
         let block = changed(place, byte);
-        is_one(rt, &block, decode(&block));
+        if !is_one(&block, decode(&block)) {
+            return false;
+        }
     }
+    is_one(&[byte; BLOCK], Got::Nothing(Cause::Magic))
 }
 
 #[test]
 fn each_block_is_one_request(rt: HostRuntime) {
     for byte in 0..=255 {
-        are_ones(&rt, byte);
+        assert!(rt; are_ones(byte), "{byte}");
     }
 }

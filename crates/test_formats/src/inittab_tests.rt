@@ -4,7 +4,6 @@ use init_words::{Act, Id, Level, Memory};
 use inittab_text::{LineFault, Table, TableFault, read_written};
 use std::alloc::Global;
 use std::fmt::Write;
-use std::process::Abort;
 use std::test::Fail;
 
 /// Adds the faults, one a line.
@@ -58,35 +57,22 @@ fn copied_text(alloc: Global, text: &[u8]) -> Result<Vec<u8>, Memory> {
     }
 }
 
-fn has_faults(rt: &impl Abort, alloc: Global, text: &[u8], want: &str) -> Result<(), Fail> {
-    let report = faults_of(alloc, text)?;
-    assert!(rt; report.as_str() == want);
-    Ok(())
+fn has_faults(alloc: Global, text: &[u8], want: &str) -> Result<bool, Fail> {
+    Ok(faults_of(alloc, text)?.as_str() == want)
 }
 
-fn is_written(rt: &impl Abort, alloc: Global, text: &[u8], want: &[u8]) -> Result<(), Fail> {
-    let given = written_text(alloc, text)?;
-    assert!(rt; given.as_slice() == want);
-    Ok(())
+fn is_written(alloc: Global, text: &[u8], want: &[u8]) -> Result<bool, Fail> {
+    Ok(written_text(alloc, text)?.as_slice() == want)
 }
 
-fn is_written_again(rt: &impl Abort, alloc: Global, text: &[u8], want: &[u8]) -> Result<(), Fail> {
-    let given = copied_text(alloc, text)?;
-    assert!(rt; given.as_slice() == want);
-    Ok(())
+fn is_written_again(alloc: Global, text: &[u8], want: &[u8]) -> Result<bool, Fail> {
+    Ok(copied_text(alloc, text)?.as_slice() == want)
 }
 
 /// The text is read as a table of the given number of entries and this default level.
-fn is_read(
-    rt: &impl Abort,
-    alloc: Global,
-    text: &[u8],
-    len: usize,
-    level: Option<Level>,
-) -> Result<(), Fail> {
+fn is_read(alloc: Global, text: &[u8], len: usize, level: Option<Level>) -> Result<bool, Fail> {
     let table = table_of(alloc, text)?;
-    assert!(rt; table.len() == len && table.default_level() == level);
-    Ok(())
+    Ok(table.len() == len && table.default_level() == level)
 }
 
 fn act_at(table: &Table, place: usize) -> Option<Act> {
@@ -117,30 +103,19 @@ inittab line 5: duplicate id
 ";
 
 /// Two entries are found, by place and by id.
-fn are_two(rt: &impl Abort, table: &Table) {
-    assert!(rt;
-        (
-            act_at(table, 0),
-            act_at(table, 1),
-            act_at(table, 2),
-            act_of(table, b"toolong"),
-            act_of(table, b"b"),
-            act_of(table, b"a")
-        ) == (
-            Some(Act::Once),
-            Some(Act::Off),
-            None,
-            Some(Act::Once),
-            Some(Act::Off),
-            None
-        )
-    );
+fn are_two(table: &Table) -> bool {
+    act_at(table, 0) == Some(Act::Once)
+        && act_at(table, 1) == Some(Act::Off)
+        && act_at(table, 2).is_none()
+        && act_of(table, b"toolong") == Some(Act::Once)
+        && act_of(table, b"b") == Some(Act::Off)
+        && act_of(table, b"a").is_none()
 }
 
 #[test]
 fn two_entries_are_found(rt: HostRuntime) -> Result<(), Fail> {
     let table = table_of(rt.alloc(), FIVE)?;
-    are_two(&rt, &table);
+    assert!(rt; are_two(&table));
     Ok(())
 }
 
@@ -154,7 +129,7 @@ const FAULTS: &[(&[u8], &str)] = &[
 #[test]
 fn faults(rt: HostRuntime) -> Result<(), Fail> {
     for (text, want) in FAULTS {
-        has_faults(&rt, rt.alloc(), text, want)?;
+        assert!(rt; has_faults(rt.alloc(), text, want)?, "{want}");
     }
     Ok(())
 }
@@ -225,13 +200,29 @@ kb:0123456789:kbrequest:
 ca:12345:ctrlaltdel:/sbin/shutdown -t1 -a -r now
 ";
 
+/// Texts, and what is written of their tables.
+const WRITTEN: &[(&[u8], &[u8])] = &[(LINES, LINES_WRITTEN), (RESPAWNS, b"b:3:respawn:y\n")];
+
+/// Written texts, and what is written of the copies of their tables.
+const COPIED: &[(&[u8], &[u8])] = &[
+    (LINES_WRITTEN, LINES_WRITTEN),
+    (LINES, b"no table"),
+    (b"a:3:wait:x", b"no table"),
+];
+
 #[test]
 fn written_lines(rt: HostRuntime) -> Result<(), Fail> {
-    is_written(&rt, rt.alloc(), LINES, LINES_WRITTEN)?;
-    is_written(&rt, rt.alloc(), RESPAWNS, b"b:3:respawn:y\n")?;
-    is_written_again(&rt, rt.alloc(), LINES_WRITTEN, LINES_WRITTEN)?;
-    is_written_again(&rt, rt.alloc(), LINES, b"no table")?;
-    is_written_again(&rt, rt.alloc(), b"a:3:wait:x", b"no table")
+    for (text, want) in WRITTEN {
+        assert!(rt; is_written(rt.alloc(), text, want)?, "{} bytes", text.len());
+    }
+    for (text, want) in COPIED {
+        assert!(rt;
+            is_written_again(rt.alloc(), text, want)?,
+            "{} bytes",
+            text.len()
+        );
+    }
+    Ok(())
 }
 
 const LEVELS: &[(&[u8], usize, Option<Level>)] = &[
@@ -247,7 +238,7 @@ const LEVELS: &[(&[u8], usize, Option<Level>)] = &[
 #[test]
 fn entries_and_default_levels(rt: HostRuntime) -> Result<(), Fail> {
     for (text, len, level) in LEVELS {
-        is_read(&rt, rt.alloc(), text, *len, *level)?;
+        assert!(rt; is_read(rt.alloc(), text, *len, *level)?, "{len} entries");
     }
     Ok(())
 }
@@ -293,10 +284,15 @@ fn fault_of(alloc: Global, text: &[u8]) -> Option<TableFault> {
 #[test]
 fn limits(rt: HostRuntime) -> Result<(), Fail> {
     let mut text = longest_comment(rt.alloc())?;
-    is_read(&rt, rt.alloc(), text.as_slice(), 0, None)?;
+    assert!(rt;
+        is_read(rt.alloc(), text.as_slice(), 0, None)?,
+        "the longest"
+    );
     text.push(b'#')?;
-    let fault = fault_of(rt.alloc(), text.as_slice());
-    assert!(rt; fault == Some(TableFault::TooLong));
+    assert!(rt;
+        fault_of(rt.alloc(), text.as_slice()) == Some(TableFault::TooLong),
+        "a byte more"
+    );
     Ok(())
 }
 
@@ -308,34 +304,40 @@ fn a_text_too_long_is_reported(rt: HostRuntime) -> Result<(), Fail> {
     Ok(())
 }
 
-#[test]
-fn a_process_too_long(rt: HostRuntime) -> Result<(), Fail> {
-    let text = lines(rt.alloc(), 1, PROCESS)?;
-    has_faults(
-        &rt,
-        rt.alloc(),
-        text.as_slice(),
-        "inittab line 1: process too long\n",
-    )
+/// Whether the lines of as many entries are read as a table of so many, with this fault.
+fn are_lines(
+    alloc: Global,
+    count: u32,
+    process: &[u8],
+    len: usize,
+    fault: &str,
+) -> Result<bool, Fail> {
+    let text = lines(alloc, count, process)?;
+    Ok(is_read(alloc, &text, len, None)? && has_faults(alloc, &text, fault)?)
 }
 
+const LONG_PROCESS: &str = "inittab line 1: process too long\n";
+
+const TOO_MANY: &str = "inittab line 4097: too many entries\n";
+
 #[test]
-fn an_entry_too_many(rt: HostRuntime) -> Result<(), Fail> {
-    let text = lines(rt.alloc(), 4_097, b"x")?;
-    is_read(&rt, rt.alloc(), text.as_slice(), 4_096, None)?;
-    has_faults(
-        &rt,
-        rt.alloc(),
-        text.as_slice(),
-        "inittab line 4097: too many entries\n",
-    )
+fn lines_have_limits(rt: HostRuntime) -> Result<(), Fail> {
+    assert!(rt;
+        are_lines(rt.alloc(), 1, PROCESS, 0, LONG_PROCESS)?,
+        "a process too long"
+    );
+    assert!(rt;
+        are_lines(rt.alloc(), 4_097, b"x", 4_096, TOO_MANY)?,
+        "an entry too many"
+    );
+    Ok(())
 }
 
 #[test]
 fn the_longest_table(rt: HostRuntime) -> Result<(), Fail> {
     let text = lines(rt.alloc(), 4_096, &PROCESS[..127])?;
-    assert!(rt; text.len() > 512 * 1_024);
-    is_written_again(&rt, rt.alloc(), text.as_slice(), text.as_slice())
+    assert!(rt; text.len() > 512 * 1_024 && is_written_again(rt.alloc(), &text, &text)?);
+    Ok(())
 }
 
 const IN_USE: &[u8] = b"# /etc/inittab: init(8) configuration.

@@ -4,7 +4,6 @@ use init_words::{Level, Part};
 use inittab_text::{PartFault, Table, TableFault, read_parts};
 use std::alloc::Global;
 use std::fmt::Write;
-use std::process::Abort;
 use std::test::Fail;
 
 /// Parts, what is written of their table, their faults, each with the number of its part, and the default level.
@@ -86,30 +85,27 @@ fn report_of(alloc: Global, faults: &[PartFault]) -> Result<String, Fail> {
     Ok(report)
 }
 
-fn is_table(rt: &impl Abort, alloc: Global, table: &Table, row: &Row) -> Result<(), Fail> {
-    let written = inittab_text::write(alloc, table)?;
-    assert!(rt; written.as_slice() == row.written.as_bytes());
-    assert!(rt; table.default_level() == row.level);
-    Ok(())
+fn is_table(alloc: Global, table: &Table, row: &Row) -> Result<bool, Fail> {
+    Ok(
+        table.default_level() == row.level
+            && inittab_text::write(alloc, table)?.as_slice() == row.written.as_bytes(),
+    )
 }
 
-fn has_faults(rt: &impl Abort, alloc: Global, faults: &[PartFault], row: &Row) -> Result<(), Fail> {
-    let report = report_of(alloc, faults)?;
-    assert!(rt; report.as_str() == row.faults);
-    Ok(())
+fn has_faults(alloc: Global, faults: &[PartFault], row: &Row) -> Result<bool, Fail> {
+    Ok(report_of(alloc, faults)?.as_str() == row.faults)
 }
 
-fn is_read(rt: &impl Abort, alloc: Global, parts: &[Part], row: &Row) -> Result<(), Fail> {
+fn is_read(alloc: Global, parts: &[Part], row: &Row) -> Result<bool, Fail> {
     let (table, faults) = read_parts(alloc, parts)?;
-    has_faults(rt, alloc, &faults, row)?;
-    is_table(rt, alloc, &table, row)
+    Ok(has_faults(alloc, &faults, row)? && is_table(alloc, &table, row)?)
 }
 
 #[test]
 fn parts_are_one_table(rt: HostRuntime) -> Result<(), Fail> {
     for row in ROWS {
         let parts = parts_of(rt.alloc(), row.parts)?;
-        is_read(&rt, rt.alloc(), &parts, row)?;
+        assert!(rt; is_read(rt.alloc(), &parts, row)?, "{}", row.written);
     }
     Ok(())
 }

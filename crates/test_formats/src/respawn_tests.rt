@@ -1,7 +1,9 @@
 //! Starts of one entry in time, and what the limit of 10 in 120 seconds answers (init(8)).
 
+ghost use Rattle.std.specs.Prelude.{◌≤◌};
+ghost use Rattle.respawn_limit.specs.declared.TheConstants.{CLOCK_LIMIT};
+
 use respawn_limit::{CLOCK_LIMIT, Limiter, May};
-use std::process::Abort;
 use std::test::Fail;
 
 const AT_ONCE: &[u64] = &[0; 10];
@@ -11,39 +13,43 @@ const AT_A_MINUTE: &[u64] = &[0, 60, 60, 60, 60, 60, 60, 60, 60, 60];
 /// One start is free at 120, and the next at 180.
 const AND_AT_TWO: &[u64] = &[0, 60, 60, 60, 60, 60, 60, 60, 60, 60, 120];
 
-/// Notes a start, as a caller that asks first.
-fn note_start(rt: &impl Abort, limiter: &mut Limiter, time: u64) {
-    assert!(rt; time <= CLOCK_LIMIT && limiter.starts().iter().all(|start| *start <= time));
-    assert!(rt; limiter.may(time) == May::Yes);
+/// Notes a start, as a caller that asks first; gives whether it may be made.
+fn is_noted(limiter: &mut Limiter, time: u64) -> bool {
+    if time > CLOCK_LIMIT || !limiter.starts().iter().all(|start| *start <= time) {
+        return false;
+    }
+    if limiter.may(time) != May::Yes {
+        return false;
+    }
     limiter.note(time);
+    true
 }
 
-fn limiter_after(rt: &impl Abort, times: &[u64]) -> Limiter {
+/// The limiter after these starts, one that is new where a start may not be made.
+fn limiter_after(times: &[u64]) -> Limiter {
     let mut limiter = Limiter::new();
     for &time in times {
-        note_start(rt, &mut limiter, time);
+        if !is_noted(&mut limiter, time) {
+            return Limiter::new();
+        }
     }
     limiter
 }
 
-/// The limiter answers this now, and so does one made of its parts.
-fn answers(rt: &impl Abort, limiter: &Limiter, now: u64, may: May, held: bool) {
-    assert!(rt; now <= CLOCK_LIMIT);
-    let again = Limiter::of(limiter.starts(), limiter.held_until());
-    assert!(rt; again == *limiter);
-    assert!(rt;
-        (
-            again.may(now),
-            again.held(now),
-            limiter.may(now),
-            limiter.held(now)
-        ) == (may, held, may, held)
-    );
+fn is_alike(limiter: &Limiter, again: &Limiter, now: u64, may: May, held: bool) -> bool
+    requires { now ≤ CLOCK_LIMIT }
+{
+    again.may(now) == may
+        && again.held(now) == held
+        && limiter.may(now) == may
+        && limiter.held(now) == held
+        && again == limiter
 }
 
-fn answers_after(rt: &impl Abort, times: &[u64], now: u64, may: May) {
-    let limiter = limiter_after(rt, times);
-    answers(rt, &limiter, now, may, false);
+/// The limiter answers this now, and so does one made of its parts.
+fn answers(limiter: &Limiter, now: u64, may: May, held: bool) -> bool {
+    let again = Limiter::of(limiter.starts(), limiter.held_until());
+    now <= CLOCK_LIMIT && is_alike(limiter, &again, now, may, held)
 }
 
 /// Starts, a time after them, and what is answered then.
@@ -61,36 +67,43 @@ const ROWS: &[(&[u64], u64, May)] = &[
 #[test]
 fn the_window_slides(rt: HostRuntime) {
     for (times, now, may) in ROWS {
-        answers_after(&rt, times, *now, *may);
+        assert!(rt; answers(&limiter_after(times), *now, *may, false), "{now}");
     }
 }
 
 /// Ten starts at most are kept.
+fn are_kept(times: &[u64], want: &[u64]) -> bool {
+    let limiter = limiter_after(times);
+    limiter.starts() == want && limiter.held_until().is_none()
+}
+
 #[test]
 fn starts_are_kept(rt: HostRuntime) {
-    let limiter = limiter_after(&rt, AT_ONCE);
-    assert!(rt; limiter.starts() == AT_ONCE && limiter.held_until().is_none());
-    let limiter = limiter_after(&rt, AND_AT_TWO);
-    assert!(rt; limiter.starts() == &AND_AT_TWO[1..]);
+    assert!(rt; are_kept(AT_ONCE, AT_ONCE) && are_kept(AND_AT_TWO, &AND_AT_TWO[1..]));
+}
+
+fn is_held(limiter: &mut Limiter) -> bool {
+    limiter.hold(119);
+    answers(limiter, 418, May::HoldUntil(419), true)
+        && answers(limiter, 419, May::Yes, false)
+        && limiter.held_until() == Some(419)
+}
+
+fn is_cleared(limiter: &mut Limiter) -> bool {
+    limiter.clear();
+    *limiter == Limiter::new() && answers(limiter, 119, May::Yes, false)
 }
 
 #[test]
 fn a_hold_stands_five_minutes(rt: HostRuntime) {
-    let mut limiter = limiter_after(&rt, AT_ONCE);
-    limiter.hold(119);
-    answers(&rt, &limiter, 418, May::HoldUntil(419), true);
-    answers(&rt, &limiter, 419, May::Yes, false);
-    assert!(rt; limiter.held_until() == Some(419));
-    limiter.clear();
-    assert!(rt; limiter == Limiter::new());
-    answers(&rt, &limiter, 119, May::Yes, false);
+    let mut limiter = limiter_after(AT_ONCE);
+    assert!(rt; is_held(&mut limiter) && is_cleared(&mut limiter));
 }
 
 #[test]
 fn a_copy_is_alike(rt: HostRuntime) -> Result<(), Fail> {
-    let mut limiter = limiter_after(&rt, &[5, 7]);
+    let mut limiter = limiter_after(&[5, 7]);
     limiter.hold(9);
-    let copy = limiter.clone()?;
-    assert!(rt; copy == limiter);
+    assert!(rt; limiter.clone()? == limiter);
     Ok(())
 }

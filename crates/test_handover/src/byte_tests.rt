@@ -264,40 +264,41 @@ const VERSION_END: usize = 13;
 /// Where the digit of the generation stands.
 const GENERATION_AT: usize = 25;
 
-/// With each other byte at the place.
-fn are_answered(
-    rt: &impl Abort,
+/// Whether the text is answered as its rows say with this byte at the place.
+fn is_answered(
+    alloc: Global,
+    text: &str,
+    rows: &[Row],
+    place: &Place,
+    byte: u8,
+) -> Result<bool, Fail> {
+    let made = changed(alloc, text, place.at, byte)?;
+    let (got, whole) = answer(alloc, &made)?;
+    Ok(got == wanted(rows, place.line, place.column, byte) && whole)
+}
+
+/// The first byte, other than its own, with which the place is answered otherwise than the rows say.
+fn wrong_byte(
     alloc: Global,
     text: &str,
     rows: &[Row],
     place: &Place,
     own: u8,
-) -> Result<(), Fail> {
+) -> Result<Option<u8>, Fail> {
     for byte in 0..=255u8 {
-        if byte != own {
-            let made = changed(alloc, text, place.at, byte)?;
-            let (got, whole) = answer(alloc, &made)?;
-            let want = wanted(rows, place.line, place.column, byte);
-            assert!(rt;
-                got == want && whole,
-                "{}, {}: {byte}",
-                place.line,
-                place.column
-            );
+        if byte != own && !is_answered(alloc, text, rows, place, byte)? {
+            return Ok(Some(byte));
         }
     }
-    Ok(())
+    Ok(None)
 }
 
-/// With each other byte at each place of these lines, the first and the last.
-fn are_changed(
-    rt: &impl Abort,
-    alloc: Global,
-    text: &str,
-    rows: &[Row],
-    first: usize,
-    last: usize,
-) -> Result<(), Fail> {
+/// A text, the rows of its bytes, and lines of it, the first and the last.
+type Part = (&'static str, &'static [Row], usize, usize);
+
+/// The line, the column and the byte of the first change of these lines that is answered otherwise than the rows say.
+fn wrong_change(alloc: Global, part: &Part) -> Result<Option<(usize, usize, u8)>, Fail> {
+    let (text, rows, first, last) = *part;
     let mut place = Place {
         at: 0,
         line: 1,
@@ -305,36 +306,48 @@ fn are_changed(
     };
     for own in text.bytes() {
         if first <= place.line && place.line <= last {
-            are_answered(rt, alloc, text, rows, &place, own)?;
+            if let Some(byte) = wrong_byte(alloc, text, rows, &place, own)? {
+                return Ok(Some((place.line, place.column, byte)));
+            }
         }
         place = place.next(own);
     }
-    Ok(())
+    Ok(None)
 }
 
 #[test]
 fn each_byte_of_heads_is_changed(rt: HostRuntime) -> Result<(), Fail> {
-    are_changed(&rt, rt.alloc(), STARTED_NOW, OF_STARTED, 1, 7)
+    let wrong = wrong_change(rt.alloc(), &(STARTED_NOW, OF_STARTED, 1, 7))?;
+    assert!(rt; wrong.is_none(), "{wrong:?}");
+    Ok(())
 }
 
 #[test]
 fn each_byte_of_a_table_is_changed(rt: HostRuntime) -> Result<(), Fail> {
-    are_changed(&rt, rt.alloc(), STARTED_NOW, OF_STARTED, 8, 11)
+    let wrong = wrong_change(rt.alloc(), &(STARTED_NOW, OF_STARTED, 8, 11))?;
+    assert!(rt; wrong.is_none(), "{wrong:?}");
+    Ok(())
 }
 
 #[test]
 fn each_byte_of_records_is_changed(rt: HostRuntime) -> Result<(), Fail> {
-    are_changed(&rt, rt.alloc(), STARTED_NOW, OF_STARTED, 12, 13)
+    let wrong = wrong_change(rt.alloc(), &(STARTED_NOW, OF_STARTED, 12, 13))?;
+    assert!(rt; wrong.is_none(), "{wrong:?}");
+    Ok(())
 }
 
 #[test]
 fn each_byte_of_the_end_is_changed(rt: HostRuntime) -> Result<(), Fail> {
-    are_changed(&rt, rt.alloc(), STARTED_NOW, OF_STARTED, 14, ALL)
+    let wrong = wrong_change(rt.alloc(), &(STARTED_NOW, OF_STARTED, 14, ALL))?;
+    assert!(rt; wrong.is_none(), "{wrong:?}");
+    Ok(())
 }
 
 #[test]
 fn each_byte_without_records_is_changed(rt: HostRuntime) -> Result<(), Fail> {
-    are_changed(&rt, rt.alloc(), OPENING_NOW, OF_OPENING, 1, ALL)
+    let wrong = wrong_change(rt.alloc(), &(OPENING_NOW, OF_OPENING, 1, ALL))?;
+    assert!(rt; wrong.is_none(), "{wrong:?}");
+    Ok(())
 }
 
 /// A text, the generation that is asked for, and what is answered.

@@ -4,7 +4,6 @@ use init_words::{Answer, ChildNo, Id, Status};
 use level_core::Core;
 use reexec_state::{Over, hand_over, take_over};
 use std::alloc::Global;
-use std::process::Abort;
 use std::test::Fail;
 
 const INITTAB: &[u8] = b"id:3:initdefault:\na:3:respawn:x\nb:3:once:y\n";
@@ -50,20 +49,22 @@ fn last_of(core: &Core, name: &[u8]) -> Result<Option<Status>, Fail> {
     Ok(core.last(&id_of(name)?))
 }
 
-fn is_handed_over(rt: &impl Abort, alloc: Global, core: &mut Core) -> Result<(), Fail> {
+fn is_handed_over(alloc: Global, core: &mut Core) -> Result<bool, Fail> {
     let text = hand_over(alloc, core)?;
     let want = format!(in alloc; "initd-state 2\n{HEADS}{SLOTS}")?;
-    assert!(rt; text.as_slice() == want.as_bytes());
-    Ok(())
+    Ok(text.as_slice() == want.as_bytes())
+}
+
+fn are_lasts(core: &Core) -> Result<bool, Fail> {
+    let is_a = last_of(core, b"a")? == Some(Status::Exit(0));
+    Ok(is_a && last_of(core, b"b")?.is_none() && last_of(core, b"none")?.is_none())
 }
 
 #[test]
 fn a_last_status_is_handed_over(rt: HostRuntime) -> Result<(), Fail> {
     let mut core = ended(rt.alloc())?;
-    assert!(rt; last_of(&core, b"a")? == Some(Status::Exit(0)));
-    assert!(rt; last_of(&core, b"b")?.is_none());
-    assert!(rt; last_of(&core, b"none")?.is_none());
-    is_handed_over(&rt, rt.alloc(), &mut core)
+    assert!(rt; are_lasts(&core)? && is_handed_over(rt.alloc(), &mut core)?);
+    Ok(())
 }
 
 /// A version, the records, what is answered, and the last status of `a`.

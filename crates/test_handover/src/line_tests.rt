@@ -2,7 +2,6 @@
 
 use crate::texts::{STARTED, STARTED_NOW, is_answered};
 use state_text::Over::{self, Cut, Generation, Line, Version};
-use std::test::Fail;
 
 /// The number of a line, what stands in its place, and why the text is refused.
 const HEADS: &[(usize, &str, Over)] = &[
@@ -361,44 +360,27 @@ const READ: &[(usize, &str)] = &[
     (13, "slot id - - start - 1000 - 0"),
 ];
 
+/// Rows of a text of version 1 that is refused.
+const REFUSED: &[&[(usize, &str, Over)]] = &[HEADS, TABLES, SLOTS, ENDS];
+
 #[test]
-fn heads(rt: HostRuntime) -> Result<(), Fail> {
-    for (number, lines, why) in HEADS {
-        is_answered(&rt, rt.alloc(), STARTED, *number, lines, Some(*why))?;
+fn refused_lines(rt: HostRuntime) {
+    for rows in REFUSED {
+        for (number, lines, why) in *rows {
+            let told = is_answered(rt.alloc(), STARTED, *number, lines, Some(*why));
+            assert!(rt; told, "{number}: {lines}");
+        }
     }
-    Ok(())
 }
 
 #[test]
-fn tables(rt: HostRuntime) -> Result<(), Fail> {
-    for (number, lines, why) in TABLES {
-        is_answered(&rt, rt.alloc(), STARTED, *number, lines, Some(*why))?;
-    }
-    Ok(())
-}
-
-#[test]
-fn slots(rt: HostRuntime) -> Result<(), Fail> {
-    for (number, lines, why) in SLOTS {
-        is_answered(&rt, rt.alloc(), STARTED, *number, lines, Some(*why))?;
-    }
-    Ok(())
-}
-
-#[test]
-fn ends(rt: HostRuntime) -> Result<(), Fail> {
-    for (number, lines, why) in ENDS {
-        is_answered(&rt, rt.alloc(), STARTED, *number, lines, Some(*why))?;
-    }
-    Ok(())
-}
-
-#[test]
-fn reads(rt: HostRuntime) -> Result<(), Fail> {
+fn read_lines(rt: HostRuntime) {
     for (number, lines) in READ {
-        is_answered(&rt, rt.alloc(), STARTED, *number, lines, None)?;
+        assert!(rt;
+            is_answered(rt.alloc(), STARTED, *number, lines, None),
+            "{number}: {lines}"
+        );
     }
-    Ok(())
 }
 
 /// The same of a text of version 2.
@@ -431,9 +413,9 @@ const LASTS: &[(usize, &str, Option<Over>)] = &[
 ];
 
 #[test]
-fn lasts(rt: HostRuntime) -> Result<(), Fail> {
+fn lasts(rt: HostRuntime) {
     for (number, lines, want) in LASTS {
-        is_answered(&rt, rt.alloc(), STARTED_NOW, *number, lines, *want)?;
+        let told = is_answered(rt.alloc(), STARTED_NOW, *number, lines, *want);
+        assert!(rt; told, "{number}: {lines}");
     }
-    Ok(())
 }

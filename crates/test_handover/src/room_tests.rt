@@ -6,8 +6,7 @@ use level_core::{Core, Rebuild};
 use linked_list_allocator::LocalHeap;
 use reexec_state::{Over, hand_over, take_over};
 use state_text::read_state;
-use std::alloc::Global;
-use std::process::Abort;
+use std::alloc::{Allocator, Global};
 use std::test::Fail;
 
 /// From one heap to the next there is less more room than the least growth takes, so that each growth is refused on
@@ -55,27 +54,33 @@ end 15
 
 /// Whether the core hands its state on over a heap of the given number of bytes. Where it doesn't, it is as it was: what
 /// it hands over with room says so.
-fn hands_on(rt: &impl Abort, alloc: Global, room: usize) -> Result<bool, Fail> {
+fn hands_on(alloc: Global, room: usize) -> Result<bool, Fail> {
     let mut core = take_over(alloc, BUSY.as_bytes(), 1)?;
     let heap = LocalHeap::new(alloc, room)?;
-    match hand_over(&heap, &mut core) {
-        Ok(text) => {
-            assert!(rt; text.as_slice() == BUSY_AGAIN.as_bytes());
-            Ok(true)
-        }
-        Err(why) => {
-            assert!(rt; why == Over::Memory);
-            let text = hand_over(alloc, &mut core)?;
-            assert!(rt; text.as_slice() == BUSY_AGAIN.as_bytes(), "{room}");
-            Ok(false)
-        }
+    let given = hand_over(&heap, &mut core);
+    match given {
+        Ok(text) if is_again(&text, BUSY_AGAIN) => Ok(true),
+        Err(Over::Memory) if hands_over(alloc, &mut core, BUSY_AGAIN) => Ok(false),
+        _ => Err(Fail::from("another text")),
+    }
+}
+
+fn is_again(text: &[u8], want: &str) -> bool {
+    text == want.as_bytes()
+}
+
+/// What the core hands over with room is this.
+fn hands_over<A: Allocator + Copy>(alloc: Global, core: &mut Core<A>, want: &str) -> bool {
+    match hand_over(alloc, core) {
+        Ok(text) => is_again(&text, want),
+        Err(_) => false,
     }
 }
 
 #[test]
 fn a_refused_hand_over_changes_nothing(rt: HostRuntime) -> Result<(), Fail> {
     for refused in 0..4096usize {
-        if hands_on(&rt, rt.alloc(), STEP * refused)? {
+        if hands_on(rt.alloc(), STEP * refused)? {
             assert!(rt; refused > 8, "{refused}");
             return Ok(());
         }
@@ -84,35 +89,26 @@ fn a_refused_hand_over_changes_nothing(rt: HostRuntime) -> Result<(), Fail> {
 }
 
 /// Whether a text is taken over on a heap of the given number of bytes.
-fn is_taken(rt: &impl Abort, alloc: Global, text: &str, room: usize) -> Result<bool, Fail> {
+fn is_taken(alloc: Global, text: &str, room: usize) -> Result<bool, Fail> {
     let heap = LocalHeap::new(alloc, room)?;
     match take_over(&heap, text.as_bytes(), 1) {
         Ok(_) => Ok(true),
-        Err(why) => {
-            assert!(rt; why == Over::Memory);
-            Ok(false)
-        }
+        Err(Over::Memory) => Ok(false),
+        Err(_) => Err(Fail::from("another refusal")),
     }
 }
 
 /// Whether a core is rebuilt of what a text says, on a heap of the given number of bytes; None where the text isn't
 /// read there.
-fn is_rebuilt(
-    rt: &impl Abort,
-    alloc: Global,
-    text: &str,
-    room: usize,
-) -> Result<Option<bool>, Fail> {
+fn is_rebuilt(alloc: Global, text: &str, room: usize) -> Result<Option<bool>, Fail> {
     let heap = LocalHeap::new(alloc, room)?;
     let Ok(parts) = read_state(&heap, text.as_bytes(), 1) else {
         return Ok(None);
     };
     match Core::rebuilt(&heap, parts) {
         Ok(_) => Ok(Some(true)),
-        Err(why) => {
-            assert!(rt; why == Rebuild::Memory);
-            Ok(Some(false))
-        }
+        Err(Rebuild::Memory) => Ok(Some(false)),
+        Err(_) => Err(Fail::from("another refusal")),
     }
 }
 
@@ -122,7 +118,7 @@ fn a_core_without_room_is_not_rebuilt(rt: HostRuntime) -> Result<(), Fail> {
     let mut refused = 0usize;
     let mut rebuilt = 0usize;
     for step in 1..400usize {
-        match is_rebuilt(&rt, rt.alloc(), &text, 32 * step)? {
+        match is_rebuilt(rt.alloc(), &text, 32 * step)? {
             Some(true) => rebuilt = rebuilt.wrapping_add(1),
             Some(false) => refused = refused.wrapping_add(1),
             None => {}
@@ -135,7 +131,7 @@ fn a_core_without_room_is_not_rebuilt(rt: HostRuntime) -> Result<(), Fail> {
 #[test]
 fn a_text_without_room_is_not_taken_over(rt: HostRuntime) -> Result<(), Fail> {
     for refused in 0..4096usize {
-        if is_taken(&rt, rt.alloc(), BUSY, STEP * refused)? {
+        if is_taken(rt.alloc(), BUSY, STEP * refused)? {
             assert!(rt; refused > 8, "{refused}");
             return Ok(());
         }
@@ -185,28 +181,27 @@ enum Refused {
     Before,
     Adoption,
     Nothing,
+    /// The core is another.
+    Wrong,
 }
 
 /// What is refused to a core on a heap, to which a table is given. Where that is the adoption, the core is as it was:
 /// what it hands over with room says so.
-fn refused_on(rt: &impl Abort, alloc: Global, heap: &LocalHeap) -> Result<Refused, Fail> {
-    let Ok(mut core) = take_over(heap, QUIET.as_bytes(), 1) else {
-        return Ok(Refused::Before);
-    };
+fn refused_on(alloc: Global, heap: &LocalHeap) -> Refused {
+    match take_over(heap, QUIET.as_bytes(), 1) {
+        Ok(mut core) => refused_to(alloc, heap, &mut core),
+        Err(_) => Refused::Before,
+    }
+}
+
+fn refused_to<'h>(alloc: Global, heap: &'h LocalHeap, core: &mut Core<&'h LocalHeap>) -> Refused {
     let Ok((table, _)) = inittab_text::read(heap, NEXT) else {
-        return Ok(Refused::Before);
+        return Refused::Before;
     };
     match core.adopt(table) {
-        Ok(()) => {
-            assert!(rt; core.table().len() == 4 && core.slots().len() == 5);
-            Ok(Refused::Nothing)
-        }
-        Err(why) => {
-            assert!(rt; why == Refusal::Memory);
-            let text = hand_over(alloc, &mut core)?;
-            assert!(rt; text.as_slice() == QUIET_AGAIN.as_bytes());
-            Ok(Refused::Adoption)
-        }
+        Ok(()) if core.table().len() == 4 && core.slots().len() == 5 => Refused::Nothing,
+        Err(Refusal::Memory) if hands_over(alloc, core, QUIET_AGAIN) => Refused::Adoption,
+        _ => Refused::Wrong,
     }
 }
 
@@ -215,8 +210,9 @@ fn a_refused_adoption_changes_nothing(rt: HostRuntime) -> Result<(), Fail> {
     let mut adoptions = 0usize;
     for step in 0..4096usize {
         let heap = LocalHeap::new(rt.alloc(), STEP * step)?;
-        match refused_on(&rt, rt.alloc(), &heap)? {
+        match refused_on(rt.alloc(), &heap) {
             Refused::Before => {}
+            Refused::Wrong => return Err(Fail::from("another core")),
             Refused::Adoption => adoptions = adoptions.wrapping_add(1),
             Refused::Nothing => {
                 assert!(rt; adoptions > 3, "{adoptions}");

@@ -4,7 +4,6 @@ use crate::texts::{OPENING, STARTED, STARTED_NOW, refusal};
 use state_text::Over::{self, Cut, Generation, Line, Version};
 use std::alloc::Global;
 use std::fmt::Write;
-use std::process::Abort;
 use std::test::Fail;
 
 /// A text, the generation that is asked for, and why it is refused.
@@ -64,43 +63,33 @@ const TEXTS: &[(&str, u64, Over)] = &[
     ),
 ];
 
-fn is_refused(
-    rt: &impl Abort,
-    alloc: Global,
-    text: &str,
-    generation: u64,
-    why: Over,
-) -> Result<(), Fail> {
-    let got = refusal(alloc, text.as_bytes(), generation);
-    assert!(rt; got == Some(why), "{generation}: {text}");
-    Ok(())
-}
-
 #[test]
-fn refused_texts(rt: HostRuntime) -> Result<(), Fail> {
+fn refused_texts(rt: HostRuntime) {
     for (text, generation, why) in TEXTS {
-        is_refused(&rt, rt.alloc(), text, *generation, *why)?;
+        let told = refusal(rt.alloc(), text.as_bytes(), *generation);
+        assert!(rt; told == Some(*why), "{generation}: {text}");
     }
-    Ok(())
 }
 
-fn is_cut(rt: &impl Abort, alloc: Global, text: &str, length: usize) -> Result<(), Fail> {
-    let text = text.as_bytes().get(..length).ok_or("too short")?;
-    let got = refusal(alloc, text, 1);
-    assert!(rt; got == Some(Cut), "{length}");
-    Ok(())
+fn is_cut(alloc: Global, text: &str, length: usize) -> bool {
+    match text.as_bytes().get(..length) {
+        Some(front) => refusal(alloc, front, 1) == Some(Cut),
+        None => false,
+    }
 }
 
 const WHOLE: &[&str] = &[STARTED, STARTED_NOW];
 
 #[test]
-fn cut_texts(rt: HostRuntime) -> Result<(), Fail> {
+fn cut_texts(rt: HostRuntime) {
     for text in WHOLE {
         for length in 0..text.len() {
-            is_cut(&rt, rt.alloc(), text, length)?;
+            assert!(rt;
+                is_cut(rt.alloc(), text, length),
+                "{length} bytes of {text}"
+            );
         }
     }
-    Ok(())
 }
 
 /// A text of the version, of the given number of entries, and none of its records.
@@ -130,22 +119,11 @@ const LARGEST: &[(u64, u64, Option<Over>)] = &[
     (2, 4_097, Some(Line(4_105))),
 ];
 
-fn is_large(
-    rt: &impl Abort,
-    alloc: Global,
-    version: u64,
-    entries: u64,
-    want: Option<Over>,
-) -> Result<(), Fail> {
-    let got = entries_answered(alloc, version, entries)?;
-    assert!(rt; got == want, "{version}: {entries}");
-    Ok(())
-}
-
 #[test]
 fn largest_tables(rt: HostRuntime) -> Result<(), Fail> {
     for (version, entries, want) in LARGEST {
-        is_large(&rt, rt.alloc(), *version, *entries, *want)?;
+        let told = entries_answered(rt.alloc(), *version, *entries)?;
+        assert!(rt; told == *want, "{version}: {entries}");
     }
     Ok(())
 }

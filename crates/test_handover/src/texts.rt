@@ -1,7 +1,5 @@
 use state_text::{Over, read_state};
 use std::alloc::{AllocError, Global};
-use std::process::Abort;
-use std::test::Fail;
 
 /// The state of an init with two starts under way, in runlevel 3, that was re-executed once.
 pub(crate) const STARTED: &str = "initd-state 1
@@ -69,17 +67,16 @@ fn replaced(alloc: Global, whole: &str, number: usize, lines: &str) -> Result<St
     Ok(text)
 }
 
-/// So it is answered where these lines of a text stand in place of the one of a number.
+/// Whether it is answered so where these lines of a text stand in place of the one of a number.
 pub(crate) fn is_answered(
-    rt: &impl Abort,
     alloc: Global,
     whole: &str,
     number: usize,
     lines: &str,
     want: Option<Over>,
-) -> Result<(), Fail> {
-    let text = replaced(alloc, whole, number, lines)?;
-    let got = refusal(alloc, text.as_bytes(), 1);
-    assert!(rt; got == want, "{number}: {lines}");
-    Ok(())
+) -> bool {
+    match replaced(alloc, whole, number, lines) {
+        Ok(text) => refusal(alloc, text.as_bytes(), 1) == want,
+        Err(_) => false,
+    }
 }

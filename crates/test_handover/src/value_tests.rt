@@ -9,7 +9,6 @@ use inittab_text::Table;
 use level_core::Core;
 use state_text::{Over, generation_of, read_state, write_state};
 use std::alloc::Global;
-use std::process::Abort;
 use std::test::Fail;
 
 const TABLE: &str = "id:3:initdefault:\na:3:respawn:x\nb:3:once:y\n";
@@ -216,16 +215,8 @@ fn text_of(alloc: Global, heads: &Heads, core: &Core) -> Result<Vec<u8>, Memory>
     write_state(alloc, heads, core.table(), core.slots().as_slice())
 }
 
-fn is_written(
-    rt: &impl Abort,
-    alloc: Global,
-    heads: &Heads,
-    core: &Core,
-    want: &str,
-) -> Result<(), Fail> {
-    let text = text_of(alloc, heads, core)?;
-    assert!(rt; text.as_slice() == want.as_bytes());
-    Ok(())
+fn is_written(alloc: Global, heads: &Heads, core: &Core, want: &str) -> Result<bool, Memory> {
+    Ok(text_of(alloc, heads, core)?.as_slice() == want.as_bytes())
 }
 
 fn is_timed(heads: &Heads, want: &Heads) -> bool {
@@ -312,45 +303,29 @@ fn is_said(
     Ok(are_parts(&parts, heads, kept) && is_table(alloc, &parts, table)?)
 }
 
-fn is_read(rt: &impl Abort, alloc: Global, text: &str, heads: &Heads, table: &str, kept: &[Kept]) {
-    let said = is_said(alloc, text, heads, table, kept);
-    assert!(rt; said == Ok(true));
-}
-
 #[test]
 fn a_core_is_written(rt: HostRuntime) -> Result<(), Fail> {
     let core = started(rt.alloc())?;
-    is_written(&rt, rt.alloc(), &heads_of(&core), &core, STARTED_FIRST)
+    assert!(rt; is_written(rt.alloc(), &heads_of(&core), &core, STARTED_FIRST)?);
+    Ok(())
 }
 
 #[test]
 fn each_head_is_written(rt: HostRuntime) -> Result<(), Fail> {
     let core = Core::new(rt.alloc(), Table::new(rt.alloc()), None)?;
-    is_written(&rt, rt.alloc(), &BUSY_HEADS, &core, BUSY_ALONE)
+    assert!(rt; is_written(rt.alloc(), &BUSY_HEADS, &core, BUSY_ALONE)?);
+    Ok(())
 }
 
-#[test]
-fn the_same_is_read(rt: HostRuntime) {
-    is_read(
-        &rt,
-        rt.alloc(),
-        STARTED,
-        &started_heads(),
-        TABLE,
-        STARTED_RECORDS,
-    );
-}
+const BUSY_TABLE: &str = "p:S012:powerokwait:+run it: now\n";
 
 #[test]
 fn each_word_is_read(rt: HostRuntime) {
-    is_read(
-        &rt,
-        rt.alloc(),
-        BUSY,
-        &BUSY_HEADS,
-        "p:S012:powerokwait:+run it: now\n",
-        BUSY_RECORDS,
-    );
+    let heads = started_heads();
+    let started = is_said(rt.alloc(), STARTED, &heads, TABLE, STARTED_RECORDS);
+    assert!(rt; started == Ok(true), "the same");
+    let busy = is_said(rt.alloc(), BUSY, &BUSY_HEADS, BUSY_TABLE, BUSY_RECORDS);
+    assert!(rt; busy == Ok(true), "each word");
 }
 
 /// Texts, and the generation that their second line names.
@@ -369,16 +344,9 @@ const NAMED: &[(&str, Option<u64>)] = &[
     ("", None),
 ];
 
-fn names(rt: &impl Abort, text: &str, want: Option<u64>) -> Result<(), Fail> {
-    let got = generation_of(text.as_bytes());
-    assert!(rt; got == want, "{text}");
-    Ok(())
-}
-
 #[test]
-fn generations(rt: HostRuntime) -> Result<(), Fail> {
+fn generations(rt: HostRuntime) {
     for (text, want) in NAMED {
-        names(&rt, text, *want)?;
+        assert!(rt; generation_of(text.as_bytes()) == *want, "{text}");
     }
-    Ok(())
 }

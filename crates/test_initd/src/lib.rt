@@ -1,13 +1,13 @@
-//! Rows of `initd` as it is called: command lines over files, writers that fail, traces of whole
-//! runs that are judged, and a large run.
+//! The tests of what every program needs at its edge, and of the command lines of initd and telinit where no program shows
+//! it: writers and readers that take or give little, fail or end, texts in memory, and where memory runs out.
 #![tactic(auto)]
 
 #[cfg(test)]
 mod edge_tests;
 #[cfg(test)]
-mod judged_tests;
+mod io_tests;
 #[cfg(test)]
-mod large_tests;
+mod telinit_tests;
 #[cfg(test)]
 mod word_tests;
 #[cfg(test)]

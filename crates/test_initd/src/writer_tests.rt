@@ -2,7 +2,6 @@ use program_io::write_text;
 use simulator::SimFault;
 use std::alloc::Global;
 use std::process::Abort;
-use std::test::Fail;
 use test_support::Slow;
 
 const INITTAB: &[u8] = b"id:3:initdefault:\nw:3:wait:prep\nr:3:respawn:serv\n";
@@ -36,52 +35,38 @@ const ROOMS: &[(usize, bool)] = &[
 
 /// The run is done where all of it has room, and else the fault is the writer's, which holds as much as it has room
 /// for.
-fn is_written(rt: &impl Abort, alloc: Global, room: usize, fails: bool) -> Result<(), Fail> {
+fn is_written(alloc: Global, room: usize, fails: bool) -> bool {
     let mut slow = Slow::new(alloc, room, fails, false);
-    let ended = simulator::simulate(alloc, INITTAB, None, SCRIPT, &mut slow);
     let end = if room < TRACE.len() {
         Err(SimFault::Write)
     } else {
         Ok(())
     };
-    assert!(rt;
-        ended == end && slow.taken.as_slice() == &TRACE[..room.min(TRACE.len())],
-        "at {room}"
-    );
-    Ok(())
+    simulator::simulate(alloc, INITTAB, None, SCRIPT, &mut slow) == end
+        && slow.taken.as_slice() == &TRACE[..room.min(TRACE.len())]
 }
 
 #[test]
-fn slow_writers_take_the_trace(rt: HostRuntime) -> Result<(), Fail> {
+fn slow_writers_take_the_trace(rt: HostRuntime) {
     for (room, fails) in ROOMS {
-        is_written(&rt, rt.alloc(), *room, *fails)?;
+        assert!(rt; is_written(rt.alloc(), *room, *fails), "room for {room}");
     }
-    Ok(())
 }
 
 /// The room of a writer, whether the text is written whole, and what is.
 const TEXTS: &[(usize, bool, &str)] = &[(4, true, "text"), (3, false, "tex"), (0, false, "")];
 
-fn is_taken(
-    rt: &impl Abort,
-    alloc: Global,
-    room: usize,
-    is_whole: bool,
-    taken: &str,
-) -> Result<(), Fail> {
+fn is_taken(alloc: Global, room: usize, is_whole: bool, taken: &str) -> bool {
     let mut slow = Slow::new(alloc, room, true, false);
-    let whole = write_text(&mut slow, b"text").is_ok();
-    assert!(rt;
-        whole == is_whole && slow.taken.as_slice() == taken.as_bytes(),
-        "at {room}"
-    );
-    Ok(())
+    write_text(&mut slow, b"text").is_ok() == is_whole && slow.taken.as_slice() == taken.as_bytes()
 }
 
 #[test]
-fn texts_are_written_whole(rt: HostRuntime) -> Result<(), Fail> {
+fn texts_are_written_whole(rt: HostRuntime) {
     for (room, is_whole, taken) in TEXTS {
-        is_taken(&rt, rt.alloc(), *room, *is_whole, taken)?;
+        assert!(rt;
+            is_taken(rt.alloc(), *room, *is_whole, taken),
+            "room for {room}"
+        );
     }
-    Ok(())
 }

@@ -6,7 +6,6 @@ use init_words::{Answer, ChildNo, Id, Memory, Part, Sig, Status};
 use linked_list_allocator::LocalHeap;
 use memory_host::MemoryHost;
 use std::alloc::Global;
-use std::process::Abort;
 use std::test::Fail;
 
 type Text = Result<&'static [u8], HostFault>;
@@ -377,41 +376,30 @@ fn give_all(alloc: Global, host: &mut MemoryHost, id: Id, gifts: &[Gift]) -> Res
     Ok(())
 }
 
-fn are_given(
-    rt: &impl Abort,
-    alloc: Global,
-    host: &mut MemoryHost,
-    id: Id,
-    calls: &[Want],
-) -> Result<(), Fail> {
+fn are_given(alloc: Global, host: &mut MemoryHost, id: Id, calls: &[Want]) -> Result<bool, Fail> {
     for call in calls {
-        assert!(rt; is_given(alloc, host, id, *call)?);
+        if !is_given(alloc, host, id, *call)? {
+            return Ok(false);
+        }
     }
-    Ok(())
+    Ok(true)
 }
 
-fn is_followed(
-    rt: &impl Abort,
-    alloc: Global,
-    host: &mut MemoryHost,
-    row: &Row,
-) -> Result<(), Fail> {
+fn is_followed(alloc: Global, host: &mut MemoryHost, row: &Row) -> Result<bool, Fail> {
     let id = id_of(b"late")?;
     give_all(alloc, host, id, row.gifts)?;
-    are_given(rt, alloc, host, id, row.calls)?;
-    assert!(rt; host.faults() == row.faults && told(host) == Some(row.calls.len()));
-    Ok(())
-}
-
-fn is_kept(rt: &impl Abort, alloc: Global, row: &Row) -> Result<(), Fail> {
-    let mut host = MemoryHost::new(alloc);
-    is_followed(rt, alloc, &mut host, row)
+    Ok(
+        are_given(alloc, host, id, row.calls)?
+            && host.faults() == row.faults
+            && told(host) == Some(row.calls.len()),
+    )
 }
 
 #[test]
 fn calls_take_the_first_of_their_queue(rt: HostRuntime) -> Result<(), Fail> {
-    for row in ROWS {
-        is_kept(&rt, rt.alloc(), row)?;
+    for (place, row) in ROWS.iter().enumerate() {
+        let mut host = MemoryHost::new(rt.alloc());
+        assert!(rt; is_followed(rt.alloc(), &mut host, row)?, "row {place}");
     }
     Ok(())
 }

@@ -1,11 +1,11 @@
-//! Growths are refused in turn, on heaps of more and more room, until a call meets no refusal: what is answered is lack
-//! of memory, and the files are as they were.
+//! Growths of calls that read a text are refused in turn, on heaps of more and more room, until a call meets no refusal:
+//! what is answered is lack of memory, a fault, and the files are as they were.
 
-use crate::hosts::{Paths, SystemHost, host_of, is_only};
+use crate::hosts::{Paths, SystemHost, host_of};
 use child_host::{Host, HostFault};
-use init_words::Memory;
+use init_words::Part;
 use linked_list_allocator::LocalHeap;
-use std::alloc::Global;
+use std::alloc::{Allocator, Global};
 use std::fs;
 use std::process::Abort;
 use std::test::Fail;
@@ -18,84 +18,78 @@ const PATHS: &Paths = &Paths {
     inittab: "g.tab",
     channel: "g.ctl",
     state: "g.state",
+    folder: Some("g.d"),
 };
 
 const TABLE: &str = "id:3:initdefault:\nr:3:respawn:/bin/serv with its words\n";
 
-/// A call that reads a text.
-#[derive(Clone, Copy)]
-enum Call {
-    Table,
-    Carry,
+/// The parts are the inittab and those of its folder.
+fn are_all<A: Allocator>(parts: &[Part<A>]) -> bool {
+    match parts {
+        [own, first, second] => {
+            own.bytes.as_slice() == TABLE.as_bytes()
+                && first.name.as_str() == "10-a.tab"
+                && second.name.as_str() == "20-b.tab"
+        }
+        _ => false,
+    }
 }
 
-/// Whether a call has room for its text on a heap.
-fn has_room(
-    rt: &impl Abort,
-    heap: &LocalHeap,
-    host: &mut SystemHost,
-    call: Call,
-) -> Result<bool, Fail> {
+fn has_read(host: &mut SystemHost, heap: &LocalHeap) -> Result<bool, HostFault> {
+    Ok(are_all(&host.read_tables(heap)?))
+}
+
+fn has_carried(host: &mut SystemHost, heap: &LocalHeap) -> Result<bool, HostFault> {
+    Ok(host.carry(heap, TABLE.as_bytes())?.as_slice() == TABLE.as_bytes())
+}
+
+/// Whether the call had room on a heap; `None` where it gave what it mustn't.
+fn has_room(given: Result<bool, HostFault>, faults: u64) -> Option<bool> {
+    match given {
+        Ok(true) if faults == 0 => Some(true),
+        Err(HostFault::Memory) if faults > 0 => Some(false),
+        _ => None,
+    }
+}
+
+/// A call of a host, and how many faults it counted.
+fn call(host: &mut SystemHost, heap: &LocalHeap, is_carry: bool) -> Option<bool> {
     let before = host.faults();
-    match given(heap, host, call) {
-        Ok(is_text) => {
-            assert!(rt; is_text && host.faults() == before);
-            Ok(true)
-        }
-        Err(why) => {
-            assert!(rt; why == HostFault::Memory && host.faults() > before);
-            Ok(false)
-        }
+    let given = if is_carry {
+        has_carried(host, heap)
+    } else {
+        has_read(host, heap)
+    };
+    has_room(given, host.faults().saturating_sub(before))
+}
+
+fn call_in(host: &mut SystemHost, alloc: Global, room: usize, is_carry: bool) -> Option<bool> {
+    match LocalHeap::new(alloc, room) {
+        Ok(heap) => call(host, &heap, is_carry),
+        Err(_) => None,
     }
 }
 
-/// Whether what a call gives is the text.
-fn given(heap: &LocalHeap, host: &mut SystemHost, call: Call) -> Result<bool, HostFault> {
-    match call {
-        Call::Table => Ok(is_only(&host.read_tables(heap)?, PATHS.inittab, TABLE.as_bytes())),
-        Call::Carry => Ok(host.carry(heap, TABLE.as_bytes())?.as_slice() == TABLE.as_bytes()),
-    }
-}
-
-/// How many heaps refuse a call before the first that has room for it.
-fn refusals(
-    rt: &impl Abort,
-    alloc: Global,
-    host: &mut SystemHost,
-    call: Call,
-) -> Result<usize, Fail> {
-    for refused in 0..4096usize {
-        let heap = LocalHeap::new(alloc, STEP * refused)?;
-        if has_room(rt, &heap, host, call)? {
-            return Ok(refused);
+/// How many heaps refuse a call before the first that has room for it; 0 where it gives what it mustn't.
+fn refusals(host: &mut SystemHost, alloc: Global, is_carry: bool) -> usize {
+    for refused in 0..8192usize {
+        match call_in(host, alloc, STEP * refused, is_carry) {
+            Some(true) => return refused,
+            Some(false) => {}
+            None => return 0,
         }
     }
-    Err(Fail::from("no heap has room"))
+    0
 }
 
 #[test]
 fn a_text_without_room_is_a_fault(rt: HostRuntime) -> Result<(), Fail> {
-    fs::write(&rt, PATHS.inittab, TABLE)?;
+    fs::write(&rt, "g.tab", TABLE)?;
+    fs::create_dir(&rt, "g.d")?;
+    fs::write(&rt, "g.d/10-a.tab", "a:3:once:x\n")?;
+    fs::write(&rt, "g.d/20-b.tab", "")?;
     let mut host = host_of(&rt, rt.alloc(), PATHS)?;
-    for call in [Call::Table, Call::Carry] {
-        assert!(rt; refusals(&rt, rt.alloc(), &mut host, call)? > 1);
-    }
-    fs::remove_file(&rt, PATHS.inittab)?;
-    fs::remove_file(&rt, PATHS.state)?;
+    assert!(rt; refusals(&mut host, rt.alloc(), false) > 1, "inittab");
+    assert!(rt; refusals(&mut host, rt.alloc(), true) > 1, "state");
     Ok(())
-}
-
-#[test]
-fn a_host_without_room_is_not_made(rt: HostRuntime) -> Result<(), Fail> {
-    for refused in 0..4096usize {
-        let heap = LocalHeap::new(rt.alloc(), STEP * refused)?;
-        match host_of(&rt, &heap, PATHS) {
-            Ok(host) => {
-                assert!(rt; refused > 1 && host.faults() == 0);
-                return Ok(());
-            }
-            Err(Memory) => {}
-        }
-    }
-    Err(Fail::from("no heap has room"))
 }

@@ -85,45 +85,32 @@ fn is_answered<A: Allocator + Copy>(judge: &TextJudge<A>, said: Said, left: u64)
     is_said(finding, said) && told.unwrap_or(0) == left
 }
 
-fn is_judged(
-    rt: &impl Abort,
-    alloc: Global,
-    text: &str,
-    size: usize,
-    said: Said,
-    left: u64,
-) -> Result<(), Fail> {
+fn is_judged(alloc: Global, text: &str, size: usize, said: Said, left: u64) -> bool {
     let mut judge = TextJudge::new(alloc);
-    hand_over(&mut judge, text.as_bytes(), size)?;
-    assert!(rt;
-        is_answered(&judge, said, left),
-        "pieces of {size} of {text:?}"
-    );
-    Ok(())
+    hand_over(&mut judge, text.as_bytes(), size).is_ok() && is_answered(&judge, said, left)
 }
 
 #[test]
-fn a_text_is_judged_however_it_is_cut(rt: HostRuntime) -> Result<(), Fail> {
+fn a_text_is_judged_however_it_is_cut(rt: HostRuntime) {
     for (text, said, left) in TEXTS {
         for size in SIZES {
-            is_judged(&rt, rt.alloc(), text, size, *said, *left)?;
+            let judged = is_judged(rt.alloc(), text, size, *said, *left);
+            assert!(rt; judged, "pieces of {size} of {text}");
         }
     }
-    Ok(())
 }
 
 const TRACE: &str =
     "use 2\na:3:once:x\nb:1:once:y\nenter 3 5\nask a start\nbirth a 10\ntold a\nenter 1 5\nask b start\nbirth b 11\n";
 
-/// Whether the heap had room for the judge; where it had, the answer is right.
-fn is_done(rt: &impl Abort, heap: &LocalHeap) -> bool {
+/// Whether the answer is right; none where the heap has no room for the judge.
+fn is_done(heap: &LocalHeap) -> Option<bool> {
     let mut judge = TextJudge::new(heap);
     if hand_over(&mut judge, TRACE.as_bytes(), 7).is_err() {
-        return false;
+        return None;
     }
     let said = Said::Breach(7, Law::BesideExcluded, 10, "birth b 11\n");
-    assert!(rt; is_answered(&judge, said, 0));
-    true
+    Some(is_answered(&judge, said, 0))
 }
 
 #[test]
@@ -132,12 +119,14 @@ fn refused_growths_in_pieces(rt: HostRuntime) -> Result<(), Fail> {
     let mut done = 0usize;
     for step in 1..200usize {
         let heap = LocalHeap::new(rt.alloc(), 64 * step)?;
-        if is_done(&rt, &heap) {
-            done = done.wrapping_add(1);
-        } else {
-            refused = refused.wrapping_add(1);
+        match is_done(&heap) {
+            Some(right) => {
+                assert!(rt; right, "{step}");
+                done = done.wrapping_add(1);
+            }
+            None => refused = refused.wrapping_add(1),
         }
     }
-    assert!(&rt; refused > 8 && done > 8, "{refused} {done}");
+    assert!(rt; refused > 8 && done > 8, "{refused} {done}");
     Ok(())
 }

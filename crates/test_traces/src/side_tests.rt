@@ -3,7 +3,6 @@ use init_trace::HappeningIn;
 use init_words::{Answer, Ask, ChildNo, Id, Status};
 use simulated_system::{Objection, SimulatedSystem};
 use std::alloc::Global;
-use std::process::Abort;
 
 /// What is done with the system's side, or asked of it.
 enum Turn {
@@ -78,11 +77,15 @@ fn goes(alloc: Global, side: &mut SimulatedSystem, turn: &Turn) -> bool {
     }
 }
 
-fn follow(rt: &impl Abort, alloc: Global, turns: &[Turn]) {
+/// The first turn that goes otherwise.
+fn wrong_turn(alloc: Global, turns: &[Turn]) -> Option<usize> {
     let mut side = SimulatedSystem::new(alloc);
-    for turn in turns {
-        assert!(rt; goes(alloc, &mut side, turn));
+    for (place, turn) in turns.iter().enumerate() {
+        if !goes(alloc, &mut side, turn) {
+            return Some(place);
+        }
     }
+    None
 }
 
 /// The children born for a and b take the number 7 in turn: it is free only once the first is reaped.
@@ -190,17 +193,16 @@ const OBJECTIONS: &[Turn] = &[
     Turn::Line("nudge", true),
 ];
 
-#[test]
-fn number_of_two_children(rt: HostRuntime) {
-    follow(&rt, rt.alloc(), IN_TURN);
-}
+const SIDES: &[(&[Turn], &str)] = &[
+    (IN_TURN, "two children in turn"),
+    (AT_ONCE, "two children at once"),
+    (OBJECTIONS, "each objection"),
+];
 
 #[test]
-fn two_children_at_once(rt: HostRuntime) {
-    follow(&rt, rt.alloc(), AT_ONCE);
-}
-
-#[test]
-fn each_objection(rt: HostRuntime) {
-    follow(&rt, rt.alloc(), OBJECTIONS);
+fn sides_go_so(rt: HostRuntime) {
+    for (turns, name) in SIDES {
+        let wrong = wrong_turn(rt.alloc(), turns);
+        assert!(rt; wrong.is_none(), "{name}: {wrong:?}");
+    }
 }

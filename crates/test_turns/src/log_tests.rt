@@ -8,7 +8,6 @@ use level_core::Core;
 use linked_list_allocator::LocalHeap;
 use memory_host::MemoryHost;
 use std::alloc::Global;
-use std::process::Abort;
 use std::test::Fail;
 use supervisor::Served;
 use test_support::Slow;
@@ -142,17 +141,16 @@ fn a_list_that_cannot_grow_ends_the_log(rt: HostRuntime) {
 
 /// Whether a log over a heap of the given number of bytes has room for each happening's text: what it wrote is a front
 /// of the trace, and the run ended so.
-fn is_streamed_over(rt: &impl Abort, alloc: Global, room: usize) -> Result<bool, Fail> {
+fn is_streamed_over(alloc: Global, room: usize) -> Result<bool, Fail> {
     let heap = LocalHeap::new(alloc, room)?;
     let mut log = StreamLog::new(&heap, Slow::new(alloc, TRACE.len(), true, false));
     let Some(served) = served(alloc, &mut log) else {
         return Err(Fail::from("no run"));
     };
     let taken = log.writer().taken.as_slice();
-    assert!(rt;
-        TRACE.starts_with(taken) && served == ended(taken.len() == TRACE.len()),
-        "{room}"
-    );
+    if !TRACE.starts_with(taken) || served != ended(taken.len() == TRACE.len()) {
+        return Err(Fail::from("another text"));
+    }
     Ok(served.logged)
 }
 
@@ -160,7 +158,7 @@ fn is_streamed_over(rt: &impl Abort, alloc: Global, room: usize) -> Result<bool,
 #[test]
 fn a_log_without_room_ends(rt: HostRuntime) -> Result<(), Fail> {
     for refused in 0..4096usize {
-        if is_streamed_over(&rt, rt.alloc(), 16 * refused)? {
+        if is_streamed_over(rt.alloc(), 16 * refused)? {
             assert!(rt; refused > 2, "{refused}");
             return Ok(());
         }

@@ -5,6 +5,7 @@ use std::alloc::Global;
 use std::env::{Env, FillError};
 use std::io::{ErrorKind, Read, Write};
 use std::process::Abort;
+use std::rt::Files;
 use std::test::Fail;
 use std::{fs, io};
 use test_support::Slow;
@@ -27,22 +28,23 @@ fn fault_of(written: io::Result<()>) -> Option<ErrorKind> {
 }
 
 fn is_written(
-    rt: &impl Abort,
     alloc: Global,
     room: usize,
     fails: bool,
     fault: Option<ErrorKind>,
     taken: &[u8],
-) {
+) -> bool {
     let mut slow = Slow::new(alloc, room, fails, false);
-    let ended = fault_of(write_text(&mut slow, b"request"));
-    assert!(rt; ended == fault && slow.taken.as_slice() == taken);
+    fault_of(write_text(&mut slow, b"request")) == fault && slow.taken.as_slice() == taken
 }
 
 #[test]
 fn slow_writers_take_it_all(rt: HostRuntime) {
     for (room, fails, fault, taken) in WRITES {
-        is_written(&rt, rt.alloc(), *room, *fails, *fault, taken);
+        assert!(rt;
+            is_written(rt.alloc(), *room, *fails, *fault, taken),
+            "room for {room}"
+        );
     }
 }
 
@@ -99,46 +101,41 @@ fn count_of(read: io::Result<Vec<u8>>) -> Result<usize, ErrorKind> {
     }
 }
 
-fn is_counted(
-    rt: &impl Abort,
-    alloc: Global,
-    left: usize,
-    fails: bool,
-    want: Result<usize, ErrorKind>,
-) {
+fn is_counted(alloc: Global, left: usize, fails: bool, want: Result<usize, ErrorKind>) -> bool {
     let mut from = Drops { left, fails };
-    let count = count_of(read_all(alloc, &mut from));
-    assert!(rt; count == want && from.left == 0);
+    count_of(read_all(alloc, &mut from)) == want && from.left == 0
 }
 
 #[test]
 fn slow_readers_are_read_to_their_end(rt: HostRuntime) {
     for (left, fails, want) in READS {
-        is_counted(&rt, rt.alloc(), *left, *fails, *want);
+        assert!(rt;
+            is_counted(rt.alloc(), *left, *fails, *want),
+            "{left} bytes"
+        );
     }
 }
 
 /// A file of more than one read's bytes.
 const LONG: &[u8] = &[b'x'; 20_000];
 
-fn is_found(rt: &impl Abort, read: io::Result<Vec<u8>>, want: Result<usize, ErrorKind>) {
-    assert!(rt; count_of(read) == want);
+/// How many bytes of a file are read, all `x`, or how that ends.
+fn count_in(rt: &impl Files, alloc: Global, path: &str) -> Result<usize, ErrorKind> {
+    count_of(read_file(rt, alloc, path))
 }
 
 #[test]
 fn files_are_read_whole(rt: HostRuntime) -> Result<(), Fail> {
     fs::write(&rt, "long", LONG)?;
-    is_found(&rt, read_file(&rt, rt.alloc(), "long"), Ok(20_000));
+    assert!(rt; count_in(&rt, rt.alloc(), "long") == Ok(20_000), "long");
     fs::remove_file(&rt, "long")?;
-    is_found(
-        &rt,
-        read_file(&rt, rt.alloc(), "long"),
-        Err(ErrorKind::NotFound),
+    assert!(rt;
+        count_in(&rt, rt.alloc(), "long") == Err(ErrorKind::NotFound),
+        "missing"
     );
-    is_found(
-        &rt,
-        read_file(&rt, rt.alloc(), "."),
-        Err(ErrorKind::IsADirectory),
+    assert!(rt;
+        count_in(&rt, rt.alloc(), ".") == Err(ErrorKind::IsADirectory),
+        "a folder"
     );
     Ok(())
 }
@@ -196,20 +193,18 @@ fn is_read(read: &io::Result<Vec<String>>, want: Option<&[&str]>) -> bool {
     }
 }
 
-fn line_is_read(
-    rt: &impl Abort,
-    alloc: Global,
-    line: &'static [&'static [u8]],
-    want: Option<&[&str]>,
-) {
-    let read = words(&(Line(line), alloc), alloc);
-    assert!(rt; is_read(&read, want));
+fn line_is_read(alloc: Global, line: &'static [&'static [u8]], want: Option<&[&str]>) -> bool {
+    is_read(&words(&(Line(line), alloc), alloc), want)
 }
 
 #[test]
 fn words_begin_behind_the_name(rt: HostRuntime) {
     for (line, want) in LINES {
-        line_is_read(&rt, rt.alloc(), line, *want);
+        assert!(rt;
+            line_is_read(rt.alloc(), line, *want),
+            "{} words",
+            line.len()
+        );
     }
 }
 
@@ -224,6 +219,6 @@ const WORDS: &[(&str, Option<u8>)] = &[
 #[test]
 fn only_bytes(rt: HostRuntime) {
     for (word, byte) in WORDS {
-        assert!(rt; only_byte(word) == *byte);
+        assert!(rt; only_byte(word) == *byte, "{word}");
     }
 }

@@ -1,0 +1,94 @@
+//! Hosts on heaps of more and more room, until they are made and bear a child.
+
+use crate::hosts::{Paths, SystemHost, host_of, id_of};
+use child_host::{Host, Reply};
+use init_words::{Answer, Id};
+use linked_list_allocator::LocalHeap;
+use std::process::Abort;
+use std::test::Fail;
+
+const PATHS: &Paths = &Paths {
+    inittab: "r.tab",
+    channel: "r.ctl",
+    state: "r.state",
+    folder: None,
+};
+
+/// What came of a host on a heap.
+#[derive(Clone, Copy, PartialEq, Eq)]
+enum Made {
+    Nothing,
+    Host,
+    /// The host, and what it was asked for.
+    All,
+    /// A child whose start is refused, or another number of faults.
+    Wrong,
+}
+
+/// Starts a child: where that is refused there is none, and it is a fault.
+fn bear(host: &mut SystemHost<&LocalHeap>, heap: &LocalHeap, id: Id) -> Made {
+    let reply = host.start(heap, id, b"true");
+    let is_born = matches!(reply, Reply::Now(Answer::Born(_)));
+    let is_sound = host.faults() == u64::from(!is_born);
+    let is_there = host.look(id) != Reply::Now(Answer::NoLook);
+    match (is_born, is_sound && is_there == is_born) {
+        (true, true) => Made::All,
+        (false, true) => Made::Host,
+        _ => Made::Wrong,
+    }
+}
+
+fn with_child(rt: &HostRuntime, heap: &LocalHeap, id: Id) -> Made {
+    match host_of(rt, heap, PATHS) {
+        Ok(mut host) => bear(&mut host, heap, id),
+        Err(_) => Made::Nothing,
+    }
+}
+
+fn log(host: SystemHost<&LocalHeap>) -> Made {
+    match host.with_logs("a folder of a long enough name") {
+        Ok(_) => Made::All,
+        Err(_) => Made::Host,
+    }
+}
+
+fn with_logs(rt: &HostRuntime, heap: &LocalHeap) -> Made {
+    match host_of(rt, heap, PATHS) {
+        Ok(host) => log(host),
+        Err(_) => Made::Nothing,
+    }
+}
+
+/// What comes of a host on so much memory, that bears a child of this id or, without one, has logs.
+fn made_in(rt: &HostRuntime, room: usize, id: Option<Id>) -> Made {
+    match (LocalHeap::new(rt.alloc(), room), id) {
+        (Ok(heap), Some(id)) => with_child(rt, &heap, id),
+        (Ok(heap), None) => with_logs(rt, &heap),
+        (Err(_), _) => Made::Wrong,
+    }
+}
+
+/// In steps of 16 bytes first no host is made, then one that refuses what it is asked for, and at last, past so many
+/// steps, one that does it.
+fn comes_of_room(rt: &HostRuntime, id: Option<Id>, least: usize) -> bool {
+    let mut before = Made::Nothing;
+    for step in 0..1024usize {
+        let made = made_in(rt, 16 * step, id);
+        match (before, made) {
+            (Made::Nothing, Made::Nothing) if step < 1000 => {}
+            (Made::Nothing, Made::Host) if step > 1 => {}
+            (Made::Host, Made::Host) => {}
+            (Made::Host, Made::All) => return step > least,
+            _ => return false,
+        }
+        before = made;
+    }
+    false
+}
+
+#[test]
+fn a_host_and_its_child_need_room(rt: HostRuntime) -> Result<(), Fail> {
+    assert!(rt; comes_of_room(&rt, Some(id_of(b"m")?), 8), "a child");
+    assert!(rt; comes_of_room(&rt, None, 2), "logs");
+    Ok(())
+}
