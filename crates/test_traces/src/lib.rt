@@ -7,6 +7,8 @@ mod brief_tests;
 #[cfg(test)]
 mod growth_tests;
 #[cfg(test)]
+mod judged_tests;
+#[cfg(test)]
 mod line_tests;
 #[cfg(test)]
 mod log_fault_tests;
