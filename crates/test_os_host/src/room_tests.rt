@@ -59,21 +59,28 @@ fn with_logs(rt: &HostRuntime, heap: &LocalHeap) -> Made {
     }
 }
 
-/// What comes of a host on so much memory, that bears a child of this id or, without one, has logs.
-fn made_in(rt: &HostRuntime, room: usize, id: Option<Id>) -> Made {
-    match (LocalHeap::new(rt.alloc(), room), id) {
-        (Ok(heap), Some(id)) => with_child(rt, &heap, id),
-        (Ok(heap), None) => with_logs(rt, &heap),
-        (Err(_), _) => Made::Wrong,
+/// What comes of a host on a heap, that bears a child of this id, or has logs.
+fn made_on(rt: &HostRuntime, heap: &LocalHeap, id: Id, is_child: bool) -> Made {
+    if is_child {
+        with_child(rt, heap, id)
+    } else {
+        with_logs(rt, heap)
+    }
+}
+
+fn made_in(rt: &HostRuntime, room: usize, id: Id, is_child: bool) -> Made {
+    match LocalHeap::new(rt.alloc(), room) {
+        Ok(heap) => made_on(rt, &heap, id, is_child),
+        Err(_) => Made::Wrong,
     }
 }
 
 /// In steps of 16 bytes first no host is made, then one that refuses what it is asked for, and at last, past so many
 /// steps, one that does it.
-fn comes_of_room(rt: &HostRuntime, id: Option<Id>, least: usize) -> bool {
+fn comes_of_room(rt: &HostRuntime, id: Id, is_child: bool, least: usize) -> bool {
     let mut before = Made::Nothing;
     for step in 0..1024usize {
-        let made = made_in(rt, 16 * step, id);
+        let made = made_in(rt, 16 * step, id, is_child);
         match (before, made) {
             (Made::Nothing, Made::Nothing) if step < 1000 => {}
             (Made::Nothing, Made::Host) if step > 1 => {}
@@ -88,7 +95,8 @@ fn comes_of_room(rt: &HostRuntime, id: Option<Id>, least: usize) -> bool {
 
 #[test]
 fn a_host_and_its_child_need_room(rt: HostRuntime) -> Result<(), Fail> {
-    assert!(rt; comes_of_room(&rt, Some(id_of(b"m")?), 8), "a child");
-    assert!(rt; comes_of_room(&rt, None, 2), "logs");
+    let id = id_of(b"m")?;
+    assert!(rt; comes_of_room(&rt, id, true, 8), "a child");
+    assert!(rt; comes_of_room(&rt, id, false, 2), "logs");
     Ok(())
 }
