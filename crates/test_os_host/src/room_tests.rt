@@ -78,17 +78,23 @@ fn made_in(rt: &HostRuntime, room: usize, id: Id, is_child: bool) -> Made {
 /// In steps of 16 bytes first no host is made, then one that refuses what it is asked for, and at last, past so many
 /// steps, one that does it.
 fn comes_of_room(rt: &HostRuntime, id: Id, is_child: bool, least: usize) -> bool {
-    let mut before = Made::Nothing;
+    let mut is_host = false;
     for step in 0..1024usize {
-        let made = made_in(rt, 16 * step, id, is_child);
-        match (before, made) {
-            (Made::Nothing, Made::Nothing) if step < 1000 => {}
-            (Made::Nothing, Made::Host) if step > 1 => {}
-            (Made::Host, Made::Host) => {}
-            (Made::Host, Made::All) => return step > least,
-            _ => return false,
+        match made_in(rt, 16 * step, id, is_child) {
+            Made::Nothing => {
+                if is_host {
+                    return false;
+                }
+            }
+            Made::Host => {
+                if step < 2 {
+                    return false;
+                }
+                is_host = true;
+            }
+            Made::All => return is_host && step > least,
+            Made::Wrong => return false,
         }
-        before = made;
     }
     false
 }
