@@ -360,16 +360,35 @@ const READ: &[(usize, &str)] = &[
     (13, "slot id - - start - 1000 - 0"),
 ];
 
-/// Rows of a text of version 1 that is refused.
-const REFUSED: &[&[(usize, &str, Over)]] = &[HEADS, TABLES, SLOTS, ENDS];
+#[test]
+fn heads(rt: HostRuntime) {
+    for (number, lines, why) in HEADS {
+        let told = is_answered(rt.alloc(), STARTED, *number, lines, Some(*why));
+        assert!(rt; told, "{number}: {lines}");
+    }
+}
 
 #[test]
-fn refused_lines(rt: HostRuntime) {
-    for rows in REFUSED {
-        for (number, lines, why) in *rows {
-            let told = is_answered(rt.alloc(), STARTED, *number, lines, Some(*why));
-            assert!(rt; told, "{number}: {lines}");
-        }
+fn tables(rt: HostRuntime) {
+    for (number, lines, why) in TABLES {
+        let told = is_answered(rt.alloc(), STARTED, *number, lines, Some(*why));
+        assert!(rt; told, "{number}: {lines}");
+    }
+}
+
+#[test]
+fn slots(rt: HostRuntime) {
+    for (number, lines, why) in SLOTS {
+        let told = is_answered(rt.alloc(), STARTED, *number, lines, Some(*why));
+        assert!(rt; told, "{number}: {lines}");
+    }
+}
+
+#[test]
+fn ends(rt: HostRuntime) {
+    for (number, lines, why) in ENDS {
+        let told = is_answered(rt.alloc(), STARTED, *number, lines, Some(*why));
+        assert!(rt; told, "{number}: {lines}");
     }
 }
 
