@@ -14,16 +14,16 @@ fn is_begin(line: &[u8]) -> bool
     without_tail(line) == b"### BEGIN INIT INFO".as_slice()
 }
 
-/// The line that ends the header.
+/// The line that ends the header, whatever stands behind its words.
 #[tactic(auto, unfolding(crate::specs::Blocks::is_end))]
 fn is_end(line: &[u8]) -> bool
     ensures { result ≡ is_end line.now }
 {
-    without_tail(line) == b"### END INIT INFO".as_slice()
+    line.starts_with(b"### END INIT INFO")
 }
 
 /// The text after the line that begins the header, and the number of that line.
-pub(crate) fn begun(text: &[u8]) -> Option<(usize, &[u8])>
+pub fn begun(text: &[u8]) -> Option<(usize, &[u8])>
     ensures value { option_map (λ parts. (parts.0, lines_of parts.1.now)) result
         ≡ begun 1 (lines_of text.now) }
     ensures counted { IfSome result (λ parts. parts.0 + length parts.1.now ≤ length text.now) }
@@ -57,7 +57,7 @@ pub(crate) fn has_end(body: &[u8]) -> bool
 }
 
 /// The first line of what is left of the header, and the text after it.
-pub(crate) fn block_line(rest: &[u8]) -> Option<(&[u8], &[u8])>
+pub fn block_line(rest: &[u8]) -> Option<(&[u8], &[u8])>
     ensures none { IfNone result (block_in rest.now ≡ []) }
     ensures some { IfSome result (λ parts. block_in rest.now ≡ parts.0.now ∷ block_in parts.1.now) }
     ensures shorter { IfSome result (λ parts. length parts.1.now < length rest.now) }

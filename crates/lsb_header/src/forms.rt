@@ -77,7 +77,7 @@ pub(crate) fn is_line(line: &[u8]) -> bool
 
 /// The keyword of a line that has one of the nine, and the text after its colon.
 #[tactic(auto, unfolding(crate::specs::Forms::known_of))]
-pub(crate) fn known_of(line: &[u8]) -> Option<(Keyword, &[u8])>
+pub fn known_of(line: &[u8]) -> Option<(Keyword, &[u8])>
     ensures { option_map (λ parts. (parts.0, parts.1.now)) result ≡ known_of line.now }
 {
     let (word, args) = field_of(line)?;

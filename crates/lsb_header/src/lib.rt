@@ -11,7 +11,9 @@ mod keywords;
 mod pieces;
 mod places;
 
+pub use blocks::{begun, block_line};
 pub use faults::HeaderFault;
+pub use forms::known_of;
 pub use headers::{Header, read};
 pub use keywords::Keyword;
 pub use places::second_line;

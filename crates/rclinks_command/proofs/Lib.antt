@@ -1,2 +1,4 @@
 pub mod PathLemmas
+pub mod ReadingLemmas
+pub mod SkippingLemmas
 pub mod VersionWords

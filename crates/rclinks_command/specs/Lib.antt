@@ -1,2 +1,4 @@
 pub mod Command
 pub mod Files
+pub mod Reading
+pub mod Skipping

@@ -1,4 +1,4 @@
-ghost use Rattle.std.specs.Prelude.{◌≡◌, ◌⊎◌, ◌++◌, true, false, codes, map, string_bytes, Contains, IfOk, IfErr, OnOk};
+ghost use Rattle.std.specs.Prelude.{◌≡◌, ◌⊎◌, true, false, codes, map, string_bytes};
 ghost use Rattle.std.specs.List.{list_any};
 ghost use Rattle.std.specs.Io.KnownBytes.{Appends};
 ghost use Rattle.program_io.specs.Writing.{AppendsPrefix};
@@ -6,98 +6,55 @@ ghost use Rattle.program_version.specs.VersionLine.{PrintsVersion};
 ghost use Rattle.command_words.specs.CommandLines.{asks_version};
 ghost use Rattle.command_words.specs.Faults.{usage_report};
 ghost use Rattle.rc_links.specs.Links.{plan_text};
-ghost use Rattle.rclinks_command.specs.Command.{AddsScript, AreScripts, HasNoPlan, IsRefusedRun, PrintsLinks, PrintsPart, PrintsPlan, PrintsPlanPart, is_help, plan_status, usage_reason, wants_usage};
-ghost use Rattle.rclinks_command.specs.Files.{IsNoScriptAt, file_status};
+ghost use Rattle.rclinks_command.specs.Skipping.{LeavesSome};
+ghost use Rattle.rclinks_command.specs.Command.{Prints, PrintsPart, IsRefusedFor, IsRefusedRun, HasNoPlan, PrintsLine, PrintsLinePart, PrintsPlan, PrintsPlanPart, is_help, line_of, plan_status, usage_reason, wants_usage};
 
-use crate::files::{FileFault, script_of};
+use crate::files::FileFault;
+use crate::reading::read_files;
+use crate::skipping::plan_rest;
+use crate::telling::tell_system_names;
 use command_words::{is_version, report_refused_words};
-use init_words::Memory;
 use path_texts::Texts;
-use program_io::{DEVICE_FAULT, DONE, REFUSED, write_text};
+use program_io::{DEVICE_FAULT, DONE, REFUSED, report_no_memory, write_text};
 use program_version::print_version;
-use rc_links::{Plan, PlanFault, Script};
+use rc_links::{Plan, PlanFault, Script, plan};
 use std::alloc::Global;
 use std::io::Write;
 
 /// What is told of words that are no command line, behind a line that says why, and where help is asked for.
-pub const USAGE: &str = "usage: rclinks FILE..
+pub const USAGE: &str = "usage: rclinks [--skip] FILE..
        rclinks --version
+  --skip  leave out the scripts that can't be read or planned, and plan the others
 ";
 
-/// A file that gives no script, and why.
-#[derive(Drop)]
-struct Refusal<'w> {
-    fault: FileFault,
-    path: &'w str,
+/// What words ask for.
+#[derive(Clone, Copy)]
+struct Line<'w> {
+    /// A script that can't be read or planned is left out.
+    skips: bool,
+    /// The paths of the scripts.
+    files: &'w [String],
 }
 
-/// Adds the script of a path.
-fn add_script<T: Texts>(
-    texts: &T,
-    alloc: Global,
-    scripts: &mut Vec<Script>,
-    path: &str,
-) -> Result<(), FileFault>
-    ensures added { OnOk result (AddsScript (T.text_at texts.now) path.now
-        scripts.old.items scripts.new.items) }
-    ensures fault { IfErr result (IsNoScriptAt (T.text_at texts.now) path.now) }
+/// What words ask for: options in front, and then files.
+fn line_of(words: &[String]) -> Line<'_>
+    ensures skips { result.skips ≡ (line_of (map string_bytes words.now)).skips }
+    ensures files { map string_bytes result.files.now
+        ≡ (line_of (map string_bytes words.now)).files }
 {
-    let script = script_of(texts, alloc, path)?;
-    scripts.push(script).map_err(Memory::from)?;
-    Ok(())
-}
-
-/// Reads the scripts of the paths, in order, up to the first that gives none.
-fn scripts_of<'w, T: Texts>(
-    texts: &T,
-    alloc: Global,
-    words: &'w [String],
-) -> Result<Vec<Script>, Refusal<'w>>
-    ensures scripts { IfOk result (λ scripts.
-        AreScripts (T.text_at texts.now) (map string_bytes words.now) scripts.items) }
-    ensures path { IfErr result (λ refusal.
-        Contains (map string_bytes words.now) refusal.path.now) }
-    ensures fault { IfErr result (λ refusal.
-        IsNoScriptAt (T.text_at texts.now) refusal.path.now refusal.fault) }
-{
-    let mut scripts = Vec::new(alloc);
-    for word in words {
-        let path = word.as_str();
-        if let Err(fault) = add_script(texts, alloc, &mut scripts, path) {
-            return Err(Refusal { fault, path });
-        }
+    match words {
+        [first, files @ ..] if first.as_str() == "--skip" => Line { skips: true, files },
+        _ => Line {
+            skips: false,
+            files: words,
+        },
     }
-    Ok(scripts)
 }
 
-/// Writes why a file gives no script: a line that is always the same, and one that says the reason, the line of the
-/// file that it is about, and what to write in its place.
-fn report_reason<E: Write>(path: &str, fault: &FileFault, err: &mut E) {
-    let _ = match fault {
-        FileFault::Unread(_) => writeln!(
-            err,
-            "rclinks: cannot read: {path}\nrclinks: {path}: {fault}"
-        ),
-        FileFault::Name | FileFault::Header(_, _) => {
-            writeln!(err, "rclinks: bad header: {path}\nrclinks: {path}: {fault}")
-        }
-        FileFault::Memory => writeln!(err, "rclinks: {fault}: {path}"),
-    };
-}
-
-/// Tells a file that gives no script, and gives the exit status.
-fn report_file<E: Write>(refusal: &Refusal, err: &mut E) -> u8
-    ensures { result ≡ file_status refusal.now.fault }
-{
-    report_reason(refusal.path, &refusal.fault, err);
-    refusal.fault.status()
-}
-
-/// Tells a fault of the plan, and gives the exit status.
-fn report_fault<E: Write>(fault: &PlanFault, err: &mut E) -> u8
+/// The exit status of a fault of the plan.
+fn status_of(fault: &PlanFault) -> u8
     ensures { result ≡ plan_status fault.now }
 {
-    let _ = writeln!(err, "rclinks: {fault}");
     match fault {
         PlanFault::Memory => DEVICE_FAULT,
         _ => REFUSED,
@@ -129,30 +86,65 @@ fn print_links<W: Write, E: Write>(alloc: Global, plan: &Plan, out: &mut W, err:
 {
     match plan.print(alloc) {
         Ok(text) => write_links(text.as_slice(), out, err),
-        Err(_) => report_fault(&PlanFault::Memory, err),
+        Err(_) => report_no_memory("rclinks", err),
     }
 }
 
-/// Prints the links of a plan of the scripts on `out`, and gives the exit status: 0, or 1 where they have no plan, 4
-/// where the output fails or memory runs out. A fault is told on `err`.
-pub fn print_plan<W: Write, E: Write>(
+/// Tells all faults of scripts that have no plan.
+fn tell_faults<'w, E: Write>(
     alloc: Global,
-    scripts: &[Script],
+    scripts: &mut Vec<Script>,
+    paths: &mut Vec<&'w str>,
+    err: &mut E,
+) {
+    let _ = plan_rest(alloc, scripts, paths, false, err);
+}
+
+/// Prints the links of a plan of the scripts on `out`, and gives the exit status: 0, or 1 where they have no plan, 4
+/// where the output fails or memory runs out. All faults are told on `err`.
+fn print_all<'w, W: Write, E: Write>(
+    alloc: Global,
+    scripts: &mut Vec<Script>,
+    paths: &mut Vec<&'w str>,
     out: &mut W,
     err: &mut E,
 ) -> u8
     ensures statuses { (result ≡ DONE) ⊎ (result ≡ REFUSED) ⊎ (result ≡ DEVICE_FAULT) }
     ensures done { result ≡ DONE
-        → PrintsPlan scripts.now (W.contents out.old) (W.contents out.new) }
-    ensures refused { result ≡ REFUSED → HasNoPlan scripts.now }
-    ensures quiet { result ≡ REFUSED → out.new ≡ out.old }
-    ensures part { (out.new ≡ out.old) ⊎ PrintsPlanPart scripts.now (W.contents out.old)
+        → PrintsPlan scripts.old.items (W.contents out.old) (W.contents out.new) }
+    ensures refused { result ≡ REFUSED → HasNoPlan scripts.old.items × (out.new ≡ out.old) }
+    ensures part { (out.new ≡ out.old) ⊎ PrintsPlanPart scripts.old.items (W.contents out.old)
         (W.contents out.new) }
-    ensures silent { result ≡ DONE → err.new ≡ err.old }
 {
-    match rc_links::plan(alloc, scripts) {
+    match plan(alloc, scripts.as_slice()) {
         Ok(plan) => print_links(alloc, &plan, out, err),
-        Err(fault) => report_fault(&fault, err),
+        Err(fault) => {
+            tell_faults(alloc, scripts, paths, err);
+            status_of(&fault)
+        }
+    }
+}
+
+/// Prints the links of a plan of the scripts that are left where those at fault are left out, and gives the exit
+/// status, as `print_all` does.
+fn print_rest<'w, W: Write, E: Write>(
+    alloc: Global,
+    scripts: &mut Vec<Script>,
+    paths: &mut Vec<&'w str>,
+    out: &mut W,
+    err: &mut E,
+) -> u8
+    ensures statuses { (result ≡ DONE) ⊎ (result ≡ REFUSED) ⊎ (result ≡ DEVICE_FAULT) }
+    ensures left { LeavesSome scripts.old.items scripts.new.items }
+    ensures done { result ≡ DONE
+        → PrintsPlan scripts.new.items (W.contents out.old) (W.contents out.new) }
+    ensures refused { result ≡ REFUSED → HasNoPlan scripts.new.items × (out.new ≡ out.old) }
+    ensures part { (out.new ≡ out.old) ⊎ PrintsPlanPart scripts.new.items (W.contents out.old)
+        (W.contents out.new) }
+{
+    match plan_rest(alloc, scripts, paths, true, err) {
+        Ok(plan) => print_links(alloc, &plan, out, err),
+        Err(fault) => status_of(&fault),
     }
 }
 
@@ -199,10 +191,55 @@ fn report_words<E: Write>(words: &[String], err: &mut E) -> u8
     report_refused_words("rclinks", reason, USAGE, err)
 }
 
+/// Prints the links of the files, and gives the exit status.
+fn run_line<T: Texts, W: Write, E: Write>(
+    texts: &T,
+    alloc: Global,
+    line: &Line,
+    out: &mut W,
+    err: &mut E,
+) -> u8
+    ensures statuses { (result ≡ DONE) ⊎ (result ≡ REFUSED) ⊎ (result ≡ DEVICE_FAULT) }
+    ensures done { result ≡ DONE → Prints (T.text_at texts.now) line.now.skips
+        (map string_bytes line.now.files.now) (W.contents out.old) (W.contents out.new) }
+    ensures refused { result ≡ REFUSED → IsRefusedFor (T.text_at texts.now) line.now.skips
+        (map string_bytes line.now.files.now) × (out.new ≡ out.old) }
+    ensures part { (out.new ≡ out.old) ⊎ PrintsPart (T.text_at texts.now) line.now.skips
+        (map string_bytes line.now.files.now) (W.contents out.old) (W.contents out.new) }
+{
+    let mut scripts = Vec::new(alloc);
+    let mut paths = Vec::new(alloc);
+    let read = read_files(
+        texts,
+        alloc,
+        line.files,
+        line.skips,
+        &mut scripts,
+        &mut paths,
+        err,
+    );
+    let Ok(faults) = read else {
+        return report_no_memory("rclinks", err);
+    };
+    tell_system_names(scripts.as_slice(), paths.as_slice(), err);
+    if line.skips {
+        return print_rest(alloc, &mut scripts, &mut paths, out, err);
+    }
+    match faults.first() {
+        None => print_all(alloc, &mut scripts, &mut paths, out, err),
+        Some(fault) => {
+            tell_faults(alloc, &mut scripts, &mut paths, err);
+            fault.status()
+        }
+    }
+}
+
 /// Runs rclinks on its words, the paths of init scripts, and gives its exit status: 0 where their links were printed on
 /// `out`, or the version, where the one word is `--version`; 1 where there are no words or one is `--help` or `-h`, or
 /// where a script's name or header or the plan is refused, 4 where a file can't be read, the output fails or memory
-/// runs out. The first fault ends the run and is told on `err`.
+/// runs out. All faults are told on `err`, and the status is that of the first. With `--skip` in front a script that
+/// can't be read or planned is left out, and the links of the others are printed. What is odd in a header is told on
+/// `err` too, whatever the status.
 pub fn run_words<T: Texts, W: Write, E: Write>(
     texts: &T,
     alloc: Global,
@@ -211,33 +248,30 @@ pub fn run_words<T: Texts, W: Write, E: Write>(
     err: &mut E,
 ) -> u8
     ensures statuses { (result ≡ DONE) ⊎ (result ≡ REFUSED) ⊎ (result ≡ DEVICE_FAULT) }
-    ensures usage { wants_usage (map string_bytes words.now) ≡ true → (result ≡ REFUSED)
-        × AppendsPrefix (E.contents err.old) (E.contents err.new)
-        (usage_report (codes "rclinks") (usage_reason (map string_bytes words.now)) USAGE.now) }
+    ensures usage { wants_usage (line_of (map string_bytes words.now)).files ≡ true
+        → (result ≡ REFUSED) × AppendsPrefix (E.contents err.old) (E.contents err.new) (usage_report
+        (codes "rclinks") (usage_reason (line_of (map string_bytes words.now)).files) USAGE.now) }
     ensures version { asks_version (map string_bytes words.now) ≡ true
         → PrintsVersion (codes "rclinks") result (W.contents out.old) (W.contents out.new) }
-    // The links of all of the files were written.
+    // The links of all of the files were written, or of those that are not left out.
     ensures done { asks_version (map string_bytes words.now) ≡ false → result ≡ DONE →
-        PrintsLinks (T.text_at texts.now) (map string_bytes words.now) (W.contents out.old)
+        PrintsLine (T.text_at texts.now) (line_of (map string_bytes words.now)) (W.contents out.old)
         (W.contents out.new) }
-    ensures silent { result ≡ DONE → err.new ≡ err.old }
     // The usage was wanted, a file was refused, or the scripts have no plan.
     ensures refused { result ≡ REFUSED
-        → IsRefusedRun (T.text_at texts.now) (map string_bytes words.now) }
+        → IsRefusedRun (T.text_at texts.now) (line_of (map string_bytes words.now)) }
     ensures quiet { result ≡ REFUSED → out.new ≡ out.old }
     // Nothing was written, or a prefix of the links, which may be the whole.
     ensures part { asks_version (map string_bytes words.now) ≡ false → (out.new ≡ out.old)
-        ⊎ PrintsPart (T.text_at texts.now) (map string_bytes words.now) (W.contents out.old)
-        (W.contents out.new) }
+        ⊎ PrintsLinePart (T.text_at texts.now) (line_of (map string_bytes words.now))
+        (W.contents out.old) (W.contents out.new) }
 {
     if is_version(words) {
         return print_version("rclinks", out, err);
     }
-    if wants_usage(words) {
-        return report_words(words, err);
+    let line = line_of(words);
+    if wants_usage(line.files) {
+        return report_words(line.files, err);
     }
-    match scripts_of(texts, alloc, words) {
-        Ok(scripts) => print_plan(alloc, scripts.as_slice(), out, err),
-        Err(refusal) => report_file(&refusal, err),
-    }
+    run_line(texts, alloc, &line, out, err)
 }

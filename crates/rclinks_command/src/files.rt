@@ -3,6 +3,7 @@ ghost use Rattle.lsb_header.specs.Headers.{frame_fault};
 ghost use Rattle.rc_links.specs.Names.{is_name};
 ghost use Rattle.rclinks_command.specs.Files.{IsNoScript, IsNoScriptAt, IsScriptAt, IsScriptOf, file_status, last_part, refusal_of};
 
+use crate::remarks::tell_odd_lines;
 use init_words::Memory;
 use lsb_header::{HeaderFault, second_line};
 use path_texts::Texts;
@@ -10,6 +11,7 @@ use program_io::{DEVICE_FAULT, REFUSED};
 use rc_links::{Script, is_name};
 use std::alloc::Global;
 use std::error::Error;
+use std::io::Write;
 use std::{fmt, io};
 
 /// Why a file gives no script.
@@ -116,13 +118,21 @@ pub fn script_in(alloc: Global, name: &[u8], text: &[u8]) -> Result<Script, File
     }
 }
 
-/// Reads the script of a path.
-pub(crate) fn script_of<T: Texts>(texts: &T, alloc: Global, path: &str) -> Result<Script, FileFault>
+/// Reads the script of a path. What is odd in the lines of its header is told.
+pub(crate) fn script_of<T: Texts, E: Write>(
+    texts: &T,
+    alloc: Global,
+    path: &str,
+    err: &mut E,
+) -> Result<Script, FileFault>
     ensures script { IfOk result (IsScriptAt (T.text_at texts.now) path.now) }
     ensures fault { IfErr result (IsNoScriptAt (T.text_at texts.now) path.now) }
 {
     match texts.read(alloc, path) {
-        Ok(text) => script_in(alloc, last_part(path.as_bytes()), text.as_slice()),
+        Ok(text) => {
+            tell_odd_lines(path, text.as_slice(), err);
+            script_in(alloc, last_part(path.as_bytes()), text.as_slice())
+        }
         Err(error) => Err(FileFault::Unread(error)),
     }
 }

@@ -1,9 +1,14 @@
-//! What rclinks does: it reads the files of init scripts, and prints the links of the runlevels' folders by the least
-//! numbers that their headers allow (LSB Core 5.0).
+//! What rclinks does: it reads the files of init scripts, tells what is wrong with them, and prints the links of the
+//! runlevels' folders by the least numbers that their headers allow (LSB Core 5.0).
 #![tactic(auto)]
 
 mod command;
+mod faulty;
 mod files;
+mod reading;
+mod remarks;
+mod skipping;
+mod telling;
 
-pub use command::{USAGE, print_plan, run_words};
+pub use command::{USAGE, run_words};
 pub use files::{FileFault, script_in};

@@ -50,7 +50,7 @@ pub(crate) const ROOM: usize = 1000;
 const FILES: &[(&str, &str)] = &[
     (
         "run-net",
-        "### BEGIN INIT INFO\n# Provides: net\n# Required-Start: $network\n# Default-Start: 3\n### END INIT INFO\n",
+        "### BEGIN INIT INFO\n# Provides: net\n# Required-Start: \n# Default-Start: 3\n### END INIT INFO\n",
     ),
     (
         "run-db",
@@ -97,14 +97,15 @@ const FILES: &[(&str, &str)] = &[
 pub(crate) const NET: &str =
     "### BEGIN INIT INFO\n# Provides: net\n# Required-Start: \n# Default-Start: 3\n### END INIT INFO\n";
 
-const USAGE: &[u8] = b"usage: rclinks FILE..\n       rclinks --version\n";
+const USAGE: &[u8] =
+    b"usage: rclinks [--skip] FILE..\n       rclinks --version\n  --skip  leave out the scripts that can't be read or planned, and plan the others\n";
 
 const RUNS: &[Row] = &[
     (
         &[],
         1,
         b"",
-        b"rclinks: no file is given\nusage: rclinks FILE..\n       rclinks --version\n",
+        b"rclinks: no file is given\nusage: rclinks [--skip] FILE..\n       rclinks --version\n  --skip  leave out the scripts that can't be read or planned, and plan the others\n",
     ),
     (&["--help"], 1, b"", USAGE),
     (&["-h"], 1, b"", USAGE),
@@ -202,38 +203,52 @@ const RUNS: &[Row] = &[
         b"",
         b"rclinks: bad header: run-none\nrclinks: run-none: no name after \"# Provides:\"\n",
     ),
-    // The first fault ends the run.
+    // All faults are told, and the status is that of the first.
     (
         &["run-net", "run-bad", "run-absent"],
         1,
         b"",
-        b"rclinks: bad header: run-bad\nrclinks: run-bad: no line \"### BEGIN INIT INFO\"\n",
+        b"rclinks: bad header: run-bad\nrclinks: run-bad: no line \"### BEGIN INIT INFO\"\n\
+        rclinks: cannot read: run-absent\nrclinks: run-absent: No such file or directory (os error 2)\n",
     ),
     (
         &["run-db", "run-absent", "run-bad"],
         4,
         b"",
-        b"rclinks: cannot read: run-absent\nrclinks: run-absent: No such file or directory (os error 2)\n",
+        b"rclinks: cannot read: run-absent\nrclinks: run-absent: No such file or directory (os error 2)\n\
+        rclinks: bad header: run-bad\nrclinks: run-bad: no line \"### BEGIN INIT INFO\"\n\
+        rclinks: missing: net\nrclinks: run-db: Required-Start names net, which no file provides\n",
     ),
-    (&["run-db"], 1, b"", b"rclinks: missing: net\n"),
-    (&["run-web", "run-db"], 1, b"", b"rclinks: missing: net\n"),
+    (
+        &["run-db"],
+        1,
+        b"",
+        b"rclinks: missing: net\nrclinks: run-db: Required-Start names net, which no file provides\n",
+    ),
+    (
+        &["run-web", "run-db"],
+        1,
+        b"",
+        b"rclinks: missing: net\nrclinks: run-db: Required-Start names net, which no file provides\n",
+    ),
     (
         &["run-net", "run-other"],
         1,
         b"",
-        b"rclinks: provided twice: net\n",
+        b"rclinks: provided twice: net\nrclinks: run-net and run-other provide net\n",
     ),
     (
         &["run-net", "./run-net"],
         1,
         b"",
-        b"rclinks: provided twice: net\n",
+        b"rclinks: provided twice: net\nrclinks: run-net and ./run-net provide net\n",
     ),
     (
         &["run-net", "run-left", "run-right"],
         1,
         b"",
-        b"rclinks: cycle: run-left run-right\n",
+        b"rclinks: cycle: run-left run-right\nrclinks: run-left: Required-Start names right, which run-right provides\n\
+        rclinks: run-right: Required-Start names left, which run-left provides\n",
     ),
 ];
 
@@ -279,7 +294,12 @@ const DEEP: &[&str] = &[
     "deep-97", "deep-98", "deep-99",
 ];
 
-const TOO_DEEP: &Row = &(DEEP, 1, b"", b"rclinks: too deep\n");
+const TOO_DEEP: &Row = &(
+    DEEP,
+    1,
+    b"",
+    b"rclinks: too deep\nrclinks: more than 99 scripts need each the next\n",
+);
 
 /// Writes a script that provides the name of its path, requires another name to start, and starts at runlevel 3.
 fn write_deep(rt: &impl Files, alloc: Global, path: &str, need: &str) -> Result<(), Fail> {

@@ -312,7 +312,7 @@ const BAD_LINES: Faults = &[
     (b"#\r", BAD),
     (b"### begin init info", BAD),
     (b"### BEGIN INIT INFO", BAD),
-    (b"### END INIT INFO x", BAD),
+    (b" ### END INIT INFO", BAD),
     (b"# X-Own: \xff", BAD),
     (b"# Provides: \xc3", BAD),
     (b"#  \xed\xa0\x80", BAD),
@@ -377,7 +377,7 @@ const TEXTS: Faults = &[
         Some(HeaderFault::NoEnd),
     ),
     (
-        b"### BEGIN INIT INFO\n# Provides: a\n### END INIT INFO\r\n",
+        b"### BEGIN INIT INFO\n# Provides: a\n### end init info\n",
         Some(HeaderFault::NoEnd),
     ),
     (
@@ -402,6 +402,15 @@ const TEXTS: Faults = &[
     ),
     (
         b"### BEGIN INIT INFO\n# Provides: a\n### END INIT INFO",
+        None,
+    ),
+    // What stands behind the words of the last line is no part of the header.
+    (
+        b"### BEGIN INIT INFO\n# Provides: a\n### END INIT INFO#\nx\n### END INIT INFO\n",
+        None,
+    ),
+    (
+        b"### BEGIN INIT INFO\n# Provides: a\n### END INIT INFO\r\n",
         None,
     ),
     (

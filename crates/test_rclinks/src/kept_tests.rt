@@ -40,7 +40,12 @@ const RUNS: &[Row] = &[
         b"",
         b"rclinks: bad header: run-bad\nrclinks: run-bad: no line \"### BEGIN INIT INFO\"\n",
     ),
-    (&["run-db"], 1, b"", b"rclinks: missing: net\n"),
+    (
+        &["run-db"],
+        1,
+        b"",
+        b"rclinks: missing: net\nrclinks: run-db: Required-Start names net, which no file provides\n",
+    ),
     (
         &["run+net"],
         1,

@@ -1,0 +1,9 @@
+use Rattle.std.proofs.Common.{◌<◌, IfSome, length}
+use Rattle.rclinks_command.specs.Skipping.{IsFaultAt}
+use Rattle.rclinks_command.proofs.faulty.place_of.Given as goal
+
+abbrev pub invariant-loop-place : goal.invariant-loop-place
+invariant-loop-place l = record {
+  within : IfSome l.found (λ place. place < length l.scripts);
+  fault : IfSome l.found (IsFaultAt l.scripts l.fault);
+}

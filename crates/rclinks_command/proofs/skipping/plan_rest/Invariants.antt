@@ -1,0 +1,9 @@
+use Rattle.std.proofs.Common.{length}
+use Rattle.rclinks_command.specs.Skipping.{LeavesSome}
+use Rattle.rclinks_command.proofs.skipping.plan_rest.Given as goal
+
+abbrev pub invariant-loop-plan : goal.invariant-loop-plan
+invariant-loop-plan g l = LeavesSome l.fn.scripts.items l.scripts.items
+
+abbrev pub decreases-loop-plan : goal.decreases-loop-plan
+decreases-loop-plan g l = length l.scripts.items

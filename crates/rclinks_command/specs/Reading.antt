@@ -1,0 +1,21 @@
+-- The scripts of paths, some of which may give none.
+use Rattle.std.specs.Prelude.{◌≡◌, ◌⊎◌, ℕ, List, [], ◌∷◌, ◌++◌}
+use Rattle.path_texts.specs.Known.{KnownTexts}
+use Rattle.rc_links.specs.ScriptText.{ScriptText}
+use Rattle.rclinks_command.specs.Files.{IsNoScriptAt, IsScriptAt}
+use Rattle.rclinks_command.specs.declared.files.FileFault.{FileFault}
+
+-- the script of a path was added, or the fault of its file
+abbrev pub ReadsOne : KnownTexts → List ℕ → List ScriptText → List ScriptText → List FileFault → List FileFault → Type 0
+ReadsOne text_at path old new before after =
+    ((s : ScriptText) × IsScriptAt text_at path s × (new ≡ old ++ s ∷ []) × (after ≡ before))
+    ⊎ ((found : FileFault) × IsNoScriptAt text_at path found × (new ≡ old) × (after ≡ before ++ found ∷ []))
+
+-- each path gives a script, or a fault of its file, in order
+abbrev pub Reads : KnownTexts → List (List ℕ) → List ScriptText → List FileFault → Type 0
+Reads text_at [] scripts faults = (scripts ≡ []) × (faults ≡ [])
+Reads text_at (path ∷ paths) scripts faults =
+    ((s : ScriptText) × (more : List ScriptText) × (scripts ≡ s ∷ more) × IsScriptAt text_at path s
+    × Reads text_at paths more faults)
+    ⊎ ((found : FileFault) × (more : List FileFault) × (faults ≡ found ∷ more) × IsNoScriptAt text_at path found
+    × Reads text_at paths scripts more)

@@ -1,0 +1,48 @@
+-- Scripts that are left out, since those that are there have no plan with them.
+use Rattle.std.specs.Prelude.{string_bytes, ◌≡◌, ℕ, ◌+◌, Bool, true, false, ◌&&◌, ◌||◌, List, [], ◌∷◌, ◌++◌, map, take, drop}
+use Rattle.std.specs.List.{list_any}
+use Rattle.std.specs.Str.{bytes_eq}
+use Rattle.std.specs.declared.alloc.Global.{Global}
+use Rattle.rc_links.specs.declared.faults.PlanFault.{PlanFault}
+use Rattle.rc_links.specs.declared.faults.PlanFault.TheVariants as fault
+use Rattle.rc_links.specs.Plans.{IsRefused}
+use Rattle.rc_links.specs.ScriptText.{ScriptText}
+use Rattle.rc_links.specs.Scripts.{has_name, has_script}
+
+-- one of the scripts provides the name
+abbrev pub is_provided : List ScriptText → List ℕ → Bool
+is_provided scripts name = list_any (λ (s : ScriptText). has_name name s.header.provides) scripts
+
+-- a script provides a name as one before it does, or has the name of one before it
+abbrev pub is_doubled : List ScriptText → List ℕ → ScriptText → Bool
+is_doubled before name s =
+    (has_name name s.header.provides && is_provided before name) || (bytes_eq s.name name && has_script before name)
+
+-- a script, which stands behind these, is one that a fault of the plan is about: it doubles the name, requires it, or
+-- has a name of the cycle
+abbrev pub is_at_fault : {A : Type 0} → List ScriptText → PlanFault A → ScriptText → Bool
+is_at_fault before (fault.DoubleProvide name) s = is_doubled before (string_bytes name) s
+is_at_fault before (fault.Missing name) s =
+    has_name (string_bytes name) s.header.required_start || has_name (string_bytes name) s.header.required_stop
+is_at_fault before (fault.Cycle names) s = has_name s.name (map string_bytes names.items)
+is_at_fault before fault.TooDeep s = false
+is_at_fault before fault.Memory s = false
+
+-- the script at the place is one that the fault is about
+abbrev pub IsFaultAt : {A : Type 0} → List ScriptText → PlanFault A → ℕ → Type 0
+IsFaultAt scripts found place = (s : ScriptText) × (drop place scripts ≡ s ∷ drop (place + 1) scripts)
+    × (is_at_fault (take place scripts) found s ≡ true)
+
+-- scripts have no plan, and one that their fault is about is left out
+abbrev pub LeavesOne : List ScriptText → List ScriptText → Type 0
+LeavesOne scripts rest = (found : PlanFault Global) × (place : ℕ) × IsRefused scripts found × IsFaultAt scripts found place
+    × (rest ≡ take place scripts ++ drop (place + 1) scripts)
+
+-- some scripts are left out so, one after the other, until these are the rest; the later ones stand first
+abbrev pub LeavesOut : List (List ScriptText) → List ScriptText → List ScriptText → Type 0
+LeavesOut [] scripts rest = rest ≡ scripts
+LeavesOut (before ∷ steps) scripts rest = LeavesOut steps scripts before × LeavesOne before rest
+
+-- none or some scripts are left out so
+abbrev pub LeavesSome : List ScriptText → List ScriptText → Type 0
+LeavesSome scripts rest = (steps : List (List ScriptText)) × LeavesOut steps scripts rest

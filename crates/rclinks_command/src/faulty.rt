@@ -1,0 +1,93 @@
+ghost use Rattle.std.specs.Prelude.{◌≡◌, ◌<◌, ◌||◌, ◌&&◌, true, IfSome, length, map, string_bytes};
+ghost use Rattle.std.specs.List.{list_any};
+ghost use Rattle.rc_links.specs.Scripts.{has_name, has_script};
+ghost use Rattle.rclinks_command.specs.Skipping.{IsFaultAt, is_at_fault, is_doubled, is_provided};
+
+use rc_links::{PlanFault, Script};
+
+/// The name is one of these.
+pub(crate) fn has_name(name: &str, names: &[String]) -> bool
+    ensures { result ≡ has_name name.now (map string_bytes names.now) }
+{
+    for other in names {
+        if name == other.as_str() {
+            return true;
+        }
+    }
+    false
+}
+
+/// One of the scripts provides the name.
+pub(crate) fn is_provided(scripts: &[Script], name: &str) -> bool
+    ensures { result ≡ is_provided scripts.now name.now }
+{
+    for script in scripts {
+        if has_name(name, script.header().provides()) {
+            return true;
+        }
+    }
+    false
+}
+
+/// One of the scripts has the name.
+fn has_script(scripts: &[Script], name: &str) -> bool
+    ensures { result ≡ has_script scripts.now name.now }
+{
+    for script in scripts {
+        if script.name() == name {
+            return true;
+        }
+    }
+    false
+}
+
+/// The script provides a name as one before it does, or has the name of one before it.
+fn is_doubled(before: &[Script], name: &str, script: &Script) -> bool
+    ensures { result ≡ is_doubled before.now name.now script.now }
+{
+    (has_name(name, script.header().provides()) && is_provided(before, name))
+        || (script.name() == name && has_script(before, name))
+}
+
+/// The script requires the name.
+fn is_required(name: &str, script: &Script) -> bool
+    ensures { result ≡ (has_name name.now script.now.header.required_start
+        || has_name name.now script.now.header.required_stop) }
+{
+    let header = script.header();
+    has_name(name, header.required_start()) || has_name(name, header.required_stop())
+}
+
+/// The script, which stands behind these, is one that a fault of the plan is about.
+fn is_at_fault(before: &[Script], fault: &PlanFault, script: &Script) -> bool
+    ensures { result ≡ is_at_fault before.now fault.now script.now }
+{
+    match fault {
+        PlanFault::DoubleProvide(name) => is_doubled(before, name.as_str(), script),
+        PlanFault::Missing(name) => is_required(name.as_str(), script),
+        PlanFault::Cycle(names) => has_name(script.name(), names.as_slice()),
+        PlanFault::TooDeep | PlanFault::Memory => false,
+    }
+}
+
+fn is_cycle(fault: &PlanFault) -> bool {
+    matches!(fault, PlanFault::Cycle(_))
+}
+
+/// The place of a script that a fault of the plan is about: the first, and of a cycle the last. None where there is no
+/// such script.
+pub(crate) fn place_of(scripts: &[Script], fault: &PlanFault) -> Option<usize>
+    ensures within { IfSome result (λ place. place < length scripts.now) }
+    ensures fault { IfSome result (IsFaultAt scripts.now fault.now) }
+{
+    let mut found = None;
+    for place in 0..scripts.len() {
+        if is_at_fault(&scripts[..place], fault, &scripts[place]) {
+            found = Some(place);
+            if !is_cycle(fault) {
+                return found;
+            }
+        }
+    }
+    found
+}

@@ -1,0 +1,91 @@
+use init_words::Level;
+use lsb_header::{Header, Keyword, begun, block_line, known_of};
+use std::io::Write;
+use std::str;
+use text_lines::next_word;
+
+/// Tells what is odd in the lines of a file's header, whether or not it can be read.
+pub(crate) fn tell_odd_lines<E: Write>(path: &str, text: &[u8], err: &mut E) {
+    let Some((begin, body)) = begun(text) else {
+        return;
+    };
+    let mut number = begin;
+    let mut rest = body;
+    while let Some((line, more)) = block_line(rest) {
+        number = number.saturating_add(1);
+        tell_odd_line(path, number, line, err);
+        rest = more;
+    }
+}
+
+/// Tells what is odd in a line of a header.
+fn tell_odd_line<E: Write>(path: &str, number: usize, line: &[u8], err: &mut E) {
+    if let [b'#', b'\t', ..] = line {
+        let _ = writeln!(
+            err,
+            "rclinks: warning: {path}: line {number}: a tab behind \"#\": it is no keyword's line"
+        );
+    }
+    if let [.., b'\r'] = line {
+        let _ = writeln!(
+            err,
+            "rclinks: warning: {path}: line {number}: it ends with a carriage return"
+        );
+    }
+    if let Some((Keyword::DefaultStart | Keyword::DefaultStop, levels)) = known_of(line) {
+        tell_odd_levels(path, number, levels, err);
+    }
+}
+
+/// Tells the words that are no runlevels of the system.
+fn tell_odd_levels<E: Write>(path: &str, number: usize, levels: &[u8], err: &mut E) {
+    let mut rest = levels;
+    while let Some((word, more)) = next_word(rest) {
+        if let Some(reason) = odd_level(word) {
+            let word = str::from_utf8(word).unwrap_or("?");
+            let _ = writeln!(
+                err,
+                "rclinks: warning: {path}: line {number}: \"{word}\" is {reason}"
+            );
+        }
+        rest = more;
+    }
+}
+
+/// Why a word is no runlevel of the system; None where it is one.
+fn odd_level(word: &[u8]) -> Option<&'static str> {
+    match word {
+        [b'7'..=b'9'] => Some("above the runlevels 0 to 6"),
+        [code] if Level::read(*code).is_some() => None,
+        _ => Some("no runlevel"),
+    }
+}
+
+/// Tells what is odd in a header that was read: a runlevel in both lists, and `$all`.
+pub(crate) fn tell_odd_header<E: Write>(path: &str, header: &Header, err: &mut E) {
+    for level in header.default_start() {
+        if header.default_stop().contains(level) {
+            let code = char::from(level.code());
+            let _ = writeln!(
+                err,
+                "rclinks: warning: {path}: runlevel {code} stands in Default-Start and Default-Stop"
+            );
+        }
+    }
+    tell_all_name(path, "Required-Start", header.required_start(), err);
+    tell_all_name(path, "Should-Start", header.should_start(), err);
+    tell_all_name(path, "Required-Stop", header.required_stop(), err);
+    tell_all_name(path, "Should-Stop", header.should_stop(), err);
+}
+
+/// Tells `$all` among the names of a keyword.
+fn tell_all_name<E: Write>(path: &str, keyword: &str, names: &[String], err: &mut E) {
+    for name in names {
+        if name.as_str() == "$all" {
+            let _ = writeln!(
+                err,
+                "rclinks: warning: {path}: {keyword} names $all, which orders nothing"
+            );
+        }
+    }
+}

@@ -1,0 +1,64 @@
+ghost use Rattle.std.specs.Prelude.{◌≡◌, ◌<◌, ◌+◌, ◌++◌, IfOk, IfErr, length, take, drop};
+ghost use Rattle.rc_links.specs.Plans.{IsPlan, IsRefused};
+ghost use Rattle.rclinks_command.specs.Skipping.{LeavesSome};
+
+use crate::faulty::place_of;
+use crate::telling::{tell_fault, tell_last};
+use init_words::Memory;
+use rc_links::{Plan, PlanFault, Script, plan};
+use std::alloc::Global;
+use std::io::Write;
+
+/// Takes a script out, with its path, and keeps it among those that are left out.
+fn leave_out<'w>(
+    scripts: &mut Vec<Script>,
+    paths: &mut Vec<&'w str>,
+    place: usize,
+    outs: &mut Vec<Script>,
+) -> Result<(), Memory>
+    requires { place < length scripts.old.items }
+    ensures { scripts.new.items ≡ take place scripts.old.items ++ drop (place + 1) scripts.old.items }
+{
+    if place < paths.len() {
+        paths.remove(place);
+    }
+    let script = scripts.remove(place);
+    outs.push(script)?;
+    Ok(())
+}
+
+/// Plans the scripts; where they have no plan, a script at fault is left out and told, and so on until the others have
+/// one. Where none is at fault they have none.
+pub(crate) fn plan_rest<'w, E: Write>(
+    alloc: Global,
+    scripts: &mut Vec<Script>,
+    paths: &mut Vec<&'w str>,
+    skips: bool,
+    err: &mut E,
+) -> Result<Plan, PlanFault>
+    ensures planned { IfOk result (IsPlan scripts.new.items) }
+    ensures refused { IfErr result (IsRefused scripts.new.items) }
+    ensures left { LeavesSome scripts.old.items scripts.new.items }
+{
+    let mut outs = Vec::new(alloc);
+    loop {
+        let fault = match plan(alloc, scripts.as_slice()) {
+            Ok(plan) => return Ok(plan),
+            Err(fault) => fault,
+        };
+        let Some(place) = place_of(scripts.as_slice(), &fault) else {
+            tell_last(&fault, err);
+            return Err(fault);
+        };
+        tell_fault(
+            &fault,
+            scripts.as_slice(),
+            paths.as_slice(),
+            place,
+            outs.as_slice(),
+            skips,
+            err,
+        );
+        leave_out(scripts, paths, place, &mut outs)?;
+    }
+}

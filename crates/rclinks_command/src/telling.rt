@@ -1,0 +1,268 @@
+use crate::faulty::{has_name, is_provided};
+use rc_links::{PlanFault, Script};
+use std::io::Write;
+
+/// A keyword, and the name after it by which a script needs another.
+type Naming<'s> = (&'static str, &'s str);
+
+/// The path of the file at a place.
+fn path_at<'w>(paths: &[&'w str], place: usize) -> &'w str {
+    match paths.get(place) {
+        Some(path) => path,
+        None => "",
+    }
+}
+
+/// Tells a fault of scripts that have no plan, and who is at fault with whom: the script at the place. `outs` are the
+/// scripts that are left out; of what names them nothing is told but where that is asked for.
+pub(crate) fn tell_fault<E: Write>(
+    fault: &PlanFault,
+    scripts: &[Script],
+    paths: &[&str],
+    place: usize,
+    outs: &[Script],
+    skips: bool,
+    err: &mut E,
+) {
+    if let PlanFault::Missing(name) = fault
+        && !skips
+        && is_provided(outs, name.as_str())
+    {
+        return;
+    }
+    let _ = writeln!(err, "rclinks: {fault}");
+    let Some(script) = scripts.get(place) else {
+        return;
+    };
+    let path = path_at(paths, place);
+    match fault {
+        PlanFault::DoubleProvide(name) => {
+            tell_double(name.as_str(), scripts, paths, place, path, err);
+        }
+        PlanFault::Missing(_) => tell_missing(script, path, scripts, outs, err),
+        PlanFault::Cycle(names) => tell_cycle(names.as_slice(), scripts, err),
+        PlanFault::TooDeep | PlanFault::Memory => {}
+    }
+    if skips {
+        let _ = writeln!(err, "rclinks: {path}: left out");
+    }
+}
+
+/// Tells the fault of scripts for which none of them can be left out.
+pub(crate) fn tell_last<E: Write>(fault: &PlanFault, err: &mut E) {
+    let _ = writeln!(err, "rclinks: {fault}");
+    if let PlanFault::TooDeep = fault {
+        let _ = writeln!(err, "rclinks: more than 99 scripts need each the next");
+    }
+}
+
+/// Tells the two files of a name that both provide, or have.
+fn tell_double<E: Write>(
+    name: &str,
+    scripts: &[Script],
+    paths: &[&str],
+    place: usize,
+    path: &str,
+    err: &mut E,
+) {
+    let is_named = match scripts.get(place) {
+        Some(script) => has_name(name, script.header().provides()),
+        None => false,
+    };
+    for earlier in 0..place.min(scripts.len()) {
+        let other = &scripts[earlier];
+        let first = path_at(paths, earlier);
+        if is_named && has_name(name, other.header().provides()) {
+            let _ = writeln!(err, "rclinks: {first} and {path} provide {name}");
+            return;
+        }
+        if !is_named && other.name() == name {
+            let _ = writeln!(err, "rclinks: {first} and {path} have the name {name}");
+            return;
+        }
+    }
+}
+
+/// Tells the names that a script requires and that are missing.
+fn tell_missing<E: Write>(
+    script: &Script,
+    path: &str,
+    scripts: &[Script],
+    outs: &[Script],
+    err: &mut E,
+) {
+    let header = script.header();
+    tell_absent(
+        path,
+        "Required-Start",
+        header.required_start(),
+        scripts,
+        outs,
+        err,
+    );
+    tell_absent(
+        path,
+        "Required-Stop",
+        header.required_stop(),
+        scripts,
+        outs,
+        err,
+    );
+}
+
+/// Tells those of the names of a keyword that no script provides.
+fn tell_absent<E: Write>(
+    path: &str,
+    keyword: &str,
+    names: &[String],
+    scripts: &[Script],
+    outs: &[Script],
+    err: &mut E,
+) {
+    for name in names {
+        let name = name.as_str();
+        if name.starts_with('$') || is_provided(scripts, name) {
+            continue;
+        }
+        let reason = if is_provided(outs, name) {
+            "which is left out"
+        } else {
+            "which no file provides"
+        };
+        let _ = writeln!(err, "rclinks: {path}: {keyword} names {name}, {reason}");
+    }
+}
+
+/// Tells the way of a cycle, name by name.
+fn tell_cycle<E: Write>(names: &[String], scripts: &[Script], err: &mut E) {
+    let starts = is_start_cycle(names, scripts);
+    for at in 0..names.len() {
+        let Some((from, to)) = step_of(names, scripts, at) else {
+            return;
+        };
+        let (who, naming, whom) = if starts {
+            (from, start_naming(from, to), to)
+        } else {
+            (to, stop_naming(to, from), from)
+        };
+        if let Some((keyword, name)) = naming {
+            let who = who.name();
+            let whom = whom.name();
+            let _ = writeln!(
+                err,
+                "rclinks: {who}: {keyword} names {name}, which {whom} provides"
+            );
+        }
+    }
+}
+
+/// The scripts of a step of a cycle, of which the first needs the second.
+fn step_of<'s>(
+    names: &[String],
+    scripts: &'s [Script],
+    at: usize,
+) -> Option<(&'s Script, &'s Script)> {
+    let from = names.get(at)?;
+    let to = match names.get(at.saturating_add(1)) {
+        Some(name) => name,
+        None => names.first()?,
+    };
+    Some((
+        script_named(scripts, from.as_str())?,
+        script_named(scripts, to.as_str())?,
+    ))
+}
+
+fn script_named<'s>(scripts: &'s [Script], name: &str) -> Option<&'s Script> {
+    for script in scripts {
+        if script.name() == name {
+            return Some(script);
+        }
+    }
+    None
+}
+
+/// Each script of the cycle needs the next to start.
+fn is_start_cycle(names: &[String], scripts: &[Script]) -> bool {
+    for at in 0..names.len() {
+        match step_of(names, scripts, at) {
+            Some((from, to)) if start_naming(from, to).is_some() => {}
+            _ => return false,
+        }
+    }
+    true
+}
+
+/// How a script names another that is started before it.
+fn start_naming<'s>(from: &'s Script, to: &Script) -> Option<Naming<'s>> {
+    let header = from.header();
+    if let Some(name) = first_provided(header.required_start(), to) {
+        return Some(("Required-Start", name));
+    }
+    let name = first_provided(header.should_start(), to)?;
+    Some(("Should-Start", name))
+}
+
+/// How a script names another that is stopped after it.
+fn stop_naming<'s>(from: &'s Script, to: &Script) -> Option<Naming<'s>> {
+    let header = from.header();
+    if let Some(name) = first_provided(header.required_stop(), to) {
+        return Some(("Required-Stop", name));
+    }
+    let name = first_provided(header.should_stop(), to)?;
+    Some(("Should-Stop", name))
+}
+
+/// The first of the names that a script provides.
+fn first_provided<'s>(names: &'s [String], script: &Script) -> Option<&'s str> {
+    for name in names {
+        if has_name(name.as_str(), script.header().provides()) {
+            return Some(name.as_str());
+        }
+    }
+    None
+}
+
+/// Tells the names of the system that scripts name and none provides, each once.
+pub(crate) fn tell_system_names<E: Write>(scripts: &[Script], paths: &[&str], err: &mut E) {
+    for place in 0..scripts.len() {
+        let header = scripts[place].header();
+        let path = path_at(paths, place);
+        tell_system(header.required_start(), path, scripts, place, err);
+        tell_system(header.should_start(), path, scripts, place, err);
+    }
+}
+
+/// Tells those of a script's names that are the system's, and that no script provides and none before it names.
+fn tell_system<E: Write>(
+    names: &[String],
+    path: &str,
+    scripts: &[Script],
+    place: usize,
+    err: &mut E,
+) {
+    for name in names {
+        let name = name.as_str();
+        if name.starts_with('$')
+            && name != "$all"
+            && !is_provided(scripts, name)
+            && !is_named(&scripts[..place.min(scripts.len())], name)
+        {
+            let _ = writeln!(
+                err,
+                "rclinks: warning: {path}: names {name}, which no file provides: it orders nothing"
+            );
+        }
+    }
+}
+
+/// One of the scripts is started after what has the name.
+fn is_named(scripts: &[Script], name: &str) -> bool {
+    for script in scripts {
+        let header = script.header();
+        if has_name(name, header.required_start()) || has_name(name, header.should_start()) {
+            return true;
+        }
+    }
+    false
+}
