@@ -1,6 +1,6 @@
-use Rattle.std.proofs.Common.{◌≡◌, refl, sym, subst, [], Some, is_some, IfSome}
+use Rattle.std.proofs.Common.{◌≡◌, refl, sym, ap, subst, [], reverse, Some, is_some, IfSome}
 use Rattle.run_notes.specs.Notes.{notes_state}
-use Rattle.judged_log.specs.Judgements.{Finds}
+use Rattle.judged_log.specs.Judgements.{Finds, JudgedTrace}
 use Rattle.initd_options.specs.Options.{run_of}
 use Rattle.initd_command.specs.Services.{IsServed, end_of, judgement_for, noted_of}
 use Rattle.initd_command.proofs.Noted.{found_for, judged_for, turns_over}
@@ -28,6 +28,7 @@ pub returns-clause-told : goal.returns-clause-told
 returns-clause-told g c = λ level table opens.
     let service = run_of c.args.said.now in
     let judged = c.serve-served.new.log.log in
+    let nothing : Some (reverse c.new-judged.result.came) ≡ Some [] = ap (λ (j : JudgedTrace _). Some (reverse j.came)) c.new-judged.ensures in
     let asked : is_some c.judgement_for.result ≡ service.judge =
     subst (λ j. is_some j ≡ service.judge) (sym c.judgement_for.ensures) (judged_for service c.judgement-found.result) in
     let found : IfSome c.judgement_for.result (λ found. Finds found judged.came) =
@@ -35,7 +36,7 @@ returns-clause-told g c = λ level table opens.
     (found_for service c.judgement-found.result judged.came
     (subst (λ log. Finds c.judgement-found.result log.came) c.log.ensures c.judgement-found.ensures.found)) in
     turns_over c.serve-served.new.log c.end_log-served.new.notes judged.came (g.L.Log.state judged.log).failed c.judgement_for.result
-    (notes_state c.new-notes.result (record { taken = Some []; failed = (g.L.Log.state c.args.log).failed }))
+    (notes_state c.new-notes.result (record { taken = Some (reverse c.new-notes.result.log.came); failed = (g.L.Log.state c.new-notes.result.log.log).failed }))
     service level table c.serve-served.result c.end_log-served.result _ _ _ _ _ c.end_log-served.ensures.notes c.end_log-served.ensures.turns c.end_log-served.ensures.logged
-    (c.new-notes.ensures.told refl) c.serve-served.ensures.logged
+    (c.new-notes.ensures.told nothing) c.serve-served.ensures.logged
     (c.serve-served.ensures.most, c.serve-served.ensures.fewer) asked found c.report_end.ensures.status c.report_end.ensures.reported (c.serve-served.ensures.trace level table opens)
