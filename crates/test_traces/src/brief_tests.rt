@@ -109,22 +109,20 @@ fn are_alike_changed(alloc: Global, trace: &str, change: Change) -> Result<bool,
     Ok(true)
 }
 
-const CHANGES: &[(Change, &str)] = &[
-    (Change::None, "none"),
-    (Change::Dropped, "dropped"),
-    (Change::Doubled, "doubled"),
-    (Change::Exchanged, "exchanged"),
-];
+/// The same of the trace unchanged, and with its lines dropped, doubled or exchanged with the next.
+fn are_alike_in_each_way(alloc: Global, trace: &str) -> Result<bool, Fail> {
+    Ok(
+        are_alike_changed(alloc, trace, Change::None)?
+            && are_alike_changed(alloc, trace, Change::Dropped)?
+            && are_alike_changed(alloc, trace, Change::Doubled)?
+            && are_alike_changed(alloc, trace, Change::Exchanged)?,
+    )
+}
 
 #[test]
 fn changed_traces(rt: HostRuntime) -> Result<(), Fail> {
     for (trace, _, _, _) in CHANGED {
-        for (change, name) in CHANGES {
-            assert!(rt;
-                are_alike_changed(rt.alloc(), trace, *change)?,
-                "{name}: {trace}"
-            );
-        }
+        assert!(rt; are_alike_in_each_way(rt.alloc(), trace)?, "{trace}");
     }
     Ok(())
 }

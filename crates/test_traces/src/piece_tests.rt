@@ -90,13 +90,21 @@ fn is_judged(alloc: Global, text: &str, size: usize, said: Said, left: u64) -> b
     hand_over(&mut judge, text.as_bytes(), size).is_ok() && is_answered(&judge, said, left)
 }
 
+/// The text is judged so in pieces of each size.
+fn is_judged_in_each_size(alloc: Global, text: &str, said: Said, left: u64) -> bool {
+    for size in SIZES {
+        if !is_judged(alloc, text, size, said, left) {
+            return false;
+        }
+    }
+    true
+}
+
 #[test]
 fn a_text_is_judged_however_it_is_cut(rt: HostRuntime) {
     for (text, said, left) in TEXTS {
-        for size in SIZES {
-            let judged = is_judged(rt.alloc(), text, size, *said, *left);
-            assert!(rt; judged, "pieces of {size} of {text}");
-        }
+        let judged = is_judged_in_each_size(rt.alloc(), text, *said, *left);
+        assert!(rt; judged, "{text}");
     }
 }
 

@@ -193,16 +193,17 @@ const OBJECTIONS: &[Turn] = &[
     Turn::Line("nudge", true),
 ];
 
-const SIDES: &[(&[Turn], &str)] = &[
-    (IN_TURN, "two children in turn"),
-    (AT_ONCE, "two children at once"),
-    (OBJECTIONS, "each objection"),
-];
+#[test]
+fn number_of_two_children(rt: HostRuntime) {
+    assert!(rt; wrong_turn(rt.alloc(), IN_TURN).is_none());
+}
 
 #[test]
-fn sides_go_so(rt: HostRuntime) {
-    for (turns, name) in SIDES {
-        let wrong = wrong_turn(rt.alloc(), turns);
-        assert!(rt; wrong.is_none(), "{name}: {wrong:?}");
-    }
+fn two_children_at_once(rt: HostRuntime) {
+    assert!(rt; wrong_turn(rt.alloc(), AT_ONCE).is_none());
+}
+
+#[test]
+fn each_objection(rt: HostRuntime) {
+    assert!(rt; wrong_turn(rt.alloc(), OBJECTIONS).is_none());
 }
