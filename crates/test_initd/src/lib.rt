@@ -7,6 +7,8 @@ mod edge_tests;
 #[cfg(test)]
 mod io_tests;
 #[cfg(test)]
+mod judge_tests;
+#[cfg(test)]
 mod telinit_tests;
 #[cfg(test)]
 mod word_tests;
