@@ -26,14 +26,19 @@ const TRACE: &str =
      got call A / call A";
 
 /// Whether a run has room on a heap; where it has none, what was written is a front of the trace.
-fn is_run(alloc: Global, heap: &LocalHeap, trace: &[u8]) -> Result<bool, Fail> {
+fn is_run(rt: &impl Abort, alloc: Global, heap: &LocalHeap, trace: &[u8]) -> Result<bool, Fail> {
     let inittab = lines(alloc, INITTAB)?;
     let script = lines(alloc, SCRIPT)?;
     let mut out: Vec<u8> = Vec::new(alloc);
     match simulator::simulate(heap, inittab.as_bytes(), None, script.as_bytes(), &mut out) {
-        Ok(()) if out.as_slice() == trace => Ok(true),
-        Err(SimFault::Memory) if trace.starts_with(&out) => Ok(false),
-        _ => Err(Fail::from("another trace")),
+        Ok(()) => {
+            assert!(rt; out.as_slice() == trace);
+            Ok(true)
+        }
+        Err(why) => {
+            assert!(rt; why == SimFault::Memory && trace.starts_with(&out));
+            Ok(false)
+        }
     }
 }
 
@@ -42,7 +47,7 @@ fn a_run_without_room_writes_a_front_of_its_trace(rt: HostRuntime) -> Result<(),
     let trace = lines(rt.alloc(), TRACE)?;
     for refused in 0..4096usize {
         let heap = LocalHeap::new(rt.alloc(), STEP * refused)?;
-        if is_run(rt.alloc(), &heap, trace.as_bytes())? {
+        if is_run(&rt, rt.alloc(), &heap, trace.as_bytes())? {
             assert!(rt; refused > 8, "{refused}");
             return Ok(());
         }

@@ -1,5 +1,5 @@
-//! Traces of init as texts, their brief forms, what the system may do in a simulated run, and the verdicts on traces,
-//! worked out from the definitions of the laws. Whole simulated runs: tools/rows/initd-lines.
+//! Worked traces of init as tables: an inittab(5), a script of what the system did, and the trace; rows of the parts
+//! below such a run; and the verdicts on traces, worked out from the definitions of the laws.
 #![tactic(auto)]
 
 #[cfg(test)]
@@ -7,19 +7,13 @@ mod brief_tests;
 #[cfg(test)]
 mod growth_tests;
 #[cfg(test)]
-mod judged_tests;
-#[cfg(test)]
 mod line_tests;
-#[cfg(test)]
-mod log_fault_tests;
-#[cfg(test)]
-mod logs;
 #[cfg(test)]
 mod piece_tests;
 #[cfg(test)]
 mod pieces;
 #[cfg(test)]
-mod shortened_tests;
+mod run_tests;
 #[cfg(test)]
 mod side_tests;
 #[cfg(test)]

@@ -1,6 +1,7 @@
-use crate::texts::{first_line, has_lines};
+use crate::texts::{first_line, has_lines, holds};
 use init_trace::{HappeningIn, ReadFault, print_table};
 use std::alloc::Global;
+use std::process::Abort;
 
 /// Texts of traces, and texts that are none with the number of the line at which no happening begins.
 const TEXTS: &[(&str, u64)] = &[
@@ -102,11 +103,15 @@ fn fault_in(alloc: Global, text: &str) -> Option<u64> {
     }
 }
 
+fn are_read(rt: &impl Abort, alloc: Global, rows: &[(&str, u64)]) {
+    for (text, fault) in rows {
+        holds(rt, fault_in(alloc, text) == Some(*fault), text);
+    }
+}
+
 #[test]
 fn traces_are_read(rt: HostRuntime) {
-    for (text, fault) in TEXTS {
-        assert!(rt; fault_in(rt.alloc(), text) == Some(*fault), "{text}");
-    }
+    are_read(&rt, rt.alloc(), TEXTS);
 }
 
 fn print_line(alloc: Global, line: &str) -> Option<Vec<u8>> {

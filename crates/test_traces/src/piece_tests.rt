@@ -85,40 +85,45 @@ fn is_answered<A: Allocator + Copy>(judge: &TextJudge<A>, said: Said, left: u64)
     is_said(finding, said) && told.unwrap_or(0) == left
 }
 
-fn is_judged(alloc: Global, text: &str, size: usize, said: Said, left: u64) -> bool {
+fn is_judged(
+    rt: &impl Abort,
+    alloc: Global,
+    text: &str,
+    size: usize,
+    said: Said,
+    left: u64,
+) -> Result<(), Fail> {
     let mut judge = TextJudge::new(alloc);
-    hand_over(&mut judge, text.as_bytes(), size).is_ok() && is_answered(&judge, said, left)
-}
-
-/// The text is judged so in pieces of each size.
-fn is_judged_in_each_size(alloc: Global, text: &str, said: Said, left: u64) -> bool {
-    for size in SIZES {
-        if !is_judged(alloc, text, size, said, left) {
-            return false;
-        }
-    }
-    true
+    hand_over(&mut judge, text.as_bytes(), size)?;
+    assert!(rt;
+        is_answered(&judge, said, left),
+        "pieces of {size} of {text:?}"
+    );
+    Ok(())
 }
 
 #[test]
-fn a_text_is_judged_however_it_is_cut(rt: HostRuntime) {
+fn a_text_is_judged_however_it_is_cut(rt: HostRuntime) -> Result<(), Fail> {
     for (text, said, left) in TEXTS {
-        let judged = is_judged_in_each_size(rt.alloc(), text, *said, *left);
-        assert!(rt; judged, "{text}");
+        for size in SIZES {
+            is_judged(&rt, rt.alloc(), text, size, *said, *left)?;
+        }
     }
+    Ok(())
 }
 
 const TRACE: &str =
     "use 2\na:3:once:x\nb:1:once:y\nenter 3 5\nask a start\nbirth a 10\ntold a\nenter 1 5\nask b start\nbirth b 11\n";
 
-/// Whether the answer is right; none where the heap has no room for the judge.
-fn is_done(heap: &LocalHeap) -> Option<bool> {
+/// Whether the heap had room for the judge; where it had, the answer is right.
+fn is_done(rt: &impl Abort, heap: &LocalHeap) -> bool {
     let mut judge = TextJudge::new(heap);
     if hand_over(&mut judge, TRACE.as_bytes(), 7).is_err() {
-        return None;
+        return false;
     }
     let said = Said::Breach(7, Law::BesideExcluded, 10, "birth b 11\n");
-    Some(is_answered(&judge, said, 0))
+    assert!(rt; is_answered(&judge, said, 0));
+    true
 }
 
 #[test]
@@ -127,14 +132,12 @@ fn refused_growths_in_pieces(rt: HostRuntime) -> Result<(), Fail> {
     let mut done = 0usize;
     for step in 1..200usize {
         let heap = LocalHeap::new(rt.alloc(), 64 * step)?;
-        match is_done(&heap) {
-            Some(right) => {
-                assert!(rt; right, "{step}");
-                done = done.wrapping_add(1);
-            }
-            None => refused = refused.wrapping_add(1),
+        if is_done(&rt, &heap) {
+            done = done.wrapping_add(1);
+        } else {
+            refused = refused.wrapping_add(1);
         }
     }
-    assert!(rt; refused > 8 && done > 8, "{refused} {done}");
+    assert!(&rt; refused > 8 && done > 8, "{refused} {done}");
     Ok(())
 }

@@ -3,6 +3,7 @@ use init_trace::HappeningIn;
 use init_words::{Answer, Ask, ChildNo, Id, Status};
 use simulated_system::{Objection, SimulatedSystem};
 use std::alloc::Global;
+use std::process::Abort;
 
 /// What is done with the system's side, or asked of it.
 enum Turn {
@@ -77,15 +78,11 @@ fn goes(alloc: Global, side: &mut SimulatedSystem, turn: &Turn) -> bool {
     }
 }
 
-/// The first turn that goes otherwise.
-fn wrong_turn(alloc: Global, turns: &[Turn]) -> Option<usize> {
+fn follow(rt: &impl Abort, alloc: Global, turns: &[Turn]) {
     let mut side = SimulatedSystem::new(alloc);
-    for (place, turn) in turns.iter().enumerate() {
-        if !goes(alloc, &mut side, turn) {
-            return Some(place);
-        }
+    for turn in turns {
+        assert!(rt; goes(alloc, &mut side, turn));
     }
-    None
 }
 
 /// The children born for a and b take the number 7 in turn: it is free only once the first is reaped.
@@ -195,15 +192,15 @@ const OBJECTIONS: &[Turn] = &[
 
 #[test]
 fn number_of_two_children(rt: HostRuntime) {
-    assert!(rt; wrong_turn(rt.alloc(), IN_TURN).is_none());
+    follow(&rt, rt.alloc(), IN_TURN);
 }
 
 #[test]
 fn two_children_at_once(rt: HostRuntime) {
-    assert!(rt; wrong_turn(rt.alloc(), AT_ONCE).is_none());
+    follow(&rt, rt.alloc(), AT_ONCE);
 }
 
 #[test]
 fn each_objection(rt: HostRuntime) {
-    assert!(rt; wrong_turn(rt.alloc(), OBJECTIONS).is_none());
+    follow(&rt, rt.alloc(), OBJECTIONS);
 }

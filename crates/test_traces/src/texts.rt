@@ -1,6 +1,7 @@
 use init_trace::{HappeningIn, first_happening};
 use simulated_system::Objection;
 use std::alloc::{AllocError, Global};
+use std::process::Abort;
 
 /// A text of lines from one in which ` / ` stands for line ends.
 pub(crate) fn lines(alloc: Global, row: &str) -> Result<String, AllocError> {
@@ -11,10 +12,14 @@ pub(crate) fn lines(alloc: Global, row: &str) -> Result<String, AllocError> {
     Ok(text)
 }
 
+pub(crate) fn add_line(text: &mut String, line: &str) -> Result<(), AllocError> {
+    text.push_str(line)?;
+    text.push('\n')
+}
+
 fn add_lines(text: &mut String, row: &str) -> Result<(), AllocError> {
     for line in row.split(" / ") {
-        text.push_str(line)?;
-        text.push('\n')?;
+        add_line(text, line)?;
     }
     Ok(())
 }
@@ -44,4 +49,9 @@ pub(crate) fn is_said(alloc: Global, why: Objection, text: &str) -> bool {
         Ok(given) => given.as_str() == text,
         Err(_) => false,
     }
+}
+
+/// It holds of a row.
+pub(crate) fn holds(rt: &impl Abort, holds: bool, row: &str) {
+    assert!(rt; holds, "at {row:?}");
 }

@@ -5,6 +5,7 @@ use init_trace::ReadFault;
 use init_words::Memory;
 use linked_list_allocator::LocalHeap;
 use std::alloc::Global;
+use std::process::Abort;
 use std::test::Fail;
 use trace_check::{Law, Verdict};
 
@@ -18,7 +19,7 @@ fn judged(heap: &LocalHeap) -> Result<Result<Verdict, Memory>, ReadFault> {
 }
 
 /// How many heaps refused the reading, how many the checking alone, and how many neither.
-fn counts(alloc: Global) -> Result<(usize, usize, usize), Fail> {
+fn counts(rt: &impl Abort, alloc: Global) -> Result<(usize, usize, usize), Fail> {
     let mut unread = 0usize;
     let mut unjudged = 0usize;
     let mut done = 0usize;
@@ -27,8 +28,10 @@ fn counts(alloc: Global) -> Result<(usize, usize, usize), Fail> {
         match judged(&heap) {
             Err(ReadFault::Memory) => unread = unread.wrapping_add(1),
             Ok(Err(Memory)) => unjudged = unjudged.wrapping_add(1),
-            Ok(Ok(Verdict::Breach(7, Law::BesideExcluded))) => done = done.wrapping_add(1),
-            Ok(Ok(_)) => return Err(Fail::from("another verdict")),
+            Ok(Ok(verdict)) => {
+                assert!(rt; verdict == Verdict::Breach(7, Law::BesideExcluded));
+                done = done.wrapping_add(1);
+            }
             Err(ReadFault::Line(_)) => return Err(Fail::from("an unread line")),
         }
     }
@@ -37,7 +40,7 @@ fn counts(alloc: Global) -> Result<(usize, usize, usize), Fail> {
 
 #[test]
 fn refused_growths(rt: HostRuntime) -> Result<(), Fail> {
-    let (unread, unjudged, done) = counts(rt.alloc())?;
+    let (unread, unjudged, done) = counts(&rt, rt.alloc())?;
     assert!(rt;
         unread > 8 && unjudged > 3 && done > 8,
         "{unread} {unjudged} {done}"

@@ -1,5 +1,6 @@
 use crate::verdict_texts::{Change, judged};
 use std::alloc::Global;
+use std::process::Abort;
 use std::test::Fail;
 
 /// Traces, where ` / ` stands for line ends, and their verdicts: `.` where it is lawful, else the place of the first
@@ -302,39 +303,53 @@ pub(crate) const CHANGED: &[(&str, &str, &str, &str)] = &[
     ),
 ];
 
+fn is_judged(rt: &impl Abort, alloc: Global, trace: &str, want: &str) -> Result<(), Fail> {
+    let verdict = judged(alloc, trace, 0, Change::None)?;
+    assert!(rt; verdict.as_str() == want, "at {trace:?}");
+    Ok(())
+}
+
 #[test]
 fn traces_are_judged(rt: HostRuntime) -> Result<(), Fail> {
     for (trace, want) in VERDICTS {
-        let verdict = judged(rt.alloc(), trace, 0, Change::None)?;
-        assert!(rt; verdict.as_str() == *want, "at {trace}");
+        is_judged(&rt, rt.alloc(), trace, want)?;
     }
     Ok(())
 }
 
-/// The first line of a trace that, changed so, is judged otherwise.
-fn wrong_line(
+fn is_changed(
+    rt: &impl Abort,
+    alloc: Global,
+    trace: &str,
+    place: usize,
+    change: Change,
+    want: &str,
+) -> Result<(), Fail> {
+    let verdict = judged(alloc, trace, place, change)?;
+    assert!(rt; verdict.as_str() == want, "line {place} of {trace:?}");
+    Ok(())
+}
+
+/// Each line changed so in turn gives its verdict.
+fn are_changed(
+    rt: &impl Abort,
     alloc: Global,
     trace: &str,
     change: Change,
     verdicts: &str,
-) -> Result<Option<usize>, Fail> {
+) -> Result<(), Fail> {
     for (place, want) in verdicts.split(' ').enumerate() {
-        if judged(alloc, trace, place, change)?.as_str() != want {
-            return Ok(Some(place));
-        }
+        is_changed(rt, alloc, trace, place, change, want)?;
     }
-    Ok(None)
+    Ok(())
 }
 
 #[test]
 fn changed_traces_are_judged(rt: HostRuntime) -> Result<(), Fail> {
     for (trace, dropped, doubled, exchanged) in CHANGED {
-        let wrong = wrong_line(rt.alloc(), trace, Change::Dropped, dropped)?;
-        assert!(rt; wrong.is_none(), "dropped {wrong:?} of {trace}");
-        let wrong = wrong_line(rt.alloc(), trace, Change::Doubled, doubled)?;
-        assert!(rt; wrong.is_none(), "doubled {wrong:?} of {trace}");
-        let wrong = wrong_line(rt.alloc(), trace, Change::Exchanged, exchanged)?;
-        assert!(rt; wrong.is_none(), "exchanged {wrong:?} of {trace}");
+        are_changed(&rt, rt.alloc(), trace, Change::Dropped, dropped)?;
+        are_changed(&rt, rt.alloc(), trace, Change::Doubled, doubled)?;
+        are_changed(&rt, rt.alloc(), trace, Change::Exchanged, exchanged)?;
     }
     Ok(())
 }

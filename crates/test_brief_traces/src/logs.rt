@@ -32,7 +32,7 @@ pub(crate) fn trace_of(alloc: Global, text: &str) -> Option<Vec<HappeningIn<Glob
 }
 
 /// Hands the log the happenings of a trace: whether it took them all.
-pub(crate) fn takes_all<L: Log>(log: &mut L, trace: &[HappeningIn<Global>]) -> bool {
+fn takes_all<L: Log>(log: &mut L, trace: &[HappeningIn<Global>]) -> bool {
     for happening in trace {
         if log.failed() || log.take(happening).is_err() {
             return false;
