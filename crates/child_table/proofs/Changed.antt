@@ -13,7 +13,7 @@ use Rattle.child_table.specs.State.{SlotState}
 use Rattle.child_table.specs.declared.children.KnownChild.{KnownChild}
 use Rattle.child_table.specs.declared.children.Stop.{Stop}
 use Rattle.child_table.specs.declared.children.Stop.TheVariants.{Due}
-use Rattle.child_table.specs.Indexing.{child_of, termed_of, moves_child, moves_stop}
+use Rattle.child_table.specs.Indexing.{termed_of, moves_stop}
 use Rattle.child_table.specs.Times.{is_timely, is_stop_timely}
 use Rattle.child_table.specs.Changes.{after_order, after_answer, after_enter}
 use Rattle.child_table.specs.Judging.{is_excluded, judged, judged_child, after_judge}
@@ -56,27 +56,11 @@ order-after_judge table stage slot = child slot.child
     child None = refl
     child (Some living) = by (is_excluded stage living.act (entry_of slot.id table))
 
-pub child-after_order : (ask : Ask) (now : ℕ) (slot : SlotState) → child_of (after_order ask now slot) ≡ child_of slot
-child-after_order Start now slot = refl
-child-after_order Look now slot = refl
-child-after_order Term now slot = refl
-child-after_order Kill now slot = refl
-
 pub termed-after_order : (ask : Ask) (now : ℕ) (slot : SlotState) → termed_of (after_order ask now slot) ≡ termed_of slot
 termed-after_order Start now slot = refl
 termed-after_order Look now slot = refl
 termed-after_order Term now slot = refl
 termed-after_order Kill now slot = refl
-
--- an answer that moves no child
-pub child-after_answer : (answer : Answer) (now : ℕ) (slot : SlotState) → moves_child answer ≡ false → child_of (after_answer answer now slot) ≡ child_of slot
-child-after_answer (Born n) now slot h = absurd (true≢false h)
-child-after_answer NotBorn now slot h = refl
-child-after_answer (Ended status) now slot h = absurd (true≢false h)
-child-after_answer Alive now slot h = refl
-child-after_answer NoLook now slot h = refl
-child-after_answer Hit now slot h = refl
-child-after_answer Miss now slot h = refl
 
 -- and one that moves no stop
 pub termed-after_answer : (answer : Answer) (now : ℕ) (slot : SlotState) → moves_stop answer ≡ false → termed_of (after_answer answer now slot) ≡ termed_of slot
@@ -87,17 +71,6 @@ termed-after_answer Alive now slot h = refl
 termed-after_answer NoLook now slot h = refl
 termed-after_answer Hit now slot h = absurd (true≢false h)
 termed-after_answer Miss now slot h = refl
-
-pub child-after_judge : (table : List Entry) (stage : Stage) (slot : SlotState) → child_of (after_judge table stage slot) ≡ child_of slot
-child-after_judge table stage slot = child slot.child
-  where
-    by : (b : Bool) → child_of (judged b slot) ≡ child_of slot
-    by true = refl
-    by false = refl
-
-    child : (child : Option KnownChild) → child_of (judged_child stage table child slot) ≡ child_of slot
-    child None = refl
-    child (Some living) = by (is_excluded stage living.act (entry_of slot.id table))
 
 due_timely : (now : ℕ) (stop : Option Stop) → is_stop_timely now stop ≡ true → is_stop_timely now (option_or stop (Some Due)) ≡ true
 due_timely now None h = refl

@@ -140,14 +140,6 @@ module _ (key_of : SlotState → Option Keyed) {A : Type 0} where
   of_same : {was slots : List SlotState} (index : Vec Keyed A) → was ≡ slots → IsIndex key_of was index → IsIndex key_of slots index
   of_same index is h = subst (λ xs. IsIndex key_of xs index) is h
 
-  -- where more room was made
-  pub roomier_index : {slots : List SlotState} (old new : Vec Keyed A) → new.items ≡ old.items → vec_capacity old ≤ vec_capacity new → IsIndex key_of slots old → IsIndex key_of slots new
-  roomier_index old new same more h = record {
-    sorted = subst (λ cs. are_sorted cs ≡ true) (sym same) h.sorted;
-    those = subst (AreKeysOf key_of _) (sym same) h.those;
-    room = omega (arith, h.room, more);
-  }
-
   -- where all records changed, or one, but no key
   pub same_index : (change : SlotState → SlotState) → ((slot : SlotState) → key_of (change slot) ≡ key_of slot) → {was slots now : List SlotState} (index : Vec Keyed A) → was ≡ slots → now ≡ map change slots → IsIndex key_of was index → IsIndex key_of now index
   same_index change keeps {slots} index is done h =

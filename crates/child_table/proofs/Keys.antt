@@ -1,31 +1,19 @@
--- The keys of the records: the numbers of their children, and the times of the SIGTERMs to them.
-use Rattle.std.proofs.Common.{◌≡◌, refl, sym, ◌∙◌, ap, cond, Bool, true, false, not, ◌&&◌, ℕ, ◌+◌, ◌≤◌, List, [], ◌∷◌, find, nat_lt, Option, Some, None, ◌==◌, arith}
+-- The keys of the records: the times of the SIGTERMs to their children.
+use Rattle.std.proofs.Common.{◌≡◌, refl, sym, ◌∙◌, ap, cond, Bool, true, false, not, ℕ, ◌+◌, List, [], ◌∷◌, nat_lt, Option, Some, None, ◌==◌, arith}
 use Rattle.std.specs.List.{list_any, count_by}
-use Rattle.std.specs.Option.{option_map, IfSome}
+use Rattle.std.specs.Option.{IfSome}
 use Rattle.std.proofs.lemmas.Bool.{and_parts, or_from, not-true, le-ltb, eq-eqb}
 use Rattle.std.proofs.lemmas.List.Sums.{sum_by-cons}
-use Rattle.init_words.specs.Ids.{same_id}
-use Rattle.init_words.proofs.Same.{same_id-is}
-use Rattle.child_table.specs.declared.index.Found.TheVariants as found
 use Rattle.child_table.specs.declared.index.Keyed.{Keyed}
-use Rattle.child_table.specs.declared.children.KnownChild.{KnownChild}
 use Rattle.child_table.specs.declared.children.Stop.{Stop}
 use Rattle.child_table.specs.declared.children.Stop.TheVariants.{Due, Termed, Killed}
 use Rattle.child_table.specs.State.{SlotState}
-use Rattle.child_table.specs.Lists.{is_numbered, id_of_child}
 use Rattle.child_table.specs.Stopping.{is_termed, is_termed_at, is_termed_before, IsFirstTermed}
-use Rattle.child_table.specs.Indexing.{child_of, termed_at, termed_of, keys_of, are_sorted, AreKeysOf, passes, first_key, IsFound}
+use Rattle.child_table.specs.Indexing.{termed_at, termed_of, keys_of, are_sorted, AreKeysOf, passes, first_key}
 use Rattle.child_table.proofs.Counted.{some_counted}
 use Rattle.child_table.proofs.Indexes.{count-slot, HasOwnIds}
 
 -- An item has the id of its record.
-pub own_child : HasOwnIds child_of
-own_child slot = by slot.child
-  where
-    by : (o : Option KnownChild) → IfSome (option_map (λ (child : KnownChild). record { key = child.number; id = slot.id }) o) (λ (c : Keyed). c.id ≡ slot.id)
-    by None = tt
-    by (Some child) = refl
-
 pub own_termed : HasOwnIds termed_of
 own_termed slot = by slot.stop
   where
@@ -39,71 +27,6 @@ own_termed slot = by slot.stop
 count_slots : (key_of : SlotState → Option Keyed) (test : Keyed → Bool) (p : SlotState → Bool) → ((slot : SlotState) → passes test (key_of slot) ≡ cond (p slot) 1 0) → (slots : List SlotState) → count_by test (keys_of key_of slots) ≡ count_by p slots
 count_slots key_of test p same [] = refl
 count_slots key_of test p same (slot ∷ slots) = count-slot key_of test slot slots ∙ ap (λ n. n + count_by test (keys_of key_of slots)) (same slot) ∙ ap (λ n. cond (p slot) 1 0 + n) (count_slots key_of test p same slots) ∙ sym (sum_by-cons (λ (s : SlotState). cond (p s) 1 0) slot slots)
-
--- The id of a number.
-numbered : (n : ℕ) (slot : SlotState) → passes (λ c. c.key == n) (child_of slot) ≡ cond (is_numbered n slot.child) 1 0
-numbered n slot = by slot.child
-  where
-    by : (o : Option KnownChild) → passes (λ c. c.key == n) (option_map (λ (child : KnownChild). record { key = child.number; id = slot.id }) o) ≡ cond (is_numbered n o) 1 0
-    by None = refl
-    by (Some child) = refl
-
-numbered_id : (n : ℕ) (id : List ℕ) (slot : SlotState) → passes (λ c. c.key == n && same_id id c.id) (child_of slot) ≡ cond (is_numbered n slot.child && same_id id slot.id) 1 0
-numbered_id n id slot = by slot.child
-  where
-    by : (o : Option KnownChild) → passes (λ c. c.key == n && same_id id c.id) (option_map (λ (child : KnownChild). record { key = child.number; id = slot.id }) o) ≡ cond (is_numbered n o && same_id id slot.id) 1 0
-    by None = refl
-    by (Some child) = refl
-
--- how many children have the number, and the id too
-abbrev numbers : ℕ → List SlotState → ℕ
-numbers n slots = count_by (λ (slot : SlotState). is_numbered n slot.child) slots
-
-abbrev numbers_of : ℕ → List ℕ → List SlotState → ℕ
-numbers_of n id slots = count_by (λ (slot : SlotState). is_numbered n slot.child && same_id id slot.id) slots
-
-numbers-cons : (n : ℕ) (slot : SlotState) (slots : List SlotState) → numbers n (slot ∷ slots) ≡ cond (is_numbered n slot.child) 1 0 + numbers n slots
-numbers-cons n slot slots = sum_by-cons (λ (s : SlotState). cond (is_numbered n s.child) 1 0) slot slots
-
-numbers_of-cons : (n : ℕ) (id : List ℕ) (slot : SlotState) (slots : List SlotState) → numbers_of n id (slot ∷ slots) ≡ cond (is_numbered n slot.child && same_id id slot.id) 1 0 + numbers_of n id slots
-numbers_of-cons n id slot slots = sum_by-cons (λ (s : SlotState). cond (is_numbered n s.child && same_id id s.id) 1 0) slot slots
-
-unnumbered : (n : ℕ) (slots : List SlotState) → numbers n slots ≡ 0 → id_of_child n slots ≡ None
-unnumbered n [] none = refl
-unnumbered n (slot ∷ slots) none = here (is_numbered n slot.child) (numbers-cons n slot slots) (unnumbered n slots)
-  where
-    here : (b : Bool) → numbers n (slot ∷ slots) ≡ cond b 1 0 + numbers n slots → (numbers n slots ≡ 0 → id_of_child n slots ≡ None)
-        → option_map (λ (s : SlotState). s.id) (cond b (Some slot) (find (λ (s : SlotState). is_numbered n s.child) slots)) ≡ None
-    here true e later = absurd (omega (arith, e, none))
-    here false e later = later (omega (arith, e, none))
-
-fewer : (n : ℕ) (id : List ℕ) (slots : List SlotState) → numbers_of n id slots ≤ numbers n slots
-fewer n id [] = omega arith
-fewer n id (slot ∷ slots) = omega (arith, at (is_numbered n slot.child) (same_id id slot.id), fewer n id slots, numbers-cons n slot slots, numbers_of-cons n id slot slots)
-  where
-    at : (b d : Bool) → cond (b && d) 1 0 ≤ cond b 1 0
-    at true true = omega arith
-    at true false = omega arith
-    at false d = omega arith
-
-only_numbered : (n : ℕ) (id : List ℕ) (slots : List SlotState) → numbers n slots ≡ 1 → numbers_of n id slots ≡ 1 → id_of_child n slots ≡ Some id
-only_numbered n id [] one both = absurd (omega arith)
-only_numbered n id (slot ∷ slots) one both = here (is_numbered n slot.child) (same_id id slot.id) refl (numbers-cons n slot slots) (numbers_of-cons n id slot slots) (only_numbered n id slots)
-  where
-    here : (b d : Bool) → same_id id slot.id ≡ d → numbers n (slot ∷ slots) ≡ cond b 1 0 + numbers n slots → numbers_of n id (slot ∷ slots) ≡ cond (b && d) 1 0 + numbers_of n id slots
-        → (numbers n slots ≡ 1 → numbers_of n id slots ≡ 1 → id_of_child n slots ≡ Some id)
-        → option_map (λ (s : SlotState). s.id) (cond b (Some slot) (find (λ (s : SlotState). is_numbered n s.child) slots)) ≡ Some id
-    here true true own e k later = ap Some (sym (same_id-is id slot.id own))
-    here true false own e k later = absurd (omega (arith, e, k, one, both, fewer n id slots))
-    here false d own e k later = later (omega (arith, e, one)) (omega (arith, k, both))
-
-pub found_no_id : (n : ℕ) (slots : List SlotState) (cs : List Keyed) → AreKeysOf child_of slots cs → IsFound n cs found.None → id_of_child n slots ≡ None
-found_no_id n slots cs those none = unnumbered n slots (sym (count_slots child_of (λ c. c.key == n) (λ s. is_numbered n s.child) (numbered n) slots) ∙ sym (those (λ c. c.key == n)) ∙ none)
-
-pub found_id : (n : ℕ) (id : List ℕ) (slots : List SlotState) (cs : List Keyed) → AreKeysOf child_of slots cs → IsFound n cs (found.One id) → id_of_child n slots ≡ Some id
-found_id n id slots cs those one = only_numbered n id slots
-    (sym (count_slots child_of (λ c. c.key == n) (λ s. is_numbered n s.child) (numbered n) slots) ∙ sym (those (λ c. c.key == n)) ∙ one.0)
-    (sym (count_slots child_of (λ c. c.key == n && same_id id c.id) (λ s. is_numbered n s.child && same_id id s.id) (numbered_id n id) slots) ∙ sym (those (λ c. c.key == n && same_id id c.id)) ∙ one.1)
 
 -- The first SIGTERM.
 module _ (test : Keyed → Bool) (p : Option Stop → Bool) (none : p None ≡ false) (due : p (Some Due) ≡ false) (killed : (time : ℕ) → p (Some (Killed time)) ≡ false) (termed : (id : List ℕ) (time : ℕ) → test (record { key = time; id = id }) ≡ p (Some (Termed time))) where

@@ -4,8 +4,7 @@ ghost use Rattle.respawn_limit.specs.declared.TheConstants.{CLOCK_LIMIT};
 
 use crate::counts::{Counts, count_due, count_excluded};
 use crate::index::{
-    Found, Keyed, child_of, first_key, forget, index_termed, make_room, moves_child, moves_stop,
-    note, put, termed_of, with_key,
+    Keyed, first_key, forget, index_termed, make_room, moves_stop, note, put, termed_of,
 };
 use crate::record::Slot;
 use indexmap::IndexMap;
@@ -23,9 +22,7 @@ use std::marker::Model;
 pub struct Slots<A: Allocator = Global> {
     records: IndexMap<Id, Slot, BuildHasherDefault<FoldHasher>, A>,
     counts: Counts,
-    // The children by their numbers, sorted, and the times of SIGTERMs that were the last signal, with room for one of
-    // each a record.
-    children: Vec<Keyed, A>,
+    // The times of SIGTERMs that were the last signal, sorted, with room for one a record.
     termed: Vec<Keyed, A>,
 }
 
@@ -37,7 +34,7 @@ impl<A: Allocator> Model for Slots<A> {
     ghost use Rattle.child_table.specs.Lists.{slot_ids};
     ghost use Rattle.child_table.specs.Times.{are_timely};
     ghost use Rattle.child_table.specs.Counting.{counts_of};
-    ghost use Rattle.child_table.specs.Indexing.{child_of, termed_of, IsIndex};
+    ghost use Rattle.child_table.specs.Indexing.{termed_of, IsIndex};
 
     ghost Value = { List SlotState };
 
@@ -46,7 +43,6 @@ impl<A: Allocator> Model for Slots<A> {
     ghost invariant = { λ slots. (keys slots.records ≡ slot_ids (values slots.records))
         × (are_timely CLOCK_LIMIT (values slots.records) ≡ true)
         × (slots.counts ≡ counts_of (values slots.records))
-        × IsIndex child_of (values slots.records) slots.children
         × IsIndex termed_of (values slots.records) slots.termed };
 }
 
@@ -58,7 +54,6 @@ impl<A: Allocator + Copy> Slots<A> {
         Slots {
             records: IndexMap::new(alloc),
             counts: Counts::none(),
-            children: Vec::new(alloc),
             termed: Vec::new(alloc),
         }
     }
@@ -70,7 +65,6 @@ impl<A: Allocator + Copy> Slots<A> {
         Ok(Slots {
             records: IndexMap::with_capacity(alloc, room)?,
             counts: Counts::none(),
-            children: Vec::with_capacity(alloc, room)?,
             termed: Vec::with_capacity(alloc, room)?,
         })
     }
@@ -84,7 +78,7 @@ impl<A: Allocator + Copy> Slots<A> {
 impl<A: Allocator> Slots<A> {
     ghost use Rattle.std.specs.List.{list_any};
     ghost use Rattle.child_table.specs.State.{SlotState};
-    ghost use Rattle.child_table.specs.Lists.{is_busy, are_distinct, slot_of, has_slot, can_ask, order_in, id_of_child, is_quiet, with_changed, without, refusal_of, is_over_in, after_told};
+    ghost use Rattle.child_table.specs.Lists.{are_distinct, slot_of, has_slot, can_ask, order_in, is_quiet, with_changed, without, refusal_of, is_over_in, after_told};
     ghost use Rattle.child_table.specs.Times.{is_timely, are_timely};
     ghost use Rattle.child_table.specs.Changes.{after_order, after_hold, after_call, after_enter, after_nudge, after_answer};
     ghost use Rattle.child_table.specs.Judging.{after_judge};
@@ -124,28 +118,6 @@ impl<A: Allocator> Slots<A> {
         ensures timely { IfSome result (λ slot. is_timely CLOCK_LIMIT slot.now ≡ true) }
     {
         self.records.get(id)
-    }
-
-    /// The id of the first record whose child has the number.
-    pub fn by_child(&self, number: ChildNo) -> Option<Id>
-        ensures { result ≡ id_of_child number self.now }
-    {
-        match with_key(self.children.as_slice(), u64::from(number.0)) {
-            Found::None => None,
-            Found::One(id) => Some(id),
-            // The system gave the number anew, and the end of the child that had it before isn't told yet.
-            Found::Several => self.first_with(number),
-        }
-    }
-
-    fn first_with(&self, number: ChildNo) -> Option<Id>
-        ensures { result ≡ id_of_child number self.now }
-    {
-        let slot = self
-            .records
-            .values()
-            .find(|slot| slot.child() == Some(number))?;
-        Some(slot.id())
     }
 
     /// No start and no signal is unanswered; looks may be.
@@ -278,9 +250,7 @@ impl<A: Allocator> Slots<A> {
         self.counts.subtract(Counts::of(slot));
         slot.note_answer(answer, now);
         self.counts.add(Counts::of(slot));
-        let child = child_of(slot);
         let termed = termed_of(slot);
-        note(&mut self.children, &id, moves_child(&answer), child);
         note(&mut self.termed, &id, moves_stop(&answer), termed);
     }
 
@@ -289,7 +259,6 @@ impl<A: Allocator> Slots<A> {
     {
         if let Some(slot) = self.records.shift_remove(&id) {
             self.counts.subtract(Counts::of(&slot));
-            forget(&mut self.children, id);
             forget(&mut self.termed, id);
         }
     }
@@ -374,16 +343,13 @@ impl<A: Allocator> Slots<A> {
     {
         let id = slot.id();
         let counts = Counts::of(&slot);
-        let child = child_of(&slot);
         let termed = termed_of(&slot);
         let records = self.records.len() + 1;
-        make_room(&mut self.children, records)?;
         make_room(&mut self.termed, records)?;
         self.records.insert(id, slot)?;
         // `len` says that the records are few enough to count, as `insert` doesn't.
         let _ = self.records.len();
         self.counts.add(counts);
-        put(&mut self.children, child);
         put(&mut self.termed, termed);
         Ok(())
     }

@@ -24,11 +24,3 @@ head_step_if false step = refl
 pub head_steps_if : (b : Bool) (steps : List Step) → head (steps_if b steps) ≡ cond b (head steps) None
 head_steps_if true steps = refl
 head_steps_if false steps = refl
-
-pub or_else_assoc : (a b c : Option Step) → or_else (or_else a b) c ≡ or_else a (or_else b c)
-or_else_assoc None b c = refl
-or_else_assoc (Some step) b c = refl
-
--- of ten parts of which the first six are empty
-pub six_empty : (a b c d e f g h i j : List Step) → a ≡ [] → b ≡ [] → c ≡ [] → d ≡ [] → e ≡ [] → f ≡ [] → (a ++ b ++ c ++ d ++ e ++ f ++ g ++ h ++ i ++ j) ≡ (g ++ h ++ i ++ j)
-six_empty a b c d e f g h i j ha hb hc hd he hf = rw (ha, hb, hc, hd, he, hf) refl

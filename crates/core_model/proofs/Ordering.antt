@@ -62,14 +62,6 @@ entry_has id (x ∷ es) e is = at (same_id id x.id) refl (entry_has id es e) is
     at true same rest is = let one : x ≡ e = cc in subst (λ (y : Entry). same_id id y.id ≡ true) one same
     at false differ rest is = rest is
 
--- what holds of the entry of an id, by a rule that depends on its id
-by_entry : {X : Type 0} (f g : Entry → X) (x : X) (id : List ℕ) (table : List Entry) → ((e : Entry) → entry_of id table ≡ Some e → f e ≡ g e) → option_map_or f (entry_of id table) x ≡ option_map_or g (entry_of id table) x
-by_entry {X} f g x id table same = at (entry_of id table) refl
-  where
-    at : (o : Option Entry) → entry_of id table ≡ o → option_map_or f o x ≡ option_map_or g o x
-    at None is = refl
-    at (Some e) is = same e is
-
 -- a look, a TERM and a KILL were ordered
 module _ (id : List ℕ) (past : List Event) (now : ℕ) where
   pub look_ordered : with_changed id (after_order Look now) (records_of past) ≡ records_of (Asked id Look ∷ past)

@@ -1,3 +1,5 @@
+//! Laws of the requests that a host's calls bring into the trace.
+
 ghost use Rattle.std.specs.Prelude.{◌≡◌, ◌+◌, ◌++◌, ℕ, IsTrue, List, length};
 ghost use Rattle.initctl_frame.specs.Blocks.{over_of};
 ghost use Rattle.init_trace.specs.declared.steps.Goal.{Goal};

@@ -1,4 +1,1 @@
-pub mod LineTexts
-pub mod LineWords
-pub mod ReadTexts
 mod Rows

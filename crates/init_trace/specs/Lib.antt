@@ -4,10 +4,8 @@ pub mod Bounds
 pub mod Due
 pub mod Event
 pub mod Lawful
-pub mod Lines
 pub mod Past
 pub mod Range
-pub mod Reading
 pub mod Run
 pub mod Sound
 pub mod Spells

@@ -1,5 +1,5 @@
--- The happenings that a trace can hold, and a text that is that of none from a line on.
-use Rattle.std.specs.Prelude.{◌≡◌, ◌≢◌, ℕ, Bool, true, ◌+◌, ◌^◌, ◌&&◌, nat_lt, List, [], ◌++◌, length}
+-- The happenings that a trace can hold.
+use Rattle.std.specs.Prelude.{ℕ, Bool, true, ◌+◌, ◌^◌, ◌&&◌, nat_lt, List}
 use Rattle.std.specs.List.{list_all}
 use Rattle.init_words.specs.declared.children.Status.{Status}
 use Rattle.init_words.specs.declared.children.Status.TheVariants.{Exit, Killed}
@@ -8,14 +8,10 @@ use Rattle.init_words.specs.Ids.{is_id}
 use Rattle.initctl_frame.specs.declared.requests.Got.{Got as Request}
 use Rattle.initctl_frame.specs.declared.requests.Got.TheVariants as got
 use Rattle.inittab_text.specs.Written.{is_table}
-use Rattle.text_lines.specs.Lines.{newlines}
 use Rattle.init_trace.specs.declared.happenings.Happening.TheVariants.{NewTable, Enter, Asked, Hold, Birth, NoBirth, Death, Reaped, Still, NoLook, Hit, Miss, Told, Clock, Got, Handed}
 use Rattle.init_trace.specs.declared.happenings.Handed.{Handed as HandOver}
 use Rattle.init_trace.specs.declared.happenings.Handed.TheVariants as handed
 use Rattle.init_trace.specs.Event.{Event}
-use Rattle.init_trace.specs.Lines.{event_text, trace_text}
-use Rattle.init_trace.specs.declared.reading.ReadFault.{ReadFault}
-use Rattle.init_trace.specs.declared.reading.ReadFault.TheVariants as fault
 
 -- the seconds between the two signals, at most an hour
 abbrev pub is_seconds : ℕ → Bool
@@ -71,32 +67,3 @@ is_short _ = true
 
 abbrev pub are_short : List Event → Bool
 are_short trace = list_all is_short trace
-
--- a happening and the text after it
-abbrev pub Begun : Type 0
-Begun = Event × List ℕ
-
--- how many lines a happening has: its own, and one for each entry of its table
-abbrev pub line_count : Event → ℕ
-line_count (NewTable table) = length table + 1
-line_count _ = 1
-
--- the text begins with no happening's text
-abbrev pub BeginsNone : List ℕ → Type 0
-BeginsNone text =
-    (happening : Event) (more : List ℕ) → is_in_range happening ≡ true → event_text happening ++ more ≢ text
-
--- the text is that of a trace up to its line of this number, counted from 1, and no happening begins there
-pub record Stops (text : List ℕ) (number : ℕ) : Type 0 where
-  pub trace : List Event
-  pub rest : List ℕ
-  pub are : are_in_range trace ≡ true
-  pub whole : trace_text trace ++ rest ≡ text
-  pub counted : number ≡ newlines (trace_text trace) + 1
-  pub some : rest ≢ []
-  pub none : BeginsNone rest
-
--- why a text is not read
-abbrev pub Unread : List ℕ → ReadFault → Type 0
-Unread text (fault.Line number) = Stops text number
-Unread text fault.Memory = Unit {0}

@@ -4,16 +4,10 @@
 
 mod copies;
 mod happenings;
-mod printing;
 mod ranges;
-mod reading;
 mod steps;
-/// The words that a line is made of.
-pub mod words;
 
 pub use copies::happening_copy;
 pub use happenings::{Handed, Happening, HappeningIn};
-pub use printing::{print, print_one, print_table};
 pub use ranges::law_of_ranges;
-pub use reading::{ReadFault, first_happening, line_count, read};
 pub use steps::{Goal, Step};

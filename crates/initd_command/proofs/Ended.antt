@@ -1,13 +1,12 @@
 -- What a run left, where its writer was only flushed since.
-use Rattle.std.proofs.Common.{◌≡◌, refl, sym, ap, subst, Result, Ok, Err, IfErr, OnOk, ◌⊎◌, inl, inr, Bool, List, [], ℕ, true, Option, Some, None, unwrap_or, IsSome}
+use Rattle.std.proofs.Common.{◌≡◌, refl, sym, ap, subst, Result, Ok, Err, IfErr, OnOk, ◌⊎◌, inl, inr, Bool, List, [], ℕ, true, Option, unwrap_or}
 use Rattle.std.specs.Result.{IsErrAnd}
-use Rattle.std.proofs.lemmas.Bool.{false≢true}
 use Rattle.std.specs.declared.io.Error.{Error}
 use Rattle.std.specs.Io.KnownBytes.{Appends, Keeps}
 use Rattle.program_io.specs.Writing.{AppendsPrefix}
 use Rattle.program_io.specs.declared.statuses.TheConstants.{DEVICE_FAULT}
 use Rattle.initd_command.specs.declared.run.TheConstants.{UNTOLD}
-use Rattle.std.proofs.KnownBytes.{Appends-kept, Keeps-refl, Keeps-trans}
+use Rattle.std.proofs.KnownBytes.{Appends-kept, Keeps-trans}
 use Rattle.simulator.specs.declared.running.SimFault.{SimFault}
 use Rattle.simulator.specs.declared.running.SimFault.TheVariants as fault
 use Rattle.simulator.specs.Simulation.{Done, Ends, Scenario, past_text}
@@ -20,7 +19,7 @@ use Rattle.initd_command.specs.Endings.{Ending, Reports, ReportsUnled, status_of
 use Rattle.initd_command.specs.Turned.{End}
 use Rattle.os_host.specs.LineFaults.{faults_text}
 use Rattle.initd_options.specs.Options.{RunSaid}
-use Rattle.initd_command.specs.Services.{AreFiles, EndsRun, EndsServed, EndsTold, FailsBy, HasInittab, IsOfFault, Turns, is_unled}
+use Rattle.initd_command.specs.Services.{AreFiles, EndsRun, EndsServed, EndsTold, HasInittab, IsOfFault, Turns, is_unled}
 
 pub done_kept : (s : Scenario) (old mid new : Option (List ℕ)) → Done s old mid → Keeps mid new → Done s old new
 done_kept s old mid new (past, rested, written) kept = (past, rested, Appends-kept old mid new (past_text past) written kept)
@@ -50,23 +49,6 @@ either_kept s old mid new (inr (f, ends)) kept = inr (f, ends_kept s f old mid n
 pub told_ends : (service : RunSaid) (unled : Bool) (told : List ℕ) (old new : Option (List ℕ)) (end : End) → EndsServed service end → Appends old new told
     → EndsTold service unled told (turned unled end) old new
 told_ends service unled told old new end served appends = (end, refl, served, appends)
-
--- a run that ended before its first turn ends by its fault
-pub fails_run : (text_at : KnownTexts) (service : RunSaid) (fault : RunFault) (ending : Ending) (at : Option (List ℕ)) → FailsBy text_at service fault
-    → IsOfFault service fault ending → EndsRun text_at service ending at at
-fails_run text_at service why.Busy ending at by is = rw is (refl, Keeps-refl at)
-fails_run text_at service (why.Channel error) ending at by (reason, is) = rw is (refl, Keeps-refl at)
-fails_run text_at service (why.Inittab error) ending at by (reason, is) = rw is (inl refl, Keeps-refl at)
-fails_run text_at service (why.Folder path error) ending at by (reason, is) = rw is (inr by, Keeps-refl at)
-fails_run text_at service why.TooMany ending at (parts, are, many) is = rw is (parts, are, (many, Keeps-refl at))
-fails_run text_at service why.TooLong ending at (parts, are, long) is = rw is (parts, are, (refl, long, Keeps-refl at))
-fails_run text_at service (why.Trace error) ending at (some, (parts, are, readable, so)) (reason, is) =
-    rw is (parts, are, (readable, (traced service.trace some, Keeps-refl at)))
-  where
-    traced : (trace : Option (List ℕ)) → IsSome trace → trace ≡ Some (unwrap_or trace [])
-    traced (Some path) given = refl
-    traced None given = absurd (false≢true given)
-fails_run text_at service why.Memory ending at by is = rw is (Keeps-refl at)
 
 -- a run whose inittab was read ends over its files
 pub told_runs : (text_at : KnownTexts) (service : RunSaid) (parts : List NamedText) (ending : Ending) (old new : Option (List ℕ))

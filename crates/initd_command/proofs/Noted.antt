@@ -14,6 +14,10 @@ use Rattle.run_notes.specs.Ends.{last_end}
 use Rattle.run_notes.specs.Notes.{Notes, are_noted, end_in, last_noted, last_of, notes_state, told_of}
 use Rattle.run_notes.proofs.Noted.{births_noted, last_by_told, told_noted}
 use Rattle.supervisor.specs.declared.serving.Served.{Served}
+use Rattle.init_trace.specs.declared.steps.Goal.{Goal}
+use Rattle.core_model.specs.State.{CoreState, opening_goal}
+use Rattle.core_model.specs.Fit.{Fits}
+use Rattle.waiting_lines.specs.Lines.{waiting_text}
 use Rattle.supervisor.specs.Opening.{Opens, opening_point}
 use Rattle.initd_options.specs.Options.{RunSaid}
 use Rattle.initd_command.specs.Turned.{ReportsEnd, end_status}
@@ -54,12 +58,17 @@ judged_for service found = by service.judge
     by true = refl
     by false = refl
 
+-- the lines are those of what is kept of the trace
+abbrev IsWaiting : List ℕ → List Event → Type 0
+IsWaiting waiting past = (goal : Goal) × (core : CoreState) × Fits core goal past × (waiting ≡ waiting_text core)
+
 -- notes of a log that told this trace are notes of it
-noted_of_trace : {L : Type 0} (notes : Notes L) (judgement : Option Judgement) (told : Option (List Event)) (past : List Event)
-    → told_of notes told ≡ Some (reverse past) → IfSome judgement (λ found. Finds found past) → IsNoted (noted_of notes judgement) past
-noted_of_trace notes judgement told past is finds = record {
+noted_of_trace : {L : Type 0} (notes : Notes L) (waiting : List ℕ) (judgement : Option Judgement) (told : Option (List Event)) (past : List Event)
+    → told_of notes told ≡ Some (reverse past) → IsWaiting waiting past → IfSome judgement (λ found. Finds found past) → IsNoted (noted_of notes waiting judgement) past
+noted_of_trace notes waiting judgement told past is waits finds = record {
   births = births_noted notes past noted;
   last = λ id. known id notes.complete refl;
+  waiting = waits;
   judgement = finds;
 }
   where
@@ -86,32 +95,32 @@ not_so true h = sym h
 not_so false h = refl
 
 -- and the log was ended behind it: what was noted stays, and it took the trace whole only where it had before
-pub turns_over : {L : Type 0} (notes now : Notes L) (came : List Event) (failed : Bool) (judgement : Option Judgement) (old : LogState) (service : RunSaid) (level : Option Level)
+pub turns_over : {L : Type 0} (notes now : Notes L) (came : List Event) (failed : Bool) (core : CoreState) (judgement : Option Judgement) (old : LogState) (service : RunSaid) (level : Option Level)
     (table : List Entry) (served ended : Served) (status : ℕ) (told now_told : Option (List HostCall)) (err now_err : Option (List ℕ))
     → now ≡ record notes { log = now.log } → ended ≡ record served { logged = ended.logged } → (ended.logged ≡ true → served.logged ≡ true)
     → old.taken ≡ Some [] → served.logged ≡ not failed → IsServed service served
     → is_some judgement ≡ service.judge → IfSome judgement (λ found. Finds found came)
-    → status ≡ end_status (end_of service (noted_of now judgement) ended)
-    → ReportsEnd (end_of service (noted_of now judgement) ended) err now_err
-    → Opens told now_told old (notes_state notes (record { taken = Some (reverse came); failed = failed })) level table service.drain served.turns served.drained
+    → status ≡ end_status (end_of service (noted_of now (waiting_text core) judgement) ended)
+    → ReportsEnd (end_of service (noted_of now (waiting_text core) judgement) ended) err now_err
+    → Opens told now_told old (notes_state notes (record { taken = Some (reverse came); failed = failed })) level table service.drain served.turns core
     → Since told now_told (λ calls. TurnsFrom level table calls (TurnsOver service status err now_err))
-turns_over notes now came failed judgement old service level table served ended status told now_told err now_err kept goes whole none logged limits asked found is reports (calls, are_told, (turns, leads)) =
+turns_over notes now came failed core judgement old service level table served ended status told now_told err now_err kept goes whole none logged limits asked found is reports (calls, are_told, (turns, leads)) =
     let state : LogState = record { taken = Some (reverse came); failed = failed } in (
       calls,
       are_told,
       λ allowed carried.
           let went = (leads allowed).1 carried in
           let past = (point_after calls (opening_point table)).past in
-          let noted : noted_of now judgement ≡ noted_of notes judgement = ap (λ n. noted_of n judgement) kept in (
+          let noted : noted_of now (waiting_text core) judgement ≡ noted_of notes (waiting_text core) judgement = ap (λ n. noted_of n (waiting_text core) judgement) kept in (
             ended,
-            noted_of now judgement,
+            noted_of now (waiting_text core) judgement,
             is,
             subst (IsServed service) (sym goes) limits,
             asked,
             (λ all.
                 let taken = taken_all old (notes_state notes state) past went.log none (not_so failed (sym logged ∙ whole all)) in
                 subst (λ n. IsNoted n past) (sym noted)
-                (noted_of_trace notes judgement (Some (reverse came)) past taken (found_of_trace notes came past judgement taken found))),
+                (noted_of_trace notes (waiting_text core) judgement (Some (reverse came)) past taken (opening_goal level table, core, went.fits.0.fits, refl) (found_of_trace notes came past judgement taken found))),
             reports,
           ),
     )

@@ -6,21 +6,22 @@ use Rattle.run_notes.specs.Notes.{Notes}
 use Rattle.supervisor.specs.declared.serving.Served.{Served}
 use Rattle.initd_options.specs.Options.{RunSaid}
 use Rattle.initd_command.specs.declared.ends.TheConstants.{UNLOGGED}
-use Rattle.initd_command.specs.Turned.{ReportsEnd, ReportsJudgement, ReportsTurns}
+use Rattle.initd_command.specs.Turned.{ReportsEnd, ReportsJudgement, ReportsText, ReportsTurns}
 use Rattle.initd_command.specs.Services.{Noted, end_at, end_of, noted_of}
 
-pub reported_unlogged : (service : RunSaid) (noted : Noted) (served : Served) (old mid new : Option (List ℕ)) → served.logged ≡ false
-    → AppendsPrefix old mid UNLOGGED.now → ReportsJudgement false noted.judgement mid new → ReportsEnd (end_of service noted served) old new
-reported_unlogged service noted served old mid new missed part found =
-    subst (λ logged. ReportsEnd (end_at service noted logged (service.drain && served.drained)) old new) (sym missed) (mid, part, found)
+pub reported_unlogged : (service : RunSaid) (noted : Noted) (served : Served) (old said mid new : Option (List ℕ)) → served.logged ≡ false
+    → AppendsPrefix old said UNLOGGED.now → ReportsText noted.waiting said mid → ReportsJudgement false noted.judgement mid new
+    → ReportsEnd (end_of service noted served) old new
+reported_unlogged service noted served old said mid new missed part waiting found =
+    subst (λ logged. ReportsEnd (end_at service noted logged (service.drain && served.drained)) old new) (sym missed) (mid, (said, part, waiting), found)
 
-pub reported_logged : {L : Type 0} (service : RunSaid) (notes : Notes L) (judgement : Option Judgement) (served : Served) (old mid new : Option (List ℕ))
-    → served.logged ≡ true → ReportsTurns (end_at service (noted_of notes None) true (service.drain && served.drained)) old mid
-    → ReportsJudgement true judgement mid new → ReportsEnd (end_of service (noted_of notes judgement) served) old new
-reported_logged service notes judgement served old mid new all turns found =
-    subst (λ logged. ReportsEnd (end_at service (noted_of notes judgement) logged (service.drain && served.drained)) old new) (sym all)
+pub reported_logged : {L : Type 0} (service : RunSaid) (notes : Notes L) (waiting : List ℕ) (judgement : Option Judgement) (served : Served) (old mid new : Option (List ℕ))
+    → served.logged ≡ true → ReportsTurns (end_at service (noted_of notes waiting None) true (service.drain && served.drained)) old mid
+    → ReportsJudgement true judgement mid new → ReportsEnd (end_of service (noted_of notes waiting judgement) served) old new
+reported_logged service notes waiting judgement served old mid new all turns found =
+    subst (λ logged. ReportsEnd (end_at service (noted_of notes waiting judgement) logged (service.drain && served.drained)) old new) (sym all)
     (by (service.drain && served.drained) turns)
   where
-    by : (over : Bool) → ReportsTurns (end_at service (noted_of notes None) true over) old mid → ReportsEnd (end_at service (noted_of notes judgement) true over) old new
+    by : (over : Bool) → ReportsTurns (end_at service (noted_of notes waiting None) true over) old mid → ReportsEnd (end_at service (noted_of notes waiting judgement) true over) old new
     by true reported = (mid, reported, found)
     by false reported = (mid, reported, found)

@@ -18,7 +18,10 @@ use Rattle.run_notes.specs.Ends.{births, last_end}
 use Rattle.run_notes.specs.Notes.{Notes, last_noted, last_of}
 use Rattle.simulator.specs.declared.running.SimFault.TheVariants as fault
 use Rattle.init_trace.specs.Event.{Event}
-use Rattle.core_model.specs.State.{opening_goal}
+use Rattle.init_trace.specs.declared.steps.Goal.{Goal}
+use Rattle.core_model.specs.State.{CoreState, opening_goal}
+use Rattle.core_model.specs.Fit.{Fits}
+use Rattle.waiting_lines.specs.Lines.{waiting_text}
 use Rattle.child_host.specs.Calls.{HostCall}
 use Rattle.host_trace.specs.Leads.{are_carried, is_allowed}
 use Rattle.host_trace.specs.Point.{point_after}
@@ -38,18 +41,21 @@ is_unled (Some level) table = false
 is_unled None table = is_none (default_level_of table)
 
 -- what is noted of a run: how many children were born, how the last child of an id ended, and the children that go on,
--- where all of them are known; and what was found of it, where it was to be judged
+-- where all of them are known; the lines that tell what init waits for; and what was found of the run, where it was to
+-- be judged
 pub record Noted : Type 0 where
   pub births : ℕ
   pub last : List ℕ → LastEnd
   pub running : Option (List (List ℕ × ℕ))
+  pub waiting : List ℕ
   pub judgement : Option Judgement
 
-abbrev pub noted_of : {L : Type 0} → Notes L → Option Judgement → Noted
-noted_of notes judgement = record {
+abbrev pub noted_of : {L : Type 0} → Notes L → List ℕ → Option Judgement → Noted
+noted_of notes waiting judgement = record {
   births = notes.births;
   last = λ id. last_noted id notes;
   running = if notes.complete then Some notes.running else None;
+  waiting = waiting;
   judgement = judgement;
 }
 
@@ -63,9 +69,9 @@ entry_end last entry = option_map (λ id. record { id = id; last = last id }) en
 
 -- how turns end: the trace was written whole or not, and the run was to end where it is drained, and is
 abbrev pub end_at : RunSaid → Noted → Bool → Bool → End
-end_at service noted false _ = unlogged noted.judgement
+end_at service noted false _ = unlogged noted.waiting noted.judgement
 end_at service noted true true = drained (noted.births == 0) (entry_end noted.last service.result) noted.judgement
-end_at service noted true false = limited noted.running noted.judgement
+end_at service noted true false = limited noted.running noted.waiting noted.judgement
 
 abbrev pub end_of : RunSaid → Noted → Served → End
 end_of service noted served = end_at service noted served.logged (service.drain && served.drained)
@@ -95,6 +101,7 @@ Turns service status old new =
 pub record IsNoted (noted : Noted) (past : List Event) : Type 0 where
   pub births : noted.births ≡ min (births past) BIRTHS_LIMIT
   pub last : (id : List ℕ) → (noted.last id ≡ Unnoted) ⊎ (noted.last id ≡ last_of (last_end id past))
+  pub waiting : (goal : Goal) × (core : CoreState) × Fits core goal past × (noted.waiting ≡ waiting_text core)
   pub judgement : IfSome noted.judgement (λ judgement. Finds judgement past)
 
 -- the same of turns that made this trace: where it was taken whole, what is noted is noted of it

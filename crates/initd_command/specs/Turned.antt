@@ -18,12 +18,13 @@ pub record EntryEnd : Type 0 where
   pub last : LastEnd
 
 -- it ended drained, and nothing was started or something was, with an entry's result or without one; it made all its
--- turns, and these children with their numbers go on, or there was no memory to note them all; or its trace was not
--- written whole; with what was found of it, where it was to be judged
+-- turns, and these children with their numbers go on, or there was no memory to note them all, and these lines tell
+-- what init waits for; or its trace was not written whole, and so do these; with what was found of it, where it was to
+-- be judged
 pub data End : Type 0 where
   drained : Bool → Option EntryEnd → Option Judgement → End
-  limited : Option (List (List ℕ × ℕ)) → Option Judgement → End
-  unlogged : Option Judgement → End
+  limited : Option (List (List ℕ × ℕ)) → List ℕ → Option Judgement → End
+  unlogged : List ℕ → Option Judgement → End
 
 -- an entry's result as an exit status
 abbrev pub result_status : LastEnd → ℕ
@@ -51,13 +52,13 @@ judged_status (Some judgement) status =
 -- the exit status of how turns ended, whatever was found of them
 abbrev pub turns_status : End → ℕ
 turns_status (drained idle result judgement) = drained_status result
-turns_status (limited running judgement) = LIMIT_REACHED
-turns_status (unlogged judgement) = DEVICE_FAULT
+turns_status (limited running waiting judgement) = LIMIT_REACHED
+turns_status (unlogged waiting judgement) = DEVICE_FAULT
 
 abbrev pub end_status : End → ℕ
 end_status (drained idle result judgement) = judged_status judgement (drained_status result)
-end_status (limited running judgement) = judged_status judgement LIMIT_REACHED
-end_status (unlogged judgement) = DEVICE_FAULT
+end_status (limited running waiting judgement) = judged_status judgement LIMIT_REACHED
+end_status (unlogged waiting judgement) = DEVICE_FAULT
 
 -- how the last child of an entry ended
 abbrev pub last_text : LastEnd → List ℕ
@@ -124,15 +125,17 @@ ReportsJudgement whole (Some judgement) old new = ReportsText (judgement_text wh
 abbrev pub ReportsTurns : End → Option (List ℕ) → Option (List ℕ) → Type 0
 ReportsTurns (drained idle result judgement) old new =
     (mid : Option (List ℕ)) × ReportsIdle idle old mid × ReportsResult result mid new
-ReportsTurns (limited running judgement) old new =
-    (mid : Option (List ℕ)) × AppendsPrefix old mid LIMITED.now × ReportsRunning running mid new
-ReportsTurns (unlogged judgement) old new = AppendsPrefix old new UNLOGGED.now
+ReportsTurns (limited running waiting judgement) old new =
+    (limit : Option (List ℕ)) × AppendsPrefix old limit LIMITED.now
+    × (mid : Option (List ℕ)) × ReportsRunning running limit mid × ReportsText waiting mid new
+ReportsTurns (unlogged waiting judgement) old new =
+    (mid : Option (List ℕ)) × AppendsPrefix old mid UNLOGGED.now × ReportsText waiting mid new
 
 -- what is reported of what was found of them
 abbrev pub ReportsFound : End → Option (List ℕ) → Option (List ℕ) → Type 0
 ReportsFound (drained idle result judgement) old new = ReportsJudgement true judgement old new
-ReportsFound (limited running judgement) old new = ReportsJudgement true judgement old new
-ReportsFound (unlogged judgement) old new = ReportsJudgement false judgement old new
+ReportsFound (limited running waiting judgement) old new = ReportsJudgement true judgement old new
+ReportsFound (unlogged waiting judgement) old new = ReportsJudgement false judgement old new
 
 -- what is reported of an end
 abbrev pub ReportsEnd : End → Option (List ℕ) → Option (List ℕ) → Type 0

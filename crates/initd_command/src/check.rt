@@ -1,3 +1,5 @@
+//! `initd check`: a trace file, judged.
+
 ghost use Rattle.std.specs.Prelude.{◌≡◌, ℕ, List, Some, [], string_bytes, codes, IfOk};
 ghost use Rattle.std.specs.Io.KnownBytes.{Appends};
 ghost use Rattle.program_io.specs.Writing.{AppendsPrefix};

@@ -1,3 +1,5 @@
+//! The words of `initd`, and which work they ask for.
+
 ghost use Rattle.std.specs.Prelude.{◌≡◌, map, string_bytes};
 ghost use Rattle.initd_command.specs.Endings.{Ending, Reports, status_of};
 ghost use Rattle.initd_command.specs.Runs.{EndsBy, EndsVersion};

@@ -1,6 +1,9 @@
-ghost use Rattle.std.specs.Prelude.{◌≡◌, ◌++◌, ◌&&◌, ℕ, List, None, Some, string_bytes, true, IfOk, OnOk};
+//! How the turns of a run ended, as it is reported, and the exit status.
+
+ghost use Rattle.std.specs.Prelude.{◌≡◌, ◌++◌, ◌&&◌, ℕ, List, [], None, Some, string_bytes, true, IfOk, OnOk};
 ghost use Rattle.initd_options.specs.Options.{run_of};
 ghost use Rattle.initd_command.specs.Services.{end_at, end_of, entry_end, noted_of};
+ghost use Rattle.waiting_lines.specs.Lines.{waiting_text};
 ghost use Rattle.initd_command.specs.Turned.{ReportsEnd, ReportsIdle, ReportsJudgement, ReportsResult, ReportsRunning, ReportsText, ReportsTurns, breach_text, child_text, drained_status, end_status, judged_status, judgement_text, last_text, lawful_text, result_status, result_text, running_text, turns_status};
 
 use crate::reports::{report, report_lines, report_made};
@@ -8,12 +11,14 @@ use init_words::{ChildNo, Id, Status};
 use initd_options::RunWords;
 use itoa::Buffer;
 use judged_log::Judgement;
+use level_core::Core;
 use program_io::{DEVICE_FAULT, DONE, LIMIT_REACHED, UNLAWFUL};
 use run_notes::{LastEnd, Numbers, RunNotes};
 use std::alloc::{AllocError, Global};
 use std::io::Write;
 use supervisor::Served;
 use trace_log::Log;
+use waiting_lines::waiting_lines;
 
 /// What is reported where a run made all its turns.
 const LIMITED: &str = "initd: the limit of turns is reached\n";
@@ -42,20 +47,22 @@ pub(crate) fn report_end<L: Log, E: Write>(
     said: &RunWords,
     served: &Served,
     notes: &RunNotes<L>,
+    core: &Core,
     judgement: Option<Judgement>,
     err: &mut E,
 ) -> u8
     ensures status { result
-        ≡ end_status (end_of (run_of said.now) (noted_of notes.now judgement) served.now) }
-    ensures reported { ReportsEnd (end_of (run_of said.now) (noted_of notes.now judgement)
+        ≡ end_status (end_of (run_of said.now) (noted_of notes.now (waiting_text core.now) judgement) served.now) }
+    ensures reported { ReportsEnd (end_of (run_of said.now) (noted_of notes.now (waiting_text core.now) judgement)
         served.now) (E.contents err.old) (E.contents err.new) }
 {
     if !served.logged {
         report(UNLOGGED, err);
+        report_waiting(alloc, core, err);
         report_judgement(alloc, false, judgement, err);
         return DEVICE_FAULT;
     }
-    let status = report_turns(alloc, said, served, notes, err);
+    let status = report_turns(alloc, said, served, notes, core, err);
     report_judgement(alloc, true, judgement, err);
     judged_status(judgement, status)
 }
@@ -66,12 +73,13 @@ fn report_turns<L: Log, E: Write>(
     said: &RunWords,
     served: &Served,
     notes: &RunNotes<L>,
+    core: &Core,
     err: &mut E,
 ) -> u8
     ensures status { result
-        ≡ turns_status (end_at (run_of said.now) (noted_of notes.now None) true
+        ≡ turns_status (end_at (run_of said.now) (noted_of notes.now (waiting_text core.now) None) true
         ((run_of said.now).drain && served.now.drained)) }
-    ensures reported { ReportsTurns (end_at (run_of said.now) (noted_of notes.now None) true
+    ensures reported { ReportsTurns (end_at (run_of said.now) (noted_of notes.now (waiting_text core.now) None) true
         ((run_of said.now).drain && served.now.drained)) (E.contents err.old) (E.contents err.new) }
 {
     if said.drain && served.drained {
@@ -80,7 +88,15 @@ fn report_turns<L: Log, E: Write>(
     }
     report(LIMITED, err);
     report_running(alloc, notes, err);
+    report_waiting(alloc, core, err);
     LIMIT_REACHED
+}
+
+/// Reports what init waits for.
+fn report_waiting<E: Write>(alloc: Global, core: &Core, err: &mut E)
+    ensures { ReportsText (waiting_text core.now) (E.contents err.old) (E.contents err.new) }
+{
+    report_lines(waiting_lines(alloc, core), err);
 }
 
 /// The exit status of turns that have this one by themselves: what was found of them stands in place of 0 and of the
@@ -148,8 +164,8 @@ fn report_result<L: Log, E: Write>(
     notes: &RunNotes<L>,
     err: &mut E,
 ) -> u8
-    ensures status { result ≡ drained_status (entry_end (noted_of notes.now None).last entry) }
-    ensures reported { ReportsResult (entry_end (noted_of notes.now None).last entry)
+    ensures status { result ≡ drained_status (entry_end (noted_of notes.now [] None).last entry) }
+    ensures reported { ReportsResult (entry_end (noted_of notes.now [] None).last entry)
         (E.contents err.old) (E.contents err.new) }
 {
     let Some(id) = entry else {
@@ -195,7 +211,7 @@ fn last_text(alloc: Global, last: LastEnd) -> Result<String, AllocError>
 
 /// Reports the children that go on, where there are any, or that there was no memory to note them all.
 fn report_running<L: Log, E: Write>(alloc: Global, notes: &RunNotes<L>, err: &mut E)
-    ensures { ReportsRunning (noted_of notes.now None).running (E.contents err.old)
+    ensures { ReportsRunning (noted_of notes.now [] None).running (E.contents err.old)
         (E.contents err.new) }
 {
     match notes.running() {

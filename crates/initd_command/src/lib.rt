@@ -6,6 +6,7 @@ mod command;
 mod ends;
 mod lines;
 mod logs;
+mod patience;
 mod reports;
 mod run;
 mod simulate;

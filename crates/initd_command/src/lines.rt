@@ -1,3 +1,5 @@
+//! Lines of a script, for messages about them.
+
 ghost use Rattle.std.specs.Prelude.{◌≡◌};
 ghost use Rattle.initd_command.specs.Lines.{front_line, line_at, line_told};
 

@@ -1,3 +1,5 @@
+//! Logs of a run: none, a file, and one that tells its fault.
+
 ghost use Rattle.std.specs.Prelude.{◌≡◌, false};
 
 use crate::ends::UNLOGGED;

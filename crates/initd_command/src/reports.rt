@@ -1,3 +1,5 @@
+//! Messages about files and faults.
+
 ghost use Rattle.std.specs.Prelude.{◌≡◌, true, ℕ, List, OnOk, OnErr, string_bytes, IfOk, ◌++◌};
 ghost use Rattle.std.specs.Io.KnownBytes.{Appends};
 ghost use Rattle.program_io.specs.Writing.{AppendsPrefix};

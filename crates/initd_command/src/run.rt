@@ -1,3 +1,5 @@
+//! `initd run`: what it stands on, and its turns.
+
 ghost use Rattle.std.specs.Prelude.{◌≡◌, ◌∷◌, not, true, ℕ, List, Option, None, Some, [], option_map, unwrap_or, IfErr, IfOk};
 ghost use Rattle.init_words.specs.Parts.{NamedText, texts_of};
 ghost use Rattle.inittab_text.specs.Parts.{faults_of_parts, table_of_texts};
@@ -12,6 +14,7 @@ ghost use Rattle.initd_command.specs.Services.{AreFiles, EndsRun, EndsTold, Fail
 
 use crate::ends::report_end;
 use crate::logs::{FileLog, LoudLog, NoLog};
+use crate::patience::Patience;
 use crate::reports::{
     report, report_busy, report_fault, report_memory, report_too_many, report_uncreated,
     report_unlocked, report_unread, tell,
@@ -299,7 +302,15 @@ where
     let inittab = said.inittab.as_str();
     let initctl = said.initctl.as_str();
     let state = said.state.as_str();
-    let host = OsHost::new(rt.clone()?, alloc, inittab, initctl, state, folder_of(said))?;
+    let host = OsHost::new(
+        rt.clone()?,
+        alloc,
+        "initd",
+        inittab,
+        initctl,
+        state,
+        folder_of(said),
+    )?;
     let host = host.with_pause(said.pause.as_str())?;
     let host = if said.fresh { host.fresh() } else { host };
     let host = if said.verbose { host.verbose() } else { host };
@@ -424,7 +435,8 @@ where
 {
     let judged = JudgedLog::new(rt, alloc, log, said.judge);
     let mut notes = RunNotes::new(alloc, judged);
-    let served = opening.serve(alloc, host, &mut notes, said.turns, said.drain);
+    let mut watch = Patience::new(rt, alloc, said.verbose);
+    let (served, core) = opening.serve(alloc, host, &mut notes, said.turns, said.drain, &mut watch);
     let found = notes.log().judgement();
     let served = end_log(&mut notes, served);
     report_end(
@@ -432,6 +444,7 @@ where
         said,
         &served,
         &notes,
+        &core,
         judgement_for(said, found),
         err,
     )

@@ -1,3 +1,5 @@
+//! `initd simulate`: init over a script.
+
 ghost use Rattle.std.specs.Prelude.{◌≡◌};
 ghost use Rattle.initd_options.specs.CommandLine.{simulation_of};
 ghost use Rattle.initd_command.specs.Endings.{Ending, Reports, status_of};

@@ -1,7 +1,9 @@
+//! A log in front of another one, which judges what it takes.
+
 ghost use Rattle.std.specs.Prelude.{◌≡◌, ◌∷◌};
 
 use crate::judgements::Judgement;
-use init_trace::{HappeningIn, print_one};
+use init_trace::HappeningIn;
 use init_words::Memory;
 use proof_values::{Noted, Reads};
 use std::alloc::{Allocator, Global};
@@ -9,6 +11,7 @@ use std::marker::Model;
 use std::str;
 use trace_check::{Law, TraceJudge};
 use trace_log::{Log, LogFault};
+use trace_text::print_one;
 
 /// The happenings that a log took. None is ever made: it is the type of what is noted.
 struct Came {
@@ -144,7 +147,7 @@ fn tell_line<R: Eprint>(rt: &R, place: u64, line: &str, law: Law) {
 impl<R: Eprint, L: Log, A: Allocator + Copy> Log for JudgedLog<'_, R, L, A> {
     ghost use Rattle.std.specs.Prelude.{◌≡◌, ◌∷◌, true, false, is_err, reverse, Some, OnOk, OnErr};
     ghost use Rattle.init_trace.specs.Range.{is_in_range};
-    ghost use Rattle.trace_log.specs.Logs.{LogState, Gains, Stays};
+    ghost use Rattle.trace_log.specs.Logs.{Gains, Stays};
     ghost use Rattle.judged_log.specs.Judgements.{JudgedTrace};
 
     ghost state = { λ (judged : JudgedTrace L). record {

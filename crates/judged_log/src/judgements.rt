@@ -1,3 +1,5 @@
+//! What a judge found of a run.
+
 ghost use Rattle.std.specs.Prelude.{◌≡◌, ◌+◌, ◌∷◌, length, List};
 ghost use Rattle.init_trace.specs.Event.{Event};
 ghost use Rattle.trace_check.specs.Judging.{Judged, Judging};

@@ -18,11 +18,10 @@ use Rattle.core_model.specs.Steps as core
 use Rattle.core_model.specs.State.{CoreState}
 use Rattle.core_model.specs.Fit.{Fits, OnEachTrace}
 use Rattle.core_model.specs.Decide.{decide}
-use Rattle.core_model.proofs.Allowed.{decide_allowed, decide_holds}
+use Rattle.core_model.proofs.Allowed.{decide_holds}
 use Rattle.core_model.proofs.Hearing.{fits_adopt}
-use Rattle.init_trace.specs.declared.steps.Step.TheVariants.{Order, Hold}
-use Rattle.init_words.specs.declared.orders.Ask.{Ask}
-use Rattle.child_table.specs.Lists.{are_distinct, can_ask, has_slot, is_quiet, order_in, refusal_of}
+use Rattle.init_trace.specs.declared.steps.Step.TheVariants.{Hold}
+use Rattle.child_table.specs.Lists.{has_slot, is_quiet, order_in, refusal_of}
 use Rattle.init_words.specs.declared.orders.Answer.{Answer}
 use Rattle.init_words.specs.declared.refusals.Refusal.{Refusal}
 use Rattle.init_words.specs.declared.refusals.Refusal.TheVariants.{NotQuiet}
@@ -64,10 +63,6 @@ kept_called now table named slots kept = (timely_map now call (λ slot h. called
 pub adopted_fits : (result : Result (Unit {0}) Refusal) (table : List Entry) (old new : CoreState) → OnOk result (new ≡ core.after_adopt table old) → OnOk result (is_distinct table ≡ true) → OnOk result (OnEachTrace old (λ goal past. Fits new goal (NewTable table ∷ past)))
 adopted_fits (Ok done) table old new is distinct = λ goal past sound fits. rw is (fits_adopt goal past old sound fits table distinct)
 adopted_fits (Err why) table old new is distinct = tt
-
--- what was decided on is allowed, by the records behind the core's view
-pub allowed_in : (c v : CoreState) → v ≡ c → IsInOrder v.table v.slots → are_distinct c.slots ≡ true → (id : List ℕ) (ask : Ask) → decide c ≡ Order id ask → can_ask id ask v.time v.slots ≡ true
-allowed_in c v is order distinct id ask decided = subst (λ (x : CoreState). can_ask id ask x.time x.slots ≡ true) (sym is) (decide_allowed c (subst (λ (x : CoreState). IsInOrder x.table x.slots) is order) distinct id ask decided)
 
 pub held_in : (c v : CoreState) → v ≡ c → IsInOrder v.table v.slots → (id : List ℕ) → decide c ≡ Hold id → has_slot id v.slots ≡ true
 held_in c v is order id decided = subst (λ (x : CoreState). has_slot id x.slots ≡ true) (sym is) (decide_holds c (subst (λ (x : CoreState). IsInOrder x.table x.slots) is order) id decided)

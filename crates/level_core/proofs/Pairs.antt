@@ -1,7 +1,6 @@
 -- Two lists walked together: what is left of their pairs at a place.
 use Rattle.std.proofs.Math.Seq.{drop-nil}
-use Rattle.std.specs.List.{list_all}
-use Rattle.std.proofs.Common.{Bool, true, false, ◌≡◌, ℕ, zero, suc, ◌+◌, ◌<◌, ◌≤◌, List, [], ◌∷◌, length, drop, get_or, zip, Some, None, refl, arith, add-one, slice_get}
+use Rattle.std.proofs.Common.{◌≡◌, ℕ, zero, suc, ◌+◌, ◌<◌, ◌≤◌, List, [], ◌∷◌, length, drop, get_or, zip, Some, None, refl, arith, add-one, slice_get}
 
 module _ {A B : Type 0} where
   pub pair_at : (xs : List A) (ys : List B) (i : ℕ) (x : A) (y : B) → slice_get xs i ≡ Some x → i < length ys → y ≡ get_or ys i y → drop i (zip xs ys) ≡ (x, y) ∷ drop (i + 1) (zip xs ys)
@@ -21,17 +20,3 @@ module _ {A B : Type 0} where
   no_pair_past (a ∷ xs) [] i past = drop-nil i
   no_pair_past (a ∷ xs) (b ∷ ys) zero past = absurd (omega arith)
   no_pair_past (a ∷ xs) (b ∷ ys) (suc i) past = no_pair_past xs ys i (omega arith)
-
--- a test of all pairs, of which those before place i were left out
-module _ {A B : Type 0} (f : A × B → Bool) (xs : List A) (ys : List B) (i : ℕ) (so_far : list_all f (zip xs ys) ≡ list_all f (drop i (zip xs ys))) where
-  pub all_none : slice_get xs i ≡ None → true ≡ list_all f (zip xs ys)
-  all_none none = rw (so_far, no_pair_at xs ys i none) refl
-
-  pub all_past : length ys ≤ i → true ≡ list_all f (zip xs ys)
-  all_past past = rw (so_far, no_pair_past xs ys i past) refl
-
-  pub all_fault : (x : A) (y : B) → slice_get xs i ≡ Some x → i < length ys → y ≡ get_or ys i y → f (x, y) ≡ false → false ≡ list_all f (zip xs ys)
-  all_fault x y at h is fault = rw (so_far, pair_at xs ys i x y at h is, fault) refl
-
-  pub all_pass : (x : A) (y : B) → slice_get xs i ≡ Some x → i < length ys → y ≡ get_or ys i y → f (x, y) ≡ true → list_all f (zip xs ys) ≡ list_all f (drop (i + 1) (zip xs ys))
-  all_pass x y at h is pass = rw (so_far, pair_at xs ys i x y at h is, pass) refl

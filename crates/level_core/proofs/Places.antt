@@ -1,7 +1,7 @@
 -- Places up to which records are seen and entries passed: a walk begins there, and changes keep them.
-use Rattle.std.proofs.Common.{◌≡◌, refl, Bool, true, false, not, ◌&&◌, cond, ℕ, zero, suc, ◌+◌, ◌<◌, arith, List, [], ◌∷◌, length, take, drop, zip, map, get_or, slice_get, Option, Some, is_some, is_none, add-one}
+use Rattle.std.proofs.Common.{◌≡◌, refl, Bool, true, false, not, ◌&&◌, cond, ℕ, zero, suc, ◌+◌, ◌<◌, arith, List, [], ◌∷◌, length, take, drop, zip, map, get_or, slice_get, Option, Some, is_some, is_none}
 use Rattle.std.specs.List.{list_all}
-use Rattle.std.proofs.Math.Seq.{drop-nil, drop-cons, take-nil}
+use Rattle.std.proofs.Math.Seq.{drop-nil, take-nil}
 use Rattle.std.proofs.lemmas.Bool.{and_parts, and_from, false≢true}
 use Rattle.init_words.specs.declared.entries.Entry.{Entry}
 use Rattle.init_words.specs.declared.stages.Stage.{Stage}
@@ -20,9 +20,6 @@ one_more p (y ∷ ys) (suc i) x next passes so_far =
     let more : suc i + 1 ≡ suc (i + 1) = omega arith in
     let parts = and_parts (p y) (list_all p (take i ys)) so_far in
     rw more (and_from (p y) (list_all p (take (i + 1) ys)) parts.0 (one_more p ys i x (rw more at next) passes parts.1))
-
-pub seen_more : (slots : List SlotState) (i : ℕ) (slot : SlotState) → i < length slots → slot ≡ get_or slots i slot → is_seen_slot slot ≡ true → are_seen i slots ≡ true → are_seen (i + 1) slots ≡ true
-seen_more slots i slot h is seen so_far = one_more is_seen_slot slots i slot (rw (add-one, drop-cons slots i slot h, ← is) refl) seen so_far
 
 pub passed_more : (stage : Option Stage) (table : List Entry) (slots : List SlotState) (i : ℕ) (e : Entry) (slot : SlotState) → slice_get table i ≡ Some e → i < length slots → slot ≡ get_or slots i slot → is_passed_in stage e slot ≡ true → are_passed stage i table slots ≡ true → are_passed stage (i + 1) table slots ≡ true
 passed_more stage table slots i e slot at h is passed so_far = one_more (λ (p : Entry × SlotState). is_passed_in stage p.0 p.1) (zip table slots) i (e, slot) (pair_at table slots i e slot at h is) passed so_far

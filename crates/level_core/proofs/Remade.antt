@@ -1,5 +1,5 @@
 -- Records made anew one after another, along the table.
-use Rattle.std.proofs.Common.{◌≡◌, ◌≤◌, ◌<◌, ◌+◌, refl, sym, ◌∙◌, ap, cond, ℕ, zero, suc, Bool, true, false, ◌&&◌, List, [], ◌∷◌, ◌++◌, length, drop, get_or, Option, Some, None, slice_get, append_assoc, append-nil, add-one, arith}
+use Rattle.std.proofs.Common.{◌≡◌, ◌≤◌, ◌<◌, ◌+◌, refl, sym, ◌∙◌, ap, cond, ℕ, zero, suc, Bool, true, false, ◌&&◌, List, [], ◌∷◌, ◌++◌, length, drop, get_or, Option, Some, None, slice_get, append_assoc, add-one, arith}
 use Rattle.std.proofs.Math.Seq.{drop-nil, drop-cons}
 use Rattle.std.specs.Option.{option_map}
 use Rattle.init_words.specs.declared.entries.Entry.{Entry}
@@ -59,12 +59,6 @@ pub record AreMade (table : List Entry) (records : List Record) (made : List Slo
   pub slots : made ++ slots_along (drop i table) (drop i records) ≡ slots_along table records
 
 module _ (table : List Entry) (records : List Record) (made : List SlotState) (i : ℕ) (so_far : AreMade table records made i) where
-  pub all_made : length records ≤ i → length table ≤ length records → (made ≡ slots_along table records) × (are_whole table records ≡ true)
-  all_made past enough =
-      let no_record : drop i records ≡ [] = none_from records i past in
-      let no_entry : drop i table ≡ [] = none_from table i (omega arith) in
-      (sym (append-nil made) ∙ rw (no_entry, no_record) at so_far.slots, so_far.whole ∙ rw (no_entry, no_record) refl)
-
   pub not_whole : (r : Record) → i < length records → r ≡ get_or records i r → None ≡ slot_read (slice_get table i) r → are_whole table records ≡ false
   not_whole r h is none =
       let next : drop i records ≡ r ∷ drop (i + 1) records = rw (add-one, drop-cons records i r h, ← is) refl in

@@ -1,3 +1,5 @@
+//! What a core keeps, and what each call makes of that.
+
 ghost use Rattle.std.specs.Prelude.{◌≡◌, IfOk, OnOk, OnErr};
 
 use crate::calling::{call_named, judge_in};

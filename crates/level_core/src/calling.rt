@@ -1,3 +1,5 @@
+//! Ondemand entries, and entries of the power, that a step calls.
+
 ghost use Rattle.std.specs.Prelude.{◌≡◌, ◌<◌, length, slice_get, true, option_map, if◌then◌else◌, Some};
 ghost use Rattle.child_table.specs.Changes.{after_call};
 ghost use Rattle.child_table.specs.Lists.{has_slot, with_changed};

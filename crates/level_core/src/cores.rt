@@ -1,3 +1,5 @@
+//! The core: init's decisions behind the rules that it keeps.
+
 ghost use Rattle.std.specs.Prelude.{◌≡◌, IfOk, OnOk, OnErr};
 
 use crate::bare::BareCore;

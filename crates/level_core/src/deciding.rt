@@ -1,3 +1,5 @@
+//! What is due for one record: its signal, its start, its look, and whether it holds up others.
+
 ghost use Rattle.std.specs.Prelude.{◌≡◌, ◌≤◌, ◌+◌, nat_le};
 ghost use Rattle.core_model.specs.Decide.{level_step, signal_step, stop_step, is_wanted_slot, is_owed_slot, limited_step, can_start_slot, start_step, is_done_slot, next_stage, is_served_slot, can_look_slot};
 ghost use Rattle.init_trace.specs.Wanted.{is_order};

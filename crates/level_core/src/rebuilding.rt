@@ -1,3 +1,5 @@
+//! A core made again of what another one kept.
+
 ghost use Rattle.std.specs.Prelude.{◌≡◌, ◌≢◌, Err, IfOk, OnOk, option_copied, true, false};
 ghost use Rattle.core_model.specs.Parts.{state_of};
 ghost use Rattle.core_model.specs.Rebuilding.{living_of, is_whole, is_for, slot_read, slots_along, are_whole};

@@ -1,3 +1,5 @@
+//! What is due first among all records, in record order.
+
 ghost use Rattle.std.specs.Prelude.{◌≡◌, ◌≤◌, true, Some, if◌then◌else◌, not, ◌||◌};
 ghost use Rattle.std.specs.List.{list_any};
 ghost use Rattle.core_model.specs.Decide.{stop_among, start_among, all_done, all_served, look_among, is_busy_slot};
@@ -105,15 +107,11 @@ pub(crate) fn start_among<A: Allocator>(
 pub(crate) fn all_done<A: Allocator>(stage: Stage, table: &Table<A>, slots: &[Slot]) -> bool
     ensures { result ≡ all_done stage table.now slots.now }
 {
-    for (place, slot) in slots.iter().enumerate() {
-        let Some(entry) = table.at(place) else {
-            return true;
-        };
-        if !is_done(stage, entry, slot) {
-            return false;
-        }
-    }
-    true
+    table
+        .entries()
+        .iter()
+        .zip(slots)
+        .all(|(entry, slot)| is_done(stage, entry, slot))
 }
 
 /// No entry keeps the level from being settled.
@@ -125,15 +123,11 @@ pub(crate) fn all_served<A: Allocator>(
 ) -> bool
     ensures { result ≡ all_served level now table.now slots.now }
 {
-    for (place, slot) in slots.iter().enumerate() {
-        let Some(entry) = table.at(place) else {
-            return true;
-        };
-        if !is_served(level, now, entry, slot) {
-            return false;
-        }
-    }
-    true
+    table
+        .entries()
+        .iter()
+        .zip(slots)
+        .all(|(entry, slot)| is_served(level, now, entry, slot))
 }
 
 /// From a place on that records were seen up to, how far they are seen now.

@@ -1,3 +1,5 @@
+//! Queues of answers.
+
 ghost use Rattle.std.specs.Prelude.{◌≡◌, ◌≤◌, ◌++◌, ◌∷◌, [], drop, length, take, min, unwrap_or, Ok, OnOk, OnErr, IfOk};
 ghost use Rattle.child_host.specs.Calls.{front_read};
 ghost use Rattle.memory_host.specs.Script.{first, left_of, taken_of};

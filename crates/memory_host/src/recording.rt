@@ -1,3 +1,5 @@
+//! The record of the calls that were made of a scripted host.
+
 ghost use Rattle.std.specs.Prelude.{◌≡◌, ◌≤◌, length, IfOk};
 ghost use Rattle.child_host.specs.Calls.{HostCall, Adds, text_read, parts_read, front_read};
 ghost use Rattle.memory_host.specs.Script.{tale};

@@ -1,3 +1,5 @@
+//! A host that answers from a script, for tests.
+
 ghost use Rattle.std.specs.Prelude.{◌≡◌, ◌⊎◌, ◌++◌, ◌∷◌, [], OnOk, OnErr, IfOk, IfErr};
 
 use crate::queues::{Pieces, give, next_or};

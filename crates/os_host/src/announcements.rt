@@ -1,3 +1,5 @@
+//! What init says of what it did.
+
 ghost use Rattle.std.specs.Prelude.{◌≡◌, ◌++◌, IfOk};
 ghost use Rattle.os_host.specs.Announced.{announcement, entered, handed_over};
 

@@ -1,3 +1,5 @@
+//! The channel of requests, as a file.
+
 ghost use Rattle.std.specs.Prelude.{◌≡◌, ◌≤◌, ◌-◌, ◌%◌, length, IfOk};
 ghost use Rattle.initctl_frame.specs.declared.frames.TheConstants.{BLOCK};
 
@@ -9,6 +11,7 @@ use initctl_frame::BLOCK;
 use std::alloc::Allocator;
 use std::fs::File;
 use std::io::{ErrorKind, Read, Seek, SeekFrom};
+use std::os::unix::fs::MetadataExt;
 use std::rt::Files;
 use std::{fs, io};
 
@@ -20,8 +23,13 @@ pub(crate) struct Channel<A: Allocator> {
     fresh: bool,
     /// It was looked at.
     begun: bool,
-    /// How many of its bytes were taken.
+    /// The device and the number of the file that stood at the path at the last look.
+    file: Option<(u64, u64)>,
+    /// How many of its bytes were read: those of whole requests.
     heard: u64,
+    /// The request that was read last, and how many of its bytes were handed on.
+    request: [u8; BLOCK],
+    handed: usize,
     hearing: Trouble,
     passed_over: PassedOver,
     /// How many bytes it had when it was last read to an end that is not a request's.
@@ -29,15 +37,25 @@ pub(crate) struct Channel<A: Allocator> {
     told_torn: bool,
 }
 
+/// What stands at the path of a channel: the file's length in bytes, and its device and number.
+#[derive(Clone, Copy)]
+struct Found {
+    length: u64,
+    file: (u64, u64),
+}
+
 impl<A: Allocator> Channel<A> {
     /// The channel at this path, with nothing taken.
-    pub(crate) fn new(alloc: A, path: &str) -> Result<Channel<A>, Memory> {
+    pub(crate) fn new(alloc: A, program: &'static str, path: &str) -> Result<Channel<A>, Memory> {
         Ok(Channel {
             path: String::from_str(alloc, path)?,
             fresh: false,
             begun: false,
+            file: None,
             heard: 0,
-            hearing: Trouble::new("read", "read"),
+            request: [0; BLOCK],
+            handed: BLOCK,
+            hearing: Trouble::new(program, "read", "read"),
             passed_over: PassedOver::new(),
             torn: 0,
             told_torn: false,
@@ -49,9 +67,10 @@ impl<A: Allocator> Channel<A> {
         self.fresh = true;
     }
 
-    /// Takes the channel's next bytes. A channel that isn't there has none. It is opened where it is longer than what
-    /// was taken. Where it is shorter it was made anew, and is read from its first byte on. What is no plain file is
-    /// not opened, since a FIFO would wait for its writer.
+    /// Takes the channel's next bytes: those of whole requests alone, so that nothing of a torn one is left where the
+    /// channel is made anew. A channel that isn't there has none. Where another file stands at the path, or the file is
+    /// shorter than what was read, it was made anew, and is read from its first byte on. What is no plain file is not
+    /// opened, since a FIFO would wait for its writer.
     pub(crate) fn take_bytes<R: Files + Eprint>(
         &mut self,
         rt: &R,
@@ -67,36 +86,60 @@ impl<A: Allocator> Channel<A> {
     fn next_bytes<R: Files + Eprint>(&mut self, rt: &R, buffer: &mut [u8]) -> io::Result<usize>
         ensures { IfOk result (λ count. count ≤ length buffer.old) }
     {
-        if !self.has_grown(rt)? {
-            return Ok(0);
+        if self.handed >= BLOCK {
+            if !self.has_request(rt)? {
+                return Ok(0);
+            }
+            self.read_request(rt)?;
         }
-        let mut channel = File::open(rt, self.path.as_str())?;
-        channel.seek(SeekFrom::Start(self.heard))?;
-        let taken = channel.read(buffer)?;
-        self.heard = self.heard.saturating_add(taken as u64);
-        self.passed_over
-            .watch(rt, self.path.as_str(), &buffer[..taken]);
+        let mut rest = self.request.get(self.handed..).unwrap_or(&[]);
+        let taken = rest.read(buffer)?;
+        self.handed = self.handed.saturating_add(taken);
         Ok(taken)
     }
 
-    /// The channel has bytes that were not taken.
-    fn has_grown<R: Files + Eprint>(&mut self, rt: &R) -> io::Result<bool> {
-        let found = length_of(rt, self.path.as_str())?;
+    /// Reads the next request, of which all bytes are there.
+    fn read_request<R: Files + Eprint>(&mut self, rt: &R) -> io::Result<()> {
+        let mut channel = File::open(rt, self.path.as_str())?;
+        channel.seek(SeekFrom::Start(self.heard))?;
+        channel.read_exact(&mut self.request)?;
+        self.heard = self.heard.saturating_add(BLOCK as u64);
+        self.handed = 0;
+        self.passed_over
+            .watch(rt, self.path.as_str(), &self.request);
+        Ok(())
+    }
+
+    /// The channel has a whole request that was not read.
+    fn has_request<R: Files + Eprint>(&mut self, rt: &R) -> io::Result<bool> {
+        let found = found_at(rt, self.path.as_str())?;
         if !self.begun {
-            self.begin(rt, found.unwrap_or(0));
+            self.begin(rt, found.map_or(0, |found| found.length));
         }
-        let Some(length) = found else {
+        let Some(found) = found else {
+            self.file = None;
             self.go_to(0);
             return Ok(false);
         };
-        if length < self.heard {
+        if self.is_anew(&found) {
             self.go_to(0);
             say_made_anew(rt, self.path.as_str());
         }
-        if length == self.heard {
-            self.tell_torn(rt, length);
+        self.file = Some(found.file);
+        let is_whole = found.length.saturating_sub(self.heard) >= BLOCK as u64;
+        if !is_whole {
+            self.tell_torn(rt, found.length);
         }
-        Ok(length > self.heard)
+        Ok(is_whole)
+    }
+
+    /// Another file stands at the path than at the last look, or one that is shorter than what was read.
+    fn is_anew(&self, found: &Found) -> bool {
+        let is_another = match self.file {
+            Some(file) => file != found.file,
+            None => false,
+        };
+        is_another || found.length < self.heard
     }
 
     /// Tells of the bytes that stand in the channel at its first reading, and passes over them where it is to.
@@ -145,10 +188,13 @@ fn whole_requests(length: u64) -> u64
     length - length % BLOCK as u64
 }
 
-/// How many bytes a plain file has; None where nothing is at the path.
-fn length_of<R: Files>(rt: &R, path: &str) -> io::Result<Option<u64>> {
+/// The plain file at the path; None where nothing is there.
+fn found_at<R: Files>(rt: &R, path: &str) -> io::Result<Option<Found>> {
     match fs::metadata(rt, path) {
-        Ok(found) if found.is_file() => Ok(Some(found.len())),
+        Ok(found) if found.is_file() => Ok(Some(Found {
+            length: found.len(),
+            file: (found.dev(), found.ino()),
+        })),
         Ok(_) => Err(io::Error::other("it is no plain file")),
         Err(error) if error.kind() == ErrorKind::NotFound => Ok(None),
         Err(error) => Err(error),
@@ -161,6 +207,6 @@ fn say_made_anew(rt: &impl Eprint, path: &str) {
 
 fn say_torn(rt: &impl Eprint, path: &str, over: u64) {
     let _ = eprintln!(rt;
-        "initd: {path} has {over} bytes that are no whole request: every later request is out of step; truncate -s %384 {path}, or remove it"
+        "initd: {path} has {over} bytes that are no whole request: every later request is out of step; truncate -s /384 {path}, or remove it"
     );
 }

@@ -1,3 +1,5 @@
+//! The children of a host: started, looked at, signalled.
+
 use crate::commands::{command_of, needs_shell, shell_command, shown};
 use crate::logs::Logs;
 use crate::news::{News, end_news};
@@ -24,6 +26,8 @@ struct Held<C: Drop> {
 #[derive(Drop)]
 pub(crate) struct Children<R: Processes, A: Allocator> {
     alloc: A,
+    /// The name of the program that says what is said of them.
+    program: &'static str,
     handles: IndexMap<Id, Held<Child<R::Started>>, BuildHasherDefault<FoldHasher>, A>,
     /// The births, where it is told what children do.
     starts: Option<Starts<A>>,
@@ -33,9 +37,10 @@ pub(crate) struct Children<R: Processes, A: Allocator> {
 
 impl<R: Processes, A: Allocator + Copy> Children<R, A> {
     /// No children. It takes no memory.
-    pub(crate) fn new(alloc: A) -> Children<R, A> {
+    pub(crate) fn new(alloc: A, program: &'static str) -> Children<R, A> {
         Children {
             alloc,
+            program,
             handles: IndexMap::new(alloc),
             starts: None,
             logs: None,
@@ -44,7 +49,7 @@ impl<R: Processes, A: Allocator + Copy> Children<R, A> {
 
     /// From now on it is told on standard error what children do. It takes no memory.
     pub(crate) fn tell_all(&mut self) {
-        self.starts = Some(Starts::new(self.alloc));
+        self.starts = Some(Starts::new(self.alloc, self.program));
     }
 
     /// From now on the output of the children that are started goes to logs in this folder.
@@ -73,7 +78,7 @@ impl<R: Processes, A: Allocator + Copy> Children<R, A> {
         self.handles.reserve(1)?;
         let child = command.spawn(rt)?;
         let number = child.id();
-        let stopping = Trouble::new("send TERM to", "TERM was sent");
+        let stopping = Trouble::new(self.program, "send TERM to", "TERM was sent");
         if self.handles.insert(id, Held { child, stopping }).is_err() {
             unreachable!()
         }
@@ -122,8 +127,21 @@ impl<R: Processes, A: Allocator + Copy> Children<R, A> {
     {
         if self.starts.is_some() {
             let id = shown(id.as_bytes());
-            let _ = eprintln!(rt; "initd: {id}: {news}");
+            let _ = eprintln!(rt; "{}: {id}: {news}", self.program);
         }
+    }
+
+    /// Says on standard error why a child was not born.
+    pub(crate) fn say_not_born(&self, rt: &R, id: &Id, text: &[u8], error: &io::Error)
+    where
+        R: Eprint,
+    {
+        let id = shown(id.as_bytes());
+        let program = program_of(text);
+        let _ = match error.kind() {
+            ErrorKind::NotFound => eprintln!(rt; "{}: {id}: {program}: not found", self.program),
+            _ => eprintln!(rt; "{}: {id}: {program}: {error}", self.program),
+        };
     }
 
     /// Reaps the id's child if it has ended.
@@ -198,16 +216,6 @@ fn status_of(status: &ExitStatus) -> Status {
         Some(code) => Status::Exit(u8::try_from(code).unwrap_or(u8::MAX)),
         None => Status::Killed,
     }
-}
-
-/// Says on standard error why a child was not born.
-pub(crate) fn say_not_born(rt: &impl Eprint, id: &Id, text: &[u8], error: &io::Error) {
-    let id = shown(id.as_bytes());
-    let program = program_of(text);
-    let _ = match error.kind() {
-        ErrorKind::NotFound => eprintln!(rt; "initd: {id}: {program}: not found"),
-        _ => eprintln!(rt; "initd: {id}: {program}: {error}"),
-    };
 }
 
 /// The program that a process text starts.

@@ -1,3 +1,5 @@
+//! How a process text is executed: by `sh`, or word by word.
+
 ghost use Rattle.std.specs.Prelude.{◌≡◌, ◌++◌, ◌∷◌, [], Some, codes, IfOk, OnOk};
 ghost use Rattle.std.specs.Str.{IsUtf8};
 ghost use Rattle.text_lines.specs.Lines.{words_of};

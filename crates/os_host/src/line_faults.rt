@@ -1,3 +1,5 @@
+//! What is said of lines of the inittab that are left out.
+
 ghost use Rattle.std.specs.Prelude.{◌≡◌, ◌++◌, string_bytes, IfOk, OnOk};
 ghost use Rattle.os_host.specs.LineFaults.{fault_line, faults_text, line_text, place_text};
 

@@ -1,3 +1,5 @@
+//! Files for the output of the children.
+
 ghost use Rattle.std.specs.List.{list_all};
 ghost use Rattle.std.specs.Prelude.{◌≡◌};
 ghost use Rattle.os_host.specs.Logs.{is_hidden, is_log_byte, is_log_name};

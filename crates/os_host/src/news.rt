@@ -1,3 +1,5 @@
+//! What is said of children, with `--verbose`.
+
 ghost use Rattle.std.specs.Prelude.{◌≡◌};
 ghost use Rattle.std.specs.Process.{exit_code, exit_signal};
 ghost use Rattle.os_host.specs.News.{end_news, sent_text};

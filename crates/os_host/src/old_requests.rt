@@ -1,3 +1,5 @@
+//! What is said of requests that stood in the channel before the run.
+
 ghost use Rattle.std.specs.Prelude.{◌≡◌, ◌/◌, ◌%◌};
 ghost use Rattle.initctl_frame.specs.declared.frames.TheConstants.{BLOCK};
 ghost use Rattle.os_host.specs.OldRequests.{fate_text, plural, subject};

@@ -1,8 +1,10 @@
+//! The host over the operating system.
+
 ghost use Rattle.std.specs.Prelude.{◌≡◌, IfOk, OnErr, IsErr};
 
 use crate::announcements::announcement_text;
 use crate::channels::Channel;
-use crate::children::{Children, say_not_born};
+use crate::children::Children;
 use crate::line_faults::LineFaults;
 use crate::paths::Paths;
 use crate::pauses::{Pauses, has_stirred};
@@ -51,13 +53,14 @@ impl<R: Processes + Files + Clock + Print + Eprint + Drop, A: Allocator> Model f
 }
 
 impl<R: Processes + Files + Clock + Print + Eprint + Drop, A: Allocator + Copy> OsHost<R, A> {
-    /// A host without children, over the paths of the inittab, of the channel of requests, of the text of init's state
-    /// and of the folder of the inittab's further files, where it has one, which `with_folder` reads. A text of the
-    /// state is written to the path with `.new` after it before it is put in its place. Each of its pauses lasts a
-    /// second.
+    /// A host without children, which says what fails by the name of the program, over the paths of the inittab, of the
+    /// channel of requests, of the text of init's state and of the folder of the inittab's further files, where it has
+    /// one, which `with_folder` reads. A text of the state is written to the path with `.new` after it before it is put
+    /// in its place. Each of its pauses lasts a second.
     pub fn new(
         rt: R,
         alloc: A,
+        program: &'static str,
         inittab: &str,
         channel: &str,
         state: &str,
@@ -68,13 +71,13 @@ impl<R: Processes + Files + Clock + Print + Eprint + Drop, A: Allocator + Copy> 
         Ok(OsHost {
             rt,
             alloc,
-            children: Children::new(alloc),
-            channel: Channel::new(alloc, channel)?,
-            paths: Paths::new(alloc, inittab, folder, state)?,
+            children: Children::new(alloc, program),
+            channel: Channel::new(alloc, program, channel)?,
+            paths: Paths::new(alloc, program, inittab, folder, state)?,
             line_faults: LineFaults::new(alloc),
             pauses: Pauses::of_a_second(),
-            clock: SteadyClock::new(),
-            saying: Trouble::new("write", "written"),
+            clock: SteadyClock::new(program),
+            saying: Trouble::new(program, "write", "written"),
             faults: 0,
         })
     }
@@ -180,7 +183,7 @@ impl<R: Processes + Files + Clock + Print + Eprint + Drop, A: Allocator + Copy> 
         let reply = match self.children.start(&self.rt, alloc, id, command) {
             Ok(number) => Reply::Now(Answer::Born(ChildNo(number))),
             Err(error) => {
-                say_not_born(&self.rt, &id, command, &error);
+                self.children.say_not_born(&self.rt, &id, command, &error);
                 Reply::Now(Answer::NotBorn)
             }
         };

@@ -1,3 +1,5 @@
+//! What is said of requests that count for nothing.
+
 ghost use Rattle.std.specs.Prelude.{◌≡◌};
 ghost use Rattle.os_host.specs.PassedOver.{cause_text};
 

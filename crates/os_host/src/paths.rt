@@ -1,3 +1,5 @@
+//! The files that a host reads and writes whole.
+
 use crate::folders::{FolderFault, with_folder};
 use crate::troubles::Trouble;
 use init_words::{Memory, Part};
@@ -28,19 +30,20 @@ impl<A: Allocator + Copy> Paths<A> {
     /// These paths.
     pub(crate) fn new(
         alloc: A,
+        program: &'static str,
         inittab: &str,
         folder: Option<&str>,
         state: &str,
     ) -> Result<Paths<A>, Memory> {
         Ok(Paths {
             inittab: String::from_str(alloc, inittab)?,
-            reading: Trouble::new("read", "read"),
+            reading: Trouble::new(program, "read", "read"),
             folder: path_copy(alloc, folder)?,
-            listing: Trouble::new("read", "read"),
+            listing: Trouble::new(program, "read", "read"),
             verbose: false,
             state: String::from_str(alloc, state)?,
             beside: format!(in alloc; "{state}.new")?,
-            carrying: Trouble::new("write and read back", "written and read back"),
+            carrying: Trouble::new(program, "write and read back", "written and read back"),
         })
     }
 }

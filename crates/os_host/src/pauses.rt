@@ -1,3 +1,5 @@
+//! How long a pause is.
+
 use child_host::Reply;
 use init_words::Answer;
 use std::time::Duration;

@@ -1,3 +1,5 @@
+//! How often each id was started, for the names of its output files.
+
 use indexmap::IndexMap;
 use init_words::{Id, Memory};
 use std::alloc::Allocator;
@@ -6,6 +8,8 @@ use std::hash::{BuildHasherDefault, FoldHasher};
 /// How many children were born for each id.
 #[derive(Drop)]
 pub(crate) struct Starts<A: Allocator> {
+    /// The name of the program that says what is said of them.
+    program: &'static str,
     counts: IndexMap<Id, u64, BuildHasherDefault<FoldHasher>, A>,
     /// An id was not counted for want of memory.
     is_short: bool,
@@ -13,8 +17,9 @@ pub(crate) struct Starts<A: Allocator> {
 
 impl<A: Allocator + Copy> Starts<A> {
     /// No births. It takes no memory.
-    pub(crate) fn new(alloc: A) -> Starts<A> {
+    pub(crate) fn new(alloc: A, program: &'static str) -> Starts<A> {
         Starts {
+            program,
             counts: IndexMap::new(alloc),
             is_short: false,
         }
@@ -33,7 +38,10 @@ impl<A: Allocator + Copy> Starts<A> {
         match self.begin(id) {
             Ok(()) => Some(1),
             Err(Memory) => {
-                let _ = eprintln!(rt; "initd: out of memory: further ids' starts are not counted");
+                let _ = eprintln!(rt;
+                    "{}: out of memory: further ids' starts are not counted",
+                    self.program
+                );
                 self.is_short = true;
                 None
             }

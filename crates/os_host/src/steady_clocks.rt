@@ -1,3 +1,5 @@
+//! A clock that no one can set.
+
 use crate::troubles::Trouble;
 use std::io;
 use std::io::ErrorKind;
@@ -21,10 +23,10 @@ pub(crate) struct SteadyClock {
 
 impl SteadyClock {
     /// A clock that was not read yet.
-    pub(crate) fn new() -> SteadyClock {
+    pub(crate) fn new(program: &'static str) -> SteadyClock {
         SteadyClock {
             beginning: None,
-            trouble: Trouble::new("read", "read"),
+            trouble: Trouble::new(program, "read", "read"),
         }
     }
 

@@ -1,8 +1,12 @@
+//! Faults that are said once until they are over.
+
 use std::io;
 
 /// Whether it was told that something fails.
 #[derive(Drop)]
 pub(crate) struct Trouble {
+    /// The name of the program that says it.
+    program: &'static str,
     /// What can't be done, as `read`.
     doing: &'static str,
     /// That it was done, as `read`.
@@ -12,8 +16,9 @@ pub(crate) struct Trouble {
 
 impl Trouble {
     /// Nothing failed yet.
-    pub(crate) fn new(doing: &'static str, done: &'static str) -> Trouble {
+    pub(crate) fn new(program: &'static str, doing: &'static str, done: &'static str) -> Trouble {
         Trouble {
+            program,
             doing,
             done,
             told: false,
@@ -30,14 +35,14 @@ impl Trouble {
 
     pub(crate) fn tell_begun(&mut self, rt: &impl Eprint, what: &str, error: &io::Error) {
         if !self.told {
-            let _ = eprintln!(rt; "initd: cannot {} {what}: {error}", self.doing);
+            let _ = eprintln!(rt; "{}: cannot {} {what}: {error}", self.program, self.doing);
         }
         self.told = true;
     }
 
     pub(crate) fn tell_over(&mut self, rt: &impl Eprint, what: &str) {
         if self.told {
-            let _ = eprintln!(rt; "initd: {what}: {} again", self.done);
+            let _ = eprintln!(rt; "{}: {what}: {} again", self.program, self.done);
         }
         self.told = false;
     }

@@ -141,7 +141,7 @@ where
     let Ok(own) = rt.clone() else {
         return report_no_memory("rc", err);
     };
-    let Ok(mut host) = OsHost::new(own, alloc, "", "", "", None) else {
+    let Ok(mut host) = OsHost::new(own, alloc, "rc", "", "", "", None) else {
         return report_no_memory("rc", err);
     };
     run_names(alloc, &mut host, path, previous, names, out, err)

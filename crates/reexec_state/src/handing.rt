@@ -1,3 +1,5 @@
+//! The text of a core's state, which a re-execution carries.
+
 ghost use Rattle.std.specs.List.{list_all};
 ghost use Rattle.std.specs.Prelude.{◌≡◌, true, map, ◌+◌, ◌^◌, ◌==◌, ◌∷◌, if◌then◌else◌, false, Err, IfOk, IfErr, OnOk, OnErr};
 ghost use Rattle.child_table.specs.State.{child_number};

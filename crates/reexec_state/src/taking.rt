@@ -1,3 +1,5 @@
+//! The core that a carried text says, or why it is refused.
+
 ghost use Rattle.std.specs.Prelude.{◌≡◌, Err, IfOk, IfErr};
 ghost use Rattle.std.specs.Result.{MatchResult};
 ghost use Rattle.core_model.specs.Parts.{state_of};

@@ -1,10 +1,9 @@
 -- The last ends of all ids by a trace, and when notes are those of one.
-use Rattle.std.proofs.Common.{◌≡◌, refl, sym, ◌∙◌, ap, ℕ, min, Bool, true, false, not, ◌&&◌, ◌||◌, cond, if◌then◌else◌, ◌==◌, List, [], ◌∷◌, ◌++◌, reverse, Option, Some, None, IfSome, eqb-true, eq-eqb}
+use Rattle.std.proofs.Common.{◌≡◌, refl, sym, ◌∙◌, ap, ℕ, min, Bool, true, false, not, ◌||◌, cond, if◌then◌else◌, List, [], ◌∷◌, ◌++◌, reverse, Option, Some, None, IfSome, eqb-true, eq-eqb}
 use Rattle.std.specs.Bool.{Decides}
 use Rattle.std.specs.Map.{lookup}
 use Rattle.std.proofs.lemmas.Bool.{false≢true, and_parts, and_from}
 use Rattle.std.proofs.lemmas.List.{reverse-append}
-use Rattle.std.specs.Cmp.Lexicographic.{pointwise}
 use Rattle.std.proofs.lemmas.Slice.Eq.{slice_eq-Decides}
 use Rattle.indexmap.specs.IndexMap.{insert_entry}
 use Rattle.init_words.specs.declared.children.Status.{Status}
@@ -13,7 +12,7 @@ use Rattle.init_words.specs.Ids.{same_id}
 use Rattle.init_words.proofs.Same.{same_id-from, same_id-is}
 use Rattle.init_trace.specs.declared.happenings.Happening.TheVariants.{Reaped}
 use Rattle.init_trace.specs.Event.{Event}
-use Rattle.trace_log.specs.Logs.{Gains, Stays}
+use Rattle.trace_log.specs.Logs.{Gains}
 use Rattle.run_notes.specs.Ends.{births, ends_of, last_end}
 use Rattle.run_notes.specs.declared.LastEnd.TheVariants.{Unnoted}
 use Rattle.run_notes.specs.declared.TheConstants.{BIRTHS_LIMIT}
@@ -138,14 +137,4 @@ module _ {L : Type 0} (old new : Notes L) where
       by true is =
           ap (told_of new) gains
           ∙ ap (λ b. if b then Some (taken ++ happening ∷ []) else None) (ap (are_noted new) (reverse-append taken (happening ∷ [])) ∙ noted (reverse taken) is)
-      by false is = tt
-
-  -- what stays told stays told where the notes stay
-  pub notes_stay : (before after : Option (List Event)) → Stays before after → ((past : List Event) → are_noted new past ≡ are_noted old past)
-      → Stays (told_of old before) (told_of new after)
-  notes_stay None after stays same = tt
-  notes_stay (Some taken) after stays same = by (are_noted old (reverse taken)) refl
-    where
-      by : (was : Bool) → are_noted old (reverse taken) ≡ was → Stays (if was then Some taken else None) (told_of new after)
-      by true is = ap (told_of new) stays ∙ ap (λ b. if b then Some taken else None) (same (reverse taken) ∙ is)
       by false is = tt

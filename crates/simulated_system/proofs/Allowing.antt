@@ -1,12 +1,11 @@
 -- What the state objects to is what may not come.
-use Rattle.std.proofs.Common.{◌≡◌, refl, sym, ◌∙◌, ap, ℕ, ◌==◌, Bool, true, false, not, ◌&&◌, List, ◌∷◌, ◌||◌, cond, Option, Some, None, find, is_none, is_some}
+use Rattle.std.proofs.Common.{◌≡◌, refl, sym, ◌∙◌, ap, ℕ, ◌==◌, Bool, true, false, not, ◌&&◌, List, ◌||◌, cond, Option, Some, None, find, is_none, is_some}
 use Rattle.std.specs.List.{list_any}
 use Rattle.std.specs.Option.{option_map, option_map_or}
-use Rattle.std.proofs.lemmas.Bool.{false≢true, and_parts, and_from}
 use Rattle.std.proofs.Math.Bool.{and_comm}
 use Rattle.init_words.specs.declared.orders.Ask.TheVariants.{Start, Look, Term, Kill}
 use Rattle.init_words.specs.Ids.{same_id}
-use Rattle.init_trace.specs.declared.happenings.Happening.TheVariants.{NewTable, Birth, NoBirth, Death, Reaped, Still, NoLook, Hit, Miss, Told}
+use Rattle.init_trace.specs.declared.happenings.Happening.TheVariants.{Birth, NoBirth, Death, Reaped, Still, NoLook, Hit, Miss, Told}
 use Rattle.init_trace.specs.declared.steps.Goal.{Goal}
 use Rattle.init_trace.specs.Event.{Event}
 use Rattle.init_trace.specs.Past.{Child, has_number, is_child, is_dead, is_living, undone_of, unreaped_children}
@@ -64,8 +63,3 @@ none_may goal past side sound fits (Hit id) = unless_none (is_order Term (order_
 none_may goal past side sound fits (Miss id) = unless_none (is_order Term (order_in id side) || is_order Kill (order_in id side)) (why.NoSignal id) ∙ rw (fits.orders id) refl
 none_may goal past side sound fits (Told id) = unless_none (is_some (answer_in id side)) (why.NothingDone id) ∙ ap is_some (fits.answers id) ∙ answered_untold id past
 none_may goal past side sound fits _ = refl
-
--- a happening of a script that may come next goes on a sound trace
-pub sound_script : (goal : Goal) (happening : Event) (past : List Event) → (is_script happening && may_come goal happening past) ≡ true → is_sound goal past ≡ true → is_sound goal (happening ∷ past) ≡ true
-sound_script goal (NewTable table) past may sound = absurd (false≢true may)
-sound_script goal happening past may sound = and_from (may_come goal happening past) (is_sound goal past) (and_parts (is_script happening) (may_come goal happening past) may).1 sound

@@ -1,3 +1,5 @@
+//! Why a happening may not come next in a script.
+
 use init_words::{ChildNo, Id};
 use std::error::Error;
 use std::fmt;

@@ -1,3 +1,5 @@
+//! The system as a script plays it: its children, its answers, its clock.
+
 ghost use Rattle.std.specs.Prelude.{◌≡◌, OnOk, OnErr};
 ghost use Rattle.simulated_system.specs.Objections.{unless};
 

@@ -15,7 +15,7 @@ use Rattle.init_trace.specs.Range.{is_in_range, are_in_range}
 use Rattle.init_trace.specs.Past.{is_untold, is_quiet}
 use Rattle.init_trace.specs.Answered.{answered_of}
 use Rattle.init_trace.specs.Due.{due, first}
-use Rattle.init_trace.specs.Lines.{event_text}
+use Rattle.trace_text.specs.Lines.{event_text}
 use Rattle.init_trace.specs.Run.{is_run, is_rest, is_reread}
 use Rattle.init_trace.specs.Sound.{may_come, is_sound}
 use Rattle.trace_laws.proofs.Runs.{run_sound}

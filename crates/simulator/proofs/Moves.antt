@@ -9,7 +9,7 @@ use Rattle.init_trace.specs.declared.steps.Step.TheVariants.{Enter, Call, Power,
 use Rattle.init_trace.specs.declared.steps.Goal.{Goal}
 use Rattle.init_trace.specs.Event.{Event}
 use Rattle.init_trace.specs.Due.{due, first}
-use Rattle.init_trace.specs.Lines.{event_text, trace_text}
+use Rattle.trace_text.specs.Lines.{event_text, trace_text}
 use Rattle.init_trace.specs.Run.{is_run, is_next, is_rest, is_reread}
 use Rattle.init_trace.specs.Sound.{may_come, is_sound}
 use Rattle.trace_laws.proofs.Runs.{first_due, same_step-self, run_sound}
@@ -143,9 +143,6 @@ goes_step goal s happening past next more runs added goes = record {
   hears = ap heard (sym added) ∙ step_heard goal s next runs ∙ goes.hears;
   text = past_text-more happening next ∙ ap (λ text. text ++ event_text happening) goes.text ∙ append_assoc (past_text past) more (event_text happening);
 }
-
-pub goes_none : (past : List Event) → GoesOn past past []
-goes_none past = record { opens = refl; handed = λ goal. refl; hears = refl; text = sym (append-nil (past_text past)) }
 
 -- a run with one step more
 pub more_run : (goal : Goal) (past : List Event) (happening : Event) (s : Step) → s ≡ first (due goal past) → with_step s past ≡ happening ∷ past → is_run goal past ≡ true → is_run goal (happening ∷ past) ≡ true

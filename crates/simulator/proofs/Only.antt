@@ -25,7 +25,7 @@ use Rattle.core_model.specs.Fit.{with_step}
 use Rattle.simulator.specs.Said.{first_table, heard, is_scripted}
 use Rattle.std.proofs.lemmas.Grind.{reverse_onto}
 use Rattle.init_trace.specs.Range.{is_in_range, are_in_range}
-use Rattle.init_trace.proofs.ReadTexts.{are_in_range-push, one_trace}
+use Rattle.trace_text.proofs.ReadTexts.{are_in_range-push, one_trace}
 use Rattle.simulator.specs.Simulation.{Rested, Scenario, goal_in, heard_text, past_text}
 use Rattle.simulator.proofs.Moves.{first_more, heard_more}
 

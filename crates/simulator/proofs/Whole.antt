@@ -9,9 +9,10 @@ use Rattle.inittab_text.proofs.Distinct.{distinct_text}
 use Rattle.init_trace.specs.declared.happenings.Happening.TheVariants.{NewTable}
 use Rattle.init_trace.specs.declared.steps.Goal.{Goal}
 use Rattle.init_trace.specs.Event.{Event}
-use Rattle.init_trace.specs.Lines.{event_text}
-use Rattle.init_trace.specs.Range.{is_in_range, are_in_range, line_count, BeginsNone}
-use Rattle.init_trace.proofs.ReadTexts.{counted_on}
+use Rattle.trace_text.specs.Lines.{event_text}
+use Rattle.init_trace.specs.Range.{is_in_range, are_in_range}
+use Rattle.trace_text.specs.Texts.{line_count, BeginsNone}
+use Rattle.trace_text.proofs.ReadTexts.{counted_on}
 use Rattle.text_lines.specs.Lines.{newlines}
 use Rattle.init_trace.specs.Run.{is_run}
 use Rattle.core_model.specs.State.{CoreState}

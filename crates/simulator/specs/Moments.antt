@@ -5,7 +5,7 @@ use Rattle.init_trace.specs.declared.steps.Goal.{Goal}
 use Rattle.init_trace.specs.Event.{Event}
 use Rattle.inittab_text.specs.Reading.{table_of_text}
 use Rattle.init_trace.specs.declared.happenings.Happening.TheVariants.{NewTable, Handed}
-use Rattle.init_trace.specs.Lines.{event_text}
+use Rattle.trace_text.specs.Lines.{event_text}
 use Rattle.init_trace.specs.Range.{are_in_range}
 use Rattle.text_lines.specs.Lines.{newlines}
 use Rattle.init_trace.specs.Due.{due, first}

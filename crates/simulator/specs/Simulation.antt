@@ -9,8 +9,9 @@ use Rattle.inittab_text.specs.declared.reading.TheConstants.{TEXT_LIMIT}
 use Rattle.init_trace.specs.declared.steps.Goal.{Goal}
 use Rattle.init_trace.specs.Event.{Event}
 use Rattle.init_trace.specs.Due.{due, first}
-use Rattle.init_trace.specs.Lines.{event_text, trace_text}
-use Rattle.init_trace.specs.Range.{is_in_range, are_in_range, BeginsNone}
+use Rattle.trace_text.specs.Lines.{event_text, trace_text}
+use Rattle.init_trace.specs.Range.{is_in_range, are_in_range}
+use Rattle.trace_text.specs.Texts.{BeginsNone}
 use Rattle.init_trace.specs.Run.{is_run, is_rest}
 use Rattle.core_model.specs.State.{opening_goal}
 use Rattle.simulated_system.specs.declared.objections.Objection.{Objection}

@@ -1,3 +1,5 @@
+//! Laws of simulated runs.
+
 ghost use Rattle.std.specs.Prelude.{◌≡◌, ℕ, List, None};
 ghost use Rattle.init_trace.specs.Event.{Event};
 ghost use Rattle.init_trace.specs.Lawful.{first_breach};

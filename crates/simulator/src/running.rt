@@ -1,10 +1,11 @@
+//! Init over a script, until it rests at the script's end.
+
 ghost use Rattle.std.specs.Prelude.{◌≡◌, ◌<◌, length, map, List, [], ◌∷◌, false, true, IfOk, IfSome, IfNone, IfErr, OnOk};
 ghost use Rattle.std.specs.Io.KnownBytes.{Appends};
 ghost use Rattle.init_trace.specs.Event.{Event};
-ghost use Rattle.init_trace.specs.Lines.{event_text};
+ghost use Rattle.trace_text.specs.Lines.{event_text};
 ghost use Rattle.init_trace.specs.Range.{is_in_range};
 ghost use Rattle.init_trace.specs.Run.{is_rest, is_reread};
-ghost use Rattle.init_trace.specs.declared.steps.Goal.{Goal};
 ghost use Rattle.init_trace.specs.declared.happenings.Happening.TheVariants.{NewTable};
 ghost use Rattle.init_words.specs.declared.levels.Level.{Level};
 ghost use Rattle.inittab_text.specs.Reading.{table_of_text};
@@ -20,7 +21,7 @@ ghost use Rattle.simulator.specs.Said.{may_be_scripted, objection_in};
 ghost use Rattle.simulator.specs.Simulation.{Done, Ends, IsTooLong, scenario};
 
 use crate::handing::{hand, objection_handed};
-use init_trace::{Happening, HappeningIn, Step, first_happening, line_count, print_table};
+use init_trace::{Happening, HappeningIn, Step};
 use init_words::{Level, Memory, Refusal};
 use inittab_text::{Table, TableFault};
 use level_core::Core;
@@ -31,6 +32,7 @@ use std::error::Error;
 use std::io::Write;
 use std::{fmt, io};
 use text_lines::ended;
+use trace_text::{first_happening, line_count, print_table};
 
 /// Why a simulated run ended before its script did.
 #[derive(Clone, Copy, Debug, PartialEq, Eq)]
@@ -134,7 +136,7 @@ fn write_happening<A: Allocator + Copy, W: Write>(
     ensures err { IfErr result (λ fault.
         Leaves fault (W.contents out.old) (W.contents out.new) (event_text happening.now)) }
 {
-    let text = init_trace::print_one(alloc, happening)?;
+    let text = trace_text::print_one(alloc, happening)?;
     write_text(out, &text)?;
     Ok(())
 }

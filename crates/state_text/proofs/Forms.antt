@@ -9,8 +9,8 @@ use Rattle.text_lines.proofs.CutLemmas.{cut-parts, cut-append, has_byte-append}
 use Rattle.init_words.specs.Ids.{same_id}
 use Rattle.init_words.proofs.Same.{same_id-is, same_id-self}
 use Rattle.inittab_text.proofs.ReadLemmas.{option_map_some}
-use Rattle.init_trace.specs.Reading.{both}
-use Rattle.init_trace.proofs.LineWords.{both_some}
+use Rattle.trace_text.specs.Reading.{both}
+use Rattle.trace_text.proofs.LineWords.{both_some}
 use Rattle.state_text.specs.Lines.{bit, or_word}
 use Rattle.state_text.specs.Range.{passes}
 use Rattle.state_text.specs.Reading.{checked_by, pair, pair_read, behind, named_read, or_read, bit_read, first_bit, line_read, then_read, made_read}
@@ -86,10 +86,6 @@ named_form name mark ok write read lacks form = record {
   own = λ text x is. option_and_then_some read (behind name mark text) x is (λ rest at found. behind_some name mark text rest at (λ whole.
       let own = form.own rest x found in (ap (λ t. name ++ mark ∷ t) own.0 ∙ whole, own.1)));
 }
-
-pub named_lacks : {X : Type 0} (byte : ℕ) (name : List ℕ) (mark : ℕ) (ok : X → Bool) (write : X → List ℕ)
-    → has_byte byte name ≡ false → (mark == byte) ≡ false → Lacks byte ok write → Lacks byte ok (λ x. name ++ mark ∷ write x)
-named_lacks byte name mark ok write none other rest = λ x is. has_byte-append byte name (mark ∷ write x) none (or_from (mark == byte) (has_byte byte (write x)) other (rest x is))
 
 -- a text made into another value
 pub made_form : {X Y : Type 0} (make : X → Y) (parts : Y → X) (okx : X → Bool) (oky : Y → Bool) (wx : X → List ℕ) (wy : Y → List ℕ) (read : List ℕ → Option X)

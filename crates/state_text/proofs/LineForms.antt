@@ -12,9 +12,9 @@ use Rattle.init_words.specs.Ids.{is_id}
 use Rattle.init_words.proofs.Tests.{and_false}
 use Rattle.inittab_text.proofs.ReadLemmas.{option_map_some}
 use Rattle.init_trace.specs.declared.steps.Goal.{Goal}
-use Rattle.init_trace.specs.Lines.{level_word, order_word, stage_word}
+use Rattle.trace_text.specs.Lines.{level_word, order_word, stage_word}
 use Rattle.init_trace.specs.Range.{is_status}
-use Rattle.init_trace.specs.Reading.{child_of_word, order_of_word, stage_of_word}
+use Rattle.trace_text.specs.Reading.{child_of_word, order_of_word, stage_of_word}
 use Rattle.core_model.specs.declared.parts.Heads.{Heads}
 use Rattle.core_model.specs.declared.parts.Record.{Record}
 use Rattle.state_text.specs.declared.versions.Version.{Version}
@@ -22,7 +22,7 @@ use Rattle.state_text.specs.declared.versions.Version.TheVariants.{V1, V2}
 use Rattle.state_text.specs.Versions.{holds_id}
 use Rattle.state_text.specs.Lines.{bit, clock_line, flags_line, generation_line, goal_line, goal_word, head_lines, or_dash, or_word, slot_line, stage_line, starts_word, status_word, stop_word, text_of_lines, version_line, wish_line}
 use Rattle.state_text.specs.Range.{are_heads, are_starts, is_child, is_generation, is_goal, is_last, is_record, is_seconds, is_stage, is_stop, is_time, passes}
-use Rattle.state_text.specs.Reading.{EndWords, FlagWords, LimitWords, MarkWords, PlaceWords, SlotWords, TimeWords, WishWords, clock_line_read, dash_read, ends_read, without_status, status_read, starts_read, id_in_read, flags_line_read, flags_read, four_bits, generation_line_read, generation_read, goal_line_read, goal_made, goal_read, heads_made, heads_read, limits_read, marks_read, named_read, one_bit, places_read, reread_read, slot_line_read, slot_made, slot_words_read, stage_line_read, stage_pair_read, line_read, then_read, stop_read, table_line_read, end_line_read, three_bits, time_read, times_read, two_bits, version_of_line, version_read, wish_line_read, wishes_read}
+use Rattle.state_text.specs.Reading.{EndWords, FlagWords, LimitWords, MarkWords, PlaceWords, SlotWords, TimeWords, WishWords, clock_line_read, dash_read, ends_read, without_status, status_read, starts_read, flags_line_read, flags_read, four_bits, generation_line_read, generation_read, goal_line_read, goal_made, goal_read, heads_made, heads_read, limits_read, marks_read, named_read, one_bit, places_read, reread_read, slot_line_read, slot_made, slot_words_read, stage_line_read, stage_pair_read, line_read, then_read, stop_read, table_line_read, end_line_read, three_bits, time_read, times_read, two_bits, version_of_line, version_read, wish_line_read, wishes_read}
 use Rattle.std.specs.List.{list_all}
 use Rattle.state_text.specs.Refused.{is_line}
 use Rattle.state_text.proofs.Forms.{Form, Front, Lacks, checked_form, first_bit_form, first_bit_lacks, line_front, made_form, made_front, named_form, or_form, or_lacks, pair_form, pair_lacks, retested, then_front}
@@ -106,9 +106,6 @@ stage_tested (Some stage) n = twice (is_seconds n)
 
 abbrev stage_words : (Option Stage × ℕ) → List ℕ
 stage_words p = or_word (codes "none") stage_word p.0 ++ 32 ∷ decimal p.1
-
-none_plain : (byte : ℕ) → Plain byte → has_byte byte (codes "none") ≡ false
-none_plain byte is = elim is [ inl e ↦ rw e refl | inr e ↦ rw e refl ]
 
 dash_plain : (byte : ℕ) → Plain byte → has_byte byte (codes "-") ≡ false
 dash_plain byte is = elim is [ inl e ↦ rw e refl | inr e ↦ rw e refl ]

@@ -5,7 +5,7 @@ use Rattle.std.proofs.lemmas.Bool.{leb-true, false_from_ne_true}
 use Rattle.std.proofs.lemmas.List.{append_assoc}
 use Rattle.text_lines.specs.Lines.{cut, pieces_of}
 use Rattle.text_lines.proofs.PieceLemmas.{pieces_of-cut, pieces_of-whole}
-use Rattle.init_trace.specs.Reading.{both}
+use Rattle.trace_text.specs.Reading.{both}
 use Rattle.init_words.specs.Ids.{same_id}
 use Rattle.respawn_limit.specs.declared.TheConstants.{STARTS}
 use Rattle.state_text.specs.Reading.{all_read, checked_by, starts_read, time_read}

@@ -6,7 +6,7 @@ use Rattle.std.proofs.lemmas.List.{append_assoc}
 use Rattle.std.proofs.lemmas.Option.{some_pair_parts}
 use Rattle.text_lines.specs.Lines.{cut, has_byte, newlines}
 use Rattle.text_lines.proofs.CutLemmas.{cut-append}
-use Rattle.init_trace.proofs.ReadTexts.{newlines-few}
+use Rattle.trace_text.proofs.ReadTexts.{newlines-few}
 use Rattle.state_text.specs.declared.over.Over.{Over}
 use Rattle.state_text.specs.declared.over.Over.TheVariants as over
 use Rattle.state_text.specs.declared.versions.Version.{Version}

@@ -1,5 +1,5 @@
 -- Each word of a state text is read exactly, and no blank and no newline stands in it.
-use Rattle.std.proofs.Common.{◌≡◌, ◌⊎◌, inl, inr, ℕ, ◌+◌, ◌<◌, ◌≤◌, ◌^◌, Bool, true, false, not, ◌&&◌, ◌==◌, nat_lt, nat_le, List, [], ◌∷◌, ◌++◌, length, map, find, slice_index, codes, decimal, Option, Some, None, refl, sym, ap, ◌∙◌, subst, arith, lit<}
+use Rattle.std.proofs.Common.{◌≡◌, ◌⊎◌, inl, inr, ℕ, ◌+◌, ◌<◌, ◌≤◌, ◌^◌, Bool, true, false, not, ◌&&◌, ◌==◌, nat_lt, nat_le, List, [], ◌∷◌, ◌++◌, length, map, find, codes, decimal, Option, Some, None, refl, sym, ap, ◌∙◌, subst, arith, lit<}
 use Rattle.std.specs.List.{list_all, join_with_byte}
 use Rattle.std.specs.Str.{bytes_eq}
 use Rattle.std.proofs.lemmas.Bool.{and_parts, and_from, or_from, ltb-true, ne_eqb}
@@ -24,15 +24,15 @@ use Rattle.init_words.specs.declared.orders.Ask.TheVariants.{Start, Look, Term, 
 use Rattle.init_words.specs.declared.stages.Stage.{Stage}
 use Rattle.init_words.specs.declared.stages.Stage.TheVariants as stage
 use Rattle.init_words.specs.Actions.{act_read, acts, word_of}
-use Rattle.init_words.specs.Ids.{id_read, is_id, is_id_byte, same_id}
+use Rattle.init_words.specs.Ids.{id_read, is_id, same_id}
 use Rattle.init_words.proofs.Same.{same_id-is}
 use Rattle.inittab_text.proofs.ReadLemmas.{option_map_some}
 use Rattle.inittab_text.proofs.WriteLemmas.{act_back}
-use Rattle.init_trace.specs.Lines.{level_word, order_word, stage_word}
+use Rattle.trace_text.specs.Lines.{level_word, order_word, stage_word}
 use Rattle.init_trace.specs.Range.{is_status}
-use Rattle.init_trace.specs.Reading.{level_of_word, order_of_word, seconds_of_word, stage_of_word, child_of_word, code_of_word}
-use Rattle.init_trace.proofs.LineTexts.{lacks_low, level_back, order_back, stage_back}
-use Rattle.init_trace.proofs.LineWords.{both_some, choice, id_own, level_own, named, nothing, order_own, stage_own}
+use Rattle.trace_text.specs.Reading.{level_of_word, order_of_word, seconds_of_word, stage_of_word, child_of_word, code_of_word}
+use Rattle.trace_text.proofs.LineTexts.{lacks_low, level_back, order_back, stage_back}
+use Rattle.trace_text.proofs.LineWords.{both_some, choice, id_own, level_own, named, nothing, order_own, stage_own}
 use Rattle.respawn_limit.specs.declared.TheConstants.{STARTS}
 use Rattle.child_table.specs.declared.children.Stop.{Stop}
 use Rattle.child_table.specs.declared.children.Stop.TheVariants.{Due, Termed, Killed}

@@ -7,7 +7,7 @@ use Rattle.init_words.specs.declared.stages.Stage.{Stage}
 use Rattle.init_words.specs.Actions.{word_of}
 use Rattle.inittab_text.specs.Written.{fields_written}
 use Rattle.init_trace.specs.declared.steps.Goal.{Goal}
-use Rattle.init_trace.specs.Lines.{level_word, stage_word, order_word}
+use Rattle.trace_text.specs.Lines.{level_word, stage_word, order_word}
 use Rattle.child_table.specs.declared.children.Stop.{Stop}
 use Rattle.child_table.specs.declared.children.Stop.TheVariants.{Due, Termed, Killed}
 use Rattle.core_model.specs.declared.news.News.{News}

@@ -16,7 +16,7 @@ use Rattle.init_words.specs.Actions.{act_read}
 use Rattle.init_words.specs.Ids.{id_read, same_id}
 use Rattle.inittab_text.specs.Written.{is_empty, table_begun}
 use Rattle.init_trace.specs.declared.steps.Goal.{Goal}
-use Rattle.init_trace.specs.Reading.{both, level_of_word, stage_of_word, order_of_word, seconds_of_word, child_of_word, code_of_word}
+use Rattle.trace_text.specs.Reading.{both, level_of_word, stage_of_word, order_of_word, seconds_of_word, child_of_word, code_of_word}
 use Rattle.respawn_limit.specs.declared.TheConstants.{STARTS}
 use Rattle.child_table.specs.declared.children.Stop.{Stop}
 use Rattle.child_table.specs.declared.children.Stop.TheVariants.{Due, Termed, Killed}

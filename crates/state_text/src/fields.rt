@@ -1,4 +1,6 @@
-ghost use Rattle.std.specs.Prelude.{◌≡◌, codes};
+//! The fields of a state text's lines, read.
+
+ghost use Rattle.std.specs.Prelude.{◌≡◌};
 ghost use Rattle.std.specs.Option.{option_map};
 ghost use Rattle.state_text.specs.declared.versions.Version.TheVariants.{V1, V2};
 ghost use Rattle.state_text.specs.Reading.{limits_read, marks_read, slot_words_read, generation_line_read, clock_line_read, stage_line_read, goal_line_read, flags_line_read, wish_line_read, wishes_read, stage_pair_read, table_line_read, end_line_read, slot_line_read, ends_read, reread_read, pair_read, three_bits, slot_made, record_made, behind};
@@ -13,10 +15,10 @@ use arrayvec::ArrayVec;
 use child_table::Stop;
 use core_model::Record;
 use init_trace::Goal;
-use init_trace::words::{is, read_seconds};
 use init_words::{Act, Ask, ChildNo, Id, Stage, Status};
 use respawn_limit::STARTS;
 use text_lines::{cut, read_number};
+use trace_text::words::{is, read_seconds};
 
 /// The text after the name and a blank.
 fn behind<'a>(name: &[u8], line: &'a [u8]) -> Option<&'a [u8]>

@@ -1,3 +1,5 @@
+//! A law of state texts that were cut short.
+
 ghost use Rattle.std.specs.Prelude.{◌≡◌, ◌++◌, ℕ, List, []};
 ghost use Rattle.core_model.specs.Parts.{SavedState};
 ghost use Rattle.state_text.specs.Refused.{IsTextOf, Whole};

@@ -1,3 +1,5 @@
+//! Why a state is not handed over or taken over.
+
 use init_words::Memory;
 use std::alloc::AllocError;
 use thiserror::Error;

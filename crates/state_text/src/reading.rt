@@ -1,3 +1,5 @@
+//! A state text, read.
+
 ghost use Rattle.std.specs.List.{list_all};
 ghost use Rattle.std.specs.Prelude.{ℕ, ◌≡◌, ◌≢◌, ◌∷◌, List, true, false, None, Some, Err, IfOk, IfErr, IfSome, IfNone, OnOk, ◌++◌, []};
 ghost use Rattle.std.specs.Option.{option_map};

@@ -1,3 +1,5 @@
+//! The versions of the state text, and what the first one can hold.
+
 ghost use Rattle.std.specs.Prelude.{◌≡◌};
 ghost use Rattle.state_text.specs.Versions.{id_limit, entry_limit};
 

@@ -1,8 +1,9 @@
-ghost use Rattle.std.specs.Prelude.{◌≡◌, ◌≤◌, ◌++◌, ◌∷◌, [], ◌^◌, codes, length};
+//! The words of a state text's lines, read.
+
+ghost use Rattle.std.specs.Prelude.{◌≡◌, codes};
 ghost use Rattle.std.specs.Option.{option_map};
-ghost use Rattle.arrayvec.specs.ArrayVec.{array_vec_len};
 ghost use Rattle.init_words.specs.Ids.{same_id};
-ghost use Rattle.init_trace.specs.Reading.{stage_of_word, order_of_word, child_of_word};
+ghost use Rattle.trace_text.specs.Reading.{stage_of_word, order_of_word, child_of_word};
 ghost use Rattle.init_words.specs.Actions.{act_read};
 ghost use Rattle.state_text.specs.Reading.{dash_read, or_read, time_read, generation_read, bit_read, one_bit, two_bits, three_bits, four_bits, goal_read, signal_read, stop_read, starts_read, id_in_read, status_read, version_of_line};
 
@@ -10,12 +11,12 @@ use crate::versions::Version;
 use arrayvec::ArrayVec;
 use child_table::Stop;
 use init_trace::Goal;
-use init_trace::words::{
-    is, read_child, read_code, read_level, read_order, read_seconds, read_stage,
-};
 use init_words::{Act, Ask, ChildNo, Id, Stage, Status};
 use respawn_limit::STARTS;
 use text_lines::{cut, read_number};
+use trace_text::words::{
+    is, read_child, read_code, read_level, read_order, read_seconds, read_stage,
+};
 
 fn is_dash(word: &[u8]) -> bool
     ensures { result ≡ same_id word.now (codes "-") }

@@ -1,11 +1,13 @@
+//! The text of a state, written.
+
 ghost use Rattle.std.specs.Prelude.{◌≡◌, ◌++◌, ◌∷◌, [], map, length, decimal, IfOk, OnOk};
 ghost use Rattle.std.specs.List.{flat_map};
 ghost use Rattle.init_words.specs.Actions.{word_of};
 ghost use Rattle.inittab_text.specs.Written.{text_of};
-ghost use Rattle.init_trace.specs.Lines.{level_word, order_word};
+ghost use Rattle.trace_text.specs.Lines.{level_word, order_word};
 ghost use Rattle.core_model.specs.Parts.{record_of};
 ghost use Rattle.state_text.specs.declared.versions.Version.TheVariants.{V2};
-ghost use Rattle.state_text.specs.Lines.{bits, spaced, or_dash, goal_word, stop_word, stage_or_none, starts_word, status_word, generation_line, clock_line, stage_line, goal_line, flags_line, wish_line, head_lines, table_line, slot_line, slot_flags, powers, letters, end_line, text_of_lines, state_text};
+ghost use Rattle.state_text.specs.Lines.{bits, spaced, or_dash, goal_word, stop_word, stage_or_none, starts_word, status_word, stage_line, goal_line, flags_line, wish_line, head_lines, table_line, slot_line, slot_flags, powers, letters, text_of_lines, state_text};
 
 use child_table::{Slot, Stop};
 use core_model::{Heads, News, Record};

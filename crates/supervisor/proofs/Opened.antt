@@ -6,7 +6,6 @@ use Rattle.inittab_text.specs.Tables.{is_distinct}
 use Rattle.init_trace.specs.declared.happenings.Happening.TheVariants.{NewTable}
 use Rattle.init_trace.specs.declared.steps.Goal.{Goal}
 use Rattle.trace_laws.proofs.Laws.{lawful_unbroken, sound_lawful}
-use Rattle.core_model.specs.Decide.{is_drained}
 use Rattle.core_model.proofs.Hearing.{fits_opening}
 use Rattle.core_model.specs.State.{CoreState, opening_goal, opening_state}
 use Rattle.trace_log.specs.Logs.{LogState}
@@ -37,18 +36,18 @@ turns_narrower drain f g narrower (suc n) calls (done, last, before, is, turn, r
 pub opening_fresh : (level : Option Level) (table : List Entry) → is_distinct table ≡ true → Fresh (opening_state table (opening_goal level table)) (opening_goal level table) (opening_point table)
 opening_fresh level table distinct = (record { fits = fits_opening table (opening_goal level table) distinct; short = refl; own = refl }, refl)
 
-pub opened : (told now_told : Option (List HostCall)) (l₀ l₁ l₂ : LogState) (level : Option Level) (table : List Entry) (drain drained : Bool) (n : ℕ) (core new : CoreState)
+pub opened : (told now_told : Option (List HostCall)) (l₀ l₁ l₂ : LogState) (level : Option Level) (table : List Entry) (drain : Bool) (n : ℕ) (core new : CoreState)
     → Fresh core (opening_goal level table) (opening_point table) → is_distinct table ≡ true
-    → Logs l₀ l₁ [] (NewTable table ∷ []) → Makes told now_told l₁ l₂ (AreTurns drain (Fresh core) n) (Fresh core) (LeftBy new) → drained ≡ is_drained new
-    → Opens told now_told l₀ l₂ level table drain n drained
-opened told now_told l₀ l₁ l₂ level table drain drained n core new fresh distinct took makes ends =
-    Since-map told now_told (λ calls. AreTurns drain (Fresh core) n calls × Leads (Fresh core) (LeftBy new) l₁ l₂ calls) (λ calls. AreTurns drain (IsOpening level table) n calls × LeadsFrom level table drained l₀ l₂ calls) makes
+    → Logs l₀ l₁ [] (NewTable table ∷ []) → Makes told now_told l₁ l₂ (AreTurns drain (Fresh core) n) (Fresh core) (LeftBy new)
+    → Opens told now_told l₀ l₂ level table drain n new
+opened told now_told l₀ l₁ l₂ level table drain n core new fresh distinct took makes =
+    Since-map told now_told (λ calls. AreTurns drain (Fresh core) n calls × Leads (Fresh core) (LeftBy new) l₁ l₂ calls) (λ calls. AreTurns drain (IsOpening level table) n calls × LeadsFrom level table new l₀ l₂ calls) makes
     (λ calls made. (turns_narrower drain (Fresh core) (IsOpening level table) narrower n calls made.0, leads calls made.1))
   where
     narrower : (goal : Goal) (p : Point) → IsOpening level table goal p → Fresh core goal p
     narrower goal p (of_goal, of_point) = subst (λ q. Fresh core goal q) (sym of_point) (subst (λ o. Fresh core o (opening_point table)) (sym of_goal) fresh)
 
-    leads : (calls : List HostCall) → Leads (Fresh core) (LeftBy new) l₁ l₂ calls → LeadsFrom level table drained l₀ l₂ calls
+    leads : (calls : List HostCall) → Leads (Fresh core) (LeftBy new) l₁ l₂ calls → LeadsFrom level table new l₀ l₂ calls
     leads calls all allowed =
         let led = all (opening_goal level table) (opening_point table) distinct fresh allowed in
         let past = (point_after calls (opening_point table)).past in (
@@ -59,18 +58,16 @@ opened told now_told l₀ l₁ l₂ level table drain drained n core new fresh d
                 in_place = went.in_place;
                 sound = went.sound;
                 unbroken = lawful_unbroken past (sound_lawful (opening_goal level table) past went.sound);
-                core = new;
                 fits = went.fits;
-                rests = ends;
                 log = Took-then l₀ l₁ l₂ [] (NewTable table ∷ []) past (took refl) (went.log refl);
               }),
         )
 
 -- of an opening, the log and the turns
-pub opened_by : (told now_told : Option (List HostCall)) (l₀ l₁ l₂ : LogState) (drain drained : Bool) (n : ℕ) (o : OpeningState) (new : CoreState)
-    → Logs l₀ l₁ [] (o.told ∷ []) → Makes told now_told l₁ l₂ (AreTurns drain (Fresh o.core) n) (Fresh o.core) (LeftBy new) → drained ≡ is_drained new
-    → (level : Option Level) (table : List Entry) → IsOpeningOf level table o → Opens told now_told l₀ l₂ level table drain n drained
-opened_by told now_told l₀ l₁ l₂ drain drained n o new took makes ends level table is =
-    opened told now_told l₀ l₁ l₂ level table drain drained n o.core new
+pub opened_by : (told now_told : Option (List HostCall)) (l₀ l₁ l₂ : LogState) (drain : Bool) (n : ℕ) (o : OpeningState) (new : CoreState)
+    → Logs l₀ l₁ [] (o.told ∷ []) → Makes told now_told l₁ l₂ (AreTurns drain (Fresh o.core) n) (Fresh o.core) (LeftBy new)
+    → (level : Option Level) (table : List Entry) → IsOpeningOf level table o → Opens told now_told l₀ l₂ level table drain n new
+opened_by told now_told l₀ l₁ l₂ drain n o new took makes level table is =
+    opened told now_told l₀ l₁ l₂ level table drain n o.core new
     (subst (λ c. Fresh c (opening_goal level table) (opening_point table)) (sym is.core) (opening_fresh level table is.distinct)) is.distinct
-    (subst (λ t. Logs l₀ l₁ [] (t ∷ [])) is.told took) makes ends
+    (subst (λ t. Logs l₀ l₁ [] (t ∷ [])) is.told took) makes

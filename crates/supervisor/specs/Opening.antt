@@ -8,7 +8,6 @@ use Rattle.init_trace.specs.declared.steps.Goal.{Goal}
 use Rattle.init_trace.specs.Event.{Event}
 use Rattle.init_trace.specs.Lawful.{first_breach}
 use Rattle.init_trace.specs.Sound.{is_sound}
-use Rattle.core_model.specs.Decide.{is_drained}
 use Rattle.core_model.specs.State.{CoreState, opening_goal, opening_state}
 use Rattle.trace_log.specs.Logs.{LogState}
 use Rattle.child_host.specs.Calls.{HostCall}
@@ -37,29 +36,27 @@ pub record IsOpeningOf (level : Option Level) (table : List Entry) (o : OpeningS
   pub told : o.told ≡ NewTable table
   pub distinct : is_distinct table ≡ true
 
--- The calls were made from the opening on, each in its place. Their trace is sound and breaks no law; init's core
--- tracks it, and is drained or not; and the log took it from its first happening on.
-pub record WentFrom (level : Option Level) (table : List Entry) (drained : Bool) (old new : LogState) (calls : List HostCall)
-    : Type 0 where
+-- The calls were made from the opening on, each in its place. Their trace is sound and breaks no law; the core that is
+-- left tracks it; and the log took it from its first happening on.
+pub record WentFrom (level : Option Level) (table : List Entry) (core : CoreState) (old new : LogState)
+    (calls : List HostCall) : Type 0 where
   pub in_place : IsTrue (has_trace (opening_goal level table) calls (opening_point table))
   pub sound : IsTrue (is_sound (opening_goal level table) (point_after calls (opening_point table)).past)
   pub unbroken : first_breach (point_after calls (opening_point table)).past ≡ None
-  pub core : CoreState
   pub fits : LeftBy core (opening_goal level table) (point_after calls (opening_point table))
-  pub rests : drained ≡ is_drained core
   pub log : Took old new [] (point_after calls (opening_point table)).past
 
 -- so it went where the answers to the calls were possible, and the texts that were carried came back as they may; and
 -- each of these was the text of init's state
-abbrev pub LeadsFrom : Option Level → List Entry → Bool → LogState → LogState → List HostCall → Type 0
-LeadsFrom level table drained old new calls =
+abbrev pub LeadsFrom : Option Level → List Entry → CoreState → LogState → LogState → List HostCall → Type 0
+LeadsFrom level table core old new calls =
     IsTrue (is_allowed (opening_goal level table) (point_after calls (opening_point table)).past)
     → AreTexts (opening_goal level table) calls (opening_point table)
-    × (IsTrue (are_carried calls (opening_point table)) → WentFrom level table drained old new calls)
+    × (IsTrue (are_carried calls (opening_point table)) → WentFrom level table core old new calls)
 
 -- the calls made, which are those told where the host tells them, are those of the given number of turns, and so it
 -- went
 abbrev pub Opens : Option (List HostCall) → Option (List HostCall) → LogState → LogState → Option Level → List Entry
-    → Bool → ℕ → Bool → Type 0
-Opens told now_told old new level table drain turns drained = Since told now_told (λ calls.
-    AreTurns drain (IsOpening level table) turns calls × LeadsFrom level table drained old new calls)
+    → Bool → ℕ → CoreState → Type 0
+Opens told now_told old new level table drain turns core = Since told now_told (λ calls.
+    AreTurns drain (IsOpening level table) turns calls × LeadsFrom level table core old new calls)

@@ -1,3 +1,5 @@
+//! What is made of a host's answers: the log gets the happenings, and the core hears them.
+
 ghost use Rattle.std.specs.Prelude.{◌≡◌, ◌∷◌, true, List, Some};
 ghost use Rattle.std.specs.Option.{option_and_then};
 ghost use Rattle.init_words.specs.declared.orders.Answer.TheVariants.{Ended};

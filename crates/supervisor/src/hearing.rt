@@ -1,3 +1,5 @@
+//! What a turn hears at its beginning: the clock, requests, and answers that came late.
+
 ghost use Rattle.std.specs.Prelude.{◌≡◌, ◌<◌, ◌≤◌, ◌+◌, ◌∷◌, [], ℕ, IsTrue, true, false, length, take, Ok};
 ghost use Rattle.init_trace.specs.Range.{is_request};
 ghost use Rattle.init_trace.specs.declared.happenings.Happening.TheVariants as happening;

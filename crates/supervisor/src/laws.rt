@@ -1,3 +1,5 @@
+//! A law of openings.
+
 ghost use Rattle.std.specs.Prelude.{◌≡◌, List, Option, true};
 ghost use Rattle.init_words.specs.declared.entries.Entry.{Entry};
 ghost use Rattle.init_words.specs.declared.levels.Level.{Level};

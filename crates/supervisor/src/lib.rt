@@ -16,5 +16,5 @@ mod serving;
 mod stepping;
 
 pub use laws::law_of_openings;
-pub use opening::{Opening, serve_from_opening};
-pub use serving::{Served, serve, turn};
+pub use opening::Opening;
+pub use serving::{Served, Unwatched, Watch, serve, turn};

@@ -1,10 +1,13 @@
-ghost use Rattle.std.specs.Prelude.{◌≡◌, ◌≤◌, ◌<◌, List, Option, not, true, IfOk, OnErr};
+//! A run from its opening on.
+
+ghost use Rattle.std.specs.Prelude.{◌≡◌, ◌≤◌, ◌<◌, List, Option, not, true, IfOk};
+ghost use Rattle.core_model.specs.Decide.{is_drained};
 ghost use Rattle.init_words.specs.declared.entries.Entry.{Entry};
 ghost use Rattle.init_words.specs.declared.levels.Level.{Level};
 ghost use Rattle.supervisor.specs.Opening.{IsOpeningOf, Opens};
 
 use crate::answering::write;
-use crate::serving::{Served, serve};
+use crate::serving::{Served, Watch, serve};
 use child_host::Host;
 use init_trace::{Happening, HappeningIn};
 use init_words::{Level, Memory};
@@ -41,47 +44,28 @@ impl<A: Allocator + Copy> Opening<A> {
         Ok(Opening { core, told })
     }
 
-    /// Makes the given number of turns from the opening on. The log is handed the table in force first.
-    pub fn serve<H: Host, L: Log>(
+    /// Makes the given number of turns from the opening on, and gives back what init keeps after them. The log is handed
+    /// the table in force first.
+    pub fn serve<H: Host, L: Log, W: Watch<A>>(
         self,
         alloc: A,
         host: &mut H,
         log: &mut L,
         turns: u64,
         drain: bool,
-    ) -> Served
+        watch: &mut W,
+    ) -> (Served, Core<A>)
         ensures trace { (level : Option Level) (table : List Entry) → IsOpeningOf level table self
             → Opens (H.told host.old) (H.told host.new) (L.state log.old) (L.state log.new)
-            level table drain result.turns result.drained }
-        ensures most { result.turns ≤ turns }
-        ensures fewer { result.turns < turns → (drain ≡ true) × (result.drained ≡ true) }
-        ensures logged { result.logged ≡ not (L.state log.new).failed }
+            level table drain result.0.turns result.1 }
+        ensures most { result.0.turns ≤ turns }
+        ensures fewer { result.0.turns < turns → (drain ≡ true) × (result.0.drained ≡ true) }
+        ensures drained { result.0.drained ≡ is_drained result.1 }
+        ensures logged { result.0.logged ≡ not (L.state log.new).failed }
     {
         let Opening { mut core, told } = self;
         write(log, &told);
-        serve(alloc, &mut core, host, log, turns, drain)
+        let served = serve(alloc, &mut core, host, log, turns, drain, watch);
+        (served, core)
     }
-}
-
-/// Makes the given number of turns from the opening on: with this table in force, for the level that is given, else the
-/// table's own. The log is handed that table first. Lack of memory is told before anything is asked of the host.
-pub fn serve_from_opening<A: Allocator + Copy, H: Host, L: Log>(
-    alloc: A,
-    table: Table<A>,
-    level: Option<Level>,
-    host: &mut H,
-    log: &mut L,
-    turns: u64,
-    drain: bool,
-) -> Result<Served, Memory>
-    ensures trace { IfOk result (λ served. Opens (H.told host.old) (H.told host.new)
-        (L.state log.old) (L.state log.new) level table drain served.turns served.drained) }
-    ensures most { IfOk result (λ served. served.turns ≤ turns) }
-    ensures fewer { IfOk result (λ served. served.turns < turns
-        → (drain ≡ true) × (served.drained ≡ true)) }
-    ensures logged { IfOk result (λ served. served.logged ≡ not (L.state log.new).failed) }
-    ensures memory { OnErr result ((host.new ≡ host.old) × (log.new ≡ log.old)) }
-{
-    let opening = Opening::new(alloc, table, level)?;
-    Ok(opening.serve(alloc, host, log, turns, drain))
 }

@@ -1,3 +1,5 @@
+//! Orders: starts, looks and signals that the host is given.
+
 ghost use Rattle.std.specs.Prelude.{◌≡◌, true, is_some};
 ghost use Rattle.inittab_text.specs.Tables.{entry_of};
 ghost use Rattle.init_trace.specs.declared.steps.Step.TheVariants as step;

@@ -1,3 +1,5 @@
+//! A reading of the inittab while init runs (telinit(8), `q`).
+
 ghost use Rattle.std.specs.Prelude.{◌≡◌, ◌∷◌, [], true, false, List, Ok};
 ghost use Rattle.init_words.specs.Parts.{texts_of};
 ghost use Rattle.inittab_text.specs.Parts.{are_readable, table_of_texts};

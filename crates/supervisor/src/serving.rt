@@ -1,3 +1,5 @@
+//! Turns, one after another.
+
 ghost use Rattle.std.specs.Prelude.{◌≡◌, ◌&&◌, ◌≤◌, ◌<◌, [], not, true, false};
 ghost use Rattle.core_model.specs.Decide.{is_drained};
 ghost use Rattle.host_trace.specs.Leads.{At};
@@ -14,6 +16,19 @@ use initctl_frame::Blocks;
 use level_core::Core;
 use std::alloc::Allocator;
 use trace_log::Log;
+
+/// Somebody who looks at what init keeps after each turn, before the pause.
+pub trait Watch<A: Allocator> {
+    /// A turn was made, and this is what init keeps behind it.
+    fn look(&mut self, core: &Core<A>);
+}
+
+/// Nobody looks.
+pub struct Unwatched {}
+
+impl<A: Allocator> Watch<A> for Unwatched {
+    fn look(&mut self, _core: &Core<A>) {}
+}
 
 /// How a run of turns ended.
 #[derive(Clone, Copy, PartialEq, Eq)]
@@ -66,15 +81,16 @@ fn how_it_ended<A: Allocator, L: Log>(core: &Core<A>, log: &L, turns: u64) -> Se
     }
 }
 
-/// Makes the given number of turns, with a pause after each. With `drain` it ends after the first turn that leaves
-/// nothing to do and nothing running.
-pub fn serve<A: Allocator + Copy, H: Host, L: Log>(
+/// Makes the given number of turns, with a look and a pause after each. With `drain` it ends after the first turn that
+/// leaves nothing to do and nothing running.
+pub fn serve<A: Allocator + Copy, H: Host, L: Log, W: Watch<A>>(
     alloc: A,
     core: &mut Core<A>,
     host: &mut H,
     log: &mut L,
     turns: u64,
     drain: bool,
+    watch: &mut W,
 ) -> Served
     ensures trace { Makes (H.told host.old) (H.told host.new) (L.state log.old) (L.state log.new)
         (AreTurns drain (Fresh core.old) result.turns) (Fresh core.old) (LeftBy core.new) }
@@ -88,6 +104,7 @@ pub fn serve<A: Allocator + Copy, H: Host, L: Log>(
     let mut blocks = Blocks::new();
     for made in 0..turns {
         let _ = turn(alloc, core, host, &mut blocks, log);
+        watch.look(core);
         host.pause();
         if is_over(core, drain) {
             return how_it_ended(core, log, made + 1);

@@ -1,3 +1,5 @@
+//! A step of init, carried out.
+
 ghost use Rattle.std.specs.Prelude.{◌≡◌, ◌≤◌, true, false};
 ghost use Rattle.init_trace.specs.declared.steps.Step.{Step};
 ghost use Rattle.core_model.specs.State.{CoreState};

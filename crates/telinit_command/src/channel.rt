@@ -1,3 +1,5 @@
+//! A request block, appended to the channel.
+
 ghost use Rattle.std.specs.Prelude.{◌≡◌, ◌++◌, string_bytes, IfOk, OnOk};
 ghost use Rattle.program_io.specs.Writing.{AppendsPrefix};
 ghost use Rattle.telinit_command.specs.Notes.{IsTold, Reading, made_note, reading_note, unknown_note};

@@ -1,3 +1,5 @@
+//! The request block of the words.
+
 ghost use Rattle.std.specs.Prelude.{◌≡◌, string_bytes};
 ghost use Rattle.telinit_command.specs.Frames.{frame_for};
 

@@ -1,3 +1,5 @@
+//! `telinit`: its work, and what it reports.
+
 ghost use Rattle.std.specs.Prelude.{◌≡◌, ◌⊎◌, true, false, codes, map, string_bytes, IfSome, IsSome, IsNone};
 ghost use Rattle.command_words.specs.CommandLines.{asks_version};
 ghost use Rattle.command_words.specs.Faults.{ReportsUsage};
@@ -105,7 +107,7 @@ fn report_channel<E: Write>(path: &str, fault: &ChannelFault, err: &mut E) -> u8
     let _ = match fault {
         ChannelFault::Torn(_) => writeln!(
             err,
-            "telinit: stop init, then remove {path}, or fill its last request up by truncate -s %{BLOCK} {path}"
+            "telinit: cut off what is over by truncate -s /{BLOCK} {path}, or stop init and remove {path}"
         ),
         _ => writeln!(
             err,

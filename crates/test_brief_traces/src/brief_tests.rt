@@ -160,7 +160,7 @@ fn is_text(alloc: Global, text: &[u8], lines: &str) -> bool {
 }
 
 fn prints_as(alloc: Global, trace: &[HappeningIn<Global>], lines: &str) -> bool {
-    match &init_trace::print(alloc, trace) {
+    match &trace_text::print(alloc, trace) {
         Ok(text) => is_text(alloc, text.as_slice(), lines),
         Err(_) => false,
     }

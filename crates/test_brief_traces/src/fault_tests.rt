@@ -41,7 +41,7 @@ fn a_writer_that_is_full_ends_the_log(rt: HostRuntime) {
 
 /// The list is a past of the brief form, whole or not.
 fn is_past<'a>(alloc: Global, list: &[HappeningIn<&'a LocalHeap>], all: bool) -> bool {
-    match &init_trace::print(alloc, list) {
+    match &trace_text::print(alloc, list) {
         Ok(text) => BRIEF.starts_with(text.as_slice()) && all == (text.len() == BRIEF.len()),
         Err(_) => false,
     }

@@ -26,7 +26,7 @@ pub(crate) fn lines_of(alloc: Global, text: &str) -> Option<Vec<u8>> {
 /// The trace whose lines these are.
 pub(crate) fn trace_of(alloc: Global, text: &str) -> Option<Vec<HappeningIn<Global>>> {
     match &lines_of(alloc, text) {
-        Some(lines) => init_trace::read(alloc, lines.as_slice()).ok(),
+        Some(lines) => trace_text::read(alloc, lines.as_slice()).ok(),
         None => None,
     }
 }

@@ -6,11 +6,12 @@
 
 use crate::awaited::awaits;
 use crate::steps::{add, add_steps};
-use init_trace::{Happening, HappeningIn, first_happening};
+use init_trace::{Happening, HappeningIn};
 use init_words::{Answer, ChildNo, Id, Level, Memory, Refusal, Stage};
 use inittab_text::Table;
 use level_core::Core;
 use std::alloc::{AllocError, Global};
+use trace_text::first_happening;
 
 /// Whether the steps are to be taken: not yet, from the last call on, or no more.
 #[derive(Clone, Copy, PartialEq, Eq)]

@@ -18,7 +18,7 @@ fn add_done(
     text: &mut Vec<u8>,
     happening: &HappeningIn<Global>,
 ) -> Result<(), Memory> {
-    let line = init_trace::print_one(alloc, happening)?;
+    let line = trace_text::print_one(alloc, happening)?;
     add(text, line.trim_ascii_end())
 }
 

@@ -11,6 +11,8 @@ mod judge_tests;
 #[cfg(test)]
 mod telinit_tests;
 #[cfg(test)]
+mod waiting_tests;
+#[cfg(test)]
 mod word_tests;
 #[cfg(test)]
 mod writer_tests;

@@ -15,7 +15,7 @@ type SystemHost<A = Global> = OsHost<HostRuntime, A>;
 const CHANNEL: &str = "k.ctl";
 
 fn host_of<A: Allocator + Copy>(rt: &HostRuntime, alloc: A) -> Result<SystemHost<A>, Memory> {
-    OsHost::new(*rt, alloc, "k.tab", CHANNEL, "k.state", None)
+    OsHost::new(*rt, alloc, "initd", "k.tab", CHANNEL, "k.state", None)
 }
 
 const ZEROS: &[u8] = &[0; 800];
@@ -88,14 +88,14 @@ const LIVES: &[(bool, &[Step])] = &[
         &[
             Step::Take(0),
             Step::Put(400),
-            Step::Take(400),
+            Step::Take(384),
             Step::Put(768),
-            Step::Take(368),
+            Step::Take(384),
             Step::Take(0),
             Step::Put(778),
-            Step::Take(10),
+            Step::Take(0),
             Step::Put(788),
-            Step::Take(10),
+            Step::Take(0),
             Step::Take(0),
             Step::Take(0),
         ],
@@ -145,7 +145,7 @@ initd: k.ctl: read again
 true
 initd: k.ctl: request 1 has no magic number: passed over
 initd: k.ctl: request 2 has no magic number: passed over
-initd: k.ctl has 20 bytes that are no whole request: every later request is out of step; truncate -s %384 k.ctl, or remove it
+initd: k.ctl has 20 bytes that are no whole request: every later request is out of step; truncate -s /384 k.ctl, or remove it
 true
 initd: cannot write standard output: No space left on device (os error 28)
 2 faults

@@ -6,13 +6,14 @@ use crate::texts::lines;
 use crate::verdict_tests::{CHANGED, VERDICTS};
 use crate::verdict_texts::{Change, changed};
 use brief_log::BriefLog;
-use init_trace::{HappeningIn, ReadFault};
+use init_trace::HappeningIn;
 use init_words::Memory;
 use std::alloc::Global;
 use std::process::Abort;
 use std::test::Fail;
 use trace_check::{Law, Verdict};
 use trace_log::{ListLog, Log};
+use trace_text::ReadFault;
 
 /// The law that a trace breaks first.
 fn law_of(alloc: Global, trace: &[HappeningIn<Global>]) -> Result<Option<Law>, Memory> {
@@ -44,7 +45,7 @@ fn is_alike(alloc: Global, trace: &[HappeningIn<Global>]) -> Result<bool, Fail> 
 
 /// The same of the trace of a text, where it is one.
 fn are_alike(rt: &impl Abort, alloc: Global, text: &str) -> Result<(), Fail> {
-    match init_trace::read(alloc, text.as_bytes()) {
+    match trace_text::read(alloc, text.as_bytes()) {
         Ok(trace) => {
             let alike = is_alike(alloc, &trace)?;
             assert!(rt; alike, "{text}");

@@ -58,12 +58,12 @@ fn a_run_without_room_writes_a_front_of_its_trace(rt: HostRuntime) -> Result<(),
 #[test]
 fn a_trace_without_room_is_not_printed(rt: HostRuntime) -> Result<(), Fail> {
     let text = lines(rt.alloc(), TRACE)?;
-    let Ok(trace) = init_trace::read(rt.alloc(), text.as_bytes()) else {
+    let Ok(trace) = trace_text::read(rt.alloc(), text.as_bytes()) else {
         return Err(Fail::from("no trace"));
     };
     for refused in 0..4096usize {
         let heap = LocalHeap::new(rt.alloc(), STEP * refused)?;
-        match init_trace::print(&heap, &trace) {
+        match trace_text::print(&heap, &trace) {
             Ok(printed) => {
                 assert!(rt;
                     refused > 2 && printed.as_slice() == text.as_bytes(),

@@ -1,7 +1,8 @@
 use crate::texts::{first_line, has_lines, holds};
-use init_trace::{HappeningIn, ReadFault, print_table};
+use init_trace::HappeningIn;
 use std::alloc::Global;
 use std::process::Abort;
+use trace_text::{ReadFault, print_table};
 
 /// Texts of traces, and texts that are none with the number of the line at which no happening begins.
 const TEXTS: &[(&str, u64)] = &[
@@ -88,7 +89,7 @@ const TEXTS: &[(&str, u64)] = &[
 
 /// The trace prints as the text again.
 fn is_printed(alloc: Global, trace: &[HappeningIn<Global>], text: &str) -> bool {
-    match init_trace::print(alloc, trace) {
+    match trace_text::print(alloc, trace) {
         Ok(again) => again.as_slice() == text.as_bytes(),
         Err(_) => false,
     }
@@ -96,7 +97,7 @@ fn is_printed(alloc: Global, trace: &[HappeningIn<Global>], text: &str) -> bool 
 
 /// The number of the line at which the text is no trace's, 0 where it is one's, which is printed again.
 fn fault_in(alloc: Global, text: &str) -> Option<u64> {
-    match init_trace::read(alloc, text.as_bytes()) {
+    match trace_text::read(alloc, text.as_bytes()) {
         Ok(trace) if is_printed(alloc, &trace, text) => Some(0),
         Err(ReadFault::Line(number)) => Some(number),
         _ => None,
@@ -116,7 +117,7 @@ fn traces_are_read(rt: HostRuntime) {
 
 fn print_line(alloc: Global, line: &str) -> Option<Vec<u8>> {
     let happening = first_line(alloc, line)?;
-    init_trace::print_one(alloc, &happening).ok()
+    trace_text::print_one(alloc, &happening).ok()
 }
 
 fn is_line_printed(alloc: Global, line: &str, want: &[u8]) -> bool {

@@ -1,7 +1,8 @@
-use init_trace::{HappeningIn, first_happening};
+use init_trace::HappeningIn;
 use simulated_system::Objection;
 use std::alloc::{AllocError, Global};
 use std::process::Abort;
+use trace_text::first_happening;
 
 /// A text of lines from one in which ` / ` stands for line ends.
 pub(crate) fn lines(alloc: Global, row: &str) -> Result<String, AllocError> {

@@ -1,20 +1,20 @@
 //! Growths are refused in turn, on heaps of more and more room: what is answered is lack of memory alone, or the
 //! verdict.
 
-use init_trace::ReadFault;
 use init_words::Memory;
 use linked_list_allocator::LocalHeap;
 use std::alloc::Global;
 use std::process::Abort;
 use std::test::Fail;
 use trace_check::{Law, Verdict};
+use trace_text::ReadFault;
 
 const TRACE: &[u8] =
     b"use 2\na:3:once:x\nb:1:once:y\nenter 3 5\nask a start\nbirth a 10\ntold a\nenter 1 5\nask b start\nbirth b 11\n";
 
 /// Whether the trace was read, and what the checker says of it then.
 fn judged(heap: &LocalHeap) -> Result<Result<Verdict, Memory>, ReadFault> {
-    let trace = init_trace::read(heap, TRACE)?;
+    let trace = trace_text::read(heap, TRACE)?;
     Ok(trace_check::check(heap, &trace))
 }
 

@@ -1,8 +1,9 @@
 use crate::pieces::judged_in_pieces;
-use init_trace::{HappeningIn, ReadFault};
+use init_trace::HappeningIn;
 use std::alloc::{AllocError, Global};
 use std::test::Fail;
 use trace_check::Verdict;
+use trace_text::ReadFault;
 
 /// What is done to a line of a trace.
 #[derive(Clone, Copy, PartialEq, Eq)]
@@ -51,7 +52,7 @@ pub(crate) fn changed(
 
 /// `.` for a lawful trace, else the place of the first breach and its law; `!` where it does not print as the text.
 fn verdict_on(alloc: Global, trace: &[HappeningIn<Global>], text: &str) -> Result<String, Fail> {
-    let again = init_trace::print(alloc, trace)?;
+    let again = trace_text::print(alloc, trace)?;
     if again.as_slice() != text.as_bytes() {
         return Ok(String::from_str(alloc, "!")?);
     }
@@ -75,7 +76,7 @@ fn read_and_judged(alloc: Global, text: &str) -> Result<String, Fail> {
 }
 
 fn judged_whole(alloc: Global, text: &str) -> Result<String, Fail> {
-    match init_trace::read(alloc, text.as_bytes()) {
+    match trace_text::read(alloc, text.as_bytes()) {
         Ok(trace) => verdict_on(alloc, &trace, text),
         Err(ReadFault::Line(number)) => Ok(format!(in alloc; "?{number}")?),
         Err(ReadFault::Memory) => Err(Fail::from("out of memory")),

@@ -9,7 +9,7 @@ use linked_list_allocator::LocalHeap;
 use memory_host::MemoryHost;
 use std::alloc::Global;
 use std::test::Fail;
-use supervisor::Served;
+use supervisor::{Served, Unwatched};
 use test_support::Slow;
 use trace_log::{ListLog, Log, StreamLog};
 
@@ -39,7 +39,7 @@ fn served_by<L: Log>(
     host: &mut MemoryHost,
     log: &mut L,
 ) -> Option<Served> {
-    let served = supervisor::serve(alloc, core, host, log, 9, true);
+    let served = supervisor::serve(alloc, core, host, log, 9, true, &mut Unwatched {});
     if host.faults() != 1 || made(host) != 31 {
         return None;
     }
@@ -94,7 +94,7 @@ fn a_writer_that_is_full_ends_the_log(rt: HostRuntime) {
 
 /// The list is a prefix of the trace, and the run ended so.
 fn is_prefix<'a>(alloc: Global, list: &[HappeningIn<&'a LocalHeap>], served: Served) -> bool {
-    match &init_trace::print(alloc, list) {
+    match &trace_text::print(alloc, list) {
         Ok(text) => {
             TRACE.starts_with(text.as_slice()) && served == ended(text.len() == TRACE.len())
         }

@@ -9,6 +9,7 @@ use linked_list_allocator::LocalHeap;
 use memory_host::MemoryHost;
 use std::alloc::{Allocator, Global};
 use std::test::Fail;
+use supervisor::Unwatched;
 use trace_log::ListLog;
 
 /// Takes what a heap has left in blocks of one size, up to 64 of them.
@@ -126,8 +127,8 @@ fn turn_text<A: Allocator + Copy>(
     host: &mut MemoryHost,
 ) -> Option<Vec<u8>> {
     let mut log = ListLog::new(own);
-    supervisor::serve(alloc, core, host, &mut log, 1, false);
-    init_trace::print(own, log.list()).ok()
+    supervisor::serve(alloc, core, host, &mut log, 1, false, &mut Unwatched {});
+    trace_text::print(own, log.list()).ok()
 }
 
 /// What became of a table that is read where there is little room.

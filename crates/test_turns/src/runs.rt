@@ -5,7 +5,7 @@ use init_trace::{Happening, HappeningIn};
 use level_core::Core;
 use memory_host::MemoryHost;
 use std::alloc::{Allocator, Global};
-use supervisor::Served;
+use supervisor::{Served, Unwatched};
 use trace_check::Verdict;
 use trace_log::{ListLog, Log};
 
@@ -84,7 +84,7 @@ fn is_trace(own: Global, text: &[u8], trace: &str) -> bool {
 }
 
 fn is_text(own: Global, made: &[HappeningIn<Global>], trace: &str) -> bool {
-    match &init_trace::print(own, made) {
+    match &trace_text::print(own, made) {
         Ok(text) => is_trace(own, text.as_slice(), trace),
         Err(_) => false,
     }
@@ -113,7 +113,15 @@ pub(crate) fn serve_on<A: Allocator + Copy>(
     turns: u64,
     drain: bool,
 ) -> Served {
-    supervisor::serve(bench.own, bench.core, bench.host, bench.log, turns, drain)
+    supervisor::serve(
+        bench.own,
+        bench.core,
+        bench.host,
+        bench.log,
+        turns,
+        drain,
+        &mut Unwatched {},
+    )
 }
 
 fn is_served<A: Allocator + Copy>(bench: &mut Bench<A>, row: &Row) -> bool {

@@ -1,3 +1,5 @@
+//! What a brief trace holds back of the whole one.
+
 ghost use Rattle.std.specs.Prelude.{◌≡◌, None, Some, false, if◌then◌else◌};
 ghost use Rattle.init_words.specs.Ids.{same_id};
 ghost use Rattle.trace_brief.specs.Holding.{held_back, held_back_by, held_behind, is_bare, greater_reading};

@@ -6,30 +6,14 @@ use Rattle.init_trace.specs.Event.{Event}
 use Rattle.init_trace.specs.Past.{table_of, stage_of, time_of, is_of, unreaped_children}
 use Rattle.init_trace.specs.Lawful.{broken, Fault, breach_at, earlier, first_breach}
 use Rattle.trace_laws.proofs.Lone.{is_lone}
-use Rattle.trace_check.specs.State.{JudgeState, opening, at, among, times_at}
+use Rattle.trace_check.specs.State.{JudgeState, at, among, times_at}
 use Rattle.trace_check.specs.After.{TakesIn, table_after, stage_after, grace_after, time_after, order_after, kept_after, asked_after, called_after, sent_after, starts_after, hold_after, term_after}
 use Rattle.trace_check.specs.Flaws.{flaw_in}
 use Rattle.trace_check.specs.Reading.{Reads}
-use Rattle.trace_check.specs.Judging.{Judging, unjudged, Judged}
+use Rattle.trace_check.specs.Judging.{Judging, Judged}
 use Rattle.trace_check.proofs.Keeping.{table_step, stage_step, grace_step, time_step, order_step, kept_step, asked_step, called_step, sent_step, starts_step, hold_step}
 use Rattle.trace_check.proofs.Bearing.{lone_step, child_step, term_step}
 use Rattle.trace_check.proofs.Judging.{alive, flaw_reads}
-
-pub reads_opening : Reads opening []
-reads_opening = record {
-  stage = refl;
-  grace = refl;
-  time = refl;
-  orders = λ id. refl;
-  kept = λ id. refl;
-  asked = λ id. refl;
-  called = λ id. refl;
-  sent = λ id. refl;
-  starts = λ id. refl;
-  holds = λ id. refl;
-  children = λ id. refl;
-  termed = λ id. refl;
-}
 
 -- of a lawful past at most one child of an id is unreaped
 no_law : (place : ℕ) (law : Option ℕ) → breach_at place law ≡ None → law ≡ None
@@ -70,9 +54,6 @@ reads_after happening past old new took lone distinct r = record {
       ∙ ap (λ time. term_after (table_of past) (stage_of past) time (λ i. at i old.children) (λ i. among i old.sent) (λ i. at i old.termed) happening id) r.time
       ∙ term_step (λ i. at i old.children) (λ i. among i old.sent) (λ i. at i old.termed) happening id past (r.children id) (r.sent id) (r.termed id) (lone id);
 }
-
-pub judged_none : Judged unjudged []
-judged_none = record { lawful = refl; in_force = refl; reads = reads_opening }
 
 -- the flaw of a happening by the judge is the law that it breaks
 pub flaw_is : (happening : Event) (past : List Event) (judge : Judging) → is_distinct judge.table ≡ true → Judged judge past → flaw_in judge.table judge.state happening ≡ broken happening past

@@ -1,3 +1,5 @@
+//! The unreaped children, as the judge keeps them.
+
 ghost use Rattle.std.specs.Prelude.{◌≡◌, ℕ, List, option_copied, OnOk};
 ghost use Rattle.trace_check.specs.State.{at};
 ghost use Rattle.trace_check.specs.After.{is_numbered, child_after};

@@ -1,3 +1,5 @@
+//! Which law a happening breaks.
+
 ghost use Rattle.std.specs.Prelude.{◌≡◌, not, if◌then◌else◌, option_map};
 ghost use Rattle.trace_check.specs.Laws.{law_number};
 ghost use Rattle.trace_check.specs.Flaws.{is_limited_in};

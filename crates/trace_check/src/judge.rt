@@ -1,3 +1,5 @@
+//! What the judge keeps between two happenings.
+
 ghost use Rattle.std.specs.Prelude.{◌≡◌, OnOk};
 
 use crate::children::{UnreapedChild, take_child};

@@ -1,3 +1,5 @@
+//! The seven laws, with their numbers and words.
+
 ghost use Rattle.std.specs.Prelude.{◌≡◌};
 ghost use Rattle.trace_check.specs.Laws.{law_number, law_words};
 

@@ -1,3 +1,5 @@
+//! The starts and holds of an id, for the respawn limit.
+
 ghost use Rattle.std.specs.Prelude.{◌≡◌, ℕ, ◌-◌, if◌then◌else◌, List, ◌∷◌, [], take, slice_get, nat_lt, false, OnOk};
 ghost use Rattle.std.specs.Option.{option_map_or};
 ghost use Rattle.respawn_limit.specs.declared.TheConstants.{STARTS, WINDOW};

@@ -1,3 +1,5 @@
+//! What each single value that the judge keeps becomes by a happening.
+
 ghost use Rattle.std.specs.Prelude.{◌≡◌, ℕ, not, ◌&&◌, ◌||◌, List, is_some, OnOk};
 ghost use Rattle.inittab_text.specs.Tables.{has_id};
 ghost use Rattle.std.specs.List.{list_any};

@@ -1,3 +1,5 @@
+//! A whole trace, judged in one pass.
+
 ghost use Rattle.std.specs.Prelude.{◌≡◌, IfOk, reverse, []};
 ghost use Rattle.init_trace.specs.Lawful.{first_breach};
 ghost use Rattle.trace_check.specs.Faults.{fault_of};

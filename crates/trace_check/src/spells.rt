@@ -1,3 +1,5 @@
+//! The signals to children that are being stopped, as the judge keeps them.
+
 ghost use Rattle.std.specs.Prelude.{◌≡◌, ℕ, if◌then◌else◌, List, OnOk};
 ghost use Rattle.init_words.specs.Ids.{same_id};
 ghost use Rattle.trace_check.specs.State.{at, among};

@@ -1,3 +1,5 @@
+//! What the judge asks of the table in force.
+
 ghost use Rattle.std.specs.Prelude.{◌≡◌, ◌<◌, length, slice_get, option_copied, Some, OnOk};
 ghost use Rattle.inittab_text.specs.Tables.{act_of};
 ghost use Rattle.init_trace.specs.Wanted.{same_acts, starts_in, may_live};

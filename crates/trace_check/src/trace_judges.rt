@@ -1,3 +1,5 @@
+//! The judge of a trace that comes one happening after another.
+
 ghost use Rattle.std.specs.Prelude.{◌≡◌, List, option_map, IfOk};
 ghost use Rattle.init_trace.specs.Event.{Event};
 ghost use Rattle.init_trace.specs.Lawful.{broken};

@@ -23,7 +23,7 @@ use Rattle.init_trace.specs.Wanted.{is_order, is_excluded}
 use Rattle.init_trace.specs.Answered.{answered_of, child_after}
 use Rattle.init_trace.specs.Spells.{Signal, untold_hits, told_at, is_ripe, stop_by, stop_due, has_untold_miss, in_spell, is_missed, spell_hits}
 use Rattle.init_trace.specs.Lawful.{is_placed}
-use Rattle.init_trace.specs.Due.{is_due, left_ids, record_ids, wants_look}
+use Rattle.init_trace.specs.Due.{is_due, left_ids, wants_look}
 use Rattle.init_trace.specs.Sound.{may_come, is_sound}
 use Rattle.init_words.proofs.Same.{same_id-is, same_id-self}
 use Rattle.init_words.proofs.Tests.{both_ways, falsely, or_either, not_from, any_less, any_filtered, any_without, found_any}
@@ -36,7 +36,7 @@ use Rattle.trace_laws.proofs.Told.{answered_untold, answers_open, same_find, tol
 use Rattle.trace_laws.proofs.Known.{known_single}
 use Rattle.trace_laws.proofs.Records.{order_known, ids_listed}
 use Rattle.trace_laws.proofs.Signals.{OneRipe, kill_ripe}
-use Rattle.trace_laws.proofs.Spells.{spell_none, missed_none, missed_still, missed_told, spell_still, spell_nudge, spell_enter, spell_table, spell_birth, spell_told, answered_tells}
+use Rattle.trace_laws.proofs.Spells.{spell_none, missed_still, missed_told, spell_still, spell_nudge, spell_enter, spell_table, spell_birth, spell_told, answered_tells}
 
 -- a birth that is not told is of an open Start
 pub born_open : (goal : Goal) (past : List Event) → is_sound goal past ≡ true → (id : List ℕ) (n : ℕ) → answered_of id past ≡ Some (answer.Born n) → open_of id past ≡ Some Start
@@ -65,12 +65,6 @@ start_placed goal past h = sound_ind goal (λ before. (id : List ℕ) → open_o
 -- so a child whose birth is not told is not excluded, and has no spell
 pub newborn_spared : (goal : Goal) (past : List Event) → is_sound goal past ≡ true → (id : List ℕ) (n : ℕ) → answered_of id past ≡ Some (answer.Born n) → is_excluded past (newborn id n past) ≡ false
 newborn_spared goal past sound id n is = placed_spared id n past (start_placed goal past sound id (born_open goal past sound id n is))
-
-pub newborn_unhit : (goal : Goal) (past : List Event) → is_sound goal past ≡ true → (id : List ℕ) (n : ℕ) → answered_of id past ≡ Some (answer.Born n) → spell_hits (newborn id n past) past ≡ []
-newborn_unhit goal past sound id n is = spell_none (newborn id n past) past (newborn_spared goal past sound id n is)
-
-pub newborn_unmissed : (goal : Goal) (past : List Event) → is_sound goal past ≡ true → (id : List ℕ) (n : ℕ) → answered_of id past ≡ Some (answer.Born n) → is_missed (newborn id n past) past ≡ false
-newborn_unmissed goal past sound id n is = missed_none (newborn id n past) past (newborn_spared goal past sound id n is)
 
 -- at a quiet point no signal is open
 quiet_signal : {P : Type 0} (id : List ℕ) (ask : Ask) (past : List Event) → is_quiet past ≡ true → open_of id past ≡ Some ask → is_signal ask ≡ true → P
@@ -242,23 +236,6 @@ table_apart [] h = refl
 table_apart (e ∷ es) h =
     let parts = and_parts (not (list_any (has_id e.id) es)) (is_distinct es) h in
     and_from (not (list_any (same_id e.id) (ids_of es))) (are_apart (ids_of es)) (ap not (ids_listed e.id es) ∙ parts.0) (table_apart es parts.1)
-
--- ids of the table in force, and then some of those that left it
-records_apart : (goal : Goal) (past : List Event) → is_sound goal past ≡ true → (ids : List (List ℕ)) → are_apart ids ≡ true → ((id : List ℕ) → list_any (same_id id) ids ≡ true → list_any (same_id id) (left_ids past) ≡ true) → are_apart (ids_of (table_of past) ++ ids) ≡ true
-records_apart goal past sound ids apart left = apart_append (ids_of (table_of past)) ids (table_apart (table_of past) (sound_holds goal past sound).distinct) apart (λ id there. falsely (list_any (same_id id) ids) (list_any (same_id id) (left_ids past)) (left id) (left_apart goal past sound id (sym (ids_listed id (table_of past)) ∙ there)))
-
--- no id left twice
-pub left_distinct : (goal : Goal) (past : List Event) → is_sound goal past ≡ true → are_apart (left_ids past) ≡ true
-left_distinct goal past h = sound_ind goal (λ before. are_apart (left_ids before) ≡ true) (λ table distinct. refl) next past h where
-  next : (happening : Event) (before : List Event) → may_come goal happening before ≡ true → is_sound goal before ≡ true → are_apart (left_ids before) ≡ true → are_apart (left_ids (happening ∷ before)) ≡ true
-  next (NewTable table) before may sound rest = apart_filter (λ id. not (list_any (has_id id) table)) (ids_of (table_of before) ++ left_ids before) (records_apart goal before sound (left_ids before) rest (λ id there. there))
-  next _ before may sound rest = rest
-
--- no id has two records
-pub ids_distinct : (goal : Goal) (past : List Event) → is_sound goal past ≡ true → are_apart (record_ids past) ≡ true
-ids_distinct goal past sound = records_apart goal past sound (filter kept (left_ids past)) (apart_filter kept (left_ids past) (left_distinct goal past sound)) (λ id. any_filtered (same_id id) kept (left_ids past)) where
-  kept : List ℕ → Bool
-  kept id = has_child id (known_children past)
 
 -- whether an id has a known child after an answer, by whether it had one before
 abbrev pub has_after : Answer → Bool → Bool

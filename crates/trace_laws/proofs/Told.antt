@@ -11,23 +11,23 @@ use Rattle.init_words.specs.declared.orders.Ask.TheVariants.{Start, Look, Term, 
 use Rattle.init_words.specs.declared.orders.Answer.{Answer}
 use Rattle.init_words.specs.declared.orders.Answer.TheVariants as answer
 use Rattle.init_words.specs.Ids.{same_id}
-use Rattle.init_words.specs.Orders.{same_ask, answers}
+use Rattle.init_words.specs.Orders.{answers}
 use Rattle.inittab_text.specs.Tables.{has_id, entry_of, act_of, is_distinct}
 use Rattle.init_trace.specs.declared.happenings.Happening.TheVariants.{NewTable, Asked, Birth, NoBirth, Reaped, Still, NoLook, Hit, Miss, Told}
 use Rattle.init_trace.specs.declared.steps.Goal.{Goal}
 use Rattle.init_trace.specs.Event.{Event}
-use Rattle.init_trace.specs.Past.{table_of, Child, is_of, is_child, has_child, open_of, undone_of, is_untold, open_orders, is_quiet, newborn, unreaped_children, kept_children, known_children}
-use Rattle.init_trace.specs.Wanted.{starts_now, is_order, is_excluded}
+use Rattle.init_trace.specs.Past.{table_of, Child, is_of, is_child, has_child, open_of, undone_of, is_untold, is_quiet, newborn, unreaped_children, kept_children, known_children}
+use Rattle.init_trace.specs.Wanted.{starts_now, is_order}
 use Rattle.init_trace.specs.Answered.{answered_of, child_after}
 use Rattle.init_trace.specs.Lawful.{is_placed}
 use Rattle.init_trace.specs.Sound.{may_come, is_sound}
 use Rattle.init_words.proofs.Same.{same_id-is, same_id-self}
 use Rattle.init_words.proofs.Tests.{both_ways, falsely, or_either, any_filtered, any_less, any_none, find_none}
 use Rattle.trace_laws.proofs.Tests.{is_order-is}
-use Rattle.trace_laws.proofs.Orders.{cleared, undone_is_open, quiet_looks, open_listed, told_same, told_other, reaped_other, told_known}
+use Rattle.trace_laws.proofs.Orders.{cleared, undone_is_open, quiet_looks, told_same, told_other, reaped_other, told_known}
 use Rattle.trace_laws.proofs.Dues.{MayStop}
-use Rattle.trace_laws.proofs.Keeps.{start_undone, look_undone, sound_holds, sound_ind, asked_free, free_told, placed_spared, entry_listed}
-use Rattle.trace_laws.proofs.Births.{sound_step, one_child}
+use Rattle.trace_laws.proofs.Keeps.{start_undone, look_undone, sound_holds, sound_ind, asked_free, free_told, entry_listed}
+use Rattle.trace_laws.proofs.Births.{one_child}
 
 -- an id with no open Start: its kept children are the known ones
 pub kept_known : (goal : Goal) (past : List Event) → is_sound goal past ≡ true → (id : List ℕ) → is_order Start (open_of id past) ≡ false → filter (is_of id) (kept_children past) ≡ filter (is_of id) (known_children past)
@@ -190,19 +190,6 @@ answered_child goal past h = sound_ind goal (λ before. (id : List ℕ) (given :
 -- the child that init knows of after a Told
 pub told_child : (goal : Goal) (past : List Event) → is_sound goal past ≡ true → (id : List ℕ) (given : Answer) → answered_of id past ≡ Some given → find (is_of id) (known_children (Told id ∷ past)) ≡ child_after id past given (find (is_of id) (known_children past))
 told_child goal past h id given is = same_find (is_of id) (known_children (Told id ∷ past)) (unreaped_children past) (told_same id id (unreaped_children past) (known_children past) (same_id-self id)) ∙ answered_child goal past h id given is
-
--- a child that is born is not excluded
-pub newborn_lives : (goal : Goal) (id : List ℕ) (n : ℕ) (past : List Event) → is_sound goal (Birth id n ∷ past) ≡ true → is_excluded (Birth id n ∷ past) (newborn id n past) ≡ false
-newborn_lives goal id n past h =
-    let parts = sound_step goal (Birth id n) past refl h in
-    placed_spared id n past ((sound_holds goal past parts.1).ready id (is_order-is Start (undone_of id past) (start_undone goal id n past parts.0))).placed
-
--- an order of an id is open exactly where it is among the open orders
-pub order_open : (id : List ℕ) (ask : Ask) (past : List Event) → list_any (λ order. same_id id order.id && same_ask ask order.ask) (open_orders past) ≡ is_order ask (open_of id past)
-order_open id ask past = open_listed (same_ask ask) id past ∙ given (open_of id past) where
-  given : (o : Option Ask) → option_map_or (same_ask ask) o false ≡ is_order ask o
-  given None = refl
-  given (Some a) = refl
 
 -- a signal is due to a known child; the entry of a birth stands in the table
 pub stop_known : (id : List ℕ) (ask : Ask) (past : List Event) → MayStop id ask past → has_child id (known_children past) ≡ true

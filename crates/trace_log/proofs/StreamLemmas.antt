@@ -5,11 +5,12 @@ use Rattle.std.proofs.lemmas.Option.{none-some}
 use Rattle.std.specs.Result.{OnOk, OnErr, IfErr}
 use Rattle.std.specs.Io.KnownBytes.{Appends, Keeps}
 use Rattle.init_trace.specs.Event.{Event}
-use Rattle.init_trace.specs.Lines.{event_text, trace_text}
-use Rattle.init_trace.specs.Range.{Begun, is_in_range, are_in_range, BeginsNone}
-use Rattle.init_trace.specs.Reading.{begun}
-use Rattle.init_trace.proofs.LineTexts.{begun-text, text-begun}
-use Rattle.init_trace.proofs.ReadTexts.{begins_one, trace_text-push, are_in_range-push, event_text-some, shorter}
+use Rattle.trace_text.specs.Lines.{event_text, trace_text}
+use Rattle.init_trace.specs.Range.{is_in_range, are_in_range}
+use Rattle.trace_text.specs.Texts.{Begun, BeginsNone}
+use Rattle.trace_text.specs.Reading.{begun}
+use Rattle.trace_text.proofs.LineTexts.{begun-text, text-begun}
+use Rattle.trace_text.proofs.ReadTexts.{begins_one, trace_text-push, are_in_range-push, event_text-some, shorter}
 use Rattle.trace_log.specs.declared.faults.LogFault.{LogFault}
 use Rattle.trace_log.specs.declared.faults.LogFault.TheVariants.{Device, Memory}
 use Rattle.trace_log.specs.Faults.{Leaves}

@@ -2,9 +2,10 @@
 use Rattle.std.specs.Prelude.{◌≡◌, ℕ, zero, suc, Bool, true, false, List, [], ◌∷◌, ◌++◌, length, Option, Some, None, IfSome}
 use Rattle.std.specs.Option.{option_and_then}
 use Rattle.init_trace.specs.Event.{Event}
-use Rattle.init_trace.specs.Lines.{trace_text}
-use Rattle.init_trace.specs.Range.{Begun, are_in_range, BeginsNone}
-use Rattle.init_trace.specs.Reading.{begun}
+use Rattle.trace_text.specs.Lines.{trace_text}
+use Rattle.init_trace.specs.Range.{are_in_range}
+use Rattle.trace_text.specs.Texts.{Begun, BeginsNone}
+use Rattle.trace_text.specs.Reading.{begun}
 use Rattle.trace_log.specs.Logs.{LogState}
 
 -- a log over a writer: the writer, and whether the log has failed

@@ -1,3 +1,5 @@
+//! Why a log did not take a happening.
+
 use init_words::Memory;
 use std::error::Error;
 use std::{fmt, io};

@@ -1,3 +1,5 @@
+//! A log in memory.
+
 ghost use Rattle.std.specs.Prelude.{◌≡◌, ◌++◌, ◌∷◌, [], OnOk, IfErr};
 
 use crate::faults::LogFault;

@@ -1,3 +1,5 @@
+//! The trait of a log: where the happenings of a run go.
+
 ghost use Rattle.std.specs.Prelude.{◌≡◌, true, false, is_err, OnOk, OnErr};
 ghost use Rattle.init_trace.specs.Range.{is_in_range};
 ghost use Rattle.trace_log.specs.Logs.{LogState, Gains, Stays};

@@ -1,6 +1,8 @@
+//! A log that writes the text of a trace as it comes.
+
 ghost use Rattle.std.specs.Prelude.{◌≡◌, OnOk, IfErr};
 ghost use Rattle.std.specs.Io.KnownBytes.{Appends};
-ghost use Rattle.init_trace.specs.Lines.{event_text};
+ghost use Rattle.trace_text.specs.Lines.{event_text};
 ghost use Rattle.trace_log.specs.Faults.{Leaves};
 
 use crate::faults::LogFault;
@@ -61,7 +63,7 @@ impl<W: Write, A: Allocator + Copy> Log for StreamLog<W, A> {
     ghost use Rattle.std.specs.Prelude.{◌≡◌, true, false, is_err, OnOk, OnErr, IfErr};
     ghost use Rattle.std.specs.Io.KnownBytes.{Appends};
     ghost use Rattle.init_trace.specs.Range.{is_in_range};
-    ghost use Rattle.init_trace.specs.Lines.{event_text};
+    ghost use Rattle.trace_text.specs.Lines.{event_text};
     ghost use Rattle.trace_log.specs.Logs.{Gains, Stays};
     ghost use Rattle.trace_log.specs.Faults.{Leaves};
     ghost use Rattle.trace_log.specs.Streams.{stream_state};
@@ -107,7 +109,7 @@ fn write_happening<A: Allocator + Copy, B: Allocator, W: Write>(
     ensures err { IfErr result (λ fault.
         Leaves fault (W.contents out.old) (W.contents out.new) (event_text happening.now)) }
 {
-    let text = init_trace::print_one(alloc, happening)?;
+    let text = trace_text::print_one(alloc, happening)?;
     write_text(out, &text)?;
     Ok(())
 }

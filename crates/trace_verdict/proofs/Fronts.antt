@@ -1,5 +1,5 @@
 -- What stays so when more of a text comes.
-use Rattle.std.proofs.Common.{◌≡◌, ℕ, zero, suc, ◌+◌, ◌-◌, ◌<◌, ◌≤◌, true, false, nat_lt, List, [], ◌∷◌, ◌++◌, length, take, drop, Option, Some, None, option_and_then, refl, sym, ap, ◌∙◌, arith, length-append}
+use Rattle.std.proofs.Common.{◌≡◌, ℕ, zero, suc, ◌+◌, ◌-◌, ◌≤◌, true, false, nat_lt, List, [], ◌∷◌, ◌++◌, length, take, drop, Option, Some, None, option_and_then, refl, sym, ap, ◌∙◌, arith, length-append}
 use Rattle.std.specs.Option.{option_map, option_map_or}
 use Rattle.std.proofs.lemmas.Bool.Decides.{nat_tests}
 use Rattle.std.proofs.lemmas.List.{append_assoc, take-append-drop}
@@ -11,10 +11,11 @@ use Rattle.text_lines.proofs.PieceLemmas.{newlines-append, newlines-none, Front,
 use Rattle.inittab_text.specs.Written.{table_written, table_begun}
 use Rattle.init_trace.specs.declared.happenings.Happening.TheVariants.{NewTable}
 use Rattle.init_trace.specs.Event.{Event}
-use Rattle.init_trace.specs.Lines.{event_text}
-use Rattle.init_trace.specs.Range.{Begun, line_count, is_in_range, BeginsNone}
-use Rattle.init_trace.specs.Reading.{entries_brought, words_in, words_read, begun_by, begun}
-use Rattle.init_trace.proofs.LineTexts.{begun-text, text-begun, newlines-event}
+use Rattle.trace_text.specs.Lines.{event_text}
+use Rattle.init_trace.specs.Range.{is_in_range}
+use Rattle.trace_text.specs.Texts.{Begun, line_count, BeginsNone}
+use Rattle.trace_text.specs.Reading.{entries_brought, words_in, words_read, begun_by, begun}
+use Rattle.trace_text.proofs.LineTexts.{begun-text, text-begun, newlines-event}
 use Rattle.trace_verdict.specs.Fronts.{lines_of, lines_due, is_unfinished}
 
 -- the first line of a longer text
@@ -215,11 +216,6 @@ left_over bytes more at happening begins =
 -- the newlines of a happening, and those behind it
 pub lines_off : (text more : List ℕ) (happening : Event) → is_in_range happening ≡ true → event_text happening ++ more ≡ text → newlines text ≡ line_count happening + newlines more
 lines_off text more happening is begins = ap newlines (sym begins) ∙ newlines-append (event_text happening) more ∙ ap (λ n. n + newlines more) (newlines-event happening is)
-
-pub unfinished_by : (due : ℕ) (text : List ℕ) → due ≤ lines_due text → newlines text < due → is_unfinished text ≡ true
-unfinished_by due text few less = true-lt (newlines text) (lines_due text) (omega (arith, few, less)) where
-  true-lt : (n d : ℕ) → n < d → nat_lt n d ≡ true
-  true-lt n d is = grind (arith, nat_tests)
 
 pub finished_by : (text : List ℕ) → lines_due text ≤ newlines text → is_unfinished text ≡ false
 finished_by text few = false-lt (newlines text) (lines_due text) few

@@ -10,10 +10,11 @@ use Rattle.text_lines.proofs.PieceLemmas.{newlines-append}
 use Rattle.init_trace.specs.declared.happenings.Happening.TheVariants.{NewTable}
 use Rattle.init_trace.specs.Event.{Event}
 use Rattle.init_trace.specs.Lawful.{broken, breach_at, earlier, first_breach}
-use Rattle.init_trace.specs.Lines.{event_text, trace_text}
-use Rattle.init_trace.specs.Range.{line_count, is_in_range, are_in_range, BeginsNone}
-use Rattle.init_trace.proofs.LineTexts.{newlines-event}
-use Rattle.init_trace.proofs.ReadTexts.{trace_text-push, are_in_range-push, newlines-few, shorter}
+use Rattle.trace_text.specs.Lines.{event_text, trace_text}
+use Rattle.init_trace.specs.Range.{is_in_range, are_in_range}
+use Rattle.trace_text.specs.Texts.{line_count, BeginsNone}
+use Rattle.trace_text.proofs.LineTexts.{newlines-event}
+use Rattle.trace_text.proofs.ReadTexts.{trace_text-push, are_in_range-push, newlines-few, shorter}
 use Rattle.trace_check.specs.declared.laws.Law.{Law}
 use Rattle.trace_check.specs.Laws.{law_number}
 use Rattle.trace_check.specs.Judging.{Judging, Judged}
@@ -93,11 +94,6 @@ trace_at Lawful state text not at = at
 trace_at (Breach breach) state text not at = at
 trace_at (Torn number) state text not at = absurd (not number refl)
 
-pub taken_at : (finding : Finding Named) (state : TextState) (text : List ℕ) → is_unfinished state.reading.over ≡ true → AtBy finding state text → TakenBy finding state text
-taken_at Lawful state text short at = (at.0, at.1, short)
-taken_at (Breach breach) state text short at = (at.0, at.1, short)
-taken_at (Torn number) state text short at = at
-
 -- a piece more
 torn_more : (text piece : List ℕ) (number : ℕ) → IsTorn text number → IsTorn (text ++ piece) number
 torn_more text piece number torn = record {
@@ -110,29 +106,10 @@ torn_more text piece number torn = record {
   none = none_more torn.rest piece torn.finished torn.none;
 }
 
-read_more : (old new : TextState) (trace : List Event) (text piece : List ℕ) → new ≡ record old { reading = record old.reading { over = old.reading.over ++ piece } } → HasRead old trace text → HasRead new trace (text ++ piece)
-read_more old new trace text piece is read = subst (λ s. HasRead s trace (text ++ piece)) (sym is) (record {
-  are = read.are;
-  whole = sym (append_assoc (trace_text trace) old.reading.over piece) ∙ ap (λ t. t ++ piece) read.whole;
-  lines = read.lines;
-  place = read.place;
-  found = read.found;
-})
-
-pub fed : (finding : Finding Named) (old new : TextState) (text piece : List ℕ) → new ≡ record old { reading = record old.reading { over = old.reading.over ++ piece } } → TakenBy finding old text → AtBy finding new (text ++ piece)
-fed Lawful old new text piece is taken = (taken.0, read_more old new taken.0 text piece is taken.1)
-fed (Breach breach) old new text piece is taken = (taken.0, read_more old new taken.0 text piece is taken.1)
-fed (Torn number) old new text piece is taken = torn_more text piece number taken
-
 pub still_torn : (finding : Finding Named) (state : TextState) (text piece : List ℕ) (number : ℕ) → finding ≡ Torn number → TakenBy finding state text → AtBy finding state (text ++ piece)
 still_torn (Torn n) state text piece number is taken = torn_more text piece n taken
 still_torn Lawful state text piece number is taken = absurd (cc)
 still_torn (Breach breach) state text piece number is taken = absurd (cc)
-
-pub torn_taken : (finding : Finding Named) (state : TextState) (text : List ℕ) (number : ℕ) → finding ≡ Torn number → AtBy finding state text → TakenBy finding state text
-torn_taken (Torn n) state text number is at = at
-torn_taken Lawful state text number is at = absurd (cc)
-torn_taken (Breach breach) state text number is at = absurd (cc)
 
 -- a happening more
 pub read_next : (old new : TextState) (trace : List Event) (text : List ℕ) (h : Event) → length text < 2 ^ 64 → HasRead old trace text → ReadsNext old.reading new.reading (Some h) → new.place ≡ capped (old.place + 1) → IsFound new.finding new.judging (trace ++ h ∷ []) → HasRead new (trace ++ h ∷ []) text

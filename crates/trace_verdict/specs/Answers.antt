@@ -4,7 +4,7 @@ use Rattle.std.specs.Option.{option_map_or}
 use Rattle.text_lines.specs.Lines.{newlines}
 use Rattle.init_trace.specs.Event.{Event}
 use Rattle.init_trace.specs.Lawful.{first_breach}
-use Rattle.init_trace.specs.Lines.{event_text, trace_text}
+use Rattle.trace_text.specs.Lines.{event_text, trace_text}
 use Rattle.trace_check.specs.declared.laws.Law.{Law}
 use Rattle.trace_check.specs.Faults.{fault_at}
 use Rattle.trace_verdict.specs.declared.findings.Finding.{Finding}

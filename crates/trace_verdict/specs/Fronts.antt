@@ -3,9 +3,10 @@ use Rattle.std.specs.Prelude.{◌≡◌, ℕ, ◌+◌, Bool, true, false, nat_lt
 use Rattle.std.specs.Option.{option_map_or}
 use Rattle.text_lines.specs.Lines.{cut, newlines}
 use Rattle.init_trace.specs.Event.{Event}
-use Rattle.init_trace.specs.Lines.{trace_text}
-use Rattle.init_trace.specs.Range.{are_in_range, BeginsNone}
-use Rattle.init_trace.specs.Reading.{entries_brought, words_in}
+use Rattle.trace_text.specs.Lines.{trace_text}
+use Rattle.init_trace.specs.Range.{are_in_range}
+use Rattle.trace_text.specs.Texts.{BeginsNone}
+use Rattle.trace_text.specs.Reading.{entries_brought, words_in}
 
 -- how many lines the happening has that begins with this one: its own, and one for each entry that it brings
 abbrev pub lines_of : List ℕ → ℕ

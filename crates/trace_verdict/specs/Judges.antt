@@ -2,7 +2,7 @@
 use Rattle.std.specs.Prelude.{◌≡◌, ℕ, Bool, true, false, List, ◌++◌, length, reverse, Option, None}
 use Rattle.text_lines.specs.Lines.{newlines}
 use Rattle.init_trace.specs.Event.{Event}
-use Rattle.init_trace.specs.Lines.{trace_text}
+use Rattle.trace_text.specs.Lines.{trace_text}
 use Rattle.init_trace.specs.Range.{are_in_range}
 use Rattle.trace_check.specs.Judging.{Judging, Judged}
 use Rattle.trace_verdict.specs.declared.findings.Finding.{Finding}

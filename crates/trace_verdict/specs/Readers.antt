@@ -1,10 +1,11 @@
 -- A reader of a text that comes in pieces.
 use Rattle.std.specs.Prelude.{◌≡◌, ℕ, ◌+◌, ◌-◌, ◌^◌, min, true, false, List, ◌++◌, Option, Some, None}
-use Rattle.init_trace.specs.declared.reading.ReadFault.{ReadFault}
-use Rattle.init_trace.specs.declared.reading.ReadFault.TheVariants as fault
+use Rattle.trace_text.specs.declared.reading.ReadFault.{ReadFault}
+use Rattle.trace_text.specs.declared.reading.ReadFault.TheVariants as fault
 use Rattle.init_trace.specs.Event.{Event}
-use Rattle.init_trace.specs.Lines.{event_text}
-use Rattle.init_trace.specs.Range.{line_count, is_in_range, BeginsNone}
+use Rattle.trace_text.specs.Lines.{event_text}
+use Rattle.init_trace.specs.Range.{is_in_range}
+use Rattle.trace_text.specs.Texts.{line_count, BeginsNone}
 use Rattle.trace_verdict.specs.Fronts.{is_unfinished}
 
 -- what it has not read, and how many lines it has read, as far as numbers go

@@ -1,3 +1,5 @@
+//! What is found of the text of a trace.
+
 ghost use Rattle.std.specs.Prelude.{◌≡◌};
 
 use std::alloc::{Allocator, Global};

@@ -1,8 +1,10 @@
+//! How many lines the first happening of a text has.
+
 ghost use Rattle.std.specs.Prelude.{◌≡◌};
 ghost use Rattle.trace_verdict.specs.Fronts.{lines_due, lines_of};
 
-use init_trace::words::read_use;
 use text_lines::cut;
+use trace_text::words::read_use;
 
 /// How many lines the happening has that begins with this one.
 fn lines_of(line: &[u8]) -> usize

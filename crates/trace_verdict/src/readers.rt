@@ -1,12 +1,15 @@
-ghost use Rattle.std.specs.Prelude.{◌≡◌, ◌≤◌, drop, length, List, ◌++◌, [], OnOk, OnErr, IfOk, IfErr, option_map};
+//! A reader of happenings over a text that comes in pieces.
+
+ghost use Rattle.std.specs.Prelude.{◌≡◌, ◌≤◌, drop, length, ◌++◌, [], OnOk, OnErr, IfOk, IfErr, option_map};
 ghost use Rattle.trace_verdict.specs.Fronts.{line_left};
 ghost use Rattle.trace_verdict.specs.Readers.{capped, ReadsNext, ReadsNone};
 
 use crate::lines::lines_due;
-use init_trace::{HappeningIn, ReadFault, first_happening, line_count};
+use init_trace::HappeningIn;
 use std::alloc::{AllocError, Allocator};
 use std::marker::Model;
 use text_lines::newlines;
+use trace_text::{ReadFault, first_happening, line_count};
 
 /// A reader of the happenings of a text that comes in pieces. It keeps what it has not read.
 ///

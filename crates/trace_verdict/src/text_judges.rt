@@ -1,7 +1,9 @@
+//! The judge of the text of a trace that comes in pieces.
+
 ghost use Rattle.std.specs.Prelude.{◌≡◌, ◌^◌, ◌<◌, ◌+◌, List, ℕ, ◌++◌, [], ◌∷◌, length, true, option_map, IfOk, OnOk};
 ghost use Rattle.text_lines.specs.Lines.{newlines};
 ghost use Rattle.init_trace.specs.Event.{Event};
-ghost use Rattle.init_trace.specs.Lines.{trace_text};
+ghost use Rattle.trace_text.specs.Lines.{trace_text};
 ghost use Rattle.trace_verdict.specs.Fronts.{line_left};
 ghost use Rattle.trace_verdict.specs.Readers.{capped};
 ghost use Rattle.trace_verdict.specs.Answers.{Answers};
@@ -9,11 +11,12 @@ ghost use Rattle.trace_verdict.specs.Judges.{GoesOn, HasTaken, IsAt, IsFound, le
 
 use crate::findings::{Breach, Finding};
 use crate::readers::TextReader;
-use init_trace::{HappeningIn, ReadFault, print_one};
+use init_trace::HappeningIn;
 use init_words::Memory;
 use std::alloc::{Allocator, Global};
 use std::marker::Model;
 use trace_check::TraceJudge;
+use trace_text::{ReadFault, print_one};
 
 /// A judge of the text of a trace that comes in pieces, cut anywhere.
 ///

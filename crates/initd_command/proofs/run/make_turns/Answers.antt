@@ -2,6 +2,7 @@ use Rattle.std.proofs.Common.{◌≡◌, refl, sym, ap, subst, [], reverse, Some
 use Rattle.run_notes.specs.Notes.{notes_state}
 use Rattle.judged_log.specs.Judgements.{Finds, JudgedTrace}
 use Rattle.initd_options.specs.Options.{run_of}
+use Rattle.waiting_lines.specs.Lines.{waiting_text}
 use Rattle.initd_command.specs.Services.{IsServed, end_of, judgement_for, noted_of}
 use Rattle.initd_command.proofs.Noted.{found_for, judged_for, turns_over}
 use Rattle.initd_command.proofs.run.make_turns.Goals as goal
@@ -9,7 +10,7 @@ use Rattle.initd_command.proofs.run.make_turns.Goals as goal
 pub returns-clause-turns : goal.returns-clause-turns
 returns-clause-turns g c =
     let service = run_of c.args.said.now in
-    let noted = noted_of c.end_log-served.new.notes c.judgement_for.result in
+    let noted = noted_of c.end_log-served.new.notes (waiting_text c.serve.result.1) c.judgement_for.result in
     let asked : is_some c.judgement_for.result ≡ service.judge =
     subst (λ j. is_some j ≡ service.judge) (sym c.judgement_for.ensures) (judged_for service c.judgement-found.result) in (
       end_of service noted c.end_log-served.result,
@@ -18,7 +19,7 @@ returns-clause-turns g c =
         c.end_log-served.result,
         noted,
         refl,
-        subst (IsServed service) (sym c.end_log-served.ensures.turns) (c.serve-served.ensures.most, c.serve-served.ensures.fewer),
+        subst (IsServed service) (sym c.end_log-served.ensures.turns) (c.serve.ensures.most, c.serve.ensures.fewer),
         asked,
       ),
       c.report_end.ensures.reported,
@@ -27,7 +28,7 @@ returns-clause-turns g c =
 pub returns-clause-told : goal.returns-clause-told
 returns-clause-told g c = λ level table opens.
     let service = run_of c.args.said.now in
-    let judged = c.serve-served.new.log.log in
+    let judged = c.serve.new.log.log in
     let nothing : Some (reverse c.new-judged.result.came) ≡ Some [] = ap (λ (j : JudgedTrace _). Some (reverse j.came)) c.new-judged.ensures in
     let asked : is_some c.judgement_for.result ≡ service.judge =
     subst (λ j. is_some j ≡ service.judge) (sym c.judgement_for.ensures) (judged_for service c.judgement-found.result) in
@@ -35,8 +36,8 @@ returns-clause-told g c = λ level table opens.
     subst (λ j. IfSome j (λ found. Finds found judged.came)) (sym c.judgement_for.ensures)
     (found_for service c.judgement-found.result judged.came
     (subst (λ log. Finds c.judgement-found.result log.came) c.log.ensures c.judgement-found.ensures.found)) in
-    turns_over c.serve-served.new.log c.end_log-served.new.notes judged.came (g.L.Log.state judged.log).failed c.judgement_for.result
+    turns_over c.serve.new.log c.end_log-served.new.notes judged.came (g.L.Log.state judged.log).failed c.serve.result.1 c.judgement_for.result
     (notes_state c.new-notes.result (record { taken = Some (reverse c.new-notes.result.log.came); failed = (g.L.Log.state c.new-notes.result.log.log).failed }))
-    service level table c.serve-served.result c.end_log-served.result _ _ _ _ _ c.end_log-served.ensures.notes c.end_log-served.ensures.turns c.end_log-served.ensures.logged
-    (c.new-notes.ensures.told nothing) c.serve-served.ensures.logged
-    (c.serve-served.ensures.most, c.serve-served.ensures.fewer) asked found c.report_end.ensures.status c.report_end.ensures.reported (c.serve-served.ensures.trace level table opens)
+    service level table c.serve.result.0 c.end_log-served.result _ _ _ _ _ c.end_log-served.ensures.notes c.end_log-served.ensures.turns c.end_log-served.ensures.logged
+    (c.new-notes.ensures.told nothing) c.serve.ensures.logged
+    (c.serve.ensures.most, c.serve.ensures.fewer) asked found c.report_end.ensures.status c.report_end.ensures.reported (c.serve.ensures.trace level table opens)

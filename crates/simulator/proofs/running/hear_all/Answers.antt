@@ -1,9 +1,10 @@
 use Rattle.std.proofs.Common.{rules, ◌≡◌, ◌≢◌, ◌++◌, ◌+◌, ◌<◌, ◌≤◌, [], true, Err, length, ap, arith}
 use Rattle.std.proofs.lemmas.Grind.{common_steps}
 use Rattle.std.proofs.lemmas.List.{nil_from_length}
-use Rattle.init_trace.specs.Lines.{event_text}
-use Rattle.init_trace.specs.Range.{is_in_range, BeginsNone}
-use Rattle.init_trace.proofs.ReadTexts.{lines_within}
+use Rattle.trace_text.specs.Lines.{event_text}
+use Rattle.init_trace.specs.Range.{is_in_range}
+use Rattle.trace_text.specs.Texts.{BeginsNone}
+use Rattle.trace_text.proofs.ReadTexts.{lines_within}
 use Rattle.simulator.specs.declared.running.SimFault.TheVariants as fault
 use Rattle.init_words.proofs.Tests.{err_is}
 use Rattle.simulator.proofs.Whole.{so_far_next, heard_ends, unread_ends, memory_ends, all_done}

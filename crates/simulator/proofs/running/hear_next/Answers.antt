@@ -1,6 +1,6 @@
 use Rattle.std.proofs.Common.{rules, ◌≡◌, Err, ◌++◌, ◌∷◌, sym, ◌∙◌, refl, inl}
 use Rattle.std.proofs.KnownBytes.{Appends-trans, Keeps-refl}
-use Rattle.init_trace.specs.Lines.{event_text}
+use Rattle.trace_text.specs.Lines.{event_text}
 use Rattle.init_words.proofs.Tests.{err_is}
 use Rattle.simulator.specs.declared.running.SimFault.TheVariants as fault
 use Rattle.simulator.proofs.Moves.{err_then, leaves_behind, run_hears}

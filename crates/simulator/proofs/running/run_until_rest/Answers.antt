@@ -1,6 +1,6 @@
 use Rattle.std.proofs.Common.{rules, ◌≡◌, Err, ◌++◌, ◌∷◌, ap, ◌∙◌}
 use Rattle.std.proofs.KnownBytes.{Appends-trans}
-use Rattle.init_trace.specs.Lines.{event_text}
+use Rattle.trace_text.specs.Lines.{event_text}
 use Rattle.trace_laws.proofs.Runs.{run_sound}
 use Rattle.simulator.specs.declared.running.SimFault.TheVariants as fault
 use Rattle.init_words.proofs.Tests.{err_is}

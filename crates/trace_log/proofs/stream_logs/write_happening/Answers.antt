@@ -1,6 +1,6 @@
 use Rattle.std.proofs.Common.{rules, ◌≡◌, Err, List, ℕ, subst}
 use Rattle.program_io.specs.Writing.{AppendsFront}
-use Rattle.init_trace.specs.Lines.{event_text}
+use Rattle.trace_text.specs.Lines.{event_text}
 use Rattle.init_words.proofs.Tests.{err_is}
 use Rattle.trace_log.specs.declared.faults.LogFault.TheVariants as fault
 use Rattle.trace_log.proofs.stream_logs.write_happening.Goals as goal

@@ -1,7 +1,7 @@
 use Rattle.std.proofs.Common.{◌≡◌, ◌∙◌, ◌+◌, sym, ap, subst, refl, Some, option_map, reverse, length}
 use Rattle.init_trace.specs.Lawful.{broken}
 use Rattle.text_lines.specs.Lines.{newlines}
-use Rattle.init_trace.specs.Lines.{event_text, trace_text}
+use Rattle.trace_text.specs.Lines.{event_text, trace_text}
 use Rattle.trace_check.specs.Laws.{law_number}
 use Rattle.trace_check.specs.Judging.{Judged}
 use Rattle.trace_verdict.specs.Answers.{Named}

@@ -6,7 +6,7 @@ use Rattle.child_table.proofs.Changed.{timely_enter}
 use Rattle.child_table.specs.Counting.{counts_of}
 use Rattle.child_table.proofs.Counted.{same_counts}
 use Rattle.child_table.proofs.Found.{all_written}
-use Rattle.child_table.specs.Indexing.{child_of, termed_of}
+use Rattle.child_table.specs.Indexing.{termed_of}
 use Rattle.child_table.proofs.Indexes.{same_index}
 use Rattle.child_table.proofs.records.Slots.entered.Goals as goal
 
@@ -16,8 +16,7 @@ invariant_of-self g c =
       left.own,
       left.timely CLOCK_LIMIT (λ s kept. timely_enter CLOCK_LIMIT s kept) (rw c.self.view_is at c.self.invariant.1),
       c.self.invariant.2 ∙ ap counts_of c.self.view_is ∙ same_counts after_enter (λ s. refl) (λ s. refl) c.args.self.now ∙ sym (ap counts_of left.values),
-      same_index child_of after_enter (λ s. refl) c.self.inside.children c.self.view_is left.values c.self.invariant.3,
-      same_index termed_of after_enter (λ s. refl) c.self.inside.termed c.self.view_is left.values c.self.invariant.4,
+      same_index termed_of after_enter (λ s. refl) c.self.inside.termed c.self.view_is left.values c.self.invariant.3,
     )
 
 pub returns : goal.returns

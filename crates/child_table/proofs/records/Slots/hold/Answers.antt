@@ -7,7 +7,7 @@ use Rattle.child_table.specs.Changes.{after_hold}
 use Rattle.child_table.specs.Counting.{counts_of}
 use Rattle.child_table.proofs.Counted.{same_changed}
 use Rattle.child_table.proofs.Found.{absent_in, written}
-use Rattle.child_table.specs.Indexing.{child_of, termed_of}
+use Rattle.child_table.specs.Indexing.{termed_of}
 use Rattle.child_table.proofs.Indexes.{same_index_at}
 use Rattle.child_table.proofs.records.Slots.hold.Goals as goal
 
@@ -22,8 +22,7 @@ invariant_of-self g c =
       left.own,
       left.timely CLOCK_LIMIT (λ s kept. kept) (rw c.self.view_is at c.self.invariant.1),
       c.self.invariant.2 ∙ ap counts_of c.self.view_is ∙ same_changed c.args.id (after_hold c.args.now) (λ s. refl) (λ s. refl) c.args.self.now ∙ sym (ap counts_of left.values),
-      same_index_at child_of c.args.id (after_hold c.args.now) (λ s. refl) c.self.inside.children c.self.view_is left.values c.self.invariant.3,
-      same_index_at termed_of c.args.id (after_hold c.args.now) (λ s. refl) c.self.inside.termed c.self.view_is left.values c.self.invariant.4,
+      same_index_at termed_of c.args.id (after_hold c.args.now) (λ s. refl) c.self.inside.termed c.self.view_is left.values c.self.invariant.3,
     )
 
 pub returns : goal.returns

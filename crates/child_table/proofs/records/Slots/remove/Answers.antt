@@ -3,8 +3,8 @@ use Rattle.init_words.specs.Ids.{same_id}
 use Rattle.respawn_limit.specs.declared.TheConstants.{CLOCK_LIMIT}
 use Rattle.child_table.proofs.Counted.{found_within, removed_counts}
 use Rattle.child_table.proofs.Found.{found_in, removed}
-use Rattle.child_table.specs.Indexing.{child_of, termed_of}
-use Rattle.child_table.proofs.Keys.{own_child, own_termed}
+use Rattle.child_table.specs.Indexing.{termed_of}
+use Rattle.child_table.proofs.Keys.{own_termed}
 use Rattle.child_table.proofs.Indexes.{removed_index}
 use Rattle.child_table.proofs.records.Slots.remove.Goals as goal
 
@@ -17,8 +17,7 @@ invariant_of-self g c =
       left.own,
       left.timely CLOCK_LIMIT (rw c.self.view_is at c.self.invariant.1),
       rw (c.subtract.ensures, c.of.ensures, c.self.invariant.2, c.shift_remove.ensures.entries) (removed_counts (same_id c.args.id) c.in-Some.slot c.self.inside.records.entries (sym c.in-Some.ensures.value)),
-      removed_index child_of own_child c.args.id c.self.inside.children c.forget.new.items c.self.view_is left.values c.forget.ensures.items c.forget.ensures.sorted c.forget.ensures.room c.self.invariant.3,
-      removed_index termed_of own_termed c.args.id c.self.inside.termed c.forget-in-Some.new.items c.self.view_is left.values c.forget-in-Some.ensures.items c.forget-in-Some.ensures.sorted c.forget-in-Some.ensures.room c.self.invariant.4,
+      removed_index termed_of own_termed c.args.id c.self.inside.termed c.forget.new.items c.self.view_is left.values c.forget.ensures.items c.forget.ensures.sorted c.forget.ensures.room c.self.invariant.3,
     )
 
 pub returns-in-Some : goal.returns-in-Some

@@ -1,6 +1,7 @@
 use Rattle.std.proofs.Common.{rules, ◌≡◌, ◌-◌, ◌≤◌, ℕ, List, ◌++◌, true, drop, length, refl, arith}
-use Rattle.init_trace.specs.Lines.{event_text}
-use Rattle.init_trace.specs.Range.{is_in_range, BeginsNone}
+use Rattle.trace_text.specs.Lines.{event_text}
+use Rattle.init_trace.specs.Range.{is_in_range}
+use Rattle.trace_text.specs.Texts.{BeginsNone}
 use Rattle.trace_verdict.specs.Fronts.{lines_due}
 use Rattle.trace_verdict.proofs.Fronts.{due_some, left_over, lines_off, finished_by}
 use Rattle.trace_verdict.proofs.readers.TextReader.next.Goals as goal

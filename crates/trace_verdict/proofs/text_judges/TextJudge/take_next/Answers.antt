@@ -1,8 +1,8 @@
 use Rattle.std.proofs.Common.{rules, ◌≡◌, ◌+◌, false, Some, ◌++◌, ◌∷◌, [], refl}
 use Rattle.text_lines.specs.Lines.{newlines}
-use Rattle.init_trace.specs.Lines.{trace_text}
-use Rattle.init_trace.specs.Range.{BeginsNone}
-use Rattle.init_trace.proofs.ReadTexts.{shorter}
+use Rattle.trace_text.specs.Lines.{trace_text}
+use Rattle.trace_text.specs.Texts.{BeginsNone}
+use Rattle.trace_text.proofs.ReadTexts.{shorter}
 use Rattle.trace_verdict.specs.Fronts.{is_unfinished}
 use Rattle.trace_verdict.specs.Readers.{capped, ReadsNext}
 use Rattle.trace_verdict.specs.Judges.{TextState, IsFound}

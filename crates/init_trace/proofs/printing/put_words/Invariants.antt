@@ -1,7 +1,0 @@
-use Rattle.std.proofs.Common.{◌≡◌, ◌++◌, map, drop}
-use Rattle.init_trace.specs.Lines.{words_behind}
-use Rattle.init_trace.proofs.printing.put_words.Given as goal
-
--- what is there, and the words that are left, make the whole
-abbrev pub invariant-loop-word : goal.invariant-loop-word
-invariant-loop-word g l = l.text.items ++ words_behind (map (λ word. word.now) (drop l.word-index l.words)) ≡ l.fn.text.items ++ words_behind (map (λ word. word.now) l.words)

@@ -1,9 +1,0 @@
-use Rattle.std.proofs.Common.{refl, sym}
-use Rattle.text_lines.proofs.PieceLemmas.{pieces_of-cut, pieces_of-whole}
-use Rattle.init_trace.proofs.words.read_use.Goals as goal
-
-pub returns-in-Some : goal.returns-in-Some
-returns-in-Some c = rw (pieces_of-cut 32 c.args.line.now c.in-Some.word.now c.in-Some.rest.now (sym c.in-Some.ensures)) c.read_count.ensures
-
-pub returns-in-None : goal.returns-in-None
-returns-in-None c = rw (pieces_of-whole 32 c.args.line.now (sym c.in-None.ensures)) refl

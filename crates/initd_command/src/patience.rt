@@ -1,0 +1,58 @@
+//! What is said, on request, of a level that isn't settled for long: what init waits for.
+
+use init_words::Stage;
+use level_core::Core;
+use std::alloc::Global;
+use std::str;
+use supervisor::Watch;
+use waiting_lines::waiting_lines;
+
+/// How long a stage may go on unsettled, in seconds, before it is said what it waits for.
+const PATIENCE: u64 = 60;
+
+/// Says on standard error, where it is to, what a stage waits for that has gone on for a minute and is not announced
+/// settled; and again after each further minute.
+#[derive(Drop)]
+pub(crate) struct Patience<'a, R> {
+    rt: &'a R,
+    alloc: Global,
+    is_asked: bool,
+    stage: Option<Stage>,
+    /// The time, in seconds, from which on the stage has been unsettled, or its last lines were said.
+    since: u64,
+}
+
+impl<'a, R> Patience<'a, R> {
+    pub(crate) fn new(rt: &'a R, alloc: Global, is_asked: bool) -> Patience<'a, R> {
+        Patience {
+            rt,
+            alloc,
+            is_asked,
+            stage: None,
+            since: 0,
+        }
+    }
+
+    /// The stage has gone on unsettled for a minute more.
+    fn is_over(&mut self, core: &Core) -> bool {
+        let heads = core.heads();
+        let is_same = heads.stage == self.stage && !heads.announced;
+        if is_same && heads.time.saturating_sub(self.since) < PATIENCE {
+            return false;
+        }
+        self.stage = heads.stage;
+        self.since = heads.time;
+        is_same
+    }
+}
+
+impl<'a, R: Eprint> Watch<Global> for Patience<'a, R> {
+    fn look(&mut self, core: &Core) {
+        if !self.is_asked || !self.is_over(core) {
+            return;
+        }
+        if let Ok(lines) = waiting_lines(self.alloc, core) {
+            let _ = eprint!(self.rt; "{}", str::from_utf8(&lines).unwrap_or(""));
+        }
+    }
+}

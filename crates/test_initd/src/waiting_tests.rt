@@ -1,0 +1,56 @@
+//! What a run reports that init waits for at the limit of turns, over hosts that answer late, or never.
+
+use child_host::Reply;
+use init_words::{Answer, ChildNo};
+use initd_command::make_turns;
+use initd_options::{Words, read_words};
+use memory_host::MemoryHost;
+use std::test::Fail;
+use supervisor::Opening;
+use test_support::line_words;
+use trace_log::ListLog;
+
+/// An inittab, what the host answers to the starts, and what is reported behind the limit of turns.
+const WAITS: &[(&[u8], &[Reply], &[u8])] = &[
+    (
+        b"w:3:wait:x\n",
+        &[Reply::Later],
+        b"initd: level 3 waits for an answer about w\n",
+    ),
+    (
+        b"o:3:once:x\nw:3:wait:y\n",
+        &[Reply::Later, Reply::Now(Answer::Born(ChildNo(7)))],
+        b"initd: still running: w 7\ninitd: level 3 waits for an answer about o\n\
+          initd: level 3 waits for w: init waits for its end (7)\n",
+    ),
+    (
+        b"b::boot:x\nw:3:wait:y\n",
+        &[Reply::Later],
+        b"initd: boot waits for an answer about b\n",
+    ),
+];
+
+#[test]
+fn what_init_waits_for_is_reported(rt: HostRuntime) -> Result<(), Fail> {
+    let alloc = rt.alloc();
+    for (inittab, replies, lines) in WAITS {
+        let words = line_words(alloc, "run --level 3 --turns 2")?;
+        let Ok(Words::Run(said)) = read_words(alloc, words.as_slice()) else {
+            return Err(Fail::from("no run"));
+        };
+        let Ok((table, _)) = inittab_text::read(alloc, inittab) else {
+            return Err(Fail::from("no table"));
+        };
+        let mut host = MemoryHost::new(alloc);
+        for reply in *replies {
+            host.give_start(*reply)?;
+        }
+        let mut err = Vec::new(alloc);
+        let opening = Opening::new(alloc, table, None)?;
+        let log = ListLog::new(alloc);
+        make_turns(&rt, alloc, &said, opening, &mut host, log, &mut err);
+        let report = err.strip_prefix(b"initd: the limit of turns is reached\n");
+        assert!(rt; report == Some(*lines), "{err:?}");
+    }
+    Ok(())
+}

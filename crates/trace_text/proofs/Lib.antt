@@ -1,0 +1,3 @@
+pub mod LineTexts
+pub mod LineWords
+pub mod ReadTexts

@@ -1,0 +1,16 @@
+use Rattle.std.proofs.Common.{◌≡◌, ◌+◌, ◌++◌, true, length}
+use Rattle.text_lines.specs.Lines.{newlines}
+use Rattle.trace_text.specs.Lines.{trace_text}
+use Rattle.init_trace.specs.Range.{are_in_range}
+use Rattle.trace_text.proofs.reading.read.Given as goal
+
+-- the text is that of the trace so far and what is left, whose first line has the number
+abbrev pub invariant-loop-rest : goal.invariant-loop-rest
+invariant-loop-rest g l = record {
+  are : are_in_range l.trace.items ≡ true;
+  whole : trace_text l.trace.items ++ l.rest ≡ l.text;
+  counted : l.number ≡ newlines (trace_text l.trace.items) + 1;
+}
+
+abbrev pub decreases-loop-rest : goal.decreases-loop-rest
+decreases-loop-rest g l = length l.rest

@@ -1,0 +1,38 @@
+-- The text of a trace as it is read: what begins it, and where a text is that of none.
+use Rattle.std.specs.Prelude.{◌≡◌, ◌≢◌, ℕ, true, ◌+◌, List, [], ◌++◌, length}
+use Rattle.text_lines.specs.Lines.{newlines}
+use Rattle.init_trace.specs.declared.happenings.Happening.TheVariants.{NewTable}
+use Rattle.init_trace.specs.Event.{Event}
+use Rattle.init_trace.specs.Range.{is_in_range, are_in_range}
+use Rattle.trace_text.specs.Lines.{event_text, trace_text}
+use Rattle.trace_text.specs.declared.reading.ReadFault.{ReadFault}
+use Rattle.trace_text.specs.declared.reading.ReadFault.TheVariants as fault
+
+-- a happening and the text after it
+abbrev pub Begun : Type 0
+Begun = Event × List ℕ
+
+-- how many lines a happening has: its own, and one for each entry of its table
+abbrev pub line_count : Event → ℕ
+line_count (NewTable table) = length table + 1
+line_count _ = 1
+
+-- the text begins with no happening's text
+abbrev pub BeginsNone : List ℕ → Type 0
+BeginsNone text =
+    (happening : Event) (more : List ℕ) → is_in_range happening ≡ true → event_text happening ++ more ≢ text
+
+-- the text is that of a trace up to its line of this number, counted from 1, and no happening begins there
+pub record Stops (text : List ℕ) (number : ℕ) : Type 0 where
+  pub trace : List Event
+  pub rest : List ℕ
+  pub are : are_in_range trace ≡ true
+  pub whole : trace_text trace ++ rest ≡ text
+  pub counted : number ≡ newlines (trace_text trace) + 1
+  pub some : rest ≢ []
+  pub none : BeginsNone rest
+
+-- why a text is not read
+abbrev pub Unread : List ℕ → ReadFault → Type 0
+Unread text (fault.Line number) = Stops text number
+Unread text fault.Memory = Unit {0}

@@ -1,0 +1,140 @@
+//! The text of a trace, read happening by happening.
+
+ghost use Rattle.std.specs.Prelude.{◌≡◌, ◌∷◌, List, true, Some, option_map, IfOk, IfErr, IfSome, IfNone, OnOk, ◌++◌, []};
+ghost use Rattle.std.specs.Result.{MatchResult};
+ghost use Rattle.init_trace.specs.Event.{Event};
+ghost use Rattle.trace_text.specs.Lines.{event_text, trace_text};
+ghost use Rattle.init_trace.specs.Range.{is_in_range, are_in_range};
+ghost use Rattle.trace_text.specs.Texts.{Begun, line_count, BeginsNone, Unread};
+ghost use Rattle.trace_text.specs.Reading.{begun, use_begun};
+
+use crate::words::{read_line, read_use};
+use init_trace::{Happening, HappeningIn};
+use init_words::Memory;
+use inittab_text::table_begun;
+use std::alloc::{AllocError, Allocator};
+use text_lines::cut;
+use thiserror::Error;
+
+/// Why the text of a trace is not read.
+#[derive(Clone, Copy, Debug, PartialEq, Eq, Error)]
+pub enum ReadFault {
+    /// No happening's text begins at the line of this number, counted from 1.
+    #[error("line {0} begins no happening's text")]
+    Line(u64),
+    /// Out of memory.
+    #[error("out of memory")]
+    Memory,
+}
+
+impl From<Memory> for ReadFault {
+    ghost use Rattle.std.specs.Prelude.{◌≡◌};
+    ghost use Rattle.trace_text.specs.declared.reading.ReadFault.TheVariants.{Memory};
+
+    ghost from_gives = { λ _ fault. fault ≡ Memory };
+
+    fn from(_error: Memory) -> ReadFault {
+        ReadFault::Memory
+    }
+}
+
+impl From<AllocError> for ReadFault {
+    ghost use Rattle.std.specs.Prelude.{◌≡◌};
+    ghost use Rattle.trace_text.specs.declared.reading.ReadFault.TheVariants.{Memory};
+
+    ghost from_gives = { λ _ fault. fault ≡ Memory };
+
+    fn from(_error: AllocError) -> ReadFault {
+        ReadFault::Memory
+    }
+}
+
+/// A happening, and the text after it.
+type Found<'a, A> = Option<(HappeningIn<A>, &'a [u8])>;
+
+/// The table of the next given number of lines of a text.
+fn first_table<A: Allocator + Copy>(
+    alloc: A,
+    count: usize,
+    text: &[u8],
+) -> Result<Found<'_, A>, Memory>
+    ensures { IfOk result (λ found.
+        option_map (λ parts. (parts.0, parts.1.now)) found ≡ use_begun count text.now) }
+{
+    let found = table_begun(alloc, count, text)?;
+    Ok(found.map(|(table, rest)| (Happening::NewTable(table), rest)))
+}
+
+fn first_by_words<A: Allocator + Copy>(alloc: A, text: &[u8]) -> Result<Found<'_, A>, Memory>
+    ensures { IfOk result (λ found.
+        option_map (λ parts. (parts.0, parts.1.now)) found ≡ begun text.now) }
+{
+    let Some((line, rest)) = cut(b'\n', text) else {
+        return Ok(None);
+    };
+    match read_use(line) {
+        Some(count) => first_table(alloc, count, rest),
+        None => Ok(read_line(line).map(|happening| (happening, rest))),
+    }
+}
+
+/// The first happening of a text, and the text after it; None where the text begins with that of no happening. The
+/// lines of a table belong to its `use`.
+pub fn first_happening<A: Allocator + Copy>(
+    alloc: A,
+    text: &[u8],
+) -> Result<Option<(HappeningIn<A>, &[u8])>, Memory>
+    ensures found { IfOk result (λ found. IfSome found (λ parts.
+        (is_in_range parts.0 ≡ true) × (event_text parts.0 ++ parts.1.now ≡ text.now))) }
+    // No other happening begins the text.
+    ensures only { IfOk result (λ found. (happening : Event) (more : List _)
+        → is_in_range happening ≡ true → event_text happening ++ more ≡ text.now
+        → option_map {U = Begun} (λ parts. (parts.0, parts.1.now)) found ≡ Some (happening, more)) }
+    ensures none { IfOk result (λ found. IfNone found (BeginsNone text.now)) }
+{
+    first_by_words(alloc, text)
+}
+
+/// How many lines a happening has: its own, and one for each entry of its table.
+pub fn line_count<A: Allocator>(happening: &HappeningIn<A>) -> u64
+    ensures { result ≡ line_count happening.now }
+{
+    match happening {
+        Happening::NewTable(table) => table.len() as u64 + 1,
+        _ => 1,
+    }
+}
+
+fn keep<A: Allocator>(
+    trace: &mut Vec<HappeningIn<A>, A>,
+    happening: HappeningIn<A>,
+) -> Result<(), AllocError>
+    ensures { OnOk result (trace.new.items ≡ trace.old.items ++ happening ∷ []) }
+{
+    trace.push(happening)?;
+    Ok(())
+}
+
+/// The happenings of a trace's text, the oldest first: those that print as this text. A text that is no trace's is
+/// refused with the number of the first line at which no happening begins (`Line`).
+pub fn read<A: Allocator + Copy>(alloc: A, text: &[u8]) -> Result<Vec<HappeningIn<A>, A>, ReadFault>
+    ensures read { IfOk result (λ trace.
+        (are_in_range trace.items ≡ true) × (trace_text trace.items ≡ text.now)) }
+    // No other trace has the text, and one that has it is read.
+    ensures only { (trace : List Event) → are_in_range trace ≡ true → trace_text trace ≡ text.now
+        → MatchResult result (λ got. got.items ≡ trace) (λ fault. fault ≡ ReadFault.Memory) }
+    ensures unread { IfErr result (λ fault. Unread text.now fault) }
+{
+    let mut trace = Vec::new(alloc);
+    let mut rest = text;
+    let mut number = 1;
+    while !rest.is_empty() {
+        let Some((happening, more)) = first_happening(alloc, rest)? else {
+            return Err(ReadFault::Line(number));
+        };
+        number += line_count(&happening);
+        keep(&mut trace, happening)?;
+        rest = more;
+    }
+    Ok(trace)
+}
