@@ -1,3 +1,5 @@
+//! The calls that init makes of its host, and the answers that they get.
+
 ghost use Rattle.std.specs.Prelude.{◌≡◌, [], IfOk};
 
 use crate::parts::PartList;

@@ -1,3 +1,5 @@
+//! Which answers say that a call failed, and how often a count of calls may fail.
+
 ghost use Rattle.std.specs.Prelude.{◌≡◌};
 ghost use Rattle.child_host.specs.Calls.{HasCause, counted, is_failed_answer, is_failed_reply, is_failed_late};
 

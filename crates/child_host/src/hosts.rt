@@ -1,3 +1,5 @@
+//! The host: what init asks of the system, call by call.
+
 ghost use Rattle.std.specs.Prelude.{◌≡◌, ◌≤◌, ℕ, List, Option, IfOk, length, is_err, false};
 ghost use Rattle.child_host.specs.Calls.{HostCall, Adds, HasCause};
 ghost use Rattle.child_host.specs.Calls.{is_failed_reply, is_failed_late, text_read, parts_read, front_read};

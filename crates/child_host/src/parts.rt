@@ -1,3 +1,5 @@
+//! The texts of an inittab of several files, copied and kept.
+
 ghost use Rattle.std.specs.Prelude.{◌≡◌, [], IfOk};
 
 use init_words::{Memory, Part};

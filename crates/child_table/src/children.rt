@@ -1,3 +1,5 @@
+//! A child as its record knows it, and how far its stop has come.
+
 use init_words::{Act, ChildNo};
 
 /// A child that init knows of.

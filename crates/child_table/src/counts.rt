@@ -1,3 +1,5 @@
+//! Numbers of records that no step has to count again.
+
 ghost use Rattle.std.specs.Prelude.{◌≡◌, [], ◌∷◌, is_some};
 ghost use Rattle.std.specs.List.{count_by};
 ghost use Rattle.child_table.specs.State.{SlotState};

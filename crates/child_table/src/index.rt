@@ -1,3 +1,5 @@
+//! An index of the records that were sent TERM, by the time at which KILL is due.
+
 ghost use Rattle.std.specs.Prelude.{◌≡◌, ◌≤◌, ◌+◌, Bool, if◌then◌else◌, nat_lt, true, false, length, OnOk};
 ghost use Rattle.std.specs.List.{count_by};
 ghost use Rattle.std.specs.List.Sorted.{IsPartitionPoint};

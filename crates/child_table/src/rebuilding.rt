@@ -1,3 +1,5 @@
+//! Records made again of their plain values.
+
 ghost use Rattle.std.specs.Prelude.{◌≡◌, true, IfOk};
 ghost use Rattle.respawn_limit.specs.declared.TheConstants.{CLOCK_LIMIT};
 ghost use Rattle.child_table.specs.Lists.{are_distinct};

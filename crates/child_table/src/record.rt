@@ -1,3 +1,5 @@
+//! The record of one inittab entry: its child, its order under way, its starts, its hold.
+
 ghost use Rattle.std.specs.Prelude.{◌≡◌, ◌≤◌, length, is_some, true, option_copied};
 ghost use Rattle.std.specs.List.Sorted.{IsNonDecreasing};
 ghost use Rattle.respawn_limit.specs.declared.TheConstants.{STARTS, CLOCK_LIMIT};

@@ -1,3 +1,5 @@
+//! All records of init, in the order of the inittab.
+
 ghost use Rattle.std.specs.Prelude.{◌≡◌, ◌≤◌, ◌++◌, [], ◌∷◌, not, is_some, map, length, slice_get, option_copied, IfOk, IfSome, OnOk, OnErr, None, true};
 ghost use Rattle.init_words.specs.declared.orders.Ask.{Ask};
 ghost use Rattle.respawn_limit.specs.declared.TheConstants.{CLOCK_LIMIT};

@@ -1,3 +1,5 @@
+//! The agreement: what the records say, corrected by answers under way, is what lives.
+
 ghost use Rattle.std.specs.Prelude.{◌≡◌, ◌≤◌, ◌+◌, ℕ, IsTrue, false, ◌&&◌, List, ◌∷◌, ◌++◌, filter, length};
 ghost use Rattle.std.specs.List.{list_any, list_all};
 ghost use Rattle.init_words.specs.declared.orders.Ask.TheVariants.{Start, Term, Kill};

@@ -1,3 +1,5 @@
+//! Each act of a core is one that the rules of the trace allow.
+
 ghost use Rattle.std.specs.Prelude.{IsTrue, List, ◌∷◌};
 ghost use Rattle.init_trace.specs.declared.steps.Goal.{Goal};
 ghost use Rattle.init_trace.specs.Event.{Event};

@@ -1,3 +1,5 @@
+//! What was asked of init and hasn't been acted on: a level, a power command, letters, a reading, a re-execution.
+
 ghost use Rattle.std.specs.Prelude.{◌≡◌, true, false};
 ghost use Rattle.core_model.specs.News.{keeps_kind, keeps_call, with_kind, with_call, has_news, first_news, no_news};
 

@@ -1,3 +1,5 @@
+//! The plain values that a core is written as, and made again of.
+
 ghost use Rattle.std.specs.Prelude.{◌≡◌};
 ghost use Rattle.core_model.specs.Parts.{record_of};
 

@@ -1,3 +1,5 @@
+//! Copies of happenings.
+
 ghost use Rattle.std.specs.Prelude.{◌≡◌, IfOk};
 
 use crate::happenings::{Happening, HappeningIn};

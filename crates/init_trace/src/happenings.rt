@@ -1,3 +1,5 @@
+//! What happens in a run: steps of init, answers of its host, requests, readings, hand-overs.
+
 use init_words::{Ask, ChildNo, Id, Letter, Level, PowerKind, Stage, Status};
 use initctl_frame::Got;
 use inittab_text::Table;

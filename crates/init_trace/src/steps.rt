@@ -1,3 +1,5 @@
+//! The steps of init, and the goal that it works at.
+
 use init_words::{Ask, Id, Letter, Level, PowerKind, Stage};
 
 /// What init does next.

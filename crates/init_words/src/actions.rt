@@ -1,3 +1,5 @@
+//! The actions of inittab(5), and what each of them means for its process.
+
 ghost use Rattle.std.specs.Prelude.{◌≡◌};
 ghost use Rattle.init_words.specs.Actions.{word_of, act_read, starts_by, lives_by, waited_by, ignores_levels, default_levels, has_process, needs_process, is_called_by, is_ondemand, stays_called, wanted_by, is_limited, served_by};
 

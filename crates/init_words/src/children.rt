@@ -1,3 +1,5 @@
+//! The number of a child, and the status that it ended with.
+
 use std::marker::Model;
 
 /// The number that the system gave a child.

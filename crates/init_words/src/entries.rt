@@ -1,3 +1,5 @@
+//! An entry of the inittab: id, runlevels, action, process.
+
 ghost use Rattle.std.specs.Prelude.{◌≡◌, ◌≤◌, length};
 ghost use Rattle.init_words.specs.Levels.{names};
 ghost use Rattle.init_words.specs.Entries.{without_plus, starts_of, lives_of, waited_of};

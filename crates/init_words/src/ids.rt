@@ -1,3 +1,5 @@
+//! Ids of inittab entries: one to eight letters, digits and signs.
+
 ghost use Rattle.std.specs.Prelude.{◌≡◌, ◌≤◌, ◌-◌, ◌++◌, length, replicate, IsTrue};
 ghost use Rattle.std.specs.List.{list_all};
 ghost use Rattle.init_words.specs.Ids.{is_id, is_id_byte, id_read};

@@ -1,3 +1,5 @@
+//! Runlevels, the letters of ondemand entries, and the marks of an entry's runlevels field.
+
 ghost use Rattle.std.specs.Prelude.{◌≡◌, not};
 ghost use Rattle.init_words.specs.Levels.{level_code, level_read, letter_code, letter_read, same_level, names};
 

@@ -1,3 +1,5 @@
+//! How long a child has between TERM and KILL.
+
 /// The seconds between the two signals that stop a child, where nothing else is asked for (init(8)).
 pub const GRACE: u16 = 5;
 

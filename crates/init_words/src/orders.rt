@@ -1,3 +1,5 @@
+//! What init asks its host to do for a record, what is answered, and the signals.
+
 ghost use Rattle.std.specs.Prelude.{◌≡◌};
 ghost use Rattle.init_words.specs.Orders.{answers};
 

@@ -1,3 +1,5 @@
+//! One file of an inittab: its name and its text.
+
 use std::alloc::{Allocator, Global};
 use std::marker::Model;
 

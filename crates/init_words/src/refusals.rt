@@ -1,3 +1,5 @@
+//! Why a call changed nothing.
+
 use std::alloc::{AllocError, AllocFailed};
 use std::error::Error;
 use std::fmt;

@@ -1,3 +1,5 @@
+//! One request of initreq.h: 384 bytes, decoded and encoded.
+
 ghost use Rattle.std.specs.Prelude.{◌≡◌, ◌+◌, ◌-◌, ◌≤◌, ◌++◌, ℕ, List, length, replicate};
 ghost use Rattle.initctl_frame.specs.Signs.{got_of_sign};
 ghost use Rattle.initctl_frame.specs.Frames.{block_of, block_of_ints, got_of, got_of_command, got_of_ints, got_of_runlevel, int_at, meaning_of, power_command, seconds_of};

@@ -1,3 +1,5 @@
+//! What a block is, by the bytes of its parts.
+
 ghost use Rattle.std.specs.Prelude.{◌≡◌, ◌++◌, ◌<◌, ℕ, List, All, length, flat_map};
 ghost use Rattle.initctl_frame.specs.declared.frames.TheConstants.{BLOCK};
 ghost use Rattle.initctl_frame.specs.Blocks.{blocks_of, over_of};

@@ -1,3 +1,5 @@
+//! Requests read from bytes that come piece by piece.
+
 ghost use Rattle.std.specs.Prelude.{◌≡◌, ◌≤◌, ◌++◌, ℕ, List, length, flat_map};
 ghost use Rattle.std.specs.Option.{option_to_list};
 ghost use Rattle.initctl_frame.specs.Blocks.{Stands, gots_of};

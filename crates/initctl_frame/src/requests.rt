@@ -1,3 +1,5 @@
+//! What a request asks for, and why one counts for nothing.
+
 use crate::signs::Sign;
 use init_words::{Letter, Level, PowerKind};
 

@@ -1,3 +1,5 @@
+//! The sign that a runlevel request carries: a runlevel, a letter, a reading, a re-execution.
+
 ghost use Rattle.std.specs.Prelude.{◌≡◌, true};
 ghost use Rattle.initctl_frame.specs.Signs.{is_sign, sign_read};
 

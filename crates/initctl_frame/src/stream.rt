@@ -1,3 +1,5 @@
+//! The bytes of a channel, cut into blocks.
+
 ghost use Rattle.std.specs.Prelude.{◌≡◌, ◌↔◌, ◌+◌, ◌-◌, ◌<◌, ◌≤◌, ◌++◌, ℕ, List, [], length, take, min, IsSome};
 ghost use Rattle.std.specs.Option.{option_to_list};
 

@@ -1,3 +1,5 @@
+//! Words of options, read and refused.
+
 ghost use Rattle.std.specs.Prelude.{◌≡◌, option_map, string_bytes, IfErr, IfOk, IfSome, IsSome, None, Some};
 ghost use Rattle.clap.specs.Words.{first_of, found_of, rows_of};
 ghost use Rattle.command_words.specs.Faults.{reason_of};

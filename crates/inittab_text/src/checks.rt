@@ -1,3 +1,5 @@
+//! What makes a line of the inittab a comment, a fault or an entry.
+
 ghost use Rattle.std.specs.Prelude.{◌≡◌, ◌≤◌, Some, length};
 ghost use Rattle.text_lines.specs.Lines.{has_byte};
 ghost use Rattle.inittab_text.specs.Lines.{fields_at, is_ignored};

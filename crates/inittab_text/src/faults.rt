@@ -1,3 +1,5 @@
+//! What is wrong with a line, a file or a whole inittab, in words.
+
 use init_words::Memory;
 use std::alloc::AllocFailed;
 use std::error::Error;

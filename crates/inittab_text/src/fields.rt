@@ -1,3 +1,5 @@
+//! A line of the inittab, cut at its colons.
+
 ghost use Rattle.std.specs.Prelude.{◌≡◌};
 ghost use Rattle.std.specs.Option.{option_map};
 

@@ -1,3 +1,5 @@
+//! What is kept of the fields of a line: marks, runlevels, the process without its sign.
+
 ghost use Rattle.std.specs.Prelude.{◌≡◌, ◌<◌, ◌≤◌, false, length};
 ghost use Rattle.arrayvec.specs.ArrayVec.{array_vec_len};
 ghost use Rattle.init_words.specs.Levels.{mark_read};

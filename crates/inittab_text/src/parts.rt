@@ -1,3 +1,5 @@
+//! An inittab of several files, read as one table.
+
 ghost use Rattle.std.specs.Prelude.{◌≡◌, ◌≤◌, ◌++◌, ◌↔◌, map, length, IfOk, OnOk, IfErr, IsErrOf, nat_lt};
 ghost use Rattle.text_lines.specs.Lines.{lines_of};
 ghost use Rattle.init_words.specs.Parts.{texts_of};

@@ -1,3 +1,5 @@
+//! The text of an inittab, read line by line (inittab(5)).
+
 ghost use Rattle.std.specs.Prelude.{◌≡◌, ◌≢◌, ◌<◌, ◌≤◌, ◌++◌, ◌∷◌, [], ◌↔◌, false, Err, map, length, IfOk, IfErr, OnOk, IsErrOf};
 ghost use Rattle.text_lines.specs.Lines.{has_byte, lines_of};
 ghost use Rattle.inittab_text.specs.Checks.{verdict_of};

@@ -1,3 +1,5 @@
+//! The entries of an inittab, in their order, found by id.
+
 ghost use Rattle.std.specs.Prelude.{◌≡◌, ℕ, List, None, length, slice_get, option_copied, OnOk, OnErr, ◌++◌, [], ◌∷◌};
 ghost use Rattle.init_words.specs.declared.entries.Entry.{Entry};
 ghost use Rattle.inittab_text.specs.Tables.{first_level, default_of};

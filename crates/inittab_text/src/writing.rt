@@ -1,3 +1,5 @@
+//! A table as the text of an inittab.
+
 ghost use Rattle.std.specs.Prelude.{◌≡◌, ◌≤◌, ◌++◌, ◌∷◌, [], length, take, IfOk, OnOk, OnErr, map};
 ghost use Rattle.init_words.specs.Levels.{mark_code};
 ghost use Rattle.inittab_text.specs.declared.reading.TheConstants.{TEXT_LIMIT};

@@ -1,3 +1,5 @@
+//! A table that was written, read again: one faulty line refuses it.
+
 ghost use Rattle.std.specs.Prelude.{◌≡◌, ◌≢◌, List, option_map, Some, false, true, IfOk, IfSome, IfNone, OnOk};
 ghost use Rattle.init_words.specs.declared.entries.Entry.{Entry};
 ghost use Rattle.text_lines.specs.Lines.{has_byte};

@@ -1,3 +1,5 @@
+//! The way of a cycle among needs, told name by name.
+
 ghost use Rattle.std.specs.Prelude.{◌≡◌, ◌<◌, ◌≤◌, ◌++◌, ℕ, List, [], ◌∷◌, Some, None, is_some, if◌then◌else◌, length, get_or, set, drop, take, IfOk, OnOk, IfSome, IsPermutation};
 ghost use Rattle.link_numbers.specs.Numbering.{AllBelow, AreSteps, InRange, IsCycle, IsRing};
 ghost use Rattle.link_numbers.specs.Passes.{AreBlockers, IsStuck};

@@ -1,3 +1,5 @@
+//! Places in the order of their numbers.
+
 ghost use Rattle.std.specs.Prelude.{◌≡◌, ◌<◌, ℕ, IfOk, IfErr, IfSome, IfNone, length, get_or};
 ghost use Rattle.link_numbers.specs.Numbering.{AllBelow, HasNoNumbering, InRange, IsCycle, IsLeast};
 

@@ -1,3 +1,5 @@
+//! The least numbers that meet all needs, found by passes.
+
 ghost use Rattle.std.specs.Prelude.{◌≡◌, ◌+◌, ◌<◌, ◌≤◌, ℕ, true, false, if◌then◌else◌, ◌==◌, length, get_or, IfOk};
 ghost use Rattle.link_numbers.specs.Numbering.{InRange};
 ghost use Rattle.link_numbers.specs.Passes.{AreHeights, IsPartial, IsStuck, raised, settled};

@@ -1,3 +1,5 @@
+//! The lines of a header, held to LSB Core 5.0 one after another.
+
 ghost use Rattle.std.specs.Prelude.{◌≡◌, ◌<◌, ◌+◌, ◌^◌, [], None, length, OnOk, IfErr};
 ghost use Rattle.std.specs.List.{list_any};
 ghost use Rattle.lsb_header.specs.Faults.{IsDue};

@@ -1,3 +1,5 @@
+//! What is wrong with a header, in words.
+
 use crate::keywords::Keyword;
 use init_words::Memory;
 use std::alloc::AllocFailed;

@@ -1,3 +1,5 @@
+//! The forms that a line of a header can have.
+
 ghost use Rattle.std.specs.Prelude.{◌≡◌};
 ghost use Rattle.std.specs.Option.{option_map};
 ghost use Rattle.lsb_header.specs.Forms.{args_in, body_of, field_of, is_empty_comment, is_indented, is_line, is_wide, is_word, known_of};

@@ -1,3 +1,5 @@
+//! The keywords of a header.
+
 ghost use Rattle.std.specs.Prelude.{◌≡◌};
 ghost use Rattle.std.specs.Str.{str_eq_ignore_ascii_case};
 ghost use Rattle.lsb_header.specs.Keywords.{keyword_read, same_keyword, word_of};

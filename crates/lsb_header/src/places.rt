@@ -1,3 +1,5 @@
+//! The lines behind a header's first one.
+
 ghost use Rattle.std.specs.Prelude.{◌≡◌, ◌+◌, ◌≤◌, ◌<◌, ◌^◌, length, IfSome};
 ghost use Rattle.std.specs.Option.{option_map};
 ghost use Rattle.lsb_header.specs.Blocks.{block_in};

@@ -1,3 +1,5 @@
+//! Texts in memory by their paths, for tests and examples.
+
 ghost use Rattle.std.specs.Prelude.{◌≡◌, ◌∷◌, ◌++◌, [], OnOk, OnErr};
 ghost use Rattle.path_texts.specs.Known.{kept_at};
 

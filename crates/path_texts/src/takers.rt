@@ -1,3 +1,5 @@
+//! Whoever takes a text in pieces.
+
 ghost use Rattle.std.specs.Prelude.{◌≡◌, ◌^◌, ◌<◌, ◌++◌, [], List, ℕ, length, IfSome, OnOk};
 
 use std::alloc::AllocError;

@@ -1,3 +1,5 @@
+//! Where programs read the texts of paths from.
+
 ghost use Rattle.std.specs.Prelude.{◌≡◌, ◌^◌, ◌<◌, [], List, ℕ, length, IfOk, IfErr, IsSome, OnOk};
 ghost use Rattle.std.specs.IoError.{error_kind};
 ghost use Rattle.path_texts.specs.Known.{IsTextAt, KnownTexts};

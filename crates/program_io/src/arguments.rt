@@ -1,3 +1,5 @@
+//! The words that a program was called with, and what is said where they can't be had.
+
 ghost use Rattle.std.specs.Prelude.{◌≡◌, ◌≢◌};
 ghost use Rattle.std.specs.IoError.{error_kind};
 ghost use Rattle.program_io.specs.Arguments.{no_memory_text, only_byte};

@@ -1,3 +1,5 @@
+//! The exit statuses of the programs.
+
 /// Exit status: what the words ask for was done.
 pub const DONE: u8 = 0;
 /// Exit status: the words, or what they name, were refused.

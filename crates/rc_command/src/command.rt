@@ -1,3 +1,5 @@
+//! The command line of rc.
+
 ghost use Rattle.std.specs.Prelude.{◌≡◌, map, string_bytes, IfErr, IfOk, IsSome};
 ghost use Rattle.clap.specs.Words.{FailsBy, fault_of, found_of, matches_of, rows_of};
 ghost use Rattle.command_words.specs.CommandLines.{IsLine};

@@ -1,3 +1,5 @@
+//! Where the links of a runlevel are read from.
+
 ghost use Rattle.std.specs.Prelude.{◌≡◌, map, string_bytes, IfOk, IfErr, IsSome};
 ghost use Rattle.std.specs.IoError.{error_kind};
 ghost use Rattle.rc_command.specs.Folders.{AreNamesAt, ArePrevious, KnownNames, folder_of};

@@ -1,3 +1,5 @@
+//! Folders in memory, for tests.
+
 ghost use Rattle.std.specs.Prelude.{◌≡◌, ◌∷◌, ◌++◌, [], OnOk, OnErr};
 ghost use Rattle.rc_command.specs.Folders.{kept_in};
 

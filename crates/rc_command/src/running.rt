@@ -1,3 +1,5 @@
+//! rc at work: the scripts of two runlevels' links, stopped and started over a host.
+
 ghost use Rattle.std.specs.Prelude.{◌≡◌, ◌≢◌, ◌⊎◌, true, false, codes, IsSome, List, map, string_bytes};
 ghost use Rattle.child_host.specs.Calls.{HostCall};
 ghost use Rattle.child_host.specs.Record.{Since};

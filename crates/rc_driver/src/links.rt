@@ -1,3 +1,5 @@
+//! Which links of a runlevel's folder are run, and in which order.
+
 ghost use Rattle.std.specs.Prelude.{◌≡◌, ◌++◌, ◌∷◌, [], map, string_bytes, drop, IfOk, OnOk};
 ghost use Rattle.std.specs.List.{filter, list_all};
 ghost use Rattle.rc_driver.specs.Links.{has_link, is_link, is_link_like, is_name};

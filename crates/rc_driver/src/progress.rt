@@ -1,3 +1,5 @@
+//! How far one script has come: ordered, started, looked at, ended.
+
 ghost use Rattle.std.specs.Prelude.{◌≡◌, true, false, IfNone, IfSome};
 ghost use Rattle.child_host.specs.Record.{Since};
 ghost use Rattle.rc_driver.specs.Parts.{Begins, EndsEarly, Goes, GoneTo, is_born};

@@ -1,3 +1,5 @@
+//! The scripts of a change of runlevel, one after another.
+
 ghost use Rattle.std.specs.Prelude.{◌≡◌, ◌++◌, false, true, map, string_bytes, IfOk, OnOk, OnErr};
 ghost use Rattle.rc_driver.specs.Runs.{rc_run, scripts_of, texts_of, with_arg};
 ghost use Rattle.rc_driver.specs.Steps.{Steps};

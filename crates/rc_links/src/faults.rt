@@ -1,3 +1,5 @@
+//! Why init scripts can't be planned, in words.
+
 use init_words::Memory;
 use std::alloc::{AllocFailed, Allocator, Global};
 use std::error::Error;

@@ -1,3 +1,5 @@
+//! Names of init scripts and facilities.
+
 ghost use Rattle.std.specs.Prelude.{◌≡◌};
 ghost use Rattle.std.specs.List.{list_all};
 ghost use Rattle.rc_links.specs.Names.{is_name, is_name_byte};

@@ -1,3 +1,5 @@
+//! Which scripts have to come before which, at the start and at the stop.
+
 ghost use Rattle.std.specs.Prelude.{string_bytes, ◌≡◌, ◌++◌, [], OnOk, IfOk, length, map};
 ghost use Rattle.std.specs.List.{cons_option};
 ghost use Rattle.std.specs.Option.{option_map};

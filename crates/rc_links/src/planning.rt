@@ -1,3 +1,5 @@
+//! The number of each script, or why there is none.
+
 ghost use Rattle.std.specs.Prelude.{◌≡◌, ◌≤◌, ◌<◌, ◌++◌, ◌∷◌, [], IfOk, IfErr, IfSome, IfNone, None, OnOk, length, map, string_bytes};
 ghost use Rattle.std.specs.List.{AllByRecursion};
 ghost use Rattle.link_numbers.specs.Numbering.{AllBelow, HasNoNumbering, IsCycle};

@@ -1,3 +1,5 @@
+//! A plan: each script with its start and stop numbers.
+
 ghost use Rattle.std.specs.Prelude.{◌≡◌, string_bytes, find, IfSome, IfNone};
 ghost use Rattle.std.specs.Option.{option_map};
 ghost use Rattle.std.specs.Str.{bytes_eq};

@@ -1,3 +1,5 @@
+//! The links of a plan, a runlevel's folder a line.
+
 ghost use Rattle.std.specs.Prelude.{◌≡◌, ◌++◌, map, flat_map, [], ◌∷◌, IfOk, OnOk};
 ghost use Rattle.rc_links.specs.Links.{AddsLinks, has_level, in_byte_order, level_text, link_line, link_of, linked_name, plan_text, start_links, stop_links};
 

@@ -1,3 +1,5 @@
+//! An init script: its name and its header.
+
 ghost use Rattle.std.specs.Prelude.{◌≡◌, string_bytes};
 
 use lsb_header::Header;

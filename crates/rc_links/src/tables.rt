@@ -1,3 +1,5 @@
+//! Which script provides which name, and which names nothing provides.
+
 ghost use Rattle.std.specs.Prelude.{◌≡◌, [], string_bytes, Some, find, map, None, IfErr, IfOk, OnOk};
 ghost use Rattle.std.specs.Option.{option_map};
 ghost use Rattle.rc_links.specs.Faults.{IsDouble, IsMissing, Says};

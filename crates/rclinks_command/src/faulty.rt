@@ -1,3 +1,5 @@
+//! Which scripts have a fault that leaves them out of a plan.
+
 ghost use Rattle.std.specs.Prelude.{◌≡◌, ◌<◌, ◌||◌, ◌&&◌, true, IfSome, length, map, string_bytes};
 ghost use Rattle.std.specs.List.{list_any};
 ghost use Rattle.rc_links.specs.Scripts.{has_name, has_script};

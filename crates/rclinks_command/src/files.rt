@@ -1,3 +1,5 @@
+//! The scripts and facility files that paths lead to.
+
 ghost use Rattle.std.specs.Prelude.{◌≡◌, true, false, None, Err, IfOk, IfErr, IfSome, string_bytes};
 ghost use Rattle.lsb_header.specs.Headers.{frame_fault};
 ghost use Rattle.rc_links.specs.Names.{is_name};

@@ -1,3 +1,5 @@
+//! All files of a command line, read; what can't be read is told.
+
 ghost use Rattle.std.specs.Prelude.{◌≡◌, [], map, string_bytes, IfOk, OnOk};
 ghost use Rattle.rclinks_command.specs.Reading.{Reads, ReadsOne};
 

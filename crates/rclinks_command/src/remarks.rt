@@ -1,3 +1,5 @@
+//! Warnings: what stands in a header and counts for nothing.
+
 use init_words::Level;
 use lsb_header::{Header, Keyword, begun, block_line, known_of};
 use std::io::Write;

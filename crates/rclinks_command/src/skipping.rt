@@ -1,3 +1,5 @@
+//! The plan of what is left where faulty scripts are left out.
+
 ghost use Rattle.std.specs.Prelude.{◌≡◌, ◌<◌, ◌+◌, ◌++◌, IfOk, IfErr, length, take, drop};
 ghost use Rattle.rc_links.specs.Plans.{IsPlan, IsRefused};
 ghost use Rattle.rclinks_command.specs.Skipping.{LeavesSome};

@@ -1,3 +1,5 @@
+//! Who needs what: the faults of a plan, told with names and paths.
+
 use crate::faulty::{has_name, is_provided};
 use rc_links::{PlanFault, Script};
 use std::io::Write;

@@ -1,3 +1,5 @@
+//! Blanks and tabs: found, and cut off.
+
 ghost use Rattle.std.specs.Prelude.{◌≡◌};
 ghost use Rattle.std.specs.List.{list_all, list_any as any};
 ghost use Rattle.text_lines.specs.Lines.{is_blank, skip_blanks, trim, trim_end};

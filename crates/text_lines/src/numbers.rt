@@ -1,3 +1,5 @@
+//! Numbers in decimal digits, read.
+
 ghost use Rattle.std.specs.Prelude.{◌≡◌, ◌^◌};
 ghost use Rattle.std.specs.Str.{bytes_eq};
 ghost use Rattle.text_lines.specs.Numbers.{number_read};

@@ -1,3 +1,5 @@
+//! Words between blanks.
+
 ghost use Rattle.std.specs.Prelude.{◌≡◌, ◌<◌, ◌≤◌, ◌∷◌, [], length, IfSome, IfNone};
 ghost use Rattle.std.specs.Str.{IsUtf8};
 ghost use Rattle.text_lines.specs.Lines.{word_length, words_of};
