@@ -19,8 +19,8 @@ use Rattle.command_words.specs.Faults.{usage_report}
 -- done; the words are no command line, and why, or memory ran out; the file of a path was not read, and why; the inittab
 -- has too many files; the run over this script ended before its end; the writer could not be flushed; a trace is lawful,
 -- or unlawful, of which this is told, and its last happening isn't finished at this line, if at any; its line of this
--- number is none; the verdict could not be written; the channel of a run over the operating system is in use, or was not
--- locked, and why; its turns ended so, where nothing names its level or something does; the file of its trace was not
+-- number is none; the verdict could not be written; the channel of a run over the operating system is in use, by whom
+-- where that is known, or two of its files are one, or the channel was not locked, and why; its turns ended so, where nothing names its level or something does; the file of its trace was not
 -- created, and why; the faults of its inittab could not be written; the version could not be
 pub data Ending : Type 0 where
   done : Ending
@@ -34,7 +34,8 @@ pub data Ending : Type 0 where
   unlawful : List ℕ → Option ℕ → Ending
   torn : ℕ → Ending
   unwritten : Ending
-  busy : List ℕ → Ending
+  busy : List ℕ → Option ℕ → Ending
+  shared : List ℕ → List ℕ → Ending
   unlocked : List ℕ → List ℕ → Ending
   turned : Bool → End → Ending
   uncreated : List ℕ → List ℕ → Ending
@@ -60,7 +61,8 @@ status_of (lawful left) = DONE
 status_of (unlawful message left) = UNLAWFUL
 status_of (torn line) = REFUSED
 status_of unwritten = DEVICE_FAULT
-status_of (busy path) = DEVICE_FAULT
+status_of (busy path holder) = DEVICE_FAULT
+status_of (shared one other) = REFUSED
 status_of (unlocked path why) = DEVICE_FAULT
 status_of (turned unled end) = end_status end
 status_of (uncreated path why) = DEVICE_FAULT
@@ -94,10 +96,18 @@ unfinished_message line =
     codes "initd: the happening at trace line " ++ decimal line
     ++ codes " is not finished: judged up to the line before it\n"
 
-abbrev pub busy_message : List ℕ → List ℕ
-busy_message path =
+-- by the number of the process that holds it, where that is known
+abbrev pub busy_message : List ℕ → Option ℕ → List ℕ
+busy_message path None =
     codes "initd: " ++ path
     ++ codes " is in use by another initd run: end that one, or give another --initctl\n"
+busy_message path (Some holder) =
+    codes "initd: " ++ path ++ codes " is in use by initd run " ++ decimal holder
+    ++ codes ": end that one, or give another --initctl\n"
+
+abbrev pub shared_message : List ℕ → List ℕ → List ℕ
+shared_message one other =
+    codes "initd: " ++ one ++ codes " and " ++ other ++ codes " are one file: give each its own\n"
 
 abbrev pub unlocked_message : List ℕ → List ℕ → List ℕ
 unlocked_message path why = codes "initd: cannot lock " ++ path ++ codes ": " ++ why ++ codes "\n"
@@ -126,7 +136,8 @@ Reports (unlawful message left) old new =
     (mid : Option (List ℕ)) × AppendsPrefix old mid message × ReportsLeft left mid new
 Reports (torn line) old new = ReportsText (torn_message line) old new
 Reports unwritten old new = AppendsPrefix old new UNWRITTEN.now
-Reports (busy path) old new = ReportsText (busy_message path) old new
+Reports (busy path holder) old new = ReportsText (busy_message path holder) old new
+Reports (shared one other) old new = ReportsText (shared_message one other) old new
 Reports (unlocked path why) old new = ReportsText (unlocked_message path why) old new
 Reports (turned unled end) old new = (mid : Option (List ℕ)) × ReportsUnled unled old mid × ReportsEnd end mid new
 Reports (uncreated path why) old new = ReportsText (created_message path why) old new

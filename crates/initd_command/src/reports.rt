@@ -1,9 +1,9 @@
 //! Messages about files and faults.
 
-ghost use Rattle.std.specs.Prelude.{◌≡◌, true, ℕ, List, OnOk, OnErr, string_bytes, IfOk, ◌++◌};
+ghost use Rattle.std.specs.Prelude.{◌≡◌, true, ℕ, List, None, Some, OnOk, OnErr, string_bytes, IfOk, ◌++◌};
 ghost use Rattle.std.specs.Io.KnownBytes.{Appends};
 ghost use Rattle.program_io.specs.Writing.{AppendsPrefix};
-ghost use Rattle.initd_command.specs.Endings.{busy_message, created_message, fault_message, fault_status, file_message, reason_message, unlocked_message};
+ghost use Rattle.initd_command.specs.Endings.{busy_message, created_message, fault_message, fault_status, file_message, reason_message, shared_message, unlocked_message};
 ghost use Rattle.initd_command.specs.Turned.{ReportsText};
 
 use crate::lines::{line_at, line_told};
@@ -127,18 +127,52 @@ fn created_message_with(alloc: Global, path: &str, why: &str) -> Result<String, 
     format!(in alloc; "initd: cannot create {path}: {why}\n")
 }
 
-/// Reports that another run reads the channel of requests, and gives the exit status.
-pub(crate) fn report_busy<E: Write>(alloc: Global, path: &str, err: &mut E) -> u8
+/// Reports that another run reads the channel of requests, by its process number where that is known, and gives the
+/// exit status.
+pub(crate) fn report_busy<E: Write>(
+    alloc: Global,
+    path: &str,
+    holder: Option<u32>,
+    err: &mut E,
+) -> u8
     ensures status { result ≡ DEVICE_FAULT }
-    ensures reported { ReportsText (busy_message path.now) (E.contents err.old)
+    ensures reported { ReportsText (busy_message path.now holder) (E.contents err.old)
         (E.contents err.new) }
 {
-    report_made(busy_message(alloc, path), err);
+    let message = match holder {
+        Some(number) => held_message(alloc, path, number),
+        None => busy_message(alloc, path),
+    };
+    report_made(message, err);
     DEVICE_FAULT
 }
 
+fn held_message(alloc: Global, path: &str, number: u32) -> Result<String, AllocError>
+    ensures { IfOk result (λ text. string_bytes text ≡ busy_message path.now (Some number)) }
+{
+    format!(in alloc;
+        "initd: {path} is in use by initd run {number}: end that one, or give another --initctl\n"
+    )
+}
+
+/// Reports that two of a run's files are one, and gives the exit status.
+pub(crate) fn report_shared<E: Write>(alloc: Global, one: &str, other: &str, err: &mut E) -> u8
+    ensures status { result ≡ REFUSED }
+    ensures reported { ReportsText (shared_message one.now other.now) (E.contents err.old)
+        (E.contents err.new) }
+{
+    report_made(shared_message(alloc, one, other), err);
+    REFUSED
+}
+
+fn shared_message(alloc: Global, one: &str, other: &str) -> Result<String, AllocError>
+    ensures { IfOk result (λ text. string_bytes text ≡ shared_message one.now other.now) }
+{
+    format!(in alloc; "initd: {one} and {other} are one file: give each its own\n")
+}
+
 fn busy_message(alloc: Global, path: &str) -> Result<String, AllocError>
-    ensures { IfOk result (λ text. string_bytes text ≡ busy_message path.now) }
+    ensures { IfOk result (λ text. string_bytes text ≡ busy_message path.now None) }
 {
     format!(in alloc;
         "initd: {path} is in use by another initd run: end that one, or give another --initctl\n"

@@ -1,7 +1,7 @@
 use Rattle.simulator.specs.declared.running.SimFault.TheVariants as fault
-use Rattle.std.proofs.Common.{[], ap, subst, sym}
+use Rattle.std.proofs.Common.{[], ap, subst, sym, ◌∙◌}
 use Rattle.initd_options.specs.Options.{run_of}
-use Rattle.initd_command.specs.Endings.{busy, no_memory, stopped, too_many, uncreated, unlocked, unread}
+use Rattle.initd_command.specs.Endings.{busy, no_memory, shared, stopped, too_many, uncreated, unlocked, unread}
 use Rattle.initd_command.specs.Services.{IsOfFault}
 use Rattle.initd_command.proofs.Ended.{of_busy, of_channel, of_inittab, of_long, of_many, of_memory, of_trace}
 use Rattle.initd_command.proofs.run.report_run_fault.Goals as goal
@@ -9,10 +9,21 @@ use Rattle.initd_command.proofs.run.report_run_fault.Goals as goal
 pub returns-in-Busy : goal.returns-in-Busy
 returns-in-Busy g c =
     let path = c.as_str-initctl.result.now in (
-      busy path,
+      busy path c.in-Busy.holder.now,
       c.report_busy.ensures.status,
-      of_busy (run_of c.args.said.now) c.args.fault.now path c.in-Busy.is c.as_str-initctl.ensures.value,
+      of_busy (run_of c.args.said.now) c.args.fault.now path c.in-Busy.holder.now c.in-Busy.is c.as_str-initctl.ensures.value,
       c.report_busy.ensures.reported,
+    )
+
+pub returns-in-Shared : goal.returns-in-Shared
+returns-in-Shared g c =
+    let first = c.as_str-first.result.now in
+    let second = c.as_str-second.result.now in (
+      shared first second,
+      c.report_shared.ensures.status,
+      subst (λ f. IsOfFault (run_of c.args.said.now) f (shared first second)) (sym c.in-Shared.is)
+          (ap (λ p. shared p second) c.as_str-first.ensures.value ∙ ap (shared _) c.as_str-second.ensures.value),
+      c.report_shared.ensures.reported,
     )
 
 pub returns-in-Channel : goal.returns-in-Channel
