@@ -5,7 +5,7 @@
 #     ./install.sh [PREFIX]               under PREFIX; /opt/initd where it is left out
 #     ./install.sh --uninstall [PREFIX]   removes what was installed there
 #
-# A program that the gate (.ci/run) or this script has built from these sources is taken as it is, by the checksum that
+# A program that the gate (.ci/run, by tools/pages) or this script has built from these sources is taken as it is, by the checksum that
 # was left beside it; any other is proved and built by `rt run`, which takes 40 minutes and more of processor time at the
 # first time. Files of an earlier installation that this one doesn't have are removed. With DESTDIR set all is put under
 # DESTDIR and stays meant for PREFIX, as for a package.
