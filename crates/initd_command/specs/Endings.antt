@@ -82,11 +82,10 @@ reason_of script _ = []
 abbrev pub fault_message : List ℕ → SimFault → List ℕ
 fault_message script f = codes "initd: " ++ fault_text f ++ codes "\n" ++ reason_of script f
 
-abbrev pub file_message : List ℕ → List ℕ → List ℕ
-file_message path why = codes "initd: cannot read " ++ path ++ codes ": " ++ why ++ codes "\n"
-
-abbrev pub created_message : List ℕ → List ℕ → List ℕ
-created_message path why = codes "initd: cannot create " ++ path ++ codes ": " ++ why ++ codes "\n"
+-- what could not be done with a file, by a verb, and why
+abbrev pub cannot_message : List ℕ → List ℕ → List ℕ → List ℕ
+cannot_message verb path why =
+    codes "initd: cannot " ++ verb ++ codes " " ++ path ++ codes ": " ++ why ++ codes "\n"
 
 abbrev pub torn_message : ℕ → List ℕ
 torn_message line = codes "initd: trace line " ++ decimal line ++ codes " is not a line\n"
@@ -109,9 +108,6 @@ abbrev pub shared_message : List ℕ → List ℕ → List ℕ
 shared_message one other =
     codes "initd: " ++ one ++ codes " and " ++ other ++ codes " are one file: give each its own\n"
 
-abbrev pub unlocked_message : List ℕ → List ℕ → List ℕ
-unlocked_message path why = codes "initd: cannot lock " ++ path ++ codes ": " ++ why ++ codes "\n"
-
 -- what is reported where nothing names a level
 abbrev pub ReportsUnled : Bool → Option (List ℕ) → Option (List ℕ) → Type 0
 ReportsUnled false old new = Keeps old new
@@ -127,7 +123,7 @@ abbrev pub Reports : Ending → Option (List ℕ) → Option (List ℕ) → Type
 Reports done old new = Keeps old new
 Reports (usage reason) old new = AppendsPrefix old new (usage_report (codes "initd") reason USAGE.now)
 Reports no_memory old new = AppendsPrefix old new NO_MEMORY.now
-Reports (unread path why) old new = ReportsText (file_message path why) old new
+Reports (unread path why) old new = ReportsText (cannot_message (codes "read") path why) old new
 Reports too_many old new = AppendsPrefix old new TOO_MANY.now
 Reports (stopped script f) old new = ReportsText (fault_message script f) old new
 Reports unflushed old new = ReportsText (fault_message [] fault.Write) old new
@@ -138,8 +134,8 @@ Reports (torn line) old new = ReportsText (torn_message line) old new
 Reports unwritten old new = AppendsPrefix old new UNWRITTEN.now
 Reports (busy path holder) old new = ReportsText (busy_message path holder) old new
 Reports (shared one other) old new = ReportsText (shared_message one other) old new
-Reports (unlocked path why) old new = ReportsText (unlocked_message path why) old new
+Reports (unlocked path why) old new = ReportsText (cannot_message (codes "lock") path why) old new
 Reports (turned unled end) old new = (mid : Option (List ℕ)) × ReportsUnled unled old mid × ReportsEnd end mid new
-Reports (uncreated path why) old new = ReportsText (created_message path why) old new
+Reports (uncreated path why) old new = ReportsText (cannot_message (codes "create") path why) old new
 Reports untold old new = AppendsPrefix old new UNTOLD.now
 Reports unversioned old new = AppendsPrefix old new UNVERSIONED.now

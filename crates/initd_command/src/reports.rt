@@ -3,7 +3,7 @@
 ghost use Rattle.std.specs.Prelude.{◌≡◌, true, ℕ, List, None, Some, OnOk, OnErr, string_bytes, IfOk, ◌++◌};
 ghost use Rattle.std.specs.Io.KnownBytes.{Appends};
 ghost use Rattle.program_io.specs.Writing.{AppendsPrefix};
-ghost use Rattle.initd_command.specs.Endings.{busy_message, created_message, fault_message, fault_status, file_message, reason_message, shared_message, unlocked_message};
+ghost use Rattle.initd_command.specs.Endings.{busy_message, cannot_message, fault_message, fault_status, reason_message, shared_message};
 ghost use Rattle.initd_command.specs.Turned.{ReportsText};
 
 use crate::lines::{line_at, line_told};
@@ -69,62 +69,45 @@ fn add_reason(
     Ok(())
 }
 
-/// Reports that a file was not read, and gives the exit status.
-pub(crate) fn report_unread<E: Write>(
+/// Reports what could not be done with a file, by a verb as `read`, and gives the exit status.
+pub(crate) fn report_cannot<E: Write>(
     alloc: Global,
+    verb: &str,
     path: &str,
     error: &io::Error,
     err: &mut E,
 ) -> u8
     ensures status { result ≡ DEVICE_FAULT }
-    ensures reported { (why : List ℕ)
-        × ReportsText (file_message path.now why) (E.contents err.old) (E.contents err.new) }
+    ensures reported { (why : List ℕ) × ReportsText (cannot_message verb.now path.now why)
+        (E.contents err.old) (E.contents err.new) }
 {
-    report_made(unread_message(alloc, path, error), err);
+    report_made(cannot_message(alloc, verb, path, error), err);
     DEVICE_FAULT
 }
 
-fn unread_message(alloc: Global, path: &str, error: &io::Error) -> Result<String, AllocError>
-    ensures { IfOk result (λ text.
-        (why : List ℕ) × (string_bytes text ≡ file_message path.now why)) }
-{
-    let why = format!(in alloc; "{error}")?;
-    message_with(alloc, path, why.as_str())
-}
-
-fn message_with(alloc: Global, path: &str, why: &str) -> Result<String, AllocError>
-    ensures { IfOk result (λ text. string_bytes text ≡ file_message path.now why.now) }
-{
-    format!(in alloc; "initd: cannot read {path}: {why}\n")
-}
-
-/// Reports that a file was not created, and gives the exit status.
-pub(crate) fn report_uncreated<E: Write>(
+fn cannot_message(
     alloc: Global,
+    verb: &str,
     path: &str,
     error: &io::Error,
-    err: &mut E,
-) -> u8
-    ensures status { result ≡ DEVICE_FAULT }
-    ensures reported { (why : List ℕ)
-        × ReportsText (created_message path.now why) (E.contents err.old) (E.contents err.new) }
-{
-    report_made(uncreated_message(alloc, path, error), err);
-    DEVICE_FAULT
-}
-
-fn uncreated_message(alloc: Global, path: &str, error: &io::Error) -> Result<String, AllocError>
+) -> Result<String, AllocError>
     ensures { IfOk result (λ text.
-        (why : List ℕ) × (string_bytes text ≡ created_message path.now why)) }
+        (why : List ℕ) × (string_bytes text ≡ cannot_message verb.now path.now why)) }
 {
     let why = format!(in alloc; "{error}")?;
-    created_message_with(alloc, path, why.as_str())
+    cannot_message_with(alloc, verb, path, why.as_str())
 }
 
-fn created_message_with(alloc: Global, path: &str, why: &str) -> Result<String, AllocError>
-    ensures { IfOk result (λ text. string_bytes text ≡ created_message path.now why.now) }
+fn cannot_message_with(
+    alloc: Global,
+    verb: &str,
+    path: &str,
+    why: &str,
+) -> Result<String, AllocError>
+    ensures { IfOk result (λ text.
+        string_bytes text ≡ cannot_message verb.now path.now why.now) }
 {
-    format!(in alloc; "initd: cannot create {path}: {why}\n")
+    format!(in alloc; "initd: cannot {verb} {path}: {why}\n")
 }
 
 /// Reports that another run reads the channel of requests, by its process number where that is known, and gives the
@@ -177,35 +160,6 @@ fn busy_message(alloc: Global, path: &str) -> Result<String, AllocError>
     format!(in alloc;
         "initd: {path} is in use by another initd run: end that one, or give another --initctl\n"
     )
-}
-
-/// Reports that the channel of requests was not locked, and gives the exit status.
-pub(crate) fn report_unlocked<E: Write>(
-    alloc: Global,
-    path: &str,
-    error: &io::Error,
-    err: &mut E,
-) -> u8
-    ensures status { result ≡ DEVICE_FAULT }
-    ensures reported { (why : List ℕ)
-        × ReportsText (unlocked_message path.now why) (E.contents err.old) (E.contents err.new) }
-{
-    report_made(unlocked_message(alloc, path, error), err);
-    DEVICE_FAULT
-}
-
-fn unlocked_message(alloc: Global, path: &str, error: &io::Error) -> Result<String, AllocError>
-    ensures { IfOk result (λ text.
-        (why : List ℕ) × (string_bytes text ≡ unlocked_message path.now why)) }
-{
-    let why = format!(in alloc; "{error}")?;
-    unlocked_message_with(alloc, path, why.as_str())
-}
-
-fn unlocked_message_with(alloc: Global, path: &str, why: &str) -> Result<String, AllocError>
-    ensures { IfOk result (λ text. string_bytes text ≡ unlocked_message path.now why.now) }
-{
-    format!(in alloc; "initd: cannot lock {path}: {why}\n")
 }
 
 /// Reports a message that was made, or that there was no memory to make it.

@@ -16,8 +16,8 @@ use crate::ends::report_end;
 use crate::logs::{FileLog, LoudLog, NoLog};
 use crate::patience::Patience;
 use crate::reports::{
-    report, report_busy, report_fault, report_memory, report_shared, report_too_many,
-    report_uncreated, report_unlocked, report_unread, tell,
+    report, report_busy, report_cannot, report_fault, report_memory, report_shared,
+    report_too_many, tell,
 };
 use brief_log::BriefLog;
 use channel_files::{ChannelLock, lock_channel, lock_holder};
@@ -383,12 +383,12 @@ fn report_run_fault<E: Write>(alloc: Global, said: &RunWords, fault: &RunFault, 
             let second = other.as_str();
             report_shared(alloc, first, second, err)
         }
-        RunFault::Channel(error) => report_unlocked(alloc, initctl, error, err),
-        RunFault::Inittab(error) => report_unread(alloc, said.inittab.as_str(), error, err),
-        RunFault::Folder(path, error) => report_unread(alloc, path.as_str(), error, err),
+        RunFault::Channel(error) => report_cannot(alloc, "lock", initctl, error, err),
+        RunFault::Inittab(error) => report_cannot(alloc, "read", said.inittab.as_str(), error, err),
+        RunFault::Folder(path, error) => report_cannot(alloc, "read", path.as_str(), error, err),
         RunFault::TooMany => report_too_many(err),
         RunFault::TooLong => report_fault(alloc, &[], &SimFault::Table, err),
-        RunFault::Trace(error) => report_uncreated(alloc, trace_of(said), error, err),
+        RunFault::Trace(error) => report_cannot(alloc, "create", trace_of(said), error, err),
         RunFault::Memory => report_memory(err),
     }
 }

@@ -29,9 +29,9 @@ returns-in-Shared g c =
 pub returns-in-Channel : goal.returns-in-Channel
 returns-in-Channel g c =
     let path = c.as_str-initctl.result.now in
-    let (reason, reported) = c.report_unlocked.ensures.reported in (
+    let (reason, reported) = c.report_cannot.ensures.reported in (
       unlocked path reason,
-      c.report_unlocked.ensures.status,
+      c.report_cannot.ensures.status,
       of_channel (run_of c.args.said.now) c.args.fault.now c.in-Channel.error path reason c.in-Channel.is c.as_str-initctl.ensures.value,
       reported,
     )
@@ -39,9 +39,9 @@ returns-in-Channel g c =
 pub returns-in-Inittab : goal.returns-in-Inittab
 returns-in-Inittab g c =
     let path = c.as_str.result.now in
-    let (reason, reported) = c.report_unread.ensures.reported in (
+    let (reason, reported) = c.report_cannot-in-Inittab.ensures.reported in (
       unread path reason,
-      c.report_unread.ensures.status,
+      c.report_cannot-in-Inittab.ensures.status,
       of_inittab (run_of c.args.said.now) c.args.fault.now c.in-Inittab.error path reason c.in-Inittab.is c.as_str.ensures.value,
       reported,
     )
@@ -49,9 +49,9 @@ returns-in-Inittab g c =
 pub returns-in-Folder : goal.returns-in-Folder
 returns-in-Folder g c =
     let path = c.as_str-in-Folder.result.now in
-    let (reason, reported) = c.report_unread-in-Folder.ensures.reported in (
+    let (reason, reported) = c.report_cannot-in-Folder.ensures.reported in (
       unread path reason,
-      c.report_unread-in-Folder.ensures.status,
+      c.report_cannot-in-Folder.ensures.status,
       subst (λ f. IsOfFault (run_of c.args.said.now) f (unread path reason)) (sym c.in-Folder.is) (reason, ap (λ p. unread p reason) c.as_str-in-Folder.ensures.value),
       reported,
     )
@@ -75,9 +75,9 @@ returns-in-TooLong g c = (
 pub returns-in-Trace : goal.returns-in-Trace
 returns-in-Trace g c =
     let path = c.trace_of.result.now in
-    let (reason, reported) = c.report_uncreated.ensures.reported in (
+    let (reason, reported) = c.report_cannot-in-Trace.ensures.reported in (
       uncreated path reason,
-      c.report_uncreated.ensures.status,
+      c.report_cannot-in-Trace.ensures.status,
       of_trace (run_of c.args.said.now) c.args.fault.now c.in-Trace.error path reason c.in-Trace.is c.trace_of.ensures,
       reported,
     )
