@@ -1,12 +1,13 @@
 -- A run of all scripts reports them, and no answer to one is missing before it.
 use Rattle.std.proofs.Common.{◌≡◌, ◌≢◌, ◌∙◌, inl, inr, refl, sym, arith, ℕ, ◌-◌, List, [], ◌∷◌, length, Option, ap, false, subst}
 use Rattle.std.specs.Io.KnownBytes.{Appends}
+use Rattle.program_io.specs.Writing.{AppendsPrefix}
 use Rattle.program_io.specs.declared.statuses.TheConstants.{DONE}
 use Rattle.child_host.specs.Calls.{HostCall}
 use Rattle.child_host.specs.Record.{Since}
 use Rattle.child_host.proofs.Record.{Since-map}
 use Rattle.rc_command.specs.CommandLine.{Said}
-use Rattle.rc_command.specs.Endings.{AreNames, ReportsNames, RunsNames, rc_of, status_of}
+use Rattle.rc_command.specs.Endings.{AreNames, ReportsNames, RunsNames, ended_text, rc_of, status_of}
 use Rattle.rc_command.specs.Folders.{AreNamesAt, ArePrevious, KnownNames, folder_of}
 use Rattle.rc_command.specs.declared.running.TheConstants.{PAUSES_LIMIT}
 use Rattle.rc_driver.specs.declared.driving.RunEnd.{RunEnd}
@@ -42,17 +43,18 @@ pub not_waiting : (previous names : List (List ℕ)) (old now : Option (List Hos
 not_waiting previous names old now dir pauses rc new before after ended is (calls, told, runs) =
     runs_on dir pauses rc.left before ended new.left after calls (runs.runs (ap (λ (r : RcState). r.waits) is))
 
-pub runs_names : (previous names : List (List ℕ)) (old now : Option (List HostCall)) (dir : List ℕ) (rc new : RcState) (before after : Option (List ℕ)) (ended : RunEnd) (status : ℕ)
-    → rc ≡ rc_of previous names → status ≡ status_of ended → Since old now (RunsLinks dir PAUSES_LIMIT rc before ended new after)
-    → Since old now (RunsNames dir previous names before status after)
-runs_names previous names old now dir rc new before after ended status is of since =
-    Since-map old now (RunsLinks dir PAUSES_LIMIT rc before ended new after) (RunsNames dir previous names before status after) since
-    (λ calls runs. (ended, new, subst (λ r. RunsLinks dir PAUSES_LIMIT r before ended new after calls) is runs, of))
+pub runs_names : (previous names : List (List ℕ)) (old now : Option (List HostCall)) (dir : List ℕ) (rc new : RcState) (before after told tells : Option (List ℕ)) (ended : RunEnd) (status : ℕ)
+    → rc ≡ rc_of previous names → status ≡ status_of ended → AppendsPrefix told tells (ended_text dir ended)
+    → Since old now (RunsLinks dir PAUSES_LIMIT rc before ended new after)
+    → Since old now (RunsNames dir previous names before told status after tells)
+runs_names previous names old now dir rc new before after told tells ended status is of reports since =
+    Since-map old now (RunsLinks dir PAUSES_LIMIT rc before ended new after) (RunsNames dir previous names before told status after tells) since
+    (λ calls runs. (ended, new, subst (λ r. RunsLinks dir PAUSES_LIMIT r before ended new after calls) is runs, of, reports))
 
 -- only a run that is done has that status
 pub done_by : (ended : RunEnd) → status_of ended ≡ DONE → ended ≡ run_end.Done
 done_by run_end.Done is = refl
-done_by run_end.Limit is = absurd (omega (arith, is))
+done_by (run_end.Limit link) is = absurd (omega (arith, is))
 done_by run_end.Waiting is = absurd (omega (arith, is))
 done_by run_end.Write is = absurd (omega (arith, is))
 done_by run_end.Memory is = absurd (omega (arith, is))

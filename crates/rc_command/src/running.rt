@@ -5,10 +5,11 @@ ghost use Rattle.child_host.specs.Calls.{HostCall};
 ghost use Rattle.child_host.specs.Record.{Since};
 ghost use Rattle.command_words.specs.CommandLines.{asks_version};
 ghost use Rattle.command_words.specs.Faults.{ReportsUsage};
+ghost use Rattle.program_io.specs.Writing.{AppendsPrefix};
 ghost use Rattle.program_version.specs.VersionLine.{PrintsVersion};
 ghost use Rattle.rc_command.specs.CommandLine.{read_of, said_of};
 ghost use Rattle.rc_command.specs.Endings.{Asks, Reports, ReportsFirst, ReportsNames, ReportsPart};
-ghost use Rattle.rc_command.specs.Endings.{RunsNames, RunsSaid, status_of};
+ghost use Rattle.rc_command.specs.Endings.{RunsNames, RunsSaid, ended_text, limit_text, status_of};
 
 use crate::command::{Words, read_words};
 use crate::folders::{Folders, folder_of, previous_names};
@@ -25,8 +26,11 @@ use std::io::Write;
 use std::process::Processes;
 use std::rt::{Clock, Files};
 
-/// The greatest number of pauses of a run, of a second each.
-pub const PAUSES_LIMIT: u32 = 100_000;
+/// The greatest number of pauses of a run, of a tenth of a second at most.
+pub const PAUSES_LIMIT: u32 = 1_000_000;
+
+/// The seconds of the longest pause; behind something that happened it is a thousandth of it.
+const PAUSE: &str = "0.1";
 
 /// What is reported of words that are no command line, behind a line that says why.
 pub const USAGE: &str = "usage: rc DIR PREV NEW
@@ -73,7 +77,8 @@ where
     ensures ran { asks_version (map string_bytes words.items) ≡ false
         → (((result ≡ REFUSED) ⊎ (result ≡ DEVICE_FAULT)) × (out.new ≡ out.old))
         ⊎ Asks (map string_bytes words.items) (λ said. RunsSaid (F.names_at folders.now) said
-        (W.contents out.old) result (W.contents out.new)) }
+        (W.contents out.old) (E.contents err.old) result (W.contents out.new)
+        (E.contents err.new)) }
     ensures report { result ≡ REFUSED
         → ReportsUsage (codes "rc") USAGE.now (E.contents err.old) (E.contents err.new) }
 {
@@ -103,8 +108,8 @@ where
     ensures part { (out.new ≡ out.old) ⊎ ReportsPart (F.names_at folders.now) (said_of said.now)
         (W.contents out.old) (W.contents out.new) }
     ensures ran { ((result ≡ DEVICE_FAULT) × (out.new ≡ out.old))
-        ⊎ RunsSaid (F.names_at folders.now) (said_of said.now) (W.contents out.old) result
-        (W.contents out.new) }
+        ⊎ RunsSaid (F.names_at folders.now) (said_of said.now) (W.contents out.old)
+        (E.contents err.old) result (W.contents out.new) (E.contents err.new) }
 {
     let dir = said.dir.as_str();
     let Ok(path) = folder_of(alloc, dir, said.new) else {
@@ -139,12 +144,16 @@ where
         (map string_bytes names.now) (W.contents out.old) (W.contents out.new) }
     ensures ran { ((result ≡ DEVICE_FAULT) × (out.new ≡ out.old)) ⊎ ((calls : List HostCall)
         × RunsNames path.now (map string_bytes previous.now) (map string_bytes names.now)
-        (W.contents out.old) result (W.contents out.new) calls) }
+        (W.contents out.old) (E.contents err.old) result (W.contents out.new)
+        (E.contents err.new) calls) }
 {
     let Ok(own) = rt.clone() else {
         return report_no_memory("rc", err);
     };
-    let Ok(mut host) = OsHost::new(own, alloc, "rc", "", "", "", None) else {
+    let Ok(host) = OsHost::new(own, alloc, "rc", "", "", "", None) else {
+        return report_no_memory("rc", err);
+    };
+    let Ok(mut host) = host.with_pause(PAUSE) else {
         return report_no_memory("rc", err);
     };
     run_names(alloc, &mut host, path, previous, names, out, err)
@@ -153,7 +162,7 @@ where
 /// Runs the scripts of the folder at `path` over a host, from the names in the folder of the previous level and in it,
 /// and gives the exit status: 0 where all were carried out, 3 where a script has not ended after `PAUSES_LIMIT` pauses,
 /// 4 where the output fails or memory runs out. A line for each script is written on `out` at its end, a fault is
-/// reported on `err`.
+/// reported on `err`; the script that has not ended is named there.
 pub fn run_names<H: Host, W: Write, E: Write>(
     alloc: Global,
     host: &mut H,
@@ -171,46 +180,65 @@ pub fn run_names<H: Host, W: Write, E: Write>(
     // There was no memory for the scripts, or they were run with the calls that the host tells.
     ensures ran { ((result ≡ DEVICE_FAULT) × (out.new ≡ out.old) × (host.new ≡ host.old))
         ⊎ Since (H.told host.old) (H.told host.new) (RunsNames path.now
-        (map string_bytes previous.now) (map string_bytes names.now) (W.contents out.old) result
-        (W.contents out.new)) }
+        (map string_bytes previous.now) (map string_bytes names.now) (W.contents out.old)
+        (E.contents err.old) result (W.contents out.new) (E.contents err.new)) }
     ensures silent { result ≡ DONE → err.new ≡ err.old }
 {
     let Ok(mut rc) = Rc::new(alloc, previous, names) else {
         return report_no_memory("rc", err);
     };
     let ended = run_links(alloc, &mut rc, host, path, PAUSES_LIMIT, out);
-    report_end(ended, err)
+    report_end(path, ended, err)
 }
 
-/// Reports how a run ended, where it wasn't done, and gives the exit status.
-fn report_end<E: Write>(ended: RunEnd, err: &mut E) -> u8
+/// Reports how a run of the folder at `path` ended, where it wasn't done, by as much of the text as `err` takes, and
+/// gives the exit status.
+fn report_end<E: Write>(path: &str, ended: RunEnd, err: &mut E) -> u8
     requires { ended ≢ RunEnd.Waiting }
     ensures status { result ≡ status_of ended }
+    ensures report { AppendsPrefix (E.contents err.old) (E.contents err.new)
+        (ended_text path.now ended) }
     ensures silent { result ≡ DONE → err.new ≡ err.old }
 {
     match ended {
         RunEnd::Done => DONE,
-        RunEnd::Limit => report_limit(err),
+        RunEnd::Limit(link) => report_limit(path, link, err),
         RunEnd::Waiting => unreachable!(),
         RunEnd::Write => tell(DEVICE_FAULT, "rc: cannot write\n", err),
         RunEnd::Memory => tell(DEVICE_FAULT, "rc: out of memory\n", err),
     }
 }
 
-/// Reports that the pauses are used up, and gives the exit status.
-fn report_limit<E: Write>(err: &mut E) -> u8
-    ensures { result ≡ LIMIT_REACHED }
+/// Reports that the pauses are used up while a script runs, and gives the exit status.
+fn report_limit<E: Write>(path: &str, link: &str, err: &mut E) -> u8
+    ensures status { result ≡ LIMIT_REACHED }
+    ensures report { AppendsPrefix (E.contents err.old) (E.contents err.new)
+        (limit_text path.now link.now) }
 {
-    let _ = writeln!(
-        err,
-        "rc: a script has not ended after {PAUSES_LIMIT} pauses"
-    );
+    let _ = write_limit(path, link, err);
     LIMIT_REACHED
 }
 
-/// Reports a line, and gives the exit status.
+/// Writes that a script has not ended.
+fn write_limit<E: Write>(path: &str, link: &str, err: &mut E) -> io::Result<()>
+    ensures { AppendsPrefix (E.contents err.old) (E.contents err.new)
+        (limit_text path.now link.now) }
+{
+    write_text(err, b"rc: ")?;
+    write_text(err, path.as_bytes())?;
+    write_text(err, b"/")?;
+    write_text(err, link.as_bytes())?;
+    write_text(
+        err,
+        b" has not ended after 1000000 pauses of a tenth of a second: it runs on, \
+          and no script behind it was run\n",
+    )
+}
+
+/// Reports a line, by as much of it as `err` takes, and gives the exit status.
 fn tell<E: Write>(status: u8, line: &str, err: &mut E) -> u8
-    ensures { result ≡ status }
+    ensures status { result ≡ status }
+    ensures report { AppendsPrefix (E.contents err.old) (E.contents err.new) line.now }
 {
     let _ = write_text(err, line.as_bytes());
     status

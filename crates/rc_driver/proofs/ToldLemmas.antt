@@ -1,5 +1,6 @@
 -- A run of scripts by its calls, put together from its scripts.
 use Rattle.std.proofs.Common.{◌≡◌, refl, sym, ◌∙◌, subst, inl, inr, ℕ, ◌+◌, ◌-◌, true, false, List, [], ◌∷◌, ◌++◌, Option, arith}
+use Rattle.std.specs.Borrow.{Bor}
 use Rattle.std.specs.Io.KnownBytes.{Appends}
 use Rattle.std.proofs.lemmas.Bool.{true≢false}
 use Rattle.program_io.specs.Writing.{AppendsPrefix}
@@ -10,6 +11,7 @@ use Rattle.rc_driver.specs.declared.driving.RunEnd.{RunEnd}
 use Rattle.rc_driver.specs.declared.driving.RunEnd.TheVariants as run_end
 use Rattle.rc_driver.specs.declared.progress.Progress.{Progress}
 use Rattle.rc_driver.specs.declared.progress.Progress.TheVariants as progress
+use Rattle.rc_driver.specs.declared.runs.Arg.{Arg}
 use Rattle.rc_driver.specs.declared.runs.RcAnswer.{RcAnswer}
 use Rattle.rc_driver.specs.Parts.{Advanced, EndsEarly, GoneTo}
 use Rattle.rc_driver.specs.Progress.{RunsTo, count_pauses}
@@ -23,11 +25,12 @@ pub gone_by : (old new : Option (List HostCall)) (command text : List ℕ) (now 
 gone_by old new command text now pauses still same gone = subst (λ t. Since old new (GoneTo t now pauses still)) same gone
 
 -- the pauses are used up
-pub ends_early : (old new : Option (List HostCall)) (dir command : List ℕ) (pauses : ℕ) (s : LinkRun) (bytes : Option (List ℕ)) → command ≡ command_text dir s
-    → Since old new (EndsEarly command pauses) → Since old new (EndsAt dir pauses s bytes run_end.Limit bytes)
-ends_early old new dir command pauses s bytes same early =
-    Since-map old new (EndsEarly command pauses) (EndsAt dir pauses s bytes run_end.Limit bytes) early
-    (λ calls is. (is.0, is.1, subst (λ text. RunsTo text is.0 calls) same is.2, is.3, refl))
+pub ends_early : (old new : Option (List HostCall)) (dir command : List ℕ) (pauses : ℕ) (link : Bor (List ℕ)) (given : Arg) (bytes : Option (List ℕ))
+    → command ≡ command_text dir (link.now, given) → Since old new (EndsEarly command pauses)
+    → Since old new (EndsAt dir pauses (link.now, given) bytes (run_end.Limit link) bytes)
+ends_early old new dir command pauses link given bytes same early =
+    Since-map old new (EndsEarly command pauses) (EndsAt dir pauses (link.now, given) bytes (run_end.Limit link) bytes) early
+    (λ calls is. (refl, is.0, is.1, subst (λ text. RunsTo text is.0 calls) same is.2, is.3, refl))
 
 -- the line was not written
 pub ends_unwritten : (old new : Option (List HostCall)) (dir command : List ℕ) (pauses still : ℕ) (s : LinkRun) (given : RcAnswer) (before after : Option (List ℕ)) (ended : RunEnd)

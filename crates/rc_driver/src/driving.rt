@@ -22,11 +22,11 @@ use std::io::Write;
 
 /// How a run of scripts over a host ended.
 #[derive(Clone, Copy, PartialEq, Eq)]
-pub enum RunEnd {
+pub enum RunEnd<'n> {
     /// All scripts came to their ends.
     Done,
-    /// The pauses are used up, and the script that was handed out last has not come to its end.
-    Limit,
+    /// The pauses are used up, and the script of this link, which was handed out last, has not come to its end.
+    Limit(&'n str),
     /// The answer to a script that was handed out before is missing. Nothing was run.
     Waiting,
     /// A line could not be written.
@@ -134,7 +134,12 @@ fn write_line<W: Write>(out: &mut W, link: &str, arg: Arg, answer: &RcAnswer) ->
 }
 
 /// Writes the line of a script, and sees that it is out.
-fn tell_end<W: Write>(out: &mut W, link: &str, arg: Arg, answer: &RcAnswer) -> Result<(), RunEnd>
+fn tell_end<W: Write>(
+    out: &mut W,
+    link: &str,
+    arg: Arg,
+    answer: &RcAnswer,
+) -> Result<(), RunEnd<'static>>
     ensures ok { OnOk result (Appends (W.contents out.old) (W.contents out.new)
         (line_of (link.now, arg) answer.now)) }
     ensures err { IfErr result (λ ended. (ended ≡ RunEnd.Write) × AppendsPrefix
@@ -160,15 +165,15 @@ fn command_of<A: Allocator>(
 }
 
 /// Runs a script, and writes its line at its end.
-fn run_link<A: Allocator + Copy, H: Host, W: Write>(
+fn run_link<'n, A: Allocator + Copy, H: Host, W: Write>(
     alloc: A,
     host: &mut H,
     dir: &str,
-    link: &str,
+    link: &'n str,
     arg: Arg,
     pauses: &mut u32,
     out: &mut W,
-) -> Result<RcAnswer, RunEnd>
+) -> Result<RcAnswer, RunEnd<'n>>
     ensures ok { IfOk result (λ answer. Appends (W.contents out.old) (W.contents out.new)
         (line_of (link.now, arg) answer)) }
     ensures ran { IfOk result (λ answer. Since (H.told host.old) (H.told host.new) (GoneTo
@@ -182,7 +187,7 @@ fn run_link<A: Allocator + Copy, H: Host, W: Write>(
         return Err(RunEnd::Memory);
     };
     let Some(answer) = run_script(alloc, host, command.as_bytes(), pauses) else {
-        return Err(RunEnd::Limit);
+        return Err(RunEnd::Limit(link));
     };
     match tell_end(out, link, arg, &answer) {
         Ok(()) => Ok(answer),
@@ -198,7 +203,7 @@ fn run_next<'n, A: Allocator + Copy, B: Allocator, H: Host, W: Write>(
     dir: &str,
     pauses: &mut u32,
     out: &mut W,
-) -> Option<RunEnd>
+) -> Option<RunEnd<'n>>
     ensures ended { IfSome result (λ ended.
         WritesEnds rc.old (W.contents out.old) ended rc.new (W.contents out.new)) }
     ensures more { result ≡ None →
@@ -237,7 +242,7 @@ pub fn run_links<'n, A: Allocator + Copy, B: Allocator, H: Host, W: Write>(
     dir: &str,
     limit: u32,
     out: &mut W,
-) -> RunEnd
+) -> RunEnd<'n>
     ensures written { WritesEnds rc.old (W.contents out.old) result rc.new (W.contents out.new) }
     ensures calls { Since (H.told host.old) (H.told host.new) (RunsLinks dir.now limit rc.old
         (W.contents out.old) result rc.new (W.contents out.new)) }

@@ -18,7 +18,7 @@ type Row = (
     &'static [u8],
     u32,
     usize,
-    RunEnd,
+    RunEnd<'static>,
     &'static str,
     &'static str,
 );
@@ -80,11 +80,11 @@ const ROWS: &[Row] = &[
         b"",
         1,
         99,
-        RunEnd::Limit,
+        RunEnd::Limit("S10a"),
         "K05c stop exit 0\n",
         "SLSLPAL",
     ),
-    (b"b", b"a", b"", 0, 99, RunEnd::Limit, "", "SL"),
+    (b"b", b"a", b"", 0, 99, RunEnd::Limit("K05c"), "", "SL"),
     (
         b"bb",
         b"ee",

@@ -14,4 +14,4 @@ returns-clause-done g c = λ is.
     reported (texts c.args.previous.now) (texts c.args.names.now) _ _ _ _ _ c.in-Ok.ensures (c.run_links-ended.ensures.written.whole (done_by _ (sym c.report_end.ensures.status ∙ is)))
 
 pub returns-clause-ran : goal.returns-clause-ran
-returns-clause-ran g c = inr (runs_names (texts c.args.previous.now) (texts c.args.names.now) _ _ _ _ _ _ _ _ _ c.in-Ok.ensures c.report_end.ensures.status c.run_links-ended.ensures.calls)
+returns-clause-ran g c = inr (runs_names (texts c.args.previous.now) (texts c.args.names.now) _ _ _ _ _ _ _ _ _ _ _ c.in-Ok.ensures c.report_end.ensures.status c.report_end.ensures.report c.run_links-ended.ensures.calls)

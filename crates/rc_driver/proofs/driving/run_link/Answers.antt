@@ -4,7 +4,7 @@ use Rattle.rc_driver.proofs.driving.run_link.Goals as goal
 
 pub returns-in_default-run_script-clause-ends : goal.returns-in_default-run_script-clause-ends
 returns-in_default-run_script-clause-ends g c =
-    ends_early _ _ c.args.dir.now _ _ (c.args.link.now, c.args.arg) _ (c.as_bytes.ensures.value ∙ c.in-Ok.ensures) c.in_default-run_script.ensures.limit
+    ends_early _ _ c.args.dir.now _ _ c.args.link c.args.arg _ (c.as_bytes.ensures.value ∙ c.in-Ok.ensures) c.in_default-run_script.ensures.limit
 
 pub returns-clause-ends : goal.returns-clause-ends
 returns-clause-ends g c =
