@@ -17,8 +17,8 @@ abbrev pub Ran : List ℕ → ℕ → LinkRun → RcAnswer → List HostCall →
 Ran dir pauses s given calls =
     RunsTo (command_text dir s) (progress.Over given) calls × (count_pauses calls ≤ pauses)
 
--- how a run ends at a script. The pauses are used up, and it, which is named, has no end yet; or it came to its end, of which a prefix
--- of the line was written; or it was not started for lack of memory
+-- how a run ends at a script. The pauses are used up, and it, which is named, has no end yet; or it came to its end, of
+-- which a prefix of the line was written; or it was not started for lack of memory
 abbrev pub EndsAt : List ℕ → ℕ → LinkRun → Option (List ℕ) → RunEnd → Option (List ℕ) → List HostCall → Type 0
 EndsAt dir pauses s before (run_end.Limit link) after calls = (link.now ≡ s.0) × (now : Progress) × (is_waiting now ≡ true)
     × RunsTo (command_text dir s) now calls × (count_pauses calls ≡ pauses) × (after ≡ before)
