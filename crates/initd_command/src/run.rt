@@ -102,7 +102,7 @@ struct Inittab {
 
 /// A run before its first turn.
 #[derive(Drop)]
-struct Run<R: Processes + Files + Clock + Print + Eprint + Drop> {
+struct Run<R: Processes + Files<File = File> + Clock + Print + Eprint + Drop> {
     opening: Opening,
     host: OsHost<R>,
     /// The file of the trace, where one is to be written.
@@ -346,7 +346,7 @@ fn created<R: Files>(rt: &R, path: &str) -> io::Result<R::File> {
 /// The host that words name.
 fn host_of<R>(rt: &R, alloc: Global, said: &RunWords) -> Result<OsHost<R>, Memory>
 where
-    R: Processes + Files + Clock + Print + Eprint + Clone + Drop,
+    R: Processes + Files<File = File> + Clock + Print + Eprint + Clone + Drop,
 {
     let inittab = said.inittab.as_str();
     let initctl = said.initctl.as_str();
