@@ -122,12 +122,17 @@ pub(crate) fn report_busy<E: Write>(
     ensures reported { ReportsText (busy_message path.now holder) (E.contents err.old)
         (E.contents err.new) }
 {
-    let message = match holder {
-        Some(number) => held_message(alloc, path, number),
-        None => busy_message(alloc, path),
-    };
-    report_made(message, err);
+    report_made(busy_message(alloc, path, holder), err);
     DEVICE_FAULT
+}
+
+fn busy_message(alloc: Global, path: &str, holder: Option<u32>) -> Result<String, AllocError>
+    ensures { IfOk result (λ text. string_bytes text ≡ busy_message path.now holder) }
+{
+    match holder {
+        Some(number) => held_message(alloc, path, number),
+        None => unheld_message(alloc, path),
+    }
 }
 
 fn held_message(alloc: Global, path: &str, number: u32) -> Result<String, AllocError>
@@ -135,6 +140,14 @@ fn held_message(alloc: Global, path: &str, number: u32) -> Result<String, AllocE
 {
     format!(in alloc;
         "initd: {path} is in use by initd run {number}: end that one, or give another --initctl\n"
+    )
+}
+
+fn unheld_message(alloc: Global, path: &str) -> Result<String, AllocError>
+    ensures { IfOk result (λ text. string_bytes text ≡ busy_message path.now None) }
+{
+    format!(in alloc;
+        "initd: {path} is in use by another initd run: end that one, or give another --initctl\n"
     )
 }
 
@@ -152,14 +165,6 @@ fn shared_message(alloc: Global, one: &str, other: &str) -> Result<String, Alloc
     ensures { IfOk result (λ text. string_bytes text ≡ shared_message one.now other.now) }
 {
     format!(in alloc; "initd: {one} and {other} are one file: give each its own\n")
-}
-
-fn busy_message(alloc: Global, path: &str) -> Result<String, AllocError>
-    ensures { IfOk result (λ text. string_bytes text ≡ busy_message path.now None) }
-{
-    format!(in alloc;
-        "initd: {path} is in use by another initd run: end that one, or give another --initctl\n"
-    )
 }
 
 /// Reports a message that was made, or that there was no memory to make it.

@@ -1,5 +1,5 @@
 use Rattle.simulator.specs.declared.running.SimFault.TheVariants as fault
-use Rattle.std.proofs.Common.{[], ap, subst, sym, ◌∙◌}
+use Rattle.std.proofs.Common.{[], ap, subst, sym, ◌∙◌, string_bytes}
 use Rattle.initd_options.specs.Options.{run_of}
 use Rattle.initd_command.specs.Endings.{busy, no_memory, shared, stopped, too_many, uncreated, unlocked, unread}
 use Rattle.initd_command.specs.Services.{IsOfFault}
@@ -9,9 +9,9 @@ use Rattle.initd_command.proofs.run.report_run_fault.Goals as goal
 pub returns-in-Busy : goal.returns-in-Busy
 returns-in-Busy g c =
     let path = c.as_str-initctl.result.now in (
-      busy path c.in-Busy.holder.now,
+      busy path c.in-Busy.holder,
       c.report_busy.ensures.status,
-      of_busy (run_of c.args.said.now) c.args.fault.now path c.in-Busy.holder.now c.in-Busy.is c.as_str-initctl.ensures.value,
+      of_busy (run_of c.args.said.now) c.args.fault.now path c.in-Busy.holder c.in-Busy.is c.as_str-initctl.ensures.value,
       c.report_busy.ensures.reported,
     )
 
@@ -22,7 +22,7 @@ returns-in-Shared g c =
       shared first second,
       c.report_shared.ensures.status,
       subst (λ f. IsOfFault (run_of c.args.said.now) f (shared first second)) (sym c.in-Shared.is)
-          (ap (λ p. shared p second) c.as_str-first.ensures.value ∙ ap (shared _) c.as_str-second.ensures.value),
+          (ap (λ p. shared p second) c.as_str-first.ensures.value ∙ ap (λ p. shared (string_bytes c.in-Shared.one) p) c.as_str-second.ensures.value),
       c.report_shared.ensures.reported,
     )
 
