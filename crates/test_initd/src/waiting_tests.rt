@@ -55,7 +55,7 @@ fn what_init_waits_for_is_reported(rt: HostRuntime) -> Result<(), Fail> {
             host.give_start(reply_of(*number))?;
         }
         let mut err = Vec::new(alloc);
-        let opening = Opening::new(alloc, table, None)?;
+        let opening = Opening::new(alloc, table, said.level)?;
         let log = ListLog::new(alloc);
         make_turns(&rt, alloc, &said, opening, &mut host, log, &mut err);
         let report = err.strip_prefix(b"initd: the limit of turns is reached\n");
