@@ -195,9 +195,9 @@ pub fn run_names<H: Host, W: Write, E: Write>(
 /// gives the exit status.
 fn report_end<E: Write>(path: &str, ended: RunEnd, err: &mut E) -> u8
     requires { ended ≢ RunEnd.Waiting }
-    ensures status { result ≡ status_of ended }
+    ensures status { result ≡ status_of ended.entry }
     ensures report { AppendsPrefix (E.contents err.old) (E.contents err.new)
-        (ended_text path.now ended) }
+        (ended_text path.now ended.entry) }
     ensures silent { result ≡ DONE → err.new ≡ err.old }
 {
     match ended {

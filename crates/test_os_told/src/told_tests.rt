@@ -196,7 +196,7 @@ const SHORT: &str =
 /// Over some rooms there is memory for a child and none to count it: that is told, and that it was started.
 fn run_short(rt: &HostRuntime) -> Result<(), Fail> {
     let id = Id::read(b"m").ok_or("no id")?;
-    for step in 4..80usize {
+    for step in 4..160usize {
         let heap = LocalHeap::new(rt.alloc(), 16 * step)?;
         run_over(rt, &heap, id);
     }
