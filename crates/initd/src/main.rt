@@ -1,7 +1,7 @@
 //! `initd`: init(8) over the operating system, or over a script of what a system did, and the judge of their traces.
 #![tactic(auto)]
 
-use initd_command::{USAGE, run_words};
+use initd_command::{OsHosts, USAGE, run_words};
 use program_io::{StandardFiles, report_unread_words, words};
 use std::process::ExitCode;
 
@@ -11,6 +11,7 @@ fn main(rt: HostRuntime) -> ExitCode {
         Ok(words) => run_words(
             &rt,
             &rt,
+            &mut OsHosts::new(rt),
             rt.alloc(),
             words,
             &mut rt.stdout(),

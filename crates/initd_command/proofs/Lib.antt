@@ -1,3 +1,4 @@
 pub mod Ended
 pub mod Noted
 pub mod Reported
+pub mod Ran

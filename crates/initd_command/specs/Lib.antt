@@ -1,5 +1,6 @@
 pub mod Endings
 pub mod Lines
+pub mod Ran
 pub mod Runs
 pub mod Services
 pub mod Turned

@@ -2,12 +2,15 @@
 
 ghost use Rattle.std.specs.Prelude.{◌≡◌, map, string_bytes};
 ghost use Rattle.initd_command.specs.Endings.{Ending, Reports, status_of};
+ghost use Rattle.initd_command.specs.Ran.{AsksBy};
 ghost use Rattle.initd_command.specs.Runs.{EndsBy, EndsVersion};
 
 use crate::check::check_file;
+use crate::hosts::Hosts;
 use crate::reports::{report, report_memory};
 use crate::run::run_files;
 use crate::simulate::simulate_files;
+use child_host::Host;
 use command_words::report_refused_words;
 use initd_options::{WordFault, Words, read_words};
 use path_texts::Texts;
@@ -16,8 +19,7 @@ use program_version::write_version;
 use std::alloc::Global;
 use std::fs::File;
 use std::io::Write;
-use std::process::Processes;
-use std::rt::{Clock, Files};
+use std::rt::Files;
 
 /// What standard error gets of words that are no command line, after a line that says why.
 pub const USAGE: &str =
@@ -63,30 +65,36 @@ const UNVERSIONED: &str = "initd: the version could not be written\n";
 /// `--judge`, is unlawful, 3 where a run used up its turns, 4 where a file can't be read, the channel is in use, the
 /// trace or the output fails or memory runs out; of a run with `--result` that ends drained, the last status of that
 /// entry. The trace of a simulated run, the verdict on a trace, the faults of the inittab of a run or the version are
-/// written on `out`, and a fault is reported on `err`.
-pub fn run_words<R, T, W, E>(
+/// written on `out`, and a fault is reported on `err`. The turns of a run are made over a host of the source of hosts,
+/// which takes it back.
+pub fn run_words<R, T, H, S, W, E>(
     rt: &R,
     texts: &T,
+    hosts: &mut S,
     alloc: Global,
     words: Vec<String>,
     out: &mut W,
     err: &mut E,
 ) -> u8
 where
-    R: Processes + Files<File = File> + Clock + Print + Eprint + Clone + Drop,
+    R: Files<File = File> + Eprint,
     T: Texts,
+    H: Host + Drop,
+    S: Hosts<H>,
     W: Write,
     E: Write,
     ensures { (ending : Ending) × (result ≡ status_of ending)
         × EndsBy (T.text_at texts.now) (map string_bytes words.items) ending
         (W.contents out.old) (W.contents out.new)
-        × Reports ending (E.contents err.old) (E.contents err.new) }
+        × Reports ending (E.contents err.old) (E.contents err.new)
+        × AsksBy (T.text_at texts.now) (map string_bytes words.items) ending
+        (S.told hosts.old) (S.told hosts.new) }
 {
     match read_words(alloc, words.as_slice()) {
         Ok(Words::Version) => tell_version(out, err),
         Ok(Words::Simulate(said)) => simulate_files(texts, alloc, &said, out, err),
         Ok(Words::Check(path)) => check_file(texts, alloc, path.as_str(), out, err),
-        Ok(Words::Run(said)) => run_files(rt, texts, alloc, &said, out, err),
+        Ok(Words::Run(said)) => run_files(rt, texts, hosts, alloc, &said, out, err),
         Err(WordFault::Usage(reason)) => {
             report_refused_words("initd", reason.as_str(), USAGE, err)
         }

@@ -4,13 +4,17 @@
 mod check;
 mod command;
 mod ends;
+mod hosts;
 mod lines;
 mod logs;
+mod os_hosts;
 mod patience;
 mod reports;
 mod run;
 mod simulate;
 
 pub use command::{USAGE, run_words};
+pub use hosts::Hosts;
+pub use os_hosts::OsHosts;
 pub use run::make_turns;
 pub use simulate::simulate_texts;

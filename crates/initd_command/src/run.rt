@@ -1,18 +1,21 @@
 //! `initd run`: what it stands on, and its turns.
 
-ghost use Rattle.std.specs.Prelude.{◌≡◌, ◌∷◌, not, true, ℕ, List, Option, None, Some, [], option_map, unwrap_or, IfErr, IfOk};
+ghost use Rattle.std.specs.Prelude.{◌≡◌, ◌∷◌, not, true, ℕ, List, Option, None, Some, [], option_map, unwrap_or, IfErr, IfOk, OnErr};
 ghost use Rattle.init_words.specs.Parts.{NamedText, texts_of};
 ghost use Rattle.inittab_text.specs.Parts.{faults_of_parts, table_of_texts};
 ghost use Rattle.initd_command.specs.Endings.{Ending, Reports, ReportsUnled, status_of};
+ghost use Rattle.initd_command.specs.Ran.{MakesTurns, RanBy, RanOver};
+ghost use Rattle.initd_command.specs.Turned.{End, ReportsEnd, end_status};
 ghost use Rattle.init_words.specs.declared.entries.Entry.{Entry};
 ghost use Rattle.init_words.specs.declared.levels.Level.{Level};
 ghost use Rattle.child_host.specs.Record.{Since};
 ghost use Rattle.supervisor.specs.Opening.{IsOpeningOf};
 ghost use Rattle.os_host.specs.LineFaults.{faults_text};
 ghost use Rattle.initd_options.specs.Options.{run_of};
-ghost use Rattle.initd_command.specs.Services.{AreFiles, EndsRun, EndsTold, FailsBy, FailsOn, FailsOver, FailsToGet, FailsToLock, FailsToPart, FailsToRead, HasInittab, IsInittab, IsOfFault, IsReadOf, Turns, TurnsFrom, TurnsOver, is_unled, judgement_for};
+ghost use Rattle.initd_command.specs.Services.{AreFiles, EndsRun, EndsServed, EndsTold, FailsBy, FailsOn, FailsOver, FailsToGet, FailsToLock, FailsToPart, FailsToRead, HasInittab, IsInittab, IsOfFault, IsReadOf, Turns, TurnsFrom, TurnsOver, is_unled, judgement_for};
 
 use crate::ends::report_end;
+use crate::hosts::Hosts;
 use crate::logs::{FileLog, LoudLog, NoLog};
 use crate::patience::Patience;
 use crate::reports::{
@@ -26,7 +29,7 @@ use init_words::{Level, Memory, Part};
 use initd_options::RunWords;
 use inittab_text::{Table, TableFault, read_parts};
 use judged_log::{JudgedLog, Judgement};
-use os_host::{FolderFault, OsHost, faults_text, with_folder};
+use os_host::{FolderFault, faults_text, with_folder};
 use path_texts::Texts;
 use program_io::{DEVICE_FAULT, refuse_special};
 use run_notes::RunNotes;
@@ -36,8 +39,7 @@ use std::fs::{File, metadata};
 use std::io;
 use std::io::Write;
 use std::os::unix::fs::MetadataExt;
-use std::process::Processes;
-use std::rt::{Clock, Files};
+use std::rt::Files;
 use supervisor::{Opening, Served};
 use trace_log::Log;
 
@@ -102,9 +104,9 @@ struct Inittab {
 
 /// A run before its first turn.
 #[derive(Drop)]
-struct Run<R: Processes + Files<File = File> + Clock + Print + Eprint + Drop> {
+struct Run<H> {
     opening: Opening,
-    host: OsHost<R>,
+    host: H,
     /// The file of the trace, where one is to be written.
     trace: Option<File>,
     /// The lines that tell the faults of the inittab.
@@ -115,58 +117,69 @@ struct Run<R: Processes + Files<File = File> + Clock + Print + Eprint + Drop> {
 
 /// Runs init over the operating system: reads the inittab, takes the lock of the channel, creates the trace anew, and
 /// makes the turns.
-pub(crate) fn run_files<R, T: Texts, W: Write, E: Write>(
+pub(crate) fn run_files<R, T: Texts, H: Host + Drop, S: Hosts<H>, W: Write, E: Write>(
     rt: &R,
     texts: &T,
+    hosts: &mut S,
     alloc: Global,
     said: &RunWords,
     out: &mut W,
     err: &mut E,
 ) -> u8
 where
-    R: Processes + Files<File = File> + Clock + Print + Eprint + Clone + Drop,
+    R: Files<File = File> + Eprint,
     ensures { (ending : Ending) × (result ≡ status_of ending)
         × EndsRun (T.text_at texts.now) (run_of said.now) ending
         (W.contents out.old) (W.contents out.new)
-        × Reports ending (E.contents err.old) (E.contents err.new) }
+        × Reports ending (E.contents err.old) (E.contents err.new)
+        × RanBy (T.text_at texts.now) (run_of said.now) ending (S.told hosts.old)
+        (S.told hosts.new) }
 {
-    match open_run(rt, texts, alloc, said) {
-        Ok(run) => make_run(rt, alloc, said, run, out, err),
+    match open_run(rt, texts, hosts, alloc, said) {
+        Ok(run) => make_run(rt, hosts, alloc, said, run, out, err),
         Err(fault) => report_run_fault(alloc, said, &fault, err),
     }
 }
 
 /// A run with all that it stands on. Nothing is written before its inittab is read, and nothing but an empty channel,
 /// where there is none, before it has the channel's lock.
-fn open_run<R, T: Texts>(
+fn open_run<R, T: Texts, H: Host + Drop, S: Hosts<H>>(
     rt: &R,
     texts: &T,
+    hosts: &mut S,
     alloc: Global,
     said: &RunWords,
-) -> Result<Run<R>, RunFault>
+) -> Result<Run<H>, RunFault>
 where
-    R: Processes + Files<File = File> + Clock + Print + Eprint + Clone + Drop,
+    R: Files<File = File> + Eprint,
     ensures ok { IfOk result (λ run. HasInittab (T.text_at texts.now) (run_of said.now)
         (λ parts. (run.faults.items ≡ faults_text parts (faults_of_parts (texts_of parts)))
-        × (run.is_unled ≡ is_unled said.now.level (table_of_texts (texts_of parts))))) }
+        × (run.is_unled ≡ is_unled said.now.level (table_of_texts (texts_of parts)))
+        × IsOpeningOf said.now.level (table_of_texts (texts_of parts)) run.opening)) }
+    ensures host { IfOk result (λ run. H.told run.host ≡ S.told hosts.old) }
     ensures err { IfErr result (FailsBy (T.text_at texts.now) (run_of said.now)) }
+    ensures unasked { OnErr result (S.told hosts.new ≡ S.told hosts.old) }
 {
     refuse_shared(rt, alloc, said)?;
     let inittab = read_inittab(rt, texts, alloc, said)?;
     let lock = take_lock(rt, alloc, said.initctl.as_str())?;
-    open_over(rt, alloc, said, lock, inittab)
+    open_over(rt, hosts, alloc, said, lock, inittab)
 }
 
 /// A run over an inittab that was read, under the lock of the channel.
-fn open_over<R>(
+fn open_over<R, H: Host + Drop, S: Hosts<H>>(
     rt: &R,
+    hosts: &mut S,
     alloc: Global,
     said: &RunWords,
     lock: ChannelLock,
     inittab: Inittab,
-) -> Result<Run<R>, RunFault>
+) -> Result<Run<H>, RunFault>
 where
-    R: Processes + Files<File = File> + Clock + Print + Eprint + Clone + Drop,
+    R: Files<File = File>,
+    ensures opening { IfOk result (λ run. IsOpeningOf said.now.level inittab.table run.opening) }
+    ensures host { IfOk result (λ run. H.told run.host ≡ S.told hosts.old) }
+    ensures unasked { OnErr result (S.told hosts.new ≡ S.told hosts.old) }
     ensures faults { IfOk result (λ run. run.faults.items ≡ inittab.faults.items) }
     ensures unled { IfOk result (λ run. run.is_unled ≡ is_unled said.now.level inittab.table) }
     ensures err { IfErr result (FailsOver (run_of said.now)) }
@@ -174,8 +187,14 @@ where
     let Inittab { table, faults } = inittab;
     let is_unled = is_unled(said.level, &table);
     let opening = Opening::new(alloc, table, said.level)?;
-    let host = host_of(rt, alloc, said)?.holding(lock);
-    let trace = create_trace(rt, said)?;
+    let host = hosts.open(alloc, said, lock)?;
+    let trace = match create_trace(rt, said) {
+        Ok(trace) => trace,
+        Err(fault) => {
+            hosts.close(host);
+            return Err(fault);
+        }
+    };
     Ok(Run {
         opening,
         host,
@@ -246,7 +265,7 @@ fn take_lock<R: Files<File = File>>(
 }
 
 /// The folder of the inittab's further files, where words name one.
-fn folder_of(said: &RunWords) -> Option<&str>
+pub(crate) fn folder_of(said: &RunWords) -> Option<&str>
     ensures { option_map (λ path. path.now) result ≡ (run_of said.now).inittab_dir }
 {
     match &said.inittab_dir {
@@ -343,32 +362,6 @@ fn created<R: Files>(rt: &R, path: &str) -> io::Result<R::File> {
     File::create(rt, path)
 }
 
-/// The host that words name.
-fn host_of<R>(rt: &R, alloc: Global, said: &RunWords) -> Result<OsHost<R>, Memory>
-where
-    R: Processes + Files<File = File> + Clock + Print + Eprint + Clone + Drop,
-{
-    let inittab = said.inittab.as_str();
-    let initctl = said.initctl.as_str();
-    let state = said.state.as_str();
-    let host = OsHost::new(
-        rt.clone()?,
-        alloc,
-        "initd",
-        inittab,
-        initctl,
-        state,
-        folder_of(said),
-    )?;
-    let host = host.with_pause(said.pause.as_str())?;
-    let host = if said.fresh { host.fresh() } else { host };
-    let host = if said.verbose { host.verbose() } else { host };
-    match &said.logs {
-        Some(folder) => host.with_logs(folder.as_str()),
-        None => Ok(host),
-    }
-}
-
 /// Reports why a run ended before its first turn, and gives the exit status.
 fn report_run_fault<E: Write>(alloc: Global, said: &RunWords, fault: &RunFault, err: &mut E) -> u8
     ensures { (ending : Ending) × (result ≡ status_of ending)
@@ -404,58 +397,68 @@ fn trace_of(said: &RunWords) -> &str
 }
 
 /// Tells the faults of the inittab's lines, and makes the turns.
-fn make_run<R, W: Write, E: Write>(
+fn make_run<R, H: Host + Drop, S: Hosts<H>, W: Write, E: Write>(
     rt: &R,
+    hosts: &mut S,
     alloc: Global,
     said: &RunWords,
-    run: Run<R>,
+    run: Run<H>,
     out: &mut W,
     err: &mut E,
 ) -> u8
 where
-    R: Processes + Files<File = File> + Clock + Print + Eprint + Clone + Drop,
+    R: Files<File = File> + Eprint,
     ensures { (ending : Ending) × (result ≡ status_of ending)
         × EndsTold (run_of said.now) run.is_unled run.faults.items ending
         (W.contents out.old) (W.contents out.new)
-        × Reports ending (E.contents err.old) (E.contents err.new) }
+        × Reports ending (E.contents err.old) (E.contents err.new)
+        × ((table : List Entry) → IsOpeningOf (run_of said.now).level table run.opening
+        → RanOver (run_of said.now) table ending (H.told run.host) (S.told hosts.new)) }
 {
-    if !tell(&run.faults, out) {
-        report(UNTOLD, err);
-        return DEVICE_FAULT;
-    }
-    report_unled(run.is_unled, err);
     let Run {
         opening,
-        host,
+        mut host,
         trace,
-        ..
+        faults,
+        is_unled,
     } = run;
-    make_traced(rt, alloc, said, opening, host, trace, err)
+    if !tell(&faults, out) {
+        report(UNTOLD, err);
+        hosts.close(host);
+        return DEVICE_FAULT;
+    }
+    report_unled(is_unled, err);
+    let status = make_traced(rt, alloc, said, opening, &mut host, trace, err);
+    hosts.close(host);
+    status
 }
 
 /// Makes the turns, and writes the trace where there is a file for it.
-fn make_traced<R, E: Write>(
+fn make_traced<R, H: Host, E: Write>(
     rt: &R,
     alloc: Global,
     said: &RunWords,
     opening: Opening,
-    mut host: OsHost<R>,
+    host: &mut H,
     trace: Option<File>,
     err: &mut E,
 ) -> u8
 where
-    R: Processes + Files<File = File> + Clock + Print + Eprint + Clone + Drop,
-    ensures { Turns (run_of said.now) result (E.contents err.old) (E.contents err.new) }
+    R: Files<File = File> + Eprint,
+    ensures { (end : End) × (result ≡ end_status end) × EndsServed (run_of said.now) end
+        × ReportsEnd end (E.contents err.old) (E.contents err.new)
+        × ((table : List Entry) → IsOpeningOf (run_of said.now).level table opening
+        → Since (H.told host.old) (H.told host.new) (MakesTurns (run_of said.now) table end)) }
 {
     let Some(file) = trace else {
-        return make_turns(rt, alloc, said, opening, &mut host, NoLog {}, err);
+        return make_turns(rt, alloc, said, opening, host, NoLog {}, err);
     };
     let log = FileLog::new(rt, alloc, trace_of(said), file);
     let log = LoudLog { rt, log };
     if said.brief {
-        return make_turns(rt, alloc, said, opening, &mut host, BriefLog::new(log), err);
+        return make_turns(rt, alloc, said, opening, host, BriefLog::new(log), err);
     }
-    make_turns(rt, alloc, said, opening, &mut host, log, err)
+    make_turns(rt, alloc, said, opening, host, log, err)
 }
 
 /// Reports that nothing names a level, where that is so.
@@ -482,6 +485,10 @@ pub fn make_turns<R: Eprint, H: Host, L: Log, E: Write>(
 where
     L: Drop,
     ensures turns { Turns (run_of said.now) result (E.contents err.old) (E.contents err.new) }
+    ensures made { (end : End) × (result ≡ end_status end) × EndsServed (run_of said.now) end
+        × ReportsEnd end (E.contents err.old) (E.contents err.new)
+        × ((table : List Entry) → IsOpeningOf (run_of said.now).level table opening
+        → Since (H.told host.old) (H.told host.new) (MakesTurns (run_of said.now) table end)) }
     ensures told { (level : Option Level) (table : List Entry) → IsOpeningOf level table opening
         → Since (H.told host.old) (H.told host.new) (λ calls. TurnsFrom level table calls
         (TurnsOver (run_of said.now) result (E.contents err.old) (E.contents err.new))) }

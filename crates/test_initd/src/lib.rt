@@ -5,6 +5,8 @@
 #[cfg(test)]
 mod edge_tests;
 #[cfg(test)]
+mod host_tests;
+#[cfg(test)]
 mod io_tests;
 #[cfg(test)]
 mod judge_tests;

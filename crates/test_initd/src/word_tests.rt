@@ -1,7 +1,7 @@
 //! Command lines over texts that are kept in memory, and over writers that fail. What else initd answers to a command line:
 //! tools/pages.d/initd-lines.
 
-use initd_command::run_words;
+use initd_command::{OsHosts, run_words};
 use path_texts::{KeptTexts, Texts};
 use std::alloc::{AllocError, Global};
 use std::fs;
@@ -25,7 +25,8 @@ where
     R: Processes + Files<File = File> + Clock + Print + Eprint + Clone + Drop,
 {
     let words = line_words(alloc, line)?;
-    Ok(run_words(rt, texts, alloc, words, out, err))
+    let mut hosts = OsHosts::new(rt.clone()?);
+    Ok(run_words(rt, texts, &mut hosts, alloc, words, out, err))
 }
 
 /// A line over kept texts ends with this status, and writes and reports this.

@@ -1,4 +1,4 @@
-use Rattle.std.proofs.Common.{◌≡◌, rules, List, ℕ, Option, Some, None, map, string_bytes}
+use Rattle.std.proofs.Common.{◌≡◌, refl, sym, subst, rules, List, ℕ, Option, Some, None, map, string_bytes}
 use Rattle.std.proofs.KnownBytes.{Keeps-refl}
 use Rattle.path_texts.specs.Known.{KnownTexts}
 use Rattle.initd_options.specs.CommandLine.{Said, judges, read_of, simulation_of, simulates, runs, version}
@@ -9,7 +9,9 @@ use Rattle.trace_verdict.specs.declared.findings.Finding.{Finding}
 use Rattle.trace_verdict.specs.declared.findings.Finding.TheVariants.{Lawful, Breach, Torn}
 use Rattle.trace_verdict.specs.Answers.{Named}
 use Rattle.initd_command.specs.Verdicts.{EndsFound}
+use Rattle.initd_command.specs.Ran.{AsksSaid}
 use Rattle.initd_command.specs.Runs.{EndsBy, EndsSaid}
+use Rattle.initd_command.proofs.Ran.{none_asked}
 use Rattle.initd_command.proofs.command.run_words.Goals as goal
 
 -- a verdict is no usage fault
@@ -56,30 +58,30 @@ pub returns-in-Ok-Simulate : goal.returns-in-Ok-Simulate
 returns-in-Ok-Simulate g c =
     let (ending, status, ends, reported) = c.simulate_files.ensures in
     let is : read_of (map string_bytes c.args.words.items) ≡ Some (simulates (simulation_of c.in-Ok-Simulate.said)) = search rules in
-    (ending, status, ends_by (g.T.Texts.text_at c.args.texts.now) (map string_bytes c.args.words.items) (simulates (simulation_of c.in-Ok-Simulate.said)) is ending (g.W.Write.contents c.args.out.now) (g.W.Write.contents c.simulate_files.new.out) ends, reported)
+    (ending, status, ends_by (g.T.Texts.text_at c.args.texts.now) (map string_bytes c.args.words.items) (simulates (simulation_of c.in-Ok-Simulate.said)) is ending (g.W.Write.contents c.args.out.now) (g.W.Write.contents c.simulate_files.new.out) ends, reported, subst (λ said. AsksSaid (g.T.Texts.text_at c.args.texts.now) said ending (g.S.Hosts.told c.args.hosts.now) (g.S.Hosts.told c.args.hosts.now)) (sym is) refl)
 
 pub returns-in-Ok-Check : goal.returns-in-Ok-Check
 returns-in-Ok-Check g c =
     let (ending, status, ends, reported) = c.check_file.ensures in
     let is : read_of (map string_bytes c.args.words.items) ≡ Some (judges c.as_str.result.now) = search rules in
-    (ending, status, ends_by (g.T.Texts.text_at c.args.texts.now) (map string_bytes c.args.words.items) (judges c.as_str.result.now) is ending (g.W.Write.contents c.args.out.now) (g.W.Write.contents c.check_file.new.out) ends, reported)
+    (ending, status, ends_by (g.T.Texts.text_at c.args.texts.now) (map string_bytes c.args.words.items) (judges c.as_str.result.now) is ending (g.W.Write.contents c.args.out.now) (g.W.Write.contents c.check_file.new.out) ends, reported, subst (λ said. AsksSaid (g.T.Texts.text_at c.args.texts.now) said ending (g.S.Hosts.told c.args.hosts.now) (g.S.Hosts.told c.args.hosts.now)) (sym is) refl)
 
 pub returns-in-Ok-Run : goal.returns-in-Ok-Run
 returns-in-Ok-Run g c =
-    let (ending, status, ends, reported) = c.run_files.ensures in
+    let (ending, status, ends, reported, ran) = c.run_files.ensures in
     let is : read_of (map string_bytes c.args.words.items) ≡ Some (runs (run_of c.in-Ok-Run.said)) = search rules in
-    (ending, status, ends_by (g.T.Texts.text_at c.args.texts.now) (map string_bytes c.args.words.items) (runs (run_of c.in-Ok-Run.said)) is ending (g.W.Write.contents c.args.out.now) (g.W.Write.contents c.run_files.new.out) ends, reported)
+    (ending, status, ends_by (g.T.Texts.text_at c.args.texts.now) (map string_bytes c.args.words.items) (runs (run_of c.in-Ok-Run.said)) is ending (g.W.Write.contents c.args.out.now) (g.W.Write.contents c.run_files.new.out) ends, reported, subst (λ said. AsksSaid (g.T.Texts.text_at c.args.texts.now) said ending (g.S.Hosts.told c.args.hosts.now) (g.S.Hosts.told c.run_files.new.hosts)) (sym is) ran)
 
 pub returns-in-Ok-Version : goal.returns-in-Ok-Version
 returns-in-Ok-Version g c =
     let (ending, status, ends, reported) = c.tell_version.ensures in
     let is : read_of (map string_bytes c.args.words.items) ≡ Some version = search rules in
-    (ending, status, ends_by (g.T.Texts.text_at c.args.texts.now) (map string_bytes c.args.words.items) version is ending (g.W.Write.contents c.args.out.now) (g.W.Write.contents c.tell_version.new.out) ends, reported)
+    (ending, status, ends_by (g.T.Texts.text_at c.args.texts.now) (map string_bytes c.args.words.items) version is ending (g.W.Write.contents c.args.out.now) (g.W.Write.contents c.tell_version.new.out) ends, reported, subst (λ said. AsksSaid (g.T.Texts.text_at c.args.texts.now) said ending (g.S.Hosts.told c.args.hosts.now) (g.S.Hosts.told c.args.hosts.now)) (sym is) refl)
 
 pub returns-in-Err-Usage : goal.returns-in-Err-Usage
 returns-in-Err-Usage g c =
     let none : read_of (map string_bytes c.args.words.items) ≡ None = search rules in
-    (usage c.as_str-in-Err-Usage.result.now, c.report_refused_words.ensures.status, (none, Keeps-refl (g.W.Write.contents c.args.out.now)), c.report_refused_words.ensures.report)
+    (usage c.as_str-in-Err-Usage.result.now, c.report_refused_words.ensures.status, (none, Keeps-refl (g.W.Write.contents c.args.out.now)), c.report_refused_words.ensures.report, subst (λ said. AsksSaid (g.T.Texts.text_at c.args.texts.now) said (usage c.as_str-in-Err-Usage.result.now) (g.S.Hosts.told c.args.hosts.now) (g.S.Hosts.told c.args.hosts.now)) (sym none) refl)
 
 pub returns : goal.returns
-returns g c = (no_memory, c.report_memory.ensures.status, Keeps-refl (g.W.Write.contents c.args.out.now), c.report_memory.ensures.reported)
+returns g c = (no_memory, c.report_memory.ensures.status, Keeps-refl (g.W.Write.contents c.args.out.now), c.report_memory.ensures.reported, none_asked (g.T.Texts.text_at c.args.texts.now) (read_of (map string_bytes c.args.words.items)) (g.S.Hosts.told c.args.hosts.now))

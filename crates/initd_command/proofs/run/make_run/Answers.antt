@@ -1,19 +1,31 @@
-use Rattle.std.proofs.Common.{rules}
+use Rattle.std.proofs.Common.{rules, refl, sym, subst}
 use Rattle.std.specs.Io.KnownBytes.{Appends}
+use Rattle.program_io.specs.Writing.{AppendsPrefix}
+use Rattle.child_host.specs.Record.{Since}
 use Rattle.initd_options.specs.Options.{run_of}
-use Rattle.initd_command.proofs.Ended.{turned_run, untold_run}
+use Rattle.initd_command.specs.Endings.{turned, untold}
+use Rattle.initd_command.specs.Ran.{MakesTurns}
+use Rattle.initd_command.proofs.Ended.{told_ends}
 use Rattle.initd_command.proofs.run.make_run.Goals as goal
 
 pub returns-then-not-tell : goal.returns-then-not-tell
-returns-then-not-tell g c =
-    untold_run (run_of c.args.said.now) c.args.run.is_unled c.args.run.faults.items c.deref.result.now (g.W.Write.contents c.args.out.now)
-    (g.W.Write.contents c.tell.new.out) (g.E.Write.contents c.args.err.now) (g.E.Write.contents c.report.new.err) c.deref.ensures.value
-    c.tell.ensures.part c.report.ensures
+returns-then-not-tell g c = (
+  untold,
+  refl,
+  subst (AppendsPrefix (g.W.Write.contents c.args.out.now) (g.W.Write.contents c.tell.new.out)) c.deref.ensures.value c.tell.ensures.part,
+  c.report.ensures,
+  λ table opens. c.close.ensures,
+)
 
 pub returns : goal.returns
 returns g c =
+    let service = run_of c.args.said.now in
     let told : Appends (g.W.Write.contents c.args.out.now) (g.W.Write.contents c.tell.new.out) c.deref.result.now = search rules in
-    turned_run (run_of c.args.said.now) c.args.run.is_unled c.args.run.faults.items c.deref.result.now c.make_traced.result
-    (g.W.Write.contents c.args.out.now) (g.W.Write.contents c.tell.new.out) (g.E.Write.contents c.args.err.now)
-    (g.E.Write.contents c.report_unled.new.err) (g.E.Write.contents c.make_traced.new.err) c.deref.ensures.value told c.report_unled.ensures
-    c.make_traced.ensures
+    let (end, now, served, reported, made) = c.make_traced-status.ensures in (
+      turned c.args.run.is_unled end,
+      now,
+      told_ends service c.args.run.is_unled c.args.run.faults.items (g.W.Write.contents c.args.out.now) (g.W.Write.contents c.tell.new.out) end served
+          (subst (Appends (g.W.Write.contents c.args.out.now) (g.W.Write.contents c.tell.new.out)) c.deref.ensures.value told),
+      (g.E.Write.contents c.report_unled.new.err, c.report_unled.ensures, reported),
+      λ table opens. subst (λ now. Since (g.H.Host.told c.args.run.host) now (MakesTurns service table end)) (sym c.close-2.ensures) (made table opens),
+    )

@@ -4,6 +4,10 @@ use Rattle.judged_log.specs.Judgements.{Finds, JudgedTrace}
 use Rattle.initd_options.specs.Options.{run_of}
 use Rattle.waiting_lines.specs.Lines.{waiting_text}
 use Rattle.initd_command.specs.Services.{IsServed, end_of, judgement_for, noted_of}
+use Rattle.child_host.proofs.Record.{Since-map}
+use Rattle.host_trace.specs.Turns.{AreTurns}
+use Rattle.supervisor.specs.Opening.{IsOpening}
+use Rattle.supervisor.specs.declared.serving.Served.{Served}
 use Rattle.initd_command.proofs.Noted.{found_for, judged_for, turns_over}
 use Rattle.initd_command.proofs.run.make_turns.Goals as goal
 
@@ -23,6 +27,27 @@ returns-clause-turns g c =
         asked,
       ),
       c.report_end.ensures.reported,
+    )
+
+pub returns-clause-made : goal.returns-clause-made
+returns-clause-made g c =
+    let service = run_of c.args.said.now in
+    let noted = noted_of c.end_log-served.new.notes (waiting_text c.serve-core.result.1) c.judgement_for.result in
+    let most = subst (IsServed service) (sym c.end_log-served.ensures.turns) (c.serve-core.ensures.most, c.serve-core.ensures.fewer) in
+    let asked : is_some c.judgement_for.result ≡ service.judge =
+    subst (λ j. is_some j ≡ service.judge) (sym c.judgement_for.ensures) (judged_for service c.judgement-found.result) in (
+      end_of service noted c.end_log-served.result,
+      c.report_end.ensures.status,
+      (c.end_log-served.result, noted, refl, most, asked),
+      c.report_end.ensures.reported,
+      λ table opens. Since-map _ _ _ _ (c.serve-core.ensures.trace service.level table opens) (λ calls made. record {
+        served = c.end_log-served.result;
+        noted = noted;
+        turns = subst (λ (s : Served). AreTurns service.drain (IsOpening service.level table) s.turns calls) (sym c.end_log-served.ensures.turns) made.0;
+        most = most;
+        asked = asked;
+        ends = refl;
+      }),
     )
 
 pub returns-clause-told : goal.returns-clause-told

@@ -1,0 +1,45 @@
+-- Which calls a run of init makes of its host.
+use Rattle.std.specs.Prelude.{◌≡◌, ℕ, List, Option, Some}
+use Rattle.init_words.specs.Parts.{texts_of}
+use Rattle.init_words.specs.declared.entries.Entry.{Entry}
+use Rattle.inittab_text.specs.Parts.{table_of_texts}
+use Rattle.path_texts.specs.Known.{KnownTexts}
+use Rattle.initd_options.specs.CommandLine.{Said, read_of, runs}
+use Rattle.initd_options.specs.Options.{RunSaid}
+use Rattle.child_host.specs.Calls.{HostCall}
+use Rattle.child_host.specs.Record.{Since}
+use Rattle.host_trace.specs.Turns.{AreTurns}
+use Rattle.supervisor.specs.Opening.{IsOpening}
+use Rattle.supervisor.specs.declared.serving.Served.{Served}
+use Rattle.initd_command.specs.Turned.{End}
+use Rattle.initd_command.specs.Endings.{Ending, turned}
+use Rattle.initd_command.specs.Services.{HasInittab, IsJudged, IsServed, Noted, end_of}
+
+-- the calls are those of turns from the opening over this table on, as many as the words of the run say, or fewer where
+-- it ended drained; and the turns ended so
+pub record MakesTurns (service : RunSaid) (table : List Entry) (end : End) (calls : List HostCall) : Type 0 where
+  pub served : Served
+  pub noted : Noted
+  pub turns : AreTurns service.drain (IsOpening service.level table) served.turns calls
+  pub most : IsServed service served
+  pub asked : IsJudged service noted
+  pub ends : end ≡ end_of service noted served
+
+-- a run over this table that comes to its turns makes them; any other asks nothing of a host
+abbrev pub RanOver : RunSaid → List Entry → Ending → Option (List HostCall) → Option (List HostCall) → Type 0
+RanOver service table (turned unled end) old new = Since old new (MakesTurns service table end)
+RanOver service table _ old new = new ≡ old
+
+-- a run that comes to its turns makes them over the inittab at its paths; any other asks nothing of a host
+abbrev pub RanBy : KnownTexts → RunSaid → Ending → Option (List HostCall) → Option (List HostCall) → Type 0
+RanBy text_at service (turned unled end) old new =
+    HasInittab text_at service (λ parts. Since old new (MakesTurns service (table_of_texts (texts_of parts)) end))
+RanBy text_at service _ old new = new ≡ old
+
+-- what words ask of hosts: those of a run what the run asks, any others nothing
+abbrev pub AsksSaid : KnownTexts → Option Said → Ending → Option (List HostCall) → Option (List HostCall) → Type 0
+AsksSaid text_at (Some (runs service)) ending old new = RanBy text_at service ending old new
+AsksSaid text_at _ ending old new = new ≡ old
+
+abbrev pub AsksBy : KnownTexts → List (List ℕ) → Ending → Option (List HostCall) → Option (List HostCall) → Type 0
+AsksBy text_at words ending old new = AsksSaid text_at (read_of words) ending old new

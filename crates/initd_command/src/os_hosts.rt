@@ -1,0 +1,94 @@
+//! The hosts over the operating system.
+
+ghost use Rattle.std.specs.Prelude.{◌≡◌, []};
+
+use crate::hosts::Hosts;
+use crate::run::folder_of;
+use channel_files::ChannelLock;
+use init_words::Memory;
+use initd_options::RunWords;
+use os_host::OsHost;
+use proof_values::Noted;
+use std::alloc::Global;
+use std::fs::File;
+use std::marker::Model;
+use std::process::Processes;
+use std::rt::{Clock, Files};
+use telling_host::{CallList, Telling, no_calls};
+
+/// The hosts that ask the operating system. They tell the calls that they were asked, which proofs alone can read.
+#[derive(Drop)]
+pub struct OsHosts<R: Processes + Files<File = File> + Clock + Print + Eprint + Clone + Drop> {
+    rt: R,
+    calls: Noted<CallList>,
+}
+
+impl<R: Processes + Files<File = File> + Clock + Print + Eprint + Clone + Drop> Model
+    for OsHosts<R> {
+    ghost use Rattle.std.specs.Prelude.{List};
+    ghost use Rattle.child_host.specs.Calls.{HostCall};
+
+    ghost Value = { List HostCall };
+
+    ghost view = { λ hosts. hosts.calls.value };
+}
+
+impl<R: Processes + Files<File = File> + Clock + Print + Eprint + Clone + Drop> OsHosts<R> {
+    /// Hosts of which no call was asked yet.
+    pub fn new(rt: R) -> OsHosts<R>
+        ensures { result ≡ [] }
+    {
+        OsHosts {
+            rt,
+            calls: no_calls(),
+        }
+    }
+}
+
+impl<R: Processes + Files<File = File> + Clock + Print + Eprint + Clone + Drop> Hosts<
+    Telling<OsHost<R>>,
+> for OsHosts<R> {
+    ghost use Rattle.std.specs.Prelude.{Some};
+
+    ghost told = { λ hosts. Some hosts };
+
+    fn open(
+        &mut self,
+        alloc: Global,
+        said: &RunWords,
+        lock: ChannelLock,
+    ) -> Result<Telling<OsHost<R>>, Memory> {
+        let host = host_of(&self.rt, alloc, said)?.holding(lock);
+        Ok(Telling::after(&self.calls, host))
+    }
+
+    fn close(&mut self, host: Telling<OsHost<R>>) {
+        self.calls = host.calls();
+    }
+}
+
+/// The host that words name.
+fn host_of<R>(rt: &R, alloc: Global, said: &RunWords) -> Result<OsHost<R>, Memory>
+where
+    R: Processes + Files<File = File> + Clock + Print + Eprint + Clone + Drop,
+{
+    let inittab = said.inittab.as_str();
+    let initctl = said.initctl.as_str();
+    let state = said.state.as_str();
+    let host = OsHost::new(
+        rt.clone()?,
+        alloc,
+        "initd",
+        inittab,
+        initctl,
+        state,
+        folder_of(said),
+    )?;
+    let host = host.with_pause(said.pause.as_str())?;
+    let host = if said.fresh { host.fresh() } else { host };
+    let host = if said.verbose { host.verbose() } else { host };
+    match &said.logs {
+        Some(folder) => host.with_logs(folder.as_str()),
+        None => Ok(host),
+    }
+}
