@@ -1,0 +1,8 @@
+use Rattle.std.proofs.Common.{◌∙◌}
+use Rattle.view_lines.proofs.Lines.{why_is}
+use Rattle.view_lines.proofs.reasons.why_lines.Goals as goal
+
+pub returns : goal.returns
+returns g c = λ past seen.
+    c.in_ok-add_why.ensures
+    ∙ why_is c.stage-stage.result c.time-now.result c.row-row.result c.args.id.now past (c.stage-stage.ensures past seen) (c.time-now.ensures past seen) (c.row-row.ensures past seen)
