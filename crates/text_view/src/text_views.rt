@@ -95,7 +95,8 @@ impl<A: Allocator + Copy> TextView<A> {
         let line = self.reader.lines().saturating_add(1);
         match self.reader.next() {
             Ok(Some(happening)) => {
-                self.stop = see_next(&mut self.view, line, &happening)?;
+                let stop = see_next(&mut self.view, line, &happening)?;
+                self.stop = stop;
                 Ok(true)
             }
             Ok(None) => Ok(false),

@@ -10,7 +10,7 @@ ghost use Rattle.inittab_text.specs.Tables.{entry_of, is_distinct};
 ghost use Rattle.trace_check.specs.Laws.{law_number};
 ghost use Rattle.trace_view.specs.Viewing.{unviewed, Viewed, SeesNext};
 ghost use Rattle.trace_view.specs.Why.{standing_of, why};
-ghost use Rattle.trace_view.specs.Rows.{row_of, gone_ids, is_settled_now};
+ghost use Rattle.trace_view.specs.Rows.{row_of, gone_ids, is_settled_now, settled_in};
 ghost use Rattle.trace_view.specs.Wishes.{first_wish};
 
 use crate::children::{
@@ -245,10 +245,20 @@ impl<A: Allocator> TraceView<A> {
         ensures { (past : List Event) → Viewed self.now past → result ≡ is_settled_now past }
     {
         match self.judge.stage() {
-            Some(Stage::Run(level)) => self.judge.is_settled(level),
-            Some(Stage::Sysinit) => false,
-            Some(Stage::Boot) => false,
+            Some(stage) => self.settles(stage),
             None => false,
+        }
+    }
+
+    /// The stage is a runlevel that is in force and settled.
+    fn settles(&self, stage: Stage) -> bool
+        ensures { (past : List Event) → Viewed self.now past
+            → result ≡ settled_in (Some stage) past }
+    {
+        match stage {
+            Stage::Run(level) => self.judge.is_settled(level),
+            Stage::Sysinit => false,
+            Stage::Boot => false,
         }
     }
 

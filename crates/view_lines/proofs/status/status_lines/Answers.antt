@@ -10,4 +10,4 @@ returns g c = λ past seen.
     whole (head_text past) (entries_text (table_of past) past) (ids_text (gone_ids (table_of past) (unreaped_children past)) past) _ _ _
     (c.in_ok-add_head.ensures past seen)
     (c.in_ok-add_entries.ensures past seen ∙ ap (λ es. c.add_head.new.text.items ++ entries_text es past) (c.entries.ensures.value ∙ c.table.ensures.value past seen))
-    (c.in_ok-add_ids.ensures past seen ∙ ap (λ ids. c.add_entries.new.text.items ++ ids_text ids past) (c.as_slice.ensures.value ∙ c.in_ok-gone.ensures past seen))
+    (c.in_ok-add_ids.ensures past seen ∙ ap (λ ids. c.add_entries.new.text.items ++ ids_text ids past) (c.as_slice.ensures.value ∙ c.in-Ok.ensures past seen))
