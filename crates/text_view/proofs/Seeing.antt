@@ -12,7 +12,8 @@ use Rattle.trace_check.specs.declared.laws.Law.{Law}
 use Rattle.trace_check.specs.Laws.{law_number}
 use Rattle.trace_verdict.specs.Fronts.{is_unfinished, line_left, IsFront}
 use Rattle.trace_verdict.specs.Readers.{Reading, capped, ReadsNext}
-use Rattle.trace_verdict.proofs.Judging.{capped_is, lines_push, lines_within, past_push, some_over, torn_more}
+use Rattle.trace_verdict.proofs.Judging.{capped_is, lines_push, lines_within, past_push, some_over}
+use Rattle.trace_verdict.proofs.Fronts.{finished_more, none_more}
 use Rattle.trace_view.specs.Viewing.{ViewState, Viewed}
 use Rattle.text_view.specs.declared.text_views.Stop.{Stop}
 use Rattle.text_view.specs.declared.text_views.Stop.TheVariants.{Breach, Torn}
@@ -97,7 +98,15 @@ stops_more (Breach law line) viewing text piece stops = (
   },
   stops.2,
 )
-stops_more (Torn number) viewing text piece stops = (stops.0, (torn_more text piece number stops.1.0, stops.1.1), stops.2)
+stops_more (Torn number) viewing text piece stops = (stops.0, (record {
+  trace = stops.1.0.trace;
+  rest = stops.1.0.rest ++ piece;
+  are = stops.1.0.are;
+  whole = sym (append_assoc (trace_text stops.1.0.trace) stops.1.0.rest piece) ∙ ap (λ t. t ++ piece) stops.1.0.whole;
+  counted = stops.1.0.counted;
+  finished = finished_more stops.1.0.rest piece stops.1.0.finished;
+  none = none_more stops.1.0.rest piece stops.1.0.finished stops.1.0.none;
+}, stops.1.1), stops.2)
 
 pub still_stopped : (stop : Option Stop) (state : TextState) (text piece : List ℕ) (why : Stop) → stop ≡ Some why → TakenBy stop state text → AtBy stop state (text ++ piece)
 still_stopped (Some stop) state text piece why is taken = stops_more stop state.viewing text piece taken

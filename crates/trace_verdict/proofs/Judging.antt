@@ -95,7 +95,7 @@ trace_at (Breach breach) state text not at = at
 trace_at (Torn number) state text not at = absurd (not number refl)
 
 -- a piece more
-pub torn_more : (text piece : List ℕ) (number : ℕ) → IsTorn text number → IsTorn (text ++ piece) number
+torn_more : (text piece : List ℕ) (number : ℕ) → IsTorn text number → IsTorn (text ++ piece) number
 torn_more text piece number torn = record {
   trace = torn.trace;
   rest = torn.rest ++ piece;

@@ -34,5 +34,6 @@ fn add_child(text: &mut Vec<u8>, child: &BornChild) -> Result<(), AllocError>
     ensures { OnOk result (text.new.items ≡ text.old.items ++ child_line child.now) }
 {
     text.extend_from_slice(child.id.as_bytes())?;
-    add_number(text, b" ", u64::from(child.number.0), b"\n")
+    add_number(text, b" ", u64::from(child.number.0), b"\n")?;
+    Ok(())
 }

@@ -44,7 +44,8 @@ fn add_why(
     add_reason(text, stage, now, row)?;
     text.extend_from_slice(b"\n  ")?;
     text.extend_from_slice(advice_of(row.why))?;
-    put(text, b"\n")
+    put(text, b"\n")?;
+    Ok(())
 }
 
 fn add_reason(
@@ -108,14 +109,16 @@ fn add_act(text: &mut Vec<u8>, act: Option<Act>) -> Result<(), AllocError>
 {
     text.extend_from_slice(b"its action, ")?;
     text.extend_from_slice(act_words(act))?;
-    put(text, b", starts nothing")
+    put(text, b", starts nothing")?;
+    Ok(())
 }
 
 fn add_other(text: &mut Vec<u8>, stage: Option<Stage>) -> Result<(), AllocError>
     ensures { OnOk result (text.new.items ≡ text.old.items ++ stage_reason stage) }
 {
     text.extend_from_slice(b"it doesn't start in ")?;
-    add_stage(text, stage)
+    add_stage(text, stage)?;
+    Ok(())
 }
 
 /// Adds that a child is kept: it runs, or its end isn't told.
@@ -143,7 +146,8 @@ fn add_runs(
     ensures { OnOk result (text.new.items ≡ text.old.items ++ runs_reason now number births) }
 {
     add_number(text, b"its child runs: pid ", u64::from(number.0), b"")?;
-    add_births(text, now, births)
+    add_births(text, now, births)?;
+    Ok(())
 }
 
 fn order_reason(ask: Ask) -> &'static [u8]
@@ -161,7 +165,8 @@ fn add_done(text: &mut Vec<u8>, now: u64, last: Option<Ending>) -> Result<(), Al
     ensures { OnOk result (text.new.items ≡ text.old.items ++ done_reason now last) }
 {
     text.extend_from_slice(b"it was started already since the level or its line changed: ")?;
-    add_last(text, now, last)
+    add_last(text, now, last)?;
+    Ok(())
 }
 
 fn add_earlier(text: &mut Vec<u8>, earlier: &Id) -> Result<(), AllocError>
@@ -169,7 +174,8 @@ fn add_earlier(text: &mut Vec<u8>, earlier: &Id) -> Result<(), AllocError>
 {
     text.extend_from_slice(b"init waits for ")?;
     text.extend_from_slice(earlier.as_bytes())?;
-    put(text, b", which stands before it")
+    put(text, b", which stands before it")?;
+    Ok(())
 }
 
 fn add_excluded(
@@ -187,14 +193,16 @@ fn add_excluded(
         b") may not live in ",
     )?;
     add_stage(text, stage)?;
-    put(text, b", and has to end first")
+    put(text, b", and has to end first")?;
+    Ok(())
 }
 
 fn add_stands(text: &mut Vec<u8>, wish: Wish) -> Result<(), AllocError>
     ensures { OnOk result (text.new.items ≡ text.old.items ++ wish_reason wish) }
 {
     text.extend_from_slice(b"a request is carried out first: ")?;
-    add_wish(text, wish)
+    add_wish(text, wish)?;
+    Ok(())
 }
 
 fn add_held(text: &mut Vec<u8>, now: u64, since: u64) -> Result<(), AllocError>

@@ -92,7 +92,8 @@ fn add_row(text: &mut Vec<u8>, grace: u64, now: u64, id: &Id, row: &Row) -> Resu
     add_padded(text, 9, id.as_bytes())?;
     add_padded(text, 14, act_words(row.act))?;
     add_state(text, grace, now, row)?;
-    put(text, b"\n")
+    put(text, b"\n")?;
+    Ok(())
 }
 
 /// Adds the state of an id: its child, or what keeps it and how it last ended.
@@ -124,7 +125,8 @@ fn add_child(
     add_padded(text, 12, child_state(row.excluded))?;
     add_number(text, b"pid ", u64::from(number.0), b"")?;
     add_births(text, now, row.births)?;
-    add_stop(text, grace, now, row.excluded, row.term)
+    add_stop(text, grace, now, row.excluded, row.term)?;
+    Ok(())
 }
 
 /// Adds since when a child runs, and which of its id it is.
@@ -143,7 +145,8 @@ pub(crate) fn add_births(
                 seconds_since(now, births.latest),
                 b" s, start ",
             )?;
-            add_number(text, b"", births.count, b"")
+            add_number(text, b"", births.count, b"")?;
+            Ok(())
         }
         None => Ok(()),
     }
@@ -171,7 +174,8 @@ fn add_term(text: &mut Vec<u8>, grace: u64, seconds: u64) -> Result<(), AllocErr
     ensures { OnOk result (text.new.items ≡ text.old.items ++ term_words grace seconds) }
 {
     add_number(text, b", TERM ", seconds, b" s ago, KILL in ")?;
-    add_number(text, b"", grace.saturating_sub(seconds), b" s")
+    add_number(text, b"", grace.saturating_sub(seconds), b" s")?;
+    Ok(())
 }
 
 /// The state of an id about which an order is open.
@@ -213,7 +217,8 @@ fn add_waits(text: &mut Vec<u8>, now: u64, row: &Row) -> Result<(), AllocError>
 {
     add_padded(text, 12, state_word(row.why))?;
     add_waited(text, now, row.why)?;
-    add_last(text, now, row.last)
+    add_last(text, now, row.last)?;
+    Ok(())
 }
 
 /// Adds what is waited for.
@@ -243,7 +248,8 @@ fn add_excluded(text: &mut Vec<u8>, child: &Excluded) -> Result<(), AllocError>
 {
     text.extend_from_slice(b"for ")?;
     text.extend_from_slice(child.id.as_bytes())?;
-    add_number(text, b" (pid ", u64::from(child.number.0), b") to end; ")
+    add_number(text, b" (pid ", u64::from(child.number.0), b") to end; ")?;
+    Ok(())
 }
 
 /// Adds the lines above the rows.
@@ -280,7 +286,8 @@ fn add_head_words(
     add_stage(text, stage)?;
     text.extend_from_slice(settled_words(settled))?;
     add_number(text, b", clock ", now, b", ")?;
-    add_number(text, b"", grace, b" s from TERM to KILL\n")
+    add_number(text, b"", grace, b" s from TERM to KILL\n")?;
+    Ok(())
 }
 
 fn add_wish_line(text: &mut Vec<u8>, wish: Option<Wish>) -> Result<(), AllocError>
@@ -290,7 +297,8 @@ fn add_wish_line(text: &mut Vec<u8>, wish: Option<Wish>) -> Result<(), AllocErro
         Some(wish) => {
             text.extend_from_slice(b"a request stands: ")?;
             add_wish(text, wish)?;
-            put(text, b"\n")
+            text.push(b'\n')?;
+            Ok(())
         }
         None => Ok(()),
     }

@@ -90,7 +90,8 @@ fn add_level_wish(text: &mut Vec<u8>, level: Level) -> Result<(), AllocError>
     ensures { OnOk result (text.new.items ≡ text.old.items ++ level_wish_words level) }
 {
     text.extend_from_slice(b"go to ")?;
-    add_level(text, level)
+    add_level(text, level)?;
+    Ok(())
 }
 
 /// The seconds between two times.
@@ -128,7 +129,8 @@ fn add_ending(text: &mut Vec<u8>, now: u64, ending: Ending) -> Result<(), AllocE
         ≡ text.old.items ++ (status_words ending.status ++ ago_words (now - ending.time))) }
 {
     add_status(text, ending.status)?;
-    add_ago(text, seconds_since(now, ending.time))
+    add_ago(text, seconds_since(now, ending.time))?;
+    Ok(())
 }
 
 /// Adds how an id last ended, and how long ago.
