@@ -51,7 +51,7 @@ pub(crate) fn question_of(words: &[String]) -> Option<Question>
     match words {
         [] => None,
         [_] => None,
-        [verb, _] => of_two(verb.as_str()),
+        [verb, _path] => of_two(verb.as_str()),
         [verb, second, third] => of_three(verb.as_str(), second.as_str(), third.as_str()),
         [_, _, _, _, ..] => None,
     }

@@ -54,7 +54,7 @@ pub fn run_words<T: Texts, W: Write, E: Write>(
         return print_version("initview", out, err);
     }
     match question_of(words) {
-        Some(question) => show_file(texts, alloc, path_of(words), question, out, err),
+        Some(question) => show_file(texts, alloc, path_of(words), &question, out, err),
         None => report_refused_words("initview", reason_of(words), USAGE, err),
     }
 }

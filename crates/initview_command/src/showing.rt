@@ -64,11 +64,12 @@ fn stop_status(stop: Option<Stop>) -> u8
 }
 
 /// The exit status of an answer.
-fn status_of(view: &TraceView, question: Question, stop: Option<Stop>) -> u8
-    ensures { (past : List Event) → Viewed view.now past → result ≡ status_by question stop past }
+fn status_of(view: &TraceView, question: &Question, stop: Option<Stop>) -> u8
+    ensures { (past : List Event) → Viewed view.now past
+        → result ≡ status_by question.now stop past }
 {
     match question {
-        Question::Row(id) => row_status(view, &id, stop),
+        Question::Row(id) => row_status(view, id, stop),
         Question::Why(_) => stop_status(stop),
         Question::Status => stop_status(stop),
         Question::Left => stop_status(stop),
@@ -87,14 +88,14 @@ fn row_status(view: &TraceView, id: &Id, stop: Option<Stop>) -> u8
 }
 
 /// The answer to a question.
-fn answer(alloc: Global, view: &TraceView, question: Question) -> Result<Vec<u8>, AllocError>
+fn answer(alloc: Global, view: &TraceView, question: &Question) -> Result<Vec<u8>, AllocError>
     ensures { IfOk result (λ text. (past : List Event) → Viewed view.now past
-        → text.items ≡ said question past) }
+        → text.items ≡ said question.now past) }
 {
     match question {
-        Question::Why(id) => why_lines(alloc, view, &id),
+        Question::Why(id) => why_lines(alloc, view, id),
         Question::Status => status_lines(alloc, view),
-        Question::Row(id) => row_line(alloc, view, &id),
+        Question::Row(id) => row_line(alloc, view, id),
         Question::Left => left_lines(alloc, view),
     }
 }
@@ -104,11 +105,11 @@ pub(crate) fn show_file<T: Texts, W: Write, E: Write>(
     texts: &T,
     alloc: Global,
     path: &str,
-    question: Question,
+    question: &Question,
     out: &mut W,
     err: &mut E,
 ) -> u8
-    ensures { Shows (T.text_at texts.now) path.now question result (W.contents out.old)
+    ensures { Shows (T.text_at texts.now) path.now question.now result (W.contents out.old)
         (W.contents out.new) }
 {
     let mut file = FileView {
@@ -122,13 +123,13 @@ fn show_text<T: Texts, W: Write, E: Write>(
     texts: &T,
     alloc: Global,
     path: &str,
-    question: Question,
+    question: &Question,
     file: &mut FileView,
     out: &mut W,
     err: &mut E,
 ) -> u8
     requires { HasTaken file.old.view [] }
-    ensures { Shows (T.text_at texts.now) path.now question result (W.contents out.old)
+    ensures { Shows (T.text_at texts.now) path.now question.now result (W.contents out.old)
         (W.contents out.new) }
 {
     match texts.read_pieces(path, file) {
@@ -145,13 +146,13 @@ fn show_text<T: Texts, W: Write, E: Write>(
 fn show_view<W: Write, E: Write>(
     alloc: Global,
     view: &TraceView,
-    question: Question,
+    question: &Question,
     stop: Option<Stop>,
     out: &mut W,
     err: &mut E,
 ) -> u8
     ensures { (past : List Event) → Viewed view.now past
-        → ShowsOf past question stop result (W.contents out.old) (W.contents out.new) }
+        → ShowsOf past question.now stop result (W.contents out.old) (W.contents out.new) }
 {
     let Ok(text) = answer(alloc, view, question) else {
         return report_memory(err);
