@@ -1,12 +1,11 @@
 -- What is written of a trace.
-use Rattle.std.proofs.Common.{◌≡◌, ◌⊎◌, refl, inl, inr, ap, sym, subst, ℕ, List, [], reverse, Option, None}
-use Rattle.std.specs.Io.KnownBytes.{Appends, Keeps}
+use Rattle.std.proofs.Common.{◌≡◌, refl, inl, inr, subst, ℕ, List, [], reverse, Option}
+use Rattle.std.specs.Io.KnownBytes.{Appends}
 use Rattle.std.proofs.KnownBytes.{Appends-nil}
 use Rattle.program_io.specs.Writing.{AppendsPrefix}
 use Rattle.program_io.specs.declared.statuses.TheConstants.{DEVICE_FAULT}
 use Rattle.path_texts.specs.Known.{IsTextAt, KnownTexts}
 use Rattle.init_trace.specs.Event.{Event}
-use Rattle.init_trace.specs.Lawful.{first_breach}
 use Rattle.trace_view.specs.Viewing.{ViewState, Viewed}
 use Rattle.text_view.specs.declared.text_views.Stop.{Stop}
 use Rattle.text_view.specs.Shown.{IsShown}

@@ -1,5 +1,5 @@
 -- One happening more, and a piece more.
-use Rattle.std.proofs.Common.{◌≡◌, ℕ, ◌+◌, ◌^◌, ◌<◌, ◌≤◌, true, false, List, [], ◌∷◌, ◌++◌, length, reverse, Option, Some, None, refl, sym, ap, ◌∙◌, subst, arith}
+use Rattle.std.proofs.Common.{◌≡◌, ℕ, ◌+◌, ◌^◌, ◌<◌, ◌≤◌, false, List, [], ◌∷◌, ◌++◌, length, reverse, Option, Some, None, refl, sym, ap, ◌∙◌, subst, arith}
 use Rattle.std.specs.Option.{option_map}
 use Rattle.std.proofs.lemmas.List.{append_assoc}
 use Rattle.text_lines.specs.Lines.{newlines}
@@ -10,14 +10,14 @@ use Rattle.trace_text.specs.Texts.{line_count, BeginsNone}
 use Rattle.trace_text.proofs.ReadTexts.{trace_text-push, are_in_range-push, shorter}
 use Rattle.trace_check.specs.declared.laws.Law.{Law}
 use Rattle.trace_check.specs.Laws.{law_number}
-use Rattle.trace_verdict.specs.Fronts.{is_unfinished, line_left, IsFront}
+use Rattle.trace_verdict.specs.Fronts.{is_unfinished, line_left}
 use Rattle.trace_verdict.specs.Readers.{Reading, capped, ReadsNext}
 use Rattle.trace_verdict.proofs.Judging.{capped_is, lines_push, lines_within, past_push, some_over}
 use Rattle.trace_verdict.proofs.Fronts.{finished_more, none_more}
 use Rattle.trace_view.specs.Viewing.{ViewState, Viewed}
 use Rattle.text_view.specs.declared.text_views.Stop.{Stop}
 use Rattle.text_view.specs.declared.text_views.Stop.TheVariants.{Breach, Torn}
-use Rattle.text_view.specs.Shown.{IsBefore, IsUpTo, IsShown}
+use Rattle.text_view.specs.Shown.{IsBefore, IsShown}
 use Rattle.text_view.specs.Views.{TextState, HasSeen, StopsBy, AtBy, TakenBy, SeesStop, left_of}
 
 -- the text of a trace with one happening more
@@ -98,31 +98,26 @@ stops_more (Breach law line) viewing text piece stops = (
   },
   stops.2,
 )
-stops_more (Torn number) viewing text piece stops = (stops.0, (record {
-  trace = stops.1.0.trace;
-  rest = stops.1.0.rest ++ piece;
-  are = stops.1.0.are;
-  whole = sym (append_assoc (trace_text stops.1.0.trace) stops.1.0.rest piece) ∙ ap (λ t. t ++ piece) stops.1.0.whole;
-  counted = stops.1.0.counted;
-  finished = finished_more stops.1.0.rest piece stops.1.0.finished;
-  none = none_more stops.1.0.rest piece stops.1.0.finished stops.1.0.none;
-}, stops.1.1), stops.2)
+stops_more (Torn number) viewing text piece stops = (
+  stops.0,
+  (
+    record {
+      trace = stops.1.0.trace;
+      rest = stops.1.0.rest ++ piece;
+      are = stops.1.0.are;
+      whole = sym (append_assoc (trace_text stops.1.0.trace) stops.1.0.rest piece) ∙ ap (λ t. t ++ piece) stops.1.0.whole;
+      counted = stops.1.0.counted;
+      finished = finished_more stops.1.0.rest piece stops.1.0.finished;
+      none = none_more stops.1.0.rest piece stops.1.0.finished stops.1.0.none;
+    },
+    stops.1.1,
+  ),
+  stops.2,
+)
 
 pub still_stopped : (stop : Option Stop) (state : TextState) (text piece : List ℕ) (why : Stop) → stop ≡ Some why → TakenBy stop state text → AtBy stop state (text ++ piece)
 still_stopped (Some stop) state text piece why is taken = stops_more stop state.viewing text piece taken
 still_stopped None state text piece why is taken = absurd (cc)
-
-pub fed : (stop : Option Stop) (state : TextState) (new : Reading) (text piece : List ℕ) → stop ≡ None → new ≡ record state.reading { over = state.reading.over ++ piece } → TakenBy stop state text → AtBy None (record { reading = new; viewing = state.viewing; stop = None }) (text ++ piece)
-fed (Some stop) state new text piece not is taken = absurd (cc)
-fed None state new text piece not is taken = (
-  taken.0,
-  record {
-    are = taken.1.are;
-    whole = ap (λ (r : Reading). trace_text taken.0 ++ r.over) is ∙ sym (append_assoc (trace_text taken.0) state.reading.over piece) ∙ ap (λ t. t ++ piece) taken.1.whole;
-    lines = ap (λ (r : Reading). r.lines) is ∙ taken.1.lines;
-    seen = taken.1.seen;
-  },
-)
 
 -- what is shown of the text
 left_is : (reading : Reading) (viewing : ViewState) (trace : List Event) (text over : List ℕ) → length text < 2 ^ 64 → HasSeen reading viewing trace text → reading.over ≡ over → option_map capped (line_left reading.lines over) ≡ line_left (newlines (trace_text trace)) over

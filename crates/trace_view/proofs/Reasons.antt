@@ -1,5 +1,5 @@
 -- Nothing keeps an entry back exactly where its start is due.
-use Rattle.std.proofs.Common.{◌≡◌, refl, sym, ◌∙◌, ap, ℕ, Bool, true, false, not, ◌&&◌, ◌||◌, cond, List, [], ◌∷◌, ◌++◌, find, Option, Some, None, is_none, is_some}
+use Rattle.std.proofs.Common.{◌≡◌, refl, sym, ◌∙◌, ap, ℕ, Bool, true, false, not, ◌&&◌, ◌||◌, cond, List, [], ◌∷◌, find, Option, Some, None, is_none, is_some}
 use Rattle.std.specs.List.{list_any}
 use Rattle.std.specs.Option.{option_map, option_map_or}
 use Rattle.std.proofs.lemmas.Bool.{false≢true, and_parts, not-true}
@@ -19,7 +19,7 @@ use Rattle.init_trace.specs.declared.steps.Step.TheVariants.{Order, Hold}
 use Rattle.init_trace.specs.declared.steps.Goal.{Goal}
 use Rattle.init_trace.specs.Event.{Event}
 use Rattle.init_trace.specs.Past.{table_of, stage_of, has_child, is_of, open_of, kept_children}
-use Rattle.init_trace.specs.Wanted.{starts_now, nothing_runs, is_asked, is_called, is_wanted, is_owed, is_excluded, entries_before}
+use Rattle.init_trace.specs.Wanted.{starts_now, nothing_runs, is_asked, is_called, is_owed, is_excluded, entries_before}
 use Rattle.init_trace.specs.Timing.{hold_times, is_held, is_full}
 use Rattle.init_trace.specs.Wishes.{wants_reexec, wants_reread, level_wish, in_run, keeps_news, wish_stands}
 use Rattle.init_trace.specs.Due.{steps_if, none_excluded, can_start, start_steps, starts_among, due_starts, same_step}
@@ -28,10 +28,9 @@ use Rattle.trace_check.proofs.Lone.{found_passes}
 use Rattle.trace_view.specs.declared.standings.Excluded.{Excluded}
 use Rattle.trace_view.specs.declared.standings.Standing.{Standing}
 use Rattle.trace_view.specs.declared.wishes.Wish.{Wish}
-use Rattle.trace_view.specs.declared.whys.Why.{Why}
 use Rattle.trace_view.specs.declared.whys.Why.TheVariants.{NoEntry, NeverStarts, OtherStage, WasStarted, NotCalled, WindowFull, Nothing}
-use Rattle.trace_view.specs.Wishes.{or_news, first_of, first_wish}
-use Rattle.trace_view.specs.Why.{number_of, excluded_as, standing_of, not_here, not_wanted, by_child, by_order, by_owed, by_excluded, by_wish, by_hold, why_by, why_entry, why, is_nothing}
+use Rattle.trace_view.specs.Wishes.{first_of, first_wish}
+use Rattle.trace_view.specs.Why.{number_of, excluded_as, standing_of, not_here, not_wanted, why_by, why_entry, why, is_nothing}
 
 -- nothing is found where none passes
 none_found : {X Y : Type 0} (f : X → Y) (p : X → Bool) (xs : List X) → is_none (option_map f (find p xs)) ≡ not (list_any p xs)

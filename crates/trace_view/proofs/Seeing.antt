@@ -1,5 +1,5 @@
 -- One more happening: what a view keeps goes on being what the past says.
-use Rattle.std.proofs.Common.{◌≡◌, refl, sym, ◌∙◌, ap, ℕ, List, [], ◌∷◌, Option}
+use Rattle.std.proofs.Common.{◌≡◌, refl, ◌∙◌, ap, ℕ, List, ◌∷◌, Option}
 use Rattle.init_words.specs.declared.entries.Entry.{Entry}
 use Rattle.init_words.specs.declared.stages.Stage.{Stage}
 use Rattle.initctl_frame.specs.declared.requests.Got.TheVariants as got

@@ -9,17 +9,15 @@ use Rattle.init_words.specs.Actions.{is_limited}
 use Rattle.init_words.specs.Ids.{same_id}
 use Rattle.inittab_text.specs.Tables.{entry_of, has_id, act_of}
 use Rattle.init_words.proofs.Same.{same_id-is}
-use Rattle.init_words.proofs.Tests.{or_false}
 use Rattle.init_trace.specs.Event.{Event}
 use Rattle.init_trace.specs.Past.{table_of, stage_of, Child, is_of, unreaped_children, kept_children, open_of}
 use Rattle.init_trace.specs.Wanted.{starts_now, is_wanted, is_excluded}
 use Rattle.init_trace.specs.Timing.{hold_times, is_held, is_full}
-use Rattle.init_trace.specs.Wishes.{in_run, other_than, keeps_news}
+use Rattle.init_trace.specs.Wishes.{in_run, other_than}
 use Rattle.trace_check.specs.Reading.{newest, child_of, term_of}
 use Rattle.trace_check.proofs.Lone.{found_passes}
 use Rattle.trace_view.specs.declared.rows.Births.{Births}
 use Rattle.trace_view.specs.declared.rows.Ending.{Ending}
-use Rattle.trace_view.specs.declared.rows.Row.{Row}
 use Rattle.trace_view.specs.declared.standings.Excluded.{Excluded}
 use Rattle.trace_view.specs.declared.standings.Standing.{Standing}
 use Rattle.trace_view.specs.declared.whys.Why.{Why}
@@ -29,7 +27,7 @@ use Rattle.trace_view.specs.declared.wishes.Wish.{Wish}
 use Rattle.trace_view.specs.declared.wishes.Wishes.{Wishes}
 use Rattle.trace_view.specs.Viewing.{is_excluded_by}
 use Rattle.trace_view.specs.Why.{number_of, excluded_as, first_owed, standing_of, why_by, why_entry, why}
-use Rattle.trace_view.specs.Wishes.{wishes_of, has_news, first_of, first_wish, first_wish_in}
+use Rattle.trace_view.specs.Wishes.{wishes_of, first_of, first_wish, first_wish_in}
 
 -- six tests in a row
 six : (fail fail_now ok a b c : Bool) → (fail || fail_now || ok || a || b || c) ≡ ((fail || (fail_now || (ok || false))) || (a || (b || (c || false))))

@@ -1,5 +1,5 @@
 -- Lines one after the other, and lines of what a view says.
-use Rattle.std.proofs.Common.{◌≡◌, refl, ap, ◌∙◌, ℕ, Bool, List, [], ◌++◌, Option}
+use Rattle.std.proofs.Common.{◌≡◌, refl, ap, ◌∙◌, ℕ, Bool, List, ◌++◌, Option}
 use Rattle.std.proofs.lemmas.List.{append_assoc}
 use Rattle.init_words.specs.declared.stages.Stage.{Stage}
 use Rattle.init_trace.specs.Event.{Event}

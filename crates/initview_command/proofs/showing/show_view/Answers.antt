@@ -2,8 +2,8 @@ use Rattle.std.proofs.Common.{rules}
 use Rattle.initview_command.proofs.Telling.{none_written, part_written, all_written}
 use Rattle.initview_command.proofs.showing.show_view.Goals as goal
 
-pub returns-in-Err : goal.returns-in-Err
-returns-in-Err g c = λ past seen. none_written past c.args.question.now c.args.stop c.report_memory.result (g.W.Write.contents c.args.out.now) c.report_memory.ensures
+pub returns-in_default : goal.returns-in_default
+returns-in_default g c = λ past seen. none_written past c.args.question.now c.args.stop c.report_memory.result (g.W.Write.contents c.args.out.now) c.report_memory.ensures
 
 pub returns-then-not-tell : goal.returns-then-not-tell
 returns-then-not-tell g c = λ past seen.

@@ -1,4 +1,4 @@
-use Rattle.std.proofs.Common.{ap, sym, subst, reverse, List}
+use Rattle.std.proofs.Common.{sym, subst, reverse, List}
 use Rattle.init_trace.specs.Event.{Event}
 use Rattle.trace_view.specs.Viewing.{Viewed}
 use Rattle.text_view.specs.Shown.{IsShown}

@@ -1,6 +1,6 @@
 use Rattle.std.proofs.Common.{◌∙◌, sym, ap}
 use Rattle.text_view.specs.Views.{TextState}
-use Rattle.text_view.proofs.Seeing.{still_stopped, fed}
+use Rattle.text_view.proofs.Seeing.{still_stopped}
 use Rattle.text_view.proofs.text_views.TextView.feed.Goals as goal
 
 pub returns-in-Some : goal.returns-in-Some

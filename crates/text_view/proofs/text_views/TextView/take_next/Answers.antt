@@ -1,4 +1,4 @@
-use Rattle.std.proofs.Common.{rules, ◌≡◌, ◌+◌, ◌∙◌, false, Some, None}
+use Rattle.std.proofs.Common.{rules, ◌≡◌, ◌+◌, false, Some}
 use Rattle.trace_text.specs.Texts.{BeginsNone}
 use Rattle.trace_text.proofs.ReadTexts.{shorter}
 use Rattle.trace_verdict.specs.Fronts.{is_unfinished}

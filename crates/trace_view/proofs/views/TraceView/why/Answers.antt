@@ -1,4 +1,4 @@
-use Rattle.std.proofs.Common.{◌∙◌, ◌≡◌, sym, ap, subst, option_copied, Some, None}
+use Rattle.std.proofs.Common.{◌∙◌, ◌≡◌, sym, ap, subst, option_copied, Some}
 use Rattle.inittab_text.specs.Tables.{entry_of}
 use Rattle.init_trace.specs.Past.{table_of}
 use Rattle.trace_view.specs.Viewing.{Viewed}
