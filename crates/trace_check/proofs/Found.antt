@@ -1,5 +1,5 @@
 -- The entries of a table in which no id stands twice, each found by its id.
-use Rattle.std.proofs.Common.{◌≡◌, refl, sym, ◌∙◌, ap, ℕ, Bool, true, false, not, ◌&&◌, ◌||◌, cond, List, [], ◌∷◌, Some}
+use Rattle.std.proofs.Common.{◌≡◌, refl, sym, ◌∙◌, ap, ℕ, Bool, true, false, not, ◌&&◌, ◌||◌, cond, List, [], ◌∷◌, find, Some}
 use Rattle.std.specs.List.{list_any, list_all}
 use Rattle.std.specs.Option.{option_map_or}
 use Rattle.std.proofs.lemmas.Bool.{and_parts, or_parts, not-true}
@@ -35,6 +35,10 @@ each_any : (p q : Entry → Bool) (es : List Entry) → Each (λ e. p e ≡ q e)
 each_any p q [] same = refl
 each_any p q (e ∷ es) same = rw (same.0, each_any p q es same.1) refl
 
+each_find : (p q : Entry → Bool) (es : List Entry) → Each (λ e. p e ≡ q e) es → find p es ≡ find q es
+each_find p q [] same = refl
+each_find p q (e ∷ es) same = rw (same.0, each_find p q es same.1) refl
+
 each_all : (p q : Entry → Bool) (es : List Entry) → Each (λ e. p e ≡ q e) es → list_all p es ≡ list_all q es
 each_all p q [] same = refl
 each_all p q (e ∷ es) same = rw (same.0, each_all p q es same.1) refl
@@ -56,6 +60,9 @@ found_all p q es distinct same = each_all p q es (each_map (λ e. entry_of e.id 
 
 pub found_before : (p q : Entry → Bool) (id : List ℕ) (es : List Entry) → is_distinct es ≡ true → ((e : Entry) → entry_of e.id es ≡ Some e → p e ≡ q e) → list_any p (entries_before id es) ≡ list_any q (entries_before id es)
 found_before p q id es distinct same = each_any p q (entries_before id es) (each_before (λ e. p e ≡ q e) id es (each_map (λ e. entry_of e.id es ≡ Some e) (λ e. p e ≡ q e) same es (each_found es distinct)))
+
+pub first_before : (p q : Entry → Bool) (id : List ℕ) (es : List Entry) → is_distinct es ≡ true → ((e : Entry) → entry_of e.id es ≡ Some e → p e ≡ q e) → find p (entries_before id es) ≡ find q (entries_before id es)
+first_before p q id es distinct same = each_find p q (entries_before id es) (each_before (λ e. p e ≡ q e) id es (each_map (λ e. entry_of e.id es ≡ Some e) (λ e. p e ≡ q e) same es (each_found es distinct)))
 
 -- whether an entry of an id passes is told by the one that is found
 pub entry_any : (id : List ℕ) (q : Entry → Bool) (es : List Entry) → is_distinct es ≡ true → list_any (λ e. has_id id e && q e) es ≡ option_map_or q (entry_of id es) false

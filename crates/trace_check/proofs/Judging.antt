@@ -1,5 +1,5 @@
 -- The law that a happening breaks by the state is the one that it breaks by the past.
-use Rattle.std.proofs.Common.{◌≡◌, ◌+◌, ◌-◌, refl, sym, ◌∙◌, ap, ℕ, Bool, true, false, not, ◌&&◌, ◌||◌, cond, nat_le, nat_lt, List, slice_get, take, Option, Some, None, is_some}
+use Rattle.std.proofs.Common.{◌≡◌, ◌+◌, ◌-◌, refl, sym, ◌∙◌, ap, ℕ, Bool, true, false, not, ◌&&◌, ◌||◌, cond, nat_le, nat_lt, List, slice_get, take, find, Option, Some, None, is_some}
 use Rattle.std.specs.List.{list_any, list_all}
 use Rattle.std.specs.Map.{keys_of}
 use Rattle.std.specs.Option.{option_map, option_map_or}
@@ -17,7 +17,7 @@ use Rattle.inittab_text.specs.Tables.{entry_of, is_distinct}
 use Rattle.init_trace.specs.declared.happenings.Happening.TheVariants.{Asked, Hold, Settle, Birth}
 use Rattle.init_trace.specs.Event.{Event}
 use Rattle.init_trace.specs.Past.{table_of, stage_of, grace_of, time_of, Child, is_of, has_child, unreaped_children}
-use Rattle.init_trace.specs.Wanted.{starts_in, is_asked, is_called, is_owed, is_excluded, may_live}
+use Rattle.init_trace.specs.Wanted.{starts_in, is_asked, is_called, is_wanted, is_owed, is_excluded, may_live, entries_before}
 use Rattle.init_trace.specs.Wishes.{is_level}
 use Rattle.init_trace.specs.Spells.{is_ripe, spell_hits}
 use Rattle.init_trace.specs.Timing.{start_times, hold_times, is_held, is_full}
@@ -28,9 +28,9 @@ use Rattle.init_words.proofs.Tests.{same_tests, any_less, any_same, Passing, pas
 use Rattle.trace_laws.proofs.Lone.{is_lone, lone_any}
 use Rattle.trace_check.specs.declared.children.UnreapedChild.{UnreapedChild}
 use Rattle.trace_check.specs.State.{JudgeState, at, among}
-use Rattle.trace_check.specs.Flaws.{is_alive, is_excluded_in, none_excluded_in, is_placed_in, is_owed_in, is_in_turn_in, is_held_in, is_full_in, is_free_in, is_due_hold_in, is_served_in, is_settled_in, is_over_in, may_kill_in, flaw_in}
+use Rattle.trace_check.specs.Flaws.{is_alive, is_excluded_in, none_excluded_in, is_placed_in, is_wanted_in, is_owed_in, is_in_turn_in, is_held_in, is_full_in, is_free_in, is_due_hold_in, is_served_in, is_settled_in, is_over_in, may_kill_in, flaw_in}
 use Rattle.trace_check.proofs.Lone.{found_test, by_child}
-use Rattle.trace_check.proofs.Found.{found_all, found_before}
+use Rattle.trace_check.proofs.Found.{found_all, found_before, first_before}
 use Rattle.trace_check.specs.Reading.{child_of, living_of, least_term, term_of, newest, Reads}
 use Rattle.trace_check.proofs.Windows.{full_by_last, held_by_last}
 use Rattle.trace_check.proofs.Terms.{over_age, ripe_least}
@@ -38,6 +38,26 @@ use Rattle.trace_check.proofs.Terms.{over_age, ripe_least}
 -- a TERM was told in the spell of the child, and the grace since is over
 abbrev is_ripe_child : List Event → Child → Bool
 is_ripe_child past child = list_any (is_ripe (grace_of past) (time_of past)) (spell_hits child past)
+
+module _ (s : JudgeState) (past : List Event) (r : Reads s past) where
+  -- the entry that is found for its id is called, wanted, owed
+  called : (e : Entry) → entry_of e.id (table_of past) ≡ Some e → among e.id s.called ≡ is_called e past
+  called e found = r.called e.id ∙ ap (λ o. option_map_or (λ x. is_called x past) o false) found
+
+  pub wanted : (e : Entry) → entry_of e.id (table_of past) ≡ Some e → is_wanted_in s e ≡ is_wanted e past
+  wanted e found = rw (r.kept e.id, r.orders e.id, r.asked e.id, r.stage, called e found) refl
+
+  pub owed : (e : Entry) → entry_of e.id (table_of past) ≡ Some e → is_owed_in s e ≡ is_owed e past
+  owed e found = rw (r.kept e.id, r.orders e.id, r.asked e.id, r.stage, called e found) refl
+
+  pub first_owed_is : (table : List Entry) → table ≡ table_of past → is_distinct table ≡ true → (id : List ℕ) → find (is_owed_in s) (entries_before id table) ≡ find (λ e. is_owed e past) (entries_before id (table_of past))
+  first_owed_is table is distinct id = ap (λ t. find (is_owed_in s) (entries_before id t)) is ∙ first_before (is_owed_in s) (λ e. is_owed e past) id (table_of past) (ap is_distinct (sym is) ∙ distinct) owed
+
+  pub held : (id : List ℕ) → is_held_in s id ≡ is_held id past
+  held id = ap (λ o. option_map_or (λ began. nat_lt (s.time - began) HOLD) o false) (r.holds id) ∙ ap (λ now. option_map_or (λ began. nat_lt (now - began) HOLD) (newest (hold_times id past)) false) r.time ∙ held_by_last id past
+
+  pub full : (id : List ℕ) → is_full_in s id ≡ is_full id past
+  full id = ap (λ ts. option_map_or (λ started. nat_lt (s.time - started) WINDOW) (slice_get ts (STARTS - 1)) false) (r.starts id) ∙ ap (λ now. option_map_or (λ started. nat_lt (now - started) WINDOW) (slice_get (take STARTS (start_times id past)) (STARTS - 1)) false) r.time ∙ full_by_last id past
 
 module _ (s : JudgeState) (past : List Event) (r : Reads s past) (lone : (id : List ℕ) → is_lone (is_of id) (unreaped_children past) ≡ true) (distinct : is_distinct (table_of past) ≡ true) where
   pub alive : (id : List ℕ) → is_alive s id ≡ has_child id (unreaped_children past)
@@ -71,39 +91,26 @@ module _ (s : JudgeState) (past : List Event) (r : Reads s past) (lone : (id : L
   placed : (id : List ℕ) → is_placed_in (table_of past) s id ≡ is_placed id past
   placed id = ap (λ now. option_map_or (λ e. starts_in e now) (entry_of id (table_of past)) false) r.stage
 
-  -- the entry that is found for its id is owed
-  called : (e : Entry) → entry_of e.id (table_of past) ≡ Some e → among e.id s.called ≡ is_called e past
-  called e found = r.called e.id ∙ ap (λ o. option_map_or (λ x. is_called x past) o false) found
-
-  owed : (e : Entry) → entry_of e.id (table_of past) ≡ Some e → is_owed_in s e ≡ is_owed e past
-  owed e found = rw (r.kept e.id, r.orders e.id, r.asked e.id, r.stage, called e found) refl
-
   in_turn : (id : List ℕ) → is_in_turn_in (table_of past) s id ≡ is_in_turn id past
-  in_turn id = ap not (found_before (is_owed_in s) (λ e. is_owed e past) id (table_of past) distinct owed)
-
-  held : (id : List ℕ) → is_held_in s id ≡ is_held id past
-  held id = ap (λ o. option_map_or (λ began. nat_lt (s.time - began) HOLD) o false) (r.holds id) ∙ ap (λ now. option_map_or (λ began. nat_lt (now - began) HOLD) (newest (hold_times id past)) false) r.time ∙ held_by_last id past
-
-  full : (id : List ℕ) → is_full_in s id ≡ is_full id past
-  full id = ap (λ ts. option_map_or (λ started. nat_lt (s.time - started) WINDOW) (slice_get ts (STARTS - 1)) false) (r.starts id) ∙ ap (λ now. option_map_or (λ started. nat_lt (now - started) WINDOW) (slice_get (take STARTS (start_times id past)) (STARTS - 1)) false) r.time ∙ full_by_last id past
+  in_turn id = ap not (found_before (is_owed_in s) (λ e. is_owed e past) id (table_of past) distinct (owed s past r))
 
   free : (id : List ℕ) → is_free_in (table_of past) s id ≡ is_free id past
-  free id = ap (λ b. not (is_limited_id id past) || not b && not (is_full_in s id)) (held id) ∙ ap (λ b. not (is_limited_id id past) || not (is_held id past) && not b) (full id)
+  free id = ap (λ b. not (is_limited_id id past) || not b && not (is_full_in s id)) (held s past r id) ∙ ap (λ b. not (is_limited_id id past) || not (is_held id past) && not b) (full s past r id)
 
   due_hold : (id : List ℕ) → is_due_hold_in (table_of past) s id ≡ is_due_hold id past
-  due_hold id = ap (λ b. is_limited_id id past && not b && is_full_in s id) (held id) ∙ ap (λ b. is_limited_id id past && not (is_held id past) && b) (full id)
+  due_hold id = ap (λ b. is_limited_id id past && not b && is_full_in s id) (held s past r id) ∙ ap (λ b. is_limited_id id past && not (is_held id past) && b) (full s past r id)
 
   served : (level : Level) (e : Entry) → entry_of e.id (table_of past) ≡ Some e → is_served_in level s e ≡ is_served level (unreaped_children past) past e
   served level e found =
-      ap (λ b. not b && rest (among e.id s.asked) (is_alive s e.id) (is_held_in s e.id)) (owed e found)
+      ap (λ b. not b && rest (among e.id s.asked) (is_alive s e.id) (is_held_in s e.id)) (owed s past r e found)
       ∙ ap (λ b. not (is_owed e past) && rest b (is_alive s e.id) (is_held_in s e.id)) (r.asked e.id)
       ∙ ap (λ b. not (is_owed e past) && rest (is_asked e.id past) b (is_held_in s e.id)) (alive e.id)
-      ∙ ap (λ b. not (is_owed e past) && rest (is_asked e.id past) (has_child e.id (unreaped_children past)) b) (held e.id)
+      ∙ ap (λ b. not (is_owed e past) && rest (is_asked e.id past) (has_child e.id (unreaped_children past)) b) (held s past r e.id)
     where
       rest : Bool → Bool → Bool → Bool
       rest asked there held = not (names (At level) e.levels.items) || served_by e.act asked (there || held)
 
-  settled : (level : Level) → is_settled_in level (table_of past) s ≡ is_settled level (unreaped_children past) past
+  pub settled : (level : Level) → is_settled_in level (table_of past) s ≡ is_settled level (unreaped_children past) past
   settled level =
       ap (λ now. is_level level now && none_excluded_in (table_of past) s && list_all (is_served_in level s) (table_of past)) r.stage
       ∙ ap (λ b. is_level level (stage_of past) && not b && list_all (is_served_in level s) (table_of past)) any_excluded

@@ -1,5 +1,5 @@
 -- One more entry of a table that is walked.
-use Rattle.std.proofs.Common.{◌≡◌, refl, sym, ◌∙◌, ap, ℕ, ◌+◌, Bool, true, false, not, ◌&&◌, ◌||◌, cond, List, [], ◌∷◌, take, drop, slice_get, Some}
+use Rattle.std.proofs.Common.{◌≡◌, refl, sym, ◌∙◌, ap, ℕ, ◌+◌, Bool, true, false, not, ◌&&◌, ◌||◌, cond, List, [], ◌∷◌, take, drop, slice_get, find, Some, None}
 use Rattle.std.specs.List.{list_any, list_all}
 use Rattle.std.proofs.lemmas.List.Folds.{list_any_more}
 use Rattle.std.proofs.lemmas.Option.{slice_get_within, get_or_from_slice_get}
@@ -58,3 +58,19 @@ before_end p id es i e is so_far same = ap not (sym (before_step p id es i e is 
 
 pub before_found : (p : Entry → Bool) (id : List ℕ) (es : List Entry) (i : ℕ) (e : Entry) → slice_get es i ≡ Some e → list_any p (entries_before id (drop i es)) ≡ list_any p (entries_before id es) → same_id id e.id ≡ false → p e ≡ true → false ≡ not (list_any p (entries_before id es))
 before_found p id es i e is so_far differ passes = ap not (sym (before_other p id es i e is differ ∙ ap (λ b. b || list_any p (entries_before id (drop (i + 1) es))) passes) ∙ so_far)
+
+-- the first that passes before an id's entry: the walk goes on, comes to the id, or finds it
+first_step : (p : Entry → Bool) (id : List ℕ) (es : List Entry) (i : ℕ) (e : Entry) → slice_get es i ≡ Some e → find p (entries_before id (drop i es)) ≡ find p (cond (same_id id e.id) [] (e ∷ entries_before id (drop (i + 1) es)))
+first_step p id es i e is = ap (λ xs. find p (entries_before id xs)) (drop-slice_get es i e is)
+
+first_other : (p : Entry → Bool) (id : List ℕ) (es : List Entry) (i : ℕ) (e : Entry) → slice_get es i ≡ Some e → same_id id e.id ≡ false → find p (entries_before id (drop i es)) ≡ cond (p e) (Some e) (find p (entries_before id (drop (i + 1) es)))
+first_other p id es i e is differ = first_step p id es i e is ∙ ap (λ b. find p (cond b [] (e ∷ entries_before id (drop (i + 1) es)))) differ
+
+pub first_next : (p : Entry → Bool) (id : List ℕ) (es : List Entry) (i : ℕ) (e : Entry) → slice_get es i ≡ Some e → find p (entries_before id (drop i es)) ≡ find p (entries_before id es) → same_id id e.id ≡ false → p e ≡ false → find p (entries_before id (drop (i + 1) es)) ≡ find p (entries_before id es)
+first_next p id es i e is so_far differ fails = sym (first_other p id es i e is differ ∙ ap (λ b. cond b (Some e) (find p (entries_before id (drop (i + 1) es)))) fails) ∙ so_far
+
+pub first_end : (p : Entry → Bool) (id : List ℕ) (es : List Entry) (i : ℕ) (e : Entry) → slice_get es i ≡ Some e → find p (entries_before id (drop i es)) ≡ find p (entries_before id es) → same_id id e.id ≡ true → None ≡ find p (entries_before id es)
+first_end p id es i e is so_far same = sym (first_step p id es i e is ∙ ap (λ b. find p (cond b [] (e ∷ entries_before id (drop (i + 1) es)))) same) ∙ so_far
+
+pub first_found : (p : Entry → Bool) (id : List ℕ) (es : List Entry) (i : ℕ) (e : Entry) → slice_get es i ≡ Some e → find p (entries_before id (drop i es)) ≡ find p (entries_before id es) → same_id id e.id ≡ false → p e ≡ true → Some e ≡ find p (entries_before id es)
+first_found p id es i e is so_far differ passes = sym (first_other p id es i e is differ ∙ ap (λ b. cond b (Some e) (find p (entries_before id (drop (i + 1) es)))) passes) ∙ so_far

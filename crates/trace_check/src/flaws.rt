@@ -1,6 +1,6 @@
 //! Which law a happening breaks.
 
-ghost use Rattle.std.specs.Prelude.{◌≡◌, not, if◌then◌else◌, option_map};
+ghost use Rattle.std.specs.Prelude.{◌≡◌, not, if◌then◌else◌, option_map, option_copied};
 ghost use Rattle.trace_check.specs.Laws.{law_number};
 ghost use Rattle.trace_check.specs.Flaws.{is_limited_in};
 
@@ -29,7 +29,7 @@ impl<A: Allocator> Judge<A> {
     ghost use Rattle.std.specs.Map.{keys_of};
     ghost use Rattle.std.specs.List.{list_any, list_all};
     ghost use Rattle.init_trace.specs.Wishes.{is_level};
-    ghost use Rattle.trace_check.specs.Flaws.{is_alive, is_excluded_in, none_excluded_in, is_placed_in, is_starting, is_wanted_in, is_owed_in, is_in_turn_in, is_held_in, is_full_in, is_free_in, is_due_hold_in, is_served_in, is_settled_in, is_over_in, may_kill_in, flaw_of_birth, flaw_in};
+    ghost use Rattle.trace_check.specs.Flaws.{is_alive, is_excluded_in, none_excluded_in, is_placed_in, is_starting, is_wanted_in, is_owed_in, is_in_turn_in, first_owed_in, is_held_in, is_full_in, is_free_in, is_due_hold_in, is_served_in, is_settled_in, is_over_in, may_kill_in, flaw_of_birth, flaw_in};
 
     /// The least law that the happening breaks, where `table` is in force before it.
     pub(crate) fn flaw<B: Allocator>(
@@ -109,7 +109,7 @@ impl<A: Allocator> Judge<A> {
         is_open(&self.orders, id, Ask::Start)
     }
 
-    fn is_wanted(&self, entry: &Entry) -> bool
+    pub(crate) fn is_wanted(&self, entry: &Entry) -> bool
         ensures { result ≡ is_wanted_in self.now entry.now }
     {
         let id = &entry.id;
@@ -120,7 +120,7 @@ impl<A: Allocator> Judge<A> {
     }
 
     /// Init waits for the entry, which is not done.
-    fn is_owed(&self, entry: &Entry) -> bool
+    pub(crate) fn is_owed(&self, entry: &Entry) -> bool
         ensures { result ≡ is_owed_in self.now entry.now }
     {
         let id = &entry.id;
@@ -143,8 +143,24 @@ impl<A: Allocator> Judge<A> {
         true
     }
 
+    /// The first entry before the id's that is owed.
+    pub(crate) fn first_owed<'a>(&self, table: &'a Table<A>, id: &Id) -> Option<&'a Entry>
+        ensures { option_copied result ≡ first_owed_in table.now self.now id.now }
+    {
+        for place in 0..table.len() {
+            let entry = entry_at(table, place);
+            if *id == entry.id {
+                return None;
+            }
+            if self.is_owed(entry) {
+                return Some(entry);
+            }
+        }
+        None
+    }
+
     /// A hold of the id is in force: it began less than five minutes ago (init(8)).
-    fn is_held(&self, id: &Id) -> bool
+    pub(crate) fn is_held(&self, id: &Id) -> bool
         ensures { result ≡ is_held_in self.now id.now }
     {
         match self.holds.get(id) {
@@ -154,7 +170,7 @@ impl<A: Allocator> Judge<A> {
     }
 
     /// Ten starts of the id are younger than two minutes (init(8)).
-    fn is_full(&self, id: &Id) -> bool
+    pub(crate) fn is_full(&self, id: &Id) -> bool
         ensures { result ≡ is_full_in self.now id.now }
     {
         match self.starts.get(id) {
@@ -207,7 +223,7 @@ impl<A: Allocator> Judge<A> {
         }
     }
 
-    fn is_settled(&self, level: Level, table: &Table<A>) -> bool
+    pub(crate) fn is_settled(&self, level: Level, table: &Table<A>) -> bool
         ensures { result ≡ is_settled_in level table.now self.now }
     {
         self.is_in_level(level) && self.none_excluded(table) && self.all_served(level, table)

@@ -12,6 +12,7 @@ mod limits;
 mod maps;
 mod parts;
 mod pass;
+mod readings;
 mod spells;
 mod tables;
 mod trace_judges;

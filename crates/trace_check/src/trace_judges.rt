@@ -22,8 +22,8 @@ use std::marker::Model;
 #[derive(Drop)]
 pub struct TraceJudge<A: Allocator = Global> {
     alloc: A,
-    table: Table<A>,
-    judge: Judge<A>,
+    pub(crate) table: Table<A>,
+    pub(crate) judge: Judge<A>,
 }
 
 impl<A: Allocator> Model for TraceJudge<A> {

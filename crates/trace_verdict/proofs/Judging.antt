@@ -44,7 +44,7 @@ few_happenings (h ∷ trace) are =
     let parts = and_parts (is_in_range h) (are_in_range trace) are in
     omega (arith, few_happenings trace parts.1, newlines-append (event_text h) (trace_text trace), newlines-event h parts.0, one_line h)
 
-lines_within : (trace : List Event) (over text : List ℕ) → trace_text trace ++ over ≡ text → newlines (trace_text trace) + length over ≤ length text
+pub lines_within : (trace : List Event) (over text : List ℕ) → trace_text trace ++ over ≡ text → newlines (trace_text trace) + length over ≤ length text
 lines_within trace over text whole = omega (arith, newlines-few (trace_text trace), length-append (trace_text trace) over, ap length whole)
 
 -- the past of a trace with one happening more
@@ -136,7 +136,7 @@ read_next old new trace text h small read next place found = record {
   longer = length-append trace (h ∷ [])
 
 -- the number of the line of the next happening
-some_over : (over : List ℕ) → is_unfinished over ≡ false → 1 ≤ length over
+pub some_over : (over : List ℕ) → is_unfinished over ≡ false → 1 ≤ length over
 some_over over finished =
     let at = finished_cut over finished in
     omega (arith, newlines-few over, newlines-cut over at.0.0 at.0.1 at.1)

@@ -8,4 +8,5 @@ mod readers;
 mod text_judges;
 
 pub use findings::{Breach, Finding};
+pub use readers::TextReader;
 pub use text_judges::TextJudge;

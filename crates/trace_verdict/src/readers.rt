@@ -16,7 +16,7 @@ use trace_text::{ReadFault, first_happening, line_count};
 /// A happening that isn't whole is tried again once it has as many lines as it says, so that a table that comes in many
 /// pieces is read once.
 #[derive(Drop)]
-pub(crate) struct TextReader<A: Allocator> {
+pub struct TextReader<A: Allocator> {
     alloc: A,
     bytes: Vec<u8, A>,
     /// How many of the bytes are read.
@@ -73,7 +73,7 @@ fn move_on<A: Allocator + Copy>(
 
 impl<A: Allocator + Copy> TextReader<A> {
     /// A reader of nothing. It takes no memory.
-    pub(crate) fn new(alloc: A) -> TextReader<A>
+    pub fn new(alloc: A) -> TextReader<A>
         ensures { result ≡ record { over = []; lines = 0 } }
     {
         TextReader {
@@ -87,14 +87,14 @@ impl<A: Allocator + Copy> TextReader<A> {
     }
 
     /// How many lines it has read.
-    pub(crate) fn lines(&self) -> u64
+    pub fn lines(&self) -> u64
         ensures { result ≡ self.now.lines }
     {
         self.lines
     }
 
     /// The number of the line at which what it has not read begins; None where it has read all.
-    pub(crate) fn left(&self) -> Option<u64>
+    pub fn left(&self) -> Option<u64>
         ensures { result ≡ option_map capped (line_left self.now.lines self.now.over) }
     {
         if self.at == self.bytes.len() {
@@ -105,7 +105,7 @@ impl<A: Allocator + Copy> TextReader<A> {
     }
 
     /// Takes the next piece of the text.
-    pub(crate) fn feed(&mut self, piece: &[u8]) -> Result<(), AllocError>
+    pub fn feed(&mut self, piece: &[u8]) -> Result<(), AllocError>
         ensures ok { OnOk result
             (self.new ≡ record self.old { over = self.old.over ++ piece.now }) }
         ensures err { OnErr result (self.new ≡ self.old) }
@@ -117,7 +117,7 @@ impl<A: Allocator + Copy> TextReader<A> {
     }
 
     /// Reads the next happening off; None where none is whole. Where a line begins none nothing is read.
-    pub(crate) fn next(&mut self) -> Result<Option<HappeningIn<A>>, ReadFault>
+    pub fn next(&mut self) -> Result<Option<HappeningIn<A>>, ReadFault>
         ensures next { IfOk result (λ found. ReadsNext self.old self.new found) }
         ensures none { IfErr result (λ fault.
             (self.new ≡ self.old) × ReadsNone self.old fault) }

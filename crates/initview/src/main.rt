@@ -1,0 +1,23 @@
+//! `initview`: why an entry of init is not started, how all stand and which children are left, by a trace.
+#![tactic(auto)]
+
+use initview_command::{USAGE, run_words};
+use program_io::{report_unread_words, words};
+use std::process::ExitCode;
+
+fn main(rt: HostRuntime) -> ExitCode {
+    let alloc = rt.alloc();
+    let status = match words(&rt, alloc) {
+        Ok(words) => {
+            run_words(
+                &rt,
+                alloc,
+                words.as_slice(),
+                &mut rt.stdout(),
+                &mut rt.stderr(),
+            )
+        }
+        Err(error) => report_unread_words("initview", USAGE, &error, &mut rt.stderr()),
+    };
+    ExitCode::from(status)
+}

@@ -1,0 +1,26 @@
+-- What is written of a trace.
+use Rattle.std.proofs.Common.{◌≡◌, refl, inl, inr, subst, ℕ, List, [], reverse, Option}
+use Rattle.std.specs.Io.KnownBytes.{Appends}
+use Rattle.std.proofs.KnownBytes.{Appends-nil}
+use Rattle.program_io.specs.Writing.{AppendsPrefix}
+use Rattle.program_io.specs.declared.statuses.TheConstants.{DEVICE_FAULT}
+use Rattle.path_texts.specs.Known.{IsTextAt, KnownTexts}
+use Rattle.init_trace.specs.Event.{Event}
+use Rattle.trace_view.specs.Viewing.{ViewState, Viewed}
+use Rattle.text_view.specs.declared.text_views.Stop.{Stop}
+use Rattle.text_view.specs.Shown.{IsShown}
+use Rattle.initview_command.specs.declared.asking.Question.{Question}
+use Rattle.initview_command.specs.Showing.{said, status_by, ShowsOf, Shows}
+
+pub none_written : (past : List Event) (asked : Question) (stop : Option Stop) (status : ℕ) (old : Option (List ℕ)) → status ≡ DEVICE_FAULT → ShowsOf past asked stop status old old
+none_written past asked stop status old is = inr (is, ([], said asked past, refl, Appends-nil old))
+
+pub part_written : (past : List Event) (asked : Question) (stop : Option Stop) (status : ℕ) (old new : Option (List ℕ)) (text : List ℕ) → status ≡ DEVICE_FAULT → text ≡ said asked past → AppendsPrefix old new text → ShowsOf past asked stop status old new
+part_written past asked stop status old new text is same part = inr (is, subst (AppendsPrefix old new) same part)
+
+pub all_written : (past : List Event) (asked : Question) (stop : Option Stop) (status : ℕ) (old new : Option (List ℕ)) (text : List ℕ) → status ≡ status_by asked stop past → text ≡ said asked past → Appends old new text → ShowsOf past asked stop status old new
+all_written past asked stop status old new text is same part = inl (is, subst (Appends old new) same part)
+
+pub shows : (text_at : KnownTexts) (path text : List ℕ) (asked : Question) (view : ViewState) (stop : Option Stop) (left : Option ℕ) (status : ℕ) (old new : Option (List ℕ)) → IsTextAt text_at path text → ((trace : List Event) × IsShown text stop left trace × Viewed view (reverse trace)) → ((past : List Event) → Viewed view past → ShowsOf past asked stop status old new) → Shows text_at path asked status old new
+shows text_at path text asked view stop left status old new at shown of =
+    inl (text, stop, left, shown.0, at, shown.1, shown.2.judged.lawful, of (reverse shown.0) shown.2)

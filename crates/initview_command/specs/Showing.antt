@@ -1,0 +1,57 @@
+-- What is written of a trace, and the exit status.
+use Rattle.std.specs.Prelude.{◌≡◌, ◌⊎◌, ℕ, if◌then◌else◌, List, reverse, Option, Some, None, is_some}
+use Rattle.std.specs.Io.KnownBytes.{Appends, Keeps}
+use Rattle.program_io.specs.Writing.{AppendsPrefix}
+use Rattle.program_io.specs.declared.statuses.TheConstants.{DONE, REFUSED, UNLAWFUL, DEVICE_FAULT}
+use Rattle.path_texts.specs.Known.{IsTextAt, KnownTexts}
+use Rattle.init_trace.specs.Event.{Event}
+use Rattle.init_trace.specs.Lawful.{first_breach}
+use Rattle.trace_view.specs.declared.rows.Row.{Row}
+use Rattle.trace_view.specs.Rows.{row_of}
+use Rattle.text_view.specs.declared.text_views.Stop.{Stop}
+use Rattle.text_view.specs.declared.text_views.Stop.TheVariants.{Breach, Torn}
+use Rattle.text_view.specs.Shown.{IsShown}
+use Rattle.view_lines.specs.Left.{left_text}
+use Rattle.view_lines.specs.Reasons.{why_text}
+use Rattle.view_lines.specs.Status.{row_of_text, status_text}
+use Rattle.initview_command.specs.declared.asking.Question.{Question}
+use Rattle.initview_command.specs.declared.asking.Question.TheVariants as question
+
+-- the answer to a question, by the past of a trace
+abbrev pub said : Question → List Event → List ℕ
+said (question.Why id) past = why_text id past
+said question.Status past = status_text past
+said (question.Row id) past = row_of_text id past
+said question.Left past = left_text past
+
+-- the exit statuses of the action `status` in the LSB: it runs, it doesn't, it is unknown
+abbrev pub lsb_status : Row → ℕ
+lsb_status row = if is_some row.child then 0 else if is_some row.act then 3 else 4
+
+-- the exit status of a trace that was shown up to its end, up to a breach, or up to a line that is none
+abbrev pub stop_status : Option Stop → ℕ
+stop_status None = DONE
+stop_status (Some (Breach law line)) = UNLAWFUL
+stop_status (Some (Torn number)) = REFUSED
+
+abbrev pub row_status : List ℕ → Option Stop → List Event → ℕ
+row_status id None past = lsb_status (row_of id past)
+row_status id (Some stop) past = DEVICE_FAULT
+
+abbrev pub status_by : Question → Option Stop → List Event → ℕ
+status_by (question.Row id) stop past = row_status id stop past
+status_by _ stop past = stop_status stop
+
+-- the answer was written, with its exit status; or the output failed or memory ran out, and a part of it was written
+abbrev pub ShowsOf : List Event → Question → Option Stop → ℕ → Option (List ℕ) → Option (List ℕ) → Type 0
+ShowsOf past asked stop status old new =
+    ((status ≡ status_by asked stop past) × Appends old new (said asked past))
+    ⊎ ((status ≡ DEVICE_FAULT) × AppendsPrefix old new (said asked past))
+
+-- so of what a view shows of the text at the path, which breaks no law; or it was not read, and nothing was written
+abbrev pub Shows : KnownTexts → List ℕ → Question → ℕ → Option (List ℕ) → Option (List ℕ) → Type 0
+Shows text_at path asked status old new =
+    ((text : List ℕ) × (stop : Option Stop) × (left : Option ℕ) × (trace : List Event) × IsTextAt text_at path text
+    × IsShown text stop left trace × (first_breach (reverse trace) ≡ None)
+    × ShowsOf (reverse trace) asked stop status old new)
+    ⊎ ((status ≡ DEVICE_FAULT) × Keeps old new)

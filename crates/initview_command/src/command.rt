@@ -1,0 +1,60 @@
+//! The words of `initview`, and what it does for them.
+
+ghost use Rattle.std.specs.Prelude.{◌≡◌, true, false, None, Some, codes, map, string_bytes, List, ℕ};
+ghost use Rattle.program_version.specs.VersionLine.{PrintsVersion};
+ghost use Rattle.command_words.specs.CommandLines.{asks_version};
+ghost use Rattle.initview_command.specs.declared.asking.Question.{Question};
+ghost use Rattle.initview_command.specs.Asking.{path_of, question_of};
+ghost use Rattle.initview_command.specs.Showing.{Shows};
+
+use crate::asking::{path_of, question_of, reason_of};
+use crate::showing::show_file;
+use command_words::{is_version, report_refused_words};
+use path_texts::Texts;
+use program_io::REFUSED;
+use program_version::print_version;
+use std::alloc::Global;
+use std::io::Write;
+
+/// What is told of words that are no command line, behind a line that says why, and where help is asked for.
+pub const USAGE: &str = "usage: initview why ID TRACE
+       initview status TRACE [ID]
+       initview left TRACE
+       initview --version
+  why     say why the entry ID isn't started next, and what to do
+  status  say how init and its entries stand, or the entry ID alone; with ID the exit status is 0
+          where it runs, 3 where it doesn't, 4 where it is unknown
+  left    list the children that were born and not reaped, and their numbers
+  ID      an id of the inittab, 1 to 8 characters
+  TRACE   a trace of init, also one that is still being written
+";
+
+/// Runs initview on its words, and gives the exit status: 0 where the trace was read to its end and the answer written
+/// on `out`, 1 where the words are refused or a line of the trace is none, 2 where a happening breaks a law, 4 where the
+/// trace can't be read, the output fails or memory runs out; of `status TRACE ID` 0, 3 or 4, as the LSB has them. What
+/// stands before a line that is none, or that breaks a law, is shown. Faults are told on `err`.
+pub fn run_words<T: Texts, W: Write, E: Write>(
+    texts: &T,
+    alloc: Global,
+    words: &[String],
+    out: &mut W,
+    err: &mut E,
+) -> u8
+    ensures version { asks_version (map string_bytes words.now) ≡ true
+        → PrintsVersion (codes "initview") result (W.contents out.old) (W.contents out.new) }
+    ensures shown { (question : Question) → asks_version (map string_bytes words.now) ≡ false
+        → question_of (map string_bytes words.now) ≡ Some question
+        → Shows (T.text_at texts.now) (path_of (map string_bytes words.now)) question result
+        (W.contents out.old) (W.contents out.new) }
+    ensures refused { asks_version (map string_bytes words.now) ≡ false
+        → question_of (map string_bytes words.now) ≡ None
+        → (result ≡ REFUSED) × (out.new ≡ out.old) }
+{
+    if is_version(words) {
+        return print_version("initview", out, err);
+    }
+    match question_of(words) {
+        Some(question) => show_file(texts, alloc, path_of(words), &question, out, err),
+        None => report_refused_words("initview", reason_of(words), USAGE, err),
+    }
+}

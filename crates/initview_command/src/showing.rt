@@ -1,0 +1,222 @@
+//! What a trace says, written.
+
+ghost use Rattle.std.specs.Prelude.{◌≡◌, true, List, [], IfOk};
+ghost use Rattle.std.specs.Io.KnownBytes.{Appends};
+ghost use Rattle.program_io.specs.Writing.{AppendsPrefix};
+ghost use Rattle.init_trace.specs.Event.{Event};
+ghost use Rattle.trace_view.specs.Viewing.{Viewed};
+ghost use Rattle.text_view.specs.Views.{HasTaken};
+ghost use Rattle.initview_command.specs.Showing.{Shows, ShowsOf, lsb_status, row_status, said, status_by, stop_status};
+
+use crate::asking::Question;
+use init_words::{Id, Memory};
+use path_texts::{PieceTaker, Texts};
+use program_io::{DEVICE_FAULT, DONE, REFUSED, UNLAWFUL, write_text};
+use std::alloc::{AllocError, Global};
+use std::io;
+use std::io::Write;
+use text_view::{Stop, TextView};
+use trace_view::{Row, TraceView};
+use view_lines::{left_lines, row_line, status_lines, why_lines};
+
+/// The view of a trace whose text is read in pieces.
+#[derive(Drop)]
+struct FileView {
+    view: TextView,
+}
+
+impl PieceTaker for FileView {
+    ghost use Rattle.text_view.specs.Views.{HasTaken};
+
+    ghost has_taken = { λ file text. HasTaken file.view text };
+
+    fn take_piece(&mut self, piece: &[u8]) -> Result<(), AllocError> {
+        match self.view.take(piece) {
+            Ok(()) => Ok(()),
+            Err(Memory) => Err(AllocError),
+        }
+    }
+}
+
+/// The exit status of what the LSB names `status`: 0 for an id that runs, 3 for one that doesn't, 4 for one that the
+/// trace doesn't know.
+fn lsb_status(row: &Row) -> u8
+    ensures { result ≡ lsb_status row.now }
+{
+    if row.child.is_some() {
+        0
+    } else if row.act.is_some() {
+        3
+    } else {
+        4
+    }
+}
+
+/// The exit status of a trace that was shown up to its end, or up to here.
+fn stop_status(stop: Option<Stop>) -> u8
+    ensures { result ≡ stop_status stop }
+{
+    match stop {
+        None => DONE,
+        Some(Stop::Breach(_, _)) => UNLAWFUL,
+        Some(Stop::Torn(_)) => REFUSED,
+    }
+}
+
+/// The exit status of an answer.
+fn status_of(view: &TraceView, question: &Question, stop: Option<Stop>) -> u8
+    ensures { (past : List Event) → Viewed view.now past
+        → result ≡ status_by question.now stop past }
+{
+    match question {
+        Question::Row(id) => row_status(view, id, stop),
+        Question::Why(_) => stop_status(stop),
+        Question::Status => stop_status(stop),
+        Question::Left => stop_status(stop),
+    }
+}
+
+/// The exit status of one id's row: unknown where the trace was not shown up to its end.
+fn row_status(view: &TraceView, id: &Id, stop: Option<Stop>) -> u8
+    ensures { (past : List Event) → Viewed view.now past
+        → result ≡ row_status id.now stop past }
+{
+    match stop {
+        None => lsb_status(&view.row(id)),
+        Some(_) => DEVICE_FAULT,
+    }
+}
+
+/// The answer to a question.
+fn answer(alloc: Global, view: &TraceView, question: &Question) -> Result<Vec<u8>, AllocError>
+    ensures { IfOk result (λ text. (past : List Event) → Viewed view.now past
+        → text.items ≡ said question.now past) }
+{
+    match question {
+        Question::Why(id) => why_lines(alloc, view, id),
+        Question::Status => status_lines(alloc, view),
+        Question::Row(id) => row_line(alloc, view, id),
+        Question::Left => left_lines(alloc, view),
+    }
+}
+
+/// Reads the trace of a path, writes what it says, and gives the exit status.
+pub(crate) fn show_file<T: Texts, W: Write, E: Write>(
+    texts: &T,
+    alloc: Global,
+    path: &str,
+    question: &Question,
+    out: &mut W,
+    err: &mut E,
+) -> u8
+    ensures { Shows (T.text_at texts.now) path.now question.now result (W.contents out.old)
+        (W.contents out.new) }
+{
+    let mut file = FileView {
+        view: TextView::new(alloc),
+    };
+    show_text(texts, alloc, path, question, &mut file, out, err)
+}
+
+/// Hands the text of a path to a view that has taken none, and writes what it says.
+fn show_text<T: Texts, W: Write, E: Write>(
+    texts: &T,
+    alloc: Global,
+    path: &str,
+    question: &Question,
+    file: &mut FileView,
+    out: &mut W,
+    err: &mut E,
+) -> u8
+    requires { HasTaken file.old.view [] }
+    ensures { Shows (T.text_at texts.now) path.now question.now result (W.contents out.old)
+        (W.contents out.new) }
+{
+    match texts.read_pieces(path, file) {
+        Ok(()) => {
+            let (view, stop, left) = file.view.answer();
+            tell_stop(path, stop, left, err);
+            show_view(alloc, view, question, stop, out, err)
+        }
+        Err(error) => report_unread(path, &error, err),
+    }
+}
+
+/// Writes what a view says, and gives the exit status.
+fn show_view<W: Write, E: Write>(
+    alloc: Global,
+    view: &TraceView,
+    question: &Question,
+    stop: Option<Stop>,
+    out: &mut W,
+    err: &mut E,
+) -> u8
+    ensures { (past : List Event) → Viewed view.now past
+        → ShowsOf past question.now stop result (W.contents out.old) (W.contents out.new) }
+{
+    let Ok(text) = answer(alloc, view, question) else {
+        return report_memory(err);
+    };
+    if !tell(&text, out) {
+        return report_unwritten(err);
+    }
+    status_of(view, question, stop)
+}
+
+/// Writes a text, and sees that it is out.
+fn tell<W: Write>(text: &[u8], out: &mut W) -> bool
+    ensures whole { result ≡ true → Appends (W.contents out.old) (W.contents out.new) text.now }
+    ensures part { AppendsPrefix (W.contents out.old) (W.contents out.new) text.now }
+{
+    write_text(out, text).is_ok() && out.flush().is_ok()
+}
+
+fn report_memory<E: Write>(err: &mut E) -> u8
+    ensures { result ≡ DEVICE_FAULT }
+{
+    let _ = write_text(err, b"initview: out of memory\n");
+    DEVICE_FAULT
+}
+
+fn report_unwritten<E: Write>(err: &mut E) -> u8
+    ensures { result ≡ DEVICE_FAULT }
+{
+    let _ = write_text(err, b"initview: cannot write\n");
+    DEVICE_FAULT
+}
+
+fn report_unread<E: Write>(path: &str, error: &io::Error, err: &mut E) -> u8
+    ensures { result ≡ DEVICE_FAULT }
+{
+    let _ = writeln!(err, "initview: cannot read {path}: {error}");
+    DEVICE_FAULT
+}
+
+/// Tells up to which line a trace is shown, where that isn't all of it.
+fn tell_stop<E: Write>(path: &str, stop: Option<Stop>, left: Option<u64>, err: &mut E) {
+    match stop {
+        Some(Stop::Breach(law, line)) => {
+            let why = law.words();
+            let _ = writeln!(
+                err,
+                "initview: {path}:{line}: {why}: shown up to the line before it"
+            );
+        }
+        Some(Stop::Torn(line)) => {
+            let _ = writeln!(
+                err,
+                "initview: {path}:{line}: not a line of a trace: shown up to the line before it"
+            );
+        }
+        None => tell_left(path, left, err),
+    }
+}
+
+fn tell_left<E: Write>(path: &str, left: Option<u64>, err: &mut E) {
+    if let Some(line) = left {
+        let _ = writeln!(
+            err,
+            "initview: {path}:{line}: the happening is not finished: shown up to the line before it"
+        );
+    }
+}

@@ -1,0 +1,411 @@
+//! What initview says of traces, worked out from the definitions: rows of the parts of a trace, which is kept at the path
+//! `t`, the words, the exit status, what is written, and how what is told begins.
+
+use initview_command::run_words;
+use path_texts::KeptTexts;
+use std::alloc::{AllocError, Global};
+use std::process::Abort;
+use std::test::Fail;
+use test_support::line_words;
+
+/// A table of all kinds of entries, and the clock.
+const TABLE: &str =
+    "use 9\nid:3:initdefault:\ns::sysinit:x\nw:3:wait:x\nv:3:wait:x\nr:3:respawn:x\no:3:once:x\nd:A:ondemand:x\nf:4:respawn:x\nx:3:off:\nclock 1000\n";
+
+/// The first stage.
+const SYSINIT: &str = "enter sysinit 5\n";
+
+/// The entry of the first stage is started.
+const S_UP: &str = "ask s start\nbirth s 10\ntold s\n";
+
+/// It ends, and that isn't told.
+const S_END: &str = "nudge\nask s look\ndeath 10\nreaped s 10 exit 0\n";
+
+/// It is started and ends.
+const S_DONE: &str =
+    "ask s start\nbirth s 10\ntold s\nnudge\nask s look\ndeath 10\nreaped s 10 exit 0\ntold s\n";
+
+/// Level 3 is entered.
+const RUN: &str = "enter boot 5\nenter 3 5\n";
+
+/// The first waited entry is started.
+const W_UP: &str = "ask w start\nbirth w 11\ntold w\n";
+
+/// The respawned entry is started.
+const R_UP: &str = "ask r start\nbirth r 13\ntold r\n";
+
+/// It is started ten times in vain.
+const FAILS: &str =
+    "ask r start\nnobirth r\ntold r\nask r start\nnobirth r\ntold r\nask r start\nnobirth r\ntold r\nask r start\nnobirth r\ntold r\nask r start\nnobirth r\ntold r\nask r start\nnobirth r\ntold r\nask r start\nnobirth r\ntold r\nask r start\nnobirth r\ntold r\nask r start\nnobirth r\ntold r\nask r start\nnobirth r\ntold r\n";
+
+/// Level 3 in which both waited entries have ended.
+const UP: &str =
+    "use 9\nid:3:initdefault:\ns::sysinit:x\nw:3:wait:x\nv:3:wait:x\nr:3:respawn:x\no:3:once:x\nd:A:ondemand:x\nf:4:respawn:x\nx:3:off:\nclock 1000\nenter sysinit 5\nask s start\nbirth s 10\ntold s\nnudge\nask s look\ndeath 10\nreaped s 10 exit 0\ntold s\nenter boot 5\nenter 3 5\nask w start\nbirth w 11\ntold w\nnudge\nask w look\ndeath 11\nreaped w 11 exit 3\ntold w\nask v start\nbirth v 12\ntold v\nnudge\nask v look\ndeath 12\nreaped v 12 killed\ntold v\n";
+
+/// The parts of a trace, the words, the status, what is written, and how what is told begins.
+type Row = (
+    &'static [&'static str],
+    &'static str,
+    u8,
+    &'static str,
+    &'static str,
+);
+
+const ROWS: &[Row] = &[
+    // An id that the table doesn't have.
+    (
+        &[TABLE],
+        "why q t",
+        0,
+        "q: the table in force has no such entry\n  add its line to the inittab, or mend it, and run telinit q\n",
+        "",
+    ),
+    // Before the first stage.
+    (
+        &[TABLE],
+        "why r t",
+        0,
+        "r: no stage has begun\n  wait for stage sysinit\n",
+        "",
+    ),
+    // An action that starts nothing, and entries of other stages and levels.
+    (
+        &[TABLE, SYSINIT],
+        "why x t",
+        0,
+        "x: its action, off, starts nothing\n  give its line another action, and run telinit q\n",
+        "",
+    ),
+    (
+        &[TABLE, SYSINIT],
+        "why w t",
+        0,
+        "w: it doesn't start in stage sysinit\n  go to a level that its line names, or name this one and run telinit q\n",
+        "",
+    ),
+    (
+        &[UP],
+        "why f t",
+        0,
+        "f: it doesn't start in level 3\n  go to a level that its line names, or name this one and run telinit q\n",
+        "",
+    ),
+    // A start that is due, is ordered and made; an end that isn't told.
+    (
+        &[TABLE, SYSINIT],
+        "why s t",
+        0,
+        "s: nothing keeps it: its start is due\n  wait for init's next turn\n",
+        "",
+    ),
+    (
+        &[TABLE, SYSINIT, "ask s start\n"],
+        "why s t",
+        0,
+        "s: it is being started\n  wait for the answer\n",
+        "",
+    ),
+    (
+        &[TABLE, SYSINIT, S_UP, "clock 1007\n"],
+        "why s t",
+        0,
+        "s: its child runs: pid 10, 7 s, start 1\n  end the child to have it started anew, where its action says so\n",
+        "",
+    ),
+    (
+        &[TABLE, SYSINIT, S_UP, S_END],
+        "why s t",
+        0,
+        "s: its child 10 has ended, which init isn't told yet\n  end the child to have it started anew, where its action says so\n",
+        "",
+    ),
+    (
+        &[TABLE, SYSINIT, S_DONE],
+        "why s t",
+        0,
+        "s: it was started already since the level or its line changed: exit 0, 0 s ago\n  go to another level and back to have it started again\n",
+        "",
+    ),
+    // Waited entries keep those behind them.
+    (
+        &[TABLE, SYSINIT, S_DONE, RUN],
+        "why v t",
+        0,
+        "v: init waits for w, which stands before it\n  ask why that one isn't done\n",
+        "",
+    ),
+    (
+        &[TABLE, SYSINIT, S_DONE, RUN, W_UP],
+        "why r t",
+        0,
+        "r: init waits for w, which stands before it\n  ask why that one isn't done\n",
+        "",
+    ),
+    (
+        &[UP],
+        "why v t",
+        0,
+        "v: it was started already since the level or its line changed: killed, 0 s ago\n  go to another level and back to have it started again\n",
+        "",
+    ),
+    (
+        &[UP, "ask o start\nnobirth o\ntold o\n"],
+        "why o t",
+        0,
+        "o: it was started already since the level or its line changed: its start failed, 0 s ago\n  go to another level and back to have it started again\n",
+        "",
+    ),
+    // An entry that nothing has called, and one that is called.
+    (
+        &[UP],
+        "why d t",
+        0,
+        "d: nothing has called it since the level or the table changed\n  call it by telinit a, b or c, or by news of the power, as its action says\n",
+        "",
+    ),
+    (
+        &[UP, "got call A\ncall A\n"],
+        "why d t",
+        0,
+        "d: nothing keeps it: its start is due\n  wait for init's next turn\n",
+        "",
+    ),
+    // The respawn limit.
+    (
+        &[UP, FAILS],
+        "why r t",
+        0,
+        "r: it was started ten times in two minutes: it is held next\n  see why its children end so soon\n",
+        "",
+    ),
+    (
+        &[UP, FAILS, "hold r\nclock 1040\n"],
+        "why r t",
+        0,
+        "r: it is held for 260 s more: it was started ten times in two minutes\n  see why its children end so soon; telinit q ends the hold\n",
+        "",
+    ),
+    // Requests come first, each in its turn.
+    (
+        &[UP, "got reload\n"],
+        "why r t",
+        0,
+        "r: a request is carried out first: read inittab again\n  wait for init's next turn\n",
+        "",
+    ),
+    (
+        &[UP, "got reload\ngot reexec\n"],
+        "why r t",
+        0,
+        "r: a request is carried out first: execute init anew\n  wait for init's next turn\n",
+        "",
+    ),
+    (
+        &[UP, "got level 4 5\nnotread\n"],
+        "why r t",
+        0,
+        "r: a request is carried out first: go to level 4\n  wait for init's next turn\n",
+        "",
+    ),
+    (
+        &[UP, "got call A\n"],
+        "why r t",
+        0,
+        "r: a request is carried out first: call entries\n  wait for init's next turn\n",
+        "",
+    ),
+    // A child that may not live has to end first.
+    (
+        &[UP, R_UP, "enter 4 5\n"],
+        "why f t",
+        0,
+        "f: r (pid 13) may not live in level 4, and has to end first\n  wait: init sends TERM, and KILL when the grace is over\n",
+        "",
+    ),
+    // How one id stands, with the statuses of the LSB.
+    (
+        &[UP, R_UP, "clock 1009\n"],
+        "status t r",
+        0,
+        "r        respawn       running     pid 13, 9 s, start 1\n",
+        "",
+    ),
+    (
+        &[UP, R_UP, "enter 4 5\n"],
+        "status t r",
+        0,
+        "r        respawn       stopping    pid 13, 0 s, start 1, no TERM yet\n",
+        "",
+    ),
+    (
+        &[
+            UP,
+            R_UP,
+            "enter 4 5\nask r term\nhit r\ntold r\nclock 1003\n",
+        ],
+        "status t r",
+        0,
+        "r        respawn       stopping    pid 13, 3 s, start 1, TERM 3 s ago, KILL in 2 s\n",
+        "",
+    ),
+    (
+        &[UP],
+        "status t w",
+        3,
+        "w        wait          done        exit 3, 0 s ago\n",
+        "",
+    ),
+    (
+        &[UP],
+        "status t q",
+        4,
+        "q        -             no entry    never ran\n",
+        "",
+    ),
+    // A child that outlives its entry.
+    (
+        &[UP, R_UP, "got reload\nuse 1\nf:3:respawn:x\n"],
+        "status t r",
+        0,
+        "r        -             stopping    pid 13, 0 s, start 1, no TERM yet\n",
+        "",
+    ),
+    // All of it.
+    (
+        &[UP, FAILS, "hold r\nclock 1040\n"],
+        "status t",
+        0,
+        "level 3, clock 1040, 5 s from TERM to KILL\nid       initdefault   never       never ran\ns        sysinit       not here    exit 0, 40 s ago\nw        wait          done        exit 3, 40 s ago\nv        wait          done        killed, 40 s ago\nr        respawn       held        260 s more; its start failed, 40 s ago\no        once          due         never ran\nd        ondemand      not called  never ran\nf        respawn       not here    never ran\nx        off           never       never ran\n",
+        "",
+    ),
+    (
+        &[
+            UP,
+            R_UP,
+            "enter 4 5\ngot reload\nuse 2\nf:4:respawn:x\ng:4:wait:x\n",
+        ],
+        "status t",
+        0,
+        "level 4, clock 1000, 5 s from TERM to KILL\nf        respawn       waiting     for r (pid 13) to end; never ran\ng        wait          waiting     for r (pid 13) to end; never ran\nr        -             stopping    pid 13, 0 s, start 1, no TERM yet\n",
+        "",
+    ),
+    // A level that is settled, and a request that stands.
+    (
+        &["use 1\nr:3:respawn:x\nenter 3 5\nask r start\nbirth r 13\ntold r\nsettle 3\n"],
+        "status t",
+        0,
+        "level 3, settled, clock 0, 5 s from TERM to KILL\nr        respawn       running     pid 13, 0 s, start 1\n",
+        "",
+    ),
+    (
+        &["use 0\ngot reexec\n"],
+        "status t",
+        0,
+        "the opening, clock 0, 0 s from TERM to KILL\na request stands: execute init anew\n",
+        "",
+    ),
+    // Children that are left, the youngest first.
+    (
+        &[UP, R_UP, "ask o start\nbirth o 14\n"],
+        "left t",
+        0,
+        "o 14\nr 13\n",
+        "",
+    ),
+    (&[UP], "left t", 0, "", ""),
+    // What breaks a law, is no line or isn't finished ends what is shown.
+    (
+        &[UP, R_UP, "settle 4\n"],
+        "left t",
+        2,
+        "r 13\n",
+        "initview: t:42: the level is not settled: shown up to the line before it\n",
+    ),
+    (
+        &[UP, "settle 4\n"],
+        "status t w",
+        4,
+        "w        wait          done        exit 3, 0 s ago\n",
+        "initview: t:39: the level is not settled: shown up to the line before it\n",
+    ),
+    (
+        &["nudge\nnudge \n"],
+        "left t",
+        1,
+        "",
+        "initview: t:2: not a line of a trace: shown up to the line before it\n",
+    ),
+    (
+        &["nudge\nnud"],
+        "left t",
+        0,
+        "",
+        "initview: t:2: the happening is not finished: shown up to the line before it\n",
+    ),
+    // A trace that isn't there.
+    (
+        &[],
+        "left u",
+        4,
+        "",
+        "initview: cannot read u: entity not found\n",
+    ),
+    // Words that are no command line.
+    (
+        &[],
+        "why r",
+        1,
+        "",
+        "initview: a word is missing, or one is too many\nusage: initview why ID TRACE\n",
+    ),
+    (
+        &[],
+        "why a_b_c_d_e t",
+        1,
+        "",
+        "initview: an ID is 1 to 8 characters of those that inittab(5) allows\nusage: ",
+    ),
+    (
+        &[],
+        "left t r",
+        1,
+        "",
+        "initview: a word is missing, or one is too many\nusage: ",
+    ),
+    (&[], "show t", 1, "", "initview: no such command\nusage: "),
+    (&[], "--help", 1, "", "usage: initview why ID TRACE\n"),
+];
+
+/// Keeps the text of the parts at the path `t`.
+fn kept_of(alloc: Global, parts: &[&str]) -> Result<KeptTexts, AllocError> {
+    let mut text = Vec::new(alloc);
+    for part in parts {
+        text.extend_from_slice(part.as_bytes())?;
+    }
+    let mut kept = KeptTexts::new(alloc);
+    kept.keep("t", text.as_slice())?;
+    Ok(kept)
+}
+
+/// What is said is what the row says.
+fn is_said(alloc: Global, row: &Row) -> Result<bool, AllocError> {
+    let kept = kept_of(alloc, row.0)?;
+    let words = line_words(alloc, row.1)?;
+    let mut out: Vec<u8> = Vec::new(alloc);
+    let mut err: Vec<u8> = Vec::new(alloc);
+    let status = run_words(&kept, alloc, words.as_slice(), &mut out, &mut err);
+    let tells = if row.4.is_empty() {
+        err.is_empty()
+    } else {
+        err.as_slice().starts_with(row.4.as_bytes())
+    };
+    Ok(status == row.2 && out.as_slice() == row.3.as_bytes() && tells)
+}
+
+#[test]
+fn what_is_said_of_traces(rt: HostRuntime) -> Result<(), Fail> {
+    for row in ROWS {
+        assert!(rt; is_said(rt.alloc(), row)?, "{}", row.1);
+    }
+    Ok(())
+}

@@ -1,0 +1,5 @@
+use Rattle.std.proofs.Common.{refl, []}
+use Rattle.text_view.proofs.text_views.TextView.new.Goals as goal
+
+pub returns : goal.returns
+returns g c = rw c.new.ensures ([], record { are = refl; whole = refl; lines = refl; seen = c.new-2.ensures.seen }, refl)

@@ -1,0 +1,67 @@
+-- A view of a text that comes in pieces, and the texts that it has taken.
+use Rattle.std.specs.Prelude.{◌≡◌, ℕ, Bool, true, false, List, ◌∷◌, ◌++◌, reverse, Option, Some, None}
+use Rattle.text_lines.specs.Lines.{newlines}
+use Rattle.init_trace.specs.Event.{Event}
+use Rattle.init_trace.specs.Lawful.{broken}
+use Rattle.init_trace.specs.Range.{are_in_range}
+use Rattle.trace_check.specs.Laws.{law_number}
+use Rattle.trace_text.specs.Lines.{trace_text}
+use Rattle.trace_verdict.specs.Fronts.{is_unfinished}
+use Rattle.trace_verdict.specs.Readers.{Reading}
+use Rattle.trace_view.specs.Viewing.{ViewState, Viewed}
+use Rattle.text_view.specs.declared.text_views.Stop.{Stop}
+use Rattle.text_view.specs.declared.text_views.Stop.TheVariants.{Breach, Torn}
+use Rattle.text_view.specs.Shown.{IsBefore, IsUpTo}
+
+-- what it has not read, and how many lines it has read; the view of the trace; and why it goes no further
+pub record TextState : Type 0 where
+  pub reading : Reading
+  pub viewing : ViewState
+  pub stop : Option Stop
+
+-- the trace is what it has read of the text, and has seen
+pub record HasSeen (reading : Reading) (viewing : ViewState) (trace : List Event) (text : List ℕ) : Type 0 where
+  pub are : are_in_range trace ≡ true
+  pub whole : trace_text trace ++ reading.over ≡ text
+  pub lines : reading.lines ≡ newlines (trace_text trace)
+  pub seen : Viewed viewing (reverse trace)
+
+-- it goes no further in the text, and has seen what stands before
+abbrev pub StopsBy : Stop → ViewState → List ℕ → Type 0
+StopsBy (Breach law line) viewing text =
+    (trace : List Event) × IsBefore trace law line text × Viewed viewing (reverse trace)
+StopsBy (Torn number) viewing text = (trace : List Event) × IsUpTo trace number text × Viewed viewing (reverse trace)
+
+-- it is at work on the text
+abbrev pub AtBy : Option Stop → TextState → List ℕ → Type 0
+AtBy None state text = (trace : List Event) × HasSeen state.reading state.viewing trace text
+AtBy (Some stop) state text = StopsBy stop state.viewing text
+
+abbrev pub IsAt : TextState → List ℕ → Type 0
+IsAt state text = AtBy state.stop state text
+
+-- it has taken the text: besides, nothing that it has not read is a whole happening
+abbrev pub TakenBy : Option Stop → TextState → List ℕ → Type 0
+TakenBy None state text = (trace : List Event) × HasSeen state.reading state.viewing trace text
+    × (is_unfinished state.reading.over ≡ true)
+TakenBy (Some stop) state text = StopsBy stop state.viewing text
+
+abbrev pub HasTaken : TextState → List ℕ → Type 0
+HasTaken state text = TakenBy state.stop state text
+
+-- it goes on with the text, or has taken it
+abbrev pub GoesOn : Bool → TextState → TextState → List ℕ → Type 0
+GoesOn true old new text = IsAt old text → IsAt new text
+GoesOn false old new text = IsAt old text → HasTaken new text
+
+-- what a happening at this line makes of a view
+abbrev pub SeesStop : Option Stop → ViewState → ViewState → Event → ℕ → Type 0
+SeesStop None old new happening line = (past : List Event) → Viewed old past → Viewed new (happening ∷ past)
+SeesStop (Some (Breach law at)) old new happening line = (new ≡ old) × (at ≡ line)
+    × ((past : List Event) → Viewed old past → broken happening past ≡ Some (law_number law))
+SeesStop (Some (Torn number)) old new happening line = ⊥
+
+-- the line at which it holds a happening that isn't finished
+abbrev pub left_of : Option Stop → Option ℕ → Option ℕ
+left_of (Some stop) left = None
+left_of None left = left

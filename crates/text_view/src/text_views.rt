@@ -1,0 +1,142 @@
+//! The view of the text of a trace that comes in pieces.
+
+ghost use Rattle.std.specs.Prelude.{◌≡◌, ◌^◌, ◌<◌, ◌+◌, List, ℕ, ◌++◌, [], length, true, option_map, reverse, IfOk, OnOk};
+ghost use Rattle.init_trace.specs.Event.{Event};
+ghost use Rattle.trace_verdict.specs.Fronts.{line_left};
+ghost use Rattle.trace_verdict.specs.Readers.{capped};
+ghost use Rattle.trace_view.specs.Viewing.{Viewed};
+ghost use Rattle.text_view.specs.Shown.{IsShown};
+ghost use Rattle.text_view.specs.Views.{GoesOn, HasTaken, IsAt, SeesStop, left_of};
+
+use init_trace::HappeningIn;
+use init_words::Memory;
+use std::alloc::{Allocator, Global};
+use std::marker::Model;
+use trace_check::Law;
+use trace_text::ReadFault;
+use trace_verdict::TextReader;
+use trace_view::TraceView;
+
+/// Why a view goes no further.
+#[derive(Clone, Copy)]
+pub enum Stop {
+    /// The happening at the line of this number, from 1, breaks this law, and no lesser one.
+    Breach(Law, u64),
+    /// The line of this number, from 1, begins no happening.
+    Torn(u64),
+}
+
+/// A view of the text of a trace that comes in pieces, cut anywhere. It goes on up to the first happening that breaks a
+/// law, and the first line that begins none.
+///
+/// A contract sees of it which texts it has taken (`HasTaken`).
+#[derive(Drop)]
+pub struct TextView<A: Allocator = Global> {
+    reader: TextReader<A>,
+    view: TraceView<A>,
+    stop: Option<Stop>,
+}
+
+impl<A: Allocator> Model for TextView<A> {
+    ghost use Rattle.text_view.specs.Views.{TextState};
+
+    ghost Value = { TextState };
+
+    ghost view = { λ v. record { reading = v.reader; viewing = v.view; stop = v.stop } };
+}
+
+/// Shows a view the next happening, at this line.
+fn see_next<A: Allocator + Copy, B: Allocator>(
+    view: &mut TraceView<A>,
+    line: u64,
+    happening: &HappeningIn<B>,
+) -> Result<Option<Stop>, Memory>
+    ensures { IfOk result (λ stop. SeesStop stop view.old view.new happening.now line) }
+{
+    match view.take(happening)? {
+        Some(law) => Ok(Some(Stop::Breach(law, line))),
+        None => Ok(None),
+    }
+}
+
+impl<A: Allocator + Copy> TextView<A> {
+    /// A view that has taken nothing. It takes no memory.
+    pub fn new(alloc: A) -> TextView<A>
+        ensures { HasTaken result [] }
+    {
+        TextView {
+            reader: TextReader::new(alloc),
+            view: TraceView::new(alloc),
+            stop: None,
+        }
+    }
+
+    fn feed(&mut self, piece: &[u8]) -> Result<(), Memory>
+        ensures { OnOk result ((text : List ℕ) → HasTaken self.old text
+            → IsAt self.new (text ++ piece.now)) }
+    {
+        if let Some(_) = self.stop {
+            return Ok(());
+        }
+        self.reader.feed(piece)?;
+        Ok(())
+    }
+
+    /// Takes the next happening, if one is whole.
+    fn take_next(&mut self) -> Result<bool, Memory>
+        ensures goes { IfOk result (λ more. (text : List ℕ) → length text < 2 ^ 64
+            → GoesOn more self.old self.new text) }
+        ensures shorter { IfOk result (λ more. more ≡ true
+            → length self.new.reading.over < length self.old.reading.over) }
+    {
+        if let Some(_) = self.stop {
+            return Ok(false);
+        }
+        let line = self.reader.lines().saturating_add(1);
+        match self.reader.next() {
+            Ok(Some(happening)) => {
+                let stop = see_next(&mut self.view, line, &happening)?;
+                self.stop = stop;
+                Ok(true)
+            }
+            Ok(None) => Ok(false),
+            Err(ReadFault::Line(number)) => {
+                self.stop = Some(Stop::Torn(number));
+                Ok(false)
+            }
+            Err(ReadFault::Memory) => Err(Memory),
+        }
+    }
+
+    /// Takes the next piece of the text. Where memory runs out a part of it may be taken, and the view is of no more
+    /// use.
+    pub fn take(&mut self, piece: &[u8]) -> Result<(), Memory>
+        ensures { OnOk result ((text : List ℕ) → length (text ++ piece.now) < 2 ^ 64
+            → HasTaken self.old text → HasTaken self.new (text ++ piece.now)) }
+    {
+        self.feed(piece)?;
+        while self.take_next()? {}
+        Ok(())
+    }
+
+    fn left(&self) -> Option<u64>
+        ensures { result ≡ left_of self.now.stop
+            (option_map capped (line_left self.now.reading.lines self.now.reading.over)) }
+    {
+        match self.stop {
+            Some(_) => None,
+            None => self.reader.left(),
+        }
+    }
+
+    /// The view of what was taken, why it went no further, and the number of the line, from 1, at which the last
+    /// happening begins where that isn't finished: it isn't seen.
+    pub fn answer(&self) -> (&TraceView<A>, Option<Stop>, Option<u64>)
+        ensures { (text : List ℕ) → length text < 2 ^ 64 → HasTaken self.now text
+            → (trace : List Event) × IsShown text result.1 result.2 trace
+            × Viewed result.0.now (reverse trace) }
+    {
+        let left = self.left();
+        (&self.view, self.stop, left)
+    }
+}

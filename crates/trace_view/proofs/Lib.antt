@@ -1,0 +1,3 @@
+pub mod Seeing
+pub mod Stands
+pub mod Reasons

@@ -1,0 +1,62 @@
+-- One more happening: what a view keeps goes on being what the past says.
+use Rattle.std.proofs.Common.{◌≡◌, refl, ◌∙◌, ap, ℕ, List, ◌∷◌, Option}
+use Rattle.init_words.specs.declared.entries.Entry.{Entry}
+use Rattle.init_words.specs.declared.stages.Stage.{Stage}
+use Rattle.initctl_frame.specs.declared.requests.Got.TheVariants as got
+use Rattle.init_trace.specs.declared.happenings.Happening.TheVariants.{NewTable, NotRead, Enter, Call, Power, Birth, NoBirth, Reaped, Told, Got, Handed}
+use Rattle.init_trace.specs.Event.{Event}
+use Rattle.init_trace.specs.Past.{table_of, stage_of, time_of, unreaped_children, kept_children}
+use Rattle.trace_check.specs.Judging.{Judged}
+use Rattle.trace_view.specs.Wishes.{wishes_of, wishes_after}
+use Rattle.trace_check.specs.State.{at}
+use Rattle.trace_view.specs.Rows.{births_of, ended_of, born_after, ended_after}
+use Rattle.trace_view.specs.Viewing.{ViewState, Viewed, unreaped_after, kept_after}
+
+wishes_step : (happening : Event) (past : List Event) → wishes_after (stage_of (happening ∷ past)) happening (wishes_of past) ≡ wishes_of (happening ∷ past)
+wishes_step (NewTable table) past = refl
+wishes_step NotRead past = refl
+wishes_step (Enter stage grace) past = refl
+wishes_step (Call letter) past = refl
+wishes_step (Power kind) past = refl
+wishes_step (Handed how) past = refl
+wishes_step (Got got.Reexec) past = refl
+wishes_step (Got got.Reload) past = refl
+wishes_step (Got (got.Level level grace)) past = refl
+wishes_step (Got (got.Call letter)) past = refl
+wishes_step (Got (got.Power kind)) past = refl
+wishes_step (Got _) past = refl
+wishes_step _ past = refl
+
+unreaped_step : (happening : Event) (past : List Event) → unreaped_after (table_of (happening ∷ past)) happening (unreaped_children past) ≡ unreaped_children (happening ∷ past)
+unreaped_step (Birth id number) past = refl
+unreaped_step (Reaped id number status) past = refl
+unreaped_step _ past = refl
+
+kept_step : (happening : Event) (past : List Event) → kept_after (table_of (happening ∷ past)) (unreaped_children past) happening (kept_children past) ≡ kept_children (happening ∷ past)
+kept_step (Birth id number) past = refl
+kept_step (Told id) past = refl
+kept_step _ past = refl
+
+born_step : (happening : Event) (id : List ℕ) (past : List Event) → born_after (time_of (happening ∷ past)) happening id (births_of id past) ≡ births_of id (happening ∷ past)
+born_step (Birth i number) id past = refl
+born_step _ id past = refl
+
+ended_step : (happening : Event) (id : List ℕ) (past : List Event) → ended_after (time_of (happening ∷ past)) happening id (ended_of id past) ≡ ended_of id (happening ∷ past)
+ended_step (NoBirth i) id past = refl
+ended_step (Reaped i number status) id past = refl
+ended_step _ id past = refl
+
+pub seen_more : (happening : Event) (past : List Event) (old new : ViewState) (table : List Entry) (stage : Option Stage) (time : ℕ) → ((so_far : List Event) → Judged old.judging so_far → Judged new.judging (happening ∷ so_far)) → ((so_far : List Event) → Judged new.judging so_far → table ≡ table_of so_far) → ((so_far : List Event) → Judged new.judging so_far → stage ≡ stage_of so_far) → ((so_far : List Event) → Judged new.judging so_far → time ≡ time_of so_far) → new.unreaped ≡ unreaped_after table happening old.unreaped → new.kept ≡ kept_after table old.unreaped happening old.kept → new.wishes ≡ wishes_after stage happening old.wishes → ((id : List ℕ) → at id new.births ≡ born_after time happening id (at id old.births)) → ((id : List ℕ) → at id new.ends ≡ ended_after time happening id (at id old.ends)) → Viewed old past → Viewed new (happening ∷ past)
+seen_more happening past old new table stage time judges tables stages times unreaped kept wishes births ends seen =
+    let judged : Judged new.judging (happening ∷ past) = judges past seen.judged in
+    let in_force : table ≡ table_of (happening ∷ past) = tables (happening ∷ past) judged in
+    let on : stage ≡ stage_of (happening ∷ past) = stages (happening ∷ past) judged in
+    let at_time : time ≡ time_of (happening ∷ past) = times (happening ∷ past) judged in
+    record {
+      judged = judged;
+      unreaped = unreaped ∙ ap (λ t. unreaped_after t happening old.unreaped) in_force ∙ ap (unreaped_after (table_of (happening ∷ past)) happening) seen.unreaped ∙ unreaped_step happening past;
+      kept = kept ∙ ap (λ t. kept_after t old.unreaped happening old.kept) in_force ∙ ap (λ u. kept_after (table_of (happening ∷ past)) u happening old.kept) seen.unreaped ∙ ap (kept_after (table_of (happening ∷ past)) (unreaped_children past) happening) seen.kept ∙ kept_step happening past;
+      wishes = wishes ∙ ap (λ s. wishes_after s happening old.wishes) on ∙ ap (wishes_after (stage_of (happening ∷ past)) happening) seen.wishes ∙ wishes_step happening past;
+      births = λ id. births id ∙ ap (λ t. born_after t happening id (at id old.births)) at_time ∙ ap (born_after (time_of (happening ∷ past)) happening id) (seen.births id) ∙ born_step happening id past;
+      ends = λ id. ends id ∙ ap (λ t. ended_after t happening id (at id old.ends)) at_time ∙ ap (ended_after (time_of (happening ∷ past)) happening id) (seen.ends id) ∙ ended_step happening id past;
+    }

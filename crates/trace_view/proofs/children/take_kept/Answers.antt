@@ -1,0 +1,6 @@
+use Rattle.std.proofs.Common.{refl}
+use Rattle.trace_view.proofs.children.take_kept.Goals as goal
+
+pub returns-in_ok-extend_from_slice-in-Told : goal.returns-in_ok-extend_from_slice-in-Told
+returns-in_ok-extend_from_slice-in-Told g c =
+    rw (c.in-Told.is, c.in_ok-extend_from_slice-in-Told.ensures.items, c.keep_id.ensures, c.in_ok-told-in-Told.ensures.items, c.as_slice.ensures.value, c.drop_id.ensures) refl

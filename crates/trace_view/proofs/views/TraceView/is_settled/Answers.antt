@@ -1,0 +1,14 @@
+use Rattle.std.proofs.Common.{◌∙◌, sym, ap, subst}
+use Rattle.trace_view.specs.Rows.{settled_in}
+use Rattle.trace_view.specs.Viewing.{Viewed}
+use Rattle.trace_view.proofs.views.TraceView.is_settled.Goals as goal
+
+pub returns-in-Some : goal.returns-in-Some
+returns-in-Some g c = λ past seen.
+    let judged = (subst (λ v. Viewed v past) (sym c.self.view_is) seen).judged in
+    c.settles.ensures past seen ∙ ap (λ s. settled_in s past) (sym c.in-Some.is ∙ c.stage.ensures past judged)
+
+pub returns-in-None : goal.returns-in-None
+returns-in-None g c = λ past seen.
+    let judged = (subst (λ v. Viewed v past) (sym c.self.view_is) seen).judged in
+    ap (λ s. settled_in s past) (sym c.in-None.is ∙ c.stage.ensures past judged)

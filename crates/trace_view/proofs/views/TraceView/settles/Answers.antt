@@ -1,0 +1,9 @@
+use Rattle.std.proofs.Common.{◌∙◌, sym, ap, subst, Some}
+use Rattle.trace_view.specs.Rows.{settled_in}
+use Rattle.trace_view.specs.Viewing.{Viewed}
+use Rattle.trace_view.proofs.views.TraceView.settles.Goals as goal
+
+pub returns-in-Run : goal.returns-in-Run
+returns-in-Run g c = λ past seen.
+    let judged = (subst (λ v. Viewed v past) (sym c.self.view_is) seen).judged in
+    c.is_settled.ensures past judged ∙ ap (λ s. settled_in (Some s) past) (sym c.in-Run.is)

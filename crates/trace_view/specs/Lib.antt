@@ -1,0 +1,4 @@
+pub mod Wishes
+pub mod Why
+pub mod Rows
+pub mod Viewing

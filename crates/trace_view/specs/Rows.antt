@@ -1,0 +1,83 @@
+-- What is told of an id: its action, why it isn't started next, its child, and how it last ended.
+use Rattle.std.specs.Prelude.{ℕ, ◌+◌, ◌-◌, ◌^◌, min, Bool, if◌then◌else◌, false, List, [], ◌∷◌, map, filter, Option, Some, None, is_none}
+use Rattle.std.specs.Option.{option_map, option_map_or}
+use Rattle.init_words.specs.declared.entries.Entry.{Entry}
+use Rattle.init_words.specs.declared.children.Status.{Status}
+use Rattle.init_words.specs.declared.stages.Stage.{Stage}
+use Rattle.init_words.specs.declared.stages.Stage.TheVariants.{Run}
+use Rattle.init_words.specs.Ids.{same_id}
+use Rattle.inittab_text.specs.Tables.{entry_of, act_of}
+use Rattle.init_trace.specs.declared.happenings.Happening.TheVariants.{Birth, NoBirth, Reaped}
+use Rattle.init_trace.specs.Event.{Event}
+use Rattle.init_trace.specs.Past.{table_of, stage_of, time_of, Child, open_of, unreaped_children}
+use Rattle.init_trace.specs.Wanted.{is_excluded}
+use Rattle.init_trace.specs.Due.{is_settled}
+use Rattle.trace_check.specs.Reading.{child_of, term_of}
+use Rattle.trace_view.specs.declared.rows.Births.{Births}
+use Rattle.trace_view.specs.declared.rows.Ending.{Ending}
+use Rattle.trace_view.specs.declared.rows.Row.{Row}
+use Rattle.trace_view.specs.Why.{number_of, why}
+
+-- one birth more at this time, counted as far as numbers go
+abbrev pub one_more : ℕ → Option Births → Births
+one_more time None = record { count = 1; latest = time }
+one_more time (Some births) = record { count = min (births.count + 1) (2 ^ 64 - 1); latest = time }
+
+-- how often children of the id were born, and when the latest was
+abbrev pub births_of : List ℕ → List Event → Option Births
+births_of id [] = None
+births_of id (Birth i number ∷ past) =
+    if same_id id i then Some (one_more (time_of past) (births_of id past)) else births_of id past
+births_of id (_ ∷ past) = births_of id past
+
+-- how the id last ended, and when: a start that failed, or the status with which its child was reaped
+abbrev pub ended_at : ℕ → Option Status → Option Ending
+ended_at time status = Some (record { status = status; time = time })
+
+abbrev pub ended_of : List ℕ → List Event → Option Ending
+ended_of id [] = None
+ended_of id (NoBirth i ∷ past) = if same_id id i then ended_at (time_of past) None else ended_of id past
+ended_of id (Reaped i number status ∷ past) =
+    if same_id id i then ended_at (time_of past) (Some status) else ended_of id past
+ended_of id (_ ∷ past) = ended_of id past
+
+-- the stage in force is a level, and settled
+abbrev pub settled_in : Option Stage → List Event → Bool
+settled_in (Some (Run level)) past = is_settled level (unreaped_children past) past
+settled_in _ past = false
+
+abbrev pub is_settled_now : List Event → Bool
+is_settled_now past = settled_in (stage_of past) past
+
+-- what is told of it
+abbrev pub row_of : List ℕ → List Event → Row
+row_of id past = record {
+  act = act_of id (table_of past);
+  why = why id past;
+  child = option_map number_of (child_of id past);
+  excluded = option_map_or (is_excluded past) (child_of id past) false;
+  births = births_of id past;
+  order = open_of id past;
+  term = term_of past (child_of id past);
+  last = ended_of id past;
+}
+
+-- the ids of the children that a table has no entry for
+abbrev pub is_gone : List Entry → Child → Bool
+is_gone table child = is_none (entry_of child.id table)
+
+abbrev pub id_of : Child → List ℕ
+id_of child = child.id
+
+abbrev pub gone_ids : List Entry → List Child → List (List ℕ)
+gone_ids table children = map id_of (filter (is_gone table) children)
+
+-- what a happening makes of what is kept of an id, where the time is in force after it
+abbrev pub born_after : ℕ → Event → List ℕ → Option Births → Option Births
+born_after time (Birth i number) id before = if same_id id i then Some (one_more time before) else before
+born_after time _ id before = before
+
+abbrev pub ended_after : ℕ → Event → List ℕ → Option Ending → Option Ending
+ended_after time (NoBirth i) id before = if same_id id i then ended_at time None else before
+ended_after time (Reaped i number status) id before = if same_id id i then ended_at time (Some status) else before
+ended_after time _ id before = before

@@ -1,0 +1,64 @@
+-- A view of a trace: what it keeps, and which pasts it has seen.
+use Rattle.std.specs.Prelude.{◌≡◌, ℕ, Bool, not, List, [], ◌∷◌, ◌++◌, filter, Option, Some, None}
+use Rattle.init_words.specs.declared.entries.Entry.{Entry}
+use Rattle.init_words.specs.declared.stages.Stage.{Stage}
+use Rattle.inittab_text.specs.Tables.{entry_of, act_of}
+use Rattle.init_trace.specs.declared.happenings.Happening.TheVariants.{Birth, Reaped, Told}
+use Rattle.init_trace.specs.Event.{Event}
+use Rattle.init_trace.specs.Past.{Child, is_of, is_child, unreaped_children, kept_children}
+use Rattle.init_trace.specs.Wanted.{may_live}
+use Rattle.trace_check.specs.declared.laws.Law.{Law}
+use Rattle.trace_check.specs.Judging.{Judging, Judged, unjudged}
+use Rattle.trace_view.specs.declared.wishes.Wishes.{Wishes}
+use Rattle.trace_view.specs.declared.rows.Births.{Births}
+use Rattle.trace_view.specs.declared.rows.Ending.{Ending}
+use Rattle.trace_check.specs.State.{at}
+use Rattle.trace_view.specs.Rows.{births_of, ended_of}
+use Rattle.trace_view.specs.Wishes.{wishes_of, no_wishes}
+
+-- the judge, the unreaped and the kept children, the youngest first, the wishes, how often each id's children were
+-- born and when, and how it last ended
+pub record ViewState : Type 0 where
+  pub judging : Judging
+  pub unreaped : List Child
+  pub kept : List Child
+  pub wishes : Wishes
+  pub births : List (List ℕ × Births)
+  pub ends : List (List ℕ × Ending)
+
+-- before the first happening
+abbrev pub unviewed : ViewState
+unviewed = record { judging = unjudged; unreaped = []; kept = []; wishes = no_wishes; births = []; ends = [] }
+
+-- the view has seen this past, the newest happening first, which breaks no law
+pub record Viewed (view : ViewState) (past : List Event) : Type 0 where
+  pub judged : Judged view.judging past
+  pub unreaped : view.unreaped ≡ unreaped_children past
+  pub kept : view.kept ≡ kept_children past
+  pub wishes : view.wishes ≡ wishes_of past
+  pub births : (id : List ℕ) → at id view.births ≡ births_of id past
+  pub ends : (id : List ℕ) → at id view.ends ≡ ended_of id past
+
+-- what a view is after a happening that breaks no law, and one that breaks this law: it takes no such
+abbrev pub SeesNext : Option Law → ViewState → ViewState → Event → Type 0
+SeesNext None old new happening = (past : List Event) → Viewed old past → Viewed new (happening ∷ past)
+SeesNext (Some law) old new happening = new ≡ old
+
+-- what a happening makes of the children, where the table is in force after it
+abbrev pub newborn_in : List Entry → List ℕ → ℕ → Child
+newborn_in table id number = record { id = id; number = number; act = act_of id table }
+
+abbrev pub unreaped_after : List Entry → Event → List Child → List Child
+unreaped_after table (Birth id number) before = newborn_in table id number ∷ before
+unreaped_after table (Reaped id number status) before = filter (λ child. not (is_child id number child)) before
+unreaped_after table _ before = before
+
+abbrev pub kept_after : List Entry → List Child → Event → List Child → List Child
+kept_after table unreaped (Birth id number) before = newborn_in table id number ∷ before
+kept_after table unreaped (Told id) before =
+    filter (is_of id) unreaped ++ filter (λ child. not (is_of id child)) before
+kept_after table unreaped _ before = before
+
+-- the child may not live in the stage, by the table
+abbrev pub is_excluded_by : List Entry → Option Stage → Child → Bool
+is_excluded_by table stage child = not (may_live (entry_of child.id table) child.act stage)

@@ -1,0 +1,105 @@
+-- The wishes, as a view keeps them, and which of them is carried out first (telinit(8), initreq.h).
+use Rattle.std.specs.Prelude.{Bool, true, false, not, ◌&&◌, ◌||◌, if◌then◌else◌, List, Option, Some, None}
+use Rattle.init_words.specs.declared.levels.Letter.{Letter}
+use Rattle.init_words.specs.declared.levels.Letter.TheVariants as letter
+use Rattle.init_words.specs.declared.orders.PowerKind.{PowerKind}
+use Rattle.init_words.specs.declared.orders.PowerKind.TheVariants as power
+use Rattle.init_words.specs.declared.stages.Stage.{Stage}
+use Rattle.init_words.specs.Levels.{same_letter}
+use Rattle.init_words.specs.Orders.{same_power}
+use Rattle.initctl_frame.specs.declared.requests.Got.TheVariants as got
+use Rattle.init_trace.specs.declared.happenings.Happening.TheVariants.{NewTable, NotRead, Enter, Call, Power, Got, Handed}
+use Rattle.init_trace.specs.declared.steps.Goal.{Goal}
+use Rattle.init_trace.specs.Event.{Event}
+use Rattle.init_trace.specs.Past.{stage_of}
+use Rattle.init_trace.specs.Wishes.{is_level, in_run, other_than, wants_reexec, wants_reread, heard_level, level_wish, keeps_power, keeps_letter, keeps_news}
+use Rattle.trace_view.specs.declared.wishes.Wish.{Wish}
+use Rattle.trace_view.specs.declared.wishes.Wish.TheVariants as wish
+use Rattle.trace_view.specs.declared.wishes.Wishes.{Wishes}
+
+-- the wish that is carried out first
+abbrev pub or_news : Bool → Option Goal → Option Wish
+or_news news (Some heard) = Some (wish.Level heard.level)
+or_news news None = if news then Some wish.News else None
+
+abbrev pub first_of : Bool → Bool → Option Goal → Bool → Option Wish
+first_of reexec reread level news =
+    if reexec then Some wish.Reexec else if reread then Some wish.Reread else or_news news level
+
+abbrev pub first_wish : List Event → Option Wish
+first_wish past =
+    first_of (wants_reexec past) (wants_reread past) (level_wish past) (in_run (stage_of past) && keeps_news past)
+
+-- the wishes as the past has them
+abbrev pub wishes_of : List Event → Wishes
+wishes_of past = record {
+  reexec = wants_reexec past;
+  reread = wants_reread past;
+  heard = heard_level past;
+  fail = keeps_power power.Fail past;
+  fail_now = keeps_power power.FailNow past;
+  ok = keeps_power power.Ok past;
+  a = keeps_letter letter.A past;
+  b = keeps_letter letter.B past;
+  c = keeps_letter letter.C past;
+}
+
+abbrev pub no_wishes : Wishes
+no_wishes = record {
+  reexec = false;
+  reread = false;
+  heard = None;
+  fail = false;
+  fail_now = false;
+  ok = false;
+  a = false;
+  b = false;
+  c = false;
+}
+
+-- what a happening makes of each, where the stage is in force after it
+abbrev pub reexec_after : Event → Bool → Bool
+reexec_after (Handed how) before = false
+reexec_after (Got got.Reexec) before = true
+reexec_after _ before = before
+
+abbrev pub reread_after : Option Stage → Event → Bool → Bool
+reread_after stage (NewTable table) before = false
+reread_after stage NotRead before = false
+reread_after stage (Got got.Reload) before = true
+reread_after stage (Got (got.Level l s)) before = not (is_level l stage) || before
+reread_after stage _ before = before
+
+abbrev pub heard_after : Event → Option Goal → Option Goal
+heard_after (Enter stage grace) before = None
+heard_after (Got (got.Level l s)) before = Some (record { level = l; grace = s })
+heard_after _ before = before
+
+abbrev pub power_after : PowerKind → Event → Bool → Bool
+power_after kind (Power k) before = not (same_power kind k) && before
+power_after kind (Got (got.Power k)) before = same_power kind k || before
+power_after kind _ before = before
+
+abbrev pub letter_after : Letter → Event → Bool → Bool
+letter_after letter (Call l) before = not (same_letter letter l) && before
+letter_after letter (Got (got.Call l)) before = same_letter letter l || before
+letter_after letter _ before = before
+
+abbrev pub wishes_after : Option Stage → Event → Wishes → Wishes
+wishes_after stage happening w = record {
+  reexec = reexec_after happening w.reexec;
+  reread = reread_after stage happening w.reread;
+  heard = heard_after happening w.heard;
+  fail = power_after power.Fail happening w.fail;
+  fail_now = power_after power.FailNow happening w.fail_now;
+  ok = power_after power.Ok happening w.ok;
+  a = letter_after letter.A happening w.a;
+  b = letter_after letter.B happening w.b;
+  c = letter_after letter.C happening w.c;
+}
+
+abbrev pub has_news : Wishes → Bool
+has_news w = w.fail || w.fail_now || w.ok || w.a || w.b || w.c
+
+abbrev pub first_wish_in : Option Stage → Wishes → Option Wish
+first_wish_in stage w = first_of w.reexec w.reread (other_than stage w.heard) (in_run stage && has_news w)

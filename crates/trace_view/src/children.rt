@@ -1,0 +1,199 @@
+//! The unreaped and the kept children, the youngest first.
+
+ghost use Rattle.std.specs.Prelude.{◌≡◌, not, find, filter, false, option_map, option_copied, OnOk, IfOk};
+ghost use Rattle.std.specs.Option.{option_map_or};
+ghost use Rattle.init_trace.specs.Past.{Child, is_of, is_child};
+ghost use Rattle.trace_view.specs.Viewing.{newborn_in, unreaped_after, kept_after, is_excluded_by};
+ghost use Rattle.trace_view.specs.Why.{number_of, excluded_as};
+ghost use Rattle.trace_view.specs.Rows.{gone_ids};
+
+use crate::standings::Excluded;
+use init_trace::{Happening, HappeningIn};
+use init_words::{Act, ChildNo, Id, Memory, Stage, lives};
+use inittab_text::Table;
+use std::alloc::Allocator;
+use std::marker::Model;
+
+/// A child: the id that it was born for, its number, and the action that the id had then.
+#[derive(Clone, Copy)]
+pub struct BornChild {
+    pub id: Id,
+    pub number: ChildNo,
+    pub act: Option<Act>,
+}
+
+impl Model for BornChild {
+    ghost use Rattle.init_trace.specs.Past.{Child};
+
+    ghost Value = { Child };
+
+    ghost view = { λ c. record { id = c.id; number = c.number; act = c.act } };
+
+    ghost inverse = { λ c. record { id = c.id; number = c.number; act = c.act } };
+}
+
+/// The child that a birth makes, by the table in force.
+fn newborn<A: Allocator>(table: &Table<A>, id: Id, number: ChildNo) -> BornChild
+    ensures { result ≡ newborn_in table.now id number }
+{
+    let act = match table.get(&id) {
+        Some(entry) => Some(entry.act),
+        None => None,
+    };
+    BornChild { id, number, act }
+}
+
+fn drop_child<A: Allocator>(children: &mut Vec<BornChild, A>, id: Id, number: ChildNo)
+    ensures { children.new.items
+        ≡ filter (λ (child : Child). not (is_child id number child)) children.old.items }
+{
+    children.retain(|child: &BornChild| !(id == child.id && number == child.number));
+}
+
+fn drop_id<A: Allocator>(children: &mut Vec<BornChild, A>, id: Id)
+    ensures { children.new.items
+        ≡ filter (λ (child : Child). not (is_of id child)) children.old.items }
+{
+    children.retain(|child: &BornChild| id != child.id);
+}
+
+fn keep_id<A: Allocator>(children: &mut Vec<BornChild, A>, id: Id)
+    ensures { children.new.items ≡ filter (λ (child : Child). is_of id child) children.old.items }
+{
+    children.retain(|child: &BornChild| id == child.id);
+}
+
+/// The unreaped children, the youngest first.
+pub(crate) fn take_unreaped<A: Allocator, B: Allocator>(
+    unreaped: &mut Vec<BornChild, A>,
+    table: &Table<A>,
+    happening: &HappeningIn<B>,
+) -> Result<(), Memory>
+    ensures { OnOk result (unreaped.new.items
+        ≡ unreaped_after table.now happening.now unreaped.old.items) }
+{
+    match happening {
+        Happening::Birth(id, number) => {
+            unreaped.insert(0, newborn(table, *id, *number))?;
+            Ok(())
+        }
+        Happening::Reaped(id, number, _) => {
+            drop_child(unreaped, *id, *number);
+            Ok(())
+        }
+        _ => Ok(()),
+    }
+}
+
+/// The kept children, the youngest first.
+pub(crate) fn take_kept<A: Allocator + Copy, B: Allocator>(
+    kept: &mut Vec<BornChild, A>,
+    alloc: A,
+    unreaped: &[BornChild],
+    table: &Table<A>,
+    happening: &HappeningIn<B>,
+) -> Result<(), Memory>
+    ensures { OnOk result (kept.new.items
+        ≡ kept_after table.now unreaped.now happening.now kept.old.items) }
+{
+    match happening {
+        Happening::Birth(id, number) => {
+            kept.insert(0, newborn(table, *id, *number))?;
+            Ok(())
+        }
+        Happening::Told(id) => {
+            let mut told = Vec::from_slice(alloc, unreaped)?;
+            keep_id(&mut told, *id);
+            drop_id(kept, *id);
+            told.extend_from_slice(kept.as_slice())?;
+            *kept = told;
+            Ok(())
+        }
+        _ => Ok(()),
+    }
+}
+
+/// The youngest child of the id.
+pub(crate) fn child_of_id(children: &[BornChild], id: Id) -> Option<&BornChild>
+    ensures { option_copied result ≡ find (is_of id) children.now }
+{
+    children.iter().find(|child| id == child.id)
+}
+
+/// The number of the youngest child of the id.
+pub(crate) fn number_of_id(children: &[BornChild], id: Id) -> Option<ChildNo>
+    ensures { result ≡ option_map number_of (find (is_of id) children.now) }
+{
+    let child = child_of_id(children, id)?;
+    Some(child.number)
+}
+
+/// The child may not live in the stage, by the table: it is stopped (init(8)).
+fn is_excluded<A: Allocator>(table: &Table<A>, stage: Option<Stage>, child: &BornChild) -> bool
+    ensures { result ≡ is_excluded_by table.now stage child.now }
+{
+    match (table.get(&child.id), child.act, stage) {
+        (Some(entry), Some(act), Some(stage)) => !(entry.act == act && lives(entry, stage)),
+        _ => true,
+    }
+}
+
+/// The youngest of the children that may not live.
+fn first_excluded<'a, A: Allocator>(
+    children: &'a [BornChild],
+    table: &Table<A>,
+    stage: Option<Stage>,
+) -> Option<&'a BornChild>
+    ensures { option_copied result ≡ find (is_excluded_by table.now stage) children.now }
+{
+    children
+        .iter()
+        .find(|child| is_excluded(table, stage, *child))
+}
+
+/// The youngest of the children that may not live, by its id and number.
+pub(crate) fn excluded_of<A: Allocator>(
+    children: &[BornChild],
+    table: &Table<A>,
+    stage: Option<Stage>,
+) -> Option<Excluded>
+    ensures { result ≡ option_map excluded_as (find (is_excluded_by table.now stage) children.now) }
+{
+    let child = first_excluded(children, table, stage)?;
+    Some(Excluded {
+        id: child.id,
+        number: child.number,
+    })
+}
+
+/// There is a child, which may not live.
+pub(crate) fn excludes<A: Allocator>(
+    child: Option<&BornChild>,
+    table: &Table<A>,
+    stage: Option<Stage>,
+) -> bool
+    ensures { result
+        ≡ option_map_or (is_excluded_by table.now stage) (option_copied child.entry) false }
+{
+    match child {
+        Some(child) => is_excluded(table, stage, child),
+        None => false,
+    }
+}
+
+/// The ids of the children that the table has no entry for.
+pub(crate) fn gone_of<A: Allocator, B: Allocator + Copy>(
+    alloc: B,
+    table: &Table<A>,
+    children: &[BornChild],
+) -> Result<Vec<Id, B>, Memory>
+    ensures { IfOk result (λ ids. ids.items ≡ gone_ids table.now children.now) }
+{
+    Ok(
+        children
+            .iter()
+            .filter(|child| table.get(&child.id).is_none())
+            .map(|child| child.id)
+            .collect(alloc)?,
+    )
+}

@@ -1,0 +1,21 @@
+//! How the entries of an init stand at the end of a trace, and why an entry isn't started next.
+//!
+//! A view takes the happenings of a trace one after another, whoever made it, as long as they break no law. Each answer
+//! is what the definitions of traces read off the past: a start is due exactly where nothing keeps it.
+#![tactic(auto)]
+
+mod children;
+mod laws;
+mod rows;
+mod standings;
+mod views;
+mod whys;
+mod wishes;
+
+pub use children::BornChild;
+pub use laws::law_of_reasons;
+pub use rows::{Births, Ending, Row};
+pub use standings::{Excluded, Standing};
+pub use views::TraceView;
+pub use whys::{Why, why_by};
+pub use wishes::Wish;

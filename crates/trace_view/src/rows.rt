@@ -1,0 +1,133 @@
+//! What is told of an id.
+
+ghost use Rattle.std.specs.Prelude.{◌≡◌, ℕ, List, [], OnOk};
+ghost use Rattle.trace_check.specs.State.{at};
+ghost use Rattle.trace_view.specs.Rows.{born_after, ended_after, one_more};
+
+use crate::whys::Why;
+use indexmap::IndexMap;
+use init_trace::{Happening, HappeningIn};
+use init_words::{Act, Ask, ChildNo, Id, Memory, Status};
+use std::alloc::Allocator;
+use std::hash::{BuildHasherDefault, FoldHasher};
+
+/// How often children of an id were born, and when the latest was, in seconds.
+#[derive(Clone, Copy)]
+pub struct Births {
+    pub count: u64,
+    pub latest: u64,
+}
+
+/// How an id last ended, and when, in seconds.
+#[derive(Clone, Copy)]
+pub struct Ending {
+    /// The status with which its child was reaped; None: a start failed.
+    pub status: Option<Status>,
+    pub time: u64,
+}
+
+/// What is told of an id. Times are seconds.
+#[derive(Clone, Copy)]
+pub struct Row {
+    /// The action of its entry, where the table in force has one.
+    pub act: Option<Act>,
+    /// Why it isn't started next.
+    pub why: Why,
+    /// Its unreaped child.
+    pub child: Option<ChildNo>,
+    /// How often it was born, and when last.
+    pub births: Option<Births>,
+    /// That child may not live in the stage: it is stopped.
+    pub excluded: bool,
+    /// Its open order.
+    pub order: Option<Ask>,
+    /// When it was told that a TERM was sent to its child, which may not live.
+    pub term: Option<u64>,
+    /// How it last ended.
+    pub last: Option<Ending>,
+}
+
+/// What is kept of each id.
+pub(crate) type ById<V, A> = IndexMap<Id, V, BuildHasherDefault<FoldHasher>, A>;
+
+/// Nothing of any id. It takes no memory.
+pub(crate) fn nothing<V, A: Allocator + Copy>(alloc: A) -> ById<V, A>
+    ensures { result.entries ≡ [] }
+{
+    IndexMap::new(alloc)
+}
+
+/// One birth more.
+fn one_more(before: Option<Births>, time: u64) -> Births
+    ensures { result ≡ one_more time before }
+{
+    match before {
+        Some(births) => Births {
+            count: births.count.saturating_add(1),
+            latest: time,
+        },
+        None => Births {
+            count: 1,
+            latest: time,
+        },
+    }
+}
+
+/// How often children of each id were born.
+pub(crate) fn take_birth<A: Allocator, B: Allocator>(
+    births: &mut ById<Births, A>,
+    time: u64,
+    happening: &HappeningIn<B>,
+) -> Result<(), Memory>
+    ensures { OnOk result ((id : List ℕ) → at id births.new.entries
+        ≡ born_after time happening.now id (at id births.old.entries)) }
+{
+    match happening {
+        Happening::Birth(id, _) => {
+            let before = birth_of(births, id);
+            births.insert(*id, one_more(before, time))?;
+            Ok(())
+        }
+        _ => Ok(()),
+    }
+}
+
+/// How each id last ended.
+pub(crate) fn take_end<A: Allocator, B: Allocator>(
+    ends: &mut ById<Ending, A>,
+    time: u64,
+    happening: &HappeningIn<B>,
+) -> Result<(), Memory>
+    ensures { OnOk result ((id : List ℕ) → at id ends.new.entries
+        ≡ ended_after time happening.now id (at id ends.old.entries)) }
+{
+    match happening {
+        Happening::NoBirth(id) => {
+            ends.insert(*id, Ending { status: None, time })?;
+            Ok(())
+        }
+        Happening::Reaped(id, _, status) => {
+            let ending = Ending {
+                status: Some(*status),
+                time,
+            };
+            ends.insert(*id, ending)?;
+            Ok(())
+        }
+        _ => Ok(()),
+    }
+}
+
+/// How often children of the id were born.
+pub(crate) fn birth_of<A: Allocator>(births: &ById<Births, A>, id: &Id) -> Option<Births>
+    ensures { result ≡ at id.now births.now.entries }
+{
+    births.get(id).copied()
+}
+
+/// How the id last ended.
+pub(crate) fn end_of<A: Allocator>(ends: &ById<Ending, A>, id: &Id) -> Option<Ending>
+    ensures { result ≡ at id.now ends.now.entries }
+{
+    ends.get(id).copied()
+}

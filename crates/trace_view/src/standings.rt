@@ -1,0 +1,34 @@
+//! How an entry stands: each thing that can keep its start back.
+
+use crate::wishes::Wish;
+use init_words::{Ask, ChildNo, Id};
+
+/// A child that may not live in the stage in force, by the id that it was born for.
+#[derive(Clone, Copy)]
+pub struct Excluded {
+    pub id: Id,
+    pub number: ChildNo,
+}
+
+/// How an entry of the table stands: each thing that can keep its start back. Times are seconds.
+#[derive(Clone, Copy)]
+pub struct Standing {
+    /// It starts in the stage in force.
+    pub starts: bool,
+    /// Its child whose end was not told.
+    pub child: Option<ChildNo>,
+    /// Its open order.
+    pub order: Option<Ask>,
+    /// Its action asks for a start.
+    pub wanted: bool,
+    /// The first earlier entry that init waits for.
+    pub owed: Option<Id>,
+    /// The youngest child that may not live, of any id.
+    pub excluded: Option<Excluded>,
+    /// The wish that is carried out first.
+    pub wish: Option<Wish>,
+    /// Since when it is held.
+    pub hold: Option<u64>,
+    /// It was started ten times in two minutes: it is held next.
+    pub full: bool,
+}

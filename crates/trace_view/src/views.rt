@@ -1,0 +1,280 @@
+//! A view of a trace.
+
+ghost use Rattle.std.specs.Prelude.{◌≡◌, ◌&&◌, if◌then◌else◌, true, List, Some, None, option_map, option_copied, IfOk};
+ghost use Rattle.init_words.specs.declared.entries.Entry.{Entry};
+ghost use Rattle.init_trace.specs.Event.{Event};
+ghost use Rattle.init_trace.specs.Past.{table_of, stage_of, grace_of, time_of, unreaped_children};
+ghost use Rattle.init_trace.specs.Lawful.{broken};
+ghost use Rattle.init_trace.specs.Wanted.{starts_in};
+ghost use Rattle.inittab_text.specs.Tables.{entry_of, is_distinct};
+ghost use Rattle.trace_check.specs.Laws.{law_number};
+ghost use Rattle.trace_view.specs.Viewing.{unviewed, Viewed, SeesNext};
+ghost use Rattle.trace_view.specs.Why.{standing_of, why};
+ghost use Rattle.trace_view.specs.Rows.{row_of, gone_ids, is_settled_now, settled_in};
+ghost use Rattle.trace_view.specs.Wishes.{first_wish};
+
+use crate::children::{
+    BornChild, child_of_id, excluded_of, excludes, gone_of, number_of_id, take_kept, take_unreaped,
+};
+use crate::rows::{Births, ById, Ending, Row, birth_of, end_of, nothing, take_birth, take_end};
+use crate::standings::Standing;
+use crate::whys::{Why, why_by};
+use crate::wishes::{Wish, Wishes};
+use init_trace::HappeningIn;
+use init_words::{Act, Entry, Id, Memory, Stage, starts};
+use inittab_text::Table;
+use std::alloc::{Allocator, Global};
+use std::marker::Model;
+use trace_check::{Law, TraceJudge};
+
+/// A view of a trace that comes one happening after another, the oldest first.
+///
+/// A contract sees of it which pasts it has seen (`Viewed`).
+#[derive(Drop)]
+pub struct TraceView<A: Allocator = Global> {
+    alloc: A,
+    judge: TraceJudge<A>,
+    unreaped: Vec<BornChild, A>,
+    kept: Vec<BornChild, A>,
+    wishes: Wishes,
+    births: ById<Births, A>,
+    ends: ById<Ending, A>,
+}
+
+impl<A: Allocator> Model for TraceView<A> {
+    ghost use Rattle.trace_view.specs.Viewing.{ViewState};
+
+    ghost Value = { ViewState };
+
+    ghost view = { λ v. record {
+      judging = v.judge;
+      unreaped = v.unreaped.items;
+      kept = v.kept.items;
+      wishes = v.wishes;
+      births = v.births.entries;
+      ends = v.ends.entries;
+    } };
+}
+
+/// The entry starts in the stage, where there is one.
+fn starts_in(entry: &Entry, stage: Option<Stage>) -> bool
+    ensures { result ≡ starts_in entry.now stage }
+{
+    match stage {
+        Some(stage) => starts(entry, stage),
+        None => false,
+    }
+}
+
+fn id_of(entry: Option<&Entry>) -> Option<Id>
+    ensures { result ≡ option_map (λ (e : Entry). e.id) (option_copied entry.entry) }
+{
+    match entry {
+        Some(entry) => Some(entry.id),
+        None => None,
+    }
+}
+
+fn act_in(entry: Option<&Entry>) -> Option<Act>
+    ensures { result ≡ option_map (λ (e : Entry). e.act) (option_copied entry.entry) }
+{
+    match entry {
+        Some(entry) => Some(entry.act),
+        None => None,
+    }
+}
+
+fn both(first: bool, second: bool) -> bool
+    ensures { result ≡ (first && second) }
+{
+    first && second
+}
+
+fn only_if(test: bool, time: Option<u64>) -> Option<u64>
+    ensures { result ≡ (if test then time else None) }
+{
+    if test { time } else { None }
+}
+
+impl<A: Allocator + Copy> TraceView<A> {
+    ghost use Rattle.std.specs.Prelude.{[]};
+
+    /// A view that has seen nothing. It takes no memory.
+    pub fn new(alloc: A) -> TraceView<A>
+        ensures value { result ≡ unviewed }
+        ensures seen { Viewed result [] }
+    {
+        TraceView {
+            alloc,
+            judge: TraceJudge::new(alloc),
+            unreaped: Vec::new(alloc),
+            kept: Vec::new(alloc),
+            wishes: Wishes::new(),
+            births: nothing(alloc),
+            ends: nothing(alloc),
+        }
+    }
+
+    /// Takes the next happening, and gives the least law that it breaks. One that breaks a law isn't taken: the view
+    /// stays as it was. Where memory runs out a part of the happening may be taken, and the view is of no more use.
+    pub fn take<B: Allocator>(&mut self, happening: &HappeningIn<B>) -> Result<Option<Law>, Memory>
+        ensures law { IfOk result (λ law. (past : List Event) → Viewed self.old past
+            → option_map law_number law ≡ broken happening.now past) }
+        ensures next { IfOk result (λ law. SeesNext law self.old self.new happening.now) }
+    {
+        if let Some(law) = self.judge.take(happening)? {
+            return Ok(Some(law));
+        }
+        let table = self.judge.table();
+        let stage = self.judge.stage();
+        let time = self.judge.time();
+        take_kept(
+            &mut self.kept,
+            self.alloc,
+            self.unreaped.as_slice(),
+            table,
+            happening,
+        )?;
+        take_unreaped(&mut self.unreaped, table, happening)?;
+        take_birth(&mut self.births, time, happening)?;
+        take_end(&mut self.ends, time, happening)?;
+        self.wishes = self.wishes.after(stage, happening);
+        Ok(None)
+    }
+}
+
+impl<A: Allocator> TraceView<A> {
+    /// How an entry of the table in force stands.
+    pub fn standing(&self, entry: &Entry) -> Standing
+        ensures { (past : List Event) → Viewed self.now past
+            → entry_of entry.now.id (table_of past) ≡ Some entry.now
+            → result ≡ standing_of entry.now past }
+    {
+        let id = entry.id;
+        let limited = entry.act.is_limited();
+        let stage = self.judge.stage();
+        let table = self.judge.table();
+        let held = self.judge.is_held(&id);
+        let since = self.judge.held_since(&id);
+        let full = self.judge.is_full(&id);
+        let holds = both(limited, held);
+        let fills = both(limited, full);
+        let kept = self.kept.as_slice();
+        Standing {
+            starts: starts_in(entry, stage),
+            child: number_of_id(kept, id),
+            order: self.judge.order(&id),
+            wanted: self.judge.is_wanted(entry),
+            owed: id_of(self.judge.first_owed(&id)),
+            excluded: excluded_of(kept, table, stage),
+            wish: self.wishes.first(stage),
+            hold: only_if(holds, since),
+            full: fills,
+        }
+    }
+
+    /// Why the id isn't started next.
+    pub fn why(&self, id: &Id) -> Why
+        ensures { (past : List Event) → Viewed self.now past → result ≡ why id.now past }
+    {
+        match self.judge.table().get(id) {
+            Some(entry) => why_by(entry.act, self.judge.stage(), &self.standing(entry)),
+            None => Why::NoEntry,
+        }
+    }
+
+    /// What is told of an id: of an entry of the table, or of one whose child outlives its entry.
+    pub fn row(&self, id: &Id) -> Row
+        ensures { (past : List Event) → Viewed self.now past → result ≡ row_of id.now past }
+    {
+        let table = self.judge.table();
+        let stage = self.judge.stage();
+        let unreaped = self.unreaped.as_slice();
+        let entry = table.get(id);
+        let child = child_of_id(unreaped, *id);
+        Row {
+            act: act_in(entry),
+            why: self.why(id),
+            child: number_of_id(unreaped, *id),
+            excluded: excludes(child, table, stage),
+            births: birth_of(&self.births, id),
+            order: self.judge.order(id),
+            term: self.judge.termed(id),
+            last: end_of(&self.ends, id),
+        }
+    }
+
+    /// The table in force; no id stands in it twice.
+    pub fn table(&self) -> &Table<A>
+        ensures value { (past : List Event) → Viewed self.now past → result.now ≡ table_of past }
+        ensures distinct { is_distinct result.now ≡ true }
+    {
+        self.judge.table()
+    }
+
+    /// The stage in force.
+    pub fn stage(&self) -> Option<Stage>
+        ensures { (past : List Event) → Viewed self.now past → result ≡ stage_of past }
+    {
+        self.judge.stage()
+    }
+
+    /// The seconds between the two signals that stop a child.
+    pub fn grace(&self) -> u16
+        ensures { (past : List Event) → Viewed self.now past → result ≡ grace_of past }
+    {
+        self.judge.grace()
+    }
+
+    /// The time, in seconds.
+    pub fn time(&self) -> u64
+        ensures { (past : List Event) → Viewed self.now past → result ≡ time_of past }
+    {
+        self.judge.time()
+    }
+
+    /// The wish that is carried out first.
+    pub fn wish(&self) -> Option<Wish>
+        ensures { (past : List Event) → Viewed self.now past → result ≡ first_wish past }
+    {
+        self.wishes.first(self.judge.stage())
+    }
+
+    /// The stage in force is a runlevel, and settled.
+    pub fn is_settled(&self) -> bool
+        ensures { (past : List Event) → Viewed self.now past → result ≡ is_settled_now past }
+    {
+        match self.judge.stage() {
+            Some(stage) => self.settles(stage),
+            None => false,
+        }
+    }
+
+    /// The stage is a runlevel that is in force and settled.
+    fn settles(&self, stage: Stage) -> bool
+        ensures { (past : List Event) → Viewed self.now past
+            → result ≡ settled_in (Some stage) past }
+    {
+        match stage {
+            Stage::Run(level) => self.judge.is_settled(level),
+            Stage::Sysinit => false,
+            Stage::Boot => false,
+        }
+    }
+
+    /// The unreaped children, the youngest first.
+    pub fn children(&self) -> &[BornChild]
+        ensures { (past : List Event) → Viewed self.now past
+            → result.now ≡ unreaped_children past }
+    {
+        self.unreaped.as_slice()
+    }
+
+    /// The ids of the unreaped children that the table in force has no entry for, the youngest child first.
+    pub fn gone<B: Allocator + Copy>(&self, alloc: B) -> Result<Vec<Id, B>, Memory>
+        ensures { IfOk result (λ ids. (past : List Event) → Viewed self.now past
+            → ids.items ≡ gone_ids (table_of past) (unreaped_children past)) }
+    {
+        gone_of(alloc, self.judge.table(), self.unreaped.as_slice())
+    }
+}

@@ -1,0 +1,101 @@
+//! Why an entry isn't started next.
+
+ghost use Rattle.std.specs.Prelude.{◌≡◌};
+ghost use Rattle.trace_view.specs.Why.{not_here, not_wanted, why_by};
+
+use crate::standings::{Excluded, Standing};
+use crate::wishes::Wish;
+use init_words::{Act, Ask, ChildNo, Id, Stage};
+
+/// Why an entry isn't started next: the first reason.
+#[derive(Clone, Copy)]
+pub enum Why {
+    /// The table in force has no such entry.
+    NoEntry,
+    /// Its action is never started.
+    NeverStarts,
+    /// No stage has begun.
+    NoStage,
+    /// It names other levels than the one in force, or belongs to another stage.
+    OtherStage,
+    /// A child of it was not told to have ended.
+    ChildKept(ChildNo),
+    /// An order about it is open.
+    OrderOpen(Ask),
+    /// Nothing called it.
+    NotCalled,
+    /// It was started since the stage began.
+    WasStarted,
+    /// Init waits for an earlier entry.
+    EarlierOwed(Id),
+    /// A child that may not live was not told to have ended.
+    ExcludedKept(Excluded),
+    /// A wish is carried out first.
+    WishStands(Wish),
+    /// It is held, since this time.
+    Held(u64),
+    /// It was started ten times in two minutes: it is held next.
+    WindowFull,
+    /// Nothing: its start is due.
+    Nothing,
+}
+
+/// Why an entry that doesn't start in the stage doesn't.
+fn not_here(act: Act, stage: Option<Stage>) -> Why
+    ensures { result ≡ not_here act stage }
+{
+    if stage.is_none() {
+        return Why::NoStage;
+    }
+    if act.is_wanted(true, true, true) {
+        Why::OtherStage
+    } else {
+        Why::NeverStarts
+    }
+}
+
+/// Why an entry of which nothing runs isn't asked for.
+fn not_wanted(act: Act) -> Why
+    ensures { result ≡ not_wanted act }
+{
+    if act.is_wanted(true, true, false) {
+        Why::WasStarted
+    } else {
+        Why::NotCalled
+    }
+}
+
+/// The first reason that keeps an entry of this action back, where it stands so.
+pub fn why_by(act: Act, stage: Option<Stage>, standing: &Standing) -> Why
+    ensures { result ≡ why_by act stage standing.now }
+{
+    if !standing.starts {
+        return not_here(act, stage);
+    }
+    if let Some(child) = standing.child {
+        return Why::ChildKept(child);
+    }
+    if let Some(ask) = standing.order {
+        return Why::OrderOpen(ask);
+    }
+    if !standing.wanted {
+        return not_wanted(act);
+    }
+    if let Some(earlier) = standing.owed {
+        return Why::EarlierOwed(earlier);
+    }
+    if let Some(child) = standing.excluded {
+        return Why::ExcludedKept(child);
+    }
+    if let Some(wish) = standing.wish {
+        return Why::WishStands(wish);
+    }
+    if let Some(since) = standing.hold {
+        return Why::Held(since);
+    }
+    if standing.full {
+        Why::WindowFull
+    } else {
+        Why::Nothing
+    }
+}

@@ -1,0 +1,180 @@
+//! The wishes that stand.
+
+ghost use Rattle.std.specs.Prelude.{◌≡◌};
+ghost use Rattle.init_trace.specs.Wishes.{is_level, in_run};
+ghost use Rattle.trace_view.specs.Wishes.{reexec_after, reread_after, heard_after, power_after, letter_after, no_wishes, wishes_after, has_news, first_wish_in};
+
+use init_trace::{Goal, Happening, HappeningIn};
+use init_words::{Letter, Level, PowerKind, Stage};
+use initctl_frame::Got;
+use std::alloc::Allocator;
+
+/// A wish that stands: no entry is started before it is carried out.
+#[derive(Clone, Copy)]
+pub enum Wish {
+    /// Init is to execute itself anew.
+    Reexec,
+    /// Inittab is to be read again.
+    Reread,
+    /// Another level is to be entered.
+    Level(Level),
+    /// Entries are to be called for news of the power or for a letter.
+    News,
+}
+
+/// What was wished and is not yet done (telinit(8), initreq.h).
+#[derive(Clone, Copy)]
+pub(crate) struct Wishes {
+    pub(crate) reexec: bool,
+    pub(crate) reread: bool,
+    pub(crate) heard: Option<Goal>,
+    pub(crate) fail: bool,
+    pub(crate) fail_now: bool,
+    pub(crate) ok: bool,
+    pub(crate) a: bool,
+    pub(crate) b: bool,
+    pub(crate) c: bool,
+}
+
+fn is_level(level: Level, stage: Option<Stage>) -> bool
+    ensures { result ≡ is_level level stage }
+{
+    match stage {
+        Some(Stage::Run(current)) => level == current,
+        _ => false,
+    }
+}
+
+fn in_run(stage: Option<Stage>) -> bool
+    ensures { result ≡ in_run stage }
+{
+    match stage {
+        Some(Stage::Run(_)) => true,
+        _ => false,
+    }
+}
+
+fn reexec_after<B: Allocator>(happening: &HappeningIn<B>, before: bool) -> bool
+    ensures { result ≡ reexec_after happening.now before }
+{
+    match happening {
+        Happening::Handed(_) => false,
+        Happening::Got(Got::Reexec) => true,
+        _ => before,
+    }
+}
+
+fn reread_after<B: Allocator>(
+    stage: Option<Stage>,
+    happening: &HappeningIn<B>,
+    before: bool,
+) -> bool
+    ensures { result ≡ reread_after stage happening.now before }
+{
+    match happening {
+        Happening::NewTable(_) | Happening::NotRead => false,
+        Happening::Got(Got::Reload) => true,
+        Happening::Got(Got::Level(level, _)) => !is_level(*level, stage) || before,
+        _ => before,
+    }
+}
+
+fn heard_after<B: Allocator>(happening: &HappeningIn<B>, before: Option<Goal>) -> Option<Goal>
+    ensures { result ≡ heard_after happening.now before }
+{
+    match happening {
+        Happening::Enter(_, _) => None,
+        Happening::Got(Got::Level(level, grace)) => Some(Goal {
+            level: *level,
+            grace: *grace,
+        }),
+        _ => before,
+    }
+}
+
+fn power_after<B: Allocator>(kind: PowerKind, happening: &HappeningIn<B>, before: bool) -> bool
+    ensures { result ≡ power_after kind happening.now before }
+{
+    match happening {
+        Happening::Power(called) => kind != *called && before,
+        Happening::Got(Got::Power(heard)) => kind == *heard || before,
+        _ => before,
+    }
+}
+
+fn letter_after<B: Allocator>(letter: Letter, happening: &HappeningIn<B>, before: bool) -> bool
+    ensures { result ≡ letter_after letter happening.now before }
+{
+    match happening {
+        Happening::Call(called) => letter != *called && before,
+        Happening::Got(Got::Call(heard)) => letter == *heard || before,
+        _ => before,
+    }
+}
+
+impl Wishes {
+    /// Nothing was wished.
+    pub(crate) fn new() -> Wishes
+        ensures { result ≡ no_wishes }
+    {
+        Wishes {
+            reexec: false,
+            reread: false,
+            heard: None,
+            fail: false,
+            fail_now: false,
+            ok: false,
+            a: false,
+            b: false,
+            c: false,
+        }
+    }
+
+    /// The wishes after the happening, where the stage is in force after it.
+    pub(crate) fn after<B: Allocator>(
+        self,
+        stage: Option<Stage>,
+        happening: &HappeningIn<B>,
+    ) -> Wishes
+        ensures { result ≡ wishes_after stage happening.now self }
+    {
+        Wishes {
+            reexec: reexec_after(happening, self.reexec),
+            reread: reread_after(stage, happening, self.reread),
+            heard: heard_after(happening, self.heard),
+            fail: power_after(PowerKind::Fail, happening, self.fail),
+            fail_now: power_after(PowerKind::FailNow, happening, self.fail_now),
+            ok: power_after(PowerKind::Ok, happening, self.ok),
+            a: letter_after(Letter::A, happening, self.a),
+            b: letter_after(Letter::B, happening, self.b),
+            c: letter_after(Letter::C, happening, self.c),
+        }
+    }
+
+    fn has_news(self) -> bool
+        ensures { result ≡ has_news self }
+    {
+        self.fail || self.fail_now || self.ok || self.a || self.b || self.c
+    }
+
+    /// The wish that is carried out first, in this stage.
+    pub(crate) fn first(self, stage: Option<Stage>) -> Option<Wish>
+        ensures { result ≡ first_wish_in stage self }
+    {
+        if self.reexec {
+            return Some(Wish::Reexec);
+        }
+        if self.reread {
+            return Some(Wish::Reread);
+        }
+        if let (Some(Stage::Run(current)), Some(heard)) = (stage, self.heard) {
+            if heard.level != current {
+                return Some(Wish::Level(heard.level));
+            }
+        }
+        if in_run(stage) && self.has_news() {
+            return Some(Wish::News);
+        }
+        None
+    }
+}

@@ -1,0 +1,4 @@
+pub mod Words
+pub mod Status
+pub mod Reasons
+pub mod Left
