@@ -5,18 +5,25 @@
 #     ./install.sh [PREFIX]               under PREFIX; /opt/initd where it is left out
 #     ./install.sh --uninstall [PREFIX]   removes what was installed there
 #
-# A program that the gate (`rt ci`) has built from these sources is taken as it is; any other is proved and built by
-# `rt run`, which takes 40 minutes and more of processor time at the first time. With DESTDIR set all is put under
+# A program that the gate (.ci/run, by tools/pages) or this script has built from these sources is taken as it is, by the checksum that
+# was left beside it; any other is proved and built by `rt run`, which takes 40 minutes and more of processor time at the
+# first time. Files of an earlier installation that this one doesn't have are removed. With DESTDIR set all is put under
 # DESTDIR and stays meant for PREFIX, as for a package.
 set -eu
 
 programs='initd telinit rclinks rc'
 
+usage="usage: ./install.sh [--uninstall] [PREFIX]"
 usage() {
-    echo "usage: ./install.sh [--uninstall] [PREFIX]" >&2
+    echo "$usage" >&2
     exit 1
 }
 
+if [ "${1-}" = --help ]; then
+    echo "$usage"
+    sed -n 's/^#     /  /p' "$0"
+    exit
+fi
 uninstall=
 if [ "${1-}" = --uninstall ]; then
     uninstall=1
@@ -49,11 +56,16 @@ fi
 
 cd "$(dirname "$0")"
 
-# The program of this name was built after the last change of any source.
+# Proving takes long: that PREFIX can be written to is seen before.
+mkdir -p "$root/share/initd" && [ -w "$root/share/initd" ] || {
+    echo "install.sh: $root can't be written to: give another PREFIX" >&2
+    exit 1
+}
+
+# The program of this name is the one that was built from these sources.
 is_built() {
-    built=crates/$1/out/$1
-    [ -x "$built" ] && [ -z "$(find crates.txt crates/*/src crates/*/specs crates/*/proofs -newer "$built" -type f \
-        2>/dev/null | head -n 1)" ]
+    [ -x "crates/$1/out/$1" ] && [ -f "crates/$1/out/$1.sum" ] &&
+        [ "$(cat "crates/$1/out/$1.sum")" = "$(tools/program-sum "$1")" ]
 }
 
 for program in $programs; do
@@ -64,14 +76,15 @@ for program in $programs; do
         exit 1
     }
     echo "install.sh: proving and building $program"
+    rm -f "crates/$program/out/$program"
     (cd "crates/$program" && rt run -- --version)
     [ -x "crates/$program/out/$program" ] || {
         echo "install.sh: crates/$program/out/$program was not built" >&2
         exit 1
     }
+    tools/program-sum "$program" >"crates/$program/out/$program.sum"
 done
 
-mkdir -p "$root/share/initd"
 new=$root/$list.new
 : >"$new"
 
@@ -103,5 +116,10 @@ done
 for page in README.md docs/OPERATING.md docs/SYSVINIT.md docs/FORMATS.md docs/DECISIONS.md; do
     put 644 "$page" "share/doc/initd/${page##*/}"
 done
+if [ -f "$root/$list" ]; then
+    grep -vxF -f "$new" "$root/$list" | while read -r file; do
+        rm -f "$root/$file"
+    done
+fi
 mv "$new" "$root/$list"
-echo "install.sh: installed under $root; PATH=$prefix/bin:\$PATH, MANPATH=$prefix/share/man:"
+echo "install.sh: installed under $root; PATH=\"$prefix/bin:\$PATH\", MANPATH=\"$prefix/share/man:\""

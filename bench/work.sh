@@ -22,7 +22,10 @@ end() {
 }
 
 # waits until the trace has this many lines of this kind
-until_heard() { while [ "$(grep -c "^$1" trace)" -lt "$2" ]; do sleep 0.02; done; }
+until_heard() { while [ "$(grep -c "^$1" trace)" -lt "$2" ]; do sleep 0.002; done; }
+
+# the seconds since this time
+since() { awk -v a="$1" -v b="$(date +%s.%N)" 'BEGIN { print b - a }'; }
 
 # this many requests, of which no entry takes notice, as one append to the channel
 append() {
@@ -52,6 +55,31 @@ echo "500 children that sleep: $(awk -v a="$before" -v b="$(used $pid)" 'BEGIN {
 end
 
 rm -f initctl
+"$initd" run --level 3 --trace trace > said 2>&1 &
+pid=$!
+until_heard settle 1
+before=$(used $pid)
+begin=$(date +%s.%N)
+"$telinit" -t 1 4
+until_heard settle 2
+echo "a level change that stops 500 children: settled after $(since "$begin") seconds," \
+    "$(awk -v a="$before" -v b="$(used $pid)" 'BEGIN { print b - a }') milliseconds of init's own"
+end
+
+rm -f initctl
+"$initd" run --level 4 --trace trace > said 2>&1 &
+pid=$!
+sleep 4
+for number in 1 2 3 4 5; do
+    begin=$(date +%s.%N)
+    "$telinit" A
+    until_heard 'got ' $number
+    echo "a request to an idle init: heard after $(since "$begin") seconds"
+    sleep 2.5
+done
+end
+
+rm -f initctl
 echo 's:3:once:sleep 60' > inittab
 "$initd" run --level 3 --trace trace > said 2>&1 &
 pid=$!
@@ -59,7 +87,7 @@ sleep 2
 append 20000
 begin=$(date +%s.%N)
 until_heard 'got ' 20000
-echo "20000 requests at once: heard in $(awk -v a="$begin" -v b="$(date +%s.%N)" 'BEGIN { print b - a }') seconds," \
+echo "20000 requests at once: heard in $(since "$begin") seconds," \
     "$(grep -c '^got ' trace) of them"
 end
 

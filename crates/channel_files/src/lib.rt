@@ -2,12 +2,15 @@
 //! init that reads it.
 #![tactic(auto)]
 
+mod holders;
+
 ghost use Rattle.std.specs.Prelude.{◌≡◌, true, false, IfOk};
 
+pub use holders::lock_holder;
 use program_io::write_text;
-use std::fs::{File, OpenOptions, TryLockError};
+use std::fs::{File, Metadata, OpenOptions, TryLockError};
 use std::io::{Error, ErrorKind};
-use std::os::unix::fs::OpenOptionsExt;
+use std::os::unix::fs::{MetadataExt, OpenOptionsExt};
 use std::rt::Files;
 use std::{fs, io};
 
@@ -47,7 +50,7 @@ impl Channel {
                 was_made: true,
                 length: 0,
             }),
-            Err(error) if error.kind() == ErrorKind::AlreadyExists => open_old(rt, path),
+            Err(error) if error.kind() == ErrorKind::AlreadyExists => open_linked(rt, path),
             Err(error) => Err(error),
         }
     }
@@ -73,7 +76,17 @@ impl Channel {
 /// The lock of the init that reads a channel. It is released where this is dropped.
 #[derive(Drop)]
 pub struct ChannelLock {
+    /// It stays open, so that no other file gets its number.
     _channel: Channel,
+    /// The device and the number of the file.
+    file: (u64, u64),
+}
+
+impl ChannelLock {
+    /// It is the lock of this file, which stands at the channel's path.
+    pub fn is_of(&self, found: &Metadata) -> bool {
+        self.file == (found.dev(), found.ino())
+    }
 }
 
 /// Takes the lock of a channel, which is made where it is missing, as `Channel::open` does. There is none where another
@@ -82,12 +95,21 @@ pub fn lock_channel<R: Files<File = File>>(rt: &R, path: &str) -> io::Result<Opt
     let channel = Channel::open(rt, path)?;
     for _ in 0..LOCK_TRIES {
         match channel.file.try_lock() {
-            Ok(()) => return Ok(Some(ChannelLock { _channel: channel })),
+            Ok(()) => return Ok(Some(locked(channel)?)),
             Err(TryLockError::WouldBlock) => {}
             Err(TryLockError::Error(error)) => return Err(error),
         }
     }
     Ok(None)
+}
+
+/// A channel whose lock was taken.
+fn locked(channel: Channel) -> io::Result<ChannelLock> {
+    let found = channel.file.metadata()?;
+    Ok(ChannelLock {
+        _channel: channel,
+        file: (found.dev(), found.ino()),
+    })
 }
 
 /// An init holds the lock of the channel at this path. Nobody holds that of a file that is missing.
@@ -106,6 +128,24 @@ fn is_there<R: Files>(rt: &R, path: &str) -> io::Result<bool> {
         Err(error) if error.kind() == ErrorKind::NotFound => Ok(false),
         Err(error) => Err(error),
     }
+}
+
+/// Opens a channel at whose path something stands: it was made meanwhile, or is a link. Where a link leads to a missing
+/// file that is made.
+fn open_linked<R: Files<File = File>>(rt: &R, path: &str) -> io::Result<Channel>
+    ensures made { IfOk result (λ channel. channel.was_made ≡ true → channel.length ≡ 0) }
+{
+    let file = OpenOptions::new()
+        .append(true)
+        .create(true)
+        .mode(MODE)
+        .open(rt, path)?;
+    let length = file.metadata()?.len();
+    Ok(Channel {
+        file,
+        was_made: length == 0,
+        length,
+    })
 }
 
 /// Opens a channel that is there.

@@ -2,10 +2,11 @@
 #![tactic(auto)]
 
 use initd_command::{USAGE, run_words};
-use program_io::{report_unread_words, words};
+use program_io::{StandardFiles, report_unread_words, words};
 use std::process::ExitCode;
 
 fn main(rt: HostRuntime) -> ExitCode {
+    let _standard = StandardFiles::hold(&rt);
     let status = match words(&rt, rt.alloc()) {
         Ok(words) => run_words(
             &rt,

@@ -15,7 +15,7 @@ use Rattle.initd_command.specs.declared.run.RunFault.{RunFault}
 use Rattle.initd_command.specs.declared.run.RunFault.TheVariants as why
 use Rattle.init_words.specs.Parts.{NamedText, texts_of}
 use Rattle.inittab_text.specs.Parts.{are_readable, faults_of_parts, table_of_texts}
-use Rattle.initd_command.specs.Endings.{Ending, Reports, ReportsUnled, status_of, busy, done, lawful, no_memory, stopped, too_many, torn, turned, uncreated, unflushed, unlawful, unlocked, unread, untold, unversioned, unwritten, usage}
+use Rattle.initd_command.specs.Endings.{Ending, Reports, ReportsUnled, status_of, busy, done, lawful, no_memory, shared, stopped, too_many, torn, turned, uncreated, unflushed, unlawful, unlocked, unread, untold, unversioned, unwritten, usage}
 use Rattle.initd_command.specs.Turned.{End}
 use Rattle.os_host.specs.LineFaults.{faults_text}
 use Rattle.initd_options.specs.Options.{RunSaid}
@@ -55,7 +55,8 @@ pub told_runs : (text_at : KnownTexts) (service : RunSaid) (parts : List NamedTe
     → AreFiles text_at service parts → are_readable (texts_of parts) ≡ true
     → EndsTold service (is_unled service.level (table_of_texts (texts_of parts))) (faults_text parts (faults_of_parts (texts_of parts))) ending old new
     → EndsRun text_at service ending old new
-told_runs text_at service parts (busy path) old new are read ends = let wrong = ends.1 in absurd (cc)
+told_runs text_at service parts (busy path holder) old new are read ends = let wrong = ends.1 in absurd (cc)
+told_runs text_at service parts (shared one other) old new are read ends = let wrong = ends.1 in absurd (cc)
 told_runs text_at service parts (unlocked path why) old new are read ends = let wrong = ends.1 in absurd (cc)
 told_runs text_at service parts (unread path why) old new are read ends = let wrong = ends.1 in absurd (cc)
 told_runs text_at service parts too_many old new are read ends = let wrong = ends.1 in absurd (cc)
@@ -83,8 +84,10 @@ opened_runs text_at service unled faults ending old new (parts, are, read, (told
     (subst (λ b. EndsTold service b faults ending old new) led ends))
 
 -- the endings that faults are which end a run before its first turn
-pub of_busy : (service : RunSaid) (fault : RunFault) (path : List ℕ) → fault ≡ why.Busy → path ≡ service.initctl → IsOfFault service fault (busy path)
-of_busy service fault path is at = subst (λ f. IsOfFault service f (busy path)) (sym is) (ap busy at)
+pub of_busy : (service : RunSaid) (fault : RunFault) (path : List ℕ) (holder : Option ℕ) → fault ≡ why.Busy holder → path ≡ service.initctl
+    → IsOfFault service fault (busy path holder)
+of_busy service fault path holder is at =
+    subst (λ f. IsOfFault service f (busy path holder)) (sym is) (ap (λ p. busy p holder) at)
 
 pub of_channel : (service : RunSaid) (fault : RunFault) (error : Error) (path reason : List ℕ) → fault ≡ why.Channel error → path ≡ service.initctl
     → IsOfFault service fault (unlocked path reason)

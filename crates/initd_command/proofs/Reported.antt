@@ -1,13 +1,21 @@
 -- What is reported of an end, by what is reported of its turns and of what was found of them.
-use Rattle.std.proofs.Common.{◌≡◌, sym, subst, ◌&&◌, ℕ, Bool, true, false, List, Option, None}
+use Rattle.std.proofs.Common.{◌≡◌, sym, subst, inl, inr, ◌&&◌, ℕ, Bool, true, false, List, [], Option, None, Result, Ok, Err, IfOk, OnErr}
 use Rattle.program_io.specs.Writing.{AppendsPrefix}
 use Rattle.judged_log.specs.declared.judgements.Judgement.{Judgement}
 use Rattle.run_notes.specs.Notes.{Notes}
 use Rattle.supervisor.specs.declared.serving.Served.{Served}
 use Rattle.initd_options.specs.Options.{RunSaid}
 use Rattle.initd_command.specs.declared.ends.TheConstants.{UNLOGGED}
+use Rattle.initd_command.specs.declared.reports.TheConstants.{NO_MEMORY}
 use Rattle.initd_command.specs.Turned.{ReportsEnd, ReportsJudgement, ReportsText, ReportsTurns}
 use Rattle.initd_command.specs.Services.{Noted, end_at, end_of, noted_of}
+
+-- a message whose text says a reason is reported, or that there was no memory for it
+pub reported_why : {T E : Type 0} (message : Result T E) (bytes : T → List ℕ) (told : List ℕ → List ℕ) (old new : Option (List ℕ))
+    → IfOk message (λ text. (why : List ℕ) × (bytes text ≡ told why)) → IfOk message (λ text. AppendsPrefix old new (bytes text))
+    → OnErr message (AppendsPrefix old new NO_MEMORY.now) → (why : List ℕ) × ReportsText (told why) old new
+reported_why (Ok text) bytes told old new (why, is) part none = (why, inl (subst (AppendsPrefix old new) is part))
+reported_why (Err error) bytes told old new is part none = ([], inr none)
 
 pub reported_unlogged : (service : RunSaid) (noted : Noted) (served : Served) (old said mid new : Option (List ℕ)) → served.logged ≡ false
     → AppendsPrefix old said UNLOGGED.now → ReportsText noted.waiting said mid → ReportsJudgement false noted.judgement mid new

@@ -19,8 +19,8 @@ use Rattle.command_words.specs.Faults.{usage_report}
 -- done; the words are no command line, and why, or memory ran out; the file of a path was not read, and why; the inittab
 -- has too many files; the run over this script ended before its end; the writer could not be flushed; a trace is lawful,
 -- or unlawful, of which this is told, and its last happening isn't finished at this line, if at any; its line of this
--- number is none; the verdict could not be written; the channel of a run over the operating system is in use, or was not
--- locked, and why; its turns ended so, where nothing names its level or something does; the file of its trace was not
+-- number is none; the verdict could not be written; the channel of a run over the operating system is in use, by whom
+-- where that is known, or two of its files are one, or the channel was not locked, and why; its turns ended so, where nothing names its level or something does; the file of its trace was not
 -- created, and why; the faults of its inittab could not be written; the version could not be
 pub data Ending : Type 0 where
   done : Ending
@@ -34,7 +34,8 @@ pub data Ending : Type 0 where
   unlawful : List ℕ → Option ℕ → Ending
   torn : ℕ → Ending
   unwritten : Ending
-  busy : List ℕ → Ending
+  busy : List ℕ → Option ℕ → Ending
+  shared : List ℕ → List ℕ → Ending
   unlocked : List ℕ → List ℕ → Ending
   turned : Bool → End → Ending
   uncreated : List ℕ → List ℕ → Ending
@@ -60,7 +61,8 @@ status_of (lawful left) = DONE
 status_of (unlawful message left) = UNLAWFUL
 status_of (torn line) = REFUSED
 status_of unwritten = DEVICE_FAULT
-status_of (busy path) = DEVICE_FAULT
+status_of (busy path holder) = DEVICE_FAULT
+status_of (shared one other) = REFUSED
 status_of (unlocked path why) = DEVICE_FAULT
 status_of (turned unled end) = end_status end
 status_of (uncreated path why) = DEVICE_FAULT
@@ -80,11 +82,10 @@ reason_of script _ = []
 abbrev pub fault_message : List ℕ → SimFault → List ℕ
 fault_message script f = codes "initd: " ++ fault_text f ++ codes "\n" ++ reason_of script f
 
-abbrev pub file_message : List ℕ → List ℕ → List ℕ
-file_message path why = codes "initd: cannot read " ++ path ++ codes ": " ++ why ++ codes "\n"
-
-abbrev pub created_message : List ℕ → List ℕ → List ℕ
-created_message path why = codes "initd: cannot create " ++ path ++ codes ": " ++ why ++ codes "\n"
+-- what could not be done with a file, by a verb, and why
+abbrev pub cannot_message : List ℕ → List ℕ → List ℕ → List ℕ
+cannot_message verb path why =
+    codes "initd: cannot " ++ verb ++ codes " " ++ path ++ codes ": " ++ why ++ codes "\n"
 
 abbrev pub torn_message : ℕ → List ℕ
 torn_message line = codes "initd: trace line " ++ decimal line ++ codes " is not a line\n"
@@ -94,13 +95,18 @@ unfinished_message line =
     codes "initd: the happening at trace line " ++ decimal line
     ++ codes " is not finished: judged up to the line before it\n"
 
-abbrev pub busy_message : List ℕ → List ℕ
-busy_message path =
+-- by the number of the process that holds it, where that is known
+abbrev pub busy_message : List ℕ → Option ℕ → List ℕ
+busy_message path None =
     codes "initd: " ++ path
     ++ codes " is in use by another initd run: end that one, or give another --initctl\n"
+busy_message path (Some holder) =
+    codes "initd: " ++ path ++ codes " is in use by initd run " ++ decimal holder
+    ++ codes ": end that one, or give another --initctl\n"
 
-abbrev pub unlocked_message : List ℕ → List ℕ → List ℕ
-unlocked_message path why = codes "initd: cannot lock " ++ path ++ codes ": " ++ why ++ codes "\n"
+abbrev pub shared_message : List ℕ → List ℕ → List ℕ
+shared_message one other =
+    codes "initd: " ++ one ++ codes " and " ++ other ++ codes " are one file: give each its own\n"
 
 -- what is reported where nothing names a level
 abbrev pub ReportsUnled : Bool → Option (List ℕ) → Option (List ℕ) → Type 0
@@ -117,7 +123,7 @@ abbrev pub Reports : Ending → Option (List ℕ) → Option (List ℕ) → Type
 Reports done old new = Keeps old new
 Reports (usage reason) old new = AppendsPrefix old new (usage_report (codes "initd") reason USAGE.now)
 Reports no_memory old new = AppendsPrefix old new NO_MEMORY.now
-Reports (unread path why) old new = ReportsText (file_message path why) old new
+Reports (unread path why) old new = ReportsText (cannot_message (codes "read") path why) old new
 Reports too_many old new = AppendsPrefix old new TOO_MANY.now
 Reports (stopped script f) old new = ReportsText (fault_message script f) old new
 Reports unflushed old new = ReportsText (fault_message [] fault.Write) old new
@@ -126,9 +132,10 @@ Reports (unlawful message left) old new =
     (mid : Option (List ℕ)) × AppendsPrefix old mid message × ReportsLeft left mid new
 Reports (torn line) old new = ReportsText (torn_message line) old new
 Reports unwritten old new = AppendsPrefix old new UNWRITTEN.now
-Reports (busy path) old new = ReportsText (busy_message path) old new
-Reports (unlocked path why) old new = ReportsText (unlocked_message path why) old new
+Reports (busy path holder) old new = ReportsText (busy_message path holder) old new
+Reports (shared one other) old new = ReportsText (shared_message one other) old new
+Reports (unlocked path why) old new = ReportsText (cannot_message (codes "lock") path why) old new
 Reports (turned unled end) old new = (mid : Option (List ℕ)) × ReportsUnled unled old mid × ReportsEnd end mid new
-Reports (uncreated path why) old new = ReportsText (created_message path why) old new
+Reports (uncreated path why) old new = ReportsText (cannot_message (codes "create") path why) old new
 Reports untold old new = AppendsPrefix old new UNTOLD.now
 Reports unversioned old new = AppendsPrefix old new UNVERSIONED.now

@@ -30,7 +30,7 @@ use Rattle.supervisor.specs.Opening.{opening_point}
 use Rattle.initd_command.specs.declared.run.Inittab.{Inittab}
 use Rattle.initd_command.specs.declared.run.RunFault.{RunFault}
 use Rattle.initd_command.specs.declared.run.RunFault.TheVariants as why
-use Rattle.initd_command.specs.Endings.{Ending, no_memory, unread, too_many, stopped, busy, turned, uncreated, unlocked, untold}
+use Rattle.initd_command.specs.Endings.{Ending, no_memory, unread, too_many, stopped, busy, shared, turned, uncreated, unlocked, untold}
 use Rattle.initd_command.specs.Turned.{End, EntryEnd, ReportsEnd, drained, end_status, limited, unlogged}
 use Rattle.os_host.specs.LineFaults.{faults_text}
 use Rattle.initd_options.specs.Options.{RunSaid}
@@ -141,10 +141,11 @@ EndsOver service parts ending old new =
     × EndsTold service (is_unled service.level (table_of_texts (texts_of parts)))
     (faults_text parts (faults_of_parts (texts_of parts))) ending old new
 
--- how a run ends: its channel is in use or not locked, or a file of its inittab not read, or there is no memory to read
--- them, and nothing written, or it ends over what was read
+-- how a run ends: two of its files are one, or its channel is in use or not locked, or a file of its inittab not read, or
+-- there is no memory to read them, and nothing written, or it ends over what was read
 abbrev pub EndsRun : KnownTexts → RunSaid → Ending → Option (List ℕ) → Option (List ℕ) → Type 0
-EndsRun text_at service (busy path) old new = (path ≡ service.initctl) × Keeps old new
+EndsRun text_at service (busy path holder) old new = (path ≡ service.initctl) × Keeps old new
+EndsRun text_at service (shared one other) old new = Keeps old new
 EndsRun text_at service (unlocked path why) old new = (path ≡ service.initctl) × Keeps old new
 EndsRun text_at service (unread path why) old new =
     ((path ≡ service.inittab) ⊎ IsSome service.inittab_dir) × Keeps old new
@@ -170,9 +171,14 @@ IsInittab text_at service read = (parts : List NamedText) × AreFiles text_at se
 
 -- Why a run ended before its first turn, and what is so then.
 abbrev pub FailsToLock : RunFault → Type 0
-FailsToLock why.Busy = ⊤
+FailsToLock (why.Busy holder) = ⊤
 FailsToLock (why.Channel error) = ⊤
 FailsToLock _ = ⊥
+
+abbrev pub FailsToPart : RunFault → Type 0
+FailsToPart (why.Shared one other) = ⊤
+FailsToPart why.Memory = ⊤
+FailsToPart _ = ⊥
 
 abbrev pub FailsToGet : RunSaid → RunFault → Type 0
 FailsToGet service (why.Inittab error) = ⊤
@@ -199,7 +205,8 @@ FailsOver service why.Memory = ⊤
 FailsOver service _ = ⊥
 
 abbrev pub FailsBy : KnownTexts → RunSaid → RunFault → Type 0
-FailsBy text_at service why.Busy = ⊤
+FailsBy text_at service (why.Busy holder) = ⊤
+FailsBy text_at service (why.Shared one other) = ⊤
 FailsBy text_at service (why.Channel error) = ⊤
 FailsBy text_at service (why.Trace error) =
     IsSome service.trace × HasInittab text_at service (λ _. ⊤)
@@ -207,7 +214,8 @@ FailsBy text_at service fault = FailsToRead text_at service fault
 
 -- the ending that such a fault is
 abbrev pub IsOfFault : RunSaid → RunFault → Ending → Type 0
-IsOfFault service why.Busy ending = ending ≡ busy service.initctl
+IsOfFault service (why.Busy holder) ending = ending ≡ busy service.initctl holder
+IsOfFault service (why.Shared one other) ending = ending ≡ shared (string_bytes one) (string_bytes other)
 IsOfFault service (why.Channel error) ending = (reason : List ℕ) × (ending ≡ unlocked service.initctl reason)
 IsOfFault service (why.Inittab error) ending = (reason : List ℕ) × (ending ≡ unread service.inittab reason)
 IsOfFault service (why.Folder path error) ending =

@@ -9,7 +9,7 @@ ghost use Rattle.initd_command.specs.Turned.{ReportsText};
 ghost use Rattle.initd_command.specs.Verdicts.{EndsBreach, EndsCheck, EndsFound, EndsLawful, breach_message, message_of, unlawful_text, verdict_text};
 
 use crate::lines::front_line;
-use crate::reports::{report, report_bytes, report_made, report_memory, report_unread, tell};
+use crate::reports::{report, report_bytes, report_cannot, report_made, report_memory, tell};
 use init_words::Memory;
 use itoa::Buffer;
 use path_texts::{PieceTaker, Texts};
@@ -74,7 +74,7 @@ fn judge_text<T: Texts, W: Write, E: Write>(
             let (finding, left) = file.judge.answer();
             tell_finding(alloc, finding, left, out, err)
         }
-        Err(error) => report_unread(alloc, path, &error, err),
+        Err(error) => report_cannot(alloc, "read", path, &error, err),
     }
 }
 

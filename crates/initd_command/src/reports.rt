@@ -1,9 +1,9 @@
 //! Messages about files and faults.
 
-ghost use Rattle.std.specs.Prelude.{◌≡◌, true, ℕ, List, OnOk, OnErr, string_bytes, IfOk, ◌++◌};
+ghost use Rattle.std.specs.Prelude.{◌≡◌, true, ℕ, List, None, Some, OnOk, OnErr, string_bytes, IfOk, ◌++◌};
 ghost use Rattle.std.specs.Io.KnownBytes.{Appends};
 ghost use Rattle.program_io.specs.Writing.{AppendsPrefix};
-ghost use Rattle.initd_command.specs.Endings.{busy_message, created_message, fault_message, fault_status, file_message, reason_message, unlocked_message};
+ghost use Rattle.initd_command.specs.Endings.{busy_message, cannot_message, fault_message, fault_status, reason_message, shared_message};
 ghost use Rattle.initd_command.specs.Turned.{ReportsText};
 
 use crate::lines::{line_at, line_told};
@@ -69,109 +69,102 @@ fn add_reason(
     Ok(())
 }
 
-/// Reports that a file was not read, and gives the exit status.
-pub(crate) fn report_unread<E: Write>(
+/// Reports what could not be done with a file, by a verb as `read`, and gives the exit status.
+pub(crate) fn report_cannot<E: Write>(
     alloc: Global,
+    verb: &str,
     path: &str,
     error: &io::Error,
     err: &mut E,
 ) -> u8
     ensures status { result ≡ DEVICE_FAULT }
-    ensures reported { (why : List ℕ)
-        × ReportsText (file_message path.now why) (E.contents err.old) (E.contents err.new) }
+    ensures reported { (why : List ℕ) × ReportsText (cannot_message verb.now path.now why)
+        (E.contents err.old) (E.contents err.new) }
 {
-    report_made(unread_message(alloc, path, error), err);
+    report_made(cannot_message(alloc, verb, path, error), err);
     DEVICE_FAULT
 }
 
-fn unread_message(alloc: Global, path: &str, error: &io::Error) -> Result<String, AllocError>
-    ensures { IfOk result (λ text.
-        (why : List ℕ) × (string_bytes text ≡ file_message path.now why)) }
-{
-    let why = format!(in alloc; "{error}")?;
-    message_with(alloc, path, why.as_str())
-}
-
-fn message_with(alloc: Global, path: &str, why: &str) -> Result<String, AllocError>
-    ensures { IfOk result (λ text. string_bytes text ≡ file_message path.now why.now) }
-{
-    format!(in alloc; "initd: cannot read {path}: {why}\n")
-}
-
-/// Reports that a file was not created, and gives the exit status.
-pub(crate) fn report_uncreated<E: Write>(
+fn cannot_message(
     alloc: Global,
+    verb: &str,
     path: &str,
     error: &io::Error,
+) -> Result<String, AllocError>
+    ensures { IfOk result (λ text.
+        (why : List ℕ) × (string_bytes text ≡ cannot_message verb.now path.now why)) }
+{
+    let why = format!(in alloc; "{error}")?;
+    cannot_message_with(alloc, verb, path, why.as_str())
+}
+
+fn cannot_message_with(
+    alloc: Global,
+    verb: &str,
+    path: &str,
+    why: &str,
+) -> Result<String, AllocError>
+    ensures { IfOk result (λ text.
+        string_bytes text ≡ cannot_message verb.now path.now why.now) }
+{
+    format!(in alloc; "initd: cannot {verb} {path}: {why}\n")
+}
+
+/// Reports that another run reads the channel of requests, by its process number where that is known, and gives the
+/// exit status.
+pub(crate) fn report_busy<E: Write>(
+    alloc: Global,
+    path: &str,
+    holder: Option<u32>,
     err: &mut E,
 ) -> u8
     ensures status { result ≡ DEVICE_FAULT }
-    ensures reported { (why : List ℕ)
-        × ReportsText (created_message path.now why) (E.contents err.old) (E.contents err.new) }
-{
-    report_made(uncreated_message(alloc, path, error), err);
-    DEVICE_FAULT
-}
-
-fn uncreated_message(alloc: Global, path: &str, error: &io::Error) -> Result<String, AllocError>
-    ensures { IfOk result (λ text.
-        (why : List ℕ) × (string_bytes text ≡ created_message path.now why)) }
-{
-    let why = format!(in alloc; "{error}")?;
-    created_message_with(alloc, path, why.as_str())
-}
-
-fn created_message_with(alloc: Global, path: &str, why: &str) -> Result<String, AllocError>
-    ensures { IfOk result (λ text. string_bytes text ≡ created_message path.now why.now) }
-{
-    format!(in alloc; "initd: cannot create {path}: {why}\n")
-}
-
-/// Reports that another run reads the channel of requests, and gives the exit status.
-pub(crate) fn report_busy<E: Write>(alloc: Global, path: &str, err: &mut E) -> u8
-    ensures status { result ≡ DEVICE_FAULT }
-    ensures reported { ReportsText (busy_message path.now) (E.contents err.old)
+    ensures reported { ReportsText (busy_message path.now holder) (E.contents err.old)
         (E.contents err.new) }
 {
-    report_made(busy_message(alloc, path), err);
+    report_made(busy_message(alloc, path, holder), err);
     DEVICE_FAULT
 }
 
-fn busy_message(alloc: Global, path: &str) -> Result<String, AllocError>
-    ensures { IfOk result (λ text. string_bytes text ≡ busy_message path.now) }
+fn busy_message(alloc: Global, path: &str, holder: Option<u32>) -> Result<String, AllocError>
+    ensures { IfOk result (λ text. string_bytes text ≡ busy_message path.now holder) }
+{
+    match holder {
+        Some(number) => held_message(alloc, path, number),
+        None => unheld_message(alloc, path),
+    }
+}
+
+fn held_message(alloc: Global, path: &str, number: u32) -> Result<String, AllocError>
+    ensures { IfOk result (λ text. string_bytes text ≡ busy_message path.now (Some number)) }
+{
+    format!(in alloc;
+        "initd: {path} is in use by initd run {number}: end that one, or give another --initctl\n"
+    )
+}
+
+fn unheld_message(alloc: Global, path: &str) -> Result<String, AllocError>
+    ensures { IfOk result (λ text. string_bytes text ≡ busy_message path.now None) }
 {
     format!(in alloc;
         "initd: {path} is in use by another initd run: end that one, or give another --initctl\n"
     )
 }
 
-/// Reports that the channel of requests was not locked, and gives the exit status.
-pub(crate) fn report_unlocked<E: Write>(
-    alloc: Global,
-    path: &str,
-    error: &io::Error,
-    err: &mut E,
-) -> u8
-    ensures status { result ≡ DEVICE_FAULT }
-    ensures reported { (why : List ℕ)
-        × ReportsText (unlocked_message path.now why) (E.contents err.old) (E.contents err.new) }
+/// Reports that two of a run's files are one, and gives the exit status.
+pub(crate) fn report_shared<E: Write>(alloc: Global, one: &str, other: &str, err: &mut E) -> u8
+    ensures status { result ≡ REFUSED }
+    ensures reported { ReportsText (shared_message one.now other.now) (E.contents err.old)
+        (E.contents err.new) }
 {
-    report_made(unlocked_message(alloc, path, error), err);
-    DEVICE_FAULT
+    report_made(shared_message(alloc, one, other), err);
+    REFUSED
 }
 
-fn unlocked_message(alloc: Global, path: &str, error: &io::Error) -> Result<String, AllocError>
-    ensures { IfOk result (λ text.
-        (why : List ℕ) × (string_bytes text ≡ unlocked_message path.now why)) }
+fn shared_message(alloc: Global, one: &str, other: &str) -> Result<String, AllocError>
+    ensures { IfOk result (λ text. string_bytes text ≡ shared_message one.now other.now) }
 {
-    let why = format!(in alloc; "{error}")?;
-    unlocked_message_with(alloc, path, why.as_str())
-}
-
-fn unlocked_message_with(alloc: Global, path: &str, why: &str) -> Result<String, AllocError>
-    ensures { IfOk result (λ text. string_bytes text ≡ unlocked_message path.now why.now) }
-{
-    format!(in alloc; "initd: cannot lock {path}: {why}\n")
+    format!(in alloc; "initd: {one} and {other} are one file: give each its own\n")
 }
 
 /// Reports a message that was made, or that there was no memory to make it.

@@ -10,17 +10,17 @@ ghost use Rattle.child_host.specs.Record.{Since};
 ghost use Rattle.supervisor.specs.Opening.{IsOpeningOf};
 ghost use Rattle.os_host.specs.LineFaults.{faults_text};
 ghost use Rattle.initd_options.specs.Options.{run_of};
-ghost use Rattle.initd_command.specs.Services.{AreFiles, EndsRun, EndsTold, FailsBy, FailsOn, FailsOver, FailsToGet, FailsToLock, FailsToRead, HasInittab, IsInittab, IsOfFault, IsReadOf, Turns, TurnsFrom, TurnsOver, is_unled, judgement_for};
+ghost use Rattle.initd_command.specs.Services.{AreFiles, EndsRun, EndsTold, FailsBy, FailsOn, FailsOver, FailsToGet, FailsToLock, FailsToPart, FailsToRead, HasInittab, IsInittab, IsOfFault, IsReadOf, Turns, TurnsFrom, TurnsOver, is_unled, judgement_for};
 
 use crate::ends::report_end;
 use crate::logs::{FileLog, LoudLog, NoLog};
 use crate::patience::Patience;
 use crate::reports::{
-    report, report_busy, report_fault, report_memory, report_too_many, report_uncreated,
-    report_unlocked, report_unread, tell,
+    report, report_busy, report_cannot, report_fault, report_memory, report_shared,
+    report_too_many, tell,
 };
 use brief_log::BriefLog;
-use channel_files::{ChannelLock, lock_channel};
+use channel_files::{ChannelLock, lock_channel, lock_holder};
 use child_host::Host;
 use init_words::{Level, Memory, Part};
 use initd_options::RunWords;
@@ -28,13 +28,14 @@ use inittab_text::{Table, TableFault, read_parts};
 use judged_log::{JudgedLog, Judgement};
 use os_host::{FolderFault, OsHost, faults_text, with_folder};
 use path_texts::Texts;
-use program_io::DEVICE_FAULT;
+use program_io::{DEVICE_FAULT, refuse_special};
 use run_notes::RunNotes;
 use simulator::SimFault;
 use std::alloc::{AllocError, Global};
-use std::fs::File;
+use std::fs::{File, metadata};
 use std::io;
 use std::io::Write;
+use std::os::unix::fs::MetadataExt;
 use std::process::Processes;
 use std::rt::{Clock, Files};
 use supervisor::{Opening, Served};
@@ -50,8 +51,10 @@ const UNLED: &str = "initd: the inittab names no level (initdefault), and --leve
 /// Why a run ended before its first turn.
 #[derive(Drop)]
 enum RunFault {
-    /// Another run reads the channel of requests.
-    Busy,
+    /// Another run reads the channel of requests; its process number, where that is known.
+    Busy(Option<u32>),
+    /// These two paths of the run lead to one file.
+    Shared(String, String),
     /// The channel of requests could not be made, opened or locked.
     Channel(io::Error),
     /// The inittab could not be read.
@@ -99,9 +102,7 @@ struct Inittab {
 
 /// A run before its first turn.
 #[derive(Drop)]
-struct Run<R: Processes + Files + Clock + Print + Eprint + Drop> {
-    /// It is held to the end of the run.
-    lock: ChannelLock,
+struct Run<R: Processes + Files<File = File> + Clock + Print + Eprint + Drop> {
     opening: Opening,
     host: OsHost<R>,
     /// The file of the trace, where one is to be written.
@@ -112,7 +113,7 @@ struct Run<R: Processes + Files + Clock + Print + Eprint + Drop> {
     is_unled: bool,
 }
 
-/// Runs init over the operating system: takes the lock of the channel, reads the inittab, creates the trace anew, and
+/// Runs init over the operating system: reads the inittab, takes the lock of the channel, creates the trace anew, and
 /// makes the turns.
 pub(crate) fn run_files<R, T: Texts, W: Write, E: Write>(
     rt: &R,
@@ -135,7 +136,8 @@ where
     }
 }
 
-/// A run with all that it stands on; nothing is written before it has the lock of the channel.
+/// A run with all that it stands on. Nothing is written before its inittab is read, and nothing but an empty channel,
+/// where there is none, before it has the channel's lock.
 fn open_run<R, T: Texts>(
     rt: &R,
     texts: &T,
@@ -149,8 +151,9 @@ where
         × (run.is_unled ≡ is_unled said.now.level (table_of_texts (texts_of parts))))) }
     ensures err { IfErr result (FailsBy (T.text_at texts.now) (run_of said.now)) }
 {
-    let lock = take_lock(rt, said.initctl.as_str())?;
+    refuse_shared(rt, alloc, said)?;
     let inittab = read_inittab(rt, texts, alloc, said)?;
+    let lock = take_lock(rt, alloc, said.initctl.as_str())?;
     open_over(rt, alloc, said, lock, inittab)
 }
 
@@ -171,10 +174,9 @@ where
     let Inittab { table, faults } = inittab;
     let is_unled = is_unled(said.level, &table);
     let opening = Opening::new(alloc, table, said.level)?;
-    let host = host_of(rt, alloc, said)?;
+    let host = host_of(rt, alloc, said)?.holding(lock);
     let trace = create_trace(rt, said)?;
     Ok(Run {
-        lock,
         opening,
         host,
         trace,
@@ -193,13 +195,52 @@ fn is_unled(level: Option<Level>, table: &Table) -> bool
     }
 }
 
+/// Refuses two paths of the run that lead to one file: what is written to one would be lost in the other.
+fn refuse_shared<R: Files>(rt: &R, alloc: Global, said: &RunWords) -> Result<(), RunFault>
+    ensures { IfErr result FailsToPart }
+{
+    let inittab = said.inittab.as_str();
+    let initctl = said.initctl.as_str();
+    let state = said.state.as_str();
+    let trace = trace_of(said);
+    let pairs = [
+        (inittab, initctl),
+        (inittab, state),
+        (inittab, trace),
+        (initctl, state),
+        (initctl, trace),
+        (state, trace),
+    ];
+    let Some((one, other)) = pairs.iter().find(|pair| are_one(rt, pair.0, pair.1)) else {
+        return Ok(());
+    };
+    let one = String::from_str(alloc, one)?;
+    let other = String::from_str(alloc, other)?;
+    Err(RunFault::Shared(one, other))
+}
+
+/// Two paths are the same, or lead to one file.
+fn are_one<R: Files>(rt: &R, one: &str, other: &str) -> bool {
+    if one == other {
+        return true;
+    }
+    match (metadata(rt, one), metadata(rt, other)) {
+        (Ok(one), Ok(other)) => one.dev() == other.dev() && one.ino() == other.ino(),
+        _ => false,
+    }
+}
+
 /// The lock of the channel of requests.
-fn take_lock<R: Files<File = File>>(rt: &R, path: &str) -> Result<ChannelLock, RunFault>
+fn take_lock<R: Files<File = File>>(
+    rt: &R,
+    alloc: Global,
+    path: &str,
+) -> Result<ChannelLock, RunFault>
     ensures { IfErr result FailsToLock }
 {
     match lock_channel(rt, path) {
         Ok(Some(lock)) => Ok(lock),
-        Ok(None) => Err(RunFault::Busy),
+        Ok(None) => Err(RunFault::Busy(lock_holder(rt, alloc, path))),
         Err(error) => Err(RunFault::Channel(error)),
     }
 }
@@ -288,16 +329,24 @@ fn create_trace<R: Files<File = File>>(rt: &R, said: &RunWords) -> Result<Option
     let Some(path) = &said.trace else {
         return Ok(None);
     };
-    match File::create(rt, path.as_str()) {
+    match created(rt, path.as_str()) {
         Ok(file) => Ok(Some(file)),
         Err(error) => Err(RunFault::Trace(error)),
     }
 }
 
+/// A file, created anew. Outside of `/dev/` a FIFO is refused, since it would wait for its reader, and a device.
+fn created<R: Files>(rt: &R, path: &str) -> io::Result<R::File> {
+    if !path.starts_with("/dev/") {
+        refuse_special(rt, path)?;
+    }
+    File::create(rt, path)
+}
+
 /// The host that words name.
 fn host_of<R>(rt: &R, alloc: Global, said: &RunWords) -> Result<OsHost<R>, Memory>
 where
-    R: Processes + Files + Clock + Print + Eprint + Clone + Drop,
+    R: Processes + Files<File = File> + Clock + Print + Eprint + Clone + Drop,
 {
     let inittab = said.inittab.as_str();
     let initctl = said.initctl.as_str();
@@ -328,13 +377,18 @@ fn report_run_fault<E: Write>(alloc: Global, said: &RunWords, fault: &RunFault, 
 {
     let initctl = said.initctl.as_str();
     match fault {
-        RunFault::Busy => report_busy(alloc, initctl, err),
-        RunFault::Channel(error) => report_unlocked(alloc, initctl, error, err),
-        RunFault::Inittab(error) => report_unread(alloc, said.inittab.as_str(), error, err),
-        RunFault::Folder(path, error) => report_unread(alloc, path.as_str(), error, err),
+        RunFault::Busy(holder) => report_busy(alloc, initctl, *holder, err),
+        RunFault::Shared(one, other) => {
+            let first = one.as_str();
+            let second = other.as_str();
+            report_shared(alloc, first, second, err)
+        }
+        RunFault::Channel(error) => report_cannot(alloc, "lock", initctl, error, err),
+        RunFault::Inittab(error) => report_cannot(alloc, "read", said.inittab.as_str(), error, err),
+        RunFault::Folder(path, error) => report_cannot(alloc, "read", path.as_str(), error, err),
         RunFault::TooMany => report_too_many(err),
         RunFault::TooLong => report_fault(alloc, &[], &SimFault::Table, err),
-        RunFault::Trace(error) => report_uncreated(alloc, trace_of(said), error, err),
+        RunFault::Trace(error) => report_cannot(alloc, "create", trace_of(said), error, err),
         RunFault::Memory => report_memory(err),
     }
 }
@@ -371,7 +425,6 @@ where
     }
     report_unled(run.is_unled, err);
     let Run {
-        lock: _lock,
         opening,
         host,
         trace,

@@ -6,7 +6,7 @@ ghost use Rattle.initd_command.specs.Endings.{Ending, Reports, status_of};
 ghost use Rattle.initd_command.specs.Runs.{EndsSimulate, EndsSimulation};
 ghost use Rattle.simulator.specs.Simulation.{scenario};
 
-use crate::reports::{report_fault, report_unread};
+use crate::reports::{report_cannot, report_fault};
 use init_words::Level;
 use initd_options::SimulateWords;
 use path_texts::Texts;
@@ -31,12 +31,12 @@ pub(crate) fn simulate_files<T: Texts, W: Write, E: Write>(
     let table = said.table.as_str();
     let inittab = match texts.read(alloc, table) {
         Ok(inittab) => inittab,
-        Err(error) => return report_unread(alloc, table, &error, err),
+        Err(error) => return report_cannot(alloc, "read", table, &error, err),
     };
     let path = said.script.as_str();
     match texts.read(alloc, path) {
         Ok(script) => simulate_texts(alloc, &inittab, said.level, &script, out, err),
-        Err(error) => report_unread(alloc, path, &error, err),
+        Err(error) => report_cannot(alloc, "read", path, &error, err),
     }
 }
 

@@ -6,11 +6,12 @@ ghost use Rattle.initctl_frame.specs.declared.frames.TheConstants.{BLOCK};
 use crate::old_requests::OldRequests;
 use crate::passed_over::PassedOver;
 use crate::troubles::Trouble;
+use channel_files::{ChannelLock, lock_channel};
 use init_words::Memory;
 use initctl_frame::BLOCK;
 use std::alloc::Allocator;
-use std::fs::File;
-use std::io::{ErrorKind, Read, Seek, SeekFrom};
+use std::fs::{File, Metadata};
+use std::io::{Error, ErrorKind, Read, Seek, SeekFrom};
 use std::os::unix::fs::MetadataExt;
 use std::rt::Files;
 use std::{fs, io};
@@ -23,8 +24,12 @@ pub(crate) struct Channel<A: Allocator> {
     fresh: bool,
     /// It was looked at.
     begun: bool,
-    /// The device and the number of the file that stood at the path at the last look.
+    /// The lock of the file that is read, where the host holds one.
+    lock: Option<ChannelLock>,
+    /// The device and the number of the file that stood at the path when there was one last.
     file: Option<(u64, u64)>,
+    /// No file stood at the path at the last look.
+    missing: bool,
     /// How many of its bytes were read: those of whole requests.
     heard: u64,
     /// The request that was read last, and how many of its bytes were handed on.
@@ -37,13 +42,6 @@ pub(crate) struct Channel<A: Allocator> {
     told_torn: bool,
 }
 
-/// What stands at the path of a channel: the file's length in bytes, and its device and number.
-#[derive(Clone, Copy)]
-struct Found {
-    length: u64,
-    file: (u64, u64),
-}
-
 impl<A: Allocator> Channel<A> {
     /// The channel at this path, with nothing taken.
     pub(crate) fn new(alloc: A, program: &'static str, path: &str) -> Result<Channel<A>, Memory> {
@@ -51,7 +49,9 @@ impl<A: Allocator> Channel<A> {
             path: String::from_str(alloc, path)?,
             fresh: false,
             begun: false,
+            lock: None,
             file: None,
+            missing: false,
             heard: 0,
             request: [0; BLOCK],
             handed: BLOCK,
@@ -67,11 +67,25 @@ impl<A: Allocator> Channel<A> {
         self.fresh = true;
     }
 
+    /// It holds the lock of the file at its path, and takes that of each other file that comes to stand there.
+    pub(crate) fn hold(&mut self, lock: ChannelLock) {
+        self.lock = Some(lock);
+    }
+
+    /// It has a request that was not read, or another file stands at its path.
+    pub(crate) fn has_news<R: Files>(&self, rt: &R) -> bool {
+        match found_at(rt, self.path.as_str()) {
+            Ok(Some(found)) => self.is_anew(&found) || self.is_whole(&found),
+            _ => false,
+        }
+    }
+
     /// Takes the channel's next bytes: those of whole requests alone, so that nothing of a torn one is left where the
     /// channel is made anew. A channel that isn't there has none. Where another file stands at the path, or the file is
-    /// shorter than what was read, it was made anew, and is read from its first byte on. What is no plain file is not
-    /// opened, since a FIFO would wait for its writer.
-    pub(crate) fn take_bytes<R: Files + Eprint>(
+    /// shorter than what was read, it was made anew, and is read from its first byte on; where a lock is held, that file's
+    /// is taken first, and where another init has it, that is an error. What is no plain file is not opened, since a
+    /// FIFO would wait for its writer.
+    pub(crate) fn take_bytes<R: Files<File = File> + Eprint>(
         &mut self,
         rt: &R,
         buffer: &mut [u8],
@@ -83,7 +97,11 @@ impl<A: Allocator> Channel<A> {
         taken
     }
 
-    fn next_bytes<R: Files + Eprint>(&mut self, rt: &R, buffer: &mut [u8]) -> io::Result<usize>
+    fn next_bytes<R: Files<File = File> + Eprint>(
+        &mut self,
+        rt: &R,
+        buffer: &mut [u8],
+    ) -> io::Result<usize>
         ensures { IfOk result (λ count. count ≤ length buffer.old) }
     {
         if self.handed >= BLOCK {
@@ -111,35 +129,55 @@ impl<A: Allocator> Channel<A> {
     }
 
     /// The channel has a whole request that was not read.
-    fn has_request<R: Files + Eprint>(&mut self, rt: &R) -> io::Result<bool> {
+    fn has_request<R: Files<File = File> + Eprint>(&mut self, rt: &R) -> io::Result<bool> {
         let found = found_at(rt, self.path.as_str())?;
         if !self.begun {
-            self.begin(rt, found.map_or(0, |found| found.length));
+            self.begin(rt, found.as_ref().map_or(0, Metadata::len));
         }
         let Some(found) = found else {
-            self.file = None;
+            self.missing = true;
             self.go_to(0);
             return Ok(false);
         };
+        self.lock_found(rt, &found)?;
         if self.is_anew(&found) {
             self.go_to(0);
             say_made_anew(rt, self.path.as_str());
         }
-        self.file = Some(found.file);
-        let is_whole = found.length.saturating_sub(self.heard) >= BLOCK as u64;
+        self.file = Some(file_of(&found));
+        self.missing = false;
+        let is_whole = self.is_whole(&found);
         if !is_whole {
-            self.tell_torn(rt, found.length);
+            self.tell_torn(rt, found.len());
         }
         Ok(is_whole)
     }
 
-    /// Another file stands at the path than at the last look, or one that is shorter than what was read.
-    fn is_anew(&self, found: &Found) -> bool {
+    /// Takes the lock of the file that was found, where the lock that is held is another file's.
+    fn lock_found<R: Files<File = File>>(&mut self, rt: &R, found: &Metadata) -> io::Result<()> {
+        match &self.lock {
+            Some(lock) if !lock.is_of(found) => {}
+            _ => return Ok(()),
+        }
+        let Some(lock) = lock_channel(rt, self.path.as_str())? else {
+            return Err(Error::other("another initd run reads it"));
+        };
+        self.lock = Some(lock);
+        Ok(())
+    }
+
+    /// A file that was found has a whole request that was not read.
+    fn is_whole(&self, found: &Metadata) -> bool {
+        found.len().saturating_sub(self.heard) >= BLOCK as u64
+    }
+
+    /// Another file stands at the path than before, or one that is shorter than what was read.
+    fn is_anew(&self, found: &Metadata) -> bool {
         let is_another = match self.file {
-            Some(file) => file != found.file,
+            Some(file) => self.missing || file != file_of(found),
             None => false,
         };
-        is_another || found.length < self.heard
+        is_another || found.len() < self.heard
     }
 
     /// Tells of the bytes that stand in the channel at its first reading, and passes over them where it is to.
@@ -188,14 +226,16 @@ fn whole_requests(length: u64) -> u64
     length - length % BLOCK as u64
 }
 
+/// The device and the number of a file.
+fn file_of(found: &Metadata) -> (u64, u64) {
+    (found.dev(), found.ino())
+}
+
 /// The plain file at the path; None where nothing is there.
-fn found_at<R: Files>(rt: &R, path: &str) -> io::Result<Option<Found>> {
+fn found_at<R: Files>(rt: &R, path: &str) -> io::Result<Option<Metadata>> {
     match fs::metadata(rt, path) {
-        Ok(found) if found.is_file() => Ok(Some(Found {
-            length: found.len(),
-            file: (found.dev(), found.ino()),
-        })),
-        Ok(_) => Err(io::Error::other("it is no plain file")),
+        Ok(found) if found.is_file() => Ok(Some(found)),
+        Ok(_) => Err(Error::new(ErrorKind::InvalidInput, "it is no plain file")),
         Err(error) if error.kind() == ErrorKind::NotFound => Ok(None),
         Err(error) => Err(error),
     }

@@ -1,9 +1,10 @@
 //! The children of a host: started, looked at, signalled.
 
-use crate::commands::{command_of, needs_shell, shell_command, shown};
+use crate::commands::{command_of, needs_shell, shown};
 use crate::logs::Logs;
-use crate::news::{News, end_news};
+use crate::news::{News, end_news, last_end_of};
 use crate::starts::Starts;
+use crate::terms::TermSender;
 use crate::troubles::Trouble;
 use indexmap::IndexMap;
 use init_words::{Answer, Id, Memory, Sig, Status};
@@ -29,6 +30,9 @@ pub(crate) struct Children<R: Processes, A: Allocator> {
     /// The name of the program that says what is said of them.
     program: &'static str,
     handles: IndexMap<Id, Held<Child<R::Started>>, BuildHasherDefault<FoldHasher>, A>,
+    /// How the last child of each id ended, as far as there was memory to keep it.
+    ends: IndexMap<Id, News, BuildHasherDefault<FoldHasher>, A>,
+    terms: TermSender<R::Started>,
     /// The births, where it is told what children do.
     starts: Option<Starts<A>>,
     /// Where their output goes, where it goes to logs.
@@ -42,6 +46,8 @@ impl<R: Processes, A: Allocator + Copy> Children<R, A> {
             alloc,
             program,
             handles: IndexMap::new(alloc),
+            ends: IndexMap::new(alloc),
+            terms: TermSender::new(),
             starts: None,
             logs: None,
         }
@@ -155,12 +161,43 @@ impl<R: Processes, A: Allocator + Copy> Children<R, A> {
         match held.child.try_wait() {
             Ok(Some(status)) => {
                 self.handles.shift_remove(id);
-                self.tell(rt, id, &end_news(&status));
+                self.note_end(rt, *id, end_news(&status));
                 Answer::Ended(status_of(&status))
             }
             Ok(None) => Answer::Alive,
             Err(_) => Answer::NoLook,
         }
+    }
+
+    /// Keeps how the id's child ended, and tells it, where it is told what children do.
+    fn note_end(&mut self, rt: &R, id: Id, end: News)
+    where
+        R: Eprint,
+    {
+        if self.ends.insert(id, end).is_err() {
+            self.ends.shift_remove(&id);
+        }
+        self.tell(rt, &id, &end);
+    }
+
+    /// Says on standard error how the id's last child ended, and what that mostly means.
+    pub(crate) fn say_last_end(&self, rt: &R, id: &Id)
+    where
+        R: Eprint,
+    {
+        if let Some(end) = self.ends.get(id) {
+            let id = shown(id.as_bytes());
+            let _ = eprintln!(rt;
+                "{}: {id}: its last end: {}",
+                self.program,
+                last_end_of(*end)
+            );
+        }
+    }
+
+    /// The turn is over.
+    pub(crate) fn end_turn(&mut self) {
+        self.terms.end();
     }
 
     /// Sends the id's child the signal.
@@ -186,7 +223,7 @@ impl<R: Processes, A: Allocator + Copy> Children<R, A> {
         let Some(held) = self.handles.get_mut(id) else {
             return false;
         };
-        let sent = send_term(rt, self.alloc, held.child.id());
+        let sent = self.terms.send(rt, self.alloc, held.child.id());
         held.stopping.tell(rt, shown(id.as_bytes()), &sent);
         sent.is_ok()
     }
@@ -196,17 +233,6 @@ impl<R: Processes, A: Allocator + Copy> Children<R, A> {
             Some(held) => held.child.kill().is_ok(),
             None => false,
         }
-    }
-}
-
-/// Runs kill(1) on the child of the number.
-fn send_term<A: Allocator + Copy>(rt: &impl Processes, alloc: A, number: u32) -> io::Result<()> {
-    let line = format!(in alloc; "kill -TERM {number}")?;
-    let status = shell_command(alloc, line.as_str())?.status(rt)?;
-    if status.success() {
-        Ok(())
-    } else {
-        Err(io::Error::other("kill failed"))
     }
 }
 

@@ -17,6 +17,7 @@ mod paths;
 mod pauses;
 mod starts;
 mod steady_clocks;
+mod terms;
 mod troubles;
 
 pub use announcements::announcement_text;

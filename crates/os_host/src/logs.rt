@@ -7,6 +7,7 @@ ghost use Rattle.os_host.specs.Logs.{is_hidden, is_log_byte, is_log_name};
 use crate::commands::{command_of, logged_command, shown};
 use indexmap::IndexSet;
 use init_words::{Id, Memory};
+use program_io::refuse_special;
 use std::alloc::Allocator;
 use std::fs::OpenOptions;
 use std::hash::{BuildHasherDefault, FoldHasher};
@@ -74,6 +75,7 @@ impl<A: Allocator + Copy> Logs<A> {
 
 /// Makes the file, where it isn't there, and finds whether it can be appended to.
 fn made_ready<R: Files>(rt: &R, path: &str) -> io::Result<()> {
+    refuse_special(rt, path)?;
     OpenOptions::new().append(true).create(true).open(rt, path)?;
     Ok(())
 }

@@ -1,4 +1,4 @@
-//! What is said of children, with `--verbose`.
+//! What is said of children: with `--verbose`, and of one that is started too often.
 
 ghost use Rattle.std.specs.Prelude.{◌≡◌};
 ghost use Rattle.std.specs.Process.{exit_code, exit_signal};
@@ -63,5 +63,27 @@ pub(crate) fn end_news(status: &ExitStatus) -> News
     match status.signal() {
         Some(signal) => News::Killed(signal.unsigned_abs()),
         None => News::Gone,
+    }
+}
+
+/// How the last child of an id ended that is started too often, and what that mostly means.
+#[derive(Drop)]
+pub(crate) struct LastEnd(News);
+
+pub(crate) fn last_end_of(end: News) -> LastEnd {
+    LastEnd(end)
+}
+
+impl fmt::Display for LastEnd {
+    fn fmt<W: fmt::Write>(&self, f: &mut fmt::Formatter<W>) -> fmt::Result {
+        match self.0 {
+            News::Ended(0) => f.write_str(
+                "exit 0: a process that puts itself in the background has ended for init",
+            ),
+            News::Ended(126) => f.write_str("exit 126: its program could not be executed"),
+            News::Ended(127) => f.write_str("exit 127: its program was not found"),
+            News::Ended(code) => write!(f, "exit {code}"),
+            end => write!(f, "{end}"),
+        }
     }
 }

@@ -7,31 +7,39 @@ use crate::channels::Channel;
 use crate::children::Children;
 use crate::line_faults::LineFaults;
 use crate::paths::Paths;
-use crate::pauses::{Pauses, has_stirred};
+use crate::pauses::{LOOK, Pauses, has_stirred};
 use crate::steady_clocks::SteadyClock;
 use crate::troubles::Trouble;
+use channel_files::ChannelLock;
 use child_host::{Host, HostFault, Reply, counted, is_failed_reply};
-use init_trace::HappeningIn;
+use init_trace::{Happening, HappeningIn};
 use init_words::{Answer, ChildNo, Id, Memory, Part, Sig};
 use std::alloc::{Allocator, Global};
+use std::fs::File;
 use std::io::ErrorKind;
 use std::marker::Model;
 use std::process::Processes;
 use std::rt::{Clock, Files};
+use std::time::Duration;
 use std::{io, thread};
 
 /// A host that asks the operating system. It tells nothing of its calls, and answers each order at once.
 ///
 /// A process text is executed by `sh` where it has a character that a shell reads; any other is split at blanks and
 /// tabs and started directly. A start for an id that has a child is refused. A child is looked at by waitpid(2) with
-/// WNOHANG; SIGTERM is sent by kill(1) in `sh`, SIGKILL directly. A pause starts nothing and does not fail. Requests
-/// are read from the channel file's first byte on, and anew where it is shorter than what was read. The clock gives
+/// WNOHANG; SIGTERM is sent by kill(1) in one `sh` for all of a turn,
+/// SIGKILL directly. A pause starts nothing, does not fail, and ends where
+/// a request comes. Requests are read from the channel file's first byte on, and anew where it is shorter than what was
+/// read, or another file stands at its path. The clock gives
 /// the seconds since the beginning of 1970 at its first reading, and goes on from there by the monotonic clock. What
 /// fails is told on standard error once when it begins and once when it is over; told too are requests that stand in
 /// the channel before its first reading, those that init passes over, and that it ends within a request. The faults of
 /// the lines of an inittab's files are printed, where they are not those that were printed last.
 #[derive(Drop)]
-pub struct OsHost<R: Processes + Files + Clock + Print + Eprint + Drop, A: Allocator = Global> {
+pub struct OsHost<
+    R: Processes + Files<File = File> + Clock + Print + Eprint + Drop,
+    A: Allocator = Global,
+> {
     rt: R,
     alloc: A,
     children: Children<R, A>,
@@ -44,7 +52,8 @@ pub struct OsHost<R: Processes + Files + Clock + Print + Eprint + Drop, A: Alloc
     faults: u64,
 }
 
-impl<R: Processes + Files + Clock + Print + Eprint + Drop, A: Allocator> Model for OsHost<R, A> {
+impl<R: Processes + Files<File = File> + Clock + Print + Eprint + Drop, A: Allocator> Model
+    for OsHost<R, A> {
     ghost use Rattle.child_host.specs.Calls.{FaultCount};
 
     ghost Value = { FaultCount };
@@ -52,7 +61,10 @@ impl<R: Processes + Files + Clock + Print + Eprint + Drop, A: Allocator> Model f
     ghost view = { λ host. record { faults = host.faults } };
 }
 
-impl<R: Processes + Files + Clock + Print + Eprint + Drop, A: Allocator + Copy> OsHost<R, A> {
+impl<R: Processes + Files<File = File> + Clock + Print + Eprint + Drop, A: Allocator + Copy> OsHost<
+    R,
+    A,
+> {
     /// A host without children, which says what fails by the name of the program, over the paths of the inittab, of the
     /// channel of requests, of the text of init's state and of the folder of the inittab's further files, where it has
     /// one, which `with_folder` reads. A text of the state is written to the path with `.new` after it before it is put
@@ -112,6 +124,15 @@ impl<R: Processes + Files + Clock + Print + Eprint + Drop, A: Allocator + Copy> 
         self
     }
 
+    /// The host that holds this lock of its channel, and takes that of each other file that comes to stand at the
+    /// channel's path. Where another init has that one, it is told, and nothing is read.
+    pub fn holding(mut self, lock: ChannelLock) -> OsHost<R, A>
+        ensures { result.faults ≡ self.faults }
+    {
+        self.channel.hold(lock);
+        self
+    }
+
     /// The host that appends what each child prints to `ID.log` in the folder, or to `_.log` where the id begins with
     /// a point or has a slash, which is told. Its children have no input. Each is started by `sh`, which becomes the
     /// process, or says in the log that there is none and ends with a status. Where a log can't be opened that is told,
@@ -124,7 +145,10 @@ impl<R: Processes + Files + Clock + Print + Eprint + Drop, A: Allocator + Copy> 
     }
 }
 
-impl<R: Processes + Files + Clock + Print + Eprint + Drop, A: Allocator + Copy> OsHost<R, A> {
+impl<R: Processes + Files<File = File> + Clock + Print + Eprint + Drop, A: Allocator + Copy> OsHost<
+    R,
+    A,
+> {
     /// Prints the faults of the lines of an inittab's parts that were read again, and gives whether it could. What
     /// fails is told.
     fn tell_line_faults<B: Allocator>(&mut self, parts: &[Part<B>]) -> bool
@@ -151,6 +175,17 @@ fn say<A: Allocator, B: Allocator>(
     Ok(text.len())
 }
 
+/// Sleeps for so many microseconds, or until the channel has news, which is looked at meanwhile.
+fn rest<R: Files + Clock, A: Allocator>(rt: &R, channel: &Channel<A>, length: u64) {
+    for _ in 0..length / LOOK {
+        thread::sleep(rt, Duration::from_micros(LOOK));
+        if channel.has_news(rt) {
+            return;
+        }
+    }
+    thread::sleep(rt, Duration::from_micros(length % LOOK));
+}
+
 /// The host's fault for an error of the system.
 fn fault_of(error: &io::Error) -> HostFault {
     match error.kind() {
@@ -170,7 +205,7 @@ fn host_result<T>(outcome: io::Result<T>) -> Result<T, HostFault>
     }
 }
 
-impl<R: Processes + Files + Clock + Print + Eprint + Drop, A: Allocator + Copy> Host
+impl<R: Processes + Files<File = File> + Clock + Print + Eprint + Drop, A: Allocator + Copy> Host
     for OsHost<R, A> {
     ghost use Rattle.std.specs.Prelude.{None};
     ghost use Rattle.child_host.specs.Calls.{FaultCount};
@@ -249,10 +284,15 @@ impl<R: Processes + Files + Clock + Print + Eprint + Drop, A: Allocator + Copy> 
             self.saying.tell(&self.rt, "standard output", &said);
         }
         self.faults = counted(self.faults, said.is_err());
+        if let Happening::Hold(id) = happening {
+            self.children.say_last_end(&self.rt, id);
+        }
     }
 
     fn pause(&mut self) {
-        thread::sleep(&self.rt, self.pauses.next());
+        self.children.end_turn();
+        let length = self.pauses.next();
+        rest(&self.rt, &self.channel, length);
     }
 
     fn faults(&self) -> u64 {

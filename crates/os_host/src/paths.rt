@@ -3,7 +3,7 @@
 use crate::folders::{FolderFault, with_folder};
 use crate::troubles::Trouble;
 use init_words::{Memory, Part};
-use program_io::{read_file, write_text};
+use program_io::{read_file, refuse_special, write_text};
 use std::alloc::Allocator;
 use std::fs::{File, OpenFile};
 use std::io::ErrorKind;
@@ -135,6 +135,7 @@ fn path_copy<A: Allocator>(alloc: A, path: Option<&str>) -> Result<Option<String
 
 /// Writes a file that has the text, and waits until it is on the disk.
 fn write_whole<R: Files>(rt: &R, path: &str, text: &[u8]) -> io::Result<()> {
+    refuse_special(rt, path)?;
     let mut file = File::create(rt, path)?;
     write_text(&mut file, text)?;
     file.sync_all()

@@ -2,7 +2,6 @@
 
 use child_host::Reply;
 use init_words::Answer;
-use std::time::Duration;
 use text_lines::{cut, read_below};
 
 /// The longest pause that may be asked for, in hundredths of a second.
@@ -10,6 +9,9 @@ const PAUSE_LIMIT: u64 = 6_000;
 
 /// The microseconds of a hundredth of a second.
 const HUNDREDTH: u64 = 10_000;
+
+/// After how many microseconds of a pause the channel is looked at.
+pub(crate) const LOOK: u64 = 20_000;
 
 /// The microseconds of a second.
 const SECOND: u64 = 1_000_000;
@@ -53,9 +55,9 @@ impl Pauses {
         self.stirred = self.stirred || stirred;
     }
 
-    /// The length of the pause that is due: after a turn in which something happened the shortest, and else twice the
-    /// one before, up to the longest.
-    pub(crate) fn next(&mut self) -> Duration {
+    /// The length of the pause that is due, in microseconds: after a turn in which something happened the shortest, and
+    /// else twice the one before, up to the longest.
+    pub(crate) fn next(&mut self) -> u64 {
         let length = if self.stirred {
             self.shortest
         } else {
@@ -63,7 +65,7 @@ impl Pauses {
         };
         self.stirred = false;
         self.next = length.saturating_mul(2).min(self.longest);
-        Duration::from_micros(length)
+        length
     }
 }
 

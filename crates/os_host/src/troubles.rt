@@ -1,8 +1,10 @@
-//! Faults that are said once until they are over.
+//! Faults that are said once until they are over, or others.
 
+use std::hash::{FoldHasher, Hasher};
 use std::io;
+use std::io::{Error, ErrorKind};
 
-/// Whether it was told that something fails.
+/// The fault that was told, and isn't over.
 #[derive(Drop)]
 pub(crate) struct Trouble {
     /// The name of the program that says it.
@@ -11,7 +13,28 @@ pub(crate) struct Trouble {
     doing: &'static str,
     /// That it was done, as `read`.
     done: &'static str,
-    told: bool,
+    told: Option<Fault>,
+}
+
+/// A fault by what tells it from another: whose it is, and why.
+#[derive(Clone, Copy, PartialEq)]
+struct Fault {
+    /// The hash of what it is of, which may be a long path.
+    what: u64,
+    kind: ErrorKind,
+    code: Option<i32>,
+}
+
+impl Fault {
+    fn of(what: &str, error: &Error) -> Fault {
+        let mut hasher = FoldHasher::default();
+        hasher.write(what.as_bytes());
+        Fault {
+            what: hasher.finish(),
+            kind: error.kind(),
+            code: error.raw_os_error(),
+        }
+    }
 }
 
 impl Trouble {
@@ -21,11 +44,11 @@ impl Trouble {
             program,
             doing,
             done,
-            told: false,
+            told: None,
         }
     }
 
-    /// Says on standard error that it failed, where it didn't fail the last time, and that it is over, where it did.
+    /// Says on standard error that it failed, where it didn't fail so the last time, and that it is over, where it did.
     pub(crate) fn tell<T>(&mut self, rt: &impl Eprint, what: &str, outcome: &io::Result<T>) {
         match outcome {
             Ok(_) => self.tell_over(rt, what),
@@ -33,17 +56,18 @@ impl Trouble {
         }
     }
 
-    pub(crate) fn tell_begun(&mut self, rt: &impl Eprint, what: &str, error: &io::Error) {
-        if !self.told {
+    pub(crate) fn tell_begun(&mut self, rt: &impl Eprint, what: &str, error: &Error) {
+        let fault = Fault::of(what, error);
+        if self.told != Some(fault) {
             let _ = eprintln!(rt; "{}: cannot {} {what}: {error}", self.program, self.doing);
         }
-        self.told = true;
+        self.told = Some(fault);
     }
 
     pub(crate) fn tell_over(&mut self, rt: &impl Eprint, what: &str) {
-        if self.told {
+        if self.told.is_some() {
             let _ = eprintln!(rt; "{}: {what}: {} again", self.program, self.done);
         }
-        self.told = false;
+        self.told = None;
     }
 }

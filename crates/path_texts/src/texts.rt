@@ -5,7 +5,7 @@ ghost use Rattle.std.specs.IoError.{error_kind};
 ghost use Rattle.path_texts.specs.Known.{IsTextAt, KnownTexts};
 
 use crate::takers::{PieceTaker, hand_over};
-use program_io::read_file;
+use program_io::{open_plain, read_all};
 use std::alloc::Allocator;
 use std::fs::File;
 use std::io;
@@ -35,18 +35,27 @@ pub trait Texts {
             → error_kind why ≡ ErrorKind.OutOfMemory) };
 }
 
-/// The files of the operating system. Nothing is known of their texts.
+/// Opens what a path names: standard input for `-`, what the system or a shell gives by a path below `/dev/`, and any
+/// other only where it is a plain file, since a FIFO would wait for its writer.
+fn open<R: Files>(rt: &R, path: &str) -> io::Result<R::File> {
+    match path {
+        "-" => File::open(rt, "/dev/stdin"),
+        _ if path.starts_with("/dev/") => File::open(rt, path),
+        _ => open_plain(rt, path),
+    }
+}
+
+/// The files of the operating system, and standard input at the path `-`. Nothing is known of their texts.
 impl<R: Files> Texts for R {
     ghost use Rattle.std.specs.Prelude.{None};
 
     ghost text_at = { λ _ _. None };
 
     fn read<A: Allocator>(&self, alloc: A, path: &str) -> io::Result<Vec<u8, A>> {
-        read_file(self, alloc, path)
+        read_all(alloc, &mut open(self, path)?)
     }
 
     fn read_pieces<P: PieceTaker>(&self, path: &str, taker: &mut P) -> io::Result<()> {
-        let mut file = File::open(self, path)?;
-        hand_over(&mut file, taker)
+        hand_over(&mut open(self, path)?, taker)
     }
 }

@@ -5,9 +5,9 @@ ghost use Rattle.std.specs.Io.KnownBytes.{IsAtEnd};
 
 use std::alloc::Allocator;
 use std::fs::File;
-use std::io;
-use std::io::{ErrorKind, Read};
+use std::io::{Error, ErrorKind, Read};
 use std::rt::Files;
+use std::{fs, io};
 
 /// The most reads by which a reader is read to its end.
 pub const READS_LIMIT: u32 = 1_000_000;
@@ -28,11 +28,28 @@ pub fn read_all<R: Read, A: Allocator>(alloc: A, from: &mut R) -> io::Result<Vec
         }
         bytes.extend_from_slice(&part[..taken])?;
     }
-    Err(io::Error::from(ErrorKind::FileTooLarge))
+    Err(Error::from(ErrorKind::FileTooLarge))
 }
 
-/// All bytes of a file, as `read_all` reads them.
+/// Refuses a FIFO, a device and a socket, `InvalidInput`, so that none is opened: a FIFO would wait for its other end.
+/// A plain file, a folder and a path at which nothing stands are left to the call that opens them.
+pub fn refuse_special<R: Files>(rt: &R, path: &str) -> io::Result<()> {
+    match fs::metadata(rt, path) {
+        Ok(found) if !found.is_file() && !found.is_dir() => {
+            Err(Error::new(ErrorKind::InvalidInput, "it is no plain file"))
+        }
+        _ => Ok(()),
+    }
+}
+
+/// Opens a file to read it, and refuses what `refuse_special` refuses.
+pub fn open_plain<R: Files>(rt: &R, path: &str) -> io::Result<R::File> {
+    refuse_special(rt, path)?;
+    File::open(rt, path)
+}
+
+/// All bytes of a file, as `read_all` reads them. What `refuse_special` refuses is not read.
 pub fn read_file<R: Files, A: Allocator>(rt: &R, alloc: A, path: &str) -> io::Result<Vec<u8, A>> {
-    let mut file = File::open(rt, path)?;
+    let mut file = open_plain(rt, path)?;
     read_all(alloc, &mut file)
 }

@@ -2,11 +2,12 @@
 //! System Initialization).
 #![tactic(auto)]
 
-use program_io::{report_unread_words, words};
+use program_io::{StandardFiles, report_unread_words, words};
 use rc_command::{USAGE, run_words};
 use std::process::ExitCode;
 
 fn main(rt: HostRuntime) -> ExitCode {
+    let _standard = StandardFiles::hold(&rt);
     let status = match words(&rt, rt.alloc()) {
         Ok(words) => run_words(
             &rt,

@@ -22,6 +22,7 @@ use program_io::{DEVICE_FAULT, DONE, LIMIT_REACHED, REFUSED, report_no_memory, w
 use program_version::print_version;
 use rc_driver::{Rc, RunEnd, RunWay, print_links, run_links};
 use std::alloc::Global;
+use std::fs::File;
 use std::io;
 use std::io::Write;
 use std::process::Processes;
@@ -63,7 +64,7 @@ pub fn run_words<R, F, W, E>(
     err: &mut E,
 ) -> u8
 where
-    R: Processes + Files + Clock + Print + Eprint + Clone + Drop,
+    R: Processes + Files<File = File> + Clock + Print + Eprint + Clone + Drop,
     F: Folders,
     W: Write,
     E: Write,
@@ -110,7 +111,7 @@ fn run<R, F: Folders, W: Write, E: Write>(
     err: &mut E,
 ) -> u8
 where
-    R: Processes + Files + Clock + Print + Eprint + Clone + Drop,
+    R: Processes + Files<File = File> + Clock + Print + Eprint + Clone + Drop,
     ensures statuses { IsWhole result ⊎ (result ≡ LIMIT_REACHED) ⊎ (result ≡ DEVICE_FAULT) }
     ensures done { IsWhole result → Reports (F.names_at folders.now) (said_of said.now)
         (W.contents out.old) result (W.contents out.new) }
@@ -157,7 +158,7 @@ fn run_children<R, W: Write, E: Write>(
     err: &mut E,
 ) -> u8
 where
-    R: Processes + Files + Clock + Print + Eprint + Clone + Drop,
+    R: Processes + Files<File = File> + Clock + Print + Eprint + Clone + Drop,
     ensures statuses { IsWhole result ⊎ (result ≡ LIMIT_REACHED) ⊎ (result ≡ DEVICE_FAULT) }
     ensures done { IsWhole result → ReportsNames options path.now
         (map string_bytes previous.now) (map string_bytes names.now) (W.contents out.old) result

@@ -2,11 +2,12 @@
 //! headers allow (LSB Core 5.0).
 #![tactic(auto)]
 
-use program_io::{report_unread_words, words};
+use program_io::{StandardFiles, report_unread_words, words};
 use rclinks_command::{USAGE, run_words};
 use std::process::ExitCode;
 
 fn main(rt: HostRuntime) -> ExitCode {
+    let _standard = StandardFiles::hold(&rt);
     let alloc = rt.alloc();
     let status = match words(&rt, alloc) {
         Ok(words) => {

@@ -2,11 +2,12 @@
 //! re-execution, by one request block at the end of the channel file (telinit(8), initreq.h).
 #![tactic(auto)]
 
-use program_io::{report_unread_words, words};
+use program_io::{StandardFiles, report_unread_words, words};
 use std::process::ExitCode;
 use telinit_command::{USAGE, run_words};
 
 fn main(rt: HostRuntime) -> ExitCode {
+    let _standard = StandardFiles::hold(&rt);
     let status = match words(&rt, rt.alloc()) {
         Ok(words) => run_words(&rt, rt.alloc(), words, &mut rt.stdout(), &mut rt.stderr()),
         Err(error) => report_unread_words("telinit", USAGE, &error, &mut rt.stderr()),

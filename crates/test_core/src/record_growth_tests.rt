@@ -47,13 +47,11 @@ struct Ids {
     second: Id,
 }
 
-/// The children have their numbers, and are found by them; and the first has so many starts in its limit of respawns.
+/// The children have their numbers, and the first has so many starts in its limit of respawns.
 fn are_kept(slots: &Slots<&LocalHeap>, ids: &Ids, starts: usize) -> bool {
     let Ids { first, second } = *ids;
     number_of(slots, &first) == Some(FIRST)
         && number_of(slots, &second) == Some(SECOND)
-        && slots.by_child(FIRST) == Some(first)
-        && slots.by_child(SECOND) == Some(second)
         && matches!(slots.by_id(&first), Some(slot) if slot.starts().len() == starts)
 }
 

@@ -66,8 +66,8 @@ const RUNS: &[(&str, Option<Level>, &str)] = &[
     (
         "id:3:initdefault:\na:3:respawn:x\nb:3:once:y",
         None,
-        "child nobodyatall / enter sysinit 5 / enter boot 5 / enter 3 5 / ask a start / ask b start / birth a 700 / \
-         nudge / ask a look / birth b 700 / child a / reaped a 700 exit 0 / child b / ask a start",
+        "enter sysinit 5 / enter boot 5 / enter 3 5 / ask a start / ask b start / birth a 700 / nudge / \
+         ask a look / birth b 700 / reaped a 700 exit 0 / ask a start",
     ),
     // Each request before the first stage,
     (

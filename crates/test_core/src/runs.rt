@@ -136,7 +136,6 @@ enum Reader {
     Time,
     Entries,
     Records,
-    Child,
     Busy,
     Drained,
 }
@@ -147,7 +146,6 @@ const READERS: &[(&str, Reader)] = &[
     ("time", Reader::Time),
     ("entries", Reader::Entries),
     ("records", Reader::Records),
-    ("child", Reader::Child),
     ("busy", Reader::Busy),
     ("drained", Reader::Drained),
 ];
@@ -169,7 +167,6 @@ fn gives(core: &Core, reader: Reader, first: &str, second: &str) -> bool {
         Reader::Time => number(first) == Some(core.time()),
         Reader::Entries => number(first) == Some(core.table().len() as u64),
         Reader::Records => number(first) == Some(core.slots().len() as u64),
-        Reader::Child => core.slots().by_child(ChildNo(700)) == Id::read(first.as_bytes()),
         Reader::Busy => !core.drained(),
         Reader::Drained => core.drained(),
     }

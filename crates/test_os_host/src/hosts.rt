@@ -29,6 +29,7 @@ pub(crate) fn host_of<A: Allocator + Copy>(
     OsHost::new(
         *rt,
         alloc,
+        "initd",
         paths.inittab,
         paths.channel,
         paths.state,

@@ -39,7 +39,9 @@ fn served_by<L: Log>(
     host: &mut MemoryHost,
     log: &mut L,
 ) -> Option<Served> {
-    let served = supervisor::serve(alloc, core, host, log, 9, true, &mut Unwatched {});
+    let mut watch = Unwatched {};
+    let served = supervisor::serve(alloc, core, host, log, 9, true, &mut watch);
+    let Unwatched {} = watch;
     if host.faults() != 1 || made(host) != 31 {
         return None;
     }

@@ -127,7 +127,9 @@ fn turn_text<A: Allocator + Copy>(
     host: &mut MemoryHost,
 ) -> Option<Vec<u8>> {
     let mut log = ListLog::new(own);
-    supervisor::serve(alloc, core, host, &mut log, 1, false, &mut Unwatched {});
+    let mut watch = Unwatched {};
+    supervisor::serve(alloc, core, host, &mut log, 1, false, &mut watch);
+    let Unwatched {} = watch;
     trace_text::print(own, log.list()).ok()
 }
 

@@ -113,15 +113,12 @@ pub(crate) fn serve_on<A: Allocator + Copy>(
     turns: u64,
     drain: bool,
 ) -> Served {
-    supervisor::serve(
-        bench.own,
-        bench.core,
-        bench.host,
-        bench.log,
-        turns,
-        drain,
-        &mut Unwatched {},
-    )
+    let mut watch = Unwatched {};
+    let served = supervisor::serve(
+        bench.own, bench.core, bench.host, bench.log, turns, drain, &mut watch,
+    );
+    let Unwatched {} = watch;
+    served
 }
 
 fn is_served<A: Allocator + Copy>(bench: &mut Bench<A>, row: &Row) -> bool {

@@ -2,7 +2,7 @@ use Rattle.std.proofs.Common.{◌≡◌, rules, List, ℕ, Option, Some, None, m
 use Rattle.std.proofs.KnownBytes.{Keeps-refl}
 use Rattle.path_texts.specs.Known.{KnownTexts}
 use Rattle.initd_options.specs.CommandLine.{Said, judges, read_of, simulation_of, simulates, runs, version}
-use Rattle.initd_command.specs.Endings.{Ending, busy, done, lawful, no_memory, stopped, too_many, torn, turned, uncreated, unflushed, unlawful, unlocked, unread, untold, unversioned, unwritten, usage}
+use Rattle.initd_command.specs.Endings.{Ending, busy, done, lawful, no_memory, shared, stopped, too_many, torn, turned, uncreated, unflushed, unlawful, unlocked, unread, untold, unversioned, unwritten, usage}
 use Rattle.initd_options.specs.Options.{run_of}
 use Rattle.std.specs.Io.KnownBytes.{Keeps}
 use Rattle.trace_verdict.specs.declared.findings.Finding.{Finding}
@@ -44,7 +44,8 @@ ends_by text_at words said is (lawful left) old new ends = (said, is, ends)
 ends_by text_at words said is (unlawful message left) old new ends = (said, is, ends)
 ends_by text_at words said is (torn line) old new ends = (said, is, ends)
 ends_by text_at words said is unwritten old new ends = (said, is, ends)
-ends_by text_at words said is (busy path) old new ends = (said, is, ends)
+ends_by text_at words said is (busy path holder) old new ends = (said, is, ends)
+ends_by text_at words said is (shared one other) old new ends = (said, is, ends)
 ends_by text_at words said is (unlocked path why) old new ends = (said, is, ends)
 ends_by text_at words said is (turned unled end) old new ends = (said, is, ends)
 ends_by text_at words said is unversioned old new ends = (said, is, ends)

@@ -10,7 +10,7 @@ use Rattle.initd_command.proofs.run.make_turns.Goals as goal
 pub returns-clause-turns : goal.returns-clause-turns
 returns-clause-turns g c =
     let service = run_of c.args.said.now in
-    let noted = noted_of c.end_log-served.new.notes (waiting_text c.serve.result.1) c.judgement_for.result in
+    let noted = noted_of c.end_log-served.new.notes (waiting_text c.serve-core.result.1) c.judgement_for.result in
     let asked : is_some c.judgement_for.result ≡ service.judge =
     subst (λ j. is_some j ≡ service.judge) (sym c.judgement_for.ensures) (judged_for service c.judgement-found.result) in (
       end_of service noted c.end_log-served.result,
@@ -19,7 +19,7 @@ returns-clause-turns g c =
         c.end_log-served.result,
         noted,
         refl,
-        subst (IsServed service) (sym c.end_log-served.ensures.turns) (c.serve.ensures.most, c.serve.ensures.fewer),
+        subst (IsServed service) (sym c.end_log-served.ensures.turns) (c.serve-core.ensures.most, c.serve-core.ensures.fewer),
         asked,
       ),
       c.report_end.ensures.reported,
@@ -28,7 +28,7 @@ returns-clause-turns g c =
 pub returns-clause-told : goal.returns-clause-told
 returns-clause-told g c = λ level table opens.
     let service = run_of c.args.said.now in
-    let judged = c.serve.new.log.log in
+    let judged = c.serve-core.new.log.log in
     let nothing : Some (reverse c.new-judged.result.came) ≡ Some [] = ap (λ (j : JudgedTrace _). Some (reverse j.came)) c.new-judged.ensures in
     let asked : is_some c.judgement_for.result ≡ service.judge =
     subst (λ j. is_some j ≡ service.judge) (sym c.judgement_for.ensures) (judged_for service c.judgement-found.result) in
@@ -36,8 +36,8 @@ returns-clause-told g c = λ level table opens.
     subst (λ j. IfSome j (λ found. Finds found judged.came)) (sym c.judgement_for.ensures)
     (found_for service c.judgement-found.result judged.came
     (subst (λ log. Finds c.judgement-found.result log.came) c.log.ensures c.judgement-found.ensures.found)) in
-    turns_over c.serve.new.log c.end_log-served.new.notes judged.came (g.L.Log.state judged.log).failed c.serve.result.1 c.judgement_for.result
+    turns_over c.serve-core.new.log c.end_log-served.new.notes judged.came (g.L.Log.state judged.log).failed c.serve-core.result.1 c.judgement_for.result
     (notes_state c.new-notes.result (record { taken = Some (reverse c.new-notes.result.log.came); failed = (g.L.Log.state c.new-notes.result.log.log).failed }))
-    service level table c.serve.result.0 c.end_log-served.result _ _ _ _ _ c.end_log-served.ensures.notes c.end_log-served.ensures.turns c.end_log-served.ensures.logged
-    (c.new-notes.ensures.told nothing) c.serve.ensures.logged
-    (c.serve.ensures.most, c.serve.ensures.fewer) asked found c.report_end.ensures.status c.report_end.ensures.reported (c.serve.ensures.trace level table opens)
+    service level table c.serve-core.result.0 c.end_log-served.result _ _ _ _ _ c.end_log-served.ensures.notes c.end_log-served.ensures.turns c.end_log-served.ensures.logged
+    (c.new-notes.ensures.told nothing) c.serve-core.ensures.logged
+    (c.serve-core.ensures.most, c.serve-core.ensures.fewer) asked found c.report_end.ensures.status c.report_end.ensures.reported (c.serve-core.ensures.trace level table opens)

@@ -6,13 +6,13 @@ use Rattle.initd_command.proofs.simulate.simulate_files.Goals as goal
 -- the inittab was not read
 pub returns-in-Err : goal.returns-in-Err
 returns-in-Err g c =
-    let (why, reported) = c.report_unread.ensures.reported in
+    let (why, reported) = c.report_cannot.ensures.reported in
     let path : c.as_str-table.result.now ≡ string_bytes c.args.said.now.table = search rules in
-    (unread c.as_str-table.result.now why, c.report_unread.ensures.status, (inl path, Keeps-refl (g.W.Write.contents c.args.out.now)), reported)
+    (unread c.as_str-table.result.now why, c.report_cannot.ensures.status, (inl path, Keeps-refl (g.W.Write.contents c.args.out.now)), reported)
 
 -- the script was not read
 pub returns : goal.returns
 returns g c =
-    let (why, reported) = c.report_unread-in-Err-read.ensures.reported in
+    let (why, reported) = c.report_cannot-in-Err-read.ensures.reported in
     let path : c.as_str-path.result.now ≡ string_bytes c.args.said.now.script = search rules in
-    (unread c.as_str-path.result.now why, c.report_unread-in-Err-read.ensures.status, (inr path, Keeps-refl (g.W.Write.contents c.args.out.now)), reported)
+    (unread c.as_str-path.result.now why, c.report_cannot-in-Err-read.ensures.status, (inr path, Keeps-refl (g.W.Write.contents c.args.out.now)), reported)

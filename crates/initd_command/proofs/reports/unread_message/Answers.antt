@@ -1,5 +1,0 @@
-use Rattle.std.proofs.lemmas.Result.{IfOk-weaker}
-use Rattle.initd_command.proofs.reports.unread_message.Goals as goal
-
-pub returns : goal.returns
-returns c = IfOk-weaker c.message_with.result _ _ (λ text is. (c.as_str.result.now, is)) c.message_with.ensures
