@@ -4,6 +4,7 @@ use program_version::{KIT, VERSION};
 use rc_command::run_words;
 use std::alloc::Global;
 use std::fs;
+use std::fs::File;
 use std::process::{Abort, Processes};
 use std::rt::{Clock, Files};
 use std::test::Fail;
@@ -65,7 +66,7 @@ const FOLDERS: &[&str] = &["t", "t/rc0.d", "t/rc2.d", "t/rc3.d", "t/rc6.d", "t/r
 
 fn words_are_run<R>(rt: &R, alloc: Global, words: Vec<String>, row: &Row)
 where
-    R: Processes + Files + Clock + Print + Eprint + Alloc + Abort + Clone + Drop,
+    R: Processes + Files<File = File> + Clock + Print + Eprint + Alloc + Abort + Clone + Drop,
 {
     let mut out: Vec<u8> = Vec::new(alloc);
     let mut err: Vec<u8> = Vec::new(alloc);
@@ -79,7 +80,7 @@ where
 
 fn is_run<R>(rt: &R, alloc: Global, row: &Row) -> Result<(), Fail>
 where
-    R: Processes + Files + Clock + Print + Eprint + Alloc + Abort + Clone + Drop,
+    R: Processes + Files<File = File> + Clock + Print + Eprint + Alloc + Abort + Clone + Drop,
 {
     words_are_run(rt, alloc, words_of(alloc, row.0)?, row);
     Ok(())
@@ -155,7 +156,7 @@ const REFUSED: &[(&[&str], &str)] = &[
 
 fn words_are_refused<R>(rt: &R, alloc: Global, words: Vec<String>, report: &str)
 where
-    R: Processes + Files + Clock + Print + Eprint + Alloc + Abort + Clone + Drop,
+    R: Processes + Files<File = File> + Clock + Print + Eprint + Alloc + Abort + Clone + Drop,
 {
     let mut out: Vec<u8> = Vec::new(alloc);
     let mut err: Vec<u8> = Vec::new(alloc);
@@ -166,7 +167,7 @@ where
 /// The words are refused, and this line and the usage are reported.
 fn is_refused<R>(rt: &R, alloc: Global, line: &[&str], why: &str) -> Result<(), Fail>
 where
-    R: Processes + Files + Clock + Print + Eprint + Alloc + Abort + Clone + Drop,
+    R: Processes + Files<File = File> + Clock + Print + Eprint + Alloc + Abort + Clone + Drop,
 {
     let report = format!(in alloc; "{why}{USAGE_REPORT}")?;
     words_are_refused(rt, alloc, words_of(alloc, line)?, report.as_str());
@@ -197,7 +198,7 @@ fn version_is_written<R>(
     row: &(usize, u8, &str),
 )
 where
-    R: Processes + Files + Clock + Print + Eprint + Alloc + Abort + Clone + Drop,
+    R: Processes + Files<File = File> + Clock + Print + Eprint + Alloc + Abort + Clone + Drop,
 {
     let (room, status, report) = *row;
     let mut out = Slow::new(alloc, room, true, false);

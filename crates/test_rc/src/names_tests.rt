@@ -6,6 +6,7 @@ use memory_host::MemoryHost;
 use rc_command::{Folders, KeptFolders, RunOptions, run_names, run_words};
 use rc_driver::RunWay;
 use std::alloc::Global;
+use std::fs::File;
 use std::process::{Abort, Processes};
 use std::rt::{Clock, Files};
 use std::test::Fail;
@@ -132,7 +133,7 @@ fn the_names_of_a_folder_are_those_kept_in_it(rt: HostRuntime) -> Result<(), Fai
 /// No link stands in the folder, so nothing is run.
 fn nothing_is_run<R>(rt: &R, alloc: Global, folders: &KeptFolders) -> Result<(), Fail>
 where
-    R: Processes + Files + Clock + Print + Eprint + Abort + Clone + Drop,
+    R: Processes + Files<File = File> + Clock + Print + Eprint + Abort + Clone + Drop,
 {
     let words = words_of(alloc, &["k", "2", "3"])?;
     let mut out: Vec<u8> = Vec::new(alloc);
