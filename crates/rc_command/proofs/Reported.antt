@@ -210,34 +210,34 @@ are_names names_at said dir path previous names same at before here = (
 folder_is : (said : Said) (dir path : List ℕ) → dir ≡ said.dir → path ≡ folder_of dir said.new → path ≡ folder_of said.dir said.new
 folder_is said dir path same at = at ∙ ap (λ d. folder_of d said.new) same
 
-pub said_reports : (names_at : KnownNames) (said : Said) (dir path : List ℕ) (previous names : List (List ℕ)) (before after : Option (List ℕ)) (status : ℕ)
-    → dir ≡ said.dir → path ≡ folder_of dir said.new → ArePrevious names_at dir said.previous previous → AreNamesAt names_at path names
+pub said_reports : (names_at : KnownNames) (said : Said) (dir path listed : List ℕ) (previous names : List (List ℕ)) (before after : Option (List ℕ)) (status : ℕ)
+    → dir ≡ said.dir → path ≡ folder_of dir said.new → listed ≡ folder_of dir said.new → ArePrevious names_at dir said.previous previous → AreNamesAt names_at listed names
     → ReportsNames said.options path previous names before status after → Reports names_at said before status after
-said_reports names_at said dir path previous names before after status same at first here all = (
+said_reports names_at said dir path listed previous names before after status same at there first here all = (
   previous,
   names,
-  are_names names_at said dir path previous names same at first here,
+  are_names names_at said dir listed previous names same there first here,
   subst (λ p. ReportsNames said.options p previous names before status after) (folder_is said dir path same at) all,
 )
 
-pub said_part : (names_at : KnownNames) (said : Said) (dir path : List ℕ) (previous names : List (List ℕ)) (before after : Option (List ℕ))
-    → dir ≡ said.dir → path ≡ folder_of dir said.new → ArePrevious names_at dir said.previous previous → AreNamesAt names_at path names
+pub said_part : (names_at : KnownNames) (said : Said) (dir path listed : List ℕ) (previous names : List (List ℕ)) (before after : Option (List ℕ))
+    → dir ≡ said.dir → path ≡ folder_of dir said.new → listed ≡ folder_of dir said.new → ArePrevious names_at dir said.previous previous → AreNamesAt names_at listed names
     → ReportsFirst said.options path previous names before after → ReportsPart names_at said before after
-said_part names_at said dir path previous names before after same at first here part = (
+said_part names_at said dir path listed previous names before after same at there first here part = (
   previous,
   names,
-  are_names names_at said dir path previous names same at first here,
+  are_names names_at said dir listed previous names same there first here,
   subst (λ p. ReportsFirst said.options p previous names before after) (folder_is said dir path same at) part,
 )
 
-pub said_runs : (names_at : KnownNames) (said : Said) (dir path : List ℕ) (previous names : List (List ℕ)) (before told after tells : Option (List ℕ)) (status : ℕ)
-    → dir ≡ said.dir → path ≡ folder_of dir said.new → ArePrevious names_at dir said.previous previous → AreNamesAt names_at path names
+pub said_runs : (names_at : KnownNames) (said : Said) (dir path listed : List ℕ) (previous names : List (List ℕ)) (before told after tells : Option (List ℕ)) (status : ℕ)
+    → dir ≡ said.dir → path ≡ folder_of dir said.new → listed ≡ folder_of dir said.new → ArePrevious names_at dir said.previous previous → AreNamesAt names_at listed names
     → (calls : List HostCall) × RunsNames said.options path previous names before told status after tells calls
     → RunsSaid names_at said before told status after tells
-said_runs names_at said dir path previous names before told after tells status same at first here (calls, runs) = (
+said_runs names_at said dir path listed previous names before told after tells status same at there first here (calls, runs) = (
   previous,
   names,
-  are_names names_at said dir path previous names same at first here,
+  are_names names_at said dir listed previous names same there first here,
   calls,
   subst (λ p. RunsNames said.options p previous names before told status after tells calls) (folder_is said dir path same at) runs,
 )

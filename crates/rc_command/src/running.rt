@@ -270,9 +270,9 @@ fn print_all<'n, W: Write, E: Write>(
 /// gives the exit status.
 fn report_end<E: Write>(path: &str, strict: bool, ended: RunEnd, err: &mut E) -> u8
     requires { ended ≢ RunEnd.Waiting }
-    ensures status { result ≡ status_of strict ended }
+    ensures status { result ≡ status_of strict ended.entry }
     ensures report { AppendsPrefix (E.contents err.old) (E.contents err.new)
-        (ended_text path.now ended) }
+        (ended_text path.now ended.entry) }
     ensures silent { IsWhole result → err.new ≡ err.old }
 {
     match ended {

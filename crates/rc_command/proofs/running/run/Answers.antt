@@ -12,7 +12,7 @@ returns-in-Ok-names-clause-done g c = λ whole.
     let all = rw (c.deref.ensures.value, c.deref-in-Ok-names.ensures.value) at found in
     let previous = texts c.in-Ok-previous_names.previous.items in
     let names = texts c.in-Ok-names.names.items in
-    said_reports (g.F.Folders.names_at c.args.folders.now) (said_of c.args.said.now) c.as_str-dir.result.now c.as_str.result.now previous names _ _ _ c.as_str-dir.ensures.value (c.as_str.ensures.value ∙ c.in-Ok.ensures) c.in-Ok-previous_names.ensures c.in-Ok-names.ensures.names all
+    said_reports (g.F.Folders.names_at c.args.folders.now) (said_of c.args.said.now) c.as_str-dir.result.now c.as_str-in-Ok-names.result.now c.as_str.result.now previous names _ _ _ c.as_str-dir.ensures.value (c.as_str-in-Ok-names.ensures.value ∙ c.in-Ok.ensures) (c.as_str.ensures.value ∙ c.in-Ok.ensures) c.in-Ok-previous_names.ensures c.in-Ok-names.ensures.names all
 
 pub returns-in-Ok-names-clause-part : goal.returns-in-Ok-names-clause-part
 returns-in-Ok-names-clause-part g c = elim c.run_children.ensures.part [
@@ -21,7 +21,7 @@ returns-in-Ok-names-clause-part g c = elim c.run_children.ensures.part [
       (let part = rw (c.deref.ensures.value, c.deref-in-Ok-names.ensures.value) at some in
       let previous = texts c.in-Ok-previous_names.previous.items in
       let names = texts c.in-Ok-names.names.items in
-      inr (said_part (g.F.Folders.names_at c.args.folders.now) (said_of c.args.said.now) c.as_str-dir.result.now c.as_str.result.now previous names _ _ c.as_str-dir.ensures.value (c.as_str.ensures.value ∙ c.in-Ok.ensures) c.in-Ok-previous_names.ensures c.in-Ok-names.ensures.names part))
+      inr (said_part (g.F.Folders.names_at c.args.folders.now) (said_of c.args.said.now) c.as_str-dir.result.now c.as_str-in-Ok-names.result.now c.as_str.result.now previous names _ _ c.as_str-dir.ensures.value (c.as_str-in-Ok-names.ensures.value ∙ c.in-Ok.ensures) (c.as_str.ensures.value ∙ c.in-Ok.ensures) c.in-Ok-previous_names.ensures c.in-Ok-names.ensures.names part))
 ]
 
 pub returns-in-Ok-names-clause-ran : goal.returns-in-Ok-names-clause-ran
@@ -33,5 +33,5 @@ returns-in-Ok-names-clause-ran g c = elim c.run_children.ensures.ran [
       let runs = rw (c.deref.ensures.value, c.deref-in-Ok-names.ensures.value) at found in
       let previous = texts c.in-Ok-previous_names.previous.items in
       let names = texts c.in-Ok-names.names.items in
-      said_runs (g.F.Folders.names_at c.args.folders.now) (said_of c.args.said.now) c.as_str-dir.result.now c.as_str.result.now previous names _ _ _ _ _ c.as_str-dir.ensures.value (c.as_str.ensures.value ∙ c.in-Ok.ensures) c.in-Ok-previous_names.ensures c.in-Ok-names.ensures.names runs))
+      said_runs (g.F.Folders.names_at c.args.folders.now) (said_of c.args.said.now) c.as_str-dir.result.now c.as_str-in-Ok-names.result.now c.as_str.result.now previous names _ _ _ _ _ c.as_str-dir.ensures.value (c.as_str-in-Ok-names.ensures.value ∙ c.in-Ok.ensures) (c.as_str.ensures.value ∙ c.in-Ok.ensures) c.in-Ok-previous_names.ensures c.in-Ok-names.ensures.names runs))
 ]

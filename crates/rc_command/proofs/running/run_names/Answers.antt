@@ -13,34 +13,34 @@ print_all-requires g c = ap (λ (r : RcState). r.waits) c.in-Ok.ensures
 pub run_all-requires : goal.run_all-requires
 run_all-requires g c = ap (λ (r : RcState). r.waits) c.in-Ok.ensures
 
-pub returns-then-dry-clause-statuses : goal.returns-then-dry-clause-statuses
-returns-then-dry-clause-statuses g c = dry_known _ c.print_all.ensures.statuses
+pub returns-then-options-clause-statuses : goal.returns-then-options-clause-statuses
+returns-then-options-clause-statuses g c = dry_known _ c.print_all.ensures.statuses
 
-pub returns-then-dry-clause-done : goal.returns-then-dry-clause-done
-returns-then-dry-clause-done g c =
+pub returns-then-options-clause-done : goal.returns-then-options-clause-done
+returns-then-options-clause-done g c =
     let dry : c.args.options.dry ≡ true = search rules in
     dry_reports c.args.options c.args.path.now (texts c.args.previous.now) (texts c.args.names.now) _ _ _ _ c.in-Ok.ensures dry c.print_all.ensures.statuses c.print_all.ensures.done
 
-pub returns-then-dry-clause-part : goal.returns-then-dry-clause-part
-returns-then-dry-clause-part g c =
+pub returns-then-options-clause-part : goal.returns-then-options-clause-part
+returns-then-options-clause-part g c =
     let dry : c.args.options.dry ≡ true = search rules in
     inr (dry_part c.args.options c.args.path.now (texts c.args.previous.now) (texts c.args.names.now) _ _ _ c.in-Ok.ensures dry c.print_all.ensures.part)
 
-pub returns-then-dry-clause-ran : goal.returns-then-dry-clause-ran
-returns-then-dry-clause-ran g c =
+pub returns-then-options-clause-ran : goal.returns-then-options-clause-ran
+returns-then-options-clause-ran g c =
     let dry : c.args.options.dry ≡ true = search rules in
     inr (λ wet. absurd (true≢false (sym dry ∙ wet)))
 
-pub returns-else-dry-clause-done : goal.returns-else-dry-clause-done
-returns-else-dry-clause-done g c =
+pub returns-clause-done : goal.returns-clause-done
+returns-clause-done g c =
     let wet : c.args.options.dry ≡ false = search rules in
     run_reports c.args.options c.args.path.now (texts c.args.previous.now) (texts c.args.names.now) _ _ _ _ _ _ _ _ c.in-Ok.ensures wet c.run_all.ensures.ran
 
-pub returns-else-dry-clause-part : goal.returns-else-dry-clause-part
-returns-else-dry-clause-part g c =
+pub returns-clause-part : goal.returns-clause-part
+returns-clause-part g c =
     let wet : c.args.options.dry ≡ false = search rules in
     inr (run_part c.args.options c.args.path.now (texts c.args.previous.now) (texts c.args.names.now) _ _ _ _ _ _ _ _ c.in-Ok.ensures wet c.run_all.ensures.ran)
 
-pub returns-else-dry-clause-ran : goal.returns-else-dry-clause-ran
-returns-else-dry-clause-ran g c =
+pub returns-clause-ran : goal.returns-clause-ran
+returns-clause-ran g c =
     inr (λ wet. run_names c.args.options c.args.path.now (texts c.args.previous.now) (texts c.args.names.now) _ _ _ _ _ _ _ _ c.in-Ok.ensures c.run_all.ensures.ran)
