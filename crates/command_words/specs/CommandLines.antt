@@ -26,6 +26,10 @@ short_rule name character value = record (new_rule name) { short = Some characte
 unfoldable pub switch_rule : Text → Rule
 switch_rule name = record (new_rule name) { long = Some name; action = Some SetTrue }
 
+-- `-C`, without a value
+unfoldable pub letter_rule : Text → ℕ → Rule
+letter_rule name character = record (new_rule name) { short = Some character; action = Some SetTrue }
+
 -- the words have no program's name in front
 unfoldable pub program_app : Text → App
 program_app name =

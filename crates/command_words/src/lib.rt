@@ -4,7 +4,7 @@
 
 ghost use Rattle.std.specs.Prelude.{◌≡◌, [], unwrap_or, map, string_bytes, IfOk};
 ghost use Rattle.clap.specs.Words.{first_of, found_of, rows_of};
-ghost use Rattle.command_words.specs.CommandLines.{Adds, IsLine, asks_version, default_rule, program_app, short_rule, switch_rule, value_rule, word_rule};
+ghost use Rattle.command_words.specs.CommandLines.{Adds, IsLine, asks_version, default_rule, letter_rule, program_app, short_rule, switch_rule, value_rule, word_rule};
 
 mod faults;
 
@@ -98,5 +98,20 @@ pub fn with_switch<'a>(
     ensures { IfOk result (Adds line.entry (switch_rule name.entry.now)) }
 {
     let switch = Arg::new(alloc, name).long(name).action(ArgAction::SetTrue);
+    line.arg(switch)
+}
+
+/// A command line with `-C`, without a value, under this name.
+pub fn with_letter<'a>(
+    alloc: Global,
+    line: Command<'a>,
+    name: &'a str,
+    character: char,
+) -> Result<Command<'a>, AllocError>
+    ensures { IfOk result (Adds line.entry (letter_rule name.entry.now character)) }
+{
+    let switch = Arg::new(alloc, name)
+        .short(character)
+        .action(ArgAction::SetTrue);
     line.arg(switch)
 }

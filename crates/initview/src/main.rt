@@ -2,10 +2,11 @@
 #![tactic(auto)]
 
 use initview_command::{USAGE, run_words};
-use program_io::{report_unread_words, words};
+use program_io::{StandardFiles, report_unread_words, words};
 use std::process::ExitCode;
 
 fn main(rt: HostRuntime) -> ExitCode {
+    let _standard = StandardFiles::hold(&rt);
     let alloc = rt.alloc();
     let status = match words(&rt, alloc) {
         Ok(words) => {

@@ -1,63 +1,202 @@
 -- A run of all scripts reports them, and no answer to one is missing before it.
-use Rattle.std.proofs.Common.{◌≡◌, ◌≢◌, ◌∙◌, inl, inr, refl, sym, arith, ℕ, ◌-◌, List, [], ◌∷◌, length, Option, ap, false, subst}
+use Rattle.std.proofs.Common.{◌≡◌, ◌≢◌, ◌⊎◌, ◌∙◌, inl, inr, refl, sym, arith, ℕ, ◌-◌, Bool, true, false, cond, ◌||◌, List, [], ◌∷◌, length, Option, ap, subst}
+use Rattle.std.specs.List.{list_any}
 use Rattle.std.specs.Io.KnownBytes.{Appends}
+use Rattle.std.proofs.lemmas.Bool.{true≢false}
 use Rattle.program_io.specs.Writing.{AppendsPrefix}
-use Rattle.program_io.specs.declared.statuses.TheConstants.{DONE}
+use Rattle.program_io.specs.declared.statuses.TheConstants.{DEVICE_FAULT, DONE, LIMIT_REACHED}
 use Rattle.child_host.specs.Calls.{HostCall}
 use Rattle.child_host.specs.Record.{Since}
 use Rattle.child_host.proofs.Record.{Since-map}
 use Rattle.rc_command.specs.CommandLine.{Said}
-use Rattle.rc_command.specs.Endings.{AreNames, ReportsNames, RunsNames, ended_text, rc_of, status_of}
+use Rattle.rc_command.specs.declared.command.RunOptions.{RunOptions}
+use Rattle.rc_command.specs.Endings.{AreNames, IsEnded, IsWhole, Reports, ReportsFirst, ReportsNames, ReportsPart, RunsNames, RunsSaid, RunsScripts, ended_text, rc_of, status_of, written}
 use Rattle.rc_command.specs.Folders.{AreNamesAt, ArePrevious, KnownNames, folder_of}
-use Rattle.rc_command.specs.declared.running.TheConstants.{PAUSES_LIMIT}
+use Rattle.rc_command.specs.declared.running.TheConstants.{PAUSES_LIMIT, SCRIPT_FAILED}
 use Rattle.rc_driver.specs.declared.driving.RunEnd.{RunEnd}
 use Rattle.rc_driver.specs.declared.driving.RunEnd.TheVariants as run_end
 use Rattle.rc_driver.specs.declared.runs.RcAnswer.{RcAnswer}
+use Rattle.rc_driver.specs.declared.runs.RunWay.{RunWay}
+use Rattle.rc_driver.specs.Printing.{PrintsLinks, command_lines}
 use Rattle.rc_driver.specs.Progress.{count_pauses}
-use Rattle.rc_driver.specs.Report.{report}
-use Rattle.rc_driver.specs.Runs.{LinkRun, RcState, rc_run}
+use Rattle.rc_driver.specs.Report.{done_end, is_over, report}
+use Rattle.rc_driver.specs.Runs.{LinkRun, RcState, is_failure, rc_run}
 use Rattle.rc_driver.specs.Told.{EndsAt, RunsFrom, RunsLinks}
-
-pub reported : (previous names : List (List ℕ)) (rc new : RcState) (answers : List RcAnswer) (before after : Option (List ℕ))
-    → rc ≡ rc_of previous names
-    → (length answers ≡ length rc.left) × Appends before after (report rc.left answers) × (new.left ≡ []) × (new.waits ≡ false)
-    → ReportsNames previous names before after
-reported previous names rc new answers before after is whole =
-    let left : rc.left ≡ rc_run previous names = ap (λ (r : RcState). r.left) is in (
-      answers,
-      whole.0 ∙ ap length left,
-      subst (λ scripts. Appends before after (report scripts answers)) left whole.1,
-    )
-
-runs_on : (dir : List ℕ) (pauses : ℕ) (scripts : List LinkRun) (before : Option (List ℕ)) (ended : RunEnd) (left : List LinkRun) (after : Option (List ℕ)) (calls : List HostCall)
-    → RunsFrom dir pauses scripts before ended left after calls → ended ≢ run_end.Waiting
-runs_on dir pauses [] before ended left after calls (is, none, same, no_calls) = λ waiting. let both : run_end.Done ≡ run_end.Waiting = sym is ∙ waiting in cc
-runs_on dir pauses (s ∷ scripts) before ended left after calls (inl (at, behind)) =
-    λ waiting. subst (λ e. EndsAt dir pauses s before e after calls) waiting at
-runs_on dir pauses (s ∷ scripts) before ended left after calls (inr (given, first, later, between, is, ran, line, rest)) =
-    runs_on dir (pauses - count_pauses first) scripts between ended left after later rest
+use Rattle.rc_driver.proofs.RunLemmas.{AppendsPrefix-none, writes_ends}
 
 -- a run that none was handed out before
-pub not_waiting : (previous names : List (List ℕ)) (old now : Option (List HostCall)) (dir : List ℕ) (pauses : ℕ) (rc new : RcState) (before after : Option (List ℕ)) (ended : RunEnd)
-    → rc ≡ rc_of previous names → Since old now (RunsLinks dir pauses rc before ended new after) → ended ≢ run_end.Waiting
-not_waiting previous names old now dir pauses rc new before after ended is (calls, told, runs) =
-    runs_on dir pauses rc.left before ended new.left after calls (runs.runs (ap (λ (r : RcState). r.waits) is))
+done_is_not_waiting : (failed : Bool) → done_end failed ≢ run_end.Waiting
+done_is_not_waiting true = λ is. cc
+done_is_not_waiting false = λ is. cc
 
-pub runs_names : (previous names : List (List ℕ)) (old now : Option (List HostCall)) (dir : List ℕ) (rc new : RcState) (before after told tells : Option (List ℕ)) (ended : RunEnd) (status : ℕ)
-    → rc ≡ rc_of previous names → status ≡ status_of ended → AppendsPrefix told tells (ended_text dir ended)
-    → Since old now (RunsLinks dir PAUSES_LIMIT rc before ended new after)
-    → Since old now (RunsNames dir previous names before told status after tells)
-runs_names previous names old now dir rc new before after told tells ended status is of reports since =
-    Since-map old now (RunsLinks dir PAUSES_LIMIT rc before ended new after) (RunsNames dir previous names before told status after tells) since
-    (λ calls runs. (ended, new, subst (λ r. RunsLinks dir PAUSES_LIMIT r before ended new after calls) is runs, of, reports))
+runs_on : (way : RunWay) (dir : List ℕ) (pauses : ℕ) (failed : Bool) (scripts : List LinkRun) (before : Option (List ℕ)) (ended : RunEnd) (left : List LinkRun) (after : Option (List ℕ)) (calls : List HostCall)
+    → RunsFrom way dir pauses failed scripts before ended left after calls → ended ≢ run_end.Waiting
+runs_on way dir pauses failed [] before ended left after calls (is, none, same, no_calls) =
+    λ waiting. done_is_not_waiting failed (sym is ∙ waiting)
+runs_on way dir pauses failed (s ∷ scripts) before ended left after calls (inl (at, behind)) =
+    λ waiting. subst (λ e. EndsAt way dir pauses s before e after calls) waiting at
+runs_on way dir pauses failed (s ∷ scripts) before ended left after calls (inr (given, first, later, between, is, ran, line, rest)) =
+    runs_on way dir (pauses - count_pauses first) (failed || is_failure given) scripts between ended left after later rest
 
--- only a run that is done has that status
-pub done_by : (ended : RunEnd) → status_of ended ≡ DONE → ended ≡ run_end.Done
-done_by run_end.Done is = refl
-done_by (run_end.Limit link) is = absurd (omega (arith, is))
-done_by run_end.Waiting is = absurd (omega (arith, is))
-done_by run_end.Write is = absurd (omega (arith, is))
-done_by run_end.Memory is = absurd (omega (arith, is))
+pub not_waiting : (old now : Option (List HostCall)) (way : RunWay) (dir : List ℕ) (pauses : ℕ) (failed : Bool) (rc new : RcState) (before after : Option (List ℕ)) (ended : RunEnd)
+    → rc.waits ≡ false → Since old now (RunsLinks way dir pauses failed rc before ended new after) → ended ≢ run_end.Waiting
+not_waiting old now way dir pauses failed rc new before after ended ready (calls, told, runs) =
+    runs_on way dir pauses failed rc.left before ended new.left after calls (runs.runs ready)
+
+-- a run, with what is reported of it
+pub runs_scripts : (options : RunOptions) (old now : Option (List HostCall)) (dir : List ℕ) (rc new : RcState) (before after told tells : Option (List ℕ)) (ended : RunEnd) (status : ℕ)
+    → status ≡ status_of options.strict ended → AppendsPrefix told tells (ended_text dir ended)
+    → Since old now (RunsLinks options.way dir PAUSES_LIMIT false rc before ended new after)
+    → Since old now (RunsScripts options dir rc before told status after tells)
+runs_scripts options old now dir rc new before after told tells ended status of reports since =
+    Since-map old now (RunsLinks options.way dir PAUSES_LIMIT false rc before ended new after) (RunsScripts options dir rc before told status after tells) since
+    (λ calls runs. (ended, new, runs, of, reports))
+
+-- the statuses
+limit_is_not_whole : IsWhole LIMIT_REACHED → ⊥
+limit_is_not_whole (inl is) = omega (arith, is)
+limit_is_not_whole (inr is) = omega (arith, is)
+
+fault_is_not_whole : IsWhole DEVICE_FAULT → ⊥
+fault_is_not_whole (inl is) = omega (arith, is)
+fault_is_not_whole (inr is) = omega (arith, is)
+
+pub not_whole_limit : (status : ℕ) → status ≡ LIMIT_REACHED → IsWhole status → ⊥
+not_whole_limit status is whole = limit_is_not_whole (subst IsWhole is whole)
+
+pub not_whole_fault : (status : ℕ) → status ≡ DEVICE_FAULT → IsWhole status → ⊥
+not_whole_fault status is whole = fault_is_not_whole (subst IsWhole is whole)
+
+abbrev IsKnown : ℕ → Type 0
+IsKnown status = IsWhole status ⊎ (status ≡ LIMIT_REACHED) ⊎ (status ≡ DEVICE_FAULT)
+
+known : (strict : Bool) (ended : RunEnd) → IsKnown (status_of strict ended)
+known strict run_end.Done = inl (inl refl)
+known true run_end.Failed = inl (inr refl)
+known false run_end.Failed = inl (inl refl)
+known strict (run_end.Limit link) = inr (inl refl)
+known strict run_end.Waiting = inr (inr refl)
+known strict run_end.Write = inr (inr refl)
+known strict run_end.Memory = inr (inr refl)
+
+pub known_by : (strict : Bool) (ended : RunEnd) (status : ℕ) → status ≡ status_of strict ended → IsKnown status
+known_by strict ended status of = subst IsKnown (sym of) (known strict ended)
+
+-- only a run that is over has such a status
+over : (strict : Bool) (ended : RunEnd) → IsWhole (status_of strict ended) → is_over ended ≡ true
+over strict run_end.Done whole = refl
+over strict run_end.Failed whole = refl
+over strict (run_end.Limit link) whole = absurd (limit_is_not_whole whole)
+over strict run_end.Waiting whole = absurd (fault_is_not_whole whole)
+over strict run_end.Write whole = absurd (fault_is_not_whole whole)
+over strict run_end.Memory whole = absurd (fault_is_not_whole whole)
+
+if_true : {A : Type 0} (b : Bool) (x y : A) → b ≡ true → cond b x y ≡ x
+if_true true x y is = refl
+if_true false x y is = absurd (true≢false (sym is))
+
+if_false : {A : Type 0} (b : Bool) (x y : A) → b ≡ false → cond b x y ≡ y
+if_false true x y is = absurd (true≢false is)
+if_false false x y is = refl
+
+-- what is written of scripts that were run
+run_text : (options : RunOptions) (path : List ℕ) (previous names : List (List ℕ)) (rc : RcState) (answers : List RcAnswer) → rc ≡ rc_of previous names
+    → options.dry ≡ false → report options.way rc.left answers ≡ written options path previous names answers
+run_text options path previous names rc answers is wet =
+    ap (λ (r : RcState). report options.way r.left answers) is
+    ∙ sym (if_false options.dry (command_lines options.way path (rc_run previous names)) (report options.way (rc_run previous names) answers) wet)
+
+-- what is written where they are printed
+dry_text : (options : RunOptions) (path : List ℕ) (previous names : List (List ℕ)) (rc : RcState) (answers : List RcAnswer) → rc ≡ rc_of previous names
+    → options.dry ≡ true → command_lines options.way path rc.left ≡ written options path previous names answers
+dry_text options path previous names rc answers is dry =
+    ap (λ (r : RcState). command_lines options.way path r.left) is
+    ∙ sym (if_true options.dry (command_lines options.way path (rc_run previous names)) (report options.way (rc_run previous names) answers) dry)
+
+-- a run of the scripts of two folders' names
+pub run_reports : (options : RunOptions) (path : List ℕ) (previous names : List (List ℕ)) (old now : Option (List HostCall)) (rc : RcState) (before after told tells : Option (List ℕ)) (status : ℕ)
+    → rc ≡ rc_of previous names → options.dry ≡ false → Since old now (RunsScripts options path rc before told status after tells)
+    → IsWhole status → ReportsNames options path previous names before status after
+run_reports options path previous names old now rc before after told tells status is wet (calls, at, (ended, new, runs, of, reports)) whole =
+    let went = writes_ends old now options.way path PAUSES_LIMIT rc new before after ended (calls, at, runs) in
+    let all = went.whole (over options.strict ended (subst IsWhole of whole)) in (
+      went.answers,
+      (
+        (λ dry. absurd (true≢false (sym dry ∙ wet))),
+        (λ _. (all.1 ∙ ap (λ (r : RcState). length r.left) is, of ∙ ap (status_of options.strict) all.0)),
+      ),
+      subst (Appends before after) (run_text options path previous names rc went.answers is wet) all.2,
+    )
+
+pub run_part : (options : RunOptions) (path : List ℕ) (previous names : List (List ℕ)) (old now : Option (List HostCall)) (rc : RcState) (before after told tells : Option (List ℕ)) (status : ℕ)
+    → rc ≡ rc_of previous names → options.dry ≡ false → Since old now (RunsScripts options path rc before told status after tells)
+    → ReportsFirst options path previous names before after
+run_part options path previous names old now rc before after told tells status is wet (calls, at, (ended, new, runs, of, reports)) =
+    let went = writes_ends old now options.way path PAUSES_LIMIT rc new before after ended (calls, at, runs) in
+    (went.answers, subst (AppendsPrefix before after) (run_text options path previous names rc went.answers is wet) went.part)
+
+pub run_names : (options : RunOptions) (path : List ℕ) (previous names : List (List ℕ)) (old now : Option (List HostCall)) (rc : RcState) (before after told tells : Option (List ℕ)) (status : ℕ)
+    → rc ≡ rc_of previous names → Since old now (RunsScripts options path rc before told status after tells)
+    → Since old now (RunsNames options path previous names before told status after tells)
+run_names options path previous names old now rc before after told tells status is since =
+    subst (λ r. Since old now (RunsScripts options path r before told status after tells)) is since
+
+-- a print of them
+pub dry_reports : (options : RunOptions) (path : List ℕ) (previous names : List (List ℕ)) (rc : RcState) (before after : Option (List ℕ)) (status : ℕ) → rc ≡ rc_of previous names
+    → options.dry ≡ true → (status ≡ DONE) ⊎ (status ≡ DEVICE_FAULT)
+    → (status ≡ DONE → Appends before after (command_lines options.way path rc.left))
+    → IsWhole status → ReportsNames options path previous names before status after
+dry_reports options path previous names rc before after status is dry (inl done) text whole = (
+  [],
+  ((λ _. done), (λ wet. absurd (true≢false (sym dry ∙ wet)))),
+  subst (Appends before after) (dry_text options path previous names rc [] is dry) (text done),
+)
+dry_reports options path previous names rc before after status is dry (inr fault) text whole = absurd (not_whole_fault status fault whole)
+
+pub dry_part : (options : RunOptions) (path : List ℕ) (previous names : List (List ℕ)) (rc : RcState) (before after : Option (List ℕ)) → rc ≡ rc_of previous names
+    → options.dry ≡ true → AppendsPrefix before after (command_lines options.way path rc.left)
+    → ReportsFirst options path previous names before after
+dry_part options path previous names rc before after is dry part =
+    ([], subst (AppendsPrefix before after) (dry_text options path previous names rc [] is dry) part)
+
+pub dry_known : (status : ℕ) → (status ≡ DONE) ⊎ (status ≡ DEVICE_FAULT) → IsKnown status
+dry_known status (inl done) = inl (inl done)
+dry_known status (inr fault) = inr (inr fault)
+
+-- how a print ends
+print_ends : (way : RunWay) (path : List ℕ) (rc new : RcState) (before after : Option (List ℕ)) (ended : RunEnd) → rc.waits ≡ false
+    → PrintsLinks way path rc before ended new after
+    → (ended ≡ run_end.Done) ⊎ (ended ≡ run_end.Write) ⊎ (ended ≡ run_end.Memory)
+print_ends way path rc new before after ended ready prints = prints.ends ready
+
+pub print_not_waiting : (way : RunWay) (path : List ℕ) (rc new : RcState) (before after : Option (List ℕ)) (ended : RunEnd) → rc.waits ≡ false
+    → PrintsLinks way path rc before ended new after → ended ≢ run_end.Waiting
+print_not_waiting way path rc new before after ended ready prints = by (print_ends way path rc new before after ended ready prints)
+  where
+    by : (ended ≡ run_end.Done) ⊎ (ended ≡ run_end.Write) ⊎ (ended ≡ run_end.Memory) → ended ≢ run_end.Waiting
+    by (inl is) = λ waiting. let both : run_end.Done ≡ run_end.Waiting = sym is ∙ waiting in cc
+    by (inr (inl is)) = λ waiting. let both : run_end.Write ≡ run_end.Waiting = sym is ∙ waiting in cc
+    by (inr (inr is)) = λ waiting. let both : run_end.Memory ≡ run_end.Waiting = sym is ∙ waiting in cc
+
+pub print_known : (way : RunWay) (path : List ℕ) (rc new : RcState) (before after : Option (List ℕ)) (ended : RunEnd) (status : ℕ) → rc.waits ≡ false
+    → status ≡ status_of false ended → PrintsLinks way path rc before ended new after → (status ≡ DONE) ⊎ (status ≡ DEVICE_FAULT)
+print_known way path rc new before after ended status ready of prints = by (print_ends way path rc new before after ended ready prints)
+  where
+    by : (ended ≡ run_end.Done) ⊎ (ended ≡ run_end.Write) ⊎ (ended ≡ run_end.Memory) → (status ≡ DONE) ⊎ (status ≡ DEVICE_FAULT)
+    by (inl is) = inl (of ∙ ap (status_of false) is)
+    by (inr (inl is)) = inr (of ∙ ap (status_of false) is)
+    by (inr (inr is)) = inr (of ∙ ap (status_of false) is)
+
+pub print_done : (way : RunWay) (path : List ℕ) (rc new : RcState) (before after : Option (List ℕ)) (ended : RunEnd) (status : ℕ) → rc.waits ≡ false
+    → status ≡ status_of false ended → PrintsLinks way path rc before ended new after → status ≡ DONE
+    → Appends before after (command_lines way path rc.left)
+print_done way path rc new before after ended status ready of prints done =
+    by (print_ends way path rc new before after ended ready prints)
+  where
+    by : (ended ≡ run_end.Done) ⊎ (ended ≡ run_end.Write) ⊎ (ended ≡ run_end.Memory) → Appends before after (command_lines way path rc.left)
+    by (inl is) = let whole = prints.whole is in whole.0
+    by (inr (inl is)) = absurd (not_whole_fault status (of ∙ ap (status_of false) is) (inl done))
+    by (inr (inr is)) = absurd (not_whole_fault status (of ∙ ap (status_of false) is) (inl done))
 
 -- names that were listed are those of the folders that a command line names
 pub are_names : (names_at : KnownNames) (said : Said) (dir path : List ℕ) (previous names : List (List ℕ)) → dir ≡ said.dir → path ≡ folder_of dir said.new
@@ -65,4 +204,40 @@ pub are_names : (names_at : KnownNames) (said : Said) (dir path : List ℕ) (pre
 are_names names_at said dir path previous names same at before here = (
   subst (λ d. ArePrevious names_at d said.previous previous) same before,
   subst (λ p. AreNamesAt names_at p names) (at ∙ ap (λ d. folder_of d said.new) same) here,
+)
+
+-- a run of the folders that a command line names
+folder_is : (said : Said) (dir path : List ℕ) → dir ≡ said.dir → path ≡ folder_of dir said.new → path ≡ folder_of said.dir said.new
+folder_is said dir path same at = at ∙ ap (λ d. folder_of d said.new) same
+
+pub said_reports : (names_at : KnownNames) (said : Said) (dir path listed : List ℕ) (previous names : List (List ℕ)) (before after : Option (List ℕ)) (status : ℕ)
+    → dir ≡ said.dir → path ≡ folder_of dir said.new → listed ≡ folder_of dir said.new → ArePrevious names_at dir said.previous previous → AreNamesAt names_at listed names
+    → ReportsNames said.options path previous names before status after → Reports names_at said before status after
+said_reports names_at said dir path listed previous names before after status same at there first here all = (
+  previous,
+  names,
+  are_names names_at said dir listed previous names same there first here,
+  subst (λ p. ReportsNames said.options p previous names before status after) (folder_is said dir path same at) all,
+)
+
+pub said_part : (names_at : KnownNames) (said : Said) (dir path listed : List ℕ) (previous names : List (List ℕ)) (before after : Option (List ℕ))
+    → dir ≡ said.dir → path ≡ folder_of dir said.new → listed ≡ folder_of dir said.new → ArePrevious names_at dir said.previous previous → AreNamesAt names_at listed names
+    → ReportsFirst said.options path previous names before after → ReportsPart names_at said before after
+said_part names_at said dir path listed previous names before after same at there first here part = (
+  previous,
+  names,
+  are_names names_at said dir listed previous names same there first here,
+  subst (λ p. ReportsFirst said.options p previous names before after) (folder_is said dir path same at) part,
+)
+
+pub said_runs : (names_at : KnownNames) (said : Said) (dir path listed : List ℕ) (previous names : List (List ℕ)) (before told after tells : Option (List ℕ)) (status : ℕ)
+    → dir ≡ said.dir → path ≡ folder_of dir said.new → listed ≡ folder_of dir said.new → ArePrevious names_at dir said.previous previous → AreNamesAt names_at listed names
+    → (calls : List HostCall) × RunsNames said.options path previous names before told status after tells calls
+    → RunsSaid names_at said before told status after tells
+said_runs names_at said dir path listed previous names before told after tells status same at there first here (calls, runs) = (
+  previous,
+  names,
+  are_names names_at said dir listed previous names same there first here,
+  calls,
+  subst (λ p. RunsNames said.options p previous names before told status after tells calls) (folder_is said dir path same at) runs,
 )

@@ -1,28 +1,42 @@
--- The command line `rc DIR PREV NEW`. What it takes is said by clap's own words; they are opaque, since a goal that
+-- The command line `rc [-n] [-v] [--strict] [--direct] DIR PREV NEW`. What it takes is said by clap's own words; they are opaque, since a goal that
 -- sees them sees the whole parser.
 use Rattle.std.specs.Prelude.{Bool, if◌then◌else◌, List, [], ◌∷◌, codes, Option, Some, None, unwrap_or, option_and_then, option_map, length, ◌==◌, ◌||◌, string_bytes}
 use Rattle.std.specs.List.{list_all}
 use Rattle.std.specs.Str.{byte, bytes_eq}
 use Rattle.clap.specs.Words.{App, Row, Text, fault_of, first_of, matches_of}
-use Rattle.command_words.specs.CommandLines.{program_app, with_rules, word_rule}
+use Rattle.command_words.specs.CommandLines.{letter_rule, program_app, switch_rule, with_rules, word_rule}
 use Rattle.init_words.specs.declared.levels.Level.{Level}
 use Rattle.init_words.specs.Levels.{level_read}
 use Rattle.program_io.specs.Arguments.{only_byte}
+use Rattle.rc_command.specs.declared.command.RunOptions.{RunOptions}
 use Rattle.rc_command.specs.declared.command.Words.{Words}
 use Rattle.rc_links.specs.Names.{is_name_byte}
 
 unfoldable pub command_line : App
 command_line = with_rules (program_app (codes "rc")) (
-    word_rule (codes "dir") ∷ word_rule (codes "previous") ∷ word_rule (codes "new") ∷ [])
+    letter_rule (codes "dry") 110
+    ∷ letter_rule (codes "verbose") 118
+    ∷ switch_rule (codes "strict")
+    ∷ switch_rule (codes "direct")
+    ∷ word_rule (codes "dir")
+    ∷ word_rule (codes "previous")
+    ∷ word_rule (codes "new")
+    ∷ [])
 
--- the folder that holds those of the runlevels, the level before, if there was one, and the new level
+-- the folder that holds those of the runlevels, the level before, if there was one, the new level, and the options
 pub record Said : Type 0 where
   pub dir : Text
   pub previous : Option Level
   pub new : Level
+  pub options : RunOptions
 
 abbrev pub said_of : Words → Said
-said_of words = record { dir = string_bytes words.dir; previous = words.previous; new = words.new }
+said_of words = record {
+  dir = string_bytes words.dir;
+  previous = words.previous;
+  new = words.new;
+  options = words.options;
+}
 
 -- a folder's path has only bytes of a service's name and '/'
 abbrev pub is_dir : Text → Bool
@@ -40,17 +54,29 @@ previous_of word = if bytes_eq word (codes "N") then Some None else option_map S
 abbrev pub value_in : Text → List Row → Text
 value_in id rows = unwrap_or (first_of id rows) []
 
--- what three words say
-abbrev pub said_by : Text → Text → Text → Option Said
-said_by dir before after =
+-- the option without a value is given
+abbrev pub is_set : Text → List Row → Bool
+is_set id rows = bytes_eq (value_in id rows) (codes "true")
+
+abbrev pub options_said : List Row → RunOptions
+options_said rows = record {
+  dry = is_set (codes "dry") rows;
+  strict = is_set (codes "strict") rows;
+  way = record { direct = is_set (codes "direct") rows; verbose = is_set (codes "verbose") rows };
+}
+
+-- what three words and the options say
+abbrev pub said_by : Text → Text → Text → RunOptions → Option Said
+said_by dir before after options =
     if is_dir dir then
     option_and_then
-    (λ previous. option_map (λ new. record { dir = dir; previous = previous; new = new }) (level_of after))
+    (λ previous. option_map (λ new. record { dir = dir; previous = previous; new = new; options = options }) (level_of after))
     (previous_of before)
     else None
 
 abbrev pub rows_said : List Row → Option Said
-rows_said rows = said_by (value_in (codes "dir") rows) (value_in (codes "previous") rows) (value_in (codes "new") rows)
+rows_said rows =
+    said_by (value_in (codes "dir") rows) (value_in (codes "previous") rows) (value_in (codes "new") rows) (options_said rows)
 
 -- what words say; where the command line has a fault in them, nothing
 abbrev pub read_of : List Text → Option Said

@@ -1,5 +1,6 @@
 -- How a run of `rc` ends, and what is written of it.
-use Rattle.std.specs.Prelude.{◌≡◌, ℕ, false, List, [], ◌++◌, codes, length, Option, Some}
+use Rattle.std.specs.Prelude.{◌≡◌, ◌⊎◌, ℕ, Bool, true, false, if◌then◌else◌, List, [], ◌++◌, codes, length, Option, Some}
+use Rattle.std.specs.List.{list_any}
 use Rattle.std.specs.Io.KnownBytes.{Appends}
 use Rattle.program_io.specs.Writing.{AppendsPrefix}
 use Rattle.program_io.specs.declared.statuses.TheConstants.{DEVICE_FAULT, DONE, LIMIT_REACHED}
@@ -7,18 +8,25 @@ use Rattle.child_host.specs.Calls.{HostCall}
 use Rattle.rc_driver.specs.declared.driving.RunEnd.{RunEnd}
 use Rattle.rc_driver.specs.declared.driving.RunEnd.TheVariants as run_end
 use Rattle.rc_driver.specs.declared.runs.RcAnswer.{RcAnswer}
-use Rattle.rc_driver.specs.Report.{report}
-use Rattle.rc_driver.specs.Runs.{RcState, rc_run}
+use Rattle.rc_driver.specs.Printing.{command_lines}
+use Rattle.rc_driver.specs.Report.{done_end, report}
+use Rattle.rc_driver.specs.Runs.{LinkRun, RcState, is_failure, rc_run}
 use Rattle.rc_driver.specs.Told.{RunsLinks}
 use Rattle.rc_command.specs.CommandLine.{Said, read_of}
-use Rattle.rc_command.specs.declared.running.TheConstants.{PAUSES_LIMIT}
+use Rattle.rc_command.specs.declared.command.RunOptions.{RunOptions}
+use Rattle.rc_command.specs.declared.running.TheConstants.{PAUSES_LIMIT, SCRIPT_FAILED}
 use Rattle.rc_command.specs.Folders.{AreNamesAt, ArePrevious, KnownNames, folder_of}
 
--- the exit status of a run that ended so
-abbrev pub status_of : RunEnd → ℕ
-status_of run_end.Done = DONE
-status_of (run_end.Limit link) = LIMIT_REACHED
-status_of _ = DEVICE_FAULT
+-- the exit status of a run that ended so; a script that failed has its own, where that is asked for
+abbrev pub status_of : Bool → RunEnd → ℕ
+status_of strict run_end.Done = DONE
+status_of strict run_end.Failed = if strict then SCRIPT_FAILED else DONE
+status_of strict (run_end.Limit link) = LIMIT_REACHED
+status_of strict _ = DEVICE_FAULT
+
+-- all scripts came to their ends, by the exit status
+abbrev pub IsWhole : ℕ → Type 0
+IsWhole status = (status ≡ DONE) ⊎ (status ≡ SCRIPT_FAILED)
 
 -- the scripts by the names in two folders, none of them handed out
 abbrev pub rc_of : List (List ℕ) → List (List ℕ) → RcState
@@ -36,13 +44,19 @@ ended_text path run_end.Write = codes "rc: cannot write\n"
 ended_text path run_end.Memory = codes "rc: out of memory\n"
 ended_text path _ = []
 
--- the scripts of two folders' names were run from the folder at the path, with these calls; the status is that of how
--- the run ended, and so much of what is reported of it as the other writer took
-abbrev pub RunsNames : List ℕ → List (List ℕ) → List (List ℕ) → Option (List ℕ) → Option (List ℕ) → ℕ → Option (List ℕ)
+-- scripts were run from the folder at the path, with these calls; the status is that of how the run ended, and so much
+-- of what is reported of it was written as the other writer took
+abbrev pub RunsScripts : RunOptions → List ℕ → RcState → Option (List ℕ) → Option (List ℕ) → ℕ → Option (List ℕ)
     → Option (List ℕ) → List HostCall → Type 0
-RunsNames path previous names before told status after tells calls = (ended : RunEnd) × (new : RcState)
-    × RunsLinks path PAUSES_LIMIT (rc_of previous names) before ended new after calls × (status ≡ status_of ended)
-    × AppendsPrefix told tells (ended_text path ended)
+RunsScripts options path rc before told status after tells calls = (ended : RunEnd) × (new : RcState)
+    × RunsLinks options.way path PAUSES_LIMIT false rc before ended new after calls
+    × (status ≡ status_of options.strict ended) × AppendsPrefix told tells (ended_text path ended)
+
+-- those of two folders' names
+abbrev pub RunsNames : RunOptions → List ℕ → List (List ℕ) → List (List ℕ) → Option (List ℕ) → Option (List ℕ) → ℕ
+    → Option (List ℕ) → Option (List ℕ) → List HostCall → Type 0
+RunsNames options path previous names before told status after tells calls =
+    RunsScripts options path (rc_of previous names) before told status after tells calls
 
 -- the names are those in the two folders that a command line names, where they are known
 abbrev pub AreNames : KnownNames → Said → List (List ℕ) → List (List ℕ) → Type 0
@@ -53,27 +67,45 @@ AreNames names_at said previous names =
 abbrev pub RunsSaid : KnownNames → Said → Option (List ℕ) → Option (List ℕ) → ℕ → Option (List ℕ) → Option (List ℕ) → Type 0
 RunsSaid names_at said before told status after tells =
     (previous names : List (List ℕ)) × AreNames names_at said previous names × (calls : List HostCall)
-    × RunsNames (folder_of said.dir said.new) previous names before told status after tells calls
+    × RunsNames said.options (folder_of said.dir said.new) previous names before told status after tells calls
 
--- the lines of all scripts by the names in two folders
-abbrev pub ReportsNames : List (List ℕ) → List (List ℕ) → Option (List ℕ) → Option (List ℕ) → Type 0
-ReportsNames previous names old new = (answers : List RcAnswer)
-    × (length answers ≡ length (rc_run previous names)) × Appends old new (report (rc_run previous names) answers)
+-- what is written of the scripts by the names in two folders, which came to these ends: what would start each, where
+-- nothing is run; else their lines
+abbrev pub written : RunOptions → List ℕ → List (List ℕ) → List (List ℕ) → List RcAnswer → List ℕ
+written options path previous names answers =
+    if options.dry then command_lines options.way path (rc_run previous names)
+    else report options.way (rc_run previous names) answers
 
--- a prefix of the lines of the first of them
-abbrev pub ReportsFirst : List (List ℕ) → List (List ℕ) → Option (List ℕ) → Option (List ℕ) → Type 0
-ReportsFirst previous names old new =
-    (answers : List RcAnswer) × AppendsPrefix old new (report (rc_run previous names) answers)
+-- all of them came to their ends, and the status is the one for them; where nothing is run it is 0
+abbrev pub IsEnded : RunOptions → List LinkRun → List RcAnswer → ℕ → Type 0
+IsEnded options scripts answers status =
+    (options.dry ≡ true → status ≡ DONE)
+    × (options.dry ≡ false → (length answers ≡ length scripts)
+    × (status ≡ status_of options.strict (done_end (list_any is_failure answers))))
 
--- the lines of all scripts of the two folders that a command line names
-abbrev pub Reports : KnownNames → Said → Option (List ℕ) → Option (List ℕ) → Type 0
-Reports names_at said old new =
-    (previous names : List (List ℕ)) × AreNames names_at said previous names × ReportsNames previous names old new
+-- that of all scripts was written
+abbrev pub ReportsNames : RunOptions → List ℕ → List (List ℕ) → List (List ℕ) → Option (List ℕ) → ℕ → Option (List ℕ)
+    → Type 0
+ReportsNames options path previous names old status new = (answers : List RcAnswer)
+    × IsEnded options (rc_run previous names) answers status
+    × Appends old new (written options path previous names answers)
 
--- a prefix of the lines of the first of them
+-- a prefix of what is written of the first of them
+abbrev pub ReportsFirst : RunOptions → List ℕ → List (List ℕ) → List (List ℕ) → Option (List ℕ) → Option (List ℕ) → Type 0
+ReportsFirst options path previous names old new =
+    (answers : List RcAnswer) × AppendsPrefix old new (written options path previous names answers)
+
+-- what is written of all scripts of the two folders that a command line names
+abbrev pub Reports : KnownNames → Said → Option (List ℕ) → ℕ → Option (List ℕ) → Type 0
+Reports names_at said old status new =
+    (previous names : List (List ℕ)) × AreNames names_at said previous names
+    × ReportsNames said.options (folder_of said.dir said.new) previous names old status new
+
+-- a prefix of what is written of the first of them
 abbrev pub ReportsPart : KnownNames → Said → Option (List ℕ) → Option (List ℕ) → Type 0
 ReportsPart names_at said old new =
-    (previous names : List (List ℕ)) × AreNames names_at said previous names × ReportsFirst previous names old new
+    (previous names : List (List ℕ)) × AreNames names_at said previous names
+    × ReportsFirst said.options (folder_of said.dir said.new) previous names old new
 
 -- what words say, and that it has this
 abbrev pub Asks : List (List ℕ) → (Said → Type 0) → Type 0

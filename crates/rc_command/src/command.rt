@@ -4,12 +4,16 @@ ghost use Rattle.std.specs.Prelude.{◌≡◌, map, string_bytes, IfErr, IfOk, I
 ghost use Rattle.clap.specs.Words.{FailsBy, fault_of, found_of, matches_of, rows_of};
 ghost use Rattle.command_words.specs.CommandLines.{IsLine};
 ghost use Rattle.command_words.specs.Faults.{reason_of};
-ghost use Rattle.rc_command.specs.CommandLine.{command_line, is_dir, level_of, previous_of, read_of, rows_said, said_by, said_of};
+ghost use Rattle.rc_command.specs.CommandLine.{command_line, is_dir, is_set, level_of, options_said};
+ghost use Rattle.rc_command.specs.CommandLine.{previous_of, read_of, rows_said, said_by, said_of};
 
 use clap::{ArgMatches, Command, Error};
-use command_words::{WordFault, program_line, value_of, with_word, word_fault};
+use command_words::{
+    WordFault, program_line, value_of, with_letter, with_switch, with_word, word_fault,
+};
 use init_words::Level;
 use program_io::only_byte;
+use rc_driver::RunWay;
 use rc_links::is_name_byte;
 use std::alloc::{AllocError, Global};
 
@@ -22,6 +26,19 @@ pub struct Words {
     pub previous: Option<Level>,
     /// The runlevel that is entered.
     pub new: Level,
+    /// What the options say.
+    pub options: RunOptions,
+}
+
+/// What the options of a run say.
+#[derive(Clone, Copy, PartialEq, Eq)]
+pub struct RunOptions {
+    /// What would be run is printed, and nothing is run.
+    pub dry: bool,
+    /// A script that fails is told by the exit status.
+    pub strict: bool,
+    /// How the scripts are run.
+    pub way: RunWay,
 }
 
 /// Reads a command line, without the program's name in front.
@@ -41,6 +58,10 @@ fn command<'a>(alloc: Global) -> Result<Command<'a>, AllocError>
     ensures { IfOk result (IsLine command_line) }
 {
     let line = program_line(alloc, "rc");
+    let line = with_letter(alloc, line, "dry", 'n')?;
+    let line = with_letter(alloc, line, "verbose", 'v')?;
+    let line = with_switch(alloc, line, "strict")?;
+    let line = with_switch(alloc, line, "direct")?;
     let line = with_word(alloc, line, "dir")?;
     let line = with_word(alloc, line, "previous")?;
     with_word(alloc, line, "new")
@@ -67,14 +88,43 @@ fn read_matches(alloc: Global, matches: &ArgMatches) -> Result<Words, WordFault>
         dir,
         value_of(matches, "previous"),
         value_of(matches, "new"),
+        read_options(matches),
     )
 }
 
+/// What the options say.
+fn read_options(matches: &ArgMatches) -> RunOptions
+    ensures { result ≡ options_said (rows_of (found_of matches.now)) }
+{
+    RunOptions {
+        dry: is_set(matches, "dry"),
+        strict: is_set(matches, "strict"),
+        way: RunWay {
+            direct: is_set(matches, "direct"),
+            verbose: is_set(matches, "verbose"),
+        },
+    }
+}
+
+/// The option without a value is given.
+fn is_set(matches: &ArgMatches, id: &str) -> bool
+    ensures { result ≡ is_set id.now (rows_of (found_of matches.now)) }
+{
+    value_of(matches, id) == "true"
+}
+
 /// What three words say; a usage fault where one is no path or no level.
-fn words_of(alloc: Global, dir: &str, before: &str, after: &str) -> Result<Words, WordFault>
-    ensures ok { IfOk result (λ said. said_by dir.now before.now after.now ≡ Some (said_of said)) }
+fn words_of(
+    alloc: Global,
+    dir: &str,
+    before: &str,
+    after: &str,
+    options: RunOptions,
+) -> Result<Words, WordFault>
+    ensures ok { IfOk result (λ said.
+        said_by dir.now before.now after.now options ≡ Some (said_of said)) }
     ensures usage { IfErr result (λ fault. IsSome (reason_of fault)
-        → said_by dir.now before.now after.now ≡ None) }
+        → said_by dir.now before.now after.now options ≡ None) }
 {
     if !is_dir(dir) {
         let reason = format!(in alloc; "{dir}: DIR has bytes of A-Z a-z 0-9 . _ - / alone")?;
@@ -92,6 +142,7 @@ fn words_of(alloc: Global, dir: &str, before: &str, after: &str) -> Result<Words
         dir: String::from_str(alloc, dir)?,
         previous,
         new,
+        options,
     })
 }
 

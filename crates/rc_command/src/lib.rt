@@ -7,8 +7,8 @@ mod folders;
 mod kept_folders;
 mod running;
 
-pub use command::{Words, read_words};
+pub use command::{RunOptions, Words, read_words};
 pub use command_words::WordFault;
 pub use folders::Folders;
 pub use kept_folders::KeptFolders;
-pub use running::{PAUSES_LIMIT, USAGE, run_names, run_words};
+pub use running::{PAUSES_LIMIT, SCRIPT_FAILED, USAGE, run_names, run_words};

@@ -1,4 +1,4 @@
-//! rc at work: the scripts of two runlevels' links, stopped and started over a host.
+//! rc at work: the scripts of two runlevels' links, stopped and started over a host, or printed.
 
 ghost use Rattle.std.specs.Prelude.{◌≡◌, ◌≢◌, ◌⊎◌, true, false, codes, IsSome, List, map, string_bytes};
 ghost use Rattle.child_host.specs.Calls.{HostCall};
@@ -8,17 +8,19 @@ ghost use Rattle.command_words.specs.Faults.{ReportsUsage};
 ghost use Rattle.program_io.specs.Writing.{AppendsPrefix};
 ghost use Rattle.program_version.specs.VersionLine.{PrintsVersion};
 ghost use Rattle.rc_command.specs.CommandLine.{read_of, said_of};
-ghost use Rattle.rc_command.specs.Endings.{Asks, Reports, ReportsFirst, ReportsNames, ReportsPart};
-ghost use Rattle.rc_command.specs.Endings.{RunsNames, RunsSaid, ended_text, limit_text, status_of};
+ghost use Rattle.rc_command.specs.Endings.{Asks, IsWhole, Reports, ReportsFirst, ReportsNames, ReportsPart};
+ghost use Rattle.std.specs.Io.KnownBytes.{Appends};
+ghost use Rattle.rc_driver.specs.Printing.{command_lines};
+ghost use Rattle.rc_command.specs.Endings.{RunsNames, RunsSaid, RunsScripts, ended_text, limit_text, status_of};
 
-use crate::command::{Words, read_words};
+use crate::command::{RunOptions, Words, read_words};
 use crate::folders::{Folders, folder_of, previous_names};
 use child_host::Host;
 use command_words::{is_version, report_word_fault};
 use os_host::OsHost;
 use program_io::{DEVICE_FAULT, DONE, LIMIT_REACHED, REFUSED, report_no_memory, write_text};
 use program_version::print_version;
-use rc_driver::{Rc, RunEnd, run_links};
+use rc_driver::{Rc, RunEnd, RunWay, print_links, run_links};
 use std::alloc::Global;
 use std::fs::File;
 use std::io;
@@ -32,19 +34,27 @@ pub const PAUSES_LIMIT: u32 = 1_000_000;
 /// The seconds of the longest pause; behind something that happened it is a thousandth of it.
 const PAUSE: &str = "0.1";
 
+/// Exit status: all scripts came to their ends, and one of them failed.
+pub const SCRIPT_FAILED: u8 = 2;
+
 /// What is reported of words that are no command line, behind a line that says why.
-pub const USAGE: &str = "usage: rc DIR PREV NEW
+pub const USAGE: &str = "usage: rc [-n] [-v] [--strict] [--direct] DIR PREV NEW
        rc --version
+  -n        print what would be run, and run nothing
+  -v        tell of each start
+  --strict  status 2 where a script fails
+  --direct  execute each script by its own first line, not by sh
   DIR   the folder that holds those of the runlevels, as rc3.d; of bytes of A-Z a-z 0-9 . _ - / alone
   PREV  the runlevel before, 0 to 9 or S, or N where there was none
   NEW   the runlevel that is entered, 0 to 9 or S
 ";
 
 /// Runs rc on a command line without the program's name, and gives its exit status: 0 where all scripts of NEW's folder
-/// were carried out, whatever their own statuses, or the version was written, 1 where the words are no command line, 3
-/// where a script has not ended after `PAUSES_LIMIT` pauses, 4 where NEW's folder can't be listed, the output fails or
-/// memory runs out. The version is written on `out`, where the words are `--version` alone, or a line for each script
-/// at its end; a fault is reported on `err`. The folders are listed by `folders`.
+/// were carried out, whatever their own statuses, or were printed, or the version was written, 1 where the words are no
+/// command line, 2 where `--strict` is said, all were carried out, and one failed, 3 where a script has not ended after
+/// `PAUSES_LIMIT` pauses, 4 where NEW's folder can't be listed, the output fails or memory runs out. The version is
+/// written on `out`, where the words are `--version` alone; or a line for each script at its end, with `-v` at its start
+/// too, with `-n` what would start it; a fault is reported on `err`. The folders are listed by `folders`.
 pub fn run_words<R, F, W, E>(
     rt: &R,
     folders: &F,
@@ -58,17 +68,17 @@ where
     F: Folders,
     W: Write,
     E: Write,
-    ensures statuses { (result ≡ DONE) ⊎ (result ≡ REFUSED) ⊎ (result ≡ LIMIT_REACHED)
+    ensures statuses { IsWhole result ⊎ (result ≡ REFUSED) ⊎ (result ≡ LIMIT_REACHED)
         ⊎ (result ≡ DEVICE_FAULT) }
     ensures refused { result ≡ REFUSED → read_of (map string_bytes words.items) ≡ None }
     ensures version { asks_version (map string_bytes words.items) ≡ true
         → PrintsVersion (codes "rc") result (W.contents out.old) (W.contents out.new) }
-    ensures said { asks_version (map string_bytes words.items) ≡ false → result ≡ DONE
+    ensures said { asks_version (map string_bytes words.items) ≡ false → IsWhole result
         → IsSome (read_of (map string_bytes words.items)) }
-    // The lines of all scripts of the two folders were written.
-    ensures done { asks_version (map string_bytes words.items) ≡ false → result ≡ DONE
+    // The lines of all scripts of the two folders were written, and the status is the one for their ends.
+    ensures done { asks_version (map string_bytes words.items) ≡ false → IsWhole result
         → Asks (map string_bytes words.items) (λ said. Reports (F.names_at folders.now) said
-        (W.contents out.old) (W.contents out.new)) }
+        (W.contents out.old) result (W.contents out.new)) }
     // Nothing was written, or a prefix of those lines.
     ensures part { asks_version (map string_bytes words.items) ≡ false → (out.new ≡ out.old)
         ⊎ Asks (map string_bytes words.items) (λ said. ReportsPart (F.names_at folders.now) said
@@ -76,9 +86,9 @@ where
     // Nothing was run, or it is a call of `run_names` over the names in the two folders.
     ensures ran { asks_version (map string_bytes words.items) ≡ false
         → (((result ≡ REFUSED) ⊎ (result ≡ DEVICE_FAULT)) × (out.new ≡ out.old))
-        ⊎ Asks (map string_bytes words.items) (λ said. RunsSaid (F.names_at folders.now) said
-        (W.contents out.old) (E.contents err.old) result (W.contents out.new)
-        (E.contents err.new)) }
+        ⊎ Asks (map string_bytes words.items) (λ said. said.options.dry ≡ false
+        → RunsSaid (F.names_at folders.now) said (W.contents out.old) (E.contents err.old) result
+        (W.contents out.new) (E.contents err.new)) }
     ensures report { result ≡ REFUSED
         → ReportsUsage (codes "rc") USAGE.now (E.contents err.old) (E.contents err.new) }
 {
@@ -102,14 +112,15 @@ fn run<R, F: Folders, W: Write, E: Write>(
 ) -> u8
 where
     R: Processes + Files<File = File> + Clock + Print + Eprint + Clone + Drop,
-    ensures statuses { (result ≡ DONE) ⊎ (result ≡ LIMIT_REACHED) ⊎ (result ≡ DEVICE_FAULT) }
-    ensures done { result ≡ DONE → Reports (F.names_at folders.now) (said_of said.now)
-        (W.contents out.old) (W.contents out.new) }
+    ensures statuses { IsWhole result ⊎ (result ≡ LIMIT_REACHED) ⊎ (result ≡ DEVICE_FAULT) }
+    ensures done { IsWhole result → Reports (F.names_at folders.now) (said_of said.now)
+        (W.contents out.old) result (W.contents out.new) }
     ensures part { (out.new ≡ out.old) ⊎ ReportsPart (F.names_at folders.now) (said_of said.now)
         (W.contents out.old) (W.contents out.new) }
     ensures ran { ((result ≡ DEVICE_FAULT) × (out.new ≡ out.old))
-        ⊎ RunsSaid (F.names_at folders.now) (said_of said.now) (W.contents out.old)
-        (E.contents err.old) result (W.contents out.new) (E.contents err.new) }
+        ⊎ (said.now.options.dry ≡ false → RunsSaid (F.names_at folders.now) (said_of said.now)
+        (W.contents out.old) (E.contents err.old) result (W.contents out.new)
+        (E.contents err.new)) }
 {
     let dir = said.dir.as_str();
     let Ok(path) = folder_of(alloc, dir, said.new) else {
@@ -119,8 +130,18 @@ where
         Ok(previous) => previous,
         Err(error) => return report_unlisted(dir, &error, err),
     };
+    let options = said.options;
     match folders.names(alloc, path.as_str()) {
-        Ok(names) => run_children(rt, alloc, path.as_str(), &previous, &names, out, err),
+        Ok(names) => run_children(
+            rt,
+            alloc,
+            path.as_str(),
+            &previous,
+            &names,
+            options,
+            out,
+            err,
+        ),
         Err(error) => report_unlisted(path.as_str(), &error, err),
     }
 }
@@ -132,20 +153,23 @@ fn run_children<R, W: Write, E: Write>(
     path: &str,
     previous: &[String],
     names: &[String],
+    options: RunOptions,
     out: &mut W,
     err: &mut E,
 ) -> u8
 where
     R: Processes + Files<File = File> + Clock + Print + Eprint + Clone + Drop,
-    ensures statuses { (result ≡ DONE) ⊎ (result ≡ LIMIT_REACHED) ⊎ (result ≡ DEVICE_FAULT) }
-    ensures done { result ≡ DONE → ReportsNames (map string_bytes previous.now)
-        (map string_bytes names.now) (W.contents out.old) (W.contents out.new) }
-    ensures part { (out.new ≡ out.old) ⊎ ReportsFirst (map string_bytes previous.now)
-        (map string_bytes names.now) (W.contents out.old) (W.contents out.new) }
-    ensures ran { ((result ≡ DEVICE_FAULT) × (out.new ≡ out.old)) ⊎ ((calls : List HostCall)
-        × RunsNames path.now (map string_bytes previous.now) (map string_bytes names.now)
-        (W.contents out.old) (E.contents err.old) result (W.contents out.new)
-        (E.contents err.new) calls) }
+    ensures statuses { IsWhole result ⊎ (result ≡ LIMIT_REACHED) ⊎ (result ≡ DEVICE_FAULT) }
+    ensures done { IsWhole result → ReportsNames options path.now
+        (map string_bytes previous.now) (map string_bytes names.now) (W.contents out.old) result
+        (W.contents out.new) }
+    ensures part { (out.new ≡ out.old) ⊎ ReportsFirst options path.now
+        (map string_bytes previous.now) (map string_bytes names.now) (W.contents out.old)
+        (W.contents out.new) }
+    ensures ran { ((result ≡ DEVICE_FAULT) × (out.new ≡ out.old)) ⊎ (options.dry ≡ false
+        → (calls : List HostCall) × RunsNames options path.now (map string_bytes previous.now)
+        (map string_bytes names.now) (W.contents out.old) (E.contents err.old) result
+        (W.contents out.new) (E.contents err.new) calls) }
 {
     let Ok(own) = rt.clone() else {
         return report_no_memory("rc", err);
@@ -156,57 +180,116 @@ where
     let Ok(mut host) = host.with_pause(PAUSE) else {
         return report_no_memory("rc", err);
     };
-    run_names(alloc, &mut host, path, previous, names, out, err)
+    run_names(alloc, &mut host, path, previous, names, options, out, err)
 }
 
 /// Runs the scripts of the folder at `path` over a host, from the names in the folder of the previous level and in it,
-/// and gives the exit status: 0 where all were carried out, 3 where a script has not ended after `PAUSES_LIMIT` pauses,
-/// 4 where the output fails or memory runs out. A line for each script is written on `out` at its end, a fault is
-/// reported on `err`; the script that has not ended is named there.
+/// and gives the exit status: 0 where all were carried out, 2 where that is asked for and one of them failed, 3 where a
+/// script has not ended after `PAUSES_LIMIT` pauses, 4 where the output fails or memory runs out. A line for each script
+/// is written on `out` at its end, a fault is reported on `err`; the script that has not ended is named there. Where
+/// the options say so nothing is run: what would start each script is written, and nothing is asked of the host.
 pub fn run_names<H: Host, W: Write, E: Write>(
     alloc: Global,
     host: &mut H,
     path: &str,
     previous: &[String],
     names: &[String],
+    options: RunOptions,
     out: &mut W,
     err: &mut E,
 ) -> u8
-    ensures statuses { (result ≡ DONE) ⊎ (result ≡ LIMIT_REACHED) ⊎ (result ≡ DEVICE_FAULT) }
-    ensures done { result ≡ DONE → ReportsNames (map string_bytes previous.now)
-        (map string_bytes names.now) (W.contents out.old) (W.contents out.new) }
-    ensures part { (out.new ≡ out.old) ⊎ ReportsFirst (map string_bytes previous.now)
-        (map string_bytes names.now) (W.contents out.old) (W.contents out.new) }
+    ensures statuses { IsWhole result ⊎ (result ≡ LIMIT_REACHED) ⊎ (result ≡ DEVICE_FAULT) }
+    ensures done { IsWhole result → ReportsNames options path.now
+        (map string_bytes previous.now) (map string_bytes names.now) (W.contents out.old) result
+        (W.contents out.new) }
+    ensures part { (out.new ≡ out.old) ⊎ ReportsFirst options path.now
+        (map string_bytes previous.now) (map string_bytes names.now) (W.contents out.old)
+        (W.contents out.new) }
+    ensures dry { options.dry ≡ true → host.new ≡ host.old }
     // There was no memory for the scripts, or they were run with the calls that the host tells.
     ensures ran { ((result ≡ DEVICE_FAULT) × (out.new ≡ out.old) × (host.new ≡ host.old))
-        ⊎ Since (H.told host.old) (H.told host.new) (RunsNames path.now
-        (map string_bytes previous.now) (map string_bytes names.now) (W.contents out.old)
-        (E.contents err.old) result (W.contents out.new) (E.contents err.new)) }
-    ensures silent { result ≡ DONE → err.new ≡ err.old }
+        ⊎ (options.dry ≡ false → Since (H.told host.old) (H.told host.new) (RunsNames options
+        path.now (map string_bytes previous.now) (map string_bytes names.now)
+        (W.contents out.old) (E.contents err.old) result (W.contents out.new)
+        (E.contents err.new))) }
+    ensures silent { IsWhole result → err.new ≡ err.old }
 {
     let Ok(mut rc) = Rc::new(alloc, previous, names) else {
         return report_no_memory("rc", err);
     };
-    let ended = run_links(alloc, &mut rc, host, path, PAUSES_LIMIT, out);
-    report_end(path, ended, err)
+    if options.dry {
+        print_all(alloc, &mut rc, path, options.way, out, err)
+    } else {
+        run_all(alloc, &mut rc, host, path, options, out, err)
+    }
+}
+
+/// Runs scripts, and reports how their run ended.
+fn run_all<'n, H: Host, W: Write, E: Write>(
+    alloc: Global,
+    rc: &mut Rc<'n>,
+    host: &mut H,
+    path: &str,
+    options: RunOptions,
+    out: &mut W,
+    err: &mut E,
+) -> u8
+    requires { rc.old.waits ≡ false }
+    ensures statuses { IsWhole result ⊎ (result ≡ LIMIT_REACHED) ⊎ (result ≡ DEVICE_FAULT) }
+    ensures ran { Since (H.told host.old) (H.told host.new) (RunsScripts options path.now rc.old
+        (W.contents out.old) (E.contents err.old) result (W.contents out.new)
+        (E.contents err.new)) }
+    ensures silent { IsWhole result → err.new ≡ err.old }
+{
+    let ended = run_links(alloc, rc, host, options.way, path, PAUSES_LIMIT, out);
+    report_end(path, options.strict, ended, err)
+}
+
+/// Prints scripts, and reports how that ended.
+fn print_all<'n, W: Write, E: Write>(
+    alloc: Global,
+    rc: &mut Rc<'n>,
+    path: &str,
+    way: RunWay,
+    out: &mut W,
+    err: &mut E,
+) -> u8
+    requires { rc.old.waits ≡ false }
+    ensures statuses { (result ≡ DONE) ⊎ (result ≡ DEVICE_FAULT) }
+    ensures done { result ≡ DONE → Appends (W.contents out.old) (W.contents out.new)
+        (command_lines way path.now rc.old.left) }
+    ensures part { AppendsPrefix (W.contents out.old) (W.contents out.new)
+        (command_lines way path.now rc.old.left) }
+    ensures silent { result ≡ DONE → err.new ≡ err.old }
+{
+    let ended = print_links(alloc, rc, way, path, out);
+    report_end(path, false, ended, err)
 }
 
 /// Reports how a run of the folder at `path` ended, where it wasn't done, by as much of the text as `err` takes, and
 /// gives the exit status.
-fn report_end<E: Write>(path: &str, ended: RunEnd, err: &mut E) -> u8
+fn report_end<E: Write>(path: &str, strict: bool, ended: RunEnd, err: &mut E) -> u8
     requires { ended ≢ RunEnd.Waiting }
-    ensures status { result ≡ status_of ended.entry }
+    ensures status { result ≡ status_of strict ended.entry }
     ensures report { AppendsPrefix (E.contents err.old) (E.contents err.new)
         (ended_text path.now ended.entry) }
-    ensures silent { result ≡ DONE → err.new ≡ err.old }
+    ensures silent { IsWhole result → err.new ≡ err.old }
 {
     match ended {
         RunEnd::Done => DONE,
+        RunEnd::Failed => failed_status(strict),
         RunEnd::Limit(link) => report_limit(path, link, err),
         RunEnd::Waiting => unreachable!(),
         RunEnd::Write => tell(DEVICE_FAULT, "rc: cannot write\n", err),
         RunEnd::Memory => tell(DEVICE_FAULT, "rc: out of memory\n", err),
     }
+}
+
+/// The exit status where a script failed.
+fn failed_status(strict: bool) -> u8
+    ensures { result ≡ status_of strict RunEnd.Failed }
+{
+    if strict { SCRIPT_FAILED } else { DONE }
 }
 
 /// Reports that the pauses are used up while a script runs, and gives the exit status.

@@ -1,70 +1,139 @@
--- Runs of scripts over a host, put together from their scripts.
-use Rattle.std.proofs.Common.{◌≡◌, ◌≢◌, ℕ, suc, true, false, List, [], ◌∷◌, length, Option, refl, sym, ap, ◌∙◌, subst}
+-- What a run of scripts over a host has written, by its calls.
+use Rattle.std.proofs.Common.{◌≡◌, ◌∙◌, ℕ, suc, Bool, true, false, not, cond, ◌||◌, ◌-◌, inl, inr, List, [], ◌∷◌, ◌++◌, length, Option, refl, sym, ap, subst}
+use Rattle.std.specs.List.{list_any}
 use Rattle.std.proofs.KnownBytes.{Appends-nil, Appends-trans}
+use Rattle.std.proofs.Math.Bool.{or-false, or_assoc}
+use Rattle.std.proofs.lemmas.Bool.{true≢false}
 use Rattle.std.specs.Io.KnownBytes.{Appends}
 use Rattle.program_io.specs.Writing.{AppendsPrefix}
-use Rattle.program_io.proofs.WritingLemmas.{AppendsPrefix-first, AppendsPrefix-then}
+use Rattle.program_io.proofs.WritingLemmas.{AppendsPrefix-first, AppendsPrefix-then, AppendsPrefix-whole}
+use Rattle.child_host.specs.Calls.{HostCall}
+use Rattle.child_host.specs.Record.{Since}
 use Rattle.rc_driver.specs.declared.driving.RunEnd.{RunEnd}
 use Rattle.rc_driver.specs.declared.driving.RunEnd.TheVariants as run_end
 use Rattle.rc_driver.specs.declared.runs.RcAnswer.{RcAnswer}
-use Rattle.rc_driver.specs.Report.{Advances, Stops, WritesEnds, line_of, report}
-use Rattle.rc_driver.specs.Runs.{RcState, LinkRun}
+use Rattle.rc_driver.specs.declared.runs.RcAnswer.TheVariants as answer
+use Rattle.rc_driver.specs.declared.runs.RunWay.{RunWay}
+use Rattle.rc_driver.specs.Progress.{count_pauses}
+use Rattle.rc_driver.specs.Report.{TellsStart, WritesEnds, begin_line, done_end, is_over, line_of, lines_of, report}
+use Rattle.rc_driver.specs.Runs.{LinkRun, RcState, is_failure}
+use Rattle.rc_driver.specs.Told.{EndsAt, RunsFrom, RunsLinks}
 
 -- nothing of a text was written
 pub AppendsPrefix-none : (old : Option (List ℕ)) (text : List ℕ) → AppendsPrefix old old text
 AppendsPrefix-none old text = ([], text, refl, Appends-nil old)
 
--- a run of no script more
-pub WritesEnds-done : (rc new : RcState) (bytes : Option (List ℕ)) → (rc.waits ≡ false) × (rc.left ≡ []) × (new ≡ rc) → WritesEnds rc bytes run_end.Done new bytes
-WritesEnds-done rc new bytes (ready, none, same) = subst (λ r. WritesEnds rc bytes run_end.Done r bytes) (sym same) (record {
+-- the line of a script's start, where starts are told, and then its line
+started_line : (verbose : Bool) (begin line : List ℕ) (before mid after : Option (List ℕ))
+    → (verbose ≡ true → Appends before mid begin) × (verbose ≡ false → mid ≡ before) → Appends mid after line
+    → Appends before after (cond verbose begin [] ++ line)
+started_line true begin line before mid after told wrote = Appends-trans before mid after begin line (told.0 refl) wrote
+started_line false begin line before mid after told wrote = subst (λ b. Appends b after line) (told.1 refl) wrote
+
+started_part : (verbose : Bool) (begin line : List ℕ) (before mid after : Option (List ℕ))
+    → (verbose ≡ true → Appends before mid begin) × (verbose ≡ false → mid ≡ before) → AppendsPrefix mid after line
+    → AppendsPrefix before after (cond verbose begin [] ++ line)
+started_part true begin line before mid after told wrote = AppendsPrefix-then before mid after begin line (told.0 refl) wrote
+started_part false begin line before mid after told wrote = subst (λ b. AppendsPrefix b after line) (told.1 refl) wrote
+
+unstarted_part : (verbose : Bool) (begin line : List ℕ) (before after : Option (List ℕ)) → verbose ≡ true
+    → AppendsPrefix before after begin → AppendsPrefix before after (cond verbose begin [] ++ line)
+unstarted_part true begin line before after is wrote = AppendsPrefix-first before after begin line wrote
+unstarted_part false begin line before after is wrote = absurd (true≢false (sym is))
+
+-- both lines of a script
+pub lines_told : (way : RunWay) (s : LinkRun) (given : RcAnswer) (before mid after : Option (List ℕ)) → TellsStart way s before mid
+    → Appends mid after (line_of s given) → Appends before after (lines_of way s given)
+lines_told way s given before mid after told wrote =
+    started_line way.verbose (begin_line s) (line_of s given) before mid after told wrote
+
+-- a run that ends at a script has written a part of its lines
+pub stops_part : (way : RunWay) (dir : List ℕ) (pauses : ℕ) (s : LinkRun) (before : Option (List ℕ)) (ended : RunEnd) (after : Option (List ℕ)) (calls : List HostCall)
+    → EndsAt way dir pauses s before ended after calls → (given : RcAnswer) × AppendsPrefix before after (lines_of way s given)
+stops_part way dir pauses s before (run_end.Limit link) after calls (named, now, waiting, ran, count, told) = (
+  answer.NotStarted,
+  started_part way.verbose (begin_line s) (line_of s answer.NotStarted) before after after told
+      (AppendsPrefix-none after (line_of s answer.NotStarted)),
+)
+stops_part way dir pauses s before run_end.Write after calls (inl (verbose, none, wrote)) = (
+  answer.NotStarted,
+  unstarted_part way.verbose (begin_line s) (line_of s answer.NotStarted) before after verbose wrote,
+)
+stops_part way dir pauses s before run_end.Write after calls (inr (given, mid, ran, told, wrote)) =
+    (given, started_part way.verbose (begin_line s) (line_of s given) before mid after told wrote)
+stops_part way dir pauses s before run_end.Memory after calls (none, same) = (
+  answer.NotStarted,
+  subst (λ b. AppendsPrefix before b (lines_of way s answer.NotStarted)) (sym same)
+      (AppendsPrefix-none before (lines_of way s answer.NotStarted)),
+)
+stops_part way dir pauses s before run_end.Done after calls at = absurd at
+stops_part way dir pauses s before run_end.Failed after calls at = absurd at
+stops_part way dir pauses s before run_end.Waiting after calls at = absurd at
+
+-- it is not over
+pub stops_early : (way : RunWay) (dir : List ℕ) (pauses : ℕ) (s : LinkRun) (before : Option (List ℕ)) (ended : RunEnd) (after : Option (List ℕ)) (calls : List HostCall)
+    → EndsAt way dir pauses s before ended after calls → is_over ended ≡ false
+stops_early way dir pauses s before (run_end.Limit link) after calls at = refl
+stops_early way dir pauses s before run_end.Write after calls at = refl
+stops_early way dir pauses s before run_end.Memory after calls at = refl
+stops_early way dir pauses s before run_end.Done after calls at = absurd at
+stops_early way dir pauses s before run_end.Failed after calls at = absurd at
+stops_early way dir pauses s before run_end.Waiting after calls at = absurd at
+
+-- what scripts have written that were run from here
+record Wrote (way : RunWay) (failed : Bool) (scripts : List LinkRun) (before : Option (List ℕ)) (ended : RunEnd) (left : List LinkRun)
+    (after : Option (List ℕ)) : Type 0 where
+  answers : List RcAnswer
+  part : AppendsPrefix before after (report way scripts answers)
+  whole : is_over ended ≡ true →
+      (ended ≡ done_end (failed || list_any is_failure answers)) × (length answers ≡ length scripts)
+      × Appends before after (report way scripts answers) × (left ≡ [])
+
+wrote : (way : RunWay) (dir : List ℕ) (pauses : ℕ) (failed : Bool) (scripts : List LinkRun) (before : Option (List ℕ)) (ended : RunEnd) (left : List LinkRun) (after : Option (List ℕ)) (calls : List HostCall)
+    → RunsFrom way dir pauses failed scripts before ended left after calls → Wrote way failed scripts before ended left after
+wrote way dir pauses failed [] before ended left after calls (is, none, same, no_calls) = record {
   answers = [];
-  part = AppendsPrefix-none bytes (report rc.left []);
-  whole = λ is. (sym (ap length none), subst (λ left. Appends bytes bytes (report left [])) (sym none) (Appends-nil bytes), none, ready);
-  waits = λ other. absurd (other refl);
-})
-
--- a run that ends at its first script
-pub WritesEnds-stops : (old new : RcState) (before after : Option (List ℕ)) (ended : RunEnd) (s : LinkRun) → old.left ≡ s ∷ new.left → new.waits ≡ true
-    → Stops ended s before after → WritesEnds old before ended new after
-WritesEnds-stops old new before after ended s head waiting stops = record {
-  answers = stops.1.0 ∷ [];
-  part = subst (λ left. AppendsPrefix before after (report left (stops.1.0 ∷ []))) (sym head)
-      (AppendsPrefix-first before after (line_of s stops.1.0) (report new.left []) stops.1.1);
-  whole = λ is. absurd (stops.0 is);
-  waits = λ other. waiting;
+  part = subst (λ b. AppendsPrefix before b []) (sym same) (AppendsPrefix-none before []);
+  whole = λ over. (is ∙ ap done_end (sym (or-false failed)), refl, subst (λ b. Appends before b []) (sym same) (Appends-nil before), none);
 }
+wrote way dir pauses failed (s ∷ scripts) before ended left after calls (inl (at, behind)) =
+    let stop = stops_part way dir pauses s before ended after calls at in
+    let early = stops_early way dir pauses s before ended after calls at in
+    record {
+      answers = stop.0 ∷ [];
+      part = AppendsPrefix-first before after (lines_of way s stop.0) (report way scripts []) stop.1;
+      whole = λ over. absurd (true≢false (sym over ∙ early));
+    }
+wrote way dir pauses failed (s ∷ scripts) before ended left after calls (inr (given, first, later, between, is, ran, line, rest)) =
+    let behind = wrote way dir (pauses - count_pauses first) (failed || is_failure given) scripts between ended left after later rest in
+    record {
+      answers = given ∷ behind.answers;
+      part = AppendsPrefix-then before between after (lines_of way s given) (report way scripts behind.answers) line behind.part;
+      whole = λ over. let all = behind.whole over in (
+        all.0 ∙ ap done_end (or_assoc failed (is_failure given) (list_any is_failure behind.answers)),
+        ap suc all.1,
+        Appends-trans before between after (lines_of way s given) (report way scripts behind.answers) line all.2,
+        all.3,
+      );
+    }
 
-waiting_is_not_done : run_end.Waiting ≢ run_end.Done
-waiting_is_not_done = λ is. cc
-
--- a run that can't begin, since an answer is missing
-pub WritesEnds-waiting : (rc new : RcState) (bytes : Option (List ℕ)) → (rc.waits ≡ true) × (new ≡ rc) → WritesEnds rc bytes run_end.Waiting new bytes
-WritesEnds-waiting rc new bytes (waiting, same) = subst (λ r. WritesEnds rc bytes run_end.Waiting r bytes) (sym same) (record {
-  answers = [];
-  part = AppendsPrefix-none bytes (report rc.left []);
-  whole = λ is. absurd (waiting_is_not_done is);
-  waits = λ more. waiting;
-})
-
--- a script that was handed out, ran and was answered
-pub Advances-by : (old mid new : RcState) (before after : Option (List ℕ)) (s : LinkRun) (given : RcAnswer) → old.left ≡ s ∷ mid.left
-    → new ≡ record mid { waits = false } → Appends before after (line_of s given) → Advances old before new after
-Advances-by old mid new before after s given head is line =
-    (s, given, head ∙ ap (λ left. s ∷ left) (sym (ap (λ (r : RcState). r.left) is)), ap (λ (r : RcState). r.waits) is, line)
-
--- a script, and the run behind it
-pub WritesEnds-more : (old mid new : RcState) (before between after : Option (List ℕ)) (ended : RunEnd) → Advances old before mid between
-    → WritesEnds mid between ended new after → WritesEnds old before ended new after
-WritesEnds-more old mid new before between after ended (s, given, head, ready, line) went = record {
-  answers = given ∷ went.answers;
-  part = subst (λ left. AppendsPrefix before after (report left (given ∷ went.answers))) (sym head)
-      (AppendsPrefix-then before between after (line_of s given) (report mid.left went.answers) line went.part);
-  whole = λ is. let rest = went.whole is in (
-    ap suc rest.0 ∙ sym (ap length head),
-    subst (λ left. Appends before after (report left (given ∷ went.answers))) (sym head)
-        (Appends-trans before between after (line_of s given) (report mid.left went.answers) line rest.1),
-    rest.2,
-    rest.3,
-  );
-  waits = went.waits;
-}
+-- what a run has written
+pub writes_ends : (old new : Option (List HostCall)) (way : RunWay) (dir : List ℕ) (pauses : ℕ) (rc now : RcState) (before after : Option (List ℕ)) (ended : RunEnd)
+    → Since old new (RunsLinks way dir pauses false rc before ended now after) → WritesEnds way rc before ended now after
+writes_ends old new way dir pauses rc now before after ended (calls, told, runs) = by rc.waits refl
+  where
+    by : (waits : Bool) → rc.waits ≡ waits → WritesEnds way rc before ended now after
+    by true is = let same = runs.waits is in record {
+      answers = [];
+      part = subst (λ b. AppendsPrefix before b (report way rc.left [])) (sym same.2) (AppendsPrefix-none before (report way rc.left []));
+      whole = λ over. absurd (true≢false (sym over ∙ ap is_over same.0));
+      waits = λ early. subst (λ (r : RcState). r.waits ≡ true) (sym same.1) is;
+    }
+    by false is =
+        let went = wrote way dir pauses false rc.left before ended now.left after calls (runs.runs is) in
+        record {
+          answers = went.answers;
+          part = went.part;
+          whole = λ over. let all = went.whole over in (all.0, all.1, all.2, all.3, runs.answered is ∙ ap not over);
+          waits = λ early. runs.answered is ∙ ap not early;
+        }

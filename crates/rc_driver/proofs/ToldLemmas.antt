@@ -1,5 +1,5 @@
 -- A run of scripts by its calls, put together from its scripts.
-use Rattle.std.proofs.Common.{◌≡◌, refl, sym, ◌∙◌, subst, inl, inr, ℕ, ◌+◌, ◌-◌, true, false, List, [], ◌∷◌, ◌++◌, Option, arith}
+use Rattle.std.proofs.Common.{◌≡◌, refl, sym, ap, ◌∙◌, subst, inl, inr, ℕ, ◌+◌, ◌-◌, Bool, true, false, not, ◌||◌, List, [], ◌∷◌, ◌++◌, Option, Result, Ok, Err, IfOk, IfErr, arith}
 use Rattle.std.specs.Borrow.{Bor}
 use Rattle.std.specs.Io.KnownBytes.{Appends}
 use Rattle.std.proofs.lemmas.Bool.{true≢false}
@@ -13,11 +13,13 @@ use Rattle.rc_driver.specs.declared.progress.Progress.{Progress}
 use Rattle.rc_driver.specs.declared.progress.Progress.TheVariants as progress
 use Rattle.rc_driver.specs.declared.runs.Arg.{Arg}
 use Rattle.rc_driver.specs.declared.runs.RcAnswer.{RcAnswer}
-use Rattle.rc_driver.specs.Parts.{Advanced, EndsEarly, GoneTo}
+use Rattle.rc_driver.specs.declared.runs.RunWay.{RunWay}
+use Rattle.rc_driver.specs.Parts.{Advanced, EndsCommand, EndsEarly, GoneTo}
 use Rattle.rc_driver.specs.Progress.{RunsTo, count_pauses}
-use Rattle.rc_driver.specs.Report.{command_text, line_of}
-use Rattle.rc_driver.specs.Runs.{LinkRun, RcState}
+use Rattle.rc_driver.specs.Report.{TellsStart, begin_line, command_text, done_end, is_over, line_of, lines_of}
+use Rattle.rc_driver.specs.Runs.{LinkRun, RcState, is_failure}
 use Rattle.rc_driver.specs.Told.{EndsAt, RunsFrom, RunsLinks}
+use Rattle.rc_driver.proofs.RunLemmas.{lines_told, stops_early}
 
 -- the text that started it is the script's
 pub gone_by : (old new : Option (List HostCall)) (command text : List ℕ) (now : Progress) (pauses still : ℕ) → command ≡ text
@@ -25,74 +27,139 @@ pub gone_by : (old new : Option (List HostCall)) (command text : List ℕ) (now 
 gone_by old new command text now pauses still same gone = subst (λ t. Since old new (GoneTo t now pauses still)) same gone
 
 -- the pauses are used up
-pub ends_early : (old new : Option (List HostCall)) (dir command : List ℕ) (pauses : ℕ) (link : Bor (List ℕ)) (given : Arg) (bytes : Option (List ℕ))
-    → command ≡ command_text dir (link.now, given) → Since old new (EndsEarly command pauses)
-    → Since old new (EndsAt dir pauses (link.now, given) bytes (run_end.Limit link) bytes)
-ends_early old new dir command pauses link given bytes same early =
-    Since-map old new (EndsEarly command pauses) (EndsAt dir pauses (link.now, given) bytes (run_end.Limit link) bytes) early
-    (λ calls is. (refl, is.0, is.1, subst (λ text. RunsTo text is.0 calls) same is.2, is.3, refl))
+pub ends_early : (old new : Option (List HostCall)) (command : List ℕ) (pauses : ℕ) (link : Bor (List ℕ)) (given : Arg) (bytes : Option (List ℕ))
+    → Since old new (EndsEarly command pauses)
+    → Since old new (EndsCommand command pauses (link.now, given) bytes (run_end.Limit link) bytes)
+ends_early old new command pauses link given bytes early =
+    Since-map old new (EndsEarly command pauses) (EndsCommand command pauses (link.now, given) bytes (run_end.Limit link) bytes) early
+    (λ calls is. (refl, is, refl))
 
 -- the line was not written
-pub ends_unwritten : (old new : Option (List HostCall)) (dir command : List ℕ) (pauses still : ℕ) (s : LinkRun) (given : RcAnswer) (before after : Option (List ℕ)) (ended : RunEnd)
-    → command ≡ command_text dir s → Since old new (GoneTo command (progress.Over given) pauses still)
-    → (ended ≡ run_end.Write) × AppendsPrefix before after (line_of s given) → Since old new (EndsAt dir pauses s before ended after)
-ends_unwritten old new dir command pauses still s given before after ended same gone (is, line) =
-    Since-map old new (GoneTo command (progress.Over given) pauses still) (EndsAt dir pauses s before ended after) gone
-    (λ calls was. subst (λ e. EndsAt dir pauses s before e after calls) (sym is)
-    (given, (subst (λ text. RunsTo text (progress.Over given) calls) same was.0, omega (arith, was.1)), line))
+pub ends_unwritten : (old new : Option (List HostCall)) (command : List ℕ) (pauses still : ℕ) (s : LinkRun) (given : RcAnswer) (before after : Option (List ℕ)) (ended : RunEnd)
+    → Since old new (GoneTo command (progress.Over given) pauses still)
+    → (ended ≡ run_end.Write) × AppendsPrefix before after (line_of s given)
+    → Since old new (EndsCommand command pauses s before ended after)
+ends_unwritten old new command pauses still s given before after ended gone (is, line) =
+    Since-map old new (GoneTo command (progress.Over given) pauses still) (EndsCommand command pauses s before ended after) gone
+    (λ calls was. subst (λ e. EndsCommand command pauses s before e after calls) (sym is) (given, was.0, omega (arith, was.1), line))
+
+-- the line of its start was not written
+pub ends_unbegun : (told : Option (List HostCall)) (way : RunWay) (dir : List ℕ) (pauses : ℕ) (s : LinkRun) (before after : Option (List ℕ)) (ended : RunEnd)
+    → (ended ≡ run_end.Write) × (way.verbose ≡ true) × AppendsPrefix before after (begin_line s)
+    → Since told told (EndsAt way dir pauses s before ended after)
+ends_unbegun told way dir pauses s before after ended (is, verbose, line) =
+    Since-none told (EndsAt way dir pauses s before ended after)
+    (subst (λ e. EndsAt way dir pauses s before e after []) (sym is) (inl (verbose, refl, line)))
+
+-- a run of a command, behind the line of its script's start
+ends_at : (way : RunWay) (dir command : List ℕ) (pauses : ℕ) (s : LinkRun) (before mid after : Option (List ℕ)) (ended : RunEnd) (calls : List HostCall)
+    → command ≡ command_text way dir s → TellsStart way s before mid → EndsCommand command pauses s mid ended after calls
+    → EndsAt way dir pauses s before ended after calls
+ends_at way dir command pauses s before mid after (run_end.Limit link) calls same told (named, early, stays) = (
+  named,
+  early.0,
+  early.1,
+  subst (λ text. RunsTo text early.0 calls) same early.2,
+  early.3,
+  subst (λ b. TellsStart way s before b) (sym stays) told,
+)
+ends_at way dir command pauses s before mid after run_end.Write calls same told (given, ran, count, line) =
+    inr (given, mid, (subst (λ text. RunsTo text (progress.Over given) calls) same ran, count), told, line)
+ends_at way dir command pauses s before mid after run_end.Memory calls same told at = absurd at
+ends_at way dir command pauses s before mid after run_end.Done calls same told at = absurd at
+ends_at way dir command pauses s before mid after run_end.Failed calls same told at = absurd at
+ends_at way dir command pauses s before mid after run_end.Waiting calls same told at = absurd at
+
+pub ends_told : (old new : Option (List HostCall)) (way : RunWay) (dir command : List ℕ) (pauses : ℕ) (s : LinkRun) (before mid after : Option (List ℕ)) (ended : RunEnd)
+    → command ≡ command_text way dir s → TellsStart way s before mid → Since old new (EndsCommand command pauses s mid ended after)
+    → Since old new (EndsAt way dir pauses s before ended after)
+ends_told old new way dir command pauses s before mid after ended same told ends =
+    Since-map old new (EndsCommand command pauses s mid ended after) (EndsAt way dir pauses s before ended after) ends
+    (λ calls at. ends_at way dir command pauses s before mid after ended calls same told at)
+
+-- the same where a command was run, whatever came of it
+pub started_lines : (ran : Result RcAnswer RunEnd) (way : RunWay) (s : LinkRun) (before mid after : Option (List ℕ)) → TellsStart way s before mid
+    → IfOk ran (λ given. Appends mid after (line_of s given)) → IfOk ran (λ given. Appends before after (lines_of way s given))
+started_lines (Ok given) way s before mid after told line = lines_told way s given before mid after told line
+started_lines (Err ended) way s before mid after told line = tt
+
+pub started_ran : (ran : Result RcAnswer RunEnd) (old new : Option (List HostCall)) (command text : List ℕ) (pauses still : ℕ) → command ≡ text
+    → IfOk ran (λ given. Since old new (GoneTo command (progress.Over given) pauses still))
+    → IfOk ran (λ given. Since old new (GoneTo text (progress.Over given) pauses still))
+started_ran (Ok given) old new command text pauses still same gone = gone_by old new command text (progress.Over given) pauses still same gone
+started_ran (Err ended) old new command text pauses still same gone = tt
+
+pub started_ends : (ran : Result RcAnswer RunEnd) (old new : Option (List HostCall)) (way : RunWay) (dir command : List ℕ) (pauses : ℕ) (s : LinkRun) (before mid after : Option (List ℕ))
+    → command ≡ command_text way dir s → TellsStart way s before mid
+    → IfErr ran (λ ended. Since old new (EndsCommand command pauses s mid ended after))
+    → IfErr ran (λ ended. Since old new (EndsAt way dir pauses s before ended after))
+started_ends (Ok given) old new way dir command pauses s before mid after same told ends = tt
+started_ends (Err ended) old new way dir command pauses s before mid after same told ends =
+    ends_told old new way dir command pauses s before mid after ended same told ends
 
 -- a run that ends at its first script
-pub runs_ends : (old new : Option (List HostCall)) (dir : List ℕ) (pauses : ℕ) (rc now : RcState) (before after : Option (List ℕ)) (ended : RunEnd) (s : LinkRun)
-    → rc.waits ≡ false → rc.left ≡ s ∷ now.left → Since old new (EndsAt dir pauses s before ended after)
-    → Since old new (RunsLinks dir pauses rc before ended now after)
-runs_ends old new dir pauses rc now before after ended s ready head ends =
-    Since-map old new (EndsAt dir pauses s before ended after) (RunsLinks dir pauses rc before ended now after) ends
+pub runs_ends : (old new : Option (List HostCall)) (way : RunWay) (dir : List ℕ) (pauses : ℕ) (failed : Bool) (rc now : RcState) (before after : Option (List ℕ)) (ended : RunEnd) (s : LinkRun)
+    → rc.waits ≡ false → rc.left ≡ s ∷ now.left → now.waits ≡ true → Since old new (EndsAt way dir pauses s before ended after)
+    → Since old new (RunsLinks way dir pauses failed rc before ended now after)
+runs_ends old new way dir pauses failed rc now before after ended s ready head waiting ends =
+    Since-map old new (EndsAt way dir pauses s before ended after) (RunsLinks way dir pauses failed rc before ended now after) ends
     (λ calls at. record {
       waits = λ is. absurd (true≢false (sym is ∙ ready));
-      runs = λ _. subst (λ left. RunsFrom dir pauses left before ended now.left after calls) (sym head) (inl (at, refl));
+      runs = λ _. subst (λ left. RunsFrom way dir pauses failed left before ended now.left after calls) (sym head) (inl (at, refl));
+      answered = λ _. waiting ∙ sym (ap not (stops_early way dir pauses s before ended after calls at));
     })
 
+done_over : (failed : Bool) → is_over (done_end failed) ≡ true
+done_over true = refl
+done_over false = refl
+
 -- a run of no script more
-pub runs_done : (told : Option (List HostCall)) (dir : List ℕ) (pauses : ℕ) (rc now : RcState) (bytes : Option (List ℕ))
-    → (rc.waits ≡ false) × (rc.left ≡ []) × (now ≡ rc) → Since told told (RunsLinks dir pauses rc bytes run_end.Done now bytes)
-runs_done told dir pauses rc now bytes (ready, none, same) =
-    Since-none told (RunsLinks dir pauses rc bytes run_end.Done now bytes) (record {
-      waits = λ is. absurd (true≢false (sym is ∙ ready));
-      runs = λ _. subst (λ left. RunsFrom dir pauses left bytes run_end.Done now.left bytes []) (sym none)
-          (refl, subst (λ (r : RcState). r.left ≡ []) (sym same) none, refl, refl);
+pub runs_done : (told : Option (List HostCall)) (way : RunWay) (dir : List ℕ) (pauses : ℕ) (failed : Bool) (rc now : RcState) (bytes : Option (List ℕ)) (ended : RunEnd)
+    → (rc.waits ≡ false) × (rc.left ≡ []) × (now ≡ rc) → ended ≡ done_end failed
+    → Since told told (RunsLinks way dir pauses failed rc bytes ended now bytes)
+runs_done told way dir pauses failed rc now bytes ended (ready, none, same) is =
+    Since-none told (RunsLinks way dir pauses failed rc bytes ended now bytes) (record {
+      waits = λ waiting. absurd (true≢false (sym waiting ∙ ready));
+      runs = λ _. subst (λ left. RunsFrom way dir pauses failed left bytes ended now.left bytes []) (sym none)
+          (is, subst (λ (r : RcState). r.left ≡ []) (sym same) none, refl, refl);
+      answered = λ _. subst (λ (r : RcState). r.waits ≡ false) (sym same) ready ∙ sym (ap not (ap is_over is ∙ done_over failed));
     })
 
 -- an answer is missing
-pub runs_waiting : (told : Option (List HostCall)) (dir : List ℕ) (pauses : ℕ) (rc now : RcState) (bytes : Option (List ℕ)) → (rc.waits ≡ true) × (now ≡ rc)
-    → Since told told (RunsLinks dir pauses rc bytes run_end.Waiting now bytes)
-runs_waiting told dir pauses rc now bytes (waiting, same) =
-    Since-none told (RunsLinks dir pauses rc bytes run_end.Waiting now bytes) (record {
+pub runs_waiting : (told : Option (List HostCall)) (way : RunWay) (dir : List ℕ) (pauses : ℕ) (failed : Bool) (rc now : RcState) (bytes : Option (List ℕ))
+    → (rc.waits ≡ true) × (now ≡ rc) → Since told told (RunsLinks way dir pauses failed rc bytes run_end.Waiting now bytes)
+runs_waiting told way dir pauses failed rc now bytes (waiting, same) =
+    Since-none told (RunsLinks way dir pauses failed rc bytes run_end.Waiting now bytes) (record {
       waits = λ _. (refl, same, refl, refl);
       runs = λ ready. absurd (true≢false (sym waiting ∙ ready));
+      answered = λ ready. absurd (true≢false (sym waiting ∙ ready));
     })
 
 -- a script that was handed out, ran and was answered
-pub advanced : (old new : Option (List HostCall)) (dir : List ℕ) (pauses still : ℕ) (rc mid now : RcState) (before after : Option (List ℕ)) (s : LinkRun) (given : RcAnswer)
-    → rc.waits ≡ false → rc.left ≡ s ∷ mid.left → now ≡ record mid { waits = false }
-    → Since old new (GoneTo (command_text dir s) (progress.Over given) pauses still) → Appends before after (line_of s given)
-    → Since old new (Advanced dir pauses still rc before now after)
-advanced old new dir pauses still rc mid now before after s given ready head is gone line =
-    Since-map old new (GoneTo (command_text dir s) (progress.Over given) pauses still) (Advanced dir pauses still rc before now after) gone
-    (λ calls was. subst (λ (r : RcState). Advanced dir pauses still rc before r after calls) (sym is) (s, given, ready, head, refl, was, line))
+pub advanced : (old new : Option (List HostCall)) (way : RunWay) (dir : List ℕ) (pauses still : ℕ) (failed fails : Bool) (rc mid now : RcState) (before after : Option (List ℕ)) (s : LinkRun) (given : RcAnswer)
+    → rc.waits ≡ false → rc.left ≡ s ∷ mid.left → now ≡ record mid { waits = false } → fails ≡ (failed || is_failure given)
+    → Since old new (GoneTo (command_text way dir s) (progress.Over given) pauses still) → Appends before after (lines_of way s given)
+    → Since old new (Advanced way dir pauses still failed fails rc before now after)
+advanced old new way dir pauses still failed fails rc mid now before after s given ready head is failing gone line =
+    Since-map old new (GoneTo (command_text way dir s) (progress.Over given) pauses still) (Advanced way dir pauses still failed fails rc before now after) gone
+    (λ calls was. subst (λ (r : RcState). Advanced way dir pauses still failed fails rc before r after calls) (sym is)
+    (s, given, ready, head, refl, failing, was, line))
 
 -- a script, and the run behind it
-pub runs_more : (old mid new : Option (List HostCall)) (dir : List ℕ) (pauses still : ℕ) (rc now last : RcState) (before between after : Option (List ℕ)) (ended : RunEnd)
-    → Since old mid (Advanced dir pauses still rc before now between) → Since mid new (RunsLinks dir still now between ended last after)
-    → Since old new (RunsLinks dir pauses rc before ended last after)
-runs_more old mid new dir pauses still rc now last before between after ended first behind =
-    Since-then old mid new (Advanced dir pauses still rc before now between) (RunsLinks dir still now between ended last after)
-    (RunsLinks dir pauses rc before ended last after) first behind together
+pub runs_more : (old mid new : Option (List HostCall)) (way : RunWay) (dir : List ℕ) (pauses still : ℕ) (failed fails : Bool) (rc now last : RcState) (before between after : Option (List ℕ)) (ended : RunEnd)
+    → Since old mid (Advanced way dir pauses still failed fails rc before now between)
+    → Since mid new (RunsLinks way dir still fails now between ended last after)
+    → Since old new (RunsLinks way dir pauses failed rc before ended last after)
+runs_more old mid new way dir pauses still failed fails rc now last before between after ended first behind =
+    Since-then old mid new (Advanced way dir pauses still failed fails rc before now between)
+    (RunsLinks way dir still fails now between ended last after) (RunsLinks way dir pauses failed rc before ended last after) first behind together
   where
-    together : (earlier later : List HostCall) → Advanced dir pauses still rc before now between earlier → RunsLinks dir still now between ended last after later
-        → RunsLinks dir pauses rc before ended last after (later ++ earlier)
-    together earlier later (s, given, ready, head, answered, gone, line) runs = record {
+    together : (earlier later : List HostCall) → Advanced way dir pauses still failed fails rc before now between earlier
+        → RunsLinks way dir still fails now between ended last after later
+        → RunsLinks way dir pauses failed rc before ended last after (later ++ earlier)
+    together earlier later (s, given, ready, head, answered, failing, gone, line) runs = record {
       waits = λ is. absurd (true≢false (sym is ∙ ready));
-      runs = λ _. subst (λ left. RunsFrom dir pauses left before ended last.left after (later ++ earlier)) (sym head)
+      runs = λ _. subst (λ left. RunsFrom way dir pauses failed left before ended last.left after (later ++ earlier)) (sym head)
           (inr (
             given,
             earlier,
@@ -101,8 +168,10 @@ runs_more old mid new dir pauses still rc now last before between after ended fi
             refl,
             (gone.0, omega (arith, gone.1)),
             line,
-            subst (λ n. RunsFrom dir n now.left between ended last.left after later) (left_of gone.1) (runs.runs answered),
+            subst (λ f. RunsFrom way dir (pauses - count_pauses earlier) f now.left between ended last.left after later) failing
+                (subst (λ n. RunsFrom way dir n fails now.left between ended last.left after later) (left_of gone.1) (runs.runs answered)),
           ));
+      answered = λ _. runs.answered answered;
     }
       where
         left_of : pauses ≡ count_pauses earlier + still → still ≡ pauses - count_pauses earlier

@@ -1,5 +1,6 @@
 -- What is written of the scripts that were run, and how a run over a host ends.
-use Rattle.std.specs.Prelude.{◌≡◌, ◌≢◌, ℕ, true, false, List, [], ◌∷◌, ◌++◌, length, codes, decimal, Option}
+use Rattle.std.specs.Prelude.{◌≡◌, ℕ, Bool, true, false, if◌then◌else◌, List, [], ◌∷◌, ◌++◌, length, codes, decimal, Option}
+use Rattle.std.specs.List.{list_any}
 use Rattle.std.specs.Io.KnownBytes.{Appends}
 use Rattle.init_words.specs.declared.children.Status.{Status}
 use Rattle.init_words.specs.declared.children.Status.TheVariants as status
@@ -10,7 +11,8 @@ use Rattle.rc_driver.specs.declared.runs.Arg.{Arg}
 use Rattle.rc_driver.specs.declared.runs.Arg.TheVariants as arg
 use Rattle.rc_driver.specs.declared.runs.RcAnswer.{RcAnswer}
 use Rattle.rc_driver.specs.declared.runs.RcAnswer.TheVariants as answer
-use Rattle.rc_driver.specs.Runs.{RcState, LinkRun}
+use Rattle.rc_driver.specs.declared.runs.RunWay.{RunWay}
+use Rattle.rc_driver.specs.Runs.{LinkRun, RcState, is_failure}
 
 -- the word of an argument
 abbrev pub arg_word : Arg → List ℕ
@@ -37,33 +39,50 @@ script_text s = s.0 ++ (codes " " ++ arg_word s.1)
 abbrev pub line_of : LinkRun → RcAnswer → List ℕ
 line_of s given = script_text s ++ end_text given
 
--- what starts a script, whose link stands in the folder
-abbrev pub command_text : List ℕ → LinkRun → List ℕ
-command_text dir s = codes "sh " ++ (dir ++ (codes "/" ++ script_text s))
+-- the line of a script that is started
+abbrev pub begin_line : LinkRun → List ℕ
+begin_line s = script_text s ++ codes " begins\n"
 
--- the lines of scripts that came to these ends, as far as there are both
-abbrev pub report : List LinkRun → List RcAnswer → List ℕ
-report (s ∷ scripts) (given ∷ answers) = line_of s given ++ report scripts answers
-report _ _ = []
+-- what is written of a script that came to its end; of its start too, where starts are told
+abbrev pub lines_of : RunWay → LinkRun → RcAnswer → List ℕ
+lines_of way s given = (if way.verbose then begin_line s else []) ++ line_of s given
+
+-- the line of a script's start was written, where starts are told
+abbrev pub TellsStart : RunWay → LinkRun → Option (List ℕ) → Option (List ℕ) → Type 0
+TellsStart way s before after =
+    (way.verbose ≡ true → Appends before after (begin_line s)) × (way.verbose ≡ false → after ≡ before)
+
+-- what stands in front of a script's path where it is started
+abbrev pub shell_word : RunWay → List ℕ
+shell_word way = if way.direct then [] else codes "sh "
+
+-- what starts a script, whose link stands in the folder
+abbrev pub command_text : RunWay → List ℕ → LinkRun → List ℕ
+command_text way dir s = shell_word way ++ (dir ++ (codes "/" ++ script_text s))
+
+-- what is written of scripts that came to these ends, as far as there are both
+abbrev pub report : RunWay → List LinkRun → List RcAnswer → List ℕ
+report way (s ∷ scripts) (given ∷ answers) = lines_of way s given ++ report way scripts answers
+report way _ _ = []
+
+-- how a run ends whose scripts all came to their ends
+abbrev pub done_end : Bool → RunEnd
+done_end failed = if failed then run_end.Failed else run_end.Done
+
+-- all scripts came to their ends
+abbrev pub is_over : RunEnd → Bool
+is_over run_end.Done = true
+is_over run_end.Failed = true
+is_over _ = false
 
 -- how a run over a host changes the run of the scripts and a writer's bytes. Lines of the scripts that were left were
--- written, each with an end (which one the host answered is not said): of all of them, where the run is done; else as
--- far as it came, and the last script that was handed out is not answered
-pub record WritesEnds (old : RcState) (before : Option (List ℕ)) (ended : RunEnd) (new : RcState) (after : Option (List ℕ))
-    : Type 0 where
+-- written, each with an end (which one the host answered is not said): of all of them, where the run is over, which says
+-- whether one failed; else as far as it came, and the last script that was handed out is not answered
+pub record WritesEnds (way : RunWay) (old : RcState) (before : Option (List ℕ)) (ended : RunEnd) (new : RcState)
+    (after : Option (List ℕ)) : Type 0 where
   pub answers : List RcAnswer
-  pub part : AppendsPrefix before after (report old.left answers)
-  pub whole : ended ≡ run_end.Done →
-      (length answers ≡ length old.left) × Appends before after (report old.left answers)
-      × (new.left ≡ []) × (new.waits ≡ false)
-  pub waits : ended ≢ run_end.Done → new.waits ≡ true
-
--- the next script that was left came to an end, and its line was written
-abbrev pub Advances : RcState → Option (List ℕ) → RcState → Option (List ℕ) → Type 0
-Advances old before new after = (s : LinkRun) × (given : RcAnswer)
-    × (old.left ≡ s ∷ new.left) × (new.waits ≡ false) × Appends before after (line_of s given)
-
--- a run ended at a script: of its line at most a part was written
-abbrev pub Stops : RunEnd → LinkRun → Option (List ℕ) → Option (List ℕ) → Type 0
-Stops ended s before after =
-    (ended ≢ run_end.Done) × ((given : RcAnswer) × AppendsPrefix before after (line_of s given))
+  pub part : AppendsPrefix before after (report way old.left answers)
+  pub whole : is_over ended ≡ true →
+      (ended ≡ done_end (list_any is_failure answers)) × (length answers ≡ length old.left)
+      × Appends before after (report way old.left answers) × (new.left ≡ []) × (new.waits ≡ false)
+  pub waits : is_over ended ≡ false → new.waits ≡ true

@@ -1,8 +1,11 @@
 -- The scripts that are run where a level is entered, and how far their run is (LSB Core 5.0, System Initialization).
-use Rattle.std.specs.Prelude.{ℕ, Bool, List, ◌++◌, map}
+use Rattle.std.specs.Prelude.{ℕ, Bool, true, not, ◌==◌, List, ◌++◌, map}
 use Rattle.std.specs.Borrow.{Bor}
 use Rattle.rc_driver.specs.declared.runs.Arg.{Arg}
 use Rattle.rc_driver.specs.declared.runs.Arg.TheVariants as arg
+use Rattle.rc_driver.specs.declared.runs.RcAnswer.{RcAnswer}
+use Rattle.rc_driver.specs.declared.runs.RcAnswer.TheVariants as answer
+use Rattle.init_words.specs.declared.children.Status.TheVariants as status
 use Rattle.rc_driver.specs.Links.{start_links, stop_links}
 
 -- a link and the argument that it is run with
@@ -23,6 +26,11 @@ texts_of names = map (λ name. name.now) names
 -- the scripts of links that are borrowed
 abbrev pub scripts_of : List (Bor (List ℕ) × Arg) → List LinkRun
 scripts_of held = map (λ s. (s.0.now, s.1)) held
+
+-- a script failed: it was not started, or its end is no exit with 0
+abbrev pub is_failure : RcAnswer → Bool
+is_failure (answer.Ended (status.Exit code)) = not (code == 0)
+is_failure _ = true
 
 -- the scripts that are not handed out yet, and whether the answer to the last one that was is missing
 pub record RcState : Type 0 where

@@ -4,8 +4,11 @@
 
 mod driving;
 mod links;
+mod printing;
 mod progress;
 mod runs;
+mod writing;
 
 pub use driving::{RunEnd, run_links};
-pub use runs::{Arg, NotAsked, Rc, RcAnswer, RcStep};
+pub use printing::print_links;
+pub use runs::{Arg, NotAsked, Rc, RcAnswer, RcStep, RunWay};

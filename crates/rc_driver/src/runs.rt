@@ -1,7 +1,7 @@
 //! The scripts of a change of runlevel, one after another.
 
-ghost use Rattle.std.specs.Prelude.{◌≡◌, ◌++◌, false, true, map, string_bytes, IfOk, OnOk, OnErr};
-ghost use Rattle.rc_driver.specs.Runs.{rc_run, scripts_of, texts_of, with_arg};
+ghost use Rattle.std.specs.Prelude.{◌≡◌, ◌++◌, ◌||◌, false, true, map, string_bytes, IfOk, OnOk, OnErr};
+ghost use Rattle.rc_driver.specs.Runs.{is_failure, rc_run, scripts_of, texts_of, with_arg};
 ghost use Rattle.rc_driver.specs.Steps.{Steps};
 
 use crate::links::{start_links, stop_links};
@@ -38,6 +38,32 @@ pub enum RcAnswer {
     Ended(Status),
     /// It could not be started.
     NotStarted,
+}
+
+/// How scripts are run.
+#[derive(Clone, Copy, PartialEq, Eq)]
+pub struct RunWay {
+    /// A script is executed itself, by what its first line says; else `sh` reads it.
+    pub direct: bool,
+    /// A line tells of each start.
+    pub verbose: bool,
+}
+
+/// The script failed: it was not started, or its end is no exit with 0.
+fn is_failure(answer: &RcAnswer) -> bool
+    ensures { result ≡ is_failure answer.now }
+{
+    match answer {
+        RcAnswer::Ended(Status::Exit(code)) => *code != 0,
+        _ => true,
+    }
+}
+
+/// One has failed already, or the script that came to this end failed.
+pub(crate) fn failed_by(failed: bool, answer: &RcAnswer) -> bool
+    ensures { result ≡ (failed || is_failure answer.now) }
+{
+    failed || is_failure(answer)
 }
 
 /// An answer that was not asked for.

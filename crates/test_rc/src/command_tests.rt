@@ -33,6 +33,18 @@ const ROWS: &[Row] = &[
         0,
         "K10a stop exit 3\nS10b start killed\nS20c start exit 0\n",
     ),
+    (
+        &["-v", "--strict", "t", "2", "3"],
+        2,
+        "K10a stop begins\nK10a stop exit 3\nS10b start begins\nS10b start killed\n\
+         S20c start begins\nS20c start exit 0\n",
+    ),
+    (
+        &["-nv", "t", "2", "3"],
+        0,
+        "sh t/rc3.d/K10a stop\nsh t/rc3.d/S10b start\nsh t/rc3.d/S20c start\n",
+    ),
+    (&["t", "-n", "--direct", "6", "0"], 0, "t/rc0.d/K20c stop\n"),
     (&["t", "3", "0"], 0, "K20c stop exit 0\n"),
     (&["t", "0", "6"], 0, "S90r start exit 0\n"),
     (&["t", "N", "S"], 0, ""),
@@ -60,7 +72,9 @@ where
     let mut err: Vec<u8> = Vec::new(alloc);
     let status = run_words(rt, rt, alloc, words, &mut out, &mut err);
     assert!(rt;
-        status == row.1 && out.as_slice() == row.2.as_bytes() && (status == 0) == err.is_empty()
+        status == row.1
+            && out.as_slice() == row.2.as_bytes()
+            && (status == 0 || status == 2) == err.is_empty()
     );
 }
 
@@ -92,8 +106,12 @@ fn command_lines_are_run(rt: HostRuntime) -> Result<(), Fail> {
     Ok(())
 }
 
-const USAGE_REPORT: &str = "usage: rc DIR PREV NEW\
+const USAGE_REPORT: &str = "usage: rc [-n] [-v] [--strict] [--direct] DIR PREV NEW\
 \n       rc --version\
+\n  -n        print what would be run, and run nothing\
+\n  -v        tell of each start\
+\n  --strict  status 2 where a script fails\
+\n  --direct  execute each script by its own first line, not by sh\
 \n  DIR   the folder that holds those of the runlevels, as rc3.d; of bytes of A-Z a-z 0-9 . _ - / alone\
 \n  PREV  the runlevel before, 0 to 9 or S, or N where there was none\
 \n  NEW   the runlevel that is entered, 0 to 9 or S\n";
@@ -104,6 +122,7 @@ const REFUSED: &[(&[&str], &str)] = &[
     (&["t", "2"], "rc: a word is missing\n"),
     (&["t", "2", "3", "4"], "rc: unexpected argument '4' found\n"),
     (&["t", "-1", "3"], "rc: unexpected argument '-1' found\n"),
+    (&["-v"], "rc: a word is missing\n"),
     (
         &["--version", "2", "3"],
         "rc: unexpected argument '--version' found\n",

@@ -3,11 +3,23 @@
 use child_host::{Call, Reply};
 use init_words::{Answer, ChildNo, Id, Status};
 use memory_host::MemoryHost;
-use rc_driver::{Rc, RcStep, RunEnd, run_links};
+use rc_driver::{Rc, RcStep, RunEnd, RunWay, print_links, run_links};
 use std::alloc::Global;
 use std::process::Abort;
 use std::test::Fail;
 use test_support::Slow;
+
+/// By `sh`, and no start is told.
+const PLAIN: RunWay = RunWay {
+    direct: false,
+    verbose: false,
+};
+
+/// The scripts themselves, and each start is told.
+const TOLD: RunWay = RunWay {
+    direct: true,
+    verbose: true,
+};
 
 /// Replies to starts, replies to looks and late answers, each a letter: `l`ater, `b`orn, `n`ot born, `e`nded with 0,
 /// `t`hree, `k`illed, `a`live, `o` that the look failed, `-` none. Then the limit of pauses, the writer's room, how the
@@ -40,7 +52,7 @@ const ROWS: &[Row] = &[
         b"-b-",
         9,
         99,
-        RunEnd::Done,
+        RunEnd::Failed,
         "K05c stop exit 0\nS10a start killed\n",
         "SPAPALPALSL",
     ),
@@ -50,7 +62,7 @@ const ROWS: &[Row] = &[
         b"",
         0,
         99,
-        RunEnd::Done,
+        RunEnd::Failed,
         "K05c stop not started\nS10a start exit 3\n",
         "SSL",
     ),
@@ -60,7 +72,7 @@ const ROWS: &[Row] = &[
         b"-e",
         2,
         99,
-        RunEnd::Done,
+        RunEnd::Failed,
         "K05c stop exit 0\nS10a start killed\n",
         "SLPAPASL",
     ),
@@ -70,7 +82,7 @@ const ROWS: &[Row] = &[
         b"n",
         1,
         99,
-        RunEnd::Done,
+        RunEnd::Failed,
         "K05c stop not started\nS10a start not started\n",
         "SPAS",
     ),
@@ -207,7 +219,7 @@ fn has_calls(host: &MemoryHost, letters: &[u8]) -> bool {
 
 /// What is asked for after a run that ended so: nothing, or an answer that is still missing.
 fn step_at(end: RunEnd) -> RcStep<'static> {
-    if end == RunEnd::Done {
+    if end == RunEnd::Done || end == RunEnd::Failed {
         RcStep::Done
     } else {
         RcStep::Waiting
@@ -217,7 +229,7 @@ fn step_at(end: RunEnd) -> RcStep<'static> {
 /// The run over the host ends so, with so much written.
 fn ends(rt: &impl Abort, alloc: Global, rc: &mut Rc, host: &mut MemoryHost, row: &Row) {
     let mut out = Slow::new(alloc, row.4, true, false);
-    let ended = run_links(alloc, rc, host, "etc/rc3.d", row.3, &mut out);
+    let ended = run_links(alloc, rc, host, PLAIN, "etc/rc3.d", row.3, &mut out);
     assert!(rt; ended == row.5 && out.taken.as_slice() == row.6.as_bytes());
 }
 
@@ -265,7 +277,7 @@ fn ends_at_once(
 ) {
     let mut host = MemoryHost::new(alloc);
     let mut out = Slow::new(alloc, 99, true, is_stuck);
-    let ended = run_links(alloc, rc, &mut host, "x", 9, &mut out);
+    let ended = run_links(alloc, rc, &mut host, PLAIN, "x", 9, &mut out);
     assert!(rt; ended == end && out.taken.as_slice() == taken);
 }
 
@@ -300,4 +312,71 @@ fn ends_with_a_write_fault(rt: &impl Abort, alloc: Global, names: &[String]) -> 
 fn a_writer_that_keeps_its_bytes_ends_the_run(rt: HostRuntime) -> Result<(), Fail> {
     let names = two_names(rt.alloc())?;
     ends_with_a_write_fault(&rt, rt.alloc(), &names)
+}
+
+/// The end of a run, and what it writes, over a host whose first script is born and ends with 0, and whose second is
+/// not; the writer has so much room.
+const TOLD_ROWS: &[(usize, RunEnd<'static>, &str)] = &[
+    (
+        99,
+        RunEnd::Failed,
+        "K05c stop begins\nK05c stop exit 0\nS10a start begins\nS10a start not started\n",
+    ),
+    (35, RunEnd::Write, "K05c stop begins\nK05c stop exit 0\nS"),
+];
+
+fn starts_are_told(
+    rt: &impl Abort,
+    alloc: Global,
+    names: &[String],
+    row: &(usize, RunEnd<'static>, &str),
+) -> Result<(), Fail> {
+    let mut rc = Rc::new(alloc, &[], names)?;
+    let mut host = MemoryHost::new(alloc);
+    give_starts(&mut host, b"b")?;
+    give_looks(&mut host, b"e")?;
+    let mut out = Slow::new(alloc, row.0, true, false);
+    let ended = run_links(alloc, &mut rc, &mut host, TOLD, "x", 9, &mut out);
+    assert!(rt; ended == row.1 && out.taken.as_slice() == row.2.as_bytes());
+    Ok(())
+}
+
+#[test]
+fn each_start_is_told(rt: HostRuntime) -> Result<(), Fail> {
+    let names = two_names(rt.alloc())?;
+    for row in TOLD_ROWS {
+        starts_are_told(&rt, rt.alloc(), &names, row)?;
+    }
+    Ok(())
+}
+
+/// How scripts are run, the writer's room, how the print ends, and what it writes.
+const PRINTS: &[(RunWay, usize, RunEnd<'static>, &str)] = &[
+    (PLAIN, 99, RunEnd::Done, "sh x/K05c stop\nsh x/S10a start\n"),
+    (TOLD, 99, RunEnd::Done, "x/K05c stop\nx/S10a start\n"),
+    (TOLD, 14, RunEnd::Write, "x/K05c stop\nx/"),
+];
+
+fn scripts_are_printed(
+    rt: &impl Abort,
+    alloc: Global,
+    names: &[String],
+    row: &(RunWay, usize, RunEnd<'static>, &str),
+) -> Result<(), Fail> {
+    let mut rc = Rc::new(alloc, &[], names)?;
+    let mut out = Slow::new(alloc, row.1, true, false);
+    let ended = print_links(alloc, &mut rc, row.0, "x", &mut out);
+    assert!(rt;
+        ended == row.2 && out.taken.as_slice() == row.3.as_bytes() && rc.next() == step_at(row.2)
+    );
+    Ok(())
+}
+
+#[test]
+fn what_would_be_run_is_printed(rt: HostRuntime) -> Result<(), Fail> {
+    let names = two_names(rt.alloc())?;
+    for row in PRINTS {
+        scripts_are_printed(&rt, rt.alloc(), &names, row)?;
+    }
+    Ok(())
 }

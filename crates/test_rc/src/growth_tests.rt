@@ -5,10 +5,15 @@ use child_host::Reply;
 use init_words::{Answer, ChildNo, Memory, Status};
 use linked_list_allocator::LocalHeap;
 use memory_host::MemoryHost;
-use rc_driver::{Rc, RcStep, RunEnd, run_links};
+use rc_driver::{Rc, RcStep, RunEnd, RunWay, run_links};
 use std::alloc::Global;
 use std::process::Abort;
 use std::test::Fail;
+
+const WAY: RunWay = RunWay {
+    direct: false,
+    verbose: false,
+};
 
 /// From one heap to the next there is less more room than the least growth takes, so that each growth is refused on
 /// some heap.
@@ -39,7 +44,7 @@ fn is_run(rt: &impl Abort, alloc: Global, new: &[String], heap: &LocalHeap) -> R
     let mut rc = Rc::new(alloc, &[], new)?;
     let mut host = host_of(alloc)?;
     let mut out: Vec<u8> = Vec::new(alloc);
-    let ended = run_links(heap, &mut rc, &mut host, "etc/rc3.d", 9, &mut out);
+    let ended = run_links(heap, &mut rc, &mut host, WAY, "etc/rc3.d", 9, &mut out);
     if ended == RunEnd::Done {
         assert!(rt; out.as_slice() == LINES && rc.next() == RcStep::Done);
         return Ok(true);

@@ -3,7 +3,8 @@
 use child_host::Reply;
 use init_words::{Answer, ChildNo, Status};
 use memory_host::MemoryHost;
-use rc_command::{Folders, KeptFolders, run_names, run_words};
+use rc_command::{Folders, KeptFolders, RunOptions, run_names, run_words};
+use rc_driver::RunWay;
 use std::alloc::Global;
 use std::fs::File;
 use std::process::{Abort, Processes};
@@ -11,24 +12,66 @@ use std::rt::{Clock, Files};
 use std::test::Fail;
 use test_support::words_of;
 
-/// The names in the folder before and in the new one, how many of the scripts end, and what is written.
+/// The names in the folder before and in the new one, how many of the scripts end, whether nothing is run and a failure
+/// is told, the status, and what is written.
 type Row = (
     &'static [&'static str],
     &'static [&'static str],
     usize,
+    bool,
+    bool,
+    u8,
     &'static str,
 );
 
 const ROWS: &[Row] = &[
-    (&[], &[], 0, ""),
-    (&[], &["README"], 0, ""),
+    (&[], &[], 0, false, true, 0, ""),
+    (&[], &["README"], 0, false, true, 0, ""),
     (
         &[],
         &["S10a", "K05c"],
         2,
+        false,
+        true,
+        0,
         "K05c stop exit 0\nS10a start exit 0\n",
     ),
-    (&["S99a"], &["S10a", "K05c"], 1, "K05c stop exit 0\n"),
+    (
+        &["S99a"],
+        &["S10a", "K05c"],
+        1,
+        false,
+        false,
+        0,
+        "K05c stop exit 0\n",
+    ),
+    (
+        &[],
+        &["S10a", "K05c"],
+        1,
+        false,
+        true,
+        2,
+        "K05c stop exit 0\nS10a start not started\n",
+    ),
+    (
+        &[],
+        &["S10a", "K05c"],
+        1,
+        false,
+        false,
+        0,
+        "K05c stop exit 0\nS10a start not started\n",
+    ),
+    (
+        &[],
+        &["S10a", "K05c"],
+        1,
+        true,
+        true,
+        0,
+        "sh x/K05c stop\nsh x/S10a start\n",
+    ),
 ];
 
 /// A host whose next children are born and end with 0, so many of them.
@@ -47,8 +90,18 @@ fn names_are_run(rt: &impl Abort, alloc: Global, row: &Row) -> Result<(), Fail> 
     let mut host = host_of(alloc, row.2)?;
     let mut out: Vec<u8> = Vec::new(alloc);
     let mut err: Vec<u8> = Vec::new(alloc);
-    let status = run_names(alloc, &mut host, "x", &previous, &names, &mut out, &mut err);
-    assert!(rt; status == 0 && out.as_slice() == row.3.as_bytes() && err.is_empty());
+    let options = RunOptions {
+        dry: row.3,
+        strict: row.4,
+        way: RunWay {
+            direct: false,
+            verbose: false,
+        },
+    };
+    let status = run_names(
+        alloc, &mut host, "x", &previous, &names, options, &mut out, &mut err,
+    );
+    assert!(rt; status == row.5 && out.as_slice() == row.6.as_bytes() && err.is_empty());
     Ok(())
 }
 

@@ -1,14 +1,14 @@
-use Rattle.rc_driver.proofs.RunLemmas.{WritesEnds-more}
+use Rattle.rc_driver.proofs.RunLemmas.{writes_ends}
 use Rattle.rc_driver.proofs.ToldLemmas.{runs_more}
 use Rattle.rc_driver.proofs.driving.run_links.Goals as goal
 
 pub loop-ended-preserved : goal.loop-ended-preserved
-loop-ended-preserved g c = record {
-  written = λ ended new after went.
-      c.loop-ended.invariant.written ended new after (WritesEnds-more _ _ _ _ _ _ _ (c.run_next.ensures.more c.in_default.is) went);
-  calls = λ ended new after told went.
-      c.loop-ended.invariant.calls ended new after told (runs_more _ _ _ _ _ _ _ _ _ _ _ _ _ (c.run_next.ensures.one c.in_default.is) went);
-}
+loop-ended-preserved g c = λ ended new after told went.
+    c.loop-ended.invariant ended new after told (runs_more _ _ _ _ _ _ _ _ _ _ _ _ _ _ _ _ (c.run_next.ensures.one c.in_default.is) went)
 
 pub returns-in-Some-clause-calls : goal.returns-in-Some-clause-calls
-returns-in-Some-clause-calls g c = c.loop-ended.invariant.calls _ _ _ _ c.in-Some.ensures.last
+returns-in-Some-clause-calls g c = c.loop-ended.invariant _ _ _ _ c.in-Some.ensures.last
+
+pub returns-in-Some-clause-written : goal.returns-in-Some-clause-written
+returns-in-Some-clause-written g c =
+    writes_ends _ _ c.args.way c.args.dir.now c.args.limit _ _ _ _ _ (c.loop-ended.invariant _ _ _ _ c.in-Some.ensures.last)

@@ -1,6 +1,6 @@
 use Rattle.std.proofs.KnownBytes.{Appends-trans}
 use Rattle.program_io.proofs.WritingLemmas.{AppendsPrefix-first, AppendsPrefix-then, on_err}
-use Rattle.rc_driver.proofs.driving.write_three.Goals as goal
+use Rattle.rc_driver.proofs.writing.write_three.Goals as goal
 
 pub returns-in_err-write_one-clause-err : goal.returns-in_err-write_one-clause-err
 returns-in_err-write_one-clause-err g c = on_err _ _ (AppendsPrefix-first _ _ _ _ c.in_err-write_one.ensures.err)

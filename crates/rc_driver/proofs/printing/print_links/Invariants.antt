@@ -1,0 +1,14 @@
+use Rattle.std.proofs.Common.{List, ℕ, Option, length}
+use Rattle.rc_driver.specs.Printing.{PrintsLinks}
+use Rattle.rc_driver.specs.Runs.{RcState}
+use Rattle.rc_driver.specs.declared.driving.RunEnd.{RunEnd}
+use Rattle.rc_driver.proofs.printing.print_links.Given as goal
+
+-- what follows from here follows from the beginning
+abbrev pub invariant-loop-ended : goal.invariant-loop-ended
+invariant-loop-ended g l = (ended : RunEnd) (new : RcState) (after : Option (List ℕ))
+    → PrintsLinks l.way l.dir l.rc (g.W.Write.contents l.out) ended new after
+    → PrintsLinks l.way l.dir l.fn.rc (g.W.Write.contents l.fn.out) ended new after
+
+abbrev pub decreases-loop-ended : goal.decreases-loop-ended
+decreases-loop-ended g l = length l.rc.left

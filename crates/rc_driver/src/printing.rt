@@ -1,0 +1,80 @@
+//! What would be run, printed.
+
+ghost use Rattle.std.specs.Prelude.{◌≡◌, None, IfSome, IfErr, OnOk};
+ghost use Rattle.std.specs.Io.KnownBytes.{Appends};
+ghost use Rattle.rc_driver.specs.Printing.{PrintStops, Printed, PrintsLinks, command_line};
+
+use crate::driving::RunEnd;
+use crate::runs::{Arg, Rc, RcAnswer, RcStep, RunWay};
+use crate::writing::{command_of, tell_text};
+use std::alloc::Allocator;
+use std::io::Write;
+
+/// Writes the text that would start the next script; gives how the run ended, where it did.
+fn print_next<'n, A: Allocator + Copy, B: Allocator, W: Write>(
+    alloc: A,
+    rc: &mut Rc<'n, B>,
+    way: RunWay,
+    dir: &str,
+    out: &mut W,
+) -> Option<RunEnd<'n>>
+    ensures last { IfSome result (λ ended. PrintsLinks way dir.now rc.old (W.contents out.old) ended
+        rc.new (W.contents out.new)) }
+    ensures one { result ≡ None →
+        Printed way dir.now rc.old (W.contents out.old) rc.new (W.contents out.new) }
+{
+    match rc.next() {
+        RcStep::Run(link, arg) => {
+            match print_link(alloc, way, dir, link, arg, out) {
+                Ok(()) => {
+                    let Ok(()) = rc.answer(RcAnswer::NotStarted) else {
+                        unreachable!()
+                    };
+                    None
+                }
+                Err(ended) => Some(ended),
+            }
+        }
+        RcStep::Waiting => Some(RunEnd::Waiting),
+        RcStep::Done => Some(RunEnd::Done),
+    }
+}
+
+/// Writes the text that would start a script, as a line.
+fn print_link<A: Allocator, W: Write>(
+    alloc: A,
+    way: RunWay,
+    dir: &str,
+    link: &str,
+    arg: Arg,
+    out: &mut W,
+) -> Result<(), RunEnd<'static>>
+    ensures ok { OnOk result (Appends (W.contents out.old) (W.contents out.new)
+        (command_line way dir.now (link.now, arg))) }
+    ensures err { IfErr result (λ ended. PrintStops ended way dir.now (link.now, arg)
+        (W.contents out.old) (W.contents out.new)) }
+{
+    let Ok(command) = command_of(alloc, way, dir, link, arg) else {
+        return Err(RunEnd::Memory);
+    };
+    tell_text(out, command.as_bytes())
+}
+
+/// Writes for each of the scripts that are left the text that would start it, a line each, and runs none: no host is
+/// there. Each is handed out, and answered as one that was not started.
+pub fn print_links<'n, A: Allocator + Copy, B: Allocator, W: Write>(
+    alloc: A,
+    rc: &mut Rc<'n, B>,
+    way: RunWay,
+    dir: &str,
+    out: &mut W,
+) -> RunEnd<'n>
+    ensures { PrintsLinks way dir.now rc.old (W.contents out.old) result rc.new
+        (W.contents out.new) }
+{
+    loop {
+        if let Some(ended) = print_next(alloc, rc, way, dir, out) {
+            return ended;
+        }
+    }
+}
