@@ -1,4 +1,5 @@
-use Rattle.std.proofs.Common.{inl, inr}
+use Rattle.std.proofs.Common.{inl, inr, refl, sym, subst, IsSome}
+use Rattle.rc_command.proofs.ReadWords.{refused_by}
 use Rattle.rc_command.proofs.running.run_words.Goals as goal
 
 pub returns-in-Ok-clause-done : goal.returns-in-Ok-clause-done
@@ -13,3 +14,11 @@ pub returns-in-Ok-clause-ran : goal.returns-in-Ok-clause-ran
 returns-in-Ok-clause-ran g c = λ _.
     let reads = rw c.as_slice-2.ensures.value at c.in-Ok.ensures.ok in
     elim c.run.ensures.ran [ inl none ↦ inl (inr none.0, none.1) | inr ran ↦ inr (_, reads, ran) ]
+
+pub returns-in-Ok-clause-said : goal.returns-in-Ok-clause-said
+returns-in-Ok-clause-said g c = λ _ _. let reads = rw c.as_slice-2.ensures.value at c.in-Ok.ensures.ok in subst IsSome (sym reads) refl
+
+pub returns-clause-refused : goal.returns-clause-refused
+returns-clause-refused g c = λ is.
+    let usage = rw c.as_slice-2.ensures.value at c.in-Err.ensures.usage in
+    refused_by c.in-Err.fault c.report_word_fault.result usage c.report_word_fault.ensures.memory is
