@@ -22,7 +22,10 @@ end() {
 }
 
 # waits until the trace has this many lines of this kind
-until_heard() { while [ "$(grep -c "^$1" trace)" -lt "$2" ]; do sleep 0.002; done; }
+heard() { grep -c "^$1" trace 2> /dev/null || true; }
+until_heard() {
+    until lines=$(heard "$1") && [ "${lines:-0}" -ge "$2" ]; do sleep 0.002; done
+}
 
 # the seconds since this time
 since() { awk -v a="$1" -v b="$(date +%s.%N)" 'BEGIN { print b - a }'; }
@@ -36,13 +39,13 @@ append() {
 }
 
 for entries in 100 500; do
-    rm -f initctl
+    rm -f initctl trace
     awk -v n="$entries" 'BEGIN { for (i = 0; i < n; i++) printf "%03x:3:wait:true\n", i }' > inittab
     echo "$entries entries that wait for the one before, each of them true"
     ( time "$initd" run --level 3 --drain > said 2>&1 ) 2>&1 | grep -e real -e user -e sys
 done
 
-rm -f initctl
+rm -f initctl trace
 awk 'BEGIN { for (i = 0; i < 500; i++) printf "%03x:3:once:sleep 60\n", i }' > inittab
 "$initd" run --level 3 > said 2>&1 &
 pid=$!
@@ -54,7 +57,7 @@ echo "500 children that sleep: $(awk -v a="$before" -v b="$(used $pid)" 'BEGIN {
     "milliseconds a second, $started children before, $(pgrep -c -P $pid) after"
 end
 
-rm -f initctl
+rm -f initctl trace
 "$initd" run --level 3 --trace trace > said 2>&1 &
 pid=$!
 until_heard settle 1
@@ -66,7 +69,7 @@ echo "a level change that stops 500 children: settled after $(since "$begin") se
     "$(awk -v a="$before" -v b="$(used $pid)" 'BEGIN { print b - a }') milliseconds of init's own"
 end
 
-rm -f initctl
+rm -f initctl trace
 "$initd" run --level 4 --trace trace > said 2>&1 &
 pid=$!
 sleep 4
@@ -79,7 +82,7 @@ for number in 1 2 3 4 5; do
 done
 end
 
-rm -f initctl
+rm -f initctl trace
 echo 's:3:once:sleep 60' > inittab
 "$initd" run --level 3 --trace trace > said 2>&1 &
 pid=$!
@@ -91,7 +94,7 @@ echo "20000 requests at once: heard in $(since "$begin") seconds," \
     "$(grep -c '^got ' trace) of them"
 end
 
-rm -f initctl
+rm -f initctl trace
 awk 'BEGIN { for (i = 0; i < 200; i++) printf "%03x:3:respawn:sleep 60\n", i }' > inittab
 "$initd" run --level 3 --trace trace > said 2>&1 &
 pid=$!
