@@ -1,9 +1,7 @@
-//! Worked traces of init as tables: an inittab(5), a script of what the system did, and the trace; rows of the parts
-//! below such a run; and the verdicts on traces, worked out from the definitions of the laws.
+//! Texts of traces, the simulated system below a run of `simulate`, runs without room, and the verdicts on traces,
+//! worked out from the definitions of the laws. Whole runs are rows of `tools/rows/initd-lines`.
 #![tactic(auto)]
 
-#[cfg(test)]
-mod brief_tests;
 #[cfg(test)]
 mod growth_tests;
 #[cfg(test)]
@@ -12,8 +10,6 @@ mod line_tests;
 mod piece_tests;
 #[cfg(test)]
 mod pieces;
-#[cfg(test)]
-mod run_tests;
 #[cfg(test)]
 mod side_tests;
 #[cfg(test)]

@@ -1,6 +1,5 @@
 use init_words::Memory;
 use std::alloc::{Allocator, Global};
-use std::test::Fail;
 use trace_verdict::{Breach, Finding, TextJudge};
 
 /// Hands a text to a judge in pieces of a size.
@@ -15,7 +14,7 @@ pub(crate) fn hand_over<A: Allocator + Copy>(
     Ok(())
 }
 
-fn said_of(alloc: Global, finding: &Finding) -> Result<String, Fail> {
+fn said_of(alloc: Global, finding: &Finding) -> Result<String, Memory> {
     match finding {
         Finding::Lawful => Ok(String::from_str(alloc, ".")?),
         Finding::Breach(breach) => breach_said(alloc, breach),
@@ -23,14 +22,14 @@ fn said_of(alloc: Global, finding: &Finding) -> Result<String, Fail> {
     }
 }
 
-fn breach_said(alloc: Global, breach: &Breach) -> Result<String, Fail> {
+fn breach_said(alloc: Global, breach: &Breach) -> Result<String, Memory> {
     let place = breach.place();
     let law = breach.law().number();
     Ok(format!(in alloc; "{place}:{law}")?)
 }
 
 /// The verdict on a text in pieces of a size: `.`, the place of the first breach and its law, or `?` and a line.
-pub(crate) fn judged_in_pieces(alloc: Global, text: &str, size: usize) -> Result<String, Fail> {
+pub(crate) fn judged_in_pieces(alloc: Global, text: &str, size: usize) -> Result<String, Memory> {
     let mut judge = TextJudge::new(alloc);
     hand_over(&mut judge, text.as_bytes(), size)?;
     let (finding, _left) = judge.answer();

@@ -1,11 +1,12 @@
-use crate::verdict_texts::{Change, judged};
-use std::alloc::Global;
-use std::process::Abort;
-use std::test::Fail;
+//! Verdicts on traces, worked out from the definitions of the laws: on each as it is and cut in pieces, on each with its
+//! lines changed in turn, and on their brief forms, which break the same law first or none.
+
+use crate::texts::holds;
+use crate::verdict_texts::{Change, are_judged, is_judged};
 
 /// Traces, where ` / ` stands for line ends, and their verdicts: `.` where it is lawful, else the place of the first
 /// breach from 0 and its law.
-pub(crate) const VERDICTS: &[(&str, &str)] = &[
+const VERDICTS: &[(&str, &str)] = &[
     ("", "."),
     // A waited entry ends before the next starts.
     (
@@ -166,11 +167,198 @@ pub(crate) const VERDICTS: &[(&str, &str)] = &[
          1 5 / ask b start / birth b 11",
         "7:4",
     ),
+    // The traces of runs of init.
+    // Nothing to do.
+    (
+        "use 0 / enter sysinit 5 / enter S 5 / settle S",
+        ".",
+    ),
+    // A failed start is over.
+    (
+        "use 3 / id:3:initdefault: / w:3:wait:prep / r:3:respawn:serv / enter sysinit 5 / enter boot 5 / \
+         enter 3 5 / ask w start / nobirth w / told w / ask r start",
+        ".",
+    ),
+    // Orders are open together, and a number is used again once its child is reaped.
+    (
+        "use 3 / id:3:initdefault: / a:3:respawn:x / b:3:once:y / enter sysinit 5 / enter boot 5 / enter 3 5 \
+         / ask a start / ask b start / birth a 700 / told a / nudge / ask a look / death 700 / reaped a 700 \
+         exit 0 / birth b 700 / told b / told a / ask a start",
+        ".",
+    ),
+    // Init is re-executed right after the orders, or keeps on where its state comes back cut: the rest is the same.
+    (
+        "use 3 / id:3:initdefault: / a:3:respawn:x / b:3:once:y / enter sysinit 5 / enter boot 5 / enter 3 5 \
+         / ask a start / ask b start / handed whole / birth a 700 / told a / nudge / ask a look / death 700 / \
+         reaped a 700 exit 0 / birth b 700 / told b / told a / ask a start",
+        ".",
+    ),
+    (
+        "use 3 / id:3:initdefault: / a:3:respawn:x / b:3:once:y / enter sysinit 5 / enter boot 5 / enter 3 5 \
+         / ask a start / ask b start / handed cut 20 / birth a 700 / told a / nudge / ask a look / death 700 \
+         / reaped a 700 exit 0 / birth b 700 / told b / told a / ask a start",
+        ".",
+    ),
+    // Two children live, one is reaped while the other lives, and then the other.
+    (
+        "use 3 / id:3:initdefault: / a:3:respawn:x / b:3:respawn:y / enter sysinit 5 / enter boot 5 / enter 3 \
+         5 / ask a start / ask b start / birth a 11 / told a / birth b 12 / told b / settle 3 / nudge / ask a \
+         look / ask b look / death 11 / reaped a 11 exit 0 / told a / ask a start / still b / told b / birth \
+         a 13 / told a / nudge / ask a look / ask b look / death 12 / still a / reaped b 12 killed / told b / \
+         ask b start / told a",
+        ".",
+    ),
+    // The stages come in turn.
+    (
+        "use 4 / id:3:initdefault: / s::sysinit:a / b::boot:b / o:3:once:c / enter sysinit 5 / ask s start / \
+         birth s 1 / told s / nudge / ask s look / death 1 / reaped s 1 exit 0 / told s / enter boot 5 / ask \
+         b start / birth b 2 / told b / enter 3 5 / ask o start / nobirth o / told o / settle 3",
+        ".",
+    ),
+    // Another level is asked for: its table can't be read, and the child that does not belong to it is stopped.
+    (
+        "use 2 / id:3:initdefault: / r:3:respawn:serv / enter sysinit 5 / enter boot 5 / enter 3 5 / ask r \
+         start / got level 1 5 / birth r 10 / told r / notread / enter 1 5 / ask r term / hit r",
+        ".",
+    ),
+    // It is killed once the grace is over since the term was told.
+    (
+        "use 2 / id:3:initdefault: / r:3:respawn:serv / enter sysinit 5 / enter boot 5 / enter 3 5 / ask r \
+         start / got level 1 5 / birth r 10 / told r / notread / enter 1 5 / ask r term / hit r / clock 100 / \
+         told r / clock 104 / clock 105 / ask r kill",
+        ".",
+    ),
+    // A clock set back does not count.
+    (
+        "use 2 / id:3:initdefault: / r:3:respawn:serv / enter sysinit 5 / enter boot 5 / enter 3 5 / ask r \
+         start / got level 1 5 / birth r 10 / told r / notread / enter 1 5 / ask r term / hit r / clock 100 / \
+         clock 40 / told r / clock 104 / clock 105 / ask r kill",
+        ".",
+    ),
+    // The first way to a level other than S leads through the boot entries.
+    (
+        "use 3 / id:S:initdefault: / b::bootwait:prep / r:2:respawn:serv / enter sysinit 5 / enter S 5 / \
+         settle S / got level 2 5 / notread / enter boot 5 / ask b start / birth b 5 / told b / nudge / ask b \
+         look / death 5 / reaped b 5 exit 0 / told b / enter 2 5 / ask r start / birth r 6 / told r / settle \
+         2 / got level 2 5",
+        ".",
+    ),
+    // The power fails.
+    (
+        "use 3 / id:3:initdefault: / pw:3:powerwait:p / r:3:respawn:s / enter sysinit 5 / enter boot 5 / \
+         enter 3 5 / ask r start / birth r 4 / told r / settle 3 / got power fail / power fail / ask pw start \
+         / birth pw 5 / told pw / nudge / ask pw look / ask r look",
+        ".",
+    ),
+    // A letter is called.
+    (
+        "use 2 / id:3:initdefault: / d:A:ondemand:x / enter sysinit 5 / enter boot 5 / enter 3 5 / settle 3 / \
+         got call A / call A / ask d start / birth d 5 / told d / nudge / ask d look / death 5 / reaped d 5 \
+         exit 0 / told d / ask d start",
+        ".",
+    ),
+    // Its starts fail until it is held, and another call lifts no hold.
+    (
+        "use 2 / id:3:initdefault: / d:A:ondemand:x / enter sysinit 5 / enter boot 5 / enter 3 5 / settle 3 / \
+         got call A / call A / ask d start / nobirth d / told d / ask d start / nobirth d / told d / ask d \
+         start / nobirth d / told d / ask d start / nobirth d / told d / ask d start / nobirth d / told d / \
+         ask d start / nobirth d / told d / ask d start / nobirth d / told d / ask d start / nobirth d / told \
+         d / ask d start / nobirth d / told d / ask d start / nobirth d / told d / hold d / got call A / call \
+         A",
+        ".",
+    ),
+    // Inittab is to be read, and the script ends.
+    (
+        "use 0 / enter sysinit 5 / enter S 5 / settle S / got reload",
+        ".",
+    ),
+    // It is read anew, and the child's entry is gone.
+    (
+        "use 1 / r:S:respawn:x / enter sysinit 5 / enter S 5 / ask r start / birth r 7 / told r / settle S / \
+         got reload / use 0 / ask r term / hit r / told r / nudge / ask r look / death 7 / reaped r 7 killed \
+         / told r / settle S",
+        ".",
+    ),
+    // The child's entry is the same.
+    (
+        "use 1 / r:S:respawn:x / enter sysinit 5 / enter S 5 / ask r start / birth r 7 / told r / settle S / \
+         got reload / use 1 / r:S:respawn:x / settle S",
+        ".",
+    ),
+    // Another command takes effect at the next start.
+    (
+        "use 1 / r:S:respawn:x / enter sysinit 5 / enter S 5 / ask r start / birth r 7 / told r / settle S / \
+         got reload / use 1 / r:S:respawn:y / settle S",
+        ".",
+    ),
+    // Another action stops the child.
+    (
+        "use 1 / r:S:respawn:x / enter sysinit 5 / enter S 5 / ask r start / birth r 7 / told r / settle S / \
+         got reload / use 1 / r:S:once:x / ask r term",
+        ".",
+    ),
+    // Inittab is read once the open start is told.
+    (
+        "use 1 / r:S:respawn:x / enter sysinit 5 / enter S 5 / ask r start / got reload / birth r 7 / told r \
+         / use 0 / ask r term",
+        ".",
+    ),
+    // Ten failed starts are held.
+    (
+        "use 1 / r:S:respawn:x / enter sysinit 5 / enter S 5 / ask r start / nobirth r / told r / ask r start \
+         / nobirth r / told r / ask r start / nobirth r / told r / ask r start / nobirth r / told r / ask r \
+         start / nobirth r / told r / ask r start / nobirth r / told r / ask r start / nobirth r / told r / \
+         ask r start / nobirth r / told r / ask r start / nobirth r / told r / ask r start / nobirth r / told \
+         r / hold r / settle S",
+        ".",
+    ),
+    // Ten starts at once hold the entry until 300 seconds later.
+    (
+        "use 1 / r:S:respawn:x / enter sysinit 5 / enter S 5 / ask r start / nobirth r / told r / ask r start \
+         / nobirth r / told r / ask r start / nobirth r / told r / ask r start / nobirth r / told r / ask r \
+         start / nobirth r / told r / ask r start / nobirth r / told r / ask r start / nobirth r / told r / \
+         ask r start / nobirth r / told r / ask r start / nobirth r / told r / ask r start / birth r 7 / told \
+         r / settle S / clock 119 / nudge / ask r look / death 7 / reaped r 7 exit 1 / told r / hold r / \
+         clock 418 / clock 419 / ask r start",
+        ".",
+    ),
+    // The window of starts slides.
+    (
+        "use 1 / r:S:respawn:x / enter sysinit 5 / enter S 5 / ask r start / clock 60 / nobirth r / told r / \
+         ask r start / nobirth r / told r / ask r start / nobirth r / told r / ask r start / nobirth r / told \
+         r / ask r start / nobirth r / told r / ask r start / nobirth r / told r / ask r start / nobirth r / \
+         told r / ask r start / nobirth r / told r / ask r start / nobirth r / told r / ask r start / birth r \
+         7 / told r / settle S / clock 120 / nudge / ask r look / death 7 / reaped r 7 exit 1 / told r / ask \
+         r start / nobirth r / told r / hold r",
+        ".",
+    ),
+    // A hand-over ends the wish for it, however it goes, and init goes on: inittab is read.
+    (
+        "use 0 / enter sysinit 5 / enter S 5 / settle S / got reexec / got reload / handed whole / use 0 / \
+         settle S",
+        ".",
+    ),
+    (
+        "use 0 / enter sysinit 5 / enter S 5 / settle S / got reexec / got reload / handed cut 0 / use 0 / \
+         settle S",
+        ".",
+    ),
+    (
+        "use 0 / enter sysinit 5 / enter S 5 / settle S / got reexec / got reload / handed none / use 0 / \
+         settle S",
+        ".",
+    ),
+    // Each text that was made before may come in the place of another, and a cut and an older one were made too.
+    (
+        "use 0 / enter sysinit 5 / enter S 5 / settle S / handed whole / handed older 1 / handed cut 94 / \
+         handed older 2 / handed older 4 / handed older 1",
+        ".",
+    ),
 ];
 
 /// Worked traces, and the verdicts on them with each of their lines dropped, doubled, and exchanged with the next one
 /// in turn; `?` and the number of a line where no happening begins there.
-pub(crate) const CHANGED: &[(&str, &str, &str, &str)] = &[
+const CHANGED: &[(&str, &str, &str, &str)] = &[
     // Nothing to do.
     (
         "use 0 / enter sysinit 5 / enter S 5 / settle S",
@@ -303,53 +491,19 @@ pub(crate) const CHANGED: &[(&str, &str, &str, &str)] = &[
     ),
 ];
 
-fn is_judged(rt: &impl Abort, alloc: Global, trace: &str, want: &str) -> Result<(), Fail> {
-    let verdict = judged(alloc, trace, 0, Change::None)?;
-    assert!(rt; verdict.as_str() == want, "at {trace:?}");
-    Ok(())
-}
-
 #[test]
-fn traces_are_judged(rt: HostRuntime) -> Result<(), Fail> {
+fn traces_are_judged(rt: HostRuntime) {
     for (trace, want) in VERDICTS {
-        is_judged(&rt, rt.alloc(), trace, want)?;
+        holds(&rt, is_judged(rt.alloc(), trace, 0, Change::None, want), trace);
     }
-    Ok(())
-}
-
-fn is_changed(
-    rt: &impl Abort,
-    alloc: Global,
-    trace: &str,
-    place: usize,
-    change: Change,
-    want: &str,
-) -> Result<(), Fail> {
-    let verdict = judged(alloc, trace, place, change)?;
-    assert!(rt; verdict.as_str() == want, "line {place} of {trace:?}");
-    Ok(())
-}
-
-/// Each line changed so in turn gives its verdict.
-fn are_changed(
-    rt: &impl Abort,
-    alloc: Global,
-    trace: &str,
-    change: Change,
-    verdicts: &str,
-) -> Result<(), Fail> {
-    for (place, want) in verdicts.split(' ').enumerate() {
-        is_changed(rt, alloc, trace, place, change, want)?;
-    }
-    Ok(())
 }
 
 #[test]
-fn changed_traces_are_judged(rt: HostRuntime) -> Result<(), Fail> {
+fn changed_traces_are_judged(rt: HostRuntime) {
     for (trace, dropped, doubled, exchanged) in CHANGED {
-        are_changed(&rt, rt.alloc(), trace, Change::Dropped, dropped)?;
-        are_changed(&rt, rt.alloc(), trace, Change::Doubled, doubled)?;
-        are_changed(&rt, rt.alloc(), trace, Change::Exchanged, exchanged)?;
+        let is_well = are_judged(rt.alloc(), trace, Change::Dropped, dropped)
+            && are_judged(rt.alloc(), trace, Change::Doubled, doubled)
+            && are_judged(rt.alloc(), trace, Change::Exchanged, exchanged);
+        holds(&rt, is_well, trace);
     }
-    Ok(())
 }

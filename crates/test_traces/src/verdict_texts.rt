@@ -1,8 +1,13 @@
+//! A text with a line changed, and what is said of it: read whole, in pieces, and in its brief form.
+
 use crate::pieces::judged_in_pieces;
+use crate::texts::add_line;
+use brief_log::BriefLog;
 use init_trace::HappeningIn;
+use init_words::Memory;
 use std::alloc::{AllocError, Global};
-use std::test::Fail;
-use trace_check::Verdict;
+use trace_check::{Law, Verdict};
+use trace_log::{ListLog, Log};
 use trace_text::ReadFault;
 
 /// What is done to a line of a trace.
@@ -15,34 +20,30 @@ pub(crate) enum Change {
     Exchanged,
 }
 
-fn add_line(text: &mut String, line: &str) -> Result<(), AllocError> {
-    text.push_str(line)?;
-    text.push('\n')?;
+fn add_changed(text: &mut String, line: &str, change: Change) -> Result<(), AllocError> {
+    if change != Change::Dropped {
+        add_line(text, line)?;
+    }
+    if change == Change::Doubled {
+        add_line(text, line)?;
+    }
     Ok(())
 }
 
 /// A text of lines from one in which ` / ` stands for line ends, its line at a place changed.
-pub(crate) fn changed(
-    alloc: Global,
-    trace: &str,
-    place: usize,
-    change: Change,
-) -> Result<String, AllocError> {
+fn changed(alloc: Global, trace: &str, place: usize, change: Change) -> Result<String, AllocError> {
     let mut text = String::new(alloc);
     let mut held = None;
+    if trace.is_empty() {
+        return Ok(text);
+    }
     for (at, line) in trace.split(" / ").enumerate() {
-        let is_here = at == place && change != Change::None;
-        if is_here && change == Change::Exchanged {
+        if at == place && change == Change::Exchanged {
             held = Some(line);
             continue;
         }
-        if is_here && change == Change::Dropped {
-            continue;
-        }
-        add_line(&mut text, line)?;
-        if is_here {
-            add_line(&mut text, line)?;
-        }
+        let here = if at == place { change } else { Change::None };
+        add_changed(&mut text, line, here)?;
         if let Some(first) = held.take() {
             add_line(&mut text, first)?;
         }
@@ -50,11 +51,47 @@ pub(crate) fn changed(
     Ok(text)
 }
 
-/// `.` for a lawful trace, else the place of the first breach and its law; `!` where it does not print as the text.
-fn verdict_on(alloc: Global, trace: &[HappeningIn<Global>], text: &str) -> Result<String, Fail> {
-    let again = trace_text::print(alloc, trace)?;
-    if again.as_slice() != text.as_bytes() {
+/// The law that a trace breaks first.
+fn law_of(alloc: Global, trace: &[HappeningIn<Global>]) -> Result<Option<Law>, Memory> {
+    match trace_check::check(alloc, trace)? {
+        Verdict::Lawful => Ok(None),
+        Verdict::Breach(_, law) => Ok(Some(law)),
+    }
+}
+
+/// Hands a log the happenings of a trace, and ends it: whether it took them all.
+fn is_taken<L: Log>(log: &mut L, trace: &[HappeningIn<Global>]) -> bool {
+    for happening in trace {
+        if log.failed() || log.take(happening).is_err() {
+            return false;
+        }
+    }
+    !log.failed() && log.end().is_ok()
+}
+
+/// The trace and its brief form break the same law first, or none.
+fn is_alike(alloc: Global, trace: &[HappeningIn<Global>]) -> Result<bool, Memory> {
+    let mut brief = BriefLog::new(ListLog::new(alloc));
+    if !is_taken(&mut brief, trace) {
+        return Err(Memory);
+    }
+    let brief = brief.into_log();
+    Ok(brief.list().len() <= trace.len() && law_of(alloc, brief.list())? == law_of(alloc, trace)?)
+}
+
+/// The trace prints as the text.
+fn is_printed(alloc: Global, trace: &[HappeningIn<Global>], text: &str) -> Result<bool, Memory> {
+    Ok(trace_text::print(alloc, trace)?.as_slice() == text.as_bytes())
+}
+
+/// `.` for a lawful trace, else the place of the first breach and its law; `!` where it does not print as the text, and
+/// `~` where its brief form has another verdict.
+fn verdict_on(alloc: Global, trace: &[HappeningIn<Global>], text: &str) -> Result<String, Memory> {
+    if !is_printed(alloc, trace, text)? {
         return Ok(String::from_str(alloc, "!")?);
+    }
+    if !is_alike(alloc, trace)? {
+        return Ok(String::from_str(alloc, "~")?);
     }
     match trace_check::check(alloc, trace)? {
         Verdict::Lawful => Ok(String::from_str(alloc, ".")?),
@@ -65,34 +102,42 @@ fn verdict_on(alloc: Global, trace: &[HappeningIn<Global>], text: &str) -> Resul
     }
 }
 
-/// The verdict on a text, `#` where it is another one in pieces of five bytes.
-fn read_and_judged(alloc: Global, text: &str) -> Result<String, Fail> {
-    let said = judged_whole(alloc, text)?;
-    let cut = judged_in_pieces(alloc, text, 5)?;
-    if said.as_str() != cut.as_str() {
-        return Ok(String::from_str(alloc, "#")?);
-    }
-    Ok(said)
-}
-
-fn judged_whole(alloc: Global, text: &str) -> Result<String, Fail> {
+/// The same of a text; `?` and the number of a line that is none.
+fn judged(alloc: Global, text: &str) -> Result<String, Memory> {
     match trace_text::read(alloc, text.as_bytes()) {
         Ok(trace) => verdict_on(alloc, &trace, text),
         Err(ReadFault::Line(number)) => Ok(format!(in alloc; "?{number}")?),
-        Err(ReadFault::Memory) => Err(Fail::from("out of memory")),
+        Err(ReadFault::Memory) => Err(Memory),
     }
 }
 
-/// The verdict on a trace with its line at a place changed; `?` and the number of a line that is none.
-pub(crate) fn judged(
+/// The verdict on a text is this, also in pieces of five bytes.
+fn is_said(alloc: Global, text: &str, want: &str) -> Result<bool, Memory> {
+    let whole = judged(alloc, text)?;
+    let cut = judged_in_pieces(alloc, text, 5)?;
+    Ok(whole.as_str() == want && cut.as_str() == want)
+}
+
+/// The verdict on a trace with its line at a place changed is this.
+pub(crate) fn is_judged(
     alloc: Global,
     trace: &str,
     place: usize,
     change: Change,
-) -> Result<String, Fail> {
-    if trace.is_empty() {
-        return read_and_judged(alloc, "");
+    want: &str,
+) -> bool {
+    match changed(alloc, trace, place, change) {
+        Ok(text) => is_said(alloc, text.as_str(), want).unwrap_or(false),
+        Err(_) => false,
     }
-    let text = changed(alloc, trace, place, change)?;
-    read_and_judged(alloc, text.as_str())
+}
+
+/// With each line changed so in turn the trace has its verdict.
+pub(crate) fn are_judged(alloc: Global, trace: &str, change: Change, verdicts: &str) -> bool {
+    for (place, want) in verdicts.split(' ').enumerate() {
+        if !is_judged(alloc, trace, place, change, want) {
+            return false;
+        }
+    }
+    true
 }
