@@ -1,3 +1,4 @@
+pub mod Channels
 pub mod CommandLine
 pub mod Frames
 pub mod Notes

@@ -1,17 +1,16 @@
 //! A request block, appended to the channel.
 
-ghost use Rattle.std.specs.Prelude.{◌≡◌, ◌++◌, string_bytes, IfOk, OnOk};
+ghost use Rattle.std.specs.Prelude.{◌≡◌, ◌++◌, ◌⊎◌, string_bytes, IfOk, OnOk, OnErr};
 ghost use Rattle.program_io.specs.Writing.{AppendsPrefix};
+ghost use Rattle.telinit_command.specs.Channels.{AreSame, HasGained, HasGainedFront, IsWholeAt};
 ghost use Rattle.telinit_command.specs.Notes.{IsTold, Reading, made_note, reading_note, unknown_note};
 
-use channel_files::Channel;
+use crate::channels::Channels;
 use initctl_frame::BLOCK;
 use program_io::write_text;
 use std::alloc::{AllocError, Global};
-use std::fs::File;
 use std::io;
 use std::io::Write;
-use std::rt::Files;
 
 /// Why a block was not appended.
 #[derive(Debug, Drop, thiserror::Error)]
@@ -33,45 +32,56 @@ impl From<AllocError> for ChannelFault {
     }
 }
 
-/// Appends the block to the channel file, which is made where it is missing. That it was made, and that no init reads
-/// it, is told on `err`, as much of it as that takes.
-pub fn append_block<R: Files<File = File>, E: Write>(
-    rt: &R,
+/// Appends the block to the channel at the path, which is made where it is missing. That it was made, and that no init
+/// reads it, is told on `err`, as much of it as that takes. After a refusal the channel has gained a front of the block at
+/// most.
+pub fn append_block<C: Channels, E: Write>(
+    channels: &mut C,
     alloc: Global,
     path: &str,
     block: &[u8; BLOCK],
     err: &mut E,
 ) -> Result<(), ChannelFault>
     ensures told { OnOk result (IsTold path.now (E.contents err.old) (E.contents err.new)) }
+    ensures whole { OnOk result (IsWholeAt path.now (C.bytes_at channels.old)) }
+    ensures gained { OnOk result (HasGained path.now block.now
+        (C.bytes_at channels.old) (C.bytes_at channels.new)) }
+    ensures refused { OnErr result (AreSame (C.bytes_at channels.old) (C.bytes_at channels.new)
+        ⊎ HasGainedFront path.now block.now (C.bytes_at channels.old) (C.bytes_at channels.new)) }
 {
-    let mut channel = Channel::open(rt, path)?;
-    if channel.length % BLOCK as u64 != 0 {
-        return Err(ChannelFault::Torn(channel.length));
+    let found = channels.open(path)?;
+    if found.length % BLOCK as u64 != 0 {
+        return Err(ChannelFault::Torn(found.length));
     }
-    let made = made_note(alloc, path, channel.was_made)?;
-    let reading = reading_note(alloc, path, channel.is_read())?;
-    append_between(&mut channel, block, made.as_str(), reading.as_str(), err)?;
+    let made = made_note(alloc, path, found.was_made)?;
+    let reading = reading_note(alloc, path, found.is_read)?;
+    append_between(channels, path, block, made.as_str(), reading.as_str(), err)?;
     Ok(())
 }
 
 /// Tells the one note, appends the block, and tells the other note, where the one could be told.
-fn append_between<E: Write>(
-    channel: &mut Channel,
+fn append_between<C: Channels, E: Write>(
+    channels: &mut C,
+    path: &str,
     block: &[u8; BLOCK],
     before: &str,
     behind: &str,
     err: &mut E,
 ) -> io::Result<()>
-    ensures { OnOk result (AppendsPrefix (E.contents err.old) (E.contents err.new)
+    ensures told { OnOk result (AppendsPrefix (E.contents err.old) (E.contents err.new)
         (before.now ++ behind.now)) }
+    ensures gained { OnOk result (HasGained path.now block.now
+        (C.bytes_at channels.old) (C.bytes_at channels.new)) }
+    ensures refused { OnErr result (HasGainedFront path.now block.now
+        (C.bytes_at channels.old) (C.bytes_at channels.new)) }
 {
     match write_text(err, before.as_bytes()) {
         Ok(()) => {
-            channel.append(block)?;
+            channels.append(path, block)?;
             let _ = write_text(err, behind.as_bytes());
             Ok(())
         }
-        Err(_) => channel.append(block),
+        Err(_) => channels.append(path, block),
     }
 }
 

@@ -2,11 +2,13 @@
 #![tactic(auto)]
 
 mod channel;
+mod channels;
 mod command;
 mod frame;
 mod run;
 mod seconds;
 
+pub use channels::{Channels, Found, OsChannels};
 pub use command::{Words, read_words};
 pub use command_words::WordFault;
 pub use frame::frame_of;

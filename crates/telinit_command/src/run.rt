@@ -4,10 +4,12 @@ ghost use Rattle.std.specs.Prelude.{◌≡◌, ◌⊎◌, true, false, codes, ma
 ghost use Rattle.command_words.specs.CommandLines.{asks_version};
 ghost use Rattle.command_words.specs.Faults.{ReportsUsage};
 ghost use Rattle.program_version.specs.VersionLine.{PrintsVersion};
+ghost use Rattle.telinit_command.specs.Channels.{AreSame, Asks, AsksPartly, HasGained, HasGainedFront, IsWholeAt};
 ghost use Rattle.telinit_command.specs.CommandLine.{block_said, read_of};
 ghost use Rattle.telinit_command.specs.Notes.{IsTold};
 
 use crate::channel::{ChannelFault, append_block};
+use crate::channels::Channels;
 use crate::command::read_words;
 use crate::frame::frame_of;
 use command_words::{is_version, report_refused_words, report_word_fault};
@@ -15,9 +17,7 @@ use initctl_frame::BLOCK;
 use program_io::{DEVICE_FAULT, DONE, REFUSED, report_no_memory};
 use program_version::print_version;
 use std::alloc::{AllocError, Global};
-use std::fs::File;
 use std::io::Write;
-use std::rt::Files;
 
 /// What standard error gets where the words are no command line, behind a line that says why.
 pub const USAGE: &str = "usage: telinit [-t SEC] [--initctl P] CHAR
@@ -33,9 +33,10 @@ pub const USAGE: &str = "usage: telinit [-t SEC] [--initctl P] CHAR
 /// Runs telinit on a command line without the program's name, and gives its exit status: 0 where one request block was
 /// appended or the version was written, 1 where the words are no command line, 4 where the block could not be written,
 /// the output fails or memory runs out. The version goes to `out`, where the words are `--version` alone. A fault is
-/// reported on `err`, and that the channel was made, or that no init reads it.
-pub fn run_words<R: Files<File = File>, W: Write, E: Write>(
-    rt: &R,
+/// reported on `err`, and that the channel was made, or that no init reads it. Of a block that could not be written the
+/// channel has a front at most.
+pub fn run_words<C: Channels, W: Write, E: Write>(
+    channels: &mut C,
     alloc: Global,
     words: Vec<String>,
     out: &mut W,
@@ -45,6 +46,14 @@ pub fn run_words<R: Files<File = File>, W: Write, E: Write>(
     ensures done { result ≡ DONE → (asks_version (map string_bytes words.items) ≡ true)
         ⊎ IsSome (block_said (map string_bytes words.items)) }
     ensures usage { result ≡ REFUSED → IsNone (block_said (map string_bytes words.items)) }
+    ensures appended { result ≡ DONE → asks_version (map string_bytes words.items) ≡ false
+        → Asks (map string_bytes words.items) (C.bytes_at channels.old) (C.bytes_at channels.new) }
+    ensures unappended { result ≡ DEVICE_FAULT
+        → AreSame (C.bytes_at channels.old) (C.bytes_at channels.new)
+        ⊎ AsksPartly (map string_bytes words.items)
+        (C.bytes_at channels.old) (C.bytes_at channels.new) }
+    ensures unasked { (result ≡ REFUSED) ⊎ (asks_version (map string_bytes words.items) ≡ true)
+        → AreSame (C.bytes_at channels.old) (C.bytes_at channels.new) }
     ensures quiet { asks_version (map string_bytes words.items) ≡ false → out.new ≡ out.old }
     ensures version { asks_version (map string_bytes words.items) ≡ true
         → PrintsVersion (codes "telinit") result (W.contents out.old) (W.contents out.new) }
@@ -63,7 +72,7 @@ pub fn run_words<R: Files<File = File>, W: Write, E: Write>(
         Err(fault) => return report_word_fault("telinit", &fault, USAGE, err),
     };
     match frame_of(&words) {
-        Some(block) => ask(rt, alloc, words.path.as_str(), &block, err),
+        Some(block) => ask(channels, alloc, words.path.as_str(), &block, err),
         None => refuse_sign(alloc, words.sign.as_str(), err),
     }
 }
@@ -81,8 +90,8 @@ fn refuse_sign<E: Write>(alloc: Global, sign: &str, err: &mut E) -> u8
 }
 
 /// Appends a block, and gives the exit status.
-fn ask<R: Files<File = File>, E: Write>(
-    rt: &R,
+fn ask<C: Channels, E: Write>(
+    channels: &mut C,
     alloc: Global,
     path: &str,
     block: &[u8; BLOCK],
@@ -90,8 +99,14 @@ fn ask<R: Files<File = File>, E: Write>(
 ) -> u8
     ensures statuses { (result ≡ DONE) ⊎ (result ≡ DEVICE_FAULT) }
     ensures told { result ≡ DONE → IsTold path.now (E.contents err.old) (E.contents err.new) }
+    ensures whole { result ≡ DONE → IsWholeAt path.now (C.bytes_at channels.old) }
+    ensures gained { result ≡ DONE → HasGained path.now block.now
+        (C.bytes_at channels.old) (C.bytes_at channels.new) }
+    ensures refused { result ≡ DEVICE_FAULT
+        → AreSame (C.bytes_at channels.old) (C.bytes_at channels.new)
+        ⊎ HasGainedFront path.now block.now (C.bytes_at channels.old) (C.bytes_at channels.new) }
 {
-    match append_block(rt, alloc, path, block, err) {
+    match append_block(channels, alloc, path, block, err) {
         Ok(()) => DONE,
         Err(fault) => report_channel(path, &fault, err),
     }

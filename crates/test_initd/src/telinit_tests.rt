@@ -1,17 +1,17 @@
-//! Where telinit(8) can't write its version whole, and where there is no memory for its words. What else it answers to a
-//! command line: tools/pages.d/telinit.
+//! What telinit(8) appends to a channel in memory, where it can't write its version whole, and where there is no memory for
+//! its words. What else it answers to a command line: tools/pages.d/telinit.
 
+use crate::one_channel::OneChannel;
+use initctl_frame::BLOCK;
 use program_io::{report_unread_words, unread_status};
 use program_version::{KIT, VERSION};
 use std::alloc::Global;
-use std::fs::File;
 use std::io;
 use std::io::ErrorKind;
 use std::process::Abort;
-use std::rt::Files;
 use std::test::Fail;
-use telinit_command::{USAGE, run_words};
-use test_support::{Slow, words_of};
+use telinit_command::{OsChannels, USAGE, run_words};
+use test_support::{Slow, line_words, words_of};
 
 /// The room of a writer, and the status and the report of a run that writes the version there.
 const VERSIONS: &[(usize, u8, &str)] = &[
@@ -26,7 +26,7 @@ fn is_version(taken: &[u8], line: &str, room: usize) -> bool {
 }
 
 fn is_written(
-    rt: &impl Files<File = File>,
+    rt: &HostRuntime,
     alloc: Global,
     words: Vec<String>,
     line: &str,
@@ -35,7 +35,7 @@ fn is_written(
     let (room, status, report) = *row;
     let mut out = Slow::new(alloc, room, true, false);
     let mut err: Vec<u8> = Vec::new(alloc);
-    run_words(rt, alloc, words, &mut out, &mut err) == status
+    run_words(&mut OsChannels::new(rt), alloc, words, &mut out, &mut err) == status
         && err.as_slice() == report.as_bytes()
         && is_version(out.taken.as_slice(), line, room)
 }
@@ -76,4 +76,103 @@ fn unread_words_are_reported(rt: HostRuntime) {
     for (kind, status, report) in UNREAD {
         assert!(rt; is_unread(rt.alloc(), *kind, *status, report), "{report}");
     }
+}
+
+/// A channel `ctl` with so many bytes, which takes so many more; a command line, its status, and the first bytes that the
+/// channel has gained (initreq.h), of so many.
+struct Row {
+    before: usize,
+    room: usize,
+    line: &'static str,
+    status: u8,
+    first: &'static [u8],
+    gained: usize,
+}
+
+const ROWS: &[Row] = &[
+    Row {
+        before: 0,
+        room: 1_000,
+        line: "--initctl ctl 3",
+        status: 0,
+        first: b"\x69\x19\x09\x03\x01\0\0\03\0\0\0\x05\0\0\0",
+        gained: BLOCK,
+    },
+    Row {
+        before: 768,
+        room: BLOCK,
+        line: "-t 258 --initctl ctl S",
+        status: 0,
+        first: b"\x69\x19\x09\x03\x01\0\0\0S\0\0\0\x02\x01\0\0",
+        gained: BLOCK,
+    },
+    // A channel that takes a part of the block.
+    Row {
+        before: 384,
+        room: 100,
+        line: "--initctl ctl 3",
+        status: 4,
+        first: b"\x69\x19\x09\x03\x01\0\0\03\0\0\0\x05\0\0\0",
+        gained: 100,
+    },
+    // A torn one, another one, and words that are refused.
+    Row {
+        before: 383,
+        room: 1_000,
+        line: "--initctl ctl 3",
+        status: 4,
+        first: b"",
+        gained: 0,
+    },
+    Row {
+        before: 0,
+        room: 1_000,
+        line: "--initctl other 3",
+        status: 4,
+        first: b"",
+        gained: 0,
+    },
+    Row {
+        before: 0,
+        room: 1_000,
+        line: "--initctl ctl x",
+        status: 1,
+        first: b"",
+        gained: 0,
+    },
+    Row {
+        before: 0,
+        room: 1_000,
+        line: "--version",
+        status: 0,
+        first: b"",
+        gained: 0,
+    },
+];
+
+/// The channel has these bytes behind those of before: the first ones of a request, and then bytes of 0.
+fn has_gained(bytes: &[u8], row: &Row) -> bool {
+    let Some(gained) = bytes.get(row.before..) else {
+        return false;
+    };
+    gained.len() == row.gained
+        && gained.starts_with(row.first)
+        && gained.iter().skip(row.first.len()).all(|byte| *byte == 0)
+}
+
+fn is_asked(alloc: Global, row: &Row) -> Result<bool, Fail> {
+    let mut channel = OneChannel::new(alloc, "ctl", row.before, row.room)?;
+    let words = line_words(alloc, row.line)?;
+    let mut out: Vec<u8> = Vec::new(alloc);
+    let mut err: Vec<u8> = Vec::new(alloc);
+    let status = run_words(&mut channel, alloc, words, &mut out, &mut err);
+    Ok(status == row.status && has_gained(channel.bytes(), row))
+}
+
+#[test]
+fn a_request_is_appended(rt: HostRuntime) -> Result<(), Fail> {
+    for row in ROWS {
+        assert!(rt; is_asked(rt.alloc(), row)?, "{}", row.line);
+    }
+    Ok(())
 }

@@ -169,10 +169,7 @@ const VERDICTS: &[(&str, &str)] = &[
     ),
     // The traces of runs of init.
     // Nothing to do.
-    (
-        "use 0 / enter sysinit 5 / enter S 5 / settle S",
-        ".",
-    ),
+    ("use 0 / enter sysinit 5 / enter S 5 / settle S", "."),
     // A failed start is over.
     (
         "use 3 / id:3:initdefault: / w:3:wait:prep / r:3:respawn:serv / enter sysinit 5 / enter boot 5 / \
@@ -494,7 +491,11 @@ const CHANGED: &[(&str, &str, &str, &str)] = &[
 #[test]
 fn traces_are_judged(rt: HostRuntime) {
     for (trace, want) in VERDICTS {
-        holds(&rt, is_judged(rt.alloc(), trace, 0, Change::None, want), trace);
+        holds(
+            &rt,
+            is_judged(rt.alloc(), trace, 0, Change::None, want),
+            trace,
+        );
     }
 }
 

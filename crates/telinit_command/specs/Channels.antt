@@ -1,0 +1,42 @@
+-- What becomes of the bytes of channels, as far as they are known.
+use Rattle.std.specs.Prelude.{◌≡◌, ℕ, ◌%◌, if◌then◌else◌, List, length, ◌++◌, Option, Some, IfSome, option_map}
+use Rattle.std.specs.Str.{bytes_eq}
+use Rattle.initctl_frame.specs.declared.frames.TheConstants.{BLOCK}
+use Rattle.telinit_command.specs.CommandLine.{Said, read_of}
+use Rattle.telinit_command.specs.Frames.{frame_for}
+
+-- the bytes of the channel at each path, where they are known
+abbrev pub KnownBytes : Type 0
+KnownBytes = List ℕ → Option (List ℕ)
+
+-- every channel is as it was
+abbrev pub AreSame : KnownBytes → KnownBytes → Type 0
+AreSame old new = (at : List ℕ) → new at ≡ old at
+
+-- the channel at the path has gained these bytes at its end, and every other one is as it was
+abbrev pub HasGained : List ℕ → List ℕ → KnownBytes → KnownBytes → Type 0
+HasGained path gained old new =
+    (at : List ℕ) → new at ≡ (if bytes_eq at path then option_map (λ bytes. bytes ++ gained) (old at) else old at)
+
+-- it has gained a front of them, of any length
+abbrev pub HasGainedFront : List ℕ → List ℕ → KnownBytes → KnownBytes → Type 0
+HasGainedFront path block old new =
+    (front rest : List ℕ) × (front ++ rest ≡ block) × HasGained path front old new
+
+-- the channel at the path has whole request blocks alone
+abbrev pub IsWholeAt : List ℕ → KnownBytes → Type 0
+IsWholeAt path old = IfSome (old path) (λ bytes. length bytes % BLOCK ≡ 0)
+
+-- the request that words ask for, and the channel that they name
+abbrev pub IsAsked : List (List ℕ) → List ℕ → List ℕ → Type 0
+IsAsked words path block =
+    (said : Said) × (read_of words ≡ Some said) × (path ≡ said.path) × (frame_for said.sign said.secs ≡ Some block)
+
+-- the channel that the words name, of whole requests, has gained the one that they ask for
+abbrev pub Asks : List (List ℕ) → KnownBytes → KnownBytes → Type 0
+Asks words old new =
+    (path block : List ℕ) × IsAsked words path block × IsWholeAt path old × HasGained path block old new
+
+-- or a front of it, or nothing
+abbrev pub AsksPartly : List (List ℕ) → KnownBytes → KnownBytes → Type 0
+AsksPartly words old new = (path block : List ℕ) × IsAsked words path block × HasGainedFront path block old new
