@@ -1,11 +1,14 @@
 #!/bin/bash
-# What the gate costs, in processor seconds: runs `rt ci` here with the words that are given, or `rt ci --anew`, looks each
+# What the gate costs, in processor seconds: runs `rt ci` here with the words that are given, or from nothing, looks each
 # second at the processes of that run alone, and prints the table of docs/GATE.md. What the run itself says goes to
 # standard error.
 # usage: bench/gate.sh [WORD..]
 set -u
 cd "$(dirname "$0")/.." || exit 1
-[ $# -gt 0 ] || set -- --anew
+# A kit that keeps what passed is asked to prove it again; one that has no such word keeps nothing.
+if [ $# -eq 0 ] && rt help 2>&1 | grep -q -e '--anew'; then
+    set -- --anew
+fi
 said=$(mktemp) || exit 1
 trap 'rm -f "$said"' EXIT
 

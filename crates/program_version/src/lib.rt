@@ -13,8 +13,8 @@ use std::io::Write;
 /// The version of the programs.
 pub const VERSION: &str = "0.1.0";
 
-/// The toolchain that proves and builds them, as `rt version` names it.
-pub const KIT: &str = "rattle-kit-13f";
+/// The toolchain that proves and builds them, as `rt version` names it but for the letter of its edition.
+pub const KIT: &str = "rattle-kit-13";
 
 /// Writes the line `NAME VERSION (KIT)`, and says whether all of it was written.
 pub fn write_version<W: Write>(name: &str, out: &mut W) -> bool
