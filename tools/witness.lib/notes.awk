@@ -1,0 +1,150 @@
+# Reads the notes of strace -f -ttt -xx over a run of init. Prints what init did, a line each:
+#     born PID [WORD]..          a child that executes these words
+#     alive PID                  it was waited for without waiting, and had not ended
+#     reaped PID exit N, killed  its status
+#     sent TERM PID              by init, or by the shell that it starts for the signals of a turn; or KILL
+#     got ..                     a block of 384 bytes of the channel, as a trace has it
+# With the variable `inittab` it prints nothing, and leaves these for what is read behind it, with the times.
+
+function digit(of) { return index("0123456789abcdef", of) - 1 }
+function byte(digits) { return digit(substr(digits, 1, 1)) * 16 + digit(substr(digits, 2, 1)) }
+# The text of "\x41\x42".
+function text(quoted,    out, i) {
+    out = ""
+    for (i = 1; i + 3 <= length(quoted); i += 4)
+        out = out sprintf("%c", byte(substr(quoted, i + 2, 2)))
+    return out
+}
+# The words of an array of quoted words: `[one] [two]`.
+function words(list,    out, parts, count, i) {
+    count = split(list, parts, "\"")
+    out = ""
+    for (i = 2; i <= count; i += 2) out = out (out == "" ? "" : " ") "[" text(parts[i]) "]"
+    return out
+}
+function note(what, child, more) {
+    kind[++events] = what
+    of[events] = child
+    with[events] = more
+    by[events] = process
+    at[events] = time
+}
+# A number of four bytes, the least first, behind so many of a block in hexadecimal.
+function number(block, behind,    i, value) {
+    value = 0
+    for (i = 3; i >= 0; i--) {
+        value = value * 256 + byte(substr(block, (behind + i) * 2 + 1, 2))
+    }
+    return value
+}
+function character(code) { return code > 0 && code < 128 ? sprintf("%c", code) : "" }
+# The request of a block's four numbers (initreq.h).
+function request(magic, command, level, seconds) {
+    if (magic != 50927977) return "nothing 1"
+    if (command == 2) return "power fail"
+    if (command == 3) return "power failnow"
+    if (command == 4) return "power ok"
+    if (command != 1) return "nothing " (command ~ /^(0|5|6|7|12345)$/ ? 3 : 2)
+    if (level ~ /^[Qq]$/) return "reload"
+    if (level ~ /^[Uu]$/) return "reexec"
+    if (level ~ /^[A-Ca-c]$/) return "call " toupper(level)
+    if (level !~ /^[0-9Ss]$/) return "nothing 4"
+    if (seconds >= 2147483648) seconds = 0
+    return "level " toupper(level) " " (seconds > 3600 ? 3600 : seconds)
+}
+function take_bytes(quoted) {
+    gsub(/\\x/, "", quoted)
+    channel = channel quoted
+    while (length(channel) >= 768) {
+        block = substr(channel, 1, 768)
+        channel = substr(channel, 769)
+        note("got", "", request(number(block, 0), number(block, 4), character(number(block, 8)), number(block, 12)))
+    }
+}
+function take(line,    name, result, parts) {
+    name = line
+    sub(/\(.*/, "", name)
+    result = line
+    sub(/.*\) += /, "", result)
+    sub(/ .*/, "", result)
+    if (name == "execve") {
+        split(line, parts, /\], /)
+        sub(/^execve\("[^"]*", \[/, "", parts[1])
+        # What it is started with; what that executes later is its own.
+        if (!(process in runs)) argv[process] = words(parts[1])
+        if (result == 0) runs[process] = 1
+    } else if (name ~ /^(clone|clone3|fork|vfork)$/) {
+        if (process == init && result > 0) note("born", result)
+    } else if (process == init && name == "wait4") {
+        split(line, parts, /[(,]/)
+        if (result > 0 && match(line, /WEXITSTATUS\(s\) == [0-9]+/))
+            note("reaped", result, "exit " substr(line, RSTART + 18, RLENGTH - 18))
+        else if (result > 0) note("reaped", result, "killed")
+        else if (result == 0) note("alive", parts[2])
+    } else if (name == "kill") {
+        split(line, parts, /[(, )]+/)
+        if (parts[3] == "SIGTERM" || parts[3] == "SIGKILL")
+            note(result == 0 ? "sent" : "missed", parts[2], substr(parts[3], 4))
+    } else if (process == init && name == "openat") {
+        split(line, parts, "\"")
+        if (result >= 0 && text(parts[2]) ~ /(^|\/)initctl$/) is_channel[result] = 1
+    } else if (process == init && name == "close") {
+        split(line, parts, /[()]/)
+        delete is_channel[parts[2]]
+    } else if (process == init && name == "read") {
+        split(line, parts, /[(,]/)
+        if (parts[2] in is_channel && result > 0) {
+            split(line, parts, "\"")
+            take_bytes(parts[2])
+        }
+    } else if (process == init && name == "write") {
+        split(line, parts, /[(,]/)
+        if (parts[2] == 1) {
+            split(line, parts, "\"")
+            note("announced", "", text(parts[2]))
+        }
+    }
+}
+{
+    process = $1
+    time = $2
+    if (init == "") init = process
+    line = $0
+    sub(/^[0-9]+ +[0-9.]+ /, "", line)
+    if (line ~ /^\+\+\+ exited with /) { split(line, end, " "); note("died", process, "exit " end[4]); next }
+    if (line ~ /^\+\+\+ killed by /) { note("died", process, "killed"); next }
+    if (line ~ / <unfinished \.\.\.>$/) {
+        sub(/ <unfinished \.\.\.>$/, "", line)
+        begun[process] = line
+        next
+    }
+    if (line ~ /^<\.\.\. [a-z0-9_]+ resumed>/) {
+        sub(/^<\.\.\. [a-z0-9_]+ resumed>/, "", line)
+        line = begun[process] line
+    }
+    if (line ~ /\) += /) take(line)
+}
+# The shell that sends the signals of a turn is no child of an entry, but init's own.
+function is_helper(child) { return argv[child] ~ /^\[sh\] \[-c\] \[while read -r number; do kill -TERM / }
+function is_born(child) { return child in is_child && !is_helper(child) }
+# A signal that a service sends is none of init's.
+function is_of_init(event) { return kind[event] !~ /^(sent|missed)$/ || by[event] == init || is_helper(by[event]) }
+END {
+    for (i = 1; i <= events; i++) {
+        if (kind[i] == "born") is_child[of[i]] = 1
+        if (kind[i] == "died") last[of[i]] = with[i]
+    }
+    if (inittab != "") exit
+    for (i = 1; i <= events; i++) {
+        if (kind[i] == "got") print "got", with[i]
+        else if (!is_born(of[i]) || !is_of_init(i)) continue
+        else if (!(of[i] in runs)) continue
+        else if (kind[i] == "born") print "born", of[i], argv[of[i]]
+        else if (kind[i] == "reaped") {
+            print "reaped", of[i], with[i]
+            # What init was told is what became of it.
+            if (last[of[i]] != with[i]) print "but it ended with", last[of[i]]
+        } else if (kind[i] == "alive") print "alive", of[i]
+        else if (kind[i] == "sent" || kind[i] == "missed") print kind[i], with[i], of[i]
+    }
+}
