@@ -18,7 +18,8 @@ use Rattle.command_words.specs.Faults.{usage_report}
 
 -- done; the words are no command line, and why, or memory ran out; the file of a path was not read, and why; the inittab
 -- has too many files; the run over this script ended before its end; the writer could not be flushed; a trace is lawful,
--- or unlawful, of which this is told, and its last happening isn't finished at this line, if at any; its line of this
+-- or unlawful, of which this is told, its last happening isn't finished at this line, if at any, and it has so many that
+-- are; its line of this
 -- number is none; the verdict could not be written; the channel of a run over the operating system is in use, by whom
 -- where that is known, or two of its files are one, or the channel was not locked, and why; its turns ended so, where nothing names its level or something does; the file of its trace was not
 -- created, and why; the faults of its inittab could not be written; the version could not be
@@ -30,8 +31,8 @@ pub data Ending : Type 0 where
   too_many : Ending
   stopped : List ℕ → SimFault → Ending
   unflushed : Ending
-  lawful : Option ℕ → Ending
-  unlawful : List ℕ → Option ℕ → Ending
+  lawful : Option ℕ × ℕ → Ending
+  unlawful : List ℕ → Option ℕ × ℕ → Ending
   torn : ℕ → Ending
   unwritten : Ending
   busy : List ℕ → Option ℕ → Ending
@@ -57,8 +58,8 @@ status_of (unread path why) = DEVICE_FAULT
 status_of too_many = REFUSED
 status_of (stopped script f) = fault_status f
 status_of unflushed = DEVICE_FAULT
-status_of (lawful left) = DONE
-status_of (unlawful message left) = UNLAWFUL
+status_of (lawful judged) = DONE
+status_of (unlawful message judged) = UNLAWFUL
 status_of (torn line) = REFUSED
 status_of unwritten = DEVICE_FAULT
 status_of (busy path holder) = DEVICE_FAULT
@@ -118,6 +119,14 @@ abbrev pub ReportsLeft : Option ℕ → Option (List ℕ) → Option (List ℕ) 
 ReportsLeft None old new = Keeps old new
 ReportsLeft (Some line) old new = ReportsText (unfinished_message line) old new
 
+abbrev pub count_message : ℕ → List ℕ
+count_message count = codes "initd: " ++ decimal count ++ codes " happenings\n"
+
+-- what is told of a trace that was judged: how many happenings it has, and what isn't finished
+abbrev pub ReportsJudged : Option ℕ × ℕ → Option (List ℕ) → Option (List ℕ) → Type 0
+ReportsJudged judged old new =
+    (mid : Option (List ℕ)) × ReportsText (count_message judged.1) old mid × ReportsLeft judged.0 mid new
+
 -- what is reported of an ending
 abbrev pub Reports : Ending → Option (List ℕ) → Option (List ℕ) → Type 0
 Reports done old new = Keeps old new
@@ -127,9 +136,9 @@ Reports (unread path why) old new = ReportsText (cannot_message (codes "read") p
 Reports too_many old new = AppendsPrefix old new TOO_MANY.now
 Reports (stopped script f) old new = ReportsText (fault_message script f) old new
 Reports unflushed old new = ReportsText (fault_message [] fault.Write) old new
-Reports (lawful left) old new = ReportsLeft left old new
-Reports (unlawful message left) old new =
-    (mid : Option (List ℕ)) × AppendsPrefix old mid message × ReportsLeft left mid new
+Reports (lawful judged) old new = ReportsJudged judged old new
+Reports (unlawful message judged) old new =
+    (mid : Option (List ℕ)) × AppendsPrefix old mid message × ReportsJudged judged mid new
 Reports (torn line) old new = ReportsText (torn_message line) old new
 Reports unwritten old new = AppendsPrefix old new UNWRITTEN.now
 Reports (busy path holder) old new = ReportsText (busy_message path holder) old new

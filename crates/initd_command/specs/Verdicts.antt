@@ -30,18 +30,19 @@ message_of number line why =
 abbrev pub breach_message : Named → List ℕ
 breach_message breach = message_of breach.line (front_line breach.text) (law_words breach.law)
 
--- how a lawful trace ends, and one with this breach, where its last happening isn't finished at this line
-abbrev pub EndsLawful : Option ℕ → Ending → Option (List ℕ) → Option (List ℕ) → Type 0
-EndsLawful left (lawful told) old new = (told ≡ left) × Appends old new lawful_text
-EndsLawful left unwritten old new = AppendsPrefix old new lawful_text
-EndsLawful left _ old new = ⊥
+-- how a lawful trace ends, and one with this breach, where its last happening isn't finished at this line, and it has so
+-- many that are
+abbrev pub EndsLawful : Option ℕ × ℕ → Ending → Option (List ℕ) → Option (List ℕ) → Type 0
+EndsLawful judged (lawful told) old new = (told ≡ judged) × Appends old new lawful_text
+EndsLawful judged unwritten old new = AppendsPrefix old new lawful_text
+EndsLawful judged _ old new = ⊥
 
-abbrev pub EndsBreach : Named → Option ℕ → Ending → Option (List ℕ) → Option (List ℕ) → Type 0
-EndsBreach breach left (unlawful message told) old new =
-    (message ≡ breach_message breach) × (told ≡ left) × Appends old new (unlawful_text breach)
-EndsBreach breach left unwritten old new = AppendsPrefix old new (unlawful_text breach)
-EndsBreach breach left no_memory old new = Keeps old new
-EndsBreach breach left _ old new = ⊥
+abbrev pub EndsBreach : Named → Option ℕ × ℕ → Ending → Option (List ℕ) → Option (List ℕ) → Type 0
+EndsBreach breach judged (unlawful message told) old new =
+    (message ≡ breach_message breach) × (told ≡ judged) × Appends old new (unlawful_text breach)
+EndsBreach breach judged unwritten old new = AppendsPrefix old new (unlawful_text breach)
+EndsBreach breach judged no_memory old new = Keeps old new
+EndsBreach breach judged _ old new = ⊥
 
 -- how a text ends of which a line is none
 abbrev pub EndsTorn : ℕ → Ending → Option (List ℕ) → Option (List ℕ) → Type 0
@@ -49,15 +50,15 @@ EndsTorn number (torn told) old new = (told ≡ number) × Keeps old new
 EndsTorn number _ old new = ⊥
 
 -- how a text ends of which this is found
-abbrev pub EndsFound : Finding Named → Option ℕ → Ending → Option (List ℕ) → Option (List ℕ) → Type 0
-EndsFound Lawful left ending old new = EndsLawful left ending old new
-EndsFound (Breach breach) left ending old new = EndsBreach breach left ending old new
-EndsFound (Torn number) left ending old new = EndsTorn number ending old new
+abbrev pub EndsFound : Finding Named → Option ℕ × ℕ → Ending → Option (List ℕ) → Option (List ℕ) → Type 0
+EndsFound Lawful judged ending old new = EndsLawful judged ending old new
+EndsFound (Breach breach) judged ending old new = EndsBreach breach judged ending old new
+EndsFound (Torn number) judged ending old new = EndsTorn number ending old new
 
 -- how a text ends: by the answer on it
 abbrev pub EndsTrace : List ℕ → Ending → Option (List ℕ) → Option (List ℕ) → Type 0
-EndsTrace text ending old new = (finding : Finding Named) × (left : Option ℕ) × Answers text finding left
-    × EndsFound finding left ending old new
+EndsTrace text ending old new = (finding : Finding Named) × (left : Option ℕ) × (count : ℕ)
+    × Answers text finding left count × EndsFound finding (left, count) ending old new
 
 -- how the text at a path ends: it is not read, or it ends so
 abbrev pub EndsCheck : KnownTexts → List ℕ → Ending → Option (List ℕ) → Option (List ℕ) → Type 0

@@ -4,7 +4,7 @@ ghost use Rattle.std.specs.Prelude.{◌≡◌, ℕ, List, Some, [], string_bytes
 ghost use Rattle.std.specs.Io.KnownBytes.{Appends};
 ghost use Rattle.program_io.specs.Writing.{AppendsPrefix};
 ghost use Rattle.trace_verdict.specs.Judges.{HasTaken};
-ghost use Rattle.initd_command.specs.Endings.{Ending, Reports, ReportsLeft, status_of, torn_message, unfinished_message};
+ghost use Rattle.initd_command.specs.Endings.{Ending, Reports, ReportsJudged, ReportsLeft, count_message, status_of, torn_message, unfinished_message};
 ghost use Rattle.initd_command.specs.Turned.{ReportsText};
 ghost use Rattle.initd_command.specs.Verdicts.{EndsBreach, EndsCheck, EndsFound, EndsLawful, breach_message, message_of, unlawful_text, verdict_text};
 
@@ -71,28 +71,29 @@ fn judge_text<T: Texts, W: Write, E: Write>(
 {
     match texts.read_pieces(path, file) {
         Ok(()) => {
-            let (finding, left) = file.judge.answer();
-            tell_finding(alloc, finding, left, out, err)
+            let (finding, left, count) = file.judge.answer();
+            tell_finding(alloc, finding, left, count, out, err)
         }
         Err(error) => report_cannot(alloc, "read", path, &error, err),
     }
 }
 
-/// Tells what is found of a text, and the line at which its last happening isn't finished.
+/// Tells what is found of a text, how many happenings it has, and the line at which its last one isn't finished.
 fn tell_finding<W: Write, E: Write>(
     alloc: Global,
     finding: &Finding,
     left: Option<u64>,
+    count: u64,
     out: &mut W,
     err: &mut E,
 ) -> u8
     ensures { (ending : Ending) × (result ≡ status_of ending)
-        × EndsFound finding.now left ending (W.contents out.old) (W.contents out.new)
+        × EndsFound finding.now (left, count) ending (W.contents out.old) (W.contents out.new)
         × Reports ending (E.contents err.old) (E.contents err.new) }
 {
     match finding {
-        Finding::Lawful => tell_lawful(alloc, left, out, err),
-        Finding::Breach(breach) => tell_breach(alloc, breach, left, out, err),
+        Finding::Lawful => tell_lawful(alloc, left, count, out, err),
+        Finding::Breach(breach) => tell_breach(alloc, breach, left, count, out, err),
         Finding::Torn(number) => report_torn(alloc, *number, err),
     }
 }
@@ -101,16 +102,22 @@ fn tell_finding<W: Write, E: Write>(
 const UNWRITTEN: &str = "initd: the verdict could not be written\n";
 
 /// Writes that the trace is lawful.
-fn tell_lawful<W: Write, E: Write>(alloc: Global, left: Option<u64>, out: &mut W, err: &mut E) -> u8
+fn tell_lawful<W: Write, E: Write>(
+    alloc: Global,
+    left: Option<u64>,
+    count: u64,
+    out: &mut W,
+    err: &mut E,
+) -> u8
     ensures { (ending : Ending) × (result ≡ status_of ending)
-        × EndsLawful left ending (W.contents out.old) (W.contents out.new)
+        × EndsLawful (left, count) ending (W.contents out.old) (W.contents out.new)
         × Reports ending (E.contents err.old) (E.contents err.new) }
 {
     if !tell(b"lawful\n", out) {
         report(UNWRITTEN, err);
         return DEVICE_FAULT;
     }
-    report_left(alloc, left, err);
+    report_judged(alloc, left, count, err);
     DONE
 }
 
@@ -119,11 +126,12 @@ fn tell_breach<W: Write, E: Write>(
     alloc: Global,
     breach: &Breach,
     left: Option<u64>,
+    count: u64,
     out: &mut W,
     err: &mut E,
 ) -> u8
     ensures { (ending : Ending) × (result ≡ status_of ending)
-        × EndsBreach breach.now left ending (W.contents out.old) (W.contents out.new)
+        × EndsBreach breach.now (left, count) ending (W.contents out.old) (W.contents out.new)
         × Reports ending (E.contents err.old) (E.contents err.new) }
 {
     let Ok(verdict) = verdict_line(alloc, breach) else {
@@ -137,7 +145,7 @@ fn tell_breach<W: Write, E: Write>(
         return DEVICE_FAULT;
     }
     report_bytes(&message, err);
-    report_left(alloc, left, err);
+    report_judged(alloc, left, count, err);
     UNLAWFUL
 }
 
@@ -174,6 +182,20 @@ fn message_of(alloc: Global, number: u64, line: &[u8], why: &[u8]) -> Result<Vec
     text.extend_from_slice(why)?;
     text.push(b'\n')?;
     Ok(text)
+}
+
+/// Tells how many happenings of a trace were judged, and the line at which the last one isn't finished.
+fn report_judged<E: Write>(alloc: Global, left: Option<u64>, count: u64, err: &mut E)
+    ensures { ReportsJudged (left, count) (E.contents err.old) (E.contents err.new) }
+{
+    report_made(count_text(alloc, count), err);
+    report_left(alloc, left, err);
+}
+
+fn count_text(alloc: Global, count: u64) -> Result<String, AllocError>
+    ensures { IfOk result (λ text. string_bytes text ≡ count_message count) }
+{
+    format!(in alloc; "initd: {count} happenings\n")
 }
 
 /// Tells the line at which the last happening of a trace isn't finished.

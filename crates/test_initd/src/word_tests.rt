@@ -87,7 +87,7 @@ const OVER_KEPT: &[(&[u8], &[u8], &str, u8, (&str, &str))] = &[
         b"use 0\nenter sysinit 5\nenter S 5\nsettle S\n",
         "check said",
         0,
-        ("lawful\n", ""),
+        ("lawful\n", "initd: 4 happenings\n"),
     ),
     (
         b"",
@@ -96,7 +96,7 @@ const OVER_KEPT: &[(&[u8], &[u8], &str, u8, (&str, &str))] = &[
         2,
         (
             "unlawful: happening 0, law 5\n",
-            "line 1: settle 3: the level is not settled\n",
+            "line 1: settle 3: the level is not settled\ninitd: 1 happenings\n",
         ),
     ),
     (
@@ -106,8 +106,15 @@ const OVER_KEPT: &[(&[u8], &[u8], &str, u8, (&str, &str))] = &[
         0,
         (
             "lawful\n",
-            "initd: the happening at trace line 2 is not finished: judged up to the line before it\n",
+            "initd: 1 happenings\ninitd: the happening at trace line 2 is not finished: judged up to the line before it\n",
         ),
+    ),
+    (
+        b"",
+        b"nudge\n\xff\xfe",
+        "check said",
+        1,
+        ("", "initd: trace line 2 is not a line\n"),
     ),
     (
         b"",

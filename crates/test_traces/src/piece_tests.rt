@@ -23,7 +23,36 @@ const TEXTS: &[(&str, Said, u64)] = &[
     ("nudge\n", Said::Lawful, 0),
     ("nudge", Said::Lawful, 1),
     ("nudge\nnud", Said::Lawful, 2),
-    ("no line", Said::Lawful, 1),
+    // Nothing that comes behind it makes it a line.
+    ("no line", Said::Torn(1), 0),
+    ("nudge\ngarbage", Said::Torn(2), 0),
+    ("settle 3\ngarbage", Said::Torn(2), 0),
+    ("nudge ", Said::Torn(1), 0),
+    ("\u{7f}ELF", Said::Torn(1), 0),
+    ("hold abcdefgh", Said::Lawful, 1),
+    ("hold abcdefghi", Said::Torn(1), 0),
+    ("hold a ", Said::Torn(1), 0),
+    ("birth a 4294967295", Said::Lawful, 1),
+    ("birth a 4294967296", Said::Torn(1), 0),
+    ("birth a 01", Said::Torn(1), 0),
+    ("clock 18446744073709551615", Said::Lawful, 1),
+    ("clock 18446744073709551616", Said::Torn(1), 0),
+    ("enter sys", Said::Lawful, 1),
+    ("enter 3 3600", Said::Lawful, 1),
+    ("enter 3 3601", Said::Torn(1), 0),
+    ("enter s", Said::Lawful, 1),
+    ("settle s", Said::Torn(1), 0),
+    ("got lev", Said::Lawful, 1),
+    ("got level 3 ", Said::Lawful, 1),
+    ("got nothing 5", Said::Torn(1), 0),
+    ("handed cut 12", Said::Lawful, 1),
+    ("handed whole ", Said::Torn(1), 0),
+    ("reaped a 12 e", Said::Lawful, 1),
+    ("reaped a 12 exit 255", Said::Lawful, 1),
+    ("reaped a 12 exit 256", Said::Torn(1), 0),
+    ("use ", Said::Lawful, 1),
+    ("use 4096", Said::Lawful, 1),
+    ("use 4097", Said::Torn(1), 0),
     ("\n", Said::Torn(1), 0),
     ("nudge\nno line\nnudge\n", Said::Torn(2), 0),
     // Of a table all lines have to be there.
@@ -32,6 +61,11 @@ const TEXTS: &[(&str, Said, u64)] = &[
     ("use 2\na:3:once:x\nb:1:once:y", Said::Lawful, 1),
     ("use 4096\na:3:once:x\n", Said::Lawful, 1),
     ("use 0\nuse 0\nsettle", Said::Lawful, 3),
+    ("use 3\na:3:once:x\nb", Said::Lawful, 1),
+    // A whole line of it is that of no entry, or of one more of an id.
+    ("use 2\na:3:bogus:x\n", Said::Torn(1), 0),
+    ("nudge\nuse 3\na:3:once:x\na:1:once:y\n", Said::Torn(2), 0),
+    ("settle 3\nuse 9\nnudge\nuse 9", Said::Torn(2), 0),
     // No table has so many, or two of an id, or these lines.
     ("use 4097\n", Said::Torn(1), 0),
     ("use 2\na:3:once:x\na:1:once:y\n", Said::Torn(1), 0),
@@ -81,7 +115,7 @@ fn is_said<A: Allocator>(finding: &Finding<Breach<A>>, said: Said) -> bool {
 }
 
 fn is_answered<A: Allocator + Copy>(judge: &TextJudge<A>, said: Said, left: u64) -> bool {
-    let (finding, told) = judge.answer();
+    let (finding, told, _count) = judge.answer();
     is_said(finding, said) && told.unwrap_or(0) == left
 }
 

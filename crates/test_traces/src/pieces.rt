@@ -32,6 +32,6 @@ fn breach_said(alloc: Global, breach: &Breach) -> Result<String, Memory> {
 pub(crate) fn judged_in_pieces(alloc: Global, text: &str, size: usize) -> Result<String, Memory> {
     let mut judge = TextJudge::new(alloc);
     hand_over(&mut judge, text.as_bytes(), size)?;
-    let (finding, _left) = judge.answer();
+    let (finding, _left, _count) = judge.answer();
     said_of(alloc, finding)
 }

@@ -342,6 +342,13 @@ const ROWS: &[Row] = &[
         "",
         "initview: t:2: the happening is not finished: shown up to the line before it\n",
     ),
+    (
+        &["nudge\ngarbage"],
+        "left t",
+        1,
+        "",
+        "initview: t:2: not a line of a trace: shown up to the line before it\n",
+    ),
     // A trace that isn't there.
     (
         &[],

@@ -6,14 +6,15 @@ use Rattle.text_lines.specs.Lines.{newlines}
 use Rattle.init_trace.specs.Event.{Event}
 use Rattle.init_trace.specs.Lawful.{broken}
 use Rattle.trace_text.specs.Lines.{event_text, trace_text}
-use Rattle.trace_text.specs.Texts.{line_count, BeginsNone}
+use Rattle.trace_text.specs.Texts.{line_count}
 use Rattle.trace_text.proofs.ReadTexts.{trace_text-push, are_in_range-push, shorter}
 use Rattle.trace_check.specs.declared.laws.Law.{Law}
 use Rattle.trace_check.specs.Laws.{law_number}
-use Rattle.trace_verdict.specs.Fronts.{is_unfinished, line_left}
+use Rattle.trace_front.specs.Fronts.{NeverBegins}
+use Rattle.trace_verdict.specs.Fronts.{line_left}
 use Rattle.trace_verdict.specs.Readers.{Reading, capped, ReadsNext}
-use Rattle.trace_verdict.proofs.Judging.{capped_is, lines_push, lines_within, past_push, some_over}
-use Rattle.trace_verdict.proofs.Fronts.{finished_more, none_more}
+use Rattle.trace_verdict.proofs.Judging.{capped_is, lines_push, lines_within, past_push}
+use Rattle.trace_verdict.proofs.Fronts.{never_more, never_some}
 use Rattle.trace_view.specs.Viewing.{ViewState, Viewed}
 use Rattle.text_view.specs.declared.text_views.Stop.{Stop}
 use Rattle.text_view.specs.declared.text_views.Stop.TheVariants.{Breach, Torn}
@@ -62,8 +63,8 @@ goes_next (Some (Breach law number)) reading new viewing later text h line small
     (at.0, breach_here reading new viewing at.0 text h law number small at.1 next (sees.1 ∙ is) (sees.2 (reverse at.0) at.1.seen), subst (λ v. Viewed v (reverse at.0)) (sym sees.0) at.1.seen)
 goes_next (Some (Torn number)) reading new viewing later text h line small next sees is at = absurd sees
 
-pub torn_here : (reading : Reading) (viewing : ViewState) (text : List ℕ) (number : ℕ) → length text < 2 ^ 64 → number ≡ capped (reading.lines + 1) → is_unfinished reading.over ≡ false → BeginsNone reading.over → ((trace : List Event) × HasSeen reading viewing trace text) → StopsBy (Torn number) viewing text
-torn_here reading viewing text number small is finished none at = (
+pub torn_here : (reading : Reading) (viewing : ViewState) (text : List ℕ) (number : ℕ) → length text < 2 ^ 64 → number ≡ capped (reading.lines + 1) → NeverBegins reading.over → ((trace : List Event) × HasSeen reading viewing trace text) → StopsBy (Torn number) viewing text
+torn_here reading viewing text number small is none at = (
   at.0,
   (
     record {
@@ -71,8 +72,7 @@ torn_here reading viewing text number small is finished none at = (
       rest = reading.over;
       are = at.1.are;
       whole = at.1.whole;
-      counted = is ∙ next_line reading viewing at.0 text small at.1 (some_over reading.over finished);
-      finished = finished;
+      counted = is ∙ next_line reading viewing at.0 text small at.1 (never_some reading.over none);
       none = none;
     },
     refl,
@@ -107,8 +107,7 @@ stops_more (Torn number) viewing text piece stops = (
       are = stops.1.0.are;
       whole = sym (append_assoc (trace_text stops.1.0.trace) stops.1.0.rest piece) ∙ ap (λ t. t ++ piece) stops.1.0.whole;
       counted = stops.1.0.counted;
-      finished = finished_more stops.1.0.rest piece stops.1.0.finished;
-      none = none_more stops.1.0.rest piece stops.1.0.finished stops.1.0.none;
+      none = never_more stops.1.0.rest piece stops.1.0.none;
     },
     stops.1.1,
   ),

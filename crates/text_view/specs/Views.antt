@@ -6,7 +6,7 @@ use Rattle.init_trace.specs.Lawful.{broken}
 use Rattle.init_trace.specs.Range.{are_in_range}
 use Rattle.trace_check.specs.Laws.{law_number}
 use Rattle.trace_text.specs.Lines.{trace_text}
-use Rattle.trace_verdict.specs.Fronts.{is_unfinished}
+use Rattle.trace_verdict.specs.Fronts.{IsLeft}
 use Rattle.trace_verdict.specs.Readers.{Reading}
 use Rattle.trace_view.specs.Viewing.{ViewState, Viewed}
 use Rattle.text_view.specs.declared.text_views.Stop.{Stop}
@@ -40,10 +40,10 @@ AtBy (Some stop) state text = StopsBy stop state.viewing text
 abbrev pub IsAt : TextState → List ℕ → Type 0
 IsAt state text = AtBy state.stop state text
 
--- it has taken the text: besides, nothing that it has not read is a whole happening
+-- it has taken the text: besides, what it has not read is less than a happening, and may become one
 abbrev pub TakenBy : Option Stop → TextState → List ℕ → Type 0
 TakenBy None state text = (trace : List Event) × HasSeen state.reading state.viewing trace text
-    × (is_unfinished state.reading.over ≡ true)
+    × IsLeft state.reading.over
 TakenBy (Some stop) state text = StopsBy stop state.viewing text
 
 abbrev pub HasTaken : TextState → List ℕ → Type 0

@@ -1,42 +1,23 @@
 -- What stays so when more of a text comes.
-use Rattle.std.proofs.Common.{◌≡◌, ℕ, zero, suc, ◌+◌, ◌-◌, ◌≤◌, true, false, nat_lt, List, [], ◌∷◌, ◌++◌, length, take, drop, Option, Some, None, option_and_then, refl, sym, ap, ◌∙◌, arith, length-append}
+use Rattle.std.proofs.Common.{◌≡◌, ℕ, zero, suc, ◌+◌, ◌-◌, ◌≤◌, true, false, nat_lt, List, [], ◌∷◌, ◌++◌, length, take, drop, Option, Some, None, option_and_then, append-nil, refl, sym, ap, ◌∙◌, subst, arith, length-append}
 use Rattle.std.specs.Option.{option_map, option_map_or}
 use Rattle.std.proofs.lemmas.Bool.Decides.{nat_tests}
 use Rattle.std.proofs.lemmas.List.{append_assoc, take-append-drop}
 use Rattle.std.proofs.lemmas.Option.{none-some}
 use Rattle.init_words.specs.declared.entries.Entry.{Entry}
 use Rattle.text_lines.specs.Lines.{cut, newlines, after_lines}
-use Rattle.text_lines.proofs.CutLemmas.{cut-parts, cut-lacks, cut-append}
 use Rattle.text_lines.proofs.PieceLemmas.{newlines-append, newlines-none, Front, after_lines-front, take-front}
 use Rattle.inittab_text.specs.Written.{table_written, table_begun}
-use Rattle.init_trace.specs.declared.happenings.Happening.TheVariants.{NewTable}
+use Rattle.init_trace.specs.declared.happenings.Happening.TheVariants.{NewTable, Nudge}
 use Rattle.init_trace.specs.Event.{Event}
 use Rattle.trace_text.specs.Lines.{event_text}
 use Rattle.init_trace.specs.Range.{is_in_range}
 use Rattle.trace_text.specs.Texts.{Begun, line_count, BeginsNone}
 use Rattle.trace_text.specs.Reading.{entries_brought, words_in, words_read, begun_by, begun}
 use Rattle.trace_text.proofs.LineTexts.{begun-text, text-begun, newlines-event}
+use Rattle.trace_front.specs.Fronts.{NeverBegins}
+use Rattle.trace_front.proofs.LineFronts.{cut-more, newlines-cut, newlines-uncut, after_lines-some, after_lines-more}
 use Rattle.trace_verdict.specs.Fronts.{lines_of, lines_due, is_unfinished}
-
--- the first line of a longer text
-pub cut-more : (text more line rest : List ℕ) → cut 10 text ≡ Some (line, rest) → cut 10 (text ++ more) ≡ Some (line, rest ++ more)
-cut-more text more line rest is =
-    let parts = cut-parts 10 text line rest is in
-    ap (λ t. cut 10 (t ++ more)) parts.0 ∙ ap (cut 10) (append_assoc line (10 ∷ rest) more) ∙ cut-append 10 line (rest ++ more) parts.1
-
--- a line less
-pub newlines-cut : (text line rest : List ℕ) → cut 10 text ≡ Some (line, rest) → newlines text ≡ newlines rest + 1
-newlines-cut text line rest is =
-    let parts = cut-parts 10 text line rest is in
-    let whole : newlines text ≡ newlines line + newlines (10 ∷ rest) = ap newlines parts.0 ∙ newlines-append line (10 ∷ rest) in
-    let front : newlines (10 ∷ rest) ≡ newlines (10 ∷ []) + newlines rest = newlines-append (10 ∷ []) rest in
-    omega (arith, whole, front, newlines-none line parts.1, newlines-one)
-  where
-    newlines-one : newlines (10 ∷ []) ≡ 1
-    newlines-one = refl
-
-newlines-uncut : (text : List ℕ) → cut 10 text ≡ None → newlines text ≡ 0
-newlines-uncut text is = newlines-none text (cut-lacks 10 text is)
 
 -- a happening has a line
 some_lines : (o : Option ℕ) → 1 ≤ option_map_or (λ count. count + 1) o 1
@@ -82,32 +63,6 @@ finished_more text more finished =
     let at = finished_cut text finished in
     false-lt (newlines (text ++ more)) (lines_due (text ++ more))
     (omega (arith, lt-false (newlines text) (lines_due text) finished, newlines-append text more, due_cut text at.0.0 at.0.1 at.1, due_cut (text ++ more) at.0.0 (at.0.1 ++ more) (cut-more text more at.0.0 at.0.1 at.1)))
-
--- what stands after one line more
-after_cut : (n : ℕ) (text line rest : List ℕ) → cut 10 text ≡ Some (line, rest) → after_lines (suc n) text ≡ after_lines n rest
-after_cut n text line rest is = ap (λ o. option_and_then (λ (parts : List ℕ × List ℕ). after_lines n parts.1) o) is
-
-after_uncut : (n : ℕ) (text : List ℕ) → cut 10 text ≡ None → after_lines (suc n) text ≡ None
-after_uncut n text is = ap (λ o. option_and_then (λ (parts : List ℕ × List ℕ). after_lines n parts.1) o) is
-
--- what stands after so many lines of a text that has them
-pub after_lines-some : (n : ℕ) (text : List ℕ) → n ≤ newlines text → (rest : List ℕ) × (after_lines n text ≡ Some rest)
-after_lines-some zero text enough = (text, refl)
-after_lines-some (suc n) text enough = by (cut 10 text) refl (λ rest less. after_lines-some n rest less) where
-  by : (o : Option (List ℕ × List ℕ)) → cut 10 text ≡ o → ((rest : List ℕ) → n ≤ newlines rest → (behind : List ℕ) × (after_lines n rest ≡ Some behind)) → (rest : List ℕ) × (after_lines (suc n) text ≡ Some rest)
-  by None is further = absurd (omega (arith, enough, newlines-uncut text is))
-  by (Some parts) is further =
-      let more = further parts.1 (omega (arith, enough, newlines-cut text parts.0 parts.1 is)) in
-      (more.0, after_cut n text parts.0 parts.1 is ∙ more.1)
-
-pub after_lines-more : (n : ℕ) (text more rest : List ℕ) → after_lines n text ≡ Some rest → after_lines n (text ++ more) ≡ Some (rest ++ more)
-after_lines-more zero text more rest is =
-    let same : text ≡ rest = cc in
-    ap (λ t. Some (t ++ more)) same
-after_lines-more (suc n) text more rest is = by (cut 10 text) refl (λ t h. after_lines-more n t more rest h) where
-  by : (o : Option (List ℕ × List ℕ)) → cut 10 text ≡ o → ((t : List ℕ) → after_lines n t ≡ Some rest → after_lines n (t ++ more) ≡ Some (rest ++ more)) → after_lines (suc n) (text ++ more) ≡ Some (rest ++ more)
-  by None at further = absurd (none-some rest (sym (after_uncut n text at) ∙ is))
-  by (Some parts) at further = after_cut n (text ++ more) parts.0 (parts.1 ++ more) (cut-more text more parts.0 parts.1 at) ∙ further parts.1 (sym (after_cut n text parts.0 parts.1 at) ∙ is)
 
 -- the table of so many lines that are there is that of a longer text
 table_more : (n : ℕ) (text more : List ℕ) → n ≤ newlines text → table_begun n text ≡ None → table_begun n (text ++ more) ≡ None
@@ -196,6 +151,17 @@ unbegun text none = by (begun text) refl where
 pub none_more : (text more : List ℕ) → is_unfinished text ≡ false → BeginsNone text → BeginsNone (text ++ more)
 none_more text more finished none = λ happening rest ranged same.
     none-some (happening, rest) (sym (begun_more text more finished (unbegun text none)) ∙ ap begun (sym same) ∙ begun-text happening rest ranged)
+
+-- what no happening begins, whatever comes behind
+pub finished_never : (text : List ℕ) → is_unfinished text ≡ false → BeginsNone text → NeverBegins text
+finished_never text finished none = λ more. none_more text more finished none
+
+pub never_more : (text piece : List ℕ) → NeverBegins text → NeverBegins (text ++ piece)
+never_more text piece never = λ more. subst BeginsNone (sym (append_assoc text piece more)) (never (piece ++ more))
+
+pub never_some : (text : List ℕ) → NeverBegins text → 1 ≤ length text
+never_some [] never = absurd (never (event_text Nudge) Nudge [] refl (append-nil (event_text Nudge)))
+never_some (byte ∷ text) never = omega arith
 
 -- what a reader has behind it, and what it has before it
 drop_front : (front rest : List ℕ) → drop (length (front ++ rest) - length rest) (front ++ rest) ≡ rest

@@ -12,7 +12,7 @@ use Rattle.init_trace.specs.Event.{Event}
 use Rattle.init_trace.specs.Lawful.{broken, breach_at, earlier, first_breach}
 use Rattle.trace_text.specs.Lines.{event_text, trace_text}
 use Rattle.init_trace.specs.Range.{is_in_range, are_in_range}
-use Rattle.trace_text.specs.Texts.{line_count, BeginsNone}
+use Rattle.trace_text.specs.Texts.{line_count}
 use Rattle.trace_text.proofs.LineTexts.{newlines-event}
 use Rattle.trace_text.proofs.ReadTexts.{trace_text-push, are_in_range-push, newlines-few, shorter}
 use Rattle.trace_check.specs.declared.laws.Law.{Law}
@@ -21,11 +21,12 @@ use Rattle.trace_check.specs.Judging.{Judging, Judged}
 use Rattle.trace_check.proofs.Passing.{breach_here}
 use Rattle.trace_verdict.specs.declared.findings.Finding.{Finding}
 use Rattle.trace_verdict.specs.declared.findings.Finding.TheVariants.{Lawful, Breach, Torn}
-use Rattle.trace_verdict.specs.Fronts.{is_unfinished, line_left, IsFront, IsTorn}
+use Rattle.trace_front.specs.Fronts.{NeverBegins}
+use Rattle.trace_verdict.specs.Fronts.{IsLeft, line_left, IsFront, IsTorn}
 use Rattle.trace_verdict.specs.Answers.{Named, IsFirst, Answers}
 use Rattle.trace_verdict.specs.Readers.{Reading, capped, ReadsNext}
 use Rattle.trace_verdict.specs.Judges.{TextState, IsFound, HasRead, AtBy, TakenBy, left_of}
-use Rattle.trace_verdict.proofs.Fronts.{finished_cut, newlines-cut, finished_more, none_more}
+use Rattle.trace_verdict.proofs.Fronts.{never_more, never_some}
 
 pub capped_is : (n : ℕ) → n < 2 ^ 64 → capped n ≡ n
 capped_is n small = min-eq_left (omega (arith, small))
@@ -102,8 +103,7 @@ torn_more text piece number torn = record {
   are = torn.are;
   whole = sym (append_assoc (trace_text torn.trace) torn.rest piece) ∙ ap (λ t. t ++ piece) torn.whole;
   counted = torn.counted;
-  finished = finished_more torn.rest piece torn.finished;
-  none = none_more torn.rest piece torn.finished torn.none;
+  none = never_more torn.rest piece torn.none;
 }
 
 pub still_torn : (finding : Finding Named) (state : TextState) (text piece : List ℕ) (number : ℕ) → finding ≡ Torn number → TakenBy finding state text → AtBy finding state (text ++ piece)
@@ -136,11 +136,6 @@ read_next old new trace text h small read next place found = record {
   longer = length-append trace (h ∷ [])
 
 -- the number of the line of the next happening
-pub some_over : (over : List ℕ) → is_unfinished over ≡ false → 1 ≤ length over
-some_over over finished =
-    let at = finished_cut over finished in
-    omega (arith, newlines-few over, newlines-cut over at.0.0 at.0.1 at.1)
-
 next_line : (state : TextState) (trace : List Event) (text : List ℕ) → length text < 2 ^ 64 → HasRead state trace text → 1 ≤ length state.reading.over → capped (state.reading.lines + 1) ≡ newlines (trace_text trace) + 1
 next_line state trace text small read some =
     ap (λ n. capped (n + 1)) read.lines
@@ -149,14 +144,13 @@ next_line state trace text small read some =
 pub line_of : (old : TextState) (new : Reading) (trace : List Event) (text : List ℕ) (h : Event) → length text < 2 ^ 64 → HasRead old trace text → ReadsNext old.reading new (Some h) → capped (old.reading.lines + 1) ≡ newlines (trace_text trace) + 1
 line_of old new trace text h small read next = next_line old trace text small read (omega (arith, shorter h new.over old.reading.over next.0 next.1))
 
-pub torn_here : (state : TextState) (text : List ℕ) (number : ℕ) (trace : List Event) → length text < 2 ^ 64 → HasRead state trace text → number ≡ capped (state.reading.lines + 1) → is_unfinished state.reading.over ≡ false → BeginsNone state.reading.over → IsTorn text number
-torn_here state text number trace small read is finished none = record {
+pub torn_here : (state : TextState) (text : List ℕ) (number : ℕ) (trace : List Event) → length text < 2 ^ 64 → HasRead state trace text → number ≡ capped (state.reading.lines + 1) → NeverBegins state.reading.over → IsTorn text number
+torn_here state text number trace small read is none = record {
   trace = trace;
   rest = state.reading.over;
   are = read.are;
   whole = read.whole;
-  counted = is ∙ next_line state trace text small read (some_over state.reading.over finished);
-  finished = finished;
+  counted = is ∙ next_line state trace text small read (never_some state.reading.over none);
   none = none;
 }
 
@@ -165,7 +159,7 @@ left_is : (state : TextState) (trace : List Event) (text over : List ℕ) → le
 left_is state trace text [] small read is = refl
 left_is state trace text (byte ∷ over) small read is = ap Some (next_line state trace text small read (omega (arith, ap length is)))
 
-front : (state : TextState) (trace : List Event) (text : List ℕ) (left : Option ℕ) → length text < 2 ^ 64 → HasRead state trace text → is_unfinished state.reading.over ≡ true → left ≡ option_map capped (line_left state.reading.lines state.reading.over) → IsFront trace left text
+front : (state : TextState) (trace : List Event) (text : List ℕ) (left : Option ℕ) → length text < 2 ^ 64 → HasRead state trace text → IsLeft state.reading.over → left ≡ option_map capped (line_left state.reading.lines state.reading.over) → IsFront trace left text
 front state trace text left small read short is = record {
   over = state.reading.over;
   are = read.are;
@@ -174,9 +168,9 @@ front state trace text left small read short is = record {
   at = is ∙ left_is state trace text state.reading.over small read refl;
 }
 
-pub told : (finding : Finding Named) (state : TextState) (text : List ℕ) (left : Option ℕ) → state.finding ≡ finding → length text < 2 ^ 64 → TakenBy finding state text → left ≡ left_of finding (option_map capped (line_left state.reading.lines state.reading.over)) → Answers text finding left
+pub told : (finding : Finding Named) (state : TextState) (text : List ℕ) (left : Option ℕ) → state.finding ≡ finding → length text < 2 ^ 64 → TakenBy finding state text → left ≡ left_of finding (option_map capped (line_left state.reading.lines state.reading.over)) → Answers text finding left state.place
 told Lawful state text left is small taken at =
     let judged : Judged state.judging (reverse taken.0) = subst (λ f. IsFound f state.judging taken.0) is taken.1.found in
-    (taken.0, front state taken.0 text left small taken.1 taken.2 at, judged.lawful)
-told (Breach breach) state text left is small taken at = (taken.0, front state taken.0 text left small taken.1 taken.2 at, subst (λ f. IsFound f state.judging taken.0) is taken.1.found)
+    (taken.0, front state taken.0 text left small taken.1 taken.2 at, judged.lawful, taken.1.place)
+told (Breach breach) state text left is small taken at = (taken.0, front state taken.0 text left small taken.1 taken.2 at, subst (λ f. IsFound f state.judging taken.0) is taken.1.found, taken.1.place)
 told (Torn number) state text left is small taken at = (taken, at)

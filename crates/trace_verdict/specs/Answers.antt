@@ -26,9 +26,11 @@ pub record IsFirst (trace : List Event) (breach : Named) : Type 0 where
   pub line : breach.line ≡ newlines (trace_text (take breach.place trace)) + 1
   pub text : breach.text ≡ option_map_or event_text (slice_get trace breach.place) []
 
--- what is found of a text, and the line at which its last happening isn't finished: a line that begins no happening,
--- else the verdict on the trace that is whole
-abbrev pub Answers : List ℕ → Finding Named → Option ℕ → Type 0
-Answers text Lawful left = (trace : List Event) × IsFront trace left text × (first_breach (reverse trace) ≡ None)
-Answers text (Breach breach) left = (trace : List Event) × IsFront trace left text × IsFirst trace breach
-Answers text (Torn number) left = IsTorn text number × (left ≡ None)
+-- what is found of a text, the line at which its last happening isn't finished, and how many are: a line that begins no
+-- happening, else the verdict on the trace that is whole
+abbrev pub Answers : List ℕ → Finding Named → Option ℕ → ℕ → Type 0
+Answers text Lawful left count = (trace : List Event) × IsFront trace left text
+    × (first_breach (reverse trace) ≡ None) × (count ≡ length trace)
+Answers text (Breach breach) left count = (trace : List Event) × IsFront trace left text
+    × IsFirst trace breach × (count ≡ length trace)
+Answers text (Torn number) left count = IsTorn text number × (left ≡ None)

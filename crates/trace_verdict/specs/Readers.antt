@@ -1,12 +1,13 @@
 -- A reader of a text that comes in pieces.
-use Rattle.std.specs.Prelude.{◌≡◌, ℕ, ◌+◌, ◌-◌, ◌^◌, min, true, false, List, ◌++◌, Option, Some, None}
+use Rattle.std.specs.Prelude.{◌≡◌, ℕ, ◌+◌, ◌-◌, ◌^◌, min, true, List, ◌++◌, Option, Some, None}
 use Rattle.trace_text.specs.declared.reading.ReadFault.{ReadFault}
 use Rattle.trace_text.specs.declared.reading.ReadFault.TheVariants as fault
 use Rattle.init_trace.specs.Event.{Event}
 use Rattle.trace_text.specs.Lines.{event_text}
 use Rattle.init_trace.specs.Range.{is_in_range}
-use Rattle.trace_text.specs.Texts.{line_count, BeginsNone}
-use Rattle.trace_verdict.specs.Fronts.{is_unfinished}
+use Rattle.trace_text.specs.Texts.{line_count}
+use Rattle.trace_front.specs.Fronts.{NeverBegins}
+use Rattle.trace_verdict.specs.Fronts.{IsLeft}
 
 -- what it has not read, and how many lines it has read, as far as numbers go
 pub record Reading : Type 0 where
@@ -17,14 +18,14 @@ pub record Reading : Type 0 where
 abbrev pub capped : ℕ → ℕ
 capped sum = min sum (2 ^ 64 - 1)
 
--- the next happening is read off; none is whole; no happening begins there
+-- the next happening is read off; none is whole, and one may be yet; no happening begins there, whatever comes behind
 abbrev pub ReadsNext : Reading → Reading → Option Event → Type 0
-ReadsNext old new None = (new ≡ old) × (is_unfinished old.over ≡ true)
+ReadsNext old new None = (new ≡ old) × IsLeft old.over
 ReadsNext old new (Some happening) =
     (is_in_range happening ≡ true) × (event_text happening ++ new.over ≡ old.over)
     × (new.lines ≡ capped (old.lines + line_count happening))
 
 abbrev pub ReadsNone : Reading → ReadFault → Type 0
 ReadsNone old (fault.Line number) =
-    (number ≡ capped (old.lines + 1)) × (is_unfinished old.over ≡ false) × BeginsNone old.over
+    (number ≡ capped (old.lines + 1)) × NeverBegins old.over
 ReadsNone old fault.Memory = Unit {0}

@@ -1,7 +1,7 @@
 //! A reader of happenings over a text that comes in pieces.
 
-ghost use Rattle.std.specs.Prelude.{◌≡◌, ◌≤◌, drop, length, ◌++◌, [], OnOk, OnErr, IfOk, IfErr, option_map};
-ghost use Rattle.trace_verdict.specs.Fronts.{line_left};
+ghost use Rattle.std.specs.Prelude.{◌≡◌, ◌≤◌, drop, length, ◌++◌, [], true, OnOk, OnErr, IfOk, IfErr, option_map};
+ghost use Rattle.trace_verdict.specs.Fronts.{is_unfinished, line_left};
 ghost use Rattle.trace_verdict.specs.Readers.{capped, ReadsNext, ReadsNone};
 
 use crate::lines::lines_due;
@@ -9,12 +9,13 @@ use init_trace::HappeningIn;
 use std::alloc::{AllocError, Allocator};
 use std::marker::Model;
 use text_lines::newlines;
+use trace_front::is_front;
 use trace_text::{ReadFault, first_happening, line_count};
 
 /// A reader of the happenings of a text that comes in pieces. It keeps what it has not read.
 ///
-/// A happening that isn't whole is tried again once it has as many lines as it says, so that a table that comes in many
-/// pieces is read once.
+/// A happening that isn't whole is tried again once it has as many lines as it says. What is there of it has to be the
+/// front of one.
 #[derive(Drop)]
 pub struct TextReader<A: Allocator> {
     alloc: A,
@@ -116,14 +117,27 @@ impl<A: Allocator + Copy> TextReader<A> {
         Ok(())
     }
 
-    /// Reads the next happening off; None where none is whole. Where a line begins none nothing is read.
+    /// None of a happening that isn't whole. Where nothing that comes makes it one, it is a line that begins none.
+    fn wait(&self) -> Result<Option<HappeningIn<A>>, ReadFault>
+        requires { is_unfinished self.now.over ≡ true }
+        ensures next { IfOk result (λ found. ReadsNext self.now self.now found) }
+        ensures none { IfErr result (λ fault. ReadsNone self.now fault) }
+    {
+        if is_front(self.alloc, rest_of(&self.bytes, self.at))? {
+            return Ok(None);
+        }
+        Err(ReadFault::Line(self.lines.saturating_add(1)))
+    }
+
+    /// Reads the next happening off; None where none is whole, and what is there may become one. Where it begins none,
+    /// whatever comes, nothing is read.
     pub fn next(&mut self) -> Result<Option<HappeningIn<A>>, ReadFault>
         ensures next { IfOk result (λ found. ReadsNext self.old self.new found) }
         ensures none { IfErr result (λ fault.
             (self.new ≡ self.old) × ReadsNone self.old fault) }
     {
         if self.whole < self.due {
-            return Ok(None);
+            return self.wait();
         }
         let rest = rest_of(&self.bytes, self.at);
         if let Some((happening, more)) = first_happening(self.alloc, rest)? {
@@ -136,7 +150,7 @@ impl<A: Allocator + Copy> TextReader<A> {
         }
         self.due = lines_due(rest);
         if self.whole < self.due {
-            return Ok(None);
+            return self.wait();
         }
         Err(ReadFault::Line(self.lines.saturating_add(1)))
     }

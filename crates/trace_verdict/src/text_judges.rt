@@ -146,13 +146,13 @@ impl<A: Allocator + Copy> TextJudge<A> {
         }
     }
 
-    /// What is found of the text that it has taken, and the number of the line, from 1, at which its last happening
-    /// begins, where that isn't finished: it isn't judged.
-    pub fn answer(&self) -> (&Finding<Breach<A>>, Option<u64>)
+    /// What is found of the text that it has taken, the number of the line, from 1, at which its last happening begins,
+    /// where that isn't finished: it isn't judged; and how many happenings are whole.
+    pub fn answer(&self) -> (&Finding<Breach<A>>, Option<u64>, u64)
         ensures { (text : List ℕ) → length text < 2 ^ 64 → HasTaken self.now text
-            → Answers text result.0.now result.1 }
+            → Answers text result.0.now result.1 result.2 }
     {
         let left = self.left();
-        (&self.finding, left)
+        (&self.finding, left, self.place)
     }
 }

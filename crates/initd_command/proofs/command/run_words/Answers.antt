@@ -15,13 +15,13 @@ use Rattle.initd_command.proofs.Ran.{none_asked}
 use Rattle.initd_command.proofs.command.run_words.Goals as goal
 
 -- a verdict is no usage fault
-no_usage : (finding : Finding Named) (left : Option ℕ) (reason : List ℕ) (old new : Option (List ℕ)) → EndsFound finding left (usage reason) old new → ⊥
+no_usage : (finding : Finding Named) (left : Option ℕ × ℕ) (reason : List ℕ) (old new : Option (List ℕ)) → EndsFound finding left (usage reason) old new → ⊥
 no_usage Lawful left reason old new none = none
 no_usage (Breach breach) left reason old new none = none
 no_usage (Torn number) left reason old new none = none
 
 -- a finding that memory ran out leaves what was written
-no_room : (finding : Finding Named) (left : Option ℕ) (old new : Option (List ℕ)) → EndsFound finding left no_memory old new → Keeps old new
+no_room : (finding : Finding Named) (left : Option ℕ × ℕ) (old new : Option (List ℕ)) → EndsFound finding left no_memory old new → Keeps old new
 no_room Lawful left old new none = absurd none
 no_room (Breach breach) left old new kept = kept
 no_room (Torn number) left old new none = absurd none
@@ -32,12 +32,12 @@ ends_by : (text_at : KnownTexts) (words : List (List ℕ)) (said : Said) → rea
 ends_by text_at words said is done old new ends = (said, is, ends)
 ends_by text_at words version is (usage reason) old new ends = absurd ends
 ends_by text_at words (simulates run) is (usage reason) old new ends = absurd ends.4
-ends_by text_at words (judges path) is (usage reason) old new ends = absurd (no_usage ends.2.0 ends.2.1 reason old new ends.2.3)
+ends_by text_at words (judges path) is (usage reason) old new ends = absurd (no_usage ends.2.0 (ends.2.1, ends.2.2) reason old new ends.2.4)
 ends_by text_at words (runs service) is (usage reason) old new ends = let wrong = ends.2.1.1 in absurd (cc)
 ends_by text_at words version is no_memory old new ends = absurd ends
 ends_by text_at words (runs service) is no_memory old new ends = ends
 ends_by text_at words (simulates run) is no_memory old new ends = absurd ends.4
-ends_by text_at words (judges path) is no_memory old new ends = no_room ends.2.0 ends.2.1 old new ends.2.3
+ends_by text_at words (judges path) is no_memory old new ends = no_room ends.2.0 (ends.2.1, ends.2.2) old new ends.2.4
 ends_by text_at words said is (unread path why) old new ends = (said, is, ends)
 ends_by text_at words said is too_many old new ends = (said, is, ends)
 ends_by text_at words said is (stopped script f) old new ends = (said, is, ends)

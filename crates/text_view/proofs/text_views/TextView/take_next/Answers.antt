@@ -1,7 +1,6 @@
 use Rattle.std.proofs.Common.{rules, ◌≡◌, ◌+◌, false, Some}
-use Rattle.trace_text.specs.Texts.{BeginsNone}
+use Rattle.trace_front.specs.Fronts.{NeverBegins}
 use Rattle.trace_text.proofs.ReadTexts.{shorter}
-use Rattle.trace_verdict.specs.Fronts.{is_unfinished}
 use Rattle.trace_verdict.specs.Readers.{capped, ReadsNext}
 use Rattle.text_view.specs.Views.{TextState}
 use Rattle.text_view.proofs.Seeing.{at_none, goes_next, torn_here}
@@ -23,8 +22,8 @@ returns-in_ok-stop-in-Ok-Some g c =
 pub returns-in-Err-Line : goal.returns-in-Err-Line
 returns-in-Err-Line g c =
     let old : TextState = record { reading = c.self.inside.reader; viewing = c.self.inside.view; stop = c.self.inside.stop } in
-    let none : (c.in-Err-Line.number ≡ capped (old.reading.lines + 1)) × (is_unfinished old.reading.over ≡ false) × BeginsNone old.reading.over = search rules in
+    let none : (c.in-Err-Line.number ≡ capped (old.reading.lines + 1)) × NeverBegins old.reading.over = search rules in
     rw (← c.self.view_is) (record {
-      goes = λ text small at. torn_here old.reading old.viewing text c.in-Err-Line.number small none.0 none.1 none.2 (at_none old.stop old text c.in_default.is at);
+      goes = λ text small at. torn_here old.reading old.viewing text c.in-Err-Line.number small none.0 none.1 (at_none old.stop old text c.in_default.is at);
       shorter = λ no. absurd (cc);
     })

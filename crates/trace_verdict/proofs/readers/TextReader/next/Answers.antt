@@ -3,7 +3,7 @@ use Rattle.trace_text.specs.Lines.{event_text}
 use Rattle.init_trace.specs.Range.{is_in_range}
 use Rattle.trace_text.specs.Texts.{BeginsNone}
 use Rattle.trace_verdict.specs.Fronts.{lines_due}
-use Rattle.trace_verdict.proofs.Fronts.{due_some, left_over, lines_off, finished_by}
+use Rattle.trace_verdict.proofs.Fronts.{due_some, left_over, lines_off, finished_by, finished_never}
 use Rattle.trace_verdict.proofs.readers.TextReader.next.Goals as goal
 
 pub overflow_sub-self-in-Some : goal.overflow_sub-self-in-Some
@@ -34,4 +34,4 @@ returns-clause-none g c =
     let none : BeginsNone over = search rules in
     let due : c.lines_due-self-inside.result ≡ lines_due over = search rules in
     let whole : c.lines_due-self-inside.result ≤ c.self.inside.whole = c.if-self-2.false in
-    rw (← c.self.view_is) (refl, (search rules, finished_by over (omega (arith, due, whole, c.self.invariant.1)), none))
+    rw (← c.self.view_is) (refl, (search rules, finished_never over (finished_by over (omega (arith, due, whole, c.self.invariant.1))) none))

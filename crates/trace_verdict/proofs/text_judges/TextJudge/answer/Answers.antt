@@ -1,4 +1,4 @@
-use Rattle.std.proofs.Common.{refl, sym, ap, subst}
+use Rattle.std.proofs.Common.{refl, sym, subst}
 use Rattle.trace_verdict.specs.Answers.{Answers}
 use Rattle.trace_verdict.specs.Judges.{TextState}
 use Rattle.trace_verdict.proofs.Judging.{told}
@@ -6,5 +6,5 @@ use Rattle.trace_verdict.proofs.text_judges.TextJudge.answer.Goals as goal
 
 pub returns : goal.returns
 returns g c = λ text small taken.
-    subst (λ finding. Answers text finding c.left-left.result) (sym (ap (λ (s : TextState). s.finding) c.self.view_is))
+    subst (λ (s : TextState). Answers text s.finding c.left-left.result s.place) (sym c.self.view_is)
     (told c.args.self.now.finding c.args.self.now text c.left-left.result refl small taken c.left-left.ensures)

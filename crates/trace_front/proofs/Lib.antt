@@ -1,0 +1,4 @@
+pub mod FormLemmas
+pub mod FrontLemmas
+pub mod LineFronts
+pub mod PartLemmas
