@@ -1,6 +1,6 @@
 #!/bin/sh
 # Installs initd, telinit, rclinks, rc and initview, each proved before it is built, with their pages, the completion of
-# bash, the entry script and the facility files.
+# bash, the scripts of contrib and the facility files.
 #
 #     ./install.sh [PREFIX]               under PREFIX; /opt/initd where it is left out
 #     ./install.sh --uninstall [PREFIX]   removes what was installed there
@@ -102,11 +102,12 @@ for program in $programs; do
     put 755 "crates/$program/out/$program" "bin/$program"
 done
 put 755 contrib/initd-entry bin/initd-entry
+put 755 contrib/initd-service bin/initd-service
 for page in docs/man/*.[158]; do
     put 644 "$page" "share/man/man${page##*.}/${page##*/}"
 done
 put 644 contrib/completion/initd share/bash-completion/completions/initd
-for name in telinit rclinks rc initview initd-entry; do
+for name in telinit rclinks rc initview initd-entry initd-service; do
     ln -sf initd "$root/share/bash-completion/completions/$name"
     echo "share/bash-completion/completions/$name" >>"$new"
 done

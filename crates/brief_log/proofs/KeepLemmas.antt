@@ -1,9 +1,10 @@
 -- What a brief log has written and holds behind a happening that it took or refused, and at its end.
-use Rattle.std.proofs.Common.{◌≡◌, sym, subst, List, ◌∷◌, ◌++◌, reverse, Option, Some, Ok, Err, OnOk, OnErr}
+use Rattle.std.proofs.Common.{◌≡◌, refl, sym, subst, List, [], ◌∷◌, ◌++◌, append-nil, reverse, Option, Some, None, Ok, Err, OnOk, OnErr}
 use Rattle.std.specs.declared.result.Result.{Result}
 use Rattle.init_trace.specs.Event.{Event}
 use Rattle.trace_brief.specs.declared.held.Held.{Held}
 use Rattle.trace_brief.specs.Holding.{Holds, next_held}
+use Rattle.trace_log.specs.Logs.{Stays}
 use Rattle.brief_log.specs.Adding.{Adds, AddsFront, held_first, newly_first}
 use Rattle.brief_log.specs.Keeping.{Writes, WritesPast}
 use Rattle.brief_log.proofs.Writing.{kept_next, kept_front, kept_part}
@@ -47,3 +48,26 @@ end_past old new held trace adds told =
 pub end_err : {T E : Type 0} (r : Result T E) (old new : Option (List Event)) (held : Held) → OnErr r (AddsFront old new (held_first held)) → OnErr r ((trace : List Event) → Writes old held trace → WritesPast new trace)
 end_err (Ok x) old new held adds = tt
 end_err (Err e) old new held adds = λ trace told. end_past old new held trace adds told
+
+-- a log that refused a part of what is held
+pub end_part : (old new : Option (List Event)) (held : Held) → AddsFront old new (held_first held) → (trace : List Event) → Writes old held trace → WritesPast new trace
+end_part old new held adds trace told = end_past old new held trace adds told
+
+-- one that took all of it, and did not end
+adds_front : (old new : Option (List Event)) (more : List Event) → Adds old new more → AddsFront old new more
+adds_front None new more adds = tt
+adds_front (Some before) new more adds = (before ++ more, adds, record { first = more; rest = []; all = append-nil more; gained = refl })
+
+past_stays : (mid new : Option (List Event)) (trace : List Event) → WritesPast mid trace → Stays mid new → WritesPast new trace
+past_stays mid new trace past stays =
+    let P : Option (List Event) → Type 0 = λ o. Stays o new in
+    record { written = past.written; is = subst P past.is stays; later = past.later; past = past.past }
+
+pub end_stays : (old mid new : Option (List Event)) (held : Held) → Adds old mid (held_first held) → Stays mid new → (trace : List Event) → Writes old held trace → WritesPast new trace
+end_stays old mid new held adds stays trace told =
+    past_stays mid new trace (end_past old mid held trace (adds_front old mid (held_first held) adds) told) stays
+
+-- whatever a call gives, what is so anyway is so where it gives an error
+pub always_on_err : {T E : Type 0} {P : Type 0} (r : Result T E) → P → OnErr r P
+always_on_err (Ok x) so = tt
+always_on_err (Err e) so = so

@@ -256,8 +256,8 @@ impl<L: Log> Log for BriefLog<L> {
         self.step(happening)
     }
 
-    /// Hands the log all that is held. Its happenings are then the brief form of the trace; where it fails, a past of
-    /// that.
+    /// Hands the log all that is held, and ends it. Its happenings are then the brief form of the trace; where it fails,
+    /// a past of that.
     fn end(&mut self) -> Result<(), LogFault>
         requires { (L.state self.old.log).failed ≡ false }
         ensures flag { (L.state self.new.log).failed ≡ is_err result }
@@ -270,7 +270,8 @@ impl<L: Log> Log for BriefLog<L> {
     {
         let held = self.held;
         self.held = Held::new();
-        write_held(&mut self.log, &held)
+        write_held(&mut self.log, &held)?;
+        self.log.end()
     }
 
     fn failed(&self) -> bool {

@@ -15,11 +15,11 @@ use Rattle.initd_command.specs.declared.run.RunFault.{RunFault}
 use Rattle.initd_command.specs.declared.run.RunFault.TheVariants as why
 use Rattle.init_words.specs.Parts.{NamedText, texts_of}
 use Rattle.inittab_text.specs.Parts.{are_readable, faults_of_parts, table_of_texts}
-use Rattle.initd_command.specs.Endings.{Ending, Reports, ReportsUnled, status_of, busy, done, lawful, no_memory, shared, stopped, too_many, torn, turned, uncreated, unflushed, unlawful, unlocked, unread, untold, unversioned, unwritten, usage}
+use Rattle.initd_command.specs.Endings.{Ending, Reports, ReportsUnled, status_of, busy, done, flawed, lawful, no_memory, shared, stopped, too_many, torn, turned, uncreated, unflushed, unlawful, unlisted, unlocked, unread, untold, unversioned, unwritten, usage}
 use Rattle.initd_command.specs.Turned.{End}
 use Rattle.os_host.specs.LineFaults.{faults_text}
 use Rattle.initd_options.specs.Options.{RunSaid}
-use Rattle.initd_command.specs.Services.{AreFiles, EndsRun, EndsServed, EndsTold, HasInittab, IsOfFault, Turns, is_unled}
+use Rattle.initd_command.specs.Services.{AreFiles, EndsRun, EndsServed, EndsTold, HasInittab, IsOfFault, Turns, is_taken, is_unled}
 
 pub done_kept : (s : Scenario) (old mid new : Option (List ℕ)) → Done s old mid → Keeps mid new → Done s old new
 done_kept s old mid new (past, rested, written) kept = (past, rested, Appends-kept old mid new (past_text past) written kept)
@@ -53,33 +53,36 @@ told_ends service unled told old new end served appends = (end, refl, served, ap
 -- a run whose inittab was read ends over its files
 pub told_runs : (text_at : KnownTexts) (service : RunSaid) (parts : List NamedText) (ending : Ending) (old new : Option (List ℕ))
     → AreFiles text_at service parts → are_readable (texts_of parts) ≡ true
+    → is_taken service (faults_text parts (faults_of_parts (texts_of parts))) (table_of_texts (texts_of parts)) ≡ true
     → EndsTold service (is_unled service.level (table_of_texts (texts_of parts))) (faults_text parts (faults_of_parts (texts_of parts))) ending old new
     → EndsRun text_at service ending old new
-told_runs text_at service parts (busy path holder) old new are read ends = let wrong = ends.1 in absurd (cc)
-told_runs text_at service parts (shared one other) old new are read ends = let wrong = ends.1 in absurd (cc)
-told_runs text_at service parts (unlocked path why) old new are read ends = let wrong = ends.1 in absurd (cc)
-told_runs text_at service parts (unread path why) old new are read ends = let wrong = ends.1 in absurd (cc)
-told_runs text_at service parts too_many old new are read ends = let wrong = ends.1 in absurd (cc)
-told_runs text_at service parts (stopped script f) old new are read ends = let wrong = ends.1 in absurd (cc)
-told_runs text_at service parts no_memory old new are read ends = ends
-told_runs text_at service parts done old new are read ends = (parts, are, (read, ends))
-told_runs text_at service parts (usage reason) old new are read ends = (parts, are, (read, ends))
-told_runs text_at service parts unflushed old new are read ends = (parts, are, (read, ends))
-told_runs text_at service parts (lawful left) old new are read ends = (parts, are, (read, ends))
-told_runs text_at service parts (unlawful message left) old new are read ends = (parts, are, (read, ends))
-told_runs text_at service parts (torn line) old new are read ends = (parts, are, (read, ends))
-told_runs text_at service parts unwritten old new are read ends = (parts, are, (read, ends))
-told_runs text_at service parts (turned unled end) old new are read ends = (parts, are, (read, ends))
-told_runs text_at service parts (uncreated path why) old new are read ends = (parts, are, (read, ends))
-told_runs text_at service parts untold old new are read ends = (parts, are, (read, ends))
-told_runs text_at service parts unversioned old new are read ends = (parts, are, (read, ends))
+told_runs text_at service parts (busy path holder) old new are read taken ends = let wrong = ends.1 in absurd (cc)
+told_runs text_at service parts (shared one other) old new are read taken ends = let wrong = ends.1 in absurd (cc)
+told_runs text_at service parts (unlocked path why) old new are read taken ends = let wrong = ends.1 in absurd (cc)
+told_runs text_at service parts (unread path why) old new are read taken ends = let wrong = ends.1 in absurd (cc)
+told_runs text_at service parts too_many old new are read taken ends = let wrong = ends.1 in absurd (cc)
+told_runs text_at service parts (flawed told) old new are read taken ends = let wrong = ends.1 in absurd (cc)
+told_runs text_at service parts (unlisted id) old new are read taken ends = let wrong = ends.1 in absurd (cc)
+told_runs text_at service parts (stopped script f) old new are read taken ends = let wrong = ends.1 in absurd (cc)
+told_runs text_at service parts no_memory old new are read taken ends = ends
+told_runs text_at service parts done old new are read taken ends = (parts, are, (read, taken, ends))
+told_runs text_at service parts (usage reason) old new are read taken ends = (parts, are, (read, taken, ends))
+told_runs text_at service parts unflushed old new are read taken ends = (parts, are, (read, taken, ends))
+told_runs text_at service parts (lawful left) old new are read taken ends = (parts, are, (read, taken, ends))
+told_runs text_at service parts (unlawful message left) old new are read taken ends = (parts, are, (read, taken, ends))
+told_runs text_at service parts (torn line) old new are read taken ends = (parts, are, (read, taken, ends))
+told_runs text_at service parts unwritten old new are read taken ends = (parts, are, (read, taken, ends))
+told_runs text_at service parts (turned unled end) old new are read taken ends = (parts, are, (read, taken, ends))
+told_runs text_at service parts (uncreated path why) old new are read taken ends = (parts, are, (read, taken, ends))
+told_runs text_at service parts untold old new are read taken ends = (parts, are, (read, taken, ends))
+told_runs text_at service parts unversioned old new are read taken ends = (parts, are, (read, taken, ends))
 
 -- a run over an inittab that was read ends as is told of it
 pub opened_runs : (text_at : KnownTexts) (service : RunSaid) (unled : Bool) (faults : List ℕ) (ending : Ending) (old new : Option (List ℕ))
-    → HasInittab text_at service (λ parts. (faults ≡ faults_text parts (faults_of_parts (texts_of parts))) × (unled ≡ is_unled service.level (table_of_texts (texts_of parts))))
+    → HasInittab text_at service (λ parts. (faults ≡ faults_text parts (faults_of_parts (texts_of parts))) × (unled ≡ is_unled service.level (table_of_texts (texts_of parts))) × (is_taken service faults (table_of_texts (texts_of parts)) ≡ true))
     → EndsTold service unled faults ending old new → EndsRun text_at service ending old new
-opened_runs text_at service unled faults ending old new (parts, are, read, (told, led)) ends =
-    told_runs text_at service parts ending old new are read
+opened_runs text_at service unled faults ending old new (parts, are, read, (told, led, taken)) ends =
+    told_runs text_at service parts ending old new are read (subst (λ lines. is_taken service lines (table_of_texts (texts_of parts)) ≡ true) told taken)
     (subst (λ lines. EndsTold service (is_unled service.level (table_of_texts (texts_of parts))) lines ending old new) told
     (subst (λ b. EndsTold service b faults ending old new) led ends))
 
@@ -104,6 +107,9 @@ of_many service given is = subst (λ f. IsOfFault service f too_many) (sym is) r
 
 pub of_long : (service : RunSaid) (given : RunFault) → given ≡ why.TooLong → IsOfFault service given (stopped [] fault.Table)
 of_long service given is = subst (λ f. IsOfFault service f (stopped [] fault.Table)) (sym is) refl
+
+pub of_unlisted : (service : RunSaid) (given : RunFault) (id : List ℕ) → given ≡ why.Unlisted id → IsOfFault service given (unlisted id)
+of_unlisted service given id is = subst (λ f. IsOfFault service f (unlisted id)) (sym is) refl
 
 pub of_trace : (service : RunSaid) (fault : RunFault) (error : Error) (path reason : List ℕ) → fault ≡ why.Trace error → path ≡ unwrap_or service.trace []
     → IsOfFault service fault (uncreated path reason)

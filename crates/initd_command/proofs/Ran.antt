@@ -1,8 +1,8 @@
 -- Which calls a run made, by how it ended: none but where it came to its turns.
-use Rattle.std.proofs.Common.{◌≡◌, refl, sym, subst, Bool, List, [], ℕ, Option, Some, None, inl, inr}
+use Rattle.std.proofs.Common.{◌≡◌, refl, sym, subst, ◌∙◌, Bool, false, List, [], ℕ, Option, Some, None, inl, inr}
 use Rattle.std.proofs.KnownBytes.{Keeps-refl}
 use Rattle.std.specs.Prelude.{IsSome, unwrap_or}
-use Rattle.init_words.specs.Parts.{texts_of}
+use Rattle.init_words.specs.Parts.{NamedText, texts_of}
 use Rattle.init_words.specs.declared.entries.Entry.{Entry}
 use Rattle.inittab_text.specs.Parts.{table_of_texts}
 use Rattle.path_texts.specs.Known.{KnownTexts}
@@ -10,11 +10,12 @@ use Rattle.child_host.specs.Calls.{HostCall}
 use Rattle.initd_options.specs.CommandLine.{Said, judges, runs, simulates, version}
 use Rattle.initd_options.specs.Options.{RunSaid}
 use Rattle.supervisor.specs.Opening.{IsOpeningOf, OpeningState}
+use Rattle.initd_command.specs.declared.run.Inittab.{Inittab}
 use Rattle.initd_command.specs.declared.run.RunFault.{RunFault}
 use Rattle.initd_command.specs.declared.run.RunFault.TheVariants as why
-use Rattle.initd_command.specs.Endings.{Ending, busy, done, lawful, no_memory, shared, stopped, too_many, torn, turned, uncreated, unflushed, unlawful, unlocked, unread, untold, unversioned, unwritten, usage}
+use Rattle.initd_command.specs.Endings.{Ending, busy, done, flawed, lawful, no_memory, shared, stopped, too_many, torn, turned, uncreated, unflushed, unlawful, unlisted, unlocked, unread, untold, unversioned, unwritten, usage}
 use Rattle.initd_command.specs.Turned.{End}
-use Rattle.initd_command.specs.Services.{EndsRun, FailsBy, HasInittab, IsOfFault}
+use Rattle.initd_command.specs.Services.{AreFiles, EndsRun, FailsBy, FailsToRead, FailsToTake, HasInittab, IsOfFault, IsReadOf, has_result}
 use Rattle.initd_command.specs.Ran.{AsksSaid, RanBy, RanOver}
 
 -- what a run makes over each table that its opening is of, it makes over the inittab at its paths
@@ -28,6 +29,8 @@ ran_by text_at service opening (usage reason) old new (parts, are, read, opens) 
 ran_by text_at service opening no_memory old new (parts, are, read, opens) made = made (table_of_texts (texts_of parts)) opens
 ran_by text_at service opening (unread path why) old new (parts, are, read, opens) made = made (table_of_texts (texts_of parts)) opens
 ran_by text_at service opening too_many old new (parts, are, read, opens) made = made (table_of_texts (texts_of parts)) opens
+ran_by text_at service opening (flawed told) old new (parts, are, read, opens) made = made (table_of_texts (texts_of parts)) opens
+ran_by text_at service opening (unlisted id) old new (parts, are, read, opens) made = made (table_of_texts (texts_of parts)) opens
 ran_by text_at service opening (stopped script f) old new (parts, are, read, opens) made = made (table_of_texts (texts_of parts)) opens
 ran_by text_at service opening unflushed old new (parts, are, read, opens) made = made (table_of_texts (texts_of parts)) opens
 ran_by text_at service opening (lawful left) old new (parts, are, read, opens) made = made (table_of_texts (texts_of parts)) opens
@@ -47,6 +50,8 @@ no_turns service (why.Busy holder) unled end is = absurd (cc)
 no_turns service (why.Shared one other) unled end is = absurd (cc)
 no_turns service why.TooMany unled end is = absurd (cc)
 no_turns service why.TooLong unled end is = absurd (cc)
+no_turns service (why.Flawed lines) unled end is = absurd (cc)
+no_turns service (why.Unlisted id) unled end is = absurd (cc)
 no_turns service why.Memory unled end is = absurd (cc)
 no_turns service (why.Channel error) unled end is = let wrong = is.1 in absurd (cc)
 no_turns service (why.Inittab error) unled end is = let wrong = is.1 in absurd (cc)
@@ -62,6 +67,8 @@ unasked text_at service fault (usage reason) old new is same = same
 unasked text_at service fault no_memory old new is same = same
 unasked text_at service fault (unread path why) old new is same = same
 unasked text_at service fault too_many old new is same = same
+unasked text_at service fault (flawed told) old new is same = same
+unasked text_at service fault (unlisted id) old new is same = same
 unasked text_at service fault (stopped script f) old new is same = same
 unasked text_at service fault unflushed old new is same = same
 unasked text_at service fault (lawful left) old new is same = same
@@ -79,6 +86,21 @@ some_path : (path : Option (List ℕ)) → IsSome path → path ≡ Some (unwrap
 some_path None some = absurd (cc)
 some_path (Some path) some = refl
 
+-- what a run does not take is a fault of its reading
+pub fails_to_take : (text_at : KnownTexts) (service : RunSaid) (parts : List NamedText) (read : Inittab) (fault : RunFault)
+    → AreFiles text_at service parts → IsReadOf parts read → FailsToTake service read fault → FailsToRead text_at service fault
+fails_to_take text_at service parts read (why.Flawed lines) are is fails = (read, (parts, are, is), fails)
+fails_to_take text_at service parts read (why.Unlisted id) are is fails = (read, (parts, are, is), fails)
+fails_to_take text_at service parts read (why.Busy holder) are is fails = absurd fails
+fails_to_take text_at service parts read (why.Shared one other) are is fails = absurd fails
+fails_to_take text_at service parts read (why.Channel error) are is fails = absurd fails
+fails_to_take text_at service parts read (why.Inittab error) are is fails = absurd fails
+fails_to_take text_at service parts read (why.Folder path error) are is fails = absurd fails
+fails_to_take text_at service parts read why.TooMany are is fails = absurd fails
+fails_to_take text_at service parts read why.TooLong are is fails = absurd fails
+fails_to_take text_at service parts read (why.Trace error) are is fails = absurd fails
+fails_to_take text_at service parts read why.Memory are is fails = absurd fails
+
 -- how a run ends that a fault ended
 pub failed : (text_at : KnownTexts) (service : RunSaid) (fault : RunFault) (ending : Ending) (old : Option (List ℕ))
     → FailsBy text_at service fault → IsOfFault service fault ending → EndsRun text_at service ending old old
@@ -89,8 +111,12 @@ failed text_at service (why.Inittab error) ending old fails is = subst (λ e. En
 failed text_at service (why.Folder path error) ending old fails is = subst (λ e. EndsRun text_at service e old old) (sym is.1) (inr fails, Keeps-refl old)
 failed text_at service why.TooMany ending old (parts, are, many) is = subst (λ e. EndsRun text_at service e old old) (sym is) (parts, are, (many, Keeps-refl old))
 failed text_at service why.TooLong ending old (parts, are, long) is = subst (λ e. EndsRun text_at service e old old) (sym is) (parts, are, (refl, long, Keeps-refl old))
-failed text_at service (why.Trace error) ending old (some, (parts, are, read, _)) is =
-    subst (λ e. EndsRun text_at service e old old) (sym is.1) (parts, are, (read, (some_path service.trace some, Keeps-refl old)))
+failed text_at service (why.Flawed lines) ending old (given, (parts, are, (read, told, table)), (faulty, same)) is =
+    subst (λ e. EndsRun text_at service e old old) (sym is) (parts, are, (read, faulty, same ∙ told, Keeps-refl old))
+failed text_at service (why.Unlisted id) ending old (given, (parts, are, (read, told, table)), (wanted, none)) is =
+    subst (λ e. EndsRun text_at service e old old) (sym is) (parts, are, (read, wanted, subst (λ t. has_result t (Some id) ≡ false) table none, Keeps-refl old))
+failed text_at service (why.Trace error) ending old (some, (parts, are, read, taken)) is =
+    subst (λ e. EndsRun text_at service e old old) (sym is.1) (parts, are, (read, taken, (some_path service.trace some, Keeps-refl old)))
 failed text_at service why.Memory ending old fails is = subst (λ e. EndsRun text_at service e old old) (sym is) (Keeps-refl old)
 
 -- where memory runs out nothing is asked, whatever the words say

@@ -10,25 +10,28 @@ use Rattle.simulated_system.specs.declared.objections.Objection.{Objection}
 use Rattle.simulated_system.specs.Objections.{objection_text}
 use Rattle.initd_command.specs.Lines.{line_at, line_told}
 use Rattle.initd_command.specs.declared.check.TheConstants.{UNWRITTEN}
-use Rattle.initd_command.specs.declared.reports.TheConstants.{NO_MEMORY, TOO_MANY}
+use Rattle.initd_command.specs.declared.reports.TheConstants.{FLAWED, NO_MEMORY, TOO_MANY}
 use Rattle.initd_command.specs.declared.command.TheConstants.{UNVERSIONED, USAGE}
 use Rattle.initd_command.specs.declared.run.TheConstants.{UNLED, UNTOLD}
 use Rattle.initd_command.specs.Turned.{End, ReportsEnd, ReportsText, end_status}
 use Rattle.command_words.specs.Faults.{usage_report}
 
 -- done; the words are no command line, and why, or memory ran out; the file of a path was not read, and why; the inittab
--- has too many files; the run over this script ended before its end; the writer could not be flushed; a trace is lawful,
--- or unlawful, of which this is told, its last happening isn't finished at this line, if at any, and it has so many that
--- are; its line of this
--- number is none; the verdict could not be written; the channel of a run over the operating system is in use, by whom
--- where that is known, or two of its files are one, or the channel was not locked, and why; its turns ended so, where nothing names its level or something does; the file of its trace was not
--- created, and why; the faults of its inittab could not be written; the version could not be
+-- has too many files, or faults that these lines tell, or no entry of this id; the run over this script ended before its
+-- end; the writer could not be flushed; a trace is lawful, or unlawful, of which this is told, its last happening isn't
+-- finished at this line, if at any, and it has so many that are; its line of this number is none; the verdict could not
+-- be written; the channel of a run over the operating system is in use, by whom where that is known, or two of its files
+-- are one, or the channel was not locked, and why; its turns ended so, where nothing names its level or something does;
+-- the file of its trace was not created, and why; the faults of its inittab could not be written; the version could not be
+-- written
 pub data Ending : Type 0 where
   done : Ending
   usage : List ℕ → Ending
   no_memory : Ending
   unread : List ℕ → List ℕ → Ending
   too_many : Ending
+  flawed : List ℕ → Ending
+  unlisted : List ℕ → Ending
   stopped : List ℕ → SimFault → Ending
   unflushed : Ending
   lawful : Option ℕ × ℕ → Ending
@@ -56,6 +59,8 @@ status_of (usage reason) = REFUSED
 status_of no_memory = DEVICE_FAULT
 status_of (unread path why) = DEVICE_FAULT
 status_of too_many = REFUSED
+status_of (flawed told) = REFUSED
+status_of (unlisted id) = REFUSED
 status_of (stopped script f) = fault_status f
 status_of unflushed = DEVICE_FAULT
 status_of (lawful judged) = DONE
@@ -109,6 +114,14 @@ abbrev pub shared_message : List ℕ → List ℕ → List ℕ
 shared_message one other =
     codes "initd: " ++ one ++ codes " and " ++ other ++ codes " are one file: give each its own\n"
 
+-- that an inittab has no entry of an id
+abbrev pub unlisted_message : List ℕ → List ℕ
+unlisted_message id = codes "initd: no entry has the id " ++ (id ++ codes ": give --result an id of the inittab\n")
+
+-- the faults of an inittab that is to have none, and that it isn't taken
+abbrev pub ReportsFlawed : List ℕ → Option (List ℕ) → Option (List ℕ) → Type 0
+ReportsFlawed told old new = (mid : Option (List ℕ)) × AppendsPrefix old mid told × AppendsPrefix mid new FLAWED.now
+
 -- what is reported where nothing names a level
 abbrev pub ReportsUnled : Bool → Option (List ℕ) → Option (List ℕ) → Type 0
 ReportsUnled false old new = Keeps old new
@@ -134,6 +147,8 @@ Reports (usage reason) old new = AppendsPrefix old new (usage_report (codes "ini
 Reports no_memory old new = AppendsPrefix old new NO_MEMORY.now
 Reports (unread path why) old new = ReportsText (cannot_message (codes "read") path why) old new
 Reports too_many old new = AppendsPrefix old new TOO_MANY.now
+Reports (flawed told) old new = ReportsFlawed told old new
+Reports (unlisted id) old new = ReportsText (unlisted_message id) old new
 Reports (stopped script f) old new = ReportsText (fault_message script f) old new
 Reports unflushed old new = ReportsText (fault_message [] fault.Write) old new
 Reports (lawful judged) old new = ReportsJudged judged old new

@@ -1,12 +1,12 @@
 -- How a run over the operating system ends. Its host tells nothing of what was asked of it, so this is what is written,
 -- and how the exit status follows from what ended the turns.
-use Rattle.std.specs.Prelude.{◌≡◌, ◌≤◌, ◌<◌, ◌⊎◌, ◌&&◌, ◌==◌, min, if◌then◌else◌, ℕ, Bool, true, false, List, [], ◌∷◌, string_bytes, Option, Some, None, option_map, is_none, is_some, unwrap_or, IfSome, IsSome, IsTrue, ⊤}
+use Rattle.std.specs.Prelude.{◌≡◌, ◌≤◌, ◌<◌, ◌⊎◌, ◌&&◌, ◌==◌, not, min, if◌then◌else◌, ℕ, Bool, true, false, List, [], ◌∷◌, length, string_bytes, Option, Some, None, option_map, is_none, is_some, unwrap_or, IfSome, IsSome, IsTrue, ⊤}
 use Rattle.std.specs.Io.KnownBytes.{Appends, Keeps}
 use Rattle.program_io.specs.Writing.{AppendsPrefix}
 use Rattle.path_texts.specs.Known.{IsTextAt, KnownTexts}
 use Rattle.init_words.specs.Parts.{NamedText, texts_of}
 use Rattle.inittab_text.specs.Parts.{AreTooLong, AreTooMany, are_readable, faults_of_parts, table_of_texts}
-use Rattle.inittab_text.specs.Tables.{default_level_of}
+use Rattle.inittab_text.specs.Tables.{default_level_of, entry_of}
 use Rattle.init_words.specs.declared.entries.Entry.{Entry}
 use Rattle.init_words.specs.declared.levels.Level.{Level}
 use Rattle.judged_log.specs.declared.judgements.Judgement.{Judgement}
@@ -30,7 +30,7 @@ use Rattle.supervisor.specs.Opening.{opening_point}
 use Rattle.initd_command.specs.declared.run.Inittab.{Inittab}
 use Rattle.initd_command.specs.declared.run.RunFault.{RunFault}
 use Rattle.initd_command.specs.declared.run.RunFault.TheVariants as why
-use Rattle.initd_command.specs.Endings.{Ending, no_memory, unread, too_many, stopped, busy, shared, turned, uncreated, unlocked, untold}
+use Rattle.initd_command.specs.Endings.{Ending, no_memory, unread, too_many, flawed, unlisted, stopped, busy, shared, turned, uncreated, unlocked, untold}
 use Rattle.initd_command.specs.Turned.{End, EntryEnd, ReportsEnd, drained, end_status, limited, unlogged}
 use Rattle.os_host.specs.LineFaults.{faults_text}
 use Rattle.initd_options.specs.Options.{RunSaid}
@@ -39,6 +39,19 @@ use Rattle.initd_options.specs.Options.{RunSaid}
 abbrev pub is_unled : Option Level → List Entry → Bool
 is_unled (Some level) table = false
 is_unled None table = is_none (default_level_of table)
+
+-- a run that takes no faulty line has lines that tell faults
+abbrev pub is_flawed : RunSaid → List ℕ → Bool
+is_flawed service told = service.strict && not (length told == 0)
+
+-- the table has an entry of the id whose result a run is to have, if it is to have one
+abbrev pub has_result : List Entry → Option (List ℕ) → Bool
+has_result table None = true
+has_result table (Some id) = is_some (entry_of id table)
+
+-- a run takes an inittab of this table, whose faults these lines tell
+abbrev pub is_taken : RunSaid → List ℕ → List Entry → Bool
+is_taken service told table = not (is_flawed service told) && has_result table service.result
 
 -- what is noted of a run: how many children were born, how the last child of an id ended, and the children that go on,
 -- where all of them are known; the lines that tell what init waits for; and what was found of the run, where it was to
@@ -131,13 +144,20 @@ AreFiles text_at service parts =
     (inittab : List ℕ) × (more : List NamedText) × IsTextAt text_at service.inittab inittab
     × (parts ≡ record { name = service.inittab; bytes = inittab } ∷ more) × (service.inittab_dir ≡ None → more ≡ [])
 
--- how a run ends over the files of an inittab: they are too many or too long and nothing written, or the faults of their
--- lines are told
+-- how a run ends over the files of an inittab: they are too many or too long, or it does not take them, and nothing
+-- written, or the faults of their lines are told
 abbrev pub EndsOver : RunSaid → List NamedText → Ending → Option (List ℕ) → Option (List ℕ) → Type 0
 EndsOver service parts too_many old new = AreTooMany (texts_of parts) × Keeps old new
 EndsOver service parts (stopped script f) old new = (f ≡ fault.Table) × AreTooLong (texts_of parts) × Keeps old new
+EndsOver service parts (flawed told) old new =
+    (are_readable (texts_of parts) ≡ true) × (is_flawed service told ≡ true)
+    × (told ≡ faults_text parts (faults_of_parts (texts_of parts))) × Keeps old new
+EndsOver service parts (unlisted id) old new =
+    (are_readable (texts_of parts) ≡ true) × (service.result ≡ Some id)
+    × (has_result (table_of_texts (texts_of parts)) (Some id) ≡ false) × Keeps old new
 EndsOver service parts ending old new =
     (are_readable (texts_of parts) ≡ true)
+    × (is_taken service (faults_text parts (faults_of_parts (texts_of parts))) (table_of_texts (texts_of parts)) ≡ true)
     × EndsTold service (is_unled service.level (table_of_texts (texts_of parts)))
     (faults_text parts (faults_of_parts (texts_of parts))) ending old new
 
@@ -165,9 +185,10 @@ IsReadOf parts read =
     × (read.faults.items ≡ faults_text parts (faults_of_parts (texts_of parts)))
     × (read.table ≡ table_of_texts (texts_of parts))
 
--- the files are there, and this was read of them
+-- the files are there, and this was read of them, which the run takes
 abbrev pub IsInittab : KnownTexts → RunSaid → Inittab → Type 0
 IsInittab text_at service read = (parts : List NamedText) × AreFiles text_at service parts × IsReadOf parts read
+    × (is_taken service read.faults.items read.table ≡ true)
 
 -- Why a run ended before its first turn, and what is so then.
 abbrev pub FailsToLock : RunFault → Type 0
@@ -192,11 +213,25 @@ FailsOn parts why.TooLong = AreTooLong (texts_of parts)
 FailsOn parts why.Memory = ⊤
 FailsOn parts _ = ⊥
 
+-- a run does not take what was read of an inittab
+abbrev pub FailsToTake : RunSaid → Inittab → RunFault → Type 0
+FailsToTake service read (why.Flawed lines) =
+    (is_flawed service lines.items ≡ true) × (lines.items ≡ read.faults.items)
+FailsToTake service read (why.Unlisted id) =
+    (service.result ≡ Some id) × (has_result read.table (Some id) ≡ false)
+FailsToTake service read _ = ⊥
+
 abbrev pub FailsToRead : KnownTexts → RunSaid → RunFault → Type 0
 FailsToRead text_at service why.TooMany =
     (parts : List NamedText) × AreFiles text_at service parts × AreTooMany (texts_of parts)
 FailsToRead text_at service why.TooLong =
     (parts : List NamedText) × AreFiles text_at service parts × AreTooLong (texts_of parts)
+FailsToRead text_at service (why.Flawed lines) =
+    (read : Inittab) × ((parts : List NamedText) × AreFiles text_at service parts × IsReadOf parts read)
+    × FailsToTake service read (why.Flawed lines)
+FailsToRead text_at service (why.Unlisted id) =
+    (read : Inittab) × ((parts : List NamedText) × AreFiles text_at service parts × IsReadOf parts read)
+    × FailsToTake service read (why.Unlisted id)
 FailsToRead text_at service fault = FailsToGet service fault
 
 abbrev pub FailsOver : RunSaid → RunFault → Type 0
@@ -209,7 +244,8 @@ FailsBy text_at service (why.Busy holder) = ⊤
 FailsBy text_at service (why.Shared one other) = ⊤
 FailsBy text_at service (why.Channel error) = ⊤
 FailsBy text_at service (why.Trace error) =
-    IsSome service.trace × HasInittab text_at service (λ _. ⊤)
+    IsSome service.trace × HasInittab text_at service (λ parts.
+    is_taken service (faults_text parts (faults_of_parts (texts_of parts))) (table_of_texts (texts_of parts)) ≡ true)
 FailsBy text_at service fault = FailsToRead text_at service fault
 
 -- the ending that such a fault is
@@ -222,6 +258,8 @@ IsOfFault service (why.Folder path error) ending =
     (reason : List ℕ) × (ending ≡ unread (string_bytes path) reason)
 IsOfFault service why.TooMany ending = ending ≡ too_many
 IsOfFault service why.TooLong ending = ending ≡ stopped [] fault.Table
+IsOfFault service (why.Flawed lines) ending = ending ≡ flawed lines.items
+IsOfFault service (why.Unlisted id) ending = ending ≡ unlisted id
 IsOfFault service (why.Trace error) ending =
     (reason : List ℕ) × (ending ≡ uncreated (unwrap_or service.trace []) reason)
 IsOfFault service why.Memory ending = ending ≡ no_memory

@@ -82,10 +82,10 @@ listed_after front (child ∷ children) = front ++ (child_text child ++ listed_a
 abbrev pub running_text : List (List ℕ × ℕ) → List ℕ
 running_text children = listed_after (codes "initd: still running: ") children ++ codes "\n"
 
--- that so many happenings broke no law: those of the whole run, or those up to where its log failed
+-- that so many happenings broke no law: those of the whole run, or those that were judged of one whose log failed
 abbrev pub lawful_text : Bool → ℕ → List ℕ
 lawful_text true count = codes "initd: the run was lawful: " ++ (decimal count ++ codes " happenings\n")
-lawful_text false count = codes "initd: it was lawful up to there: " ++ (decimal count ++ codes " happenings\n")
+lawful_text false count = codes "initd: what was judged of the run was lawful: " ++ (decimal count ++ codes " happenings\n")
 
 abbrev pub breach_text : ℕ → List ℕ → List ℕ
 breach_text place why =

@@ -25,7 +25,7 @@ use std::rt::Files;
 pub const USAGE: &str =
     "usage: initd run [--inittab P] [--inittab-dir DIR] [--initctl P] [--fresh] [--state P]
                  [--trace P [--brief]] [--judge] [--level L] [--turns N | --forever] [--drain]
-                 [--pause SEC] [--result ID] [--verbose] [--logs DIR]
+                 [--pause SEC] [--result ID] [--verbose] [--logs DIR] [--strict]
        initd simulate [--level L] TABLE SCRIPT
        initd check TRACE
        initd --version
@@ -46,10 +46,12 @@ pub const USAGE: &str =
   --pause    the seconds between two turns, 0.01 to 60, with at most two digits after the point;
              1 where it is left out
   --result   end with the last exit status of the entry ID, in place of 0; 137 where it was killed,
-             4 where it never ended
+             4 where it never ended; an ID that the inittab has not is refused
   --verbose  tell each start and each end of a child, and each file of --inittab-dir that is
              passed over
   --logs     the folder that the output of each entry is written to, a file an entry
+  --strict   take no inittab that has a faulty line: the run is refused at its opening, and later
+             the inittab before stays in force
   L       the runlevel to go to, 0 to 9, S or s; the table's initdefault where it is left out
   ID      an id of the inittab, 1 to 8 characters
   TABLE   an inittab(5)

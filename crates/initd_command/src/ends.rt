@@ -24,7 +24,7 @@ use waiting_lines::waiting_lines;
 const LIMITED: &str = "initd: the limit of turns is reached\n";
 
 /// What is reported where the trace was not written whole.
-pub(crate) const UNLOGGED: &str = "initd: the trace could not be written\n";
+const UNLOGGED: &str = "initd: the trace could not be written\n";
 
 /// What is reported of a run that ended drained before anything was started.
 const IDLE: &str = "initd: nothing was started\n";
@@ -139,7 +139,7 @@ fn lawful_text(alloc: Global, whole: bool, count: u64) -> Result<String, AllocEr
     if whole {
         return format!(in alloc; "initd: the run was lawful: {count} happenings\n");
     }
-    format!(in alloc; "initd: it was lawful up to there: {count} happenings\n")
+    format!(in alloc; "initd: what was judged of the run was lawful: {count} happenings\n")
 }
 
 fn breach_text(alloc: Global, place: u64, why: &str) -> Result<String, AllocError>

@@ -87,6 +87,7 @@ where
     let host = host.with_pause(said.pause.as_str())?;
     let host = if said.fresh { host.fresh() } else { host };
     let host = if said.verbose { host.verbose() } else { host };
+    let host = if said.strict { host.strict() } else { host };
     match &said.logs {
         Some(folder) => host.with_logs(folder.as_str()),
         None => Ok(host),

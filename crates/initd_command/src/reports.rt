@@ -3,10 +3,11 @@
 ghost use Rattle.std.specs.Prelude.{◌≡◌, true, ℕ, List, None, Some, OnOk, OnErr, string_bytes, IfOk, ◌++◌};
 ghost use Rattle.std.specs.Io.KnownBytes.{Appends};
 ghost use Rattle.program_io.specs.Writing.{AppendsPrefix};
-ghost use Rattle.initd_command.specs.Endings.{busy_message, cannot_message, fault_message, fault_status, reason_message, shared_message};
+ghost use Rattle.initd_command.specs.Endings.{ReportsFlawed, busy_message, cannot_message, fault_message, fault_status, reason_message, shared_message, unlisted_message};
 ghost use Rattle.initd_command.specs.Turned.{ReportsText};
 
 use crate::lines::{line_at, line_told};
+use init_words::Id;
 use program_io::{DEVICE_FAULT, REFUSED, write_text};
 use simulated_system::Objection;
 use simulator::SimFault;
@@ -19,6 +20,10 @@ pub(crate) const NO_MEMORY: &str = "initd: out of memory\n";
 
 /// What is reported where the inittab has too many files.
 pub(crate) const TOO_MANY: &str = "initd: inittab has more than 256 files: put some together\n";
+
+/// What is reported behind the faults of an inittab that is to have none.
+const FLAWED: &str =
+    "initd: the inittab has faulty lines and is not taken, as --strict says: mend them\n";
 
 /// Reports a fault of a run over a script, and gives the exit status.
 pub(crate) fn report_fault<E: Write>(
@@ -223,6 +228,36 @@ pub(crate) fn report_too_many<E: Write>(err: &mut E) -> u8
 {
     report(TOO_MANY, err);
     REFUSED
+}
+
+/// Reports the faults of an inittab that is to have none, by these lines, and gives the exit status.
+pub(crate) fn report_flawed<E: Write>(faults: &[u8], err: &mut E) -> u8
+    ensures status { result ≡ REFUSED }
+    ensures reported { ReportsFlawed faults.now (E.contents err.old) (E.contents err.new) }
+{
+    report_bytes(faults, err);
+    report(FLAWED, err);
+    REFUSED
+}
+
+/// Reports that an inittab has no entry of the id, and gives the exit status.
+pub(crate) fn report_unlisted<E: Write>(alloc: Global, id: &Id, err: &mut E) -> u8
+    ensures status { result ≡ REFUSED }
+    ensures reported { ReportsText (unlisted_message id.now) (E.contents err.old)
+        (E.contents err.new) }
+{
+    report_lines(unlisted_message(alloc, id), err);
+    REFUSED
+}
+
+fn unlisted_message(alloc: Global, id: &Id) -> Result<Vec<u8>, AllocError>
+    ensures { IfOk result (λ text. text.items ≡ unlisted_message id.now) }
+{
+    let mut text = Vec::new(alloc);
+    text.extend_from_slice(b"initd: no entry has the id ")?;
+    text.extend_from_slice(id.as_bytes())?;
+    text.extend_from_slice(b": give --result an id of the inittab\n")?;
+    Ok(text)
 }
 
 /// Writes a text and sees that it is out.

@@ -12,24 +12,24 @@ ghost use Rattle.child_host.specs.Record.{Since};
 ghost use Rattle.supervisor.specs.Opening.{IsOpeningOf};
 ghost use Rattle.os_host.specs.LineFaults.{faults_text};
 ghost use Rattle.initd_options.specs.Options.{run_of};
-ghost use Rattle.initd_command.specs.Services.{AreFiles, EndsRun, EndsServed, EndsTold, FailsBy, FailsOn, FailsOver, FailsToGet, FailsToLock, FailsToPart, FailsToRead, HasInittab, IsInittab, IsOfFault, IsReadOf, Turns, TurnsFrom, TurnsOver, is_unled, judgement_for};
+ghost use Rattle.initd_command.specs.Services.{AreFiles, EndsRun, EndsServed, EndsTold, FailsBy, FailsOn, FailsOver, FailsToGet, FailsToLock, FailsToPart, FailsToRead, FailsToTake, HasInittab, IsInittab, IsOfFault, IsReadOf, Turns, TurnsFrom, TurnsOver, has_result, is_taken, is_unled, judgement_for};
 
 use crate::ends::report_end;
 use crate::hosts::Hosts;
-use crate::logs::{FileLog, LoudLog, NoLog};
+use crate::logs::{FileLog, NoLog};
 use crate::patience::Patience;
 use crate::reports::{
-    report, report_busy, report_cannot, report_fault, report_memory, report_shared,
-    report_too_many, tell,
+    report, report_busy, report_cannot, report_fault, report_flawed, report_memory, report_shared,
+    report_too_many, report_unlisted, tell,
 };
 use brief_log::BriefLog;
 use channel_files::{ChannelLock, lock_channel, lock_holder};
 use child_host::Host;
-use init_words::{Level, Memory, Part};
+use init_words::{Id, Level, Memory, Part};
 use initd_options::RunWords;
 use inittab_text::{Table, TableFault, read_parts};
 use judged_log::{JudgedLog, Judgement};
-use os_host::{FolderFault, faults_text, with_folder};
+use os_host::{FolderFault, PassedNames, faults_text, with_folder};
 use path_texts::Texts;
 use program_io::{DEVICE_FAULT, refuse_special};
 use run_notes::RunNotes;
@@ -67,6 +67,10 @@ enum RunFault {
     TooMany,
     /// The inittab is too long.
     TooLong,
+    /// These lines tell faults of an inittab that is to have none.
+    Flawed(Vec<u8>),
+    /// The inittab has no entry of the id whose result the run's is to be.
+    Unlisted(Id),
     /// The file of the trace could not be created.
     Trace(io::Error),
     /// Out of memory.
@@ -155,6 +159,7 @@ where
     ensures ok { IfOk result (λ run. HasInittab (T.text_at texts.now) (run_of said.now)
         (λ parts. (run.faults.items ≡ faults_text parts (faults_of_parts (texts_of parts)))
         × (run.is_unled ≡ is_unled said.now.level (table_of_texts (texts_of parts)))
+        × (is_taken (run_of said.now) run.faults.items (table_of_texts (texts_of parts)) ≡ true)
         × IsOpeningOf said.now.level (table_of_texts (texts_of parts)) run.opening)) }
     ensures host { IfOk result (λ run. H.told run.host ≡ S.told hosts.old) }
     ensures err { IfErr result (FailsBy (T.text_at texts.now) (run_of said.now)) }
@@ -286,7 +291,8 @@ fn add_folder<R: Files + Eprint>(
         → IfOk result (λ parts. parts.items ≡ own ∷ []) }
     ensures err { IfErr result (FailsToGet (run_of said.now)) }
 {
-    match with_folder(rt, alloc, own, folder_of(said), said.verbose) {
+    let mut passed = PassedNames::new(alloc, said.verbose);
+    match with_folder(rt, alloc, own, folder_of(said), &mut passed) {
         Ok(parts) => Ok(parts),
         Err(FolderFault::Unread(path, error)) => Err(RunFault::Folder(path, error)),
         Err(FolderFault::Memory) => Err(RunFault::Memory),
@@ -310,6 +316,35 @@ fn files_of<R: Files + Eprint, T: Texts>(
     };
     let name = String::from_str(alloc, said.inittab.as_str())?;
     add_folder(rt, alloc, said, Part { name, bytes })
+}
+
+/// The inittab, where the run takes it: one with faults where it is not strict, and one that has an entry of the id
+/// whose result the run's is to be.
+fn taken(said: &RunWords, inittab: Inittab) -> Result<Inittab, RunFault>
+    ensures ok { IfOk result (λ given. (given ≡ inittab)
+        × (is_taken (run_of said.now) inittab.faults.items inittab.table ≡ true)) }
+    ensures err { IfErr result (FailsToTake (run_of said.now) inittab) }
+{
+    if said.strict && !inittab.faults.is_empty() {
+        return Err(RunFault::Flawed(inittab.faults));
+    }
+    let Some(id) = said.result else {
+        return Ok(inittab);
+    };
+    if !has_entry(&inittab.table, &id) {
+        return Err(RunFault::Unlisted(id));
+    }
+    Ok(inittab)
+}
+
+/// The table has an entry of the id.
+fn has_entry(table: &Table, id: &Id) -> bool
+    ensures { result ≡ has_result table.now (Some id.now) }
+{
+    match table.get(id) {
+        Some(_) => true,
+        None => false,
+    }
 }
 
 /// The table of the files of an inittab, and the lines that tell their faults.
@@ -338,7 +373,8 @@ fn read_inittab<R: Files + Eprint, T: Texts>(
     ensures err { IfErr result (FailsToRead (T.text_at texts.now) (run_of said.now)) }
 {
     let parts = files_of(rt, texts, alloc, said)?;
-    inittab_of(alloc, &parts)
+    let inittab = inittab_of(alloc, &parts)?;
+    taken(said, inittab)
 }
 
 /// The file of the trace, created anew, where one is to be written.
@@ -381,6 +417,8 @@ fn report_run_fault<E: Write>(alloc: Global, said: &RunWords, fault: &RunFault, 
         RunFault::Folder(path, error) => report_cannot(alloc, "read", path.as_str(), error, err),
         RunFault::TooMany => report_too_many(err),
         RunFault::TooLong => report_fault(alloc, &[], &SimFault::Table, err),
+        RunFault::Flawed(faults) => report_flawed(faults, err),
+        RunFault::Unlisted(id) => report_unlisted(alloc, id, err),
         RunFault::Trace(error) => report_cannot(alloc, "create", trace_of(said), error, err),
         RunFault::Memory => report_memory(err),
     }
@@ -454,7 +492,6 @@ where
         return make_turns(rt, alloc, said, opening, host, NoLog {}, err);
     };
     let log = FileLog::new(rt, alloc, trace_of(said), file);
-    let log = LoudLog { rt, log };
     if said.brief {
         return make_turns(rt, alloc, said, opening, host, BriefLog::new(log), err);
     }

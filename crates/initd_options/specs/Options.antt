@@ -1,6 +1,6 @@
 -- The command line `initd run [--inittab P] [--inittab-dir DIR] [--initctl P] [--fresh] [--state P] [--trace P
 -- [--brief]] [--judge] [--level L] [--turns N | --forever] [--drain] [--pause SEC] [--result ID] [--verbose]
--- [--logs DIR]`, by clap's own words, and what it says.
+-- [--logs DIR] [--strict]`, by clap's own words, and what it says.
 use Rattle.std.specs.Prelude.{ℕ, Bool, true, false, ◌+◌, ◌-◌, ◌*◌, ◌&&◌, if◌then◌else◌, nat_lt, nat_le, List, [], ◌∷◌, codes, Option, Some, None, option_and_then, option_map, string_bytes}
 use Rattle.std.specs.Char.{is_ascii_digit}
 use Rattle.clap.specs.Words.{App, Row, Text, first_of, new_app}
@@ -31,6 +31,7 @@ run_line = with_rules (new_app (codes "run")) (
     ∷ value_rule (codes "inittab-dir")
     ∷ switch_rule (codes "brief")
     ∷ switch_rule (codes "judge")
+    ∷ switch_rule (codes "strict")
     ∷ [])
 
 -- a number of turns: 1 to the limit
@@ -103,8 +104,8 @@ brief_said rows = brief_in (is_set (codes "brief") rows) (first_of (codes "trace
 -- text of init's state; whether the requests that the channel has already are left out; the path of the trace, if
 -- it is given, and whether it is brief; whether each happening is judged; the level to go to, if it is given; the
 -- greatest number of turns; whether the run ends where it is drained; the seconds of a pause; the entry whose last
--- status is the run's, if one is given; whether each start and end is told; and the folder of the children's output,
--- if it is given.
+-- status is the run's, if one is given; whether each start and end is told; the folder of the children's output, if it
+-- is given; and whether an inittab with a faulty line is not taken.
 pub record RunSaid : Type 0 where
   pub inittab : Text
   pub inittab_dir : Option Text
@@ -121,6 +122,7 @@ pub record RunSaid : Type 0 where
   pub result : Option (List ℕ)
   pub verbose : Bool
   pub logs : Option Text
+  pub strict : Bool
 
 abbrev pub run_of : RunWords → RunSaid
 run_of said = record {
@@ -139,6 +141,7 @@ run_of said = record {
   result = said.result;
   verbose = said.verbose;
   logs = option_map (λ (path : _). string_bytes path) said.logs;
+  strict = said.strict;
 }
 
 -- what the words say, with these values of the options that may be refused
@@ -159,6 +162,7 @@ service_with rows level turns pause result brief = record {
   result = result;
   verbose = is_set (codes "verbose") rows;
   logs = first_of (codes "logs") rows;
+  strict = is_set (codes "strict") rows;
 }
 
 -- what the words after `run` say; nothing where the level, the turns, the pause or the entry are none, or a brief trace

@@ -47,6 +47,8 @@ pub struct RunWords {
     pub verbose: bool,
     /// The folder that the children's output is written to, where one is given.
     pub logs: Option<String>,
+    /// An inittab with a faulty line is not taken.
+    pub strict: bool,
 }
 
 /// The greatest number of turns that may be asked for.
@@ -84,7 +86,8 @@ pub(crate) fn run_line<'a>(alloc: Global) -> Result<Command<'a>, AllocError>
     let line = with_value(alloc, line, "logs")?;
     let line = with_value(alloc, line, "inittab-dir")?;
     let line = with_switch(alloc, line, "brief")?;
-    with_switch(alloc, line, "judge")
+    let line = with_switch(alloc, line, "judge")?;
+    with_switch(alloc, line, "strict")
 }
 
 /// What the words after `run` say.
@@ -115,6 +118,7 @@ pub(crate) fn read_run(alloc: Global, matches: &ArgMatches) -> Result<RunWords, 
         result,
         verbose: is_set(matches, "verbose"),
         logs: read_path(alloc, matches, "logs")?,
+        strict: is_set(matches, "strict"),
     })
 }
 

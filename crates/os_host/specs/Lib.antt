@@ -1,5 +1,6 @@
 pub mod Announced
 pub mod Commands
+pub mod Costs
 pub mod Folders
 pub mod LineFaults
 pub mod Logs

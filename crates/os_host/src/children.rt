@@ -1,13 +1,15 @@
 //! The children of a host: started, looked at, signalled.
 
 use crate::commands::{command_of, needs_shell, shown};
+use crate::costs::Line;
 use crate::logs::Logs;
 use crate::news::{News, end_news, last_end_of};
 use crate::starts::Starts;
 use crate::terms::TermSender;
 use crate::troubles::Trouble;
 use indexmap::IndexMap;
-use init_words::{Answer, Id, Memory, Sig, Status};
+use init_words::{Answer, Id, Memory, Sig, Stage, Status};
+use inittab_text::Table;
 use std::alloc::Allocator;
 use std::hash::{BuildHasherDefault, FoldHasher};
 use std::io::ErrorKind;
@@ -21,6 +23,8 @@ use text_lines::next_word;
 struct Held<C: Drop> {
     child: C,
     stopping: Trouble,
+    /// What an inittab that was read since its birth has for it.
+    line: Option<Line>,
 }
 
 /// The children of a host, each under its id.
@@ -33,6 +37,9 @@ pub(crate) struct Children<R: Processes, A: Allocator> {
     /// How the last child of each id ended, as far as there was memory to keep it.
     ends: IndexMap<Id, News, BuildHasherDefault<FoldHasher>, A>,
     terms: TermSender<R::Started>,
+    /// The stage, and that in which an inittab was read again last.
+    stage: Option<Stage>,
+    read_in: Option<Stage>,
     /// The births, where it is told what children do.
     starts: Option<Starts<A>>,
     /// Where their output goes, where it goes to logs.
@@ -48,6 +55,8 @@ impl<R: Processes, A: Allocator + Copy> Children<R, A> {
             handles: IndexMap::new(alloc),
             ends: IndexMap::new(alloc),
             terms: TermSender::new(),
+            stage: None,
+            read_in: None,
             starts: None,
             logs: None,
         }
@@ -85,7 +94,12 @@ impl<R: Processes, A: Allocator + Copy> Children<R, A> {
         let child = command.spawn(rt)?;
         let number = child.id();
         let stopping = Trouble::new(self.program, "send TERM to", "TERM was sent");
-        if self.handles.insert(id, Held { child, stopping }).is_err() {
+        let held = Held {
+            child,
+            stopping,
+            line: None,
+        };
+        if self.handles.insert(id, held).is_err() {
             unreachable!()
         }
         self.tell_start(rt, id, number);
@@ -195,6 +209,22 @@ impl<R: Processes, A: Allocator + Copy> Children<R, A> {
         }
     }
 
+    /// The stage was entered.
+    pub(crate) fn enter(&mut self, stage: Stage) {
+        self.stage = Some(stage);
+    }
+
+    /// Notes what an inittab that was read again has for each child.
+    pub(crate) fn note_lines<B: Allocator>(&mut self, table: &Table<B>) {
+        let Some(stage) = self.stage else {
+            return;
+        };
+        self.read_in = Some(stage);
+        for (id, held) in self.handles.iter_mut() {
+            held.line = Some(Line::of(table.get(id), stage));
+        }
+    }
+
     /// The turn is over.
     pub(crate) fn end_turn(&mut self) {
         self.terms.end();
@@ -212,8 +242,32 @@ impl<R: Processes, A: Allocator + Copy> Children<R, A> {
         if !sent {
             return Answer::Miss;
         }
+        self.say_cost(rt, id);
         self.tell(rt, id, &News::Sent(signal));
         Answer::Hit
+    }
+
+    /// Says on standard error, once, that the id's child, which is sent a signal, is the cost of an inittab that was
+    /// read again.
+    fn say_cost(&mut self, rt: &R, id: &Id)
+    where
+        R: Eprint,
+    {
+        let is_same_stage = self.stage == self.read_in;
+        let Some(held) = self.handles.get_mut(id) else {
+            return;
+        };
+        match held.line.take() {
+            Some(line) if line.is_cost(is_same_stage) => {
+                let id = shown(id.as_bytes());
+                let number = held.child.id();
+                let _ = eprintln!(rt;
+                    "{}: {id}: {line}: its child {number} is stopped",
+                    self.program
+                );
+            }
+            _ => {}
+        }
     }
 
     fn term(&mut self, rt: &R, id: &Id) -> bool

@@ -8,9 +8,11 @@ ghost use Rattle.os_host.specs.Folders.{IsFolderFault};
 ghost use Rattle.os_host.specs.Logs.{is_hidden};
 
 use crate::logs::is_hidden;
+use indexmap::IndexSet;
 use init_words::Part;
 use program_io::{read_all, read_file};
 use std::alloc::{AllocError, AllocFailed, Allocator, Global};
+use std::hash::{BuildHasherDefault, FoldHasher};
 use std::rt::Files;
 use std::{io, str};
 use text_lines::cut;
@@ -87,7 +89,54 @@ fn listed<R: Files, A: Allocator + Copy>(rt: &R, alloc: A, folder: &str) -> io::
     read_all(alloc, &mut dir)
 }
 
-/// Tells of a name that is passed over.
+/// The names of the files of an inittab's folder that don't count. They are told on standard error, each once, where that
+/// is asked for.
+#[derive(Drop)]
+pub struct PassedNames<A: Allocator = Global> {
+    alloc: A,
+    is_asked: bool,
+    told: IndexSet<Vec<u8, A>, BuildHasherDefault<FoldHasher>, A>,
+}
+
+impl<A: Allocator + Copy> PassedNames<A> {
+    /// None was told; whether they are to be told. It takes no memory.
+    pub fn new(alloc: A, is_asked: bool) -> PassedNames<A> {
+        PassedNames {
+            alloc,
+            is_asked,
+            told: IndexSet::new(alloc),
+        }
+    }
+
+    /// From now on the names are told, but for those that stand in the folder now.
+    pub(crate) fn tell_further<R: Files>(&mut self, rt: &R, folder: &str) {
+        self.is_asked = true;
+        let Ok(list) = listed(rt, self.alloc, folder) else {
+            return;
+        };
+        let mut rest: &[u8] = &list;
+        while let Some((name, more)) = next_name(rest) {
+            self.note(name);
+            rest = more;
+        }
+    }
+
+    /// The name is taken for told, and was not told before; so is one that there is no memory to keep.
+    fn note(&mut self, name: &[u8]) -> bool {
+        let Ok(name) = Vec::from_slice(self.alloc, name) else {
+            return true;
+        };
+        !matches!(self.told.insert(name), Ok(false))
+    }
+
+    /// Tells of a name that is passed over, where it is asked for and was not told.
+    fn tell(&mut self, rt: &impl Eprint, folder: &str, name: &[u8]) {
+        if self.is_asked && self.note(name) {
+            tell_passed(rt, folder, name);
+        }
+    }
+}
+
 fn tell_passed(rt: &impl Eprint, folder: &str, name: &[u8]) {
     if matches!(name, b"." | b"..") {
         return;
@@ -106,35 +155,34 @@ fn next_name(list: &[u8]) -> Option<(&[u8], &[u8])>
     cut(0, list)
 }
 
-/// Adds the name, where it is that of a part; any other is told, where that is asked for.
-fn add_name<R: Eprint, A: Allocator + Copy>(
+/// Adds the name, where it is that of a part; any other is passed over.
+fn add_name<R: Eprint, A: Allocator + Copy, B: Allocator + Copy>(
     rt: &R,
     alloc: A,
     folder: &str,
     name: &[u8],
-    verbose: bool,
+    passed: &mut PassedNames<B>,
     names: &mut Vec<String<A>, A>,
 ) -> Result<(), AllocError> {
     match str::from_utf8(name) {
         Ok(text) if is_part_name(name) => names.push(String::from_str(alloc, text)?)?,
-        _ if verbose => tell_passed(rt, folder, name),
-        _ => {}
+        _ => passed.tell(rt, folder, name),
     }
     Ok(())
 }
 
-/// The names in a list of names that are those of parts, in byte order. The others are told, where that is asked for.
-fn part_names<R: Eprint, A: Allocator + Copy>(
+/// The names in a list of names that are those of parts, in byte order. The others are passed over.
+fn part_names<R: Eprint, A: Allocator + Copy, B: Allocator + Copy>(
     rt: &R,
     alloc: A,
     folder: &str,
     list: &[u8],
-    verbose: bool,
+    passed: &mut PassedNames<B>,
 ) -> Result<Vec<String<A>, A>, AllocError> {
     let mut names = Vec::new(alloc);
     let mut rest = list;
     while let Some((name, more)) = next_name(rest) {
-        add_name(rt, alloc, folder, name, verbose, &mut names)?;
+        add_name(rt, alloc, folder, name, passed, &mut names)?;
         rest = more;
     }
     names.sort_unstable();
@@ -156,30 +204,30 @@ fn part_in<R: Files, A: Allocator + Copy>(
 }
 
 /// The names of the parts in a folder.
-fn names_in<R: Files + Eprint, A: Allocator + Copy>(
+fn names_in<R: Files + Eprint, A: Allocator + Copy, B: Allocator + Copy>(
     rt: &R,
     alloc: A,
     folder: &str,
-    verbose: bool,
+    passed: &mut PassedNames<B>,
 ) -> Result<Vec<String<A>, A>, FolderFault<A>> {
     match listed(rt, alloc, folder) {
-        Ok(list) => Ok(part_names(rt, alloc, folder, &list, verbose)?),
+        Ok(list) => Ok(part_names(rt, alloc, folder, &list, passed)?),
         Err(error) => Err(FolderFault::Unread(String::from_str(alloc, folder)?, error)),
     }
 }
 
 /// Adds the parts in a folder, by the order of their names.
-fn add_parts<R: Files + Eprint, A: Allocator + Copy>(
+fn add_parts<R: Files + Eprint, A: Allocator + Copy, B: Allocator + Copy>(
     rt: &R,
     alloc: A,
     folder: &str,
-    verbose: bool,
+    passed: &mut PassedNames<B>,
     parts: &mut Vec<Part<A>, A>,
 ) -> Result<(), FolderFault<A>>
     ensures { OnOk result ((more : List NamedText)
         × (parts.new.items ≡ parts.old.items ++ more)) }
 {
-    for name in names_in(rt, alloc, folder, verbose)? {
+    for name in names_in(rt, alloc, folder, passed)? {
         parts.push(part_in(rt, alloc, folder, name)?)?;
     }
     Ok(())
@@ -187,13 +235,13 @@ fn add_parts<R: Files + Eprint, A: Allocator + Copy>(
 
 /// The parts of an inittab: its own file, and after it the files of a folder, where there is one, by the order of
 /// their names. Those files count whose names end in `.tab`, don't begin with a point, and have only bytes of A-Z a-z
-/// 0-9 . _ -. The others are passed over, and told on standard error where that is asked for.
-pub fn with_folder<R: Files + Eprint, A: Allocator + Copy>(
+/// 0-9 . _ -. The others are passed over.
+pub fn with_folder<R: Files + Eprint, A: Allocator + Copy, B: Allocator + Copy>(
     rt: &R,
     alloc: A,
     own: Part<A>,
     folder: Option<&str>,
-    verbose: bool,
+    passed: &mut PassedNames<B>,
 ) -> Result<Vec<Part<A>, A>, FolderFault<A>>
     ensures own { IfOk result (λ parts. (more : List NamedText) × (parts.items ≡ own ∷ more)) }
     ensures alone { folder.entry ≡ None → IfOk result (λ parts. parts.items ≡ own ∷ []) }
@@ -202,7 +250,7 @@ pub fn with_folder<R: Files + Eprint, A: Allocator + Copy>(
     let mut parts = Vec::new(alloc);
     parts.push(own)?;
     if let Some(folder) = folder {
-        add_parts(rt, alloc, folder, verbose, &mut parts)?;
+        add_parts(rt, alloc, folder, passed, &mut parts)?;
     }
     Ok(parts)
 }

@@ -6,6 +6,7 @@ mod announcements;
 mod channels;
 mod children;
 mod commands;
+mod costs;
 mod folders;
 mod line_faults;
 mod logs;
@@ -21,6 +22,6 @@ mod terms;
 mod troubles;
 
 pub use announcements::announcement_text;
-pub use folders::{FolderFault, with_folder};
+pub use folders::{FolderFault, PassedNames, with_folder};
 pub use line_faults::faults_text;
 pub use os_hosts::OsHost;

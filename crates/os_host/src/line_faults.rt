@@ -4,10 +4,10 @@ ghost use Rattle.std.specs.Prelude.{◌≡◌, ◌++◌, string_bytes, IfOk, OnO
 ghost use Rattle.os_host.specs.LineFaults.{fault_line, faults_text, line_text, place_text};
 
 use init_words::Part;
-use inittab_text::{LineKind, PartFault, TableFault, read_parts};
+use inittab_text::{LineKind, PartFault};
 use std::alloc::{AllocError, Allocator};
 use std::io;
-use std::io::{ErrorKind, Write};
+use std::io::Write;
 
 /// What was printed last of an inittab's lines that were left out.
 #[derive(Drop)]
@@ -25,29 +25,14 @@ impl<A: Allocator + Copy> LineFaults<A> {
         }
     }
 
-    /// Prints the faults of the lines of an inittab's parts, where they are not those that were printed last, and gives
-    /// how many bytes that are. That the parts are too long or too many is told on standard error.
-    pub(crate) fn tell<R: Print + Eprint, B: Allocator>(
-        &mut self,
-        rt: &R,
-        path: &str,
-        parts: &[Part<B>],
-    ) -> io::Result<usize> {
-        match read_parts(self.alloc, parts) {
-            Ok((_, faults)) => self.print(rt, parts, &faults),
-            Err(TableFault::TooLong) => {
-                say_too_long(rt, path);
-                Ok(0)
-            }
-            Err(TableFault::Parts) => {
-                say_too_many(rt, path);
-                Ok(0)
-            }
-            Err(TableFault::Memory) => Err(io::Error::from(ErrorKind::OutOfMemory)),
-        }
+    /// From now on nothing counts as printed.
+    pub(crate) fn forget(&mut self) {
+        self.printed.clear();
     }
 
-    fn print<R: Print, B: Allocator>(
+    /// Prints the faults of the lines of an inittab's parts, where they are not those that were printed last, and gives
+    /// how many bytes that are.
+    pub(crate) fn print<R: Print, B: Allocator>(
         &mut self,
         rt: &R,
         parts: &[Part<B>],
@@ -124,14 +109,20 @@ fn add_place<A: Allocator, B: Allocator>(
     Ok(())
 }
 
-fn say_too_long(rt: &impl Eprint, path: &str) {
+pub(crate) fn say_too_long(rt: &impl Eprint, path: &str) {
     let _ = eprintln!(rt;
         "initd: {path} is longer than 1048576 bytes: shorten it, and give telinit q"
     );
 }
 
-fn say_too_many(rt: &impl Eprint, path: &str) {
+pub(crate) fn say_too_many(rt: &impl Eprint, path: &str) {
     let _ = eprintln!(rt;
         "initd: {path} and its folder are more than 256 files: put some together, and give telinit q"
+    );
+}
+
+pub(crate) fn say_refused(rt: &impl Eprint, path: &str) {
+    let _ = eprintln!(rt;
+        "initd: {path} has faulty lines: the one before stays, as --strict says: mend them, and give telinit q"
     );
 }

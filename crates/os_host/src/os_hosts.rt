@@ -5,7 +5,7 @@ ghost use Rattle.std.specs.Prelude.{◌≡◌, IfOk, OnErr, IsErr};
 use crate::announcements::announcement_text;
 use crate::channels::Channel;
 use crate::children::Children;
-use crate::line_faults::LineFaults;
+use crate::line_faults::{LineFaults, say_refused, say_too_long, say_too_many};
 use crate::paths::Paths;
 use crate::pauses::{LOOK, Pauses, has_stirred};
 use crate::steady_clocks::SteadyClock;
@@ -14,6 +14,7 @@ use channel_files::ChannelLock;
 use child_host::{Host, HostFault, Reply, counted, is_failed_reply};
 use init_trace::{Happening, HappeningIn};
 use init_words::{Answer, ChildNo, Id, Memory, Part, Sig};
+use inittab_text::{PartFault, Table, TableFault, read_parts};
 use std::alloc::{Allocator, Global};
 use std::fs::File;
 use std::io::ErrorKind;
@@ -34,7 +35,9 @@ use std::{io, thread};
 /// the seconds since the beginning of 1970 at its first reading, and goes on from there by the monotonic clock. What
 /// fails is told on standard error once when it begins and once when it is over; told too are requests that stand in
 /// the channel before its first reading, those that init passes over, and that it ends within a request. The faults of
-/// the lines of an inittab's files are printed, where they are not those that were printed last.
+/// the lines of an inittab's files are printed, where they are not those that were printed last. Of a child that is
+/// stopped since an inittab that was read again has no line of it, or one that is off, does not run in the level or has
+/// another action, that is told on standard error.
 #[derive(Drop)]
 pub struct OsHost<
     R: Processes + Files<File = File> + Clock + Print + Eprint + Drop,
@@ -46,6 +49,7 @@ pub struct OsHost<
     channel: Channel<A>,
     paths: Paths<A>,
     line_faults: LineFaults<A>,
+    strict: bool,
     pauses: Pauses,
     clock: SteadyClock,
     saying: Trouble,
@@ -87,6 +91,7 @@ impl<R: Processes + Files<File = File> + Clock + Print + Eprint + Drop, A: Alloc
             channel: Channel::new(alloc, program, channel)?,
             paths: Paths::new(alloc, program, inittab, folder, state)?,
             line_faults: LineFaults::new(alloc),
+            strict: false,
             pauses: Pauses::of_a_second(),
             clock: SteadyClock::new(program),
             saying: Trouble::new(program, "write", "written"),
@@ -105,13 +110,20 @@ impl<R: Processes + Files<File = File> + Clock + Print + Eprint + Drop, A: Alloc
         Ok(self)
     }
 
-    /// The host that tells on standard error of each birth, each end and each signal of a child, and of each file in
-    /// the inittab's folder that it passes over.
+    /// The host that tells on standard error of each birth, each end and each signal of a child, and once of each file
+    /// that comes to stand in the inittab's folder and is passed over; those that stand there now are taken for told.
     pub fn verbose(mut self) -> OsHost<R, A>
         ensures { result.faults ≡ self.faults }
     {
-        self.children.tell_all();
-        self.paths.tell_all();
+        self.tell_all();
+        self
+    }
+
+    /// The host that doesn't give an inittab of which a line is faulty, whose faults are printed each time.
+    pub fn strict(mut self) -> OsHost<R, A>
+        ensures { result.faults ≡ self.faults }
+    {
+        self.strict = true;
         self
     }
 
@@ -149,16 +161,58 @@ impl<R: Processes + Files<File = File> + Clock + Print + Eprint + Drop, A: Alloc
     R,
     A,
 > {
-    /// Prints the faults of the lines of an inittab's parts that were read again, and gives whether it could. What
-    /// fails is told.
-    fn tell_line_faults<B: Allocator>(&mut self, parts: &[Part<B>]) -> bool
+    fn tell_all(&mut self)
         ensures { self.new.faults ≡ self.old.faults }
     {
-        let told = self.line_faults.tell(&self.rt, self.paths.inittab(), parts);
+        self.children.tell_all();
+        self.paths.tell_all(&self.rt);
+    }
+
+    /// Prints the faults of the lines of an inittab's parts that were read again, and notes which children they cost.
+    /// An error is that they could not be printed, or that they are no inittab for a host that is strict. What fails is
+    /// told.
+    fn hear_parts<B: Allocator>(&mut self, parts: &[Part<B>]) -> Result<(), HostFault>
+        ensures { self.new.faults ≡ self.old.faults }
+    {
+        match read_parts(self.alloc, parts) {
+            Ok((table, faults)) => self.hear_table(parts, &table, &faults),
+            Err(TableFault::TooLong) => {
+                say_too_long(&self.rt, self.paths.inittab());
+                Ok(())
+            }
+            Err(TableFault::Parts) => {
+                say_too_many(&self.rt, self.paths.inittab());
+                Ok(())
+            }
+            Err(TableFault::Memory) => {
+                let none: io::Result<usize> = Err(io::Error::from(ErrorKind::OutOfMemory));
+                self.saying.tell(&self.rt, "standard output", &none);
+                Err(HostFault::Memory)
+            }
+        }
+    }
+
+    /// The same of parts that were read as this table, with these faults.
+    fn hear_table<B: Allocator>(
+        &mut self,
+        parts: &[Part<B>],
+        table: &Table<A>,
+        faults: &[PartFault],
+    ) -> Result<(), HostFault>
+        ensures { self.new.faults ≡ self.old.faults }
+    {
+        let told = self.line_faults.print(&self.rt, parts, faults);
         if !matches!(told, Ok(0)) {
             self.saying.tell(&self.rt, "standard output", &told);
         }
-        told.is_ok()
+        if self.strict && !faults.is_empty() {
+            self.line_faults.forget();
+            say_refused(&self.rt, self.paths.inittab());
+            return Err(HostFault::Device);
+        }
+        self.children.note_lines(table);
+        host_result(told)?;
+        Ok(())
     }
 }
 
@@ -260,12 +314,15 @@ impl<R: Processes + Files<File = File> + Clock + Print + Eprint + Drop, A: Alloc
 
     fn read_tables<B: Allocator + Copy>(&mut self, alloc: B) -> Result<Vec<Part<B>, B>, HostFault> {
         let parts = host_result(self.paths.read_tables(&self.rt, alloc));
-        let told = match &parts {
-            Ok(parts) => self.tell_line_faults(parts),
-            Err(_) => true,
+        let heard = match &parts {
+            Ok(parts) => self.hear_parts(parts),
+            Err(fault) => Err(*fault),
         };
-        self.faults = counted(self.faults, parts.is_err() || !told);
-        parts
+        self.faults = counted(self.faults, heard.is_err());
+        match heard {
+            Err(fault) if self.strict => Err(fault),
+            _ => parts,
+        }
     }
 
     fn carry<B: Allocator + Copy>(
@@ -284,8 +341,10 @@ impl<R: Processes + Files<File = File> + Clock + Print + Eprint + Drop, A: Alloc
             self.saying.tell(&self.rt, "standard output", &said);
         }
         self.faults = counted(self.faults, said.is_err());
-        if let Happening::Hold(id) = happening {
-            self.children.say_last_end(&self.rt, id);
+        match happening {
+            Happening::Enter(stage, _) => self.children.enter(*stage),
+            Happening::Hold(id) => self.children.say_last_end(&self.rt, id),
+            _ => {}
         }
     }
 

@@ -1,6 +1,6 @@
 //! The files that a host reads and writes whole.
 
-use crate::folders::{FolderFault, with_folder};
+use crate::folders::{FolderFault, PassedNames, with_folder};
 use crate::troubles::Trouble;
 use init_words::{Memory, Part};
 use program_io::{read_file, refuse_special, write_text};
@@ -18,8 +18,7 @@ pub(crate) struct Paths<A: Allocator> {
     /// The folder of the inittab's further files, where it has one.
     folder: Option<String<A>>,
     listing: Trouble,
-    /// The files in the folder that are passed over are told.
-    verbose: bool,
+    passed: PassedNames<A>,
     state: String<A>,
     /// Where a text of the state is written first.
     beside: String<A>,
@@ -40,7 +39,7 @@ impl<A: Allocator + Copy> Paths<A> {
             reading: Trouble::new(program, "read", "read"),
             folder: path_copy(alloc, folder)?,
             listing: Trouble::new(program, "read", "read"),
-            verbose: false,
+            passed: PassedNames::new(alloc, false),
             state: String::from_str(alloc, state)?,
             beside: format!(in alloc; "{state}.new")?,
             carrying: Trouble::new(program, "write and read back", "written and read back"),
@@ -48,15 +47,17 @@ impl<A: Allocator + Copy> Paths<A> {
     }
 }
 
-impl<A: Allocator> Paths<A> {
+impl<A: Allocator + Copy> Paths<A> {
     /// The path of the inittab.
     pub(crate) fn inittab(&self) -> &str {
         self.inittab.as_str()
     }
 
-    /// From now on the files in the folder that are passed over are told.
-    pub(crate) fn tell_all(&mut self) {
-        self.verbose = true;
+    /// From now on files that come to stand in the folder and are passed over are told.
+    pub(crate) fn tell_all<R: Files>(&mut self, rt: &R) {
+        if let Some(folder) = path_in(&self.folder) {
+            self.passed.tell_further(rt, folder);
+        }
     }
 
     /// The parts of the inittab: its file, and those of its folder, where it has one.
@@ -79,7 +80,7 @@ impl<A: Allocator> Paths<A> {
         own: Part<B>,
     ) -> io::Result<Vec<Part<B>, B>> {
         let folder = path_in(&self.folder);
-        let outcome = with_folder(rt, alloc, own, folder, self.verbose);
+        let outcome = with_folder(rt, alloc, own, folder, &mut self.passed);
         match outcome {
             Ok(parts) => {
                 self.listing.tell_over(rt, folder.unwrap_or(""));

@@ -70,7 +70,32 @@ const ROWS: &[Row] = &[
         status: 5,
         calls: (2, 1, 2),
     },
-    // A run that is refused asks nothing.
+    // A strict run takes an inittab without faults.
+    Row {
+        inittab: b"o:3:once:x\n",
+        born: None,
+        ended: None,
+        line: "run --inittab tab --initctl host-ctl --level 3 --turns 3 --strict",
+        status: 3,
+        calls: (3, 1, 3),
+    },
+    // A run that is refused asks nothing: a strict one for a faulty line, one that is to have the result of no entry.
+    Row {
+        inittab: b"o:3:once:x\np:3:onse:x\n",
+        born: None,
+        ended: None,
+        line: "run --inittab tab --initctl host-ctl --level 3 --turns 3 --strict",
+        status: 1,
+        calls: (0, 0, 0),
+    },
+    Row {
+        inittab: b"o:3:once:x\n",
+        born: None,
+        ended: None,
+        line: "run --inittab tab --initctl host-ctl --level 3 --turns 3 --result p",
+        status: 1,
+        calls: (0, 0, 0),
+    },
     Row {
         inittab: b"",
         born: None,

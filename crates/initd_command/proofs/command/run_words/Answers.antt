@@ -2,7 +2,7 @@ use Rattle.std.proofs.Common.{◌≡◌, refl, sym, subst, rules, List, ℕ, Opt
 use Rattle.std.proofs.KnownBytes.{Keeps-refl}
 use Rattle.path_texts.specs.Known.{KnownTexts}
 use Rattle.initd_options.specs.CommandLine.{Said, judges, read_of, simulation_of, simulates, runs, version}
-use Rattle.initd_command.specs.Endings.{Ending, busy, done, lawful, no_memory, shared, stopped, too_many, torn, turned, uncreated, unflushed, unlawful, unlocked, unread, untold, unversioned, unwritten, usage}
+use Rattle.initd_command.specs.Endings.{Ending, busy, done, flawed, lawful, no_memory, shared, stopped, too_many, torn, turned, uncreated, unflushed, unlawful, unlisted, unlocked, unread, untold, unversioned, unwritten, usage}
 use Rattle.initd_options.specs.Options.{run_of}
 use Rattle.std.specs.Io.KnownBytes.{Keeps}
 use Rattle.trace_verdict.specs.declared.findings.Finding.{Finding}
@@ -33,13 +33,15 @@ ends_by text_at words said is done old new ends = (said, is, ends)
 ends_by text_at words version is (usage reason) old new ends = absurd ends
 ends_by text_at words (simulates run) is (usage reason) old new ends = absurd ends.4
 ends_by text_at words (judges path) is (usage reason) old new ends = absurd (no_usage ends.2.0 (ends.2.1, ends.2.2) reason old new ends.2.4)
-ends_by text_at words (runs service) is (usage reason) old new ends = let wrong = ends.2.1.1 in absurd (cc)
+ends_by text_at words (runs service) is (usage reason) old new ends = let wrong = ends.2.2.1 in absurd (cc)
 ends_by text_at words version is no_memory old new ends = absurd ends
 ends_by text_at words (runs service) is no_memory old new ends = ends
 ends_by text_at words (simulates run) is no_memory old new ends = absurd ends.4
 ends_by text_at words (judges path) is no_memory old new ends = no_room ends.2.0 (ends.2.1, ends.2.2) old new ends.2.4
 ends_by text_at words said is (unread path why) old new ends = (said, is, ends)
 ends_by text_at words said is too_many old new ends = (said, is, ends)
+ends_by text_at words said is (flawed told) old new ends = (said, is, ends)
+ends_by text_at words said is (unlisted id) old new ends = (said, is, ends)
 ends_by text_at words said is (stopped script f) old new ends = (said, is, ends)
 ends_by text_at words said is unflushed old new ends = (said, is, ends)
 ends_by text_at words said is (lawful left) old new ends = (said, is, ends)

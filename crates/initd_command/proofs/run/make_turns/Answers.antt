@@ -3,7 +3,7 @@ use Rattle.run_notes.specs.Notes.{notes_state}
 use Rattle.judged_log.specs.Judgements.{Finds, JudgedTrace}
 use Rattle.initd_options.specs.Options.{run_of}
 use Rattle.waiting_lines.specs.Lines.{waiting_text}
-use Rattle.initd_command.specs.Services.{IsServed, end_of, judgement_for, noted_of}
+use Rattle.initd_command.specs.Services.{IsServed, end_of, noted_of}
 use Rattle.child_host.proofs.Record.{Since-map}
 use Rattle.host_trace.specs.Turns.{AreTurns}
 use Rattle.supervisor.specs.Opening.{IsOpening}

@@ -1,9 +1,9 @@
 use Rattle.simulator.specs.declared.running.SimFault.TheVariants as fault
 use Rattle.std.proofs.Common.{[], ap, subst, sym, ◌∙◌, string_bytes}
 use Rattle.initd_options.specs.Options.{run_of}
-use Rattle.initd_command.specs.Endings.{busy, no_memory, shared, stopped, too_many, uncreated, unlocked, unread}
+use Rattle.initd_command.specs.Endings.{busy, flawed, no_memory, shared, stopped, too_many, uncreated, unlisted, unlocked, unread}
 use Rattle.initd_command.specs.Services.{IsOfFault}
-use Rattle.initd_command.proofs.Ended.{of_busy, of_channel, of_inittab, of_long, of_many, of_memory, of_trace}
+use Rattle.initd_command.proofs.Ended.{of_busy, of_channel, of_inittab, of_long, of_many, of_memory, of_trace, of_unlisted}
 use Rattle.initd_command.proofs.run.report_run_fault.Goals as goal
 
 pub returns-in-Busy : goal.returns-in-Busy
@@ -70,6 +70,23 @@ returns-in-TooLong g c = (
   c.report_fault.ensures.status,
   of_long (run_of c.args.said.now) c.args.fault.now c.in-TooLong.is,
   c.report_fault.ensures.reported,
+)
+
+pub returns-in-Flawed : goal.returns-in-Flawed
+returns-in-Flawed g c =
+    let told = c.deref.result.now in (
+      flawed told,
+      c.report_flawed.ensures.status,
+      subst (λ f. IsOfFault (run_of c.args.said.now) f (flawed told)) (sym c.in-Flawed.is) (ap flawed c.deref.ensures.value),
+      c.report_flawed.ensures.reported,
+    )
+
+pub returns-in-Unlisted : goal.returns-in-Unlisted
+returns-in-Unlisted g c = (
+  unlisted c.in-Unlisted.id,
+  c.report_unlisted.ensures.status,
+  of_unlisted (run_of c.args.said.now) c.args.fault.now c.in-Unlisted.id c.in-Unlisted.is,
+  c.report_unlisted.ensures.reported,
 )
 
 pub returns-in-Trace : goal.returns-in-Trace

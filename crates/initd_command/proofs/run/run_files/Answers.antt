@@ -10,11 +10,11 @@ returns-in-Ok g c =
     let text_at = g.T.Texts.text_at c.args.texts.now in
     let service = run_of c.args.said.now in
     let (ending, status, told, reported, ran) = c.make_run.ensures in
-    let (parts, are, read, (lines, led, opens)) = c.in-Ok.ensures.ok in (
+    let (parts, are, read, (lines, led, taken, opens)) = c.in-Ok.ensures.ok in (
       ending,
       status,
       opened_runs text_at service c.in-Ok.run'.is_unled c.in-Ok.run'.faults.items ending
-          (g.W.Write.contents c.args.out.now) (g.W.Write.contents c.make_run.new.out) (parts, are, read, (lines, led)) told,
+          (g.W.Write.contents c.args.out.now) (g.W.Write.contents c.make_run.new.out) (parts, are, read, (lines, led, taken)) told,
       reported,
       subst (λ now. RanBy text_at service ending now (g.S.Hosts.told c.make_run.new.hosts)) c.in-Ok.ensures.host
           (ran_by text_at service c.in-Ok.run'.opening ending _ _ (parts, are, read, opens) ran),

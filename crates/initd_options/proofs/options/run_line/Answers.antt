@@ -23,4 +23,5 @@ returns c =
     let logs = adds_line c.in_ok-line-12.line (value_rule (codes "logs")) _ verbose c.in_ok-line-13.line c.in_ok-line-13.ensures in
     let inittab_dir = adds_line c.in_ok-line-13.line (value_rule (codes "inittab-dir")) _ logs c.in_ok-line-14.line c.in_ok-line-14.ensures in
     let brief = adds_line c.in_ok-line-14.line (switch_rule (codes "brief")) _ inittab_dir c.in_ok-line-15.line c.in_ok-line-15.ensures in
-    IfOk-weaker c.with_switch-6.result _ _ (adds_line c.in_ok-line-15.line (switch_rule (codes "judge")) _ brief) c.with_switch-6.ensures
+    let judge = adds_line c.in_ok-line-15.line (switch_rule (codes "judge")) _ brief c.in_ok-line-16.line c.in_ok-line-16.ensures in
+    IfOk-weaker c.with_switch-7.result _ _ (adds_line c.in_ok-line-16.line (switch_rule (codes "strict")) _ judge) c.with_switch-7.ensures
