@@ -43,6 +43,10 @@ stop_links level plan = map (λ s. link_of (byte "K") s.stop s.name) (filter (λ
 abbrev pub start_links : Level → List PlannedText → List (List ℕ)
 start_links level plan = map (λ s. link_of (byte "S") s.start s.name) (filter (λ s. has_level level s.starts) plan)
 
+-- the links of a level's folder: those that stop, then those that start, each set in byte order
+abbrev pub links_at : List PlannedText → Level → List (List ℕ)
+links_at plan level = in_byte_order (stop_links level plan) ++ in_byte_order (start_links level plan)
+
 -- a link's line: where it stands, and the script that it names
 abbrev pub link_line : Level → List ℕ → List ℕ
 link_line level link =

@@ -1,7 +1,7 @@
 //! The links of a plan, a runlevel's folder a line.
 
 ghost use Rattle.std.specs.Prelude.{◌≡◌, ◌++◌, map, flat_map, [], ◌∷◌, IfOk, OnOk};
-ghost use Rattle.rc_links.specs.Links.{AddsLinks, has_level, in_byte_order, level_text, link_line, link_of, linked_name, plan_text, start_links, stop_links};
+ghost use Rattle.rc_links.specs.Links.{AddsLinks, has_level, in_byte_order, level_text, link_line, link_of, linked_name, links_at, plan_text, start_links, stop_links};
 
 use crate::plans::{Plan, Planned};
 use init_words::{Level, Memory};
@@ -184,6 +184,19 @@ fn add_lines<A: Allocator>(
     Ok(())
 }
 
+/// Moves links to the end of others, in byte order.
+fn add_sorted<A: Allocator>(
+    links: &mut Vec<Vec<u8, A>, A>,
+    mut more: Vec<Vec<u8, A>, A>,
+) -> Result<(), Memory>
+    ensures { OnOk result (AddsLinks links.old.items links.new.items
+        (in_byte_order (map (λ link. link.items) more.items))) }
+{
+    sort_links(&mut more);
+    links.append(&mut more)?;
+    Ok(())
+}
+
 /// Appends the lines of a runlevel: the links that stop, then those that start.
 fn add_level<A: Allocator + Copy>(
     alloc: A,
@@ -199,6 +212,29 @@ fn add_level<A: Allocator + Copy>(
 }
 
 impl<A: Allocator + Copy> Plan<A> {
+    /// The links of a runlevel's folder: those that stop, then those that start, each set in byte order.
+    pub fn links_at(&self, alloc: A, level: Level) -> Result<Vec<Vec<u8, A>, A>, Memory>
+        ensures { IfOk result (λ links.
+            map (λ link. link.items) links.items ≡ links_at self.now level) }
+    {
+        let mut links = Vec::new(alloc);
+        add_sorted(&mut links, stop_links(alloc, self.scripts(), level)?)?;
+        add_sorted(&mut links, start_links(alloc, self.scripts(), level)?)?;
+        Ok(links)
+    }
+
+    /// The names of the scripts, in the order in which they were given.
+    pub fn names(&self, alloc: A) -> Result<Vec<Vec<u8, A>, A>, Memory>
+        ensures { IfOk result (λ names.
+            map (λ name. name.items) names.items ≡ map (λ s. s.name) self.now) }
+    {
+        let mut names = Vec::new(alloc);
+        for script in self.scripts() {
+            names.push(Vec::from_slice(alloc, script.name().as_bytes())?)?;
+        }
+        Ok(names)
+    }
+
     /// The links of all runlevels, one a line: for each of 0 to 9 and S those that stop, then those that start, each
     /// set in byte order.
     pub fn print(&self, alloc: A) -> Result<Vec<u8, A>, Memory>

@@ -1,4 +1,8 @@
+pub mod KeptLemmas
 pub mod PathLemmas
 pub mod ReadingLemmas
+pub mod RunLemmas
+pub mod SettledLemmas
 pub mod SkippingLemmas
 pub mod VersionWords
+pub mod WritingLemmas

@@ -1,4 +1,9 @@
 pub mod Command
 pub mod Files
+pub mod Folders
+pub mod KeptLinks
+pub mod KeptText
 pub mod Reading
+pub mod Said
 pub mod Skipping
+pub mod Writing

@@ -1,6 +1,6 @@
 //! The command line of rclinks, and what it prints.
 
-ghost use Rattle.std.specs.Prelude.{◌≡◌, ◌⊎◌, true, false, codes, map, string_bytes};
+ghost use Rattle.std.specs.Prelude.{◌≡◌, ◌⊎◌, true, false, codes, map, string_bytes, IfOk, IfErr, Some, None};
 ghost use Rattle.std.specs.List.{list_any};
 ghost use Rattle.std.specs.Io.KnownBytes.{Appends};
 ghost use Rattle.program_io.specs.Writing.{AppendsPrefix};
@@ -8,13 +8,17 @@ ghost use Rattle.program_version.specs.VersionLine.{PrintsVersion};
 ghost use Rattle.command_words.specs.CommandLines.{asks_version};
 ghost use Rattle.command_words.specs.Faults.{usage_report};
 ghost use Rattle.rc_links.specs.Links.{plan_text};
+ghost use Rattle.rc_links.specs.Plans.{IsPlan};
+ghost use Rattle.rclinks_command.specs.Said.{line_said};
+ghost use Rattle.rclinks_command.specs.Command.{Does, DoesBy, DoesPart, HasNoPlan, IsRefusedFor, IsRefusedRun, PartBy, ScriptsOf, TakenBy, is_help, line_from, line_of, plan_status, usage_reason, wants_usage, writes};
 ghost use Rattle.rclinks_command.specs.Skipping.{LeavesSome};
-ghost use Rattle.rclinks_command.specs.Command.{Prints, PrintsPart, IsRefusedFor, IsRefusedRun, HasNoPlan, PrintsLine, PrintsLinePart, PrintsPlan, PrintsPlanPart, is_help, line_of, plan_status, usage_reason, wants_usage};
 
 use crate::files::FileFault;
+use crate::folders::LinkFolders;
 use crate::reading::read_files;
 use crate::skipping::plan_rest;
 use crate::telling::tell_system_names;
+use crate::writing::{preview, write_folders};
 use command_words::{is_version, report_refused_words};
 use path_texts::Texts;
 use program_io::{DEVICE_FAULT, DONE, REFUSED, report_no_memory, write_text};
@@ -24,9 +28,11 @@ use std::alloc::Global;
 use std::io::Write;
 
 /// What is told of words that are no command line, behind a line that says why, and where help is asked for.
-pub const USAGE: &str = "usage: rclinks [--skip] FILE..
+pub const USAGE: &str = "usage: rclinks [--skip] [--write DIR] [-n] FILE..
        rclinks --version
-  --skip  leave out the scripts that can't be read or planned, and plan the others
+  --skip       leave out the scripts that can't be read or planned, and plan the others
+  --write DIR  make the links in DIR, in rc0.d to rc9.d and rcS.d, and take away the scripts' other numbered links
+  -n           print what --write would do, and change nothing
 ";
 
 /// What words ask for.
@@ -34,23 +40,64 @@ pub const USAGE: &str = "usage: rclinks [--skip] FILE..
 struct Line<'w> {
     /// A script that can't be read or planned is left out.
     skips: bool,
+    /// Changes of folders are printed, and not made.
+    dry: bool,
+    /// The directory of the folders that are written.
+    dir: Option<&'w str>,
     /// The paths of the scripts.
     files: &'w [String],
 }
 
-/// What words ask for: options in front, and then files.
-fn line_of(words: &[String]) -> Line<'_>
-    ensures skips { result.skips ≡ (line_of (map string_bytes words.now)).skips }
-    ensures files { map string_bytes result.files.now
-        ≡ (line_of (map string_bytes words.now)).files }
+/// What more words ask for: options, and then files.
+fn line_from<'w>(line: Line<'w>, words: &'w [String]) -> Line<'w>
+    ensures { line_said result ≡ line_from false (line_said line.entry) (map string_bytes words.entry.now) }
 {
     match words {
-        [first, files @ ..] if first.as_str() == "--skip" => Line { skips: true, files },
-        _ => Line {
-            skips: false,
+        [] => Line {
             files: words,
+            ..line
+        },
+        [word, rest @ ..] if word.as_str() == "--skip" => {
+            line_from(
+                Line {
+                    skips: true,
+                    ..line
+                },
+                rest,
+            )
+        }
+        [word, rest @ ..] if word.as_str() == "-n" => line_from(Line { dry: true, ..line }, rest),
+        [word, dir, rest @ ..] if word.as_str() == "--write" => line_from(
+            Line {
+                dir: Some(dir.as_str()),
+                ..line
+            },
+            rest,
+        ),
+        [word, rest @ ..] if word.as_str() == "--write" => Line {
+            files: rest,
+            ..line
+        },
+        _ => Line {
+            files: words,
+            ..line
         },
     }
+}
+
+/// What words ask for.
+fn line_of(words: &[String]) -> Line<'_>
+    ensures { line_said result ≡ line_of (map string_bytes words.now) }
+{
+    line_from(
+        Line {
+            skips: false,
+            dry: false,
+            dir: None,
+            files: &[],
+        },
+        words,
+    )
 }
 
 /// The exit status of a fault of the plan.
@@ -102,51 +149,41 @@ fn tell_faults<'w, E: Write>(
     let _ = plan_rest(alloc, scripts, paths, false, err);
 }
 
-/// Prints the links of a plan of the scripts on `out`, and gives the exit status: 0, or 1 where they have no plan, 4
-/// where the output fails or memory runs out. All faults are told on `err`.
-fn print_all<'w, W: Write, E: Write>(
+/// The plan of the scripts; the exit status where they have none. All faults are told on `err`.
+fn plan_all<'w, E: Write>(
     alloc: Global,
     scripts: &mut Vec<Script>,
     paths: &mut Vec<&'w str>,
-    out: &mut W,
     err: &mut E,
-) -> u8
-    ensures statuses { (result ≡ DONE) ⊎ (result ≡ REFUSED) ⊎ (result ≡ DEVICE_FAULT) }
-    ensures done { result ≡ DONE
-        → PrintsPlan scripts.old.items (W.contents out.old) (W.contents out.new) }
-    ensures refused { result ≡ REFUSED → HasNoPlan scripts.old.items × (out.new ≡ out.old) }
-    ensures part { (out.new ≡ out.old) ⊎ PrintsPlanPart scripts.old.items (W.contents out.old)
-        (W.contents out.new) }
+) -> Result<Plan, u8>
+    ensures planned { IfOk result (IsPlan scripts.old.items) }
+    ensures refused { IfErr result (λ status. (status ≡ DEVICE_FAULT)
+        ⊎ (status ≡ REFUSED) × HasNoPlan scripts.old.items) }
 {
     match plan(alloc, scripts.as_slice()) {
-        Ok(plan) => print_links(alloc, &plan, out, err),
+        Ok(plan) => Ok(plan),
         Err(fault) => {
             tell_faults(alloc, scripts, paths, err);
-            status_of(&fault)
+            Err(status_of(&fault))
         }
     }
 }
 
-/// Prints the links of a plan of the scripts that are left where those at fault are left out, and gives the exit
-/// status, as `print_all` does.
-fn print_rest<'w, W: Write, E: Write>(
+/// The plan of the scripts that are left where those at fault are left out; the exit status where they have none.
+fn plan_left<'w, E: Write>(
     alloc: Global,
     scripts: &mut Vec<Script>,
     paths: &mut Vec<&'w str>,
-    out: &mut W,
     err: &mut E,
-) -> u8
-    ensures statuses { (result ≡ DONE) ⊎ (result ≡ REFUSED) ⊎ (result ≡ DEVICE_FAULT) }
+) -> Result<Plan, u8>
     ensures left { LeavesSome scripts.old.items scripts.new.items }
-    ensures done { result ≡ DONE
-        → PrintsPlan scripts.new.items (W.contents out.old) (W.contents out.new) }
-    ensures refused { result ≡ REFUSED → HasNoPlan scripts.new.items × (out.new ≡ out.old) }
-    ensures part { (out.new ≡ out.old) ⊎ PrintsPlanPart scripts.new.items (W.contents out.old)
-        (W.contents out.new) }
+    ensures planned { IfOk result (IsPlan scripts.new.items) }
+    ensures refused { IfErr result (λ status. (status ≡ DEVICE_FAULT)
+        ⊎ (status ≡ REFUSED) × HasNoPlan scripts.new.items) }
 {
     match plan_rest(alloc, scripts, paths, true, err) {
-        Ok(plan) => print_links(alloc, &plan, out, err),
-        Err(fault) => status_of(&fault),
+        Ok(plan) => Ok(plan),
+        Err(fault) => Err(status_of(&fault)),
     }
 }
 
@@ -193,21 +230,19 @@ fn report_words<E: Write>(words: &[String], err: &mut E) -> u8
     report_refused_words("rclinks", reason, USAGE, err)
 }
 
-/// Prints the links of the files, and gives the exit status.
-fn run_line<T: Texts, W: Write, E: Write>(
+/// The plan of the files' scripts; the exit status where a file or the plan is refused, a file can't be read or memory
+/// runs out, which is told.
+fn plan_of<T: Texts, E: Write>(
     texts: &T,
     alloc: Global,
     line: &Line,
-    out: &mut W,
     err: &mut E,
-) -> u8
-    ensures statuses { (result ≡ DONE) ⊎ (result ≡ REFUSED) ⊎ (result ≡ DEVICE_FAULT) }
-    ensures done { result ≡ DONE → Prints (T.text_at texts.now) line.now.skips
-        (map string_bytes line.now.files.now) (W.contents out.old) (W.contents out.new) }
-    ensures refused { result ≡ REFUSED → IsRefusedFor (T.text_at texts.now) line.now.skips
-        (map string_bytes line.now.files.now) × (out.new ≡ out.old) }
-    ensures part { (out.new ≡ out.old) ⊎ PrintsPart (T.text_at texts.now) line.now.skips
-        (map string_bytes line.now.files.now) (W.contents out.old) (W.contents out.new) }
+) -> Result<Plan, u8>
+    ensures planned { IfOk result (λ plan. ScriptsOf (T.text_at texts.now) line.now.skips
+        (map string_bytes line.now.files.now) (λ scripts. IsPlan scripts plan)) }
+    ensures refused { IfErr result (λ status. (status ≡ DEVICE_FAULT)
+        ⊎ (status ≡ REFUSED) × IsRefusedFor (T.text_at texts.now) line.now.skips
+        (map string_bytes line.now.files.now)) }
 {
     let mut scripts = Vec::new(alloc);
     let mut paths = Vec::new(alloc);
@@ -221,29 +256,82 @@ fn run_line<T: Texts, W: Write, E: Write>(
         err,
     );
     let Ok(faults) = read else {
-        return report_no_memory("rclinks", err);
+        return Err(report_no_memory("rclinks", err));
     };
     tell_system_names(scripts.as_slice(), paths.as_slice(), err);
     if line.skips {
-        return print_rest(alloc, &mut scripts, &mut paths, out, err);
+        return plan_left(alloc, &mut scripts, &mut paths, err);
     }
     match faults.first() {
-        None => print_all(alloc, &mut scripts, &mut paths, out, err),
+        None => plan_all(alloc, &mut scripts, &mut paths, err),
         Some(fault) => {
             tell_faults(alloc, &mut scripts, &mut paths, err);
-            fault.status()
+            Err(fault.status())
         }
     }
 }
 
-/// Runs rclinks on its words, the paths of init scripts, and gives its exit status: 0 where their links were printed on
-/// `out`, or the version, where the one word is `--version`; 1 where there are no words or one is `--help` or `-h`, or
-/// where a script's name or header or the plan is refused, 4 where a file can't be read, the output fails or memory
-/// runs out. All faults are told on `err`, and the status is that of the first. With `--skip` in front a script that
-/// can't be read or planned is left out, and the links of the others are printed. What is odd in a header is told on
-/// `err` too, whatever the status.
-pub fn run_words<T: Texts, W: Write, E: Write>(
+/// Prints the changes by which the folders of a directory hold a plan's links, and gives the exit status.
+fn print_changes<F: LinkFolders, W: Write, E: Write>(
+    folders: &F,
+    alloc: Global,
+    dir: &str,
+    plan: &Plan,
+    out: &mut W,
+    err: &mut E,
+) -> u8
+    ensures statuses { (result ≡ DONE) ⊎ (result ≡ REFUSED) ⊎ (result ≡ DEVICE_FAULT) }
+    ensures done { result ≡ DONE → DoesBy (Some dir.now) true (F.held folders.now)
+        (F.held folders.now) (W.contents out.old) (W.contents out.new) plan.now }
+    ensures refused { result ≡ REFUSED
+        → TakenBy (Some dir.now) (F.held folders.now) plan.now × (out.new ≡ out.old) }
+    ensures part { (out.new ≡ out.old) ⊎ PartBy (Some dir.now) true (F.held folders.now)
+        (F.held folders.now) (W.contents out.old) (W.contents out.new) plan.now }
+{
+    match preview(folders, alloc, dir, plan, err) {
+        Ok(text) => write_links(text.as_slice(), out, err),
+        Err(status) => status,
+    }
+}
+
+/// Does by a plan what words ask for, and gives the exit status.
+fn do_by<F: LinkFolders, W: Write, E: Write>(
+    folders: &mut F,
+    alloc: Global,
+    line: &Line,
+    plan: &Plan,
+    out: &mut W,
+    err: &mut E,
+) -> u8
+    ensures statuses { (result ≡ DONE) ⊎ (result ≡ REFUSED) ⊎ (result ≡ DEVICE_FAULT) }
+    ensures done { result ≡ DONE → DoesBy (line_said line.now).dir line.now.dry
+        (F.held folders.old) (F.held folders.new) (W.contents out.old) (W.contents out.new) plan.now }
+    ensures refused { result ≡ REFUSED → TakenBy (line_said line.now).dir (F.held folders.old)
+        plan.now × (out.new ≡ out.old) × (folders.new ≡ folders.old) }
+    ensures kept { writes (line_said line.now) ≡ false → folders.new ≡ folders.old }
+    ensures silent { writes (line_said line.now) ≡ true → out.new ≡ out.old }
+    ensures part { (out.new ≡ out.old) × (folders.new ≡ folders.old)
+        ⊎ PartBy (line_said line.now).dir line.now.dry (F.held folders.old) (F.held folders.new)
+        (W.contents out.old) (W.contents out.new) plan.now }
+{
+    match line.dir {
+        None => print_links(alloc, plan, out, err),
+        Some(dir) if line.dry => print_changes(folders, alloc, dir, plan, out, err),
+        Some(dir) => write_folders(folders, alloc, dir, plan, err),
+    }
+}
+
+/// Runs rclinks on its words, options and then the paths of init scripts, and gives its exit status: 0 where their
+/// links were printed on `out`, or the version, where the one word is `--version`; 1 where there are no files or one is
+/// `--help` or `-h`, where a script's name or header or the plan is refused, or where a name of a link is taken; 4 where
+/// a file can't be read, a folder can't be listed or changed, the output fails or memory runs out. All faults are told
+/// on `err`, and the status is that of the first. With `--skip` a script that can't be read or planned is left out. With
+/// `--write DIR` the links are not printed but made in the folders of a directory, and numbered links of the scripts
+/// that the plan doesn't have are taken away; with `-n` besides what would be changed is printed, and nothing is
+/// changed. What is odd in a header is told on `err` too, whatever the status.
+pub fn run_words<T: Texts, F: LinkFolders, W: Write, E: Write>(
     texts: &T,
+    folders: &mut F,
     alloc: Global,
     words: &[String],
     out: &mut W,
@@ -255,18 +343,24 @@ pub fn run_words<T: Texts, W: Write, E: Write>(
         (codes "rclinks") (usage_reason (line_of (map string_bytes words.now)).files) USAGE.now) }
     ensures version { asks_version (map string_bytes words.now) ≡ true
         → PrintsVersion (codes "rclinks") result (W.contents out.old) (W.contents out.new) }
-    // The links of all of the files were written, or of those that are not left out.
+    // The links of all of the files, or of those that are not left out, were printed or made, or the changes printed.
     ensures done { asks_version (map string_bytes words.now) ≡ false → result ≡ DONE →
-        PrintsLine (T.text_at texts.now) (line_of (map string_bytes words.now)) (W.contents out.old)
-        (W.contents out.new) }
-    // The usage was wanted, a file was refused, or the scripts have no plan.
-    ensures refused { result ≡ REFUSED
-        → IsRefusedRun (T.text_at texts.now) (line_of (map string_bytes words.now)) }
-    ensures quiet { result ≡ REFUSED → out.new ≡ out.old }
-    // Nothing was written, or a prefix of the links, which may be the whole.
-    ensures part { asks_version (map string_bytes words.now) ≡ false → (out.new ≡ out.old)
-        ⊎ PrintsLinePart (T.text_at texts.now) (line_of (map string_bytes words.now))
-        (W.contents out.old) (W.contents out.new) }
+        Does (T.text_at texts.now) (line_of (map string_bytes words.now)) (F.held folders.old)
+        (F.held folders.new) (W.contents out.old) (W.contents out.new) }
+    // The usage was wanted, a file was refused, the scripts have no plan, or a name of a link is taken.
+    ensures refused { result ≡ REFUSED → IsRefusedRun (T.text_at texts.now)
+        (line_of (map string_bytes words.now)) (F.held folders.old) }
+    ensures quiet { result ≡ REFUSED → (out.new ≡ out.old) × (folders.new ≡ folders.old) }
+    // Nothing is changed but by `--write` without `-n`, and then nothing is printed.
+    ensures kept { writes (line_of (map string_bytes words.now)) ≡ false
+        → folders.new ≡ folders.old }
+    ensures silent { asks_version (map string_bytes words.now) ≡ false
+        → writes (line_of (map string_bytes words.now)) ≡ true → out.new ≡ out.old }
+    // Nothing was written, or a prefix of the text, which may be the whole, or the first of the changes were made.
+    ensures part { asks_version (map string_bytes words.now) ≡ false
+        → (out.new ≡ out.old) × (folders.new ≡ folders.old)
+        ⊎ DoesPart (T.text_at texts.now) (line_of (map string_bytes words.now)) (F.held folders.old)
+        (F.held folders.new) (W.contents out.old) (W.contents out.new) }
 {
     if is_version(words) {
         return print_version("rclinks", out, err);
@@ -275,5 +369,8 @@ pub fn run_words<T: Texts, W: Write, E: Write>(
     if wants_usage(line.files) {
         return report_words(line.files, err);
     }
-    run_line(texts, alloc, &line, out, err)
+    match plan_of(texts, alloc, &line, err) {
+        Ok(plan) => do_by(folders, alloc, &line, &plan, out, err),
+        Err(status) => status,
+    }
 }

@@ -5,10 +5,16 @@
 mod command;
 mod faulty;
 mod files;
+mod folders;
+mod kept_links;
+mod planned;
 mod reading;
 mod remarks;
 mod skipping;
 mod telling;
+mod writing;
 
 pub use command::{USAGE, run_words};
 pub use files::{FileFault, script_in};
+pub use folders::{LinkFolders, SystemFolders};
+pub use kept_links::KeptLinks;

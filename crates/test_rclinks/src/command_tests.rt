@@ -3,7 +3,7 @@
 
 use path_texts::Texts;
 use program_version::{KIT, VERSION};
-use rclinks_command::run_words;
+use rclinks_command::{KeptLinks, run_words};
 use std::alloc::Global;
 use std::fs;
 use std::process::Abort;
@@ -26,7 +26,14 @@ fn words_are_run<T: Texts>(
 ) {
     let mut out = Slow::new(alloc, room, true, is_stuck);
     let mut err: Vec<u8> = Vec::new(alloc);
-    let status = run_words(texts, alloc, words, &mut out, &mut err);
+    let status = run_words(
+        texts,
+        &mut KeptLinks::new(alloc),
+        alloc,
+        words,
+        &mut out,
+        &mut err,
+    );
     assert!(rt; (status, out.taken.as_slice(), err.as_slice()) == (row.1, row.2, row.3));
 }
 
@@ -98,14 +105,14 @@ pub(crate) const NET: &str =
     "### BEGIN INIT INFO\n# Provides: net\n# Required-Start: \n# Default-Start: 3\n### END INIT INFO\n";
 
 const USAGE: &[u8] =
-    b"usage: rclinks [--skip] FILE..\n       rclinks --version\n  --skip  leave out the scripts that can't be read or planned, and plan the others\n";
+    b"usage: rclinks [--skip] [--write DIR] [-n] FILE..\n       rclinks --version\n  --skip       leave out the scripts that can't be read or planned, and plan the others\n  --write DIR  make the links in DIR, in rc0.d to rc9.d and rcS.d, and take away the scripts' other numbered links\n  -n           print what --write would do, and change nothing\n";
 
 const RUNS: &[Row] = &[
     (
         &[],
         1,
         b"",
-        b"rclinks: no file is given\nusage: rclinks [--skip] FILE..\n       rclinks --version\n  --skip  leave out the scripts that can't be read or planned, and plan the others\n",
+        b"rclinks: no file is given\nusage: rclinks [--skip] [--write DIR] [-n] FILE..\n       rclinks --version\n  --skip       leave out the scripts that can't be read or planned, and plan the others\n  --write DIR  make the links in DIR, in rc0.d to rc9.d and rcS.d, and take away the scripts' other numbered links\n  -n           print what --write would do, and change nothing\n",
     ),
     (&["--help"], 1, b"", USAGE),
     (&["-h"], 1, b"", USAGE),
@@ -400,7 +407,14 @@ fn version_is_written<T: Texts>(
     let (room, is_stuck, status, report) = *row;
     let mut out = Slow::new(alloc, room, true, is_stuck);
     let mut err: Vec<u8> = Vec::new(alloc);
-    let ended = run_words(texts, alloc, words, &mut out, &mut err);
+    let ended = run_words(
+        texts,
+        &mut KeptLinks::new(alloc),
+        alloc,
+        words,
+        &mut out,
+        &mut err,
+    );
     assert!(rt;
         ended == status
             && err.as_slice() == report.as_bytes()

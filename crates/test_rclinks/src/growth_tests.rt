@@ -1,7 +1,8 @@
 //! Growths are refused in turn, on heaps of more and more room, until a call meets no refusal: what is answered is lack
 //! of memory.
 
-use init_words::Memory;
+use init_words::{Level, Memory};
+use link_changes::{Change, Folder, FolderEntry};
 use linked_list_allocator::LocalHeap;
 use rc_links::{PlanFault, Script};
 use std::alloc::{Allocator, Global};
@@ -77,6 +78,69 @@ fn scripts_without_room_are_not_planned(rt: HostRuntime) -> Result<(), Fail> {
             Refused::Print => prints = prints.wrapping_add(1),
             Refused::Nothing => {
                 assert!(rt; plans > 4 && prints > 1, "{plans} {prints}");
+                return Ok(());
+            }
+        }
+    }
+    Err(Fail::from("no heap has room"))
+}
+
+/// An entry of a folder; None where there is no room for it.
+fn entry<A: Allocator + Copy>(alloc: A, name: &str, leads: &str) -> Option<FolderEntry<A>> {
+    let name = Vec::from_slice(alloc, name.as_bytes()).ok()?;
+    let leads = Vec::from_slice(alloc, leads.as_bytes()).ok()?;
+    Some(FolderEntry::new(name, leads))
+}
+
+/// One entry; None where there is no room for it.
+fn one_entry<A: Allocator + Copy>(
+    alloc: A,
+    name: &str,
+    leads: &str,
+) -> Option<Vec<FolderEntry<A>, A>> {
+    let mut entries = Vec::new(alloc);
+    match entries.push(entry(alloc, name, leads)?) {
+        Ok(()) => Some(entries),
+        Err(_) => None,
+    }
+}
+
+/// A folder that needs one removal and one making; None where there is no room for it.
+fn folders_of<A: Allocator + Copy>(alloc: A) -> Option<Vec<Folder<A>, A>> {
+    let planned = one_entry(alloc, "S01net", "../init.d/net")?;
+    let held = one_entry(alloc, "S20net", "../init.d/net")?;
+    let mut folders = Vec::new(alloc);
+    match folders.push(Folder::new(Level::L3, planned, held)) {
+        Ok(()) => Some(folders),
+        Err(_) => None,
+    }
+}
+
+fn targets_of<A: Allocator + Copy>(alloc: A) -> Option<Vec<Vec<u8, A>, A>> {
+    let mut targets = Vec::new(alloc);
+    match targets.push(Vec::from_slice(alloc, b"../init.d/net").ok()?) {
+        Ok(()) => Some(targets),
+        Err(_) => None,
+    }
+}
+
+/// The changes that the folder needs; None where there is no room for the folder.
+fn changes_on<A: Allocator + Copy>(alloc: A) -> Option<Result<Vec<Change<A>, A>, Memory>> {
+    let folders = folders_of(alloc)?;
+    let targets = targets_of(alloc)?;
+    Some(link_changes::changes(alloc, &targets, &folders))
+}
+
+#[test]
+fn changes_without_room_are_not_given(rt: HostRuntime) -> Result<(), Fail> {
+    let mut refused = 0usize;
+    for step in 0..256usize {
+        let heap = LocalHeap::new(rt.alloc(), STEP * step)?;
+        match changes_on(&heap) {
+            None => {}
+            Some(Err(Memory)) => refused = refused.wrapping_add(1),
+            Some(Ok(changes)) => {
+                assert!(rt; changes.len() == 2 && refused > 3, "{refused}");
                 return Ok(());
             }
         }

@@ -11,3 +11,5 @@ mod headers_tests;
 mod kept_tests;
 #[cfg(test)]
 mod plans_tests;
+#[cfg(test)]
+mod write_tests;

@@ -1,0 +1,35 @@
+-- Changes, one more on, and the folders behind all of them.
+use Rattle.std.proofs.Common.{◌≡◌, ℕ, ◌+◌, ◌<◌, List, [], ◌∷◌, ◌++◌, length, get_or, drop, take, map, Some, None, unwrap_or, refl, sym, ap, ◌∙◌, append_assoc}
+use Rattle.rc_links.proofs.NameLemmas.{cut_at}
+use Rattle.init_words.specs.declared.levels.Level.{Level}
+use Rattle.link_changes.specs.ChangeText.{ChangeText}
+use Rattle.link_changes.specs.EntryText.{EntryText}
+use Rattle.rc_links.specs.PlannedText.{PlannedText}
+use Rattle.rclinks_command.specs.Folders.{Becomes, KnownFolders, changed_by, changed_in}
+use Rattle.rclinks_command.specs.Writing.{AreFolders, IsWritten, Wants, settled_in}
+use Rattle.rclinks_command.proofs.SettledLemmas.{changed_by-append, settles}
+
+-- what one more of a list gives by two steps, and those after it
+pub mapped-next : {X Y Z : Type 0} (f : Y → Z) (h : X → Y) (all : List X) (place : ℕ) (x : X) (z : Z) (old new whole : List Z) → place < length all → x ≡ get_or all place x
+    → z ≡ f (h x) → new ≡ old ++ z ∷ [] → old ++ map f (map h (drop place all)) ≡ whole → new ++ map f (map h (drop (place + 1) all)) ≡ whole
+mapped-next f h all place x z old new whole within at is added so_far =
+    let rest = map f (map h (drop (place + 1) all)) in
+    ap (λ ys. ys ++ rest) added ∙ append_assoc old (z ∷ []) rest ∙ ap (λ y. old ++ y ∷ rest) is
+    ∙ ap (λ xs. old ++ map f (map h xs)) (sym (cut_at all place x within at).0) ∙ so_far
+
+-- one more change was made
+pub changed-next : (old before after : KnownFolders) (dir : List ℕ) (changes : List ChangeText) (place : ℕ) (c : ChangeText) → place < length changes → c ≡ get_or changes place c
+    → Becomes old before (changed_by dir (take place changes)) → Becomes before after (changed_in dir c) → Becomes old after (changed_by dir (take (place + 1) changes))
+changed-next old before after dir changes place c within at so_far one = λ other level es is.
+    one other level (changed_by dir (take place changes) other level es) (so_far other level es is)
+    ∙ ap Some (sym (ap (λ cs. changed_by dir cs other level es) (cut_at changes place c within at).1 ∙ changed_by-append dir (take place changes) (c ∷ []) other level es))
+
+-- all changes that a plan's folders want were made
+pub written : (known after : KnownFolders) (dir : List ℕ) (plan : List PlannedText) (changes : List ChangeText) → Wants known dir plan changes → Becomes known after (changed_by dir changes)
+    → IsWritten known dir plan after
+written known after dir plan changes wanted made = (
+  changes,
+  wanted,
+  λ other level es is.
+      made other level es is ∙ ap Some (ap (λ cs. changed_by dir cs other level es) wanted.3 ∙ settles known dir other level plan wanted.0 es wanted.1 is),
+)

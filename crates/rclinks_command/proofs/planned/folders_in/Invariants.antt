@@ -1,0 +1,8 @@
+use Rattle.std.proofs.Common.{◌≡◌, map, take}
+use Rattle.std.specs.List.{AllByRecursion}
+use Rattle.rclinks_command.specs.Writing.{IsFolder, all_levels}
+use Rattle.rclinks_command.proofs.planned.folders_in.Given as goal
+
+abbrev pub invariant-loop-level : goal.invariant-loop-level
+invariant-loop-level g l =
+    AllByRecursion (IsFolder (g.F.LinkFolders.held l.folders) l.dir l.plan) l.found.items × (map (λ f. f.level) l.found.items ≡ take l.level-index all_levels)

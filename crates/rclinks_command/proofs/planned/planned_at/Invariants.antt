@@ -1,0 +1,8 @@
+use Rattle.std.proofs.Common.{◌≡◌, ◌++◌, map, drop}
+use Rattle.rc_links.specs.Links.{links_at}
+use Rattle.rclinks_command.specs.Writing.{link_entry, planned_at}
+use Rattle.rclinks_command.proofs.planned.planned_at.Given as goal
+
+abbrev pub invariant-loop-link : goal.invariant-loop-link
+invariant-loop-link l =
+    l.planned.items ++ map link_entry (map (λ link. link.items) (drop l.link-index l.link-items)) ≡ planned_at l.plan l.fn.level

@@ -1,0 +1,8 @@
+use Rattle.std.proofs.Common.{◌≡◌, ◌||◌, drop}
+use Rattle.link_changes.specs.Changes.{targets_of}
+use Rattle.rclinks_command.specs.Writing.{has_taken}
+use Rattle.rclinks_command.proofs.planned.tell_taken.Given as goal
+
+abbrev pub invariant-loop-folder : goal.invariant-loop-folder
+invariant-loop-folder g l =
+    (l.found || has_taken (targets_of l.targets) (drop l.folder-index l.folders)) ≡ has_taken (targets_of l.targets) l.folders

@@ -1,0 +1,9 @@
+use Rattle.std.proofs.Common.{◌≡◌, ◌||◌, drop}
+use Rattle.std.specs.List.{list_any}
+use Rattle.link_changes.specs.Changes.{is_taken, targets_of}
+use Rattle.rclinks_command.proofs.planned.tell_taken_at.Given as goal
+
+abbrev pub invariant-loop-entry : goal.invariant-loop-entry
+invariant-loop-entry g l =
+    (l.found || list_any (is_taken (targets_of l.targets) l.folder.planned) (drop l.entry-index l.entry-items))
+    ≡ list_any (is_taken (targets_of l.targets) l.folder.planned) l.folder.held

@@ -1,0 +1,7 @@
+use Rattle.std.proofs.Common.{take}
+use Rattle.rclinks_command.specs.Folders.{Becomes, changed_by}
+use Rattle.rclinks_command.proofs.writing.make_changes.Given as goal
+
+abbrev pub invariant-loop-place : goal.invariant-loop-place
+invariant-loop-place g l =
+    Becomes (g.F.LinkFolders.held l.fn.folders) (g.F.LinkFolders.held l.folders) (changed_by l.dir (take l.place l.changes))

@@ -1,0 +1,38 @@
+-- What the folders of the runlevels hold, as far as it is known, and what they hold behind changes.
+use Rattle.std.specs.Prelude.{◌≡◌, ℕ, Bool, not, ◌&&◌, if◌then◌else◌, List, [], ◌∷◌, ◌++◌, Option, Some}
+use Rattle.std.specs.List.{filter}
+use Rattle.std.specs.Str.{bytes_eq}
+use Rattle.init_words.specs.declared.levels.Level.{Level}
+use Rattle.init_words.specs.Levels.{same_level}
+use Rattle.link_changes.specs.ChangeText.{ChangeText}
+use Rattle.link_changes.specs.Entries.{same_entry}
+use Rattle.link_changes.specs.EntryText.{EntryText}
+use Rattle.link_changes.specs.declared.folders.Act.{Act}
+use Rattle.link_changes.specs.declared.folders.Act.TheVariants.{Make, Remove}
+
+-- the entries of each runlevel's folder in each directory, where they are known
+abbrev pub KnownFolders : Type 0
+KnownFolders = List ℕ → Level → Option (List EntryText)
+
+-- each folder that is known holds what this says of what it held
+abbrev pub Becomes : KnownFolders → KnownFolders → (List ℕ → Level → List EntryText → List EntryText) → Type 0
+Becomes old new f = (dir : List ℕ) (level : Level) (es : List EntryText) → old dir level ≡ Some es → new dir level ≡ Some (f dir level es)
+
+-- each folder that is known holds what it held
+abbrev pub Stays : KnownFolders → KnownFolders → Type 0
+Stays old new = Becomes old new (λ dir level es. es)
+
+-- the entries without this one, or with it
+abbrev pub changed : Act → EntryText → List EntryText → List EntryText
+changed Remove e es = filter (λ other. not (same_entry e other)) es
+changed Make e es = es ++ e ∷ []
+
+-- a change of a folder in a directory changes that folder alone
+abbrev pub changed_in : List ℕ → ChangeText → List ℕ → Level → List EntryText → List EntryText
+changed_in dir c other level es =
+    if bytes_eq dir other && same_level c.level level then changed c.act c.entry es else es
+
+-- the changes, one after the other
+abbrev pub changed_by : List ℕ → List ChangeText → List ℕ → Level → List EntryText → List EntryText
+changed_by dir [] other level es = es
+changed_by dir (c ∷ changes) other level es = changed_by dir changes other level (changed_in dir c other level es)

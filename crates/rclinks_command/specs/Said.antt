@@ -1,0 +1,13 @@
+-- What the words of a command line say.
+use Rattle.std.specs.Prelude.{map, string_bytes}
+use Rattle.std.specs.Option.{option_map}
+use Rattle.rclinks_command.specs.Command as command
+use Rattle.rclinks_command.specs.declared.command.Line.{Line}
+
+abbrev pub line_said : Line → command.Line
+line_said line = record {
+  skips = line.skips;
+  dry = line.dry;
+  dir = option_map (λ dir. dir.now) line.dir;
+  files = map string_bytes line.files.now;
+}

@@ -1,0 +1,99 @@
+-- What rclinks makes of the folders of a directory by a plan.
+use Rattle.std.specs.Prelude.{◌≡◌, ◌⊎◌, ℕ, Bool, true, false, if◌then◌else◌, List, [], ◌∷◌, ◌++◌, map, flat_map, take, codes, Option, Some, None, Vec}
+use Rattle.std.specs.List.{AllByRecursion, list_any}
+use Rattle.std.specs.Str.{bytes_eq}
+use Rattle.std.specs.Io.KnownBytes.{Appends}
+use Rattle.init_words.specs.declared.levels.Level.{Level}
+use Rattle.init_words.specs.declared.levels.Level.TheVariants.{L0, L1, L2, L3, L4, L5, L6, L7, L8, L9, S}
+use Rattle.init_words.specs.Levels.{level_code}
+use Rattle.link_changes.specs.ChangeText.{ChangeText}
+use Rattle.link_changes.specs.Changes.{changes_of, is_taken, settled}
+use Rattle.link_changes.specs.Entries.{entry_of}
+use Rattle.link_changes.specs.EntryText.{EntryText}
+use Rattle.link_changes.specs.FolderText.{FolderText}
+use Rattle.link_changes.specs.declared.folders.Act.{Act}
+use Rattle.link_changes.specs.declared.folders.Act.TheVariants.{Make, Remove}
+use Rattle.rc_links.specs.Links.{linked_name, links_at}
+use Rattle.rc_links.specs.PlannedText.{PlannedText}
+use Rattle.rclinks_command.specs.Folders.{Becomes, KnownFolders, Stays, changed_by}
+
+-- the runlevels that have a folder
+abbrev pub all_levels : List Level
+all_levels = L0 ∷ L1 ∷ L2 ∷ L3 ∷ L4 ∷ L5 ∷ L6 ∷ L7 ∷ L8 ∷ L9 ∷ S ∷ []
+
+-- where the link of a script leads
+abbrev pub target_of : List ℕ → List ℕ
+target_of name = codes "../init.d/" ++ name
+
+-- where the links of a plan's scripts lead
+abbrev pub targets_in : List PlannedText → List (List ℕ)
+targets_in plan = map target_of (map (λ (s : PlannedText). s.name) plan)
+
+-- a link, as it stands in a folder
+abbrev pub link_entry : List ℕ → EntryText
+link_entry link = entry_of link (target_of (linked_name link))
+
+-- the plan's links in a runlevel's folder, as they stand there
+abbrev pub planned_at : List PlannedText → Level → List EntryText
+planned_at plan level = map link_entry (links_at plan level)
+
+-- the folder of a runlevel in a directory, with the plan's links, and with what it holds where that is known
+pub record IsFolder (known : KnownFolders) (dir : List ℕ) (plan : List PlannedText) (f : FolderText) : Type 0 where
+  pub planned : f.planned ≡ planned_at plan f.level
+  pub held : (es : List EntryText) → known dir f.level ≡ Some es → f.held ≡ es
+
+-- the folders of all runlevels
+pub record AreFolders (known : KnownFolders) (dir : List ℕ) (plan : List PlannedText) (folders : List FolderText) : Type 0 where
+  pub each : AllByRecursion (IsFolder known dir plan) folders
+  pub levels : map (λ (f : FolderText). f.level) folders ≡ all_levels
+
+-- a name that the plan needs in one of the folders is taken
+abbrev pub has_taken : List (List ℕ) → List FolderText → Bool
+has_taken targets folders = list_any (λ (f : FolderText). list_any (is_taken targets f.planned) f.held) folders
+
+-- the changes that the folders need
+abbrev pub changes_in : List PlannedText → List FolderText → List ChangeText
+changes_in plan folders = flat_map (changes_of (targets_in plan)) folders
+
+-- the folders of the directory hold just the plan's links, of all numbered links that lead to its scripts, and what
+-- they held besides; all other folders hold what they held
+abbrev pub settled_in : List ℕ → List PlannedText → List ℕ → Level → List EntryText → List EntryText
+settled_in dir plan other level es =
+    if bytes_eq dir other then settled (targets_in plan) (planned_at plan level) es else es
+
+-- a change, as it is printed
+abbrev pub act_word : Act → List ℕ
+act_word Remove = codes "remove"
+act_word Make = codes "make"
+
+abbrev pub change_line : ChangeText → List ℕ
+change_line c =
+    act_word c.act ++ codes " rc" ++ level_code c.level ∷ codes ".d/" ++ c.entry.name ++ codes " " ++ c.entry.leads ++ codes "\n"
+
+abbrev pub changes_text : List ChangeText → List ℕ
+changes_text changes = flat_map change_line changes
+
+-- a name that the plan needs in the directory's folders is taken
+abbrev pub IsTaken : KnownFolders → List ℕ → List PlannedText → Type 0
+IsTaken known dir plan =
+    (folders : List FolderText) × AreFolders known dir plan folders × (has_taken (targets_in plan) folders ≡ true)
+
+-- no such name is taken, and these are the changes that the folders need
+abbrev pub Wants : KnownFolders → List ℕ → List PlannedText → List ChangeText → Type 0
+Wants known dir plan changes =
+    (folders : List FolderText) × AreFolders known dir plan folders × (has_taken (targets_in plan) folders ≡ false)
+    × (changes ≡ changes_in plan folders)
+
+-- the text of the changes that the folders need
+abbrev pub Previews : KnownFolders → List ℕ → List PlannedText → List ℕ → Type 0
+Previews known dir plan text = (changes : List ChangeText) × Wants known dir plan changes × (text ≡ changes_text changes)
+
+-- no name was taken, and behind the run the folders of the directory hold the plan's links
+abbrev pub IsWritten : KnownFolders → List ℕ → List PlannedText → KnownFolders → Type 0
+IsWritten known dir plan after =
+    (changes : List ChangeText) × Wants known dir plan changes × Becomes known after (settled_in dir plan)
+
+-- the first of the changes were made
+abbrev pub IsWrittenPart : KnownFolders → List ℕ → List PlannedText → KnownFolders → Type 0
+IsWrittenPart known dir plan after = (changes : List ChangeText) × (count : ℕ) × Wants known dir plan changes
+    × Becomes known after (changed_by dir (take count changes))

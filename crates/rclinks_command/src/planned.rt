@@ -1,0 +1,168 @@
+//! The folders of a directory, with the links that a plan has there.
+
+ghost use Rattle.std.specs.Prelude.{◌≡◌, IfOk, IfErr};
+ghost use Rattle.std.specs.List.{list_any};
+ghost use Rattle.link_changes.specs.Changes.{targets_of, is_taken};
+ghost use Rattle.rc_links.specs.Links.{linked_name};
+ghost use Rattle.rclinks_command.specs.Writing.{AreFolders, IsFolder, all_levels, has_taken, link_entry, planned_at, target_of, targets_in};
+
+use crate::folders::LinkFolders;
+use init_words::{Level, Memory};
+use link_changes::{Folder, FolderEntry, is_taken};
+use program_io::{DEVICE_FAULT, report_no_memory};
+use rc_links::Plan;
+use std::alloc::Global;
+use std::io::Write;
+
+/// The runlevels that have a folder.
+const LEVELS: [Level; 11] = [
+    Level::L0,
+    Level::L1,
+    Level::L2,
+    Level::L3,
+    Level::L4,
+    Level::L5,
+    Level::L6,
+    Level::L7,
+    Level::L8,
+    Level::L9,
+    Level::S,
+];
+
+/// Where the link of a script leads.
+fn target_of(alloc: Global, name: &[u8]) -> Result<Vec<u8>, Memory>
+    ensures { IfOk result (λ target. target.items ≡ target_of name.now) }
+{
+    let mut target = Vec::new(alloc);
+    target.extend_from_slice(b"../init.d/")?;
+    target.extend_from_slice(name)?;
+    Ok(target)
+}
+
+/// The script's name in a link.
+fn linked_name(link: &[u8]) -> &[u8]
+    ensures { result.now ≡ linked_name link.now }
+{
+    link.get(3..).unwrap_or(&[])
+}
+
+/// A link, as it stands in a folder.
+fn link_entry(alloc: Global, link: &[u8]) -> Result<FolderEntry, Memory>
+    ensures { IfOk result (λ entry. entry ≡ link_entry link.now) }
+{
+    let name = Vec::from_slice(alloc, link)?;
+    Ok(FolderEntry::new(name, target_of(alloc, linked_name(link))?))
+}
+
+/// The plan's links in a runlevel's folder.
+fn planned_at(alloc: Global, plan: &Plan, level: Level) -> Result<Vec<FolderEntry>, Memory>
+    ensures { IfOk result (λ planned. planned.items ≡ planned_at plan.now level) }
+{
+    let links = plan.links_at(alloc, level)?;
+    let mut planned = Vec::new(alloc);
+    for link in &links {
+        planned.push(link_entry(alloc, link.as_slice())?)?;
+    }
+    Ok(planned)
+}
+
+/// Where the links of a plan's scripts lead.
+pub(crate) fn targets_in(alloc: Global, plan: &Plan) -> Result<Vec<Vec<u8>>, Memory>
+    ensures { IfOk result (λ targets. targets_of targets.items ≡ targets_in plan.now) }
+{
+    let names = plan.names(alloc)?;
+    let mut targets = Vec::new(alloc);
+    for name in &names {
+        targets.push(target_of(alloc, name.as_slice())?)?;
+    }
+    Ok(targets)
+}
+
+/// The folder of a runlevel; the exit status where it can't be listed, or memory runs out, which is told.
+fn folder_at<F: LinkFolders, E: Write>(
+    folders: &F,
+    alloc: Global,
+    dir: &str,
+    plan: &Plan,
+    level: Level,
+    err: &mut E,
+) -> Result<Folder, u8>
+    ensures folder { IfOk result (λ folder. (folder.level ≡ level)
+        × IsFolder (F.held folders.now) dir.now plan.now folder) }
+    ensures status { IfErr result (λ status. status ≡ DEVICE_FAULT) }
+{
+    let Ok(planned) = planned_at(alloc, plan, level) else {
+        return Err(report_no_memory("rclinks", err));
+    };
+    match folders.entries(alloc, dir, level) {
+        Ok(held) => Ok(Folder::new(level, planned, held)),
+        Err(error) => {
+            let code = char::from(level.code());
+            let _ = writeln!(
+                err,
+                "rclinks: {dir}/rc{code}.d: cannot list: {error}; nothing was changed"
+            );
+            Err(DEVICE_FAULT)
+        }
+    }
+}
+
+/// The folders of all runlevels, with the plan's links and what they hold; the exit status where one can't be listed,
+/// or memory runs out, which is told.
+pub(crate) fn folders_in<F: LinkFolders, E: Write>(
+    folders: &F,
+    alloc: Global,
+    dir: &str,
+    plan: &Plan,
+    err: &mut E,
+) -> Result<Vec<Folder>, u8>
+    ensures folders { IfOk result (λ found.
+        AreFolders (F.held folders.now) dir.now plan.now found.items) }
+    ensures status { IfErr result (λ status. status ≡ DEVICE_FAULT) }
+{
+    let mut found = Vec::new(alloc);
+    for level in LEVELS {
+        let folder = folder_at(folders, alloc, dir, plan, level, err)?;
+        if found.push(folder).is_err() {
+            return Err(report_no_memory("rclinks", err));
+        }
+    }
+    Ok(found)
+}
+
+/// Tells the entries of a folder by which a name of the plan is taken, and whether there is one.
+fn tell_taken_at<E: Write>(dir: &str, targets: &[Vec<u8>], folder: &Folder, err: &mut E) -> bool
+    ensures { result ≡ list_any (is_taken (targets_of targets.now) folder.now.planned) folder.now.held }
+{
+    let mut found = false;
+    for entry in folder.held() {
+        if is_taken(targets, folder.planned(), entry) {
+            let code = char::from(folder.level().code());
+            let name = std::str::from_utf8(entry.name()).unwrap_or("?");
+            let _ = writeln!(
+                err,
+                "rclinks: {dir}/rc{code}.d/{name}: it is no link to a planned script, and the plan needs the name: move it away; nothing was changed"
+            );
+            found = true;
+        }
+    }
+    found
+}
+
+/// Tells the entries by which a name of the plan is taken, and whether there is one.
+pub(crate) fn tell_taken<E: Write>(
+    dir: &str,
+    targets: &[Vec<u8>],
+    folders: &[Folder],
+    err: &mut E,
+) -> bool
+    ensures { result ≡ has_taken (targets_of targets.now) folders.now }
+{
+    let mut found = false;
+    for folder in folders {
+        if tell_taken_at(dir, targets, folder, err) {
+            found = true;
+        }
+    }
+    found
+}

@@ -1,0 +1,169 @@
+//! The changes that a plan asks of the folders of a directory, printed or made.
+
+ghost use Rattle.std.specs.Prelude.{◌≡◌, ◌⊎◌, ◌++◌, ℕ, IfOk, IfErr, OnOk, take};
+ghost use Rattle.rclinks_command.specs.Folders.{Becomes, changed_by};
+ghost use Rattle.rclinks_command.specs.Writing.{IsTaken, IsWritten, IsWrittenPart, Previews, Wants, act_word, change_line, changes_text};
+
+use crate::folders::LinkFolders;
+use crate::planned::{folders_in, targets_in, tell_taken};
+use init_words::Memory;
+use link_changes::{Act, Change, changes};
+use program_io::{DEVICE_FAULT, DONE, REFUSED, report_no_memory, write_text};
+use rc_links::Plan;
+use std::alloc::Global;
+use std::io;
+use std::io::Write;
+
+/// The word for what is done with an entry.
+fn act_word(act: Act) -> &'static [u8]
+    ensures { result.now ≡ act_word act }
+{
+    match act {
+        Act::Remove => b"remove",
+        Act::Make => b"make",
+    }
+}
+
+/// Appends a change's line.
+fn add_change(text: &mut Vec<u8>, change: &Change) -> Result<(), Memory>
+    ensures { OnOk result (text.new.items ≡ text.old.items ++ change_line change.now) }
+{
+    text.extend_from_slice(act_word(change.act()))?;
+    text.extend_from_slice(b" rc")?;
+    text.push(change.level().code())?;
+    text.extend_from_slice(b".d/")?;
+    text.extend_from_slice(change.entry().name())?;
+    text.push(b' ')?;
+    text.extend_from_slice(change.entry().leads())?;
+    text.push(b'\n')?;
+    Ok(())
+}
+
+/// The lines of changes.
+fn changes_text(alloc: Global, changes: &[Change]) -> Result<Vec<u8>, Memory>
+    ensures { IfOk result (λ text. text.items ≡ changes_text changes.now) }
+{
+    let mut text = Vec::new(alloc);
+    for change in changes {
+        add_change(&mut text, change)?;
+    }
+    Ok(text)
+}
+
+/// Tells changes, one a line, behind a word.
+fn tell_changes<E: Write>(alloc: Global, word: &str, changes: &[Change], err: &mut E) {
+    for change in changes {
+        let mut text = Vec::new(alloc);
+        if add_change(&mut text, change).is_ok() {
+            let _ = write!(err, "rclinks: {word}: ");
+            let _ = write_text(err, text.as_slice());
+        }
+    }
+}
+
+/// Tells that the system refused the change at the place, what was done before it, and what wasn't done.
+fn tell_failure<E: Write>(
+    alloc: Global,
+    dir: &str,
+    changes: &[Change],
+    place: usize,
+    error: &io::Error,
+    err: &mut E,
+) {
+    let (done, rest) = changes.split_at(place.min(changes.len()));
+    let _ = writeln!(err, "rclinks: {dir}: a change failed: {error}");
+    tell_changes(alloc, "done", done, err);
+    tell_changes(alloc, "not done", rest, err);
+}
+
+/// Makes changes in a directory, one after the other, and gives the exit status: 4 where one is refused, which is told
+/// with those before and behind it.
+fn make_changes<F: LinkFolders, E: Write>(
+    folders: &mut F,
+    alloc: Global,
+    dir: &str,
+    changes: &[Change],
+    err: &mut E,
+) -> u8
+    ensures statuses { (result ≡ DONE) ⊎ (result ≡ DEVICE_FAULT) }
+    ensures done { result ≡ DONE
+        → Becomes (F.held folders.old) (F.held folders.new) (changed_by dir.now changes.now) }
+    ensures part { (count : ℕ) × Becomes (F.held folders.old) (F.held folders.new)
+        (changed_by dir.now (take count changes.now)) }
+{
+    for place in 0..changes.len() {
+        if let Err(error) = folders.change(alloc, dir, &changes[place]) {
+            tell_failure(alloc, dir, changes, place, &error, err);
+            return DEVICE_FAULT;
+        }
+    }
+    DONE
+}
+
+/// The changes that a plan asks of the folders of a directory; the exit status where a name is taken or a folder can't
+/// be listed, or memory runs out, which is told.
+fn changes_for<F: LinkFolders, E: Write>(
+    folders: &F,
+    alloc: Global,
+    dir: &str,
+    plan: &Plan,
+    err: &mut E,
+) -> Result<Vec<Change>, u8>
+    ensures wanted { IfOk result (λ found. Wants (F.held folders.now) dir.now plan.now found.items) }
+    ensures refused { IfErr result (λ status. (status ≡ DEVICE_FAULT)
+        ⊎ (status ≡ REFUSED) × IsTaken (F.held folders.now) dir.now plan.now) }
+{
+    let read = folders_in(folders, alloc, dir, plan, err)?;
+    let Ok(targets) = targets_in(alloc, plan) else {
+        return Err(report_no_memory("rclinks", err));
+    };
+    if tell_taken(dir, targets.as_slice(), read.as_slice(), err) {
+        return Err(REFUSED);
+    }
+    match changes(alloc, targets.as_slice(), read.as_slice()) {
+        Ok(found) => Ok(found),
+        Err(Memory) => Err(report_no_memory("rclinks", err)),
+    }
+}
+
+/// Makes the folders of a directory hold a plan's links, and gives the exit status.
+pub(crate) fn write_folders<F: LinkFolders, E: Write>(
+    folders: &mut F,
+    alloc: Global,
+    dir: &str,
+    plan: &Plan,
+    err: &mut E,
+) -> u8
+    ensures statuses { (result ≡ DONE) ⊎ (result ≡ REFUSED) ⊎ (result ≡ DEVICE_FAULT) }
+    ensures done { result ≡ DONE
+        → IsWritten (F.held folders.old) dir.now plan.now (F.held folders.new) }
+    ensures refused { result ≡ REFUSED
+        → IsTaken (F.held folders.old) dir.now plan.now × (folders.new ≡ folders.old) }
+    ensures part { (folders.new ≡ folders.old)
+        ⊎ IsWrittenPart (F.held folders.old) dir.now plan.now (F.held folders.new) }
+{
+    match changes_for(folders, alloc, dir, plan, err) {
+        Ok(found) => make_changes(folders, alloc, dir, found.as_slice(), err),
+        Err(status) => status,
+    }
+}
+
+/// The lines of the changes that a plan asks of the folders of a directory; the exit status where it asks for none that
+/// could be made.
+pub(crate) fn preview<F: LinkFolders, E: Write>(
+    folders: &F,
+    alloc: Global,
+    dir: &str,
+    plan: &Plan,
+    err: &mut E,
+) -> Result<Vec<u8>, u8>
+    ensures text { IfOk result (λ text. Previews (F.held folders.now) dir.now plan.now text.items) }
+    ensures refused { IfErr result (λ status. (status ≡ DEVICE_FAULT)
+        ⊎ (status ≡ REFUSED) × IsTaken (F.held folders.now) dir.now plan.now) }
+{
+    let found = changes_for(folders, alloc, dir, plan, err)?;
+    match changes_text(alloc, found.as_slice()) {
+        Ok(text) => Ok(text),
+        Err(Memory) => Err(report_no_memory("rclinks", err)),
+    }
+}
