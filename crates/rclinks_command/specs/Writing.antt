@@ -1,8 +1,7 @@
 -- What rclinks makes of the folders of a directory by a plan.
-use Rattle.std.specs.Prelude.{◌≡◌, ◌⊎◌, ℕ, Bool, true, false, if◌then◌else◌, List, [], ◌∷◌, ◌++◌, map, flat_map, take, codes, Option, Some, None, Vec}
+use Rattle.std.specs.Prelude.{◌≡◌, ℕ, Bool, true, false, if◌then◌else◌, List, [], ◌∷◌, ◌++◌, map, flat_map, take, codes, Some}
 use Rattle.std.specs.List.{AllByRecursion, list_any}
 use Rattle.std.specs.Str.{bytes_eq}
-use Rattle.std.specs.Io.KnownBytes.{Appends}
 use Rattle.init_words.specs.declared.levels.Level.{Level}
 use Rattle.init_words.specs.declared.levels.Level.TheVariants.{L0, L1, L2, L3, L4, L5, L6, L7, L8, L9, S}
 use Rattle.init_words.specs.Levels.{level_code}
@@ -15,7 +14,7 @@ use Rattle.link_changes.specs.declared.folders.Act.{Act}
 use Rattle.link_changes.specs.declared.folders.Act.TheVariants.{Make, Remove}
 use Rattle.rc_links.specs.Links.{linked_name, links_at}
 use Rattle.rc_links.specs.PlannedText.{PlannedText}
-use Rattle.rclinks_command.specs.Folders.{Becomes, KnownFolders, Stays, changed_by}
+use Rattle.rclinks_command.specs.Folders.{Becomes, KnownFolders, changed_by}
 
 -- the runlevels that have a folder
 abbrev pub all_levels : List Level
