@@ -67,7 +67,8 @@ act_word Make = codes "make"
 
 abbrev pub change_line : ChangeText → List ℕ
 change_line c =
-    act_word c.act ++ codes " rc" ++ level_code c.level ∷ codes ".d/" ++ c.entry.name ++ codes " " ++ c.entry.leads ++ codes "\n"
+    act_word c.act ++ codes " rc" ++ level_code c.level ∷ codes ".d/" ++ c.entry.name ++ codes " "
+    ++ c.entry.leads ++ codes "\n"
 
 abbrev pub changes_text : List ChangeText → List ℕ
 changes_text changes = flat_map change_line changes
@@ -85,7 +86,8 @@ Wants known dir plan changes =
 
 -- the text of the changes that the folders need
 abbrev pub Previews : KnownFolders → List ℕ → List PlannedText → List ℕ → Type 0
-Previews known dir plan text = (changes : List ChangeText) × Wants known dir plan changes × (text ≡ changes_text changes)
+Previews known dir plan text =
+    (changes : List ChangeText) × Wants known dir plan changes × (text ≡ changes_text changes)
 
 -- no name was taken, and behind the run the folders of the directory hold the plan's links
 abbrev pub IsWritten : KnownFolders → List ℕ → List PlannedText → KnownFolders → Type 0
