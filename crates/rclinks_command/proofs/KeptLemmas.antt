@@ -12,7 +12,7 @@ use Rattle.link_changes.specs.Entries.{same_entry}
 use Rattle.link_changes.specs.declared.folders.Act.TheVariants.{Remove}
 use Rattle.rclinks_command.specs.Folders.{changed, changed_in}
 use Rattle.link_changes.specs.EntryText.{EntryText}
-use Rattle.rclinks_command.specs.KeptLinks.{entries_in, is_kept_at, is_removed, kept_link}
+use Rattle.rclinks_command.specs.KeptLinks.{entries_in, is_kept_at, is_removed}
 use Rattle.rclinks_command.specs.KeptText.{KeptText}
 
 entries_cond : (k : KeptText) (ks : List KeptText) (b : Bool) → map (λ (j : KeptText). j.entry) (cond b (k ∷ ks) ks) ≡ cond b (k.entry ∷ map (λ (j : KeptText). j.entry) ks) (map (λ (j : KeptText). j.entry) ks)

@@ -1,12 +1,10 @@
 -- Changes, one more on, and the folders behind all of them.
-use Rattle.std.proofs.Common.{◌≡◌, ℕ, ◌+◌, ◌<◌, List, [], ◌∷◌, ◌++◌, length, get_or, drop, take, map, Some, None, unwrap_or, refl, sym, ap, ◌∙◌, append_assoc}
+use Rattle.std.proofs.Common.{◌≡◌, ℕ, ◌+◌, ◌<◌, List, [], ◌∷◌, ◌++◌, length, get_or, drop, take, map, Some, sym, ap, ◌∙◌, append_assoc}
 use Rattle.rc_links.proofs.NameLemmas.{cut_at}
-use Rattle.init_words.specs.declared.levels.Level.{Level}
 use Rattle.link_changes.specs.ChangeText.{ChangeText}
-use Rattle.link_changes.specs.EntryText.{EntryText}
 use Rattle.rc_links.specs.PlannedText.{PlannedText}
 use Rattle.rclinks_command.specs.Folders.{Becomes, KnownFolders, changed_by, changed_in}
-use Rattle.rclinks_command.specs.Writing.{AreFolders, IsWritten, Wants, settled_in}
+use Rattle.rclinks_command.specs.Writing.{IsWritten, Wants}
 use Rattle.rclinks_command.proofs.SettledLemmas.{changed_by-append, settles}
 
 -- what one more of a list gives by two steps, and those after it

@@ -88,7 +88,8 @@ ScriptsOf text_at true paths P = (read rest : List ScriptText) × (faults : List
 
 -- a plan of such scripts has this
 abbrev pub PlanOf : KnownTexts → Line → (List PlannedText → Type 0) → Type 0
-PlanOf text_at line P = ScriptsOf text_at line.skips line.files (λ scripts. (plan : List PlannedText) × IsPlan scripts plan × P plan)
+PlanOf text_at line P =
+    ScriptsOf text_at line.skips line.files (λ scripts. (plan : List PlannedText) × IsPlan scripts plan × P plan)
 
 -- the folders of a directory are written
 abbrev pub writes : Line → Bool
@@ -96,18 +97,22 @@ writes line = is_some line.dir && not line.dry
 
 -- what is done by a plan: its links are printed; or the changes by which the folders of a directory hold them are
 -- printed, or made
-abbrev pub DoesBy : Option (List ℕ) → Bool → KnownFolders → KnownFolders → Option (List ℕ) → Option (List ℕ) → List PlannedText → Type 0
+abbrev pub DoesBy : Option (List ℕ) → Bool → KnownFolders → KnownFolders → Option (List ℕ) → Option (List ℕ)
+    → List PlannedText → Type 0
 DoesBy None dry before after old new plan = Appends old new (plan_text plan)
-DoesBy (Some dir) true before after old new plan = (text : List ℕ) × Previews before dir plan text × Appends old new text
+DoesBy (Some dir) true before after old new plan =
+    (text : List ℕ) × Previews before dir plan text × Appends old new text
 DoesBy (Some dir) false before after old new plan = IsWritten before dir plan after
 
 abbrev pub Does : KnownTexts → Line → KnownFolders → KnownFolders → Option (List ℕ) → Option (List ℕ) → Type 0
 Does text_at line before after old new = PlanOf text_at line (DoesBy line.dir line.dry before after old new)
 
 -- as far as it came: a prefix of the text, or the first of the changes
-abbrev pub PartBy : Option (List ℕ) → Bool → KnownFolders → KnownFolders → Option (List ℕ) → Option (List ℕ) → List PlannedText → Type 0
+abbrev pub PartBy : Option (List ℕ) → Bool → KnownFolders → KnownFolders → Option (List ℕ) → Option (List ℕ)
+    → List PlannedText → Type 0
 PartBy None dry before after old new plan = AppendsPrefix old new (plan_text plan)
-PartBy (Some dir) true before after old new plan = (text : List ℕ) × Previews before dir plan text × AppendsPrefix old new text
+PartBy (Some dir) true before after old new plan =
+    (text : List ℕ) × Previews before dir plan text × AppendsPrefix old new text
 PartBy (Some dir) false before after old new plan = IsWrittenPart before dir plan after
 
 abbrev pub DoesPart : KnownTexts → Line → KnownFolders → KnownFolders → Option (List ℕ) → Option (List ℕ) → Type 0

@@ -1,5 +1,5 @@
 -- What the folders of the runlevels hold, as far as it is known, and what they hold behind changes.
-use Rattle.std.specs.Prelude.{◌≡◌, ℕ, Bool, not, ◌&&◌, if◌then◌else◌, List, [], ◌∷◌, ◌++◌, Option, Some}
+use Rattle.std.specs.Prelude.{◌≡◌, ℕ, not, ◌&&◌, if◌then◌else◌, List, [], ◌∷◌, ◌++◌, Option, Some}
 use Rattle.std.specs.List.{filter}
 use Rattle.std.specs.Str.{bytes_eq}
 use Rattle.init_words.specs.declared.levels.Level.{Level}
@@ -16,7 +16,8 @@ KnownFolders = List ℕ → Level → Option (List EntryText)
 
 -- each folder that is known holds what this says of what it held
 abbrev pub Becomes : KnownFolders → KnownFolders → (List ℕ → Level → List EntryText → List EntryText) → Type 0
-Becomes old new f = (dir : List ℕ) (level : Level) (es : List EntryText) → old dir level ≡ Some es → new dir level ≡ Some (f dir level es)
+Becomes old new f =
+    (dir : List ℕ) (level : Level) (es : List EntryText) → old dir level ≡ Some es → new dir level ≡ Some (f dir level es)
 
 -- each folder that is known holds what it held
 abbrev pub Stays : KnownFolders → KnownFolders → Type 0

@@ -1,8 +1,7 @@
 -- What rclinks makes of the folders of a directory by a plan.
-use Rattle.std.specs.Prelude.{◌≡◌, ◌⊎◌, ℕ, Bool, true, false, if◌then◌else◌, List, [], ◌∷◌, ◌++◌, map, flat_map, take, codes, Option, Some, None, Vec}
+use Rattle.std.specs.Prelude.{◌≡◌, ℕ, Bool, true, false, if◌then◌else◌, List, [], ◌∷◌, ◌++◌, map, flat_map, take, codes, Some}
 use Rattle.std.specs.List.{AllByRecursion, list_any}
 use Rattle.std.specs.Str.{bytes_eq}
-use Rattle.std.specs.Io.KnownBytes.{Appends}
 use Rattle.init_words.specs.declared.levels.Level.{Level}
 use Rattle.init_words.specs.declared.levels.Level.TheVariants.{L0, L1, L2, L3, L4, L5, L6, L7, L8, L9, S}
 use Rattle.init_words.specs.Levels.{level_code}
@@ -15,7 +14,7 @@ use Rattle.link_changes.specs.declared.folders.Act.{Act}
 use Rattle.link_changes.specs.declared.folders.Act.TheVariants.{Make, Remove}
 use Rattle.rc_links.specs.Links.{linked_name, links_at}
 use Rattle.rc_links.specs.PlannedText.{PlannedText}
-use Rattle.rclinks_command.specs.Folders.{Becomes, KnownFolders, Stays, changed_by}
+use Rattle.rclinks_command.specs.Folders.{Becomes, KnownFolders, changed_by}
 
 -- the runlevels that have a folder
 abbrev pub all_levels : List Level
@@ -68,7 +67,8 @@ act_word Make = codes "make"
 
 abbrev pub change_line : ChangeText → List ℕ
 change_line c =
-    act_word c.act ++ codes " rc" ++ level_code c.level ∷ codes ".d/" ++ c.entry.name ++ codes " " ++ c.entry.leads ++ codes "\n"
+    act_word c.act ++ codes " rc" ++ level_code c.level ∷ codes ".d/" ++ c.entry.name ++ codes " "
+    ++ c.entry.leads ++ codes "\n"
 
 abbrev pub changes_text : List ChangeText → List ℕ
 changes_text changes = flat_map change_line changes
@@ -86,7 +86,8 @@ Wants known dir plan changes =
 
 -- the text of the changes that the folders need
 abbrev pub Previews : KnownFolders → List ℕ → List PlannedText → List ℕ → Type 0
-Previews known dir plan text = (changes : List ChangeText) × Wants known dir plan changes × (text ≡ changes_text changes)
+Previews known dir plan text =
+    (changes : List ChangeText) × Wants known dir plan changes × (text ≡ changes_text changes)
 
 -- no name was taken, and behind the run the folders of the directory hold the plan's links
 abbrev pub IsWritten : KnownFolders → List ℕ → List PlannedText → KnownFolders → Type 0

@@ -50,7 +50,8 @@ struct Line<'w> {
 
 /// What more words ask for: options, and then files.
 fn line_from<'w>(line: Line<'w>, words: &'w [String]) -> Line<'w>
-    ensures { line_said result ≡ line_from false (line_said line.entry) (map string_bytes words.entry.now) }
+    ensures { line_said result
+        ≡ line_from false (line_said line.entry) (map string_bytes words.entry.now) }
 {
     match words {
         [] => Line {
@@ -305,7 +306,8 @@ fn do_by<F: LinkFolders, W: Write, E: Write>(
 ) -> u8
     ensures statuses { (result ≡ DONE) ⊎ (result ≡ REFUSED) ⊎ (result ≡ DEVICE_FAULT) }
     ensures done { result ≡ DONE → DoesBy (line_said line.now).dir line.now.dry
-        (F.held folders.old) (F.held folders.new) (W.contents out.old) (W.contents out.new) plan.now }
+        (F.held folders.old) (F.held folders.new) (W.contents out.old) (W.contents out.new)
+        plan.now }
     ensures refused { result ≡ REFUSED → TakenBy (line_said line.now).dir (F.held folders.old)
         plan.now × (out.new ≡ out.old) × (folders.new ≡ folders.old) }
     ensures kept { writes (line_said line.now) ≡ false → folders.new ≡ folders.old }

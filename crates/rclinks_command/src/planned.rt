@@ -132,7 +132,8 @@ pub(crate) fn folders_in<F: LinkFolders, E: Write>(
 
 /// Tells the entries of a folder by which a name of the plan is taken, and whether there is one.
 fn tell_taken_at<E: Write>(dir: &str, targets: &[Vec<u8>], folder: &Folder, err: &mut E) -> bool
-    ensures { result ≡ list_any (is_taken (targets_of targets.now) folder.now.planned) folder.now.held }
+    ensures { result ≡ list_any (is_taken (targets_of targets.now) folder.now.planned)
+        folder.now.held }
 {
     let mut found = false;
     for entry in folder.held() {

@@ -109,7 +109,8 @@ fn changes_for<F: LinkFolders, E: Write>(
     plan: &Plan,
     err: &mut E,
 ) -> Result<Vec<Change>, u8>
-    ensures wanted { IfOk result (λ found. Wants (F.held folders.now) dir.now plan.now found.items) }
+    ensures wanted { IfOk result (λ found.
+        Wants (F.held folders.now) dir.now plan.now found.items) }
     ensures refused { IfErr result (λ status. (status ≡ DEVICE_FAULT)
         ⊎ (status ≡ REFUSED) × IsTaken (F.held folders.now) dir.now plan.now) }
 {

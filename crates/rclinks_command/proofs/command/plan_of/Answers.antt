@@ -1,4 +1,4 @@
-use Rattle.std.proofs.Common.{◌∙◌, inl, inr, map, refl, string_bytes, subst, sym}
+use Rattle.std.proofs.Common.{◌∙◌, inl, inr, map, string_bytes, subst}
 use Rattle.std.proofs.lemmas.Result.{IfOk-weaker, IfErr-weaker}
 use Rattle.rclinks_command.specs.Reading.{Reads}
 use Rattle.rclinks_command.proofs.ReadingLemmas.{all_scripts, none_first, refused_first, some_first}

@@ -1,5 +1,4 @@
 use Rattle.std.proofs.Common.{◌≡◌, ◌++◌, map, drop}
-use Rattle.rc_links.specs.Links.{links_at}
 use Rattle.rclinks_command.specs.Writing.{link_entry, planned_at}
 use Rattle.rclinks_command.proofs.planned.planned_at.Given as goal
 
