@@ -17,11 +17,12 @@ use Rattle.initd_command.specs.Turned.{End, ReportsEnd, ReportsText, end_status}
 use Rattle.command_words.specs.Faults.{usage_report}
 
 -- done; the words are no command line, and why, or memory ran out; the file of a path was not read, and why; the inittab
--- has too many files, or faults that these lines tell, or no entry of this id; the run over this script ended before its end; the writer could not be flushed; a trace is lawful,
--- or unlawful, of which this is told, and its last happening isn't finished at this line, if at any; its line of this
--- number is none; the verdict could not be written; the channel of a run over the operating system is in use, by whom
--- where that is known, or two of its files are one, or the channel was not locked, and why; its turns ended so, where nothing names its level or something does; the file of its trace was not
--- created, and why; the faults of its inittab could not be written; the version could not be
+-- has too many files, or faults that these lines tell, or no entry of this id; the run over this script ended before its
+-- end; the writer could not be flushed; a trace is lawful, or unlawful, of which this is told, and its last happening
+-- isn't finished at this line, if at any; its line of this number is none; the verdict could not be written; the channel
+-- of a run over the operating system is in use, by whom where that is known, or two of its files are one, or the channel
+-- was not locked, and why; its turns ended so, where nothing names its level or something does; the file of its trace was
+-- not created, and why; the faults of its inittab could not be written; the version could not be
 pub data Ending : Type 0 where
   done : Ending
   usage : List ℕ → Ending
