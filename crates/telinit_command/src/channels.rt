@@ -37,7 +37,8 @@ pub trait Channels {
     /// Appends a block to the channel at a path, which was opened last. After a refusal it has gained a front of the
     /// block at most.
     fn append(&mut self, path: &str, block: &[u8; BLOCK]) -> io::Result<()>
-        ensures ok { OnOk result (HasGained path.now block.now (bytes_at self.old) (bytes_at self.new)) }
+        ensures ok { OnOk result
+            (HasGained path.now block.now (bytes_at self.old) (bytes_at self.new)) }
         ensures err { OnErr result
             (HasGainedFront path.now block.now (bytes_at self.old) (bytes_at self.new)) };
 }

@@ -43,7 +43,8 @@ impl Channels for OneChannel {
     ghost use Rattle.std.specs.Prelude.{Some, None, if◌then◌else◌, string_bytes};
     ghost use Rattle.std.specs.Str.{bytes_eq};
 
-    ghost bytes_at = { λ one at. if bytes_eq at (string_bytes one.path) then Some one.bytes.items else None };
+    ghost bytes_at = { λ one at.
+        if bytes_eq at (string_bytes one.path) then Some one.bytes.items else None };
 
     fn open(&mut self, path: &str) -> io::Result<Found> {
         if self.path.as_str() != path {
