@@ -1,5 +1,5 @@
-# Makes a trace of the notes of the system (notes.awk), with the entries of the file `inittab`, and of init's lines on
-# standard output. A moment is rounded down, that of a KILL up: init reads its clock in whole seconds too.
+# Makes a trace of the notes of the system (notes.awk), with the entries of the file `inittab`, and of the lines that
+# init prints, ours or sysvinit's. A moment is rounded down, that of a KILL up: init reads its clock in whole seconds too.
 
 function is_action(word) {
     return word ~ /^(sysinit|boot|bootwait|initdefault|respawn|wait|once|off|ondemand|ctrlaltdel|kbrequest)$/ ||
@@ -17,14 +17,20 @@ END {
         if (!is_action(field[3])) continue
         entry[++entries] = line
         process = substr(line, length(field[1] field[2] field[3]) + 4)
+        if (words_of(process) in id_of && process != "") {
+            print "witness: " id_of[words_of(process)] " and " field[1] " have one command: give each its own" >"/dev/stderr"
+            failed = 1
+        }
         id_of[words_of(process)] = field[1]
+        action_of[field[1]] = field[3]
     }
-    print "use", entries
-    for (i = 1; i <= entries; i++) print written(entry[i])
+    if (failed) exit 1
     grace = 5
+    if (program != "") grace = 3
     for (i = 1; i <= events; i++) {
         child = of[i]
-        if (kind[i] == "announced") announced(with[i], at[i])
+        if (kind[i] == "opened") use()
+        else if (kind[i] == "announced") announced(with[i], at[i])
         else if (kind[i] == "got") {
             print "got", with[i]
             if (with[i] ~ /^level/) grace = substr(with[i], 9)
@@ -32,6 +38,7 @@ END {
         else if (kind[i] == "born") {
             clock(down(at[i]))
             id[child] = id_of[argv[child]]
+            begin_boot(action_of[id[child]])
             print "ask", id[child], "start"
             print "birth", id[child], child
             print "told", id[child]
@@ -48,15 +55,30 @@ END {
         }
     }
 }
+function use(    i) {
+    print "use", entries
+    for (i = 1; i <= entries; i++) print written(entry[i])
+}
 function announced(line, moment,    field) {
-    if (line ~ /^INIT: Entering stage /) { split(line, field, "[ \n]"); print "enter", field[4], grace }
-    else if (line ~ /^INIT: Entering runlevel: /) { split(line, field, "[ \n]"); print "enter", field[4], grace }
+    if (line ~ /^INIT: Entering stage /) { split(line, field, " "); enter(field[4]) }
+    else if (line ~ /^INIT: (Entering|Switching to) runlevel: /) { sub(/.*: /, "", line); enter(line) }
+    # sysvinit's own words.
+    else if (line ~ /^INIT: version .* booting/) enter("sysinit")
+    else if (line ~ /^INIT: version .* reloading/) return
     else if (line ~ /^INIT: Runlevel . settled/) { split(line, field, " "); print "settle", field[3] }
     else if (line ~ /^INIT: Id ".*" respawning too fast/) {
         split(line, field, "\"")
         clock(down(moment))
         print "hold", field[2]
     }
+}
+function enter(name) {
+    stage = name
+    print "enter", stage, grace
+}
+# An init that doesn't say so begins to boot with its first boot entry.
+function begin_boot(action) {
+    if (stage == "sysinit" && action ~ /^(boot|bootwait)$/) enter("boot")
 }
 # The entry as a trace has it: its levels in order, all ten where none is named and the action goes by levels.
 function written(line,    field, levels, i, mark, process) {

@@ -4,7 +4,9 @@
 #     reaped PID exit N, killed  its status
 #     sent TERM PID              by init, or by the shell that it starts for the signals of a turn; or KILL
 #     got ..                     a block of 384 bytes of the channel, as a trace has it
-# With the variable `inittab` it prints nothing, and leaves these for what is read behind it, with the times.
+# With the variable `inittab` it prints nothing, and leaves these for what is read behind it, with the times. Init is the
+# first process; with the variable `program` the first one that executes that, and its children's numbers are those that
+# strace gives behind the ones of their own namespace.
 
 function digit(of) { return index("0123456789abcdef", of) - 1 }
 function byte(digits) { return digit(substr(digits, 1, 1)) * 16 + digit(substr(digits, 2, 1)) }
@@ -61,33 +63,59 @@ function take_bytes(quoted) {
         note("got", "", request(number(block, 0), number(block, 4), character(number(block, 8)), number(block, 12)))
     }
 }
-function take(line,    name, result, parts) {
+# A line of init's, which may come in pieces.
+function announce(piece) {
+    if (index(piece, "INIT: ")) announced_text = substr(piece, index(piece, "INIT: "))
+    else if (announced_text != "") announced_text = announced_text piece
+    if (index(announced_text, "\n")) {
+        sub(/\r?\n.*/, "", announced_text)
+        note("announced", "", announced_text)
+        announced_text = ""
+    }
+}
+# The number of a process that init names by this one, where a comment behind it or an earlier one gives it.
+function outside(process_number, comment) {
+    if (match(comment, /^ *\/\* [0-9]+ in strace/)) {
+        sub(/^[^0-9]*/, "", comment)
+        number_of[process_number] = comment + 0
+    }
+    return process_number in number_of ? number_of[process_number] : process_number
+}
+function take(line,    name, result, parts, comment) {
     name = line
     sub(/\(.*/, "", name)
     result = line
     sub(/.*\) += /, "", result)
+    comment = result
     sub(/ .*/, "", result)
+    comment = substr(comment, length(result) + 1)
     if (name == "execve") {
         split(line, parts, /\], /)
         sub(/^execve\("[^"]*", \[/, "", parts[1])
         # What it is started with; what that executes later is its own.
         if (!(process in runs)) argv[process] = words(parts[1])
         if (result == 0) runs[process] = 1
+        split(line, parts, "\"")
+        if (init == "" && result == 0 && text(parts[2]) == program) init = process
     } else if (name ~ /^(clone|clone3|fork|vfork)$/) {
-        if (process == init && result > 0) note("born", result)
+        if (process == init && result > 0) note("born", outside(result, comment))
     } else if (process == init && name == "wait4") {
         split(line, parts, /[(,]/)
-        if (result > 0 && match(line, /WEXITSTATUS\(s\) == [0-9]+/))
-            note("reaped", result, "exit " substr(line, RSTART + 18, RLENGTH - 18))
-        else if (result > 0) note("reaped", result, "killed")
+        ended = "killed"
+        if (match(line, /WEXITSTATUS\(s\) == [0-9]+/)) ended = "exit " substr(line, RSTART + 18, RLENGTH - 18)
+        if (result > 0) note("reaped", outside(result, comment), ended)
         else if (result == 0) note("alive", parts[2])
     } else if (name == "kill") {
-        split(line, parts, /[(, )]+/)
-        if (parts[3] == "SIGTERM" || parts[3] == "SIGKILL")
-            note(result == 0 ? "sent" : "missed", parts[2], substr(parts[3], 4))
+        # To a process, or to the group that it leads.
+        match(line, /SIG[A-Z0-9]+/)
+        signal = substr(line, RSTART + 3, RLENGTH - 3)
+        match(line, /[0-9]+/)
+        child = outside(substr(line, RSTART, RLENGTH), substr(line, RSTART + RLENGTH))
+        if (signal == "TERM" || signal == "KILL") note(result == 0 ? "sent" : "missed", child, signal)
     } else if (process == init && name == "openat") {
         split(line, parts, "\"")
         if (result >= 0 && text(parts[2]) ~ /(^|\/)initctl$/) is_channel[result] = 1
+        if (result >= 0 && text(parts[2]) ~ /(^|\/)inittab$/) note("opened", "")
     } else if (process == init && name == "close") {
         split(line, parts, /[()]/)
         delete is_channel[parts[2]]
@@ -99,16 +127,16 @@ function take(line,    name, result, parts) {
         }
     } else if (process == init && name == "write") {
         split(line, parts, /[(,]/)
-        if (parts[2] == 1) {
+        if (parts[2] <= 2) {
             split(line, parts, "\"")
-            note("announced", "", text(parts[2]))
+            announce(text(parts[2]))
         }
     }
 }
 {
     process = $1
     time = $2
-    if (init == "") init = process
+    if (init == "" && program == "") init = process
     line = $0
     sub(/^[0-9]+ +[0-9.]+ /, "", line)
     if (line ~ /^\+\+\+ exited with /) { split(line, end, " "); note("died", process, "exit " end[4]); next }
@@ -134,7 +162,9 @@ END {
         if (kind[i] == "born") is_child[of[i]] = 1
         if (kind[i] == "died") last[of[i]] = with[i]
     }
-    if (inittab != "") exit
+    if (inittab == "") print_all()
+}
+function print_all(    i) {
     for (i = 1; i <= events; i++) {
         if (kind[i] == "got") print "got", with[i]
         else if (!is_born(of[i]) || !is_of_init(i)) continue
