@@ -71,9 +71,10 @@ done | awk -v hertz="$(getconf CLK_TCK)" -v minutes=$(((SECONDS - start) / 60)) 
     function cell(kind, crate) {
         return (kind, crate) in seconds ? sprintf("%.0f", seconds[kind, crate]) : ""
     }
-    function edits(crate,    number, name) {
-        while (("ls crates/" crate "/must-fail 2>/dev/null" | getline name) > 0) number++
-        close("ls crates/" crate "/must-fail 2>/dev/null")
+    function edits(crate,    list, number, name) {
+        list = "ls crates/" crate "/must-fail"
+        while ((list | getline name) > 0) number++
+        close(list)
         return number
     }
     END {
