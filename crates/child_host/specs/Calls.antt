@@ -64,7 +64,3 @@ parts_read parts (Err fault) = Err fault
 abbrev pub front_read : Result ℕ HostFault → List ℕ → TextRead
 front_read (Ok count) buffer = Ok (take count buffer)
 front_read (Err fault) buffer = Err fault
-
--- what is known of a host that tells no calls
-pub record FaultCount : Type 0 where
-  pub faults : ℕ

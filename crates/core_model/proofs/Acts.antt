@@ -19,7 +19,7 @@ use Rattle.trace_laws.proofs.Orders.{known_kept}
 use Rattle.trace_laws.proofs.Births.{birth_ready}
 use Rattle.trace_laws.proofs.Spells.{is_still, spell_still, missed_still, spell_birth, missed_none}
 use Rattle.child_table.specs.Lists.{slot_of}
-use Rattle.core_model.specs.Fit.{child_known, living, known_child, stop_after, stop_known, stop_of, is_to_look, was_missed, record_of, records_of, is_act}
+use Rattle.core_model.specs.Fit.{LastStatuses, child_known, living, known_child, stop_after, stop_known, stop_of, is_to_look, was_missed, record_of, records_of, is_act}
 
 -- the child that is found for an id has the id
 pub found_own : (id : List ℕ) (xs : List Child) (child : Child) → find (is_of id) xs ≡ Some child → child.id ≡ id
@@ -34,18 +34,18 @@ pub child_some : (id : List ℕ) (past : List Event) → is_some (known_child id
 child_some id past = found_any living (is_of id) (known_children past)
 
 -- among the records of some ids, that of an id that is one of them, and none of any other
-found_if : (past : List Event) (id : List ℕ) (ids : List (List ℕ)) → slot_of id (map (record_of past) ids) ≡ cond (list_any (same_id id) ids) (Some (record_of past id)) None
-found_if past id [] = refl
-found_if past id (x ∷ ids) = split (same_id id x) refl (found_if past id ids) where
-  split : (b : Bool) → same_id id x ≡ b → slot_of id (map (record_of past) ids) ≡ cond (list_any (same_id id) ids) (Some (record_of past id)) None → cond b (Some (record_of past x)) (slot_of id (map (record_of past) ids)) ≡ cond (b || list_any (same_id id) ids) (Some (record_of past id)) None
-  split true same rest = ap (λ y. Some (record_of past y)) (sym (same_id-is id x same))
+found_if : (lasts : LastStatuses) → (past : List Event) (id : List ℕ) (ids : List (List ℕ)) → slot_of id (map (record_of lasts past) ids) ≡ cond (list_any (same_id id) ids) (Some (record_of lasts past id)) None
+found_if lasts past id [] = refl
+found_if lasts past id (x ∷ ids) = split (same_id id x) refl (found_if lasts past id ids) where
+  split : (b : Bool) → same_id id x ≡ b → slot_of id (map (record_of lasts past) ids) ≡ cond (list_any (same_id id) ids) (Some (record_of lasts past id)) None → cond b (Some (record_of lasts past x)) (slot_of id (map (record_of lasts past) ids)) ≡ cond (b || list_any (same_id id) ids) (Some (record_of lasts past id)) None
+  split true same rest = ap (λ y. Some (record_of lasts past y)) (sym (same_id-is id x same))
   split false differ rest = rest
 
-pub found_record : (past : List Event) (id : List ℕ) (ids : List (List ℕ)) → list_any (same_id id) ids ≡ true → slot_of id (map (record_of past) ids) ≡ Some (record_of past id)
-found_record past id ids there = found_if past id ids ∙ ap (λ b. cond b (Some (record_of past id)) None) there
+pub found_record : (lasts : LastStatuses) → (past : List Event) (id : List ℕ) (ids : List (List ℕ)) → list_any (same_id id) ids ≡ true → slot_of id (map (record_of lasts past) ids) ≡ Some (record_of lasts past id)
+found_record lasts past id ids there = found_if lasts past id ids ∙ ap (λ b. cond b (Some (record_of lasts past id)) None) there
 
-pub no_record : (past : List Event) (id : List ℕ) (ids : List (List ℕ)) → list_any (same_id id) ids ≡ false → slot_of id (map (record_of past) ids) ≡ None
-no_record past id ids none = found_if past id ids ∙ ap (λ b. cond b (Some (record_of past id)) None) none
+pub no_record : (lasts : LastStatuses) → (past : List Event) (id : List ℕ) (ids : List (List ℕ)) → list_any (same_id id) ids ≡ false → slot_of id (map (record_of lasts past) ids) ≡ None
+no_record lasts past id ids none = found_if lasts past id ids ∙ ap (λ b. cond b (Some (record_of lasts past id)) None) none
 
 -- of a child that is excluded as before, with the same Hits, the stop is as before; and likewise with the Misses
 pub stop_same : (next past : List Event) (o : Option Child) → ((child : Child) → o ≡ Some child → is_excluded next child ≡ is_excluded past child) → ((child : Child) → o ≡ Some child → spell_hits child next ≡ spell_hits child past) → stop_known next o ≡ stop_known past o
@@ -86,15 +86,15 @@ module _ (i : List ℕ) (n : ℕ) (past : List Event) (childless : has_child i (
     split true same false none = refl
     split false differ c there = refl
 
-pub act_records : (goal : Goal) (happening : Event) (past : List Event) → is_act happening ≡ true → is_sound goal (happening ∷ past) ≡ true → records_of (happening ∷ past) ≡ records_of past
-act_records goal (Birth i n) past act sound = λ k. map (λ id. record (record_of past id) { stop = birth_stop i n past childless id k; look = birth_look i n past childless id k; missed = birth_missed i n past childless id k }) (record_ids past) where
+pub act_records : (lasts : LastStatuses) → (goal : Goal) (happening : Event) (past : List Event) → is_act happening ≡ true → is_sound goal (happening ∷ past) ≡ true → records_of lasts (happening ∷ past) ≡ records_of lasts past
+act_records lasts goal (Birth i n) past act sound = λ k. map (λ id. record (record_of lasts past id) { stop = birth_stop i n past childless id k; look = birth_look i n past childless id k; missed = birth_missed i n past childless id k }) (record_ids past) where
   childless : has_child i (known_children past) ≡ false
   childless = falsely (has_child i (known_children past)) (has_child i (kept_children past)) (known_kept (is_of i) past) (birth_ready goal [] i n past sound).childless
-act_records goal (NoBirth i) past act sound = λ k. map (λ id. record (record_of past id) { stop = stop_still (NoBirth i) past refl (λ child. refl) id k; missed = still_missed (NoBirth i) past refl id k }) (record_ids past)
-act_records goal (Death n) past act sound = λ k. map (λ id. record (record_of past id) { stop = stop_still (Death n) past refl (λ child. refl) id k; missed = still_missed (Death n) past refl id k }) (record_ids past)
-act_records goal (Reaped i n status) past act sound = λ k. map (λ id. record (record_of past id) { stop = stop_still (Reaped i n status) past refl (λ child. refl) id k; missed = still_missed (Reaped i n status) past refl id k }) (record_ids past)
-act_records goal (Still i) past act sound = λ k. map (λ id. record (record_of past id) { stop = stop_still (Still i) past refl (λ child. refl) id k; missed = still_missed (Still i) past refl id k }) (record_ids past)
-act_records goal (NoLook i) past act sound = λ k. map (λ id. record (record_of past id) { stop = stop_still (NoLook i) past refl (λ child. refl) id k; missed = still_missed (NoLook i) past refl id k }) (record_ids past)
-act_records goal (Hit i) past act sound = λ k. map (λ id. record (record_of past id) { stop = stop_still (Hit i) past refl (λ child. refl) id k; missed = still_missed (Hit i) past refl id k }) (record_ids past)
-act_records goal (Miss i) past act sound = λ k. map (λ id. record (record_of past id) { stop = stop_still (Miss i) past refl (λ child. refl) id k; missed = still_missed (Miss i) past refl id k }) (record_ids past)
-act_records goal _ past act sound = absurd (false≢true act)
+act_records lasts goal (NoBirth i) past act sound = λ k. map (λ id. record (record_of lasts past id) { stop = stop_still (NoBirth i) past refl (λ child. refl) id k; missed = still_missed (NoBirth i) past refl id k }) (record_ids past)
+act_records lasts goal (Death n) past act sound = λ k. map (λ id. record (record_of lasts past id) { stop = stop_still (Death n) past refl (λ child. refl) id k; missed = still_missed (Death n) past refl id k }) (record_ids past)
+act_records lasts goal (Reaped i n status) past act sound = λ k. map (λ id. record (record_of lasts past id) { stop = stop_still (Reaped i n status) past refl (λ child. refl) id k; missed = still_missed (Reaped i n status) past refl id k }) (record_ids past)
+act_records lasts goal (Still i) past act sound = λ k. map (λ id. record (record_of lasts past id) { stop = stop_still (Still i) past refl (λ child. refl) id k; missed = still_missed (Still i) past refl id k }) (record_ids past)
+act_records lasts goal (NoLook i) past act sound = λ k. map (λ id. record (record_of lasts past id) { stop = stop_still (NoLook i) past refl (λ child. refl) id k; missed = still_missed (NoLook i) past refl id k }) (record_ids past)
+act_records lasts goal (Hit i) past act sound = λ k. map (λ id. record (record_of lasts past id) { stop = stop_still (Hit i) past refl (λ child. refl) id k; missed = still_missed (Hit i) past refl id k }) (record_ids past)
+act_records lasts goal (Miss i) past act sound = λ k. map (λ id. record (record_of lasts past id) { stop = stop_still (Miss i) past refl (λ child. refl) id k; missed = still_missed (Miss i) past refl id k }) (record_ids past)
+act_records lasts goal _ past act sound = absurd (false≢true act)

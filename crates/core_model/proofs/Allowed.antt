@@ -54,12 +54,12 @@ module _ (c : CoreState) where
   -- an order has a record of which it may be asked, and a hold one that may be held; a stage that is entered is a later
   -- one, a level is announced once, and news is carried out that is kept
   abbrev pub is_backed : List SlotState → Option Step → Bool
-  is_backed slots (Some (Order id ask)) = has_with id (is_askable ask c.time) slots
-  is_backed slots (Some (Hold id)) = has_with id (is_holdable c.time) slots
+  is_backed slots (Some (Order id ask)) = has_with id (is_askable ask c.heads.time) slots
+  is_backed slots (Some (Hold id)) = has_with id (is_holdable c.heads.time) slots
   is_backed slots (Some (Enter next grace)) = nat_lt (stages_left (Some next)) (enters_left c)
-  is_backed slots (Some (Settle level)) = not c.announced
-  is_backed slots (Some (Power kind)) = keeps_kind kind c.news
-  is_backed slots (Some (Call letter)) = keeps_call letter c.news
+  is_backed slots (Some (Settle level)) = not c.heads.announced
+  is_backed slots (Some (Power kind)) = keeps_kind kind c.heads.news
+  is_backed slots (Some (Call letter)) = keeps_call letter c.heads.news
   is_backed slots _ = true
 
   backed_or : (slots : List SlotState) (a b : Option Step) → is_backed slots a ≡ true → is_backed slots b ≡ true → is_backed slots (or_else a b) ≡ true
@@ -68,8 +68,8 @@ module _ (c : CoreState) where
 
   -- what the records behind a first one back, all back
   backed_behind : (slot : SlotState) (slots : List SlotState) (o : Option Step) → is_backed slots o ≡ true → is_backed (slot ∷ slots) o ≡ true
-  backed_behind slot slots (Some (Order id ask)) h = or_right (is_slot_of id slot && is_askable ask c.time slot) (has_with id (is_askable ask c.time) slots) h
-  backed_behind slot slots (Some (Hold id)) h = or_right (is_slot_of id slot && is_holdable c.time slot) (has_with id (is_holdable c.time) slots) h
+  backed_behind slot slots (Some (Order id ask)) h = or_right (is_slot_of id slot && is_askable ask c.heads.time slot) (has_with id (is_askable ask c.heads.time) slots) h
+  backed_behind slot slots (Some (Hold id)) h = or_right (is_slot_of id slot && is_holdable c.heads.time slot) (has_with id (is_holdable c.heads.time) slots) h
   backed_behind slot slots (Some (Enter next grace)) h = h
   backed_behind slot slots (Some (Settle level)) h = h
   backed_behind slot slots (Some (Power kind)) h = h
@@ -85,10 +85,10 @@ module _ (c : CoreState) where
   backed_unless slots false o h = h
 
   -- the wishes: a stage for the wish of a level, and news that is kept
-  news_backed : (slots : List SlotState) → is_backed slots (first_news c.news) ≡ true
-  news_backed slots = at c.news.fail c.news.fail_now c.news.ok c.news.a c.news.b c.news.c refl refl refl refl refl refl
+  news_backed : (slots : List SlotState) → is_backed slots (first_news c.heads.news) ≡ true
+  news_backed slots = at c.heads.news.fail c.heads.news.fail_now c.heads.news.ok c.heads.news.a c.heads.news.b c.heads.news.c refl refl refl refl refl refl
     where
-      at : (f n o a b l : Bool) → c.news.fail ≡ f → c.news.fail_now ≡ n → c.news.ok ≡ o → c.news.a ≡ a → c.news.b ≡ b → c.news.c ≡ l → is_backed slots (first_news (record { fail = f; fail_now = n; ok = o; a = a; b = b; c = l })) ≡ true
+      at : (f n o a b l : Bool) → c.heads.news.fail ≡ f → c.heads.news.fail_now ≡ n → c.heads.news.ok ≡ o → c.heads.news.a ≡ a → c.heads.news.b ≡ b → c.heads.news.c ≡ l → is_backed slots (first_news (record { fail = f; fail_now = n; ok = o; a = a; b = b; c = l })) ≡ true
       at true n o a b l hf hn ho ha hb hl = hf
       at false true o a b l hf hn ho ha hb hl = hn
       at false false true a b l hf hn ho ha hb hl = ho
@@ -98,95 +98,95 @@ module _ (c : CoreState) where
       at false false false false false false hf hn ho ha hb hl = refl
 
   wished_backed : (slots : List SlotState) (now : Stage) → is_backed slots (wished_step now c) ≡ true
-  wished_backed slots now = at c.reexec c.reread
+  wished_backed slots now = at c.heads.reexec c.heads.reread
     where
-      two : (wish : Goal) → c.level_wish ≡ Some wish → (b : Bool) → nat_lt (stages_left (Some (cond b stage.Boot (stage.Run wish.level)))) (enters_left c) ≡ true
+      two : (wish : Goal) → c.heads.level_wish ≡ Some wish → (b : Bool) → nat_lt (stages_left (Some (cond b stage.Boot (stage.Run wish.level)))) (enters_left c) ≡ true
       two wish is true = rw is (grind (arith, nat_tests))
       two wish is false = rw is (grind (arith, nat_tests))
 
-      level : (wish : Option Goal) → c.level_wish ≡ wish → is_backed slots (level_step c.booted wish) ≡ true
+      level : (wish : Option Goal) → c.heads.level_wish ≡ wish → is_backed slots (level_step c.heads.booted wish) ≡ true
       level None is = refl
-      level (Some wish) is = two wish is (not (same_level wish.level S) && not c.booted)
+      level (Some wish) is = two wish is (not (same_level wish.level S) && not c.heads.booted)
 
-      at : (x r : Bool) → is_backed slots (cond x (Some step.Reexec) (cond r (Some step.Reread) (or_else (level_step c.booted c.level_wish) (news_step now c)))) ≡ true
+      at : (x r : Bool) → is_backed slots (cond x (Some step.Reexec) (cond r (Some step.Reread) (or_else (level_step c.heads.booted c.heads.level_wish) (news_step now c)))) ≡ true
       at true r = refl
       at false true = refl
-      at false false = backed_or slots (level_step c.booted c.level_wish) (news_step now c) (level c.level_wish refl) (backed_if slots (in_run (Some now)) (first_news c.news) (news_backed slots))
+      at false false = backed_or slots (level_step c.heads.booted c.heads.level_wish) (news_step now c) (level c.heads.level_wish refl) (backed_if slots (in_run (Some now)) (first_news c.heads.news) (news_backed slots))
 
   -- the stage that comes next, and the announcement
-  stage_backed : (slots : List SlotState) (now : Stage) → c.stage ≡ Some now → is_backed slots (stage_step now c.goal c.table c.slots) ≡ true
-  stage_backed slots now is = backed_if slots (is_over_among now c.table c.slots) (enter_step (next_stage now c.goal.level) c.goal.grace) (at now is)
+  stage_backed : (slots : List SlotState) (now : Stage) → c.heads.stage ≡ Some now → is_backed slots (stage_step now c.heads.goal c.table c.slots) ≡ true
+  stage_backed slots now is = backed_if slots (is_over_among now c.table c.slots) (enter_step (next_stage now c.heads.goal.level) c.heads.goal.grace) (at now is)
     where
-      one : c.stage ≡ Some stage.Sysinit → (b : Bool) → nat_lt (stages_left (Some (cond b (stage.Run S) stage.Boot))) (enters_left c) ≡ true
+      one : c.heads.stage ≡ Some stage.Sysinit → (b : Bool) → nat_lt (stages_left (Some (cond b (stage.Run S) stage.Boot))) (enters_left c) ≡ true
       one is true = rw is (grind (arith, nat_tests))
       one is false = rw is (grind (arith, nat_tests))
 
-      at : (now : Stage) → c.stage ≡ Some now → is_backed slots (enter_step (next_stage now c.goal.level) c.goal.grace) ≡ true
-      at stage.Sysinit is = one is (same_level c.goal.level S)
+      at : (now : Stage) → c.heads.stage ≡ Some now → is_backed slots (enter_step (next_stage now c.heads.goal.level) c.heads.goal.grace) ≡ true
+      at stage.Sysinit is = one is (same_level c.heads.goal.level S)
       at stage.Boot is = rw is (grind (arith, nat_tests))
       at (stage.Run level) is = refl
 
-  settle_backed : (slots : List SlotState) (now : Stage) → is_backed slots (settle_step now c.announced c.time c.table c.slots) ≡ true
+  settle_backed : (slots : List SlotState) (now : Stage) → is_backed slots (settle_step now c.heads.announced c.heads.time c.table c.slots) ≡ true
   settle_backed slots stage.Sysinit = refl
   settle_backed slots stage.Boot = refl
-  settle_backed slots (stage.Run level) = at c.announced refl
+  settle_backed slots (stage.Run level) = at c.heads.announced refl
     where
-      at : (b : Bool) → c.announced ≡ b → is_backed slots (cond (not b && is_idle c.slots && all_served level c.time c.table c.slots) (Some (Settle level)) None) ≡ true
+      at : (b : Bool) → c.heads.announced ≡ b → is_backed slots (cond (not b && is_idle c.slots && all_served level c.heads.time c.table c.slots) (Some (Settle level)) None) ≡ true
       at true is = refl
-      at false is = backed_if slots (is_idle c.slots && all_served level c.time c.table c.slots) (Some (Settle level)) (ap not is)
+      at false is = backed_if slots (is_idle c.slots && all_served level c.heads.time c.table c.slots) (Some (Settle level)) (ap not is)
 
   -- a signal is to a child of which nothing else is asked
-  stop_backed : (slot : SlotState) (slots : List SlotState) → is_backed (slot ∷ slots) (stop_step c.grace c.time slot) ≡ true
+  stop_backed : (slot : SlotState) (slots : List SlotState) → is_backed (slot ∷ slots) (stop_step c.heads.grace c.heads.time slot) ≡ true
   stop_backed slot slots = at (is_some slot.child) (is_none slot.order) slot.missed refl refl
     where
-      here : (ask : Ask) (next : Bool) → (is_none slot.order && is_some slot.child) ≡ true → next ≡ true → (same_id slot.id slot.id && (is_none slot.order && is_some slot.child && next) || has_with slot.id (is_askable ask c.time) slots) ≡ true
+      here : (ask : Ask) (next : Bool) → (is_none slot.order && is_some slot.child) ≡ true → next ≡ true → (same_id slot.id slot.id && (is_none slot.order && is_some slot.child && next) || has_with slot.id (is_askable ask c.heads.time) slots) ≡ true
       here ask next may follows = rw (same_id-self slot.id, may, follows) refl
 
-      signal : (stop : Option Stop) → slot.stop ≡ stop → (is_none slot.order && is_some slot.child) ≡ true → is_backed (slot ∷ slots) (signal_step c.grace c.time slot.id stop) ≡ true
+      signal : (stop : Option Stop) → slot.stop ≡ stop → (is_none slot.order && is_some slot.child) ≡ true → is_backed (slot ∷ slots) (signal_step c.heads.grace c.heads.time slot.id stop) ≡ true
       signal None is may = refl
       signal (Some Due) is may = here Term (may_follow Term slot.stop) may (ap (may_follow Term) is)
-      signal (Some (Termed time)) is may = backed_if (slot ∷ slots) (nat_le (time + c.grace) c.time) (Some (Order slot.id Kill)) (here Kill (may_follow Kill slot.stop) may (ap (may_follow Kill) is))
+      signal (Some (Termed time)) is may = backed_if (slot ∷ slots) (nat_le (time + c.heads.grace) c.heads.time) (Some (Order slot.id Kill)) (here Kill (may_follow Kill slot.stop) may (ap (may_follow Kill) is))
       signal (Some (Killed time)) is may = refl
 
-      at : (there free m : Bool) → is_some slot.child ≡ there → is_none slot.order ≡ free → is_backed (slot ∷ slots) (cond (there && free && not m) (signal_step c.grace c.time slot.id slot.stop) None) ≡ true
+      at : (there free m : Bool) → is_some slot.child ≡ there → is_none slot.order ≡ free → is_backed (slot ∷ slots) (cond (there && free && not m) (signal_step c.heads.grace c.heads.time slot.id slot.stop) None) ≡ true
       at true true false hc ho = signal slot.stop refl (rw (ho, hc) refl)
       at true true true hc ho = refl
       at true false m hc ho = refl
       at false free m hc ho = refl
 
-  stops_backed : (slots : List SlotState) → is_backed slots (stop_among c.grace c.time slots) ≡ true
+  stops_backed : (slots : List SlotState) → is_backed slots (stop_among c.heads.grace c.heads.time slots) ≡ true
   stops_backed [] = refl
-  stops_backed (slot ∷ slots) = backed_or (slot ∷ slots) (stop_step c.grace c.time slot) (stop_among c.grace c.time slots) (stop_backed slot slots) (backed_behind slot slots (stop_among c.grace c.time slots) (stops_backed slots))
+  stops_backed (slot ∷ slots) = backed_or (slot ∷ slots) (stop_step c.heads.grace c.heads.time slot) (stop_among c.heads.grace c.heads.time slots) (stop_backed slot slots) (backed_behind slot slots (stop_among c.heads.grace c.heads.time slots) (stops_backed slots))
 
   -- a start or a hold is of an entry whose record has no child and no order, and isn't held
-  start_backed : (now : Stage) (e : Entry) (slot : SlotState) (slots : List SlotState) → slot.id ≡ e.id → slot.table_act ≡ Some e.act → is_backed (slot ∷ slots) (start_step now c.time e slot) ≡ true
+  start_backed : (now : Stage) (e : Entry) (slot : SlotState) (slots : List SlotState) → slot.id ≡ e.id → slot.table_act ≡ Some e.act → is_backed (slot ∷ slots) (start_step now c.heads.time e slot) ≡ true
   start_backed now e slot slots own act = can (is_wanted_slot now e slot) (is_none slot.child) (is_none slot.order) refl refl
     where
       here : same_id e.id slot.id ≡ true
       here = same_id-from e.id slot.id (sym own)
 
-      asked : (limited may : Bool) → is_limited e.act ≡ limited → allows (may_of slot.limiter c.time) ≡ may → (not limited || may) ≡ true → is_none slot.child ≡ true → is_none slot.order ≡ true → is_backed (slot ∷ slots) (Some (Order e.id Start)) ≡ true
+      asked : (limited may : Bool) → is_limited e.act ≡ limited → allows (may_of slot.limiter c.heads.time) ≡ may → (not limited || may) ≡ true → is_none slot.child ≡ true → is_none slot.order ≡ true → is_backed (slot ∷ slots) (Some (Order e.id Start)) ≡ true
       asked limited may hl hm fine hc ho = rw (here, ho, act, hc, hl, hm, fine) refl
 
-      chosen : (b h a : Bool) → is_limited e.act ≡ b → is_held slot.limiter.held c.time ≡ h → allows (may_of slot.limiter c.time) ≡ a → is_none slot.child ≡ true → is_none slot.order ≡ true
+      chosen : (b h a : Bool) → is_limited e.act ≡ b → is_held slot.limiter.held c.heads.time ≡ h → allows (may_of slot.limiter c.heads.time) ≡ a → is_none slot.child ≡ true → is_none slot.order ≡ true
           → is_backed (slot ∷ slots) (cond b (cond h None (Some (cond a (Order e.id Start) (Hold e.id)))) (Some (Order e.id Start))) ≡ true
       chosen true true a hb hh ha hc ho = refl
       chosen true false true hb hh ha hc ho = asked true true hb ha refl hc ho
       chosen true false false hb hh ha hc ho = rw (here, hh, act, hb, ha) refl
       chosen false h a hb hh ha hc ho = asked false a hb ha refl hc ho
 
-      can : (w none free : Bool) → is_none slot.child ≡ none → is_none slot.order ≡ free → is_backed (slot ∷ slots) (cond (w && none && free) (limited_step c.time e slot) None) ≡ true
-      can true true true hc ho = chosen (is_limited e.act) (is_held slot.limiter.held c.time) (allows (may_of slot.limiter c.time)) refl refl refl hc ho
+      can : (w none free : Bool) → is_none slot.child ≡ none → is_none slot.order ≡ free → is_backed (slot ∷ slots) (cond (w && none && free) (limited_step c.heads.time e slot) None) ≡ true
+      can true true true hc ho = chosen (is_limited e.act) (is_held slot.limiter.held c.heads.time) (allows (may_of slot.limiter c.heads.time)) refl refl refl hc ho
       can true true false hc ho = refl
       can true false free hc ho = refl
       can false none free hc ho = refl
 
-  starts_backed : (now : Stage) (table : List Entry) (slots : List SlotState) → IsInOrder table slots → is_backed slots (start_along now c.time (zip table slots)) ≡ true
+  starts_backed : (now : Stage) (table : List Entry) (slots : List SlotState) → IsInOrder table slots → is_backed slots (start_along now c.heads.time (zip table slots)) ≡ true
   starts_backed now [] slots h = refl
   starts_backed now (e ∷ table) [] h = absurd h
-  starts_backed now (e ∷ table) (slot ∷ slots) h = backed_or (slot ∷ slots) (start_step now c.time e slot) (cond (is_owed_slot now e slot) None (start_along now c.time (zip table slots)))
+  starts_backed now (e ∷ table) (slot ∷ slots) h = backed_or (slot ∷ slots) (start_step now c.heads.time e slot) (cond (is_owed_slot now e slot) None (start_along now c.heads.time (zip table slots)))
       (start_backed now e slot slots h.0 h.1)
-      (backed_unless (slot ∷ slots) (is_owed_slot now e slot) (start_along now c.time (zip table slots)) (backed_behind slot slots (start_along now c.time (zip table slots)) (starts_backed now table slots h.2)))
+      (backed_unless (slot ∷ slots) (is_owed_slot now e slot) (start_along now c.heads.time (zip table slots)) (backed_behind slot slots (start_along now c.heads.time (zip table slots)) (starts_backed now table slots h.2)))
 
   -- a look is at a child of which nothing else is asked
   looks_backed : (slots : List SlotState) → is_backed slots (look_among slots) ≡ true
@@ -201,27 +201,27 @@ module _ (c : CoreState) where
 
   -- so the state backs what it decides
   module _ (order : IsInOrder c.table c.slots) where
-    calm_backed : (now : Stage) → c.stage ≡ Some now → is_backed c.slots (calm_step now c) ≡ true
-    calm_backed now is = backed_or c.slots (start_along now c.time (zip c.table c.slots)) (or_else (stage_step now c.goal c.table c.slots) (settle_step now c.announced c.time c.table c.slots))
+    calm_backed : (now : Stage) → c.heads.stage ≡ Some now → is_backed c.slots (calm_step now c) ≡ true
+    calm_backed now is = backed_or c.slots (start_along now c.heads.time (zip c.table c.slots)) (or_else (stage_step now c.heads.goal c.table c.slots) (settle_step now c.heads.announced c.heads.time c.table c.slots))
         (starts_backed now c.table c.slots order)
-        (backed_or c.slots (stage_step now c.goal c.table c.slots) (settle_step now c.announced c.time c.table c.slots) (stage_backed c.slots now is) (settle_backed c.slots now))
+        (backed_or c.slots (stage_step now c.heads.goal c.table c.slots) (settle_step now c.heads.announced c.heads.time c.table c.slots) (stage_backed c.slots now is) (settle_backed c.slots now))
 
-    work_backed : (now : Stage) → c.stage ≡ Some now → is_backed c.slots (work_step now c) ≡ true
-    work_backed now is = backed_unless c.slots (stands now c) (or_else (stop_among c.grace c.time c.slots) (cond (has_excluded c.slots) None (calm_step now c)))
-        (backed_or c.slots (stop_among c.grace c.time c.slots) (cond (has_excluded c.slots) None (calm_step now c)) (stops_backed c.slots) (backed_unless c.slots (has_excluded c.slots) (calm_step now c) (calm_backed now is)))
+    work_backed : (now : Stage) → c.heads.stage ≡ Some now → is_backed c.slots (work_step now c) ≡ true
+    work_backed now is = backed_unless c.slots (stands now c) (or_else (stop_among c.heads.grace c.heads.time c.slots) (cond (has_excluded c.slots) None (calm_step now c)))
+        (backed_or c.slots (stop_among c.heads.grace c.heads.time c.slots) (cond (has_excluded c.slots) None (calm_step now c)) (stops_backed c.slots) (backed_unless c.slots (has_excluded c.slots) (calm_step now c) (calm_backed now is)))
 
     idle_backed : (o : Option Step) → is_backed c.slots o ≡ true → is_backed c.slots (Some (or_idle o)) ≡ true
     idle_backed None h = refl
     idle_backed (Some step) h = h
 
-    decided_in : (o : Option Stage) → c.stage ≡ o → is_backed c.slots (Some (decide_in o c)) ≡ true
-    decided_in None is = idle_backed (first_step c) (backed_if c.slots (is_quiet c.slots) (Some (Enter stage.Sysinit c.goal.grace)) (rw is (grind (arith, nat_tests))))
+    decided_in : (o : Option Stage) → c.heads.stage ≡ o → is_backed c.slots (Some (decide_in o c)) ≡ true
+    decided_in None is = idle_backed (first_step c) (backed_if c.slots (is_quiet c.slots) (Some (Enter stage.Sysinit c.heads.goal.grace)) (rw is (grind (arith, nat_tests))))
     decided_in (Some now) is = idle_backed (or_else (wish_step now c) (or_else (work_step now c) (look_among c.slots)))
         (backed_or c.slots (wish_step now c) (or_else (work_step now c) (look_among c.slots)) (backed_if c.slots (is_quiet c.slots) (wished_step now c) (wished_backed c.slots now))
         (backed_or c.slots (work_step now c) (look_among c.slots) (work_backed now is) (looks_backed c.slots)))
 
     pub decided : (s : Step) → decide c ≡ s → is_backed c.slots (Some s) ≡ true
-    decided s is = sym (ap (λ s. is_backed c.slots (Some s)) is) ∙ decided_in c.stage refl
+    decided s is = sym (ap (λ s. is_backed c.slots (Some s)) is) ∙ decided_in c.heads.stage refl
 
 -- the record of an id, where there is one, and the only one
 found_has : (id : List ℕ) (p : SlotState → Bool) (slots : List SlotState) → has_with id p slots ≡ true → has_slot id slots ≡ true
@@ -259,8 +259,8 @@ has_unheld id now slots h = any_less (λ (s : SlotState). is_slot_of id s && is_
     first false y z h = absurd (false≢true h)
 
 -- an order that is decided may be asked, and a hold that is decided has its record
-pub decide_allowed : (c : CoreState) → IsInOrder c.table c.slots → are_distinct c.slots ≡ true → (id : List ℕ) (ask : Ask) → decide c ≡ Order id ask → can_ask id ask c.time c.slots ≡ true
-decide_allowed c order distinct id ask is = found_asked id ask c.time c.slots distinct (has_asked id ask c.time c.slots (decided c order (Order id ask) is))
+pub decide_allowed : (c : CoreState) → IsInOrder c.table c.slots → are_distinct c.slots ≡ true → (id : List ℕ) (ask : Ask) → decide c ≡ Order id ask → can_ask id ask c.heads.time c.slots ≡ true
+decide_allowed c order distinct id ask is = found_asked id ask c.heads.time c.slots distinct (has_asked id ask c.heads.time c.slots (decided c order (Order id ask) is))
 
 pub decide_holds : (c : CoreState) → IsInOrder c.table c.slots → (id : List ℕ) → decide c ≡ Hold id → has_slot id c.slots ≡ true
-decide_holds c order id is = found_has id (is_holdable c.time) c.slots (decided c order (Hold id) is)
+decide_holds c order id is = found_has id (is_holdable c.heads.time) c.slots (decided c order (Hold id) is)

@@ -7,12 +7,11 @@ use Rattle.init_words.specs.declared.orders.Ask.TheVariants.{Start, Look, Term, 
 use Rattle.init_words.specs.Ids.{same_id}
 use Rattle.init_words.specs.Orders.{same_ask}
 use Rattle.init_words.proofs.Same.{same_id-self}
-use Rattle.init_words.proofs.Tests.{any_less, both_ways}
 use Rattle.init_trace.specs.declared.happenings.Happening.TheVariants.{Asked, Enter, Told}
 use Rattle.init_trace.specs.declared.steps.Step.TheVariants.{Order}
 use Rattle.init_trace.specs.declared.steps.Goal.{Goal}
 use Rattle.init_trace.specs.Event.{Event}
-use Rattle.init_trace.specs.Past.{Child, has_child, is_of, is_quiet, kept_children, known_children, open_orders, stage_of, undone_of}
+use Rattle.init_trace.specs.Past.{is_of, is_quiet, open_orders, stage_of, undone_of}
 use Rattle.init_trace.specs.Sound.{is_sound, may_come}
 use Rattle.trace_laws.proofs.Dues.{MayLook, MayStop, due_facts}
 use Rattle.trace_laws.proofs.Keeps.{keeps, not_placed, sound_holds, sound_ind}

@@ -37,9 +37,9 @@ pub record EachPasses (test : Step → Bool) (c : CoreState) : Type 0 where
   pub powers : (kind : PowerKind) → test (Power kind) ≡ true
   pub reread : test Reread ≡ true
   pub idle : test Idle ≡ true
-  pub reexec : c.reexec ≡ true → test Reexec ≡ true
-  pub goal : (now : Stage) → test (Enter now c.goal.grace) ≡ true
-  pub wish : (wish : Goal) → c.level_wish ≡ Some wish → (now : Stage) → test (Enter now wish.grace) ≡ true
+  pub reexec : c.heads.reexec ≡ true → test Reexec ≡ true
+  pub goal : (now : Stage) → test (Enter now c.heads.goal.grace) ≡ true
+  pub wish : (wish : Goal) → c.heads.level_wish ≡ Some wish → (now : Stage) → test (Enter now wish.grace) ≡ true
 
 module _ (test : Step → Bool) (c : CoreState) (each : EachPasses test c) where
   abbrev Pass : Option Step → Type 0
@@ -84,15 +84,15 @@ module _ (test : Step → Bool) (c : CoreState) (each : EachPasses test c) where
       (by_cond (can_start_slot now p.0 p.1) (limited_step time p.0 p.1) None (λ _. limited time p.0 p.1) tt)
       (by_cond (is_owed_slot now p.0 p.1) None (start_along now time ps) (λ _. tt) (starts now time ps))
 
-  stages : (now : Stage) → Pass (stage_step now c.goal c.table c.slots)
-  stages stage.Sysinit = by_cond (is_over_among stage.Sysinit c.table c.slots) (Some (Enter _ c.goal.grace)) None (λ _. each.goal _) tt
-  stages stage.Boot = by_cond (is_over_among stage.Boot c.table c.slots) (Some (Enter _ c.goal.grace)) None (λ _. each.goal _) tt
+  stages : (now : Stage) → Pass (stage_step now c.heads.goal c.table c.slots)
+  stages stage.Sysinit = by_cond (is_over_among stage.Sysinit c.table c.slots) (Some (Enter _ c.heads.goal.grace)) None (λ _. each.goal _) tt
+  stages stage.Boot = by_cond (is_over_among stage.Boot c.table c.slots) (Some (Enter _ c.heads.goal.grace)) None (λ _. each.goal _) tt
   stages (stage.Run level) = by_cond (is_over_among (stage.Run level) c.table c.slots) None None (λ _. tt) tt
 
-  settled : (now : Stage) → Pass (settle_step now c.announced c.time c.table c.slots)
+  settled : (now : Stage) → Pass (settle_step now c.heads.announced c.heads.time c.table c.slots)
   settled stage.Sysinit = tt
   settled stage.Boot = tt
-  settled (stage.Run level) = by_cond (not c.announced && is_idle c.slots && all_served level c.time c.table c.slots) (Some (Settle level)) None (λ _. each.settles level) tt
+  settled (stage.Run level) = by_cond (not c.heads.announced && is_idle c.slots && all_served level c.heads.time c.table c.slots) (Some (Settle level)) None (λ _. each.settles level) tt
 
   looks : (slots : List SlotState) → Pass (look_among slots)
   looks [] = tt
@@ -115,39 +115,39 @@ module _ (test : Step → Bool) (c : CoreState) (each : EachPasses test c) where
       by false false false false false false = tt
 
   wishes : (now : Stage) → Pass (wished_step now c)
-  wishes now = by_cond c.reexec (Some Reexec) (cond c.reread (Some Reread) (or_else (level_step c.booted c.level_wish) (news_step now c))) each.reexec
-      (by_cond c.reread (Some Reread) (or_else (level_step c.booted c.level_wish) (news_step now c)) (λ _. each.reread)
-      (by_else (level_step c.booted c.level_wish) (news_step now c) (levels c.booted c.level_wish each.wish)
-      (by_cond (in_run (Some now)) (first_news c.news) None (λ _. news c.news) tt)))
+  wishes now = by_cond c.heads.reexec (Some Reexec) (cond c.heads.reread (Some Reread) (or_else (level_step c.heads.booted c.heads.level_wish) (news_step now c))) each.reexec
+      (by_cond c.heads.reread (Some Reread) (or_else (level_step c.heads.booted c.heads.level_wish) (news_step now c)) (λ _. each.reread)
+      (by_else (level_step c.heads.booted c.heads.level_wish) (news_step now c) (levels c.heads.booted c.heads.level_wish each.wish)
+      (by_cond (in_run (Some now)) (first_news c.heads.news) None (λ _. news c.heads.news) tt)))
 
   calm : (now : Stage) → Pass (calm_step now c)
-  calm now = by_else (start_among now c.time c.table c.slots) (or_else (stage_step now c.goal c.table c.slots) (settle_step now c.announced c.time c.table c.slots)) (starts now c.time (zip c.table c.slots))
-      (by_else (stage_step now c.goal c.table c.slots) (settle_step now c.announced c.time c.table c.slots) (stages now) (settled now))
+  calm now = by_else (start_among now c.heads.time c.table c.slots) (or_else (stage_step now c.heads.goal c.table c.slots) (settle_step now c.heads.announced c.heads.time c.table c.slots)) (starts now c.heads.time (zip c.table c.slots))
+      (by_else (stage_step now c.heads.goal c.table c.slots) (settle_step now c.heads.announced c.heads.time c.table c.slots) (stages now) (settled now))
 
   work : (now : Stage) → Pass (work_step now c)
-  work now = by_cond (stands now c) None (or_else (stop_among c.grace c.time c.slots) (cond (has_excluded c.slots) None (calm_step now c))) (λ _. tt)
-      (by_else (stop_among c.grace c.time c.slots) (cond (has_excluded c.slots) None (calm_step now c)) (stops c.grace c.time c.slots)
+  work now = by_cond (stands now c) None (or_else (stop_among c.heads.grace c.heads.time c.slots) (cond (has_excluded c.slots) None (calm_step now c))) (λ _. tt)
+      (by_else (stop_among c.heads.grace c.heads.time c.slots) (cond (has_excluded c.slots) None (calm_step now c)) (stops c.heads.grace c.heads.time c.slots)
       (by_cond (has_excluded c.slots) None (calm_step now c) (λ _. tt) (calm now)))
 
   decided_in : (now : Option Stage) → test (decide_in now c) ≡ true
-  decided_in None = by_idle (first_step c) (by_cond (is_quiet c.slots) (Some (Enter stage.Sysinit c.goal.grace)) None (λ _. each.goal stage.Sysinit) tt)
+  decided_in None = by_idle (first_step c) (by_cond (is_quiet c.slots) (Some (Enter stage.Sysinit c.heads.goal.grace)) None (λ _. each.goal stage.Sysinit) tt)
   decided_in (Some now) = by_idle (or_else (wish_step now c) (or_else (work_step now c) (look_among c.slots)))
       (by_else (wish_step now c) (or_else (work_step now c) (look_among c.slots))
       (by_cond (is_quiet c.slots) (wished_step now c) None (λ _. wishes now) tt)
       (by_else (work_step now c) (look_among c.slots) (work now) (looks c.slots)))
 
   pub decided : test (decide c) ≡ true
-  decided = decided_in c.stage
+  decided = decided_in c.heads.stage
 
 -- init is to be executed anew only where that is wished
 abbrev is_other : Step → Bool
 is_other Reexec = false
 is_other _ = true
 
-pub reexec_wished : (c : CoreState) → decide c ≡ Reexec → c.reexec ≡ true
-reexec_wished c is = by c.reexec refl
+pub reexec_wished : (c : CoreState) → decide c ≡ Reexec → c.heads.reexec ≡ true
+reexec_wished c is = by c.heads.reexec refl
   where
-    others : c.reexec ≡ false → EachPasses is_other c
+    others : c.heads.reexec ≡ false → EachPasses is_other c
     others none = record {
       orders = λ id ask. refl;
       holds = λ id. refl;
@@ -161,6 +161,6 @@ reexec_wished c is = by c.reexec refl
       wish = λ wish has now. refl;
     }
 
-    by : (b : Bool) → c.reexec ≡ b → c.reexec ≡ true
+    by : (b : Bool) → c.heads.reexec ≡ b → c.heads.reexec ≡ true
     by true wished = wished
     by false none = absurd (false≢true (sym (ap is_other is) ∙ decided is_other c (others none)))

@@ -23,31 +23,13 @@ use Rattle.core_model.specs.News.{has_news, first_news}
 use Rattle.core_model.specs.State.{CoreState}
 use Rattle.core_model.specs.Decide as core
 use Rattle.core_model.specs.Decide.{or_else, or_idle, level_step, wish_step, stands, has_excluded, all_done, all_served, look_among, work_step, decide_in, decide}
-use Rattle.core_model.specs.Fit.{Fits, core_read, news_of, records_of}
-use Rattle.core_model.proofs.Fitted.{fit_records}
+use Rattle.core_model.specs.Fit.{LastStatuses, Fits, core_read, news_of, records_of}
 use Rattle.core_model.proofs.Dawn.{dawn_quiet}
 use Rattle.core_model.proofs.Firsts.{head, first_by_head, head_step_if, head_steps_if}
 use Rattle.core_model.proofs.Newest.{by_first}
 use Rattle.core_model.proofs.Reading.{quiet_same, idle_same, excluded_same, kept_excluded_same}
 use Rattle.core_model.proofs.Ranks.{starts_same, all_done_same, all_served_same, looks_same}
 use Rattle.core_model.proofs.Stops.{stops_same}
-
-pub is_read : (c : CoreState) (goal : Goal) (past : List Event) → Fits c goal past → c ≡ core_read past c.goal c.generation
-is_read c goal past fits = λ i. record {
-  table = fits.table.table i;
-  slots = fit_records c goal past fits i;
-  stage = fits.now.stage i;
-  grace = fits.now.grace i;
-  goal = c.goal;
-  booted = fits.now.booted i;
-  announced = fits.now.announced i;
-  time = fits.now.time i;
-  reexec = fits.wishes.reexec i;
-  reread = fits.wishes.reread i;
-  level_wish = fits.wishes.level i;
-  news = fits.wishes.news i;
-  generation = c.generation;
-}
 
 -- the first of nine lists: of four, of four, and of one
 nine : (a b c d e f g h i : List Step) → first (a ++ b ++ c ++ d ++ e ++ f ++ g ++ h ++ i) ≡ or_idle (or_else (or_else (head a) (or_else (head b) (or_else (head c) (head d)))) (or_else (or_else (head e) (or_else (head f) (or_else (head g) (head h)))) (head i)))
@@ -103,25 +85,25 @@ next_head stage.Sysinit goal = refl
 next_head stage.Boot goal = refl
 next_head (stage.Run level) goal = refl
 
-module _ (goal : Goal) (past : List Event) (sound : is_sound goal past ≡ true)
+module _ (lasts : LastStatuses) (goal : Goal) (past : List Event) (sound : is_sound goal past ≡ true)
     (g : Goal) (n : ℕ) (same_goal : in_run (stage_of past) ≡ false → g ≡ goal_of goal past) where
   module _ (now : Stage) (in_stage : stage_of past ≡ Some now) where
-    wish_same : or_else (head (due_reexec past)) (or_else (head (due_reread past)) (or_else (head (due_level past)) (head (due_news past)))) ≡ wish_step now (core_read past g n)
+    wish_same : or_else (head (due_reexec past)) (or_else (head (due_reread past)) (or_else (head (due_level past)) (head (due_news past)))) ≡ wish_step now (core_read lasts past g n)
     wish_same = (λ i. or_else (head_step_if (is_quiet past && wants_reexec past) Reexec i) (or_else (head_step_if (is_quiet past && wants_reread past) Reread i)
         (or_else (head_steps_if (is_quiet past) (enter_level (level_wish past) past) i) (head_steps_if (is_quiet past && in_run (stage_of past)) (power_steps powers past ++ letter_steps letters past) i))))
         ∙ wish_by (is_quiet past) (wants_reexec past) (wants_reread past) (in_run (stage_of past)) (head (enter_level (level_wish past) past)) (head (power_steps powers past ++ letter_steps letters past))
-        ∙ (λ i. cond (quiet_same goal past sound i) (cond (wants_reexec past) (Some Reexec) (cond (wants_reread past) (Some Reread) (or_else (level_head past (level_wish past) i) (cond (in_run (in_stage i)) (news_heads past i) None)))) None)
+        ∙ (λ i. cond (quiet_same lasts goal past sound i) (cond (wants_reexec past) (Some Reexec) (cond (wants_reread past) (Some Reread) (or_else (level_head past (level_wish past) i) (cond (in_run (in_stage i)) (news_heads past i) None)))) None)
 
-    stands_same : wish_stands past ≡ stands now (core_read past g n)
+    stands_same : wish_stands past ≡ stands now (core_read lasts past g n)
     stands_same = λ i. wants_reexec past || wants_reread past || is_some (level_wish past) || in_run (in_stage i) && any_news past i
 
-    stage_same : head (steps_if (is_quiet past && list_all (λ e. not (is_wanted e past) && not (waited_of e && has_child e.id (kept_children past))) (table_of past)) (due.next_stage (goal_of goal past) (stage_of past))) ≡ core.stage_step now g (table_of past) (records_of past)
+    stage_same : head (steps_if (is_quiet past && list_all (λ e. not (is_wanted e past) && not (waited_of e && has_child e.id (kept_children past))) (table_of past)) (due.next_stage (goal_of goal past) (stage_of past))) ≡ core.stage_step now g (table_of past) (records_of lasts past)
     stage_same = head_steps_if (is_quiet past && list_all (λ e. not (is_wanted e past) && not (waited_of e && has_child e.id (kept_children past))) (table_of past)) (due.next_stage (goal_of goal past) (stage_of past))
         ∙ (λ i. cond (over i) (head (due.next_stage (goal_of goal past) (in_stage i))) None)
-        ∙ ap (λ o. cond (core.is_over_among now (table_of past) (records_of past)) o None) (next_head now (goal_of goal past) ∙ to_goal now in_stage)
+        ∙ ap (λ o. cond (core.is_over_among now (table_of past) (records_of lasts past)) o None) (next_head now (goal_of goal past) ∙ to_goal now in_stage)
       where
-        over : (is_quiet past && list_all (λ e. not (is_wanted e past) && not (waited_of e && has_child e.id (kept_children past))) (table_of past)) ≡ core.is_over_among now (table_of past) (records_of past)
-        over = over_by (is_quiet past) (lists.is_quiet (records_of past)) (list_all (λ e. not (is_wanted e past) && not (waited_of e && has_child e.id (kept_children past))) (table_of past)) (all_done now (table_of past) (records_of past)) (quiet_same goal past sound) (all_done_same goal past sound now in_stage)
+        over : (is_quiet past && list_all (λ e. not (is_wanted e past) && not (waited_of e && has_child e.id (kept_children past))) (table_of past)) ≡ core.is_over_among now (table_of past) (records_of lasts past)
+        over = over_by (is_quiet past) (lists.is_quiet (records_of lasts past)) (list_all (λ e. not (is_wanted e past) && not (waited_of e && has_child e.id (kept_children past))) (table_of past)) (all_done now (table_of past) (records_of lasts past)) (quiet_same lasts goal past sound) (all_done_same lasts goal past sound now in_stage)
 
         to_goal : (now : Stage) → stage_of past ≡ Some now → core.enter_step (core.next_stage now (goal_of goal past).level) (goal_of goal past).grace ≡ core.enter_step (core.next_stage now g.level) g.grace
         to_goal stage.Sysinit is = ap (λ (x : Goal). core.enter_step (core.next_stage stage.Sysinit x.level) x.grace) (sym (same_goal (ap in_run is)))
@@ -129,21 +111,21 @@ module _ (goal : Goal) (past : List Event) (sound : is_sound goal past ≡ true)
         to_goal (stage.Run level) is = refl
 
   -- a level is settled by no excluded child
-  settle_none : (now : Stage) → stage_of past ≡ Some now → has_excluded (records_of past) ≡ true → due.settle_step (stage_of past) past ≡ []
+  settle_none : (now : Stage) → stage_of past ≡ Some now → has_excluded (records_of lasts past) ≡ true → due.settle_step (stage_of past) past ≡ []
   settle_none stage.Sysinit is excluded = rw is refl
   settle_none stage.Boot is excluded = rw is refl
-  settle_none (stage.Run level) is excluded = ap (λ o. due.settle_step o past) is ∙ ap (λ b. step_if b (Settle level)) (by (is_level level (stage_of past)) (list_any (is_excluded past) (known_children past)) (list_all (is_served level (known_children past) past) (table_of past)) (excluded_same goal past sound ∙ excluded))
+  settle_none (stage.Run level) is excluded = ap (λ o. due.settle_step o past) is ∙ ap (λ b. step_if b (Settle level)) (by (is_level level (stage_of past)) (list_any (is_excluded past) (known_children past)) (list_all (is_served level (known_children past) past) (table_of past)) (excluded_same lasts goal past sound ∙ excluded))
     where
       by : (l x s : Bool) → x ≡ true → (l && not x && s) ≡ false
       by true x s h = rw h refl
       by false x s h = refl
 
-  settle_same : (now : Stage) → stage_of past ≡ Some now → has_excluded (records_of past) ≡ false → head (steps_if (is_idle past && not (is_announced past)) (due.settle_step (stage_of past) past)) ≡ core.settle_step now (is_announced past) (time_of past) (table_of past) (records_of past)
+  settle_same : (now : Stage) → stage_of past ≡ Some now → has_excluded (records_of lasts past) ≡ false → head (steps_if (is_idle past && not (is_announced past)) (due.settle_step (stage_of past) past)) ≡ core.settle_step now (is_announced past) (time_of past) (table_of past) (records_of lasts past)
   settle_same stage.Sysinit is none = ap (λ o. head (steps_if (is_idle past && not (is_announced past)) (due.settle_step o past))) is ∙ ap head (steps_if_nil (is_idle past && not (is_announced past)))
   settle_same stage.Boot is none = ap (λ o. head (steps_if (is_idle past && not (is_announced past)) (due.settle_step o past))) is ∙ ap head (steps_if_nil (is_idle past && not (is_announced past)))
   settle_same (stage.Run level) is none = ap (λ o. head (steps_if (is_idle past && not (is_announced past)) (due.settle_step o past))) is
-      ∙ (λ i. head (steps_if (idle_same goal past sound i && not (is_announced past)) (step_if (settled i) (Settle level))))
-      ∙ by (core.is_idle (records_of past)) (is_announced past) (all_served level (time_of past) (table_of past) (records_of past))
+      ∙ (λ i. head (steps_if (idle_same lasts goal past sound i && not (is_announced past)) (step_if (settled i) (Settle level))))
+      ∙ by (core.is_idle (records_of lasts past)) (is_announced past) (all_served level (time_of past) (table_of past) (records_of lasts past))
     where
       by : (i a s : Bool) → head (steps_if (i && not a) (step_if s (Settle level))) ≡ cond (not a && i && s) (Some (Settle level)) None
       by true true s = refl
@@ -155,38 +137,38 @@ module _ (goal : Goal) (past : List Event) (sound : is_sound goal past ≡ true)
       here : (l x s k : Bool) → l ≡ true → x ≡ false → s ≡ k → (l && not x && s) ≡ k
       here l x s k hl hx hs = rw (hl, hx) hs
 
-      settled : is_settled level (known_children past) past ≡ all_served level (time_of past) (table_of past) (records_of past)
-      settled = here (is_level level (stage_of past)) (list_any (is_excluded past) (known_children past)) (list_all (is_served level (known_children past) past) (table_of past)) (all_served level (time_of past) (table_of past) (records_of past))
-          (ap (is_level level) is ∙ same_level-self level) (excluded_same goal past sound ∙ none) (all_served_same goal past sound level is)
+      settled : is_settled level (known_children past) past ≡ all_served level (time_of past) (table_of past) (records_of lasts past)
+      settled = here (is_level level (stage_of past)) (list_any (is_excluded past) (known_children past)) (list_all (is_served level (known_children past) past) (table_of past)) (all_served level (time_of past) (table_of past) (records_of lasts past))
+          (ap (is_level level) is ∙ same_level-self level) (excluded_same lasts goal past sound ∙ none) (all_served_same lasts goal past sound level is)
 
   module _ (now : Stage) (in_stage : stage_of past ≡ Some now) where
-    work_same : or_else (head (due_stops past)) (or_else (head (due_starts past)) (or_else (head (due_stage goal past)) (head (due_settle past)))) ≡ work_step now (core_read past g n)
-    work_same = (λ i. or_else (head (steps_if (not (wish_stands past)) (stops_among (record_ids past) past))) (or_else (head (steps_if (not (wish_stands past) && not (kept_excluded_same goal past sound i)) (starts_among (table_of past) past)))
-        (or_else (head (steps_if (not (wish_stands past) && is_quiet past && not (kept_excluded_same goal past sound i) && list_all (λ e. not (is_wanted e past) && not (waited_of e && has_child e.id (kept_children past))) (table_of past)) (due.next_stage (goal_of goal past) (stage_of past)))) (head (due_settle past)))))
-        ∙ work_by (wish_stands past) (has_excluded (records_of past)) (is_quiet past) (list_all (λ e. not (is_wanted e past) && not (waited_of e && has_child e.id (kept_children past))) (table_of past)) (is_idle past) (is_announced past)
+    work_same : or_else (head (due_stops past)) (or_else (head (due_starts past)) (or_else (head (due_stage goal past)) (head (due_settle past)))) ≡ work_step now (core_read lasts past g n)
+    work_same = (λ i. or_else (head (steps_if (not (wish_stands past)) (stops_among (record_ids past) past))) (or_else (head (steps_if (not (wish_stands past) && not (kept_excluded_same lasts goal past sound i)) (starts_among (table_of past) past)))
+        (or_else (head (steps_if (not (wish_stands past) && is_quiet past && not (kept_excluded_same lasts goal past sound i) && list_all (λ e. not (is_wanted e past) && not (waited_of e && has_child e.id (kept_children past))) (table_of past)) (due.next_stage (goal_of goal past) (stage_of past)))) (head (due_settle past)))))
+        ∙ work_by (wish_stands past) (has_excluded (records_of lasts past)) (is_quiet past) (list_all (λ e. not (is_wanted e past) && not (waited_of e && has_child e.id (kept_children past))) (table_of past)) (is_idle past) (is_announced past)
         (stops_among (record_ids past) past) (starts_among (table_of past) past) (due.next_stage (goal_of goal past) (stage_of past)) (due.settle_step (stage_of past) past)
-        (core.stop_among (grace_of past) (time_of past) (records_of past)) (core.start_among now (time_of past) (table_of past) (records_of past)) (core.stage_step now g (table_of past) (records_of past)) (core.settle_step now (is_announced past) (time_of past) (table_of past) (records_of past))
-        (stops_same goal past sound) (starts_same goal past sound now in_stage) (stage_same now in_stage) (settle_none now in_stage) (settle_same now in_stage)
-        ∙ ap (λ b. cond b None (or_else (core.stop_among (grace_of past) (time_of past) (records_of past)) (cond (has_excluded (records_of past)) None (core.calm_step now (core_read past g n))))) (stands_same now in_stage)
+        (core.stop_among (grace_of past) (time_of past) (records_of lasts past)) (core.start_among now (time_of past) (table_of past) (records_of lasts past)) (core.stage_step now g (table_of past) (records_of lasts past)) (core.settle_step now (is_announced past) (time_of past) (table_of past) (records_of lasts past))
+        (stops_same lasts goal past sound) (starts_same lasts goal past sound now in_stage) (stage_same now in_stage) (settle_none now in_stage) (settle_same now in_stage)
+        ∙ ap (λ b. cond b None (or_else (core.stop_among (grace_of past) (time_of past) (records_of lasts past)) (cond (has_excluded (records_of lasts past)) None (core.calm_step now (core_read lasts past g n))))) (stands_same now in_stage)
 
-    first_some : first (due goal past) ≡ decide_in (Some now) (core_read past g n)
+    first_some : first (due goal past) ≡ decide_in (Some now) (core_read lasts past g n)
     first_some = ap (λ steps. first (steps ++ due_reexec past ++ due_reread past ++ due_level past ++ due_news past ++ due_stops past ++ due_starts past ++ due_stage goal past ++ due_settle past ++ due_looks past)) (ap (λ o. due_first goal o past) in_stage)
         ∙ nine (due_reexec past) (due_reread past) (due_level past) (due_news past) (due_stops past) (due_starts past) (due_stage goal past) (due_settle past) (due_looks past)
-        ∙ (λ i. or_idle (or_else (wish_same now in_stage i) (or_else (work_same i) (looks_same past i))))
+        ∙ (λ i. or_idle (or_else (wish_same now in_stage i) (or_else (work_same i) (looks_same lasts past i))))
 
   -- before the first stage no order is open
-  first_none : stage_of past ≡ None → first (due goal past) ≡ decide_in None (core_read past g n)
+  first_none : stage_of past ≡ None → first (due goal past) ≡ decide_in None (core_read lasts past g n)
   first_none is = ap (λ o. first (due_first goal o past ++ due_reexec past ++ due_reread past ++ due_level past ++ due_news past ++ due_stops past ++ due_starts past ++ due_stage goal past ++ due_settle past ++ due_looks past)) is
       ∙ ap (λ (x : Goal). Enter stage.Sysinit x.grace) (sym (same_goal (ap in_run is)))
-      ∙ ap (λ b. or_idle (cond b (Some (Enter stage.Sysinit g.grace)) None)) (sym (sym (quiet_same goal past sound) ∙ dawn_quiet goal past sound is))
+      ∙ ap (λ b. or_idle (cond b (Some (Enter stage.Sysinit g.grace)) None)) (sym (sym (quiet_same lasts goal past sound) ∙ dawn_quiet goal past sound is))
 
-  pub read_due : decide (core_read past g n) ≡ first (due goal past)
+  pub read_due : decide (core_read lasts past g n) ≡ first (due goal past)
   read_due = at (stage_of past) refl
     where
-      at : (o : Option Stage) → stage_of past ≡ o → decide_in (stage_of past) (core_read past g n) ≡ first (due goal past)
-      at None is = ap (λ o. decide_in o (core_read past g n)) is ∙ sym (first_none is)
-      at (Some now) is = ap (λ o. decide_in o (core_read past g n)) is ∙ sym (first_some now is)
+      at : (o : Option Stage) → stage_of past ≡ o → decide_in (stage_of past) (core_read lasts past g n) ≡ first (due goal past)
+      at None is = ap (λ o. decide_in o (core_read lasts past g n)) is ∙ sym (first_none is)
+      at (Some now) is = ap (λ o. decide_in o (core_read lasts past g n)) is ∙ sym (first_some now is)
 
 -- under a fit, the step that is decided is the first that is due
 pub decide_due : (goal : Goal) (past : List Event) → is_sound goal past ≡ true → (c : CoreState) → Fits c goal past → decide c ≡ first (due goal past)
-decide_due goal past sound c fits = ap decide (is_read c goal past fits) ∙ read_due goal past sound c.goal c.generation fits.now.goal
+decide_due goal past sound c fits = ap decide fits.kept ∙ read_due fits.lasts goal past sound c.heads.goal c.heads.generation fits.goal

@@ -1,106 +1,80 @@
--- The seven parts of a fit, and the one equation that five of them make together: the records are those of the past.
-use Rattle.std.proofs.Common.{◌≡◌, refl, ◌∙◌, ap, ℕ, List, [], ◌∷◌, map}
-use Rattle.inittab_text.specs.Tables.{act_of}
+-- What a fit says of the records, and how what is read off the past goes on.
+use Rattle.std.proofs.Common.{◌≡◌, refl, sym, ◌∙◌, ap, ℕ, false, List, [], ◌∷◌, map}
 use Rattle.init_trace.specs.declared.steps.Goal.{Goal}
 use Rattle.init_trace.specs.Event.{Event}
-use Rattle.init_trace.specs.Past.{table_of, open_of}
+use Rattle.init_trace.specs.Past.{stage_of, table_of}
+use Rattle.init_trace.specs.Wishes.{in_run, goal_of}
 use Rattle.init_trace.specs.Due.{record_ids}
 use Rattle.child_table.specs.State.{SlotState}
-use Rattle.child_table.specs.Lists.{slot_ids}
 use Rattle.core_model.specs.State.{CoreState}
-use Rattle.core_model.specs.Fit.{Fits, IsAt, HasWishes, record_of, records_of, known_child, stop_of, is_to_look, was_missed, asked_of, called_of, limits_of, last_of}
+use Rattle.core_model.specs.Fit.{LastStatuses, Fits, HasLasts, FitsAll, StillFits, lasts_after, lasts_of, record_of, records_of, core_read, with_lasts}
 
--- a record is what its eleven parts are
-one_record : (slot : SlotState) (past : List Event) (id : List ℕ)
-    → slot.id ≡ id → slot.table_act ≡ act_of id (table_of past) → slot.child ≡ known_child id past → slot.order ≡ open_of id past → slot.stop ≡ stop_of id past
-    → slot.asked ≡ asked_of id past → slot.called ≡ called_of id past → slot.look ≡ is_to_look id past → slot.missed ≡ was_missed id past → slot.limiter ≡ limits_of id past → slot.last ≡ last_of id past
-    → slot ≡ record_of past id
-one_record slot past id h1 h2 h3 h4 h5 h6 h7 h8 h9 h10 h11 = λ i. record { id = h1 i; table_act = h2 i; child = h3 i; order = h4 i; stop = h5 i; asked = h6 i; called = h7 i; look = h8 i; missed = h9 i; limiter = h10 i; last = h11 i }
+-- under a fit the records, the table and the single values are those of the past
+module _ (c : CoreState) (goal : Goal) (past : List Event) (fits : Fits c goal past) where
+  pub fit_records : c.slots ≡ records_of fits.lasts past
+  fit_records = ap (λ (x : CoreState). x.slots) fits.kept
 
--- of two mapped lists that are alike, the first items, and the rests
-module _ {X Y Z : Type 0} (f : X → Z) (g : Y → Z) where
-  first_alike : (x : X) (xs : List X) (y : Y) (ys : List Y) → map f (x ∷ xs) ≡ map g (y ∷ ys) → f x ≡ g y
-  first_alike x xs y ys h = cc
+  pub fit_table : c.table ≡ table_of past
+  fit_table = ap (λ (x : CoreState). x.table) fits.kept
 
-  rest_alike : (x : X) (xs : List X) (y : Y) (ys : List Y) → map f (x ∷ xs) ≡ map g (y ∷ ys) → map f xs ≡ map g ys
-  rest_alike x xs y ys h = cc
+  pub fit_stage : c.heads.stage ≡ stage_of past
+  fit_stage = ap (λ (x : CoreState). x.heads.stage) fits.kept
 
--- where two lists agree in each part, record by record
-module _ (past : List Event) where
-  abbrev Alike : {X : Type 0} → (SlotState → X) → (List ℕ → X) → List SlotState → List (List ℕ) → Type 0
-  Alike kept said slots ids = map kept slots ≡ map said ids
+-- the last statuses of the records that are read off the past with them
+module _ (past : List Event) (lasts : LastStatuses) where
+  lasts_read : (ids : List (List ℕ)) → map (λ (slot : SlotState). slot.last) (map (record_of lasts past) ids) ≡ map lasts ids
+  lasts_read [] = refl
+  lasts_read (id ∷ ids) = ap (λ rest. lasts id ∷ rest) (lasts_read ids)
 
-  first_of : {X : Type 0} (kept : SlotState → X) (said : List ℕ → X) (slot : SlotState) (slots : List SlotState) (id : List ℕ) (ids : List (List ℕ)) → Alike kept said (slot ∷ slots) (id ∷ ids) → kept slot ≡ said id
-  first_of kept said slot slots id ids h = first_alike kept said slot slots id ids h
+  module _ (others : LastStatuses) where
+    first_same : (id : List ℕ) (ids : List (List ℕ)) → map lasts (id ∷ ids) ≡ map others (id ∷ ids) → lasts id ≡ others id
+    first_same id ids h = cc
 
-  rest_of : {X : Type 0} (kept : SlotState → X) (said : List ℕ → X) (slot : SlotState) (slots : List SlotState) (id : List ℕ) (ids : List (List ℕ)) → Alike kept said (slot ∷ slots) (id ∷ ids) → Alike kept said slots ids
-  rest_of kept said slot slots id ids h = rest_alike kept said slot slots id ids h
+    rest_same : (id : List ℕ) (ids : List (List ℕ)) → map lasts (id ∷ ids) ≡ map others (id ∷ ids) → map lasts ids ≡ map others ids
+    rest_same id ids h = cc
 
-  slots_by : (slots : List SlotState) (ids : List (List ℕ)) → slot_ids slots ≡ ids
-      → Alike (λ (s : SlotState). s.table_act) (λ id. act_of id (table_of past)) slots ids
-      → Alike (λ (s : SlotState). s.child) (λ id. known_child id past) slots ids
-      → Alike (λ (s : SlotState). s.order) (λ id. open_of id past) slots ids
-      → Alike (λ (s : SlotState). s.stop) (λ id. stop_of id past) slots ids
-      → Alike (λ (s : SlotState). s.asked) (λ id. asked_of id past) slots ids
-      → Alike (λ (s : SlotState). s.called) (λ id. called_of id past) slots ids
-      → Alike (λ (s : SlotState). s.look) (λ id. is_to_look id past) slots ids
-      → Alike (λ (s : SlotState). s.missed) (λ id. was_missed id past) slots ids
-      → Alike (λ (s : SlotState). s.limiter) (λ id. limits_of id past) slots ids
-      → Alike (λ (s : SlotState). s.last) (λ id. last_of id past) slots ids
-      → slots ≡ map (record_of past) ids
-  slots_by [] [] h1 h2 h3 h4 h5 h6 h7 h8 h9 h10 h11 = refl
-  slots_by [] (id ∷ ids) h1 h2 h3 h4 h5 h6 h7 h8 h9 h10 h11 = cc
-  slots_by (slot ∷ slots) [] h1 h2 h3 h4 h5 h6 h7 h8 h9 h10 h11 = cc
-  slots_by (slot ∷ slots) (id ∷ ids) h1 h2 h3 h4 h5 h6 h7 h8 h9 h10 h11 =
-      let own : slot.id ≡ id = cc in
-      let ids_same : slot_ids slots ≡ ids = cc in
-      let one : slot ≡ record_of past id = one_record slot past id own
-      (first_of (λ (s : SlotState). s.table_act) (λ id. act_of id (table_of past)) slot slots id ids h2)
-      (first_of (λ (s : SlotState). s.child) (λ id. known_child id past) slot slots id ids h3)
-      (first_of (λ (s : SlotState). s.order) (λ id. open_of id past) slot slots id ids h4)
-      (first_of (λ (s : SlotState). s.stop) (λ id. stop_of id past) slot slots id ids h5)
-      (first_of (λ (s : SlotState). s.asked) (λ id. asked_of id past) slot slots id ids h6)
-      (first_of (λ (s : SlotState). s.called) (λ id. called_of id past) slot slots id ids h7)
-      (first_of (λ (s : SlotState). s.look) (λ id. is_to_look id past) slot slots id ids h8)
-      (first_of (λ (s : SlotState). s.missed) (λ id. was_missed id past) slot slots id ids h9)
-      (first_of (λ (s : SlotState). s.limiter) (λ id. limits_of id past) slot slots id ids h10)
-      (first_of (λ (s : SlotState). s.last) (λ id. last_of id past) slot slots id ids h11) in
-      let more : slots ≡ map (record_of past) ids = slots_by slots ids ids_same
-      (rest_of (λ (s : SlotState). s.table_act) (λ id. act_of id (table_of past)) slot slots id ids h2)
-      (rest_of (λ (s : SlotState). s.child) (λ id. known_child id past) slot slots id ids h3)
-      (rest_of (λ (s : SlotState). s.order) (λ id. open_of id past) slot slots id ids h4)
-      (rest_of (λ (s : SlotState). s.stop) (λ id. stop_of id past) slot slots id ids h5)
-      (rest_of (λ (s : SlotState). s.asked) (λ id. asked_of id past) slot slots id ids h6)
-      (rest_of (λ (s : SlotState). s.called) (λ id. called_of id past) slot slots id ids h7)
-      (rest_of (λ (s : SlotState). s.look) (λ id. is_to_look id past) slot slots id ids h8)
-      (rest_of (λ (s : SlotState). s.missed) (λ id. was_missed id past) slot slots id ids h9)
-      (rest_of (λ (s : SlotState). s.limiter) (λ id. limits_of id past) slot slots id ids h10)
-      (rest_of (λ (s : SlotState). s.last) (λ id. last_of id past) slot slots id ids h11) in
-      λ i. one i ∷ more i
+    read_same : (ids : List (List ℕ)) → map lasts ids ≡ map others ids → map (record_of lasts past) ids ≡ map (record_of others past) ids
+    read_same [] h = refl
+    read_same (id ∷ ids) h = λ i. record (record_of lasts past id) { last = first_same id ids h i } ∷ read_same ids (rest_same id ids h) i
 
--- under a fit the records are those of the past
-pub fit_records : (c : CoreState) (goal : Goal) (past : List Event) → Fits c goal past → c.slots ≡ records_of past
-fit_records c goal past fits = slots_by past c.slots (record_ids past) fits.table.ids fits.table.acts fits.children fits.orders fits.stops.stops fits.flags.asked fits.flags.called fits.stops.looks fits.stops.missed fits.flags.limits fits.flags.lasts
+-- a core with the last statuses of the past is read off the past with them
+pub own_read : (c : CoreState) (goal : Goal) (past : List Event) → Fits c goal past → HasLasts c past
+    → c ≡ core_read (lasts_of past) past c.heads.goal c.heads.generation
+own_read c goal past fits has =
+    fits.kept ∙ ap (λ slots. record (core_read fits.lasts past c.heads.goal c.heads.generation) { slots = slots })
+    (read_same past fits.lasts (lasts_of past) (record_ids past) (sym (ap (map (λ (slot : SlotState). slot.last)) (fit_records c goal past fits) ∙ lasts_read past fits.lasts (record_ids past)) ∙ has))
 
--- each part of the records of the past is what the past says
-kept_said : {X : Type 0} (kept : SlotState → X) (past : List Event) (ids : List (List ℕ)) → map kept (map (record_of past) ids) ≡ map (λ id. kept (record_of past id)) ids
-kept_said kept past [] = refl
-kept_said kept past (id ∷ ids) = ap (λ rest. kept (record_of past id) ∷ rest) (kept_said kept past ids)
+pub read_has : (c : CoreState) (past : List Event) → c ≡ core_read (lasts_of past) past c.heads.goal c.heads.generation → HasLasts c past
+read_has c past is = ap (λ (x : CoreState). map (λ (slot : SlotState). slot.last) x.slots) is ∙ lasts_read past (lasts_of past) (record_ids past)
 
-own_ids : (past : List Event) (ids : List (List ℕ)) → slot_ids (map (record_of past) ids) ≡ ids
-own_ids past [] = refl
-own_ids past (id ∷ ids) = ap (λ rest. id ∷ rest) (own_ids past ids)
+-- what makes of a core that is read off the past one that is read off the past with one happening more keeps the fit
+pub goes_on : (old new : CoreState) (goal : Goal) (happening : Event) (past : List Event) → Fits old goal past
+    → ((lasts : LastStatuses) → old ≡ core_read lasts past old.heads.goal old.heads.generation
+    → new ≡ core_read (lasts_after happening past lasts) (happening ∷ past) new.heads.goal new.heads.generation)
+    → (in_run (stage_of (happening ∷ past)) ≡ false → new.heads.goal ≡ goal_of goal (happening ∷ past))
+    → StillFits old new goal past (happening ∷ past)
+goes_on old new goal happening past fits reads law = (
+  record { lasts = lasts_after happening past fits.lasts; kept = reads fits.lasts fits.kept; goal = law },
+  λ has. read_has new (happening ∷ past) (reads (lasts_of past) (own_read old goal past fits has)),
+)
 
--- and a core with those records fits, where the rest does
-pub fits_by : (c : CoreState) (goal : Goal) (past : List Event) → c.table ≡ table_of past → c.slots ≡ records_of past → IsAt c goal past → HasWishes c past → Fits c goal past
-fits_by c goal past table slots now wishes = record {
-  children = said (λ (s : SlotState). s.child);
-  orders = said (λ (s : SlotState). s.order);
-  table = record { table = table; ids = ap slot_ids slots ∙ own_ids past (record_ids past); acts = said (λ (s : SlotState). s.table_act) };
-  now = now;
-  wishes = wishes;
-  stops = record { stops = said (λ (s : SlotState). s.stop); looks = said (λ (s : SlotState). s.look); missed = said (λ (s : SlotState). s.missed) };
-  flags = record { asked = said (λ (s : SlotState). s.asked); called = said (λ (s : SlotState). s.called); limits = said (λ (s : SlotState). s.limiter); lasts = said (λ (s : SlotState). s.last) };
-} where
-  said : {X : Type 0} (kept : SlotState → X) → map kept c.slots ≡ map (λ id. kept (record_of past id)) (record_ids past)
-  said kept = ap (map kept) slots ∙ kept_said kept past (record_ids past)
+-- with any other last statuses a core fits the same trace
+module _ (lasts : LastStatuses) (past : List Event) where
+  read_with : (before : LastStatuses) (ids : List (List ℕ)) → map (λ (slot : SlotState). record slot { last = lasts slot.id }) (map (record_of before past) ids) ≡ map (record_of lasts past) ids
+  read_with before [] = refl
+  read_with before (id ∷ ids) = ap (λ rest. record_of lasts past id ∷ rest) (read_with before ids)
+
+  pub others_fit : (c : CoreState) (goal : Goal) → Fits c goal past → Fits (with_lasts lasts c) goal past
+  others_fit c goal fits = record {
+    lasts = lasts;
+    kept = ap (with_lasts lasts) fits.kept ∙ ap (λ slots. record (core_read lasts past c.heads.goal c.heads.generation) { slots = slots }) (read_with fits.lasts (record_ids past));
+    goal = fits.goal;
+  }
+
+-- nothing came
+pub still : (c : CoreState) (goal : Goal) (past : List Event) → Fits c goal past → StillFits c c goal past past
+still c goal past fits = (fits, λ has. has)
+
+-- so what fits with its last statuses goes on so
+pub all_on : (old new : CoreState) (goal : Goal) (past next : List Event) → StillFits old new goal past next → FitsAll old goal past → FitsAll new goal next
+all_on old new goal past next goes all = (goes.0, goes.1 all.1)

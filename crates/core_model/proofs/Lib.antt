@@ -8,6 +8,7 @@ pub mod Falls
 pub mod Firsts
 pub mod Fitted
 pub mod Hearing
+pub mod Kept
 pub mod Moments
 pub mod Newest
 pub mod Ordering

@@ -1,4 +1,4 @@
--- Each happening leaves the stage, the goal, the time and the wishes of a core what the past says.
+-- Each happening leaves the single values of init what the past says.
 use Rattle.std.proofs.Common.{◌≡◌, refl, sym, ◌∙◌, ap, subst, ℕ, Bool, true, false, ◌||◌, cond, List, [], ◌∷◌, Option, Some, None}
 use Rattle.std.proofs.lemmas.Bool.{false≢true}
 use Rattle.init_words.specs.declared.levels.Level.{Level}
@@ -12,15 +12,14 @@ use Rattle.init_words.specs.Levels.{same_level}
 use Rattle.initctl_frame.specs.declared.requests.Got.{Got}
 use Rattle.initctl_frame.specs.declared.requests.Got.TheVariants as got
 use Rattle.init_trace.specs.declared.happenings.Happening.TheVariants as event
-use Rattle.init_trace.specs.declared.steps.Step.TheVariants as step
 use Rattle.init_trace.specs.declared.steps.Goal.{Goal}
 use Rattle.init_trace.specs.Event.{Event}
 use Rattle.init_trace.specs.Past.{stage_of}
-use Rattle.init_trace.specs.Wishes.{in_run, goal_of, heard_level, other_than, level_wish, was_booted}
+use Rattle.init_trace.specs.Wishes.{in_run, goal_of, heard_level, other_than, level_wish, was_booted, wants_reread}
 use Rattle.core_model.specs.News.{with_kind, with_call}
-use Rattle.core_model.specs.State.{CoreState}
-use Rattle.core_model.specs.Steps.{is_boot, wished, heard_in, after_step, after_got}
-use Rattle.core_model.specs.Fit.{IsAt, HasWishes, news_of}
+use Rattle.core_model.specs.declared.parts.Heads.{Heads}
+use Rattle.core_model.specs.Steps.{is_boot, wished, heard_in, heads_heard}
+use Rattle.core_model.specs.Fit.{news_of, heads_of}
 
 -- a wish for another level that stands was the last level asked for
 heard_goal : (opening : Goal) (past : List Event) (wish : Goal) → heard_level past ≡ Some wish → goal_of opening past ≡ wish
@@ -53,85 +52,109 @@ booted_by stage.Sysinit grace past booted h = h
 booted_by stage.Boot grace past booted h = refl
 booted_by (stage.Run level) grace past booted h = h
 
-module _ (c : CoreState) (opening : Goal) (past : List Event) (now : IsAt c opening past) (wishes : HasWishes c past) where
-  -- a stage was entered: where no wish for another level stood, it came on the way up or is a run level
-  module _ (next : Stage) (grace : ℕ) (on_the_way : c.level_wish ≡ None → in_run (Some next) ≡ false → in_run (stage_of past) ≡ false) where
-    goal_entered : (o : Option Goal) → c.level_wish ≡ o → in_run (Some next) ≡ false → wished o c.goal ≡ goal_of opening past
-    goal_entered None is h = now.goal (on_the_way is h)
-    goal_entered (Some wish) is h = sym (wish_goal opening past wish (sym wishes.level ∙ is))
-
-    pub at_enter : IsAt (after_step (step.Enter next grace) c) opening (event.Enter next grace ∷ past)
-    at_enter = record { stage = refl; grace = refl; time = now.time; goal = goal_entered c.level_wish refl; booted = booted_by next grace past c.booted now.booted; announced = refl }
-
-    pub wishes_enter : HasWishes (after_step (step.Enter next grace) c) (event.Enter next grace ∷ past)
-    wishes_enter = record { reexec = wishes.reexec; reread = wishes.reread; level = sym (no_wish_in next); news = wishes.news }
+-- single values that are those of the past
+module _ (h : Heads) (past : List Event) (kept : h ≡ heads_of past h.goal h.generation) where
+  -- a stage was entered
+  pub heads_entered : (next : Stage) (grace : ℕ) → record h { stage = Some next; grace = grace; goal = wished h.level_wish h.goal; level_wish = None; booted = is_boot next || h.booted; announced = false }
+      ≡ heads_of (event.Enter next grace ∷ past) (wished h.level_wish h.goal) h.generation
+  heads_entered next grace = λ i. record (kept i) {
+    stage = Some next;
+    grace = grace;
+    goal = wished h.level_wish h.goal;
+    level_wish = sym (no_wish_in next) i;
+    booted = booted_by next grace past h.booted (ap (λ (x : Heads). x.booted) kept) i;
+    announced = false;
+  }
 
   -- news of the power, or a letter, was carried out
-  pub wishes_power : (kind : PowerKind) → HasWishes (after_step (step.Power kind) c) (event.Power kind ∷ past)
-  wishes_power kind = record { reexec = wishes.reexec; reread = wishes.reread; level = wishes.level; news = ap (with_kind kind false) wishes.news ∙ by kind }
+  pub heads_powered : (kind : PowerKind) → record h { news = with_kind kind false h.news } ≡ heads_of (event.Power kind ∷ past) h.goal h.generation
+  heads_powered kind = λ i. record (kept i) { news = (ap (λ (x : Heads). with_kind kind false x.news) kept ∙ by kind) i }
     where
       by : (kind : PowerKind) → with_kind kind false (news_of past) ≡ news_of (event.Power kind ∷ past)
       by power.Fail = refl
       by power.FailNow = refl
       by power.Ok = refl
 
-  pub wishes_call : (l : Letter) → HasWishes (after_step (step.Call l) c) (event.Call l ∷ past)
-  wishes_call l = record { reexec = wishes.reexec; reread = wishes.reread; level = wishes.level; news = ap (with_call l false) wishes.news ∙ by l }
+  pub heads_called : (l : Letter) → record h { news = with_call l false h.news } ≡ heads_of (event.Call l ∷ past) h.goal h.generation
+  heads_called l = λ i. record (kept i) { news = (ap (λ (x : Heads). with_call l false x.news) kept ∙ by l) i }
     where
       by : (l : Letter) → with_call l false (news_of past) ≡ news_of (event.Call l ∷ past)
       by letter.A = refl
       by letter.B = refl
       by letter.C = refl
 
+  -- a level was asked for, by the stage
+  module _ (l : Level) (s : ℕ) where
+    abbrev asked : Goal
+    asked = record { level = l; grace = s }
+
+    abbrev then : List Event
+    then = event.Got (got.Level l s) ∷ past
+
+    -- before the run levels
+    on_the_way_up : true ≡ wants_reread then → h.level_wish ≡ level_wish then → record h { goal = asked; reread = true } ≡ heads_of then asked h.generation
+    on_the_way_up again wish = λ i. record (kept i) { goal = asked; reread = again i; level_wish = wish i }
+
+    level_heard : (o : Option Stage) → stage_of past ≡ o → heard_in o asked h ≡ heads_of then (heard_in o asked h).goal (heard_in o asked h).generation
+    level_heard (Some (stage.Run run)) is = at (same_level l run) refl
+      where
+        reread : h.reread ≡ wants_reread past
+        reread = ap (λ (x : Heads). x.reread) kept
+
+        at : (b : Bool) → same_level l run ≡ b → cond b (record h { level_wish = None }) (record h { level_wish = Some asked; reread = true })
+            ≡ heads_of then (cond b (record h { level_wish = None }) (record h { level_wish = Some asked; reread = true })).goal (cond b (record h { level_wish = None }) (record h { level_wish = Some asked; reread = true })).generation
+        at true same =
+            let wish : None ≡ level_wish then = rw (is, same) refl in
+            let again : h.reread ≡ wants_reread then = rw (is, same) reread in
+            λ i. record (kept i) { level_wish = wish i; reread = again i }
+        at false differ =
+            let wish : Some asked ≡ level_wish then = rw (is, differ) refl in
+            let again : true ≡ wants_reread then = rw (is, differ) refl in
+            λ i. record (kept i) { level_wish = wish i; reread = again i }
+    level_heard (Some stage.Sysinit) is = on_the_way_up (rw is refl) (ap (λ (x : Heads). x.level_wish) kept ∙ rw is refl)
+    level_heard (Some stage.Boot) is = on_the_way_up (rw is refl) (ap (λ (x : Heads). x.level_wish) kept ∙ rw is refl)
+    level_heard None is = on_the_way_up (rw is refl) (ap (λ (x : Heads). x.level_wish) kept ∙ rw is refl)
+
   -- a request was heard
-  heard_now : (l : Level) (s : ℕ) (o : Option Stage) → stage_of past ≡ o → IsAt (heard_in o (record { level = l; grace = s }) c) opening (event.Got (got.Level l s) ∷ past)
-  heard_now l s (Some (stage.Run run)) is = at (same_level l run)
-    where
-      no_goal : {P : Type 0} → in_run (stage_of past) ≡ false → P
-      no_goal h = absurd (false≢true (sym h ∙ ap in_run is))
-
-      at : (b : Bool) → IsAt (cond b (record c { level_wish = None }) (record c { level_wish = Some (record { level = l; grace = s }); reread = true })) opening (event.Got (got.Level l s) ∷ past)
-      at true = record { stage = now.stage; grace = now.grace; time = now.time; goal = no_goal; booted = now.booted; announced = now.announced }
-      at false = record { stage = now.stage; grace = now.grace; time = now.time; goal = no_goal; booted = now.booted; announced = now.announced }
-  heard_now l s (Some stage.Sysinit) is = record { stage = now.stage; grace = now.grace; time = now.time; goal = λ h. refl; booted = now.booted; announced = now.announced }
-  heard_now l s (Some stage.Boot) is = record { stage = now.stage; grace = now.grace; time = now.time; goal = λ h. refl; booted = now.booted; announced = now.announced }
-  heard_now l s None is = record { stage = now.stage; grace = now.grace; time = now.time; goal = λ h. refl; booted = now.booted; announced = now.announced }
-
-  pub at_got : (request : Got) → IsAt (after_got request c) opening (event.Got request ∷ past)
-  at_got (got.Level l s) = by_stage (heard_now l s (stage_of past) refl)
-    where
-      by_stage : IsAt (heard_in (stage_of past) (record { level = l; grace = s }) c) opening (event.Got (got.Level l s) ∷ past) → IsAt (heard_in c.stage (record { level = l; grace = s }) c) opening (event.Got (got.Level l s) ∷ past)
-      by_stage h = subst (λ o. IsAt (heard_in o (record { level = l; grace = s }) c) opening (event.Got (got.Level l s) ∷ past)) (sym now.stage) h
-  at_got got.Reload = record { stage = now.stage; grace = now.grace; time = now.time; goal = now.goal; booted = now.booted; announced = now.announced }
-  at_got got.Reexec = record { stage = now.stage; grace = now.grace; time = now.time; goal = now.goal; booted = now.booted; announced = now.announced }
-  at_got (got.Call l) = record { stage = now.stage; grace = now.grace; time = now.time; goal = now.goal; booted = now.booted; announced = now.announced }
-  at_got (got.Power k) = record { stage = now.stage; grace = now.grace; time = now.time; goal = now.goal; booted = now.booted; announced = now.announced }
-  at_got (got.Nothing cause) = record { stage = now.stage; grace = now.grace; time = now.time; goal = now.goal; booted = now.booted; announced = now.announced }
-
-  heard_wishes : (l : Level) (s : ℕ) (o : Option Stage) → stage_of past ≡ o → HasWishes (heard_in o (record { level = l; grace = s }) c) (event.Got (got.Level l s) ∷ past)
-  heard_wishes l s (Some (stage.Run run)) is = at (same_level l run) refl
-    where
-      at : (b : Bool) → same_level l run ≡ b → HasWishes (cond b (record c { level_wish = None }) (record c { level_wish = Some (record { level = l; grace = s }); reread = true })) (event.Got (got.Level l s) ∷ past)
-      at true same = record { reexec = wishes.reexec; reread = rw (is, same) wishes.reread; level = rw (is, same) refl; news = wishes.news }
-      at false differ = record { reexec = wishes.reexec; reread = rw (is, differ) refl; level = rw (is, differ) refl; news = wishes.news }
-  heard_wishes l s (Some stage.Sysinit) is = record { reexec = wishes.reexec; reread = rw is refl; level = wishes.level ∙ rw is refl; news = wishes.news }
-  heard_wishes l s (Some stage.Boot) is = record { reexec = wishes.reexec; reread = rw is refl; level = wishes.level ∙ rw is refl; news = wishes.news }
-  heard_wishes l s None is = record { reexec = wishes.reexec; reread = rw is refl; level = wishes.level ∙ rw is refl; news = wishes.news }
-
-  pub wishes_got : (request : Got) → HasWishes (after_got request c) (event.Got request ∷ past)
-  wishes_got (got.Level l s) = subst (λ o. HasWishes (heard_in o (record { level = l; grace = s }) c) (event.Got (got.Level l s) ∷ past)) (sym now.stage) (heard_wishes l s (stage_of past) refl)
-  wishes_got got.Reload = record { reexec = wishes.reexec; reread = refl; level = wishes.level; news = wishes.news }
-  wishes_got got.Reexec = record { reexec = refl; reread = wishes.reread; level = wishes.level; news = wishes.news }
-  wishes_got (got.Call l) = record { reexec = wishes.reexec; reread = wishes.reread; level = wishes.level; news = ap (with_call l true) wishes.news ∙ by l }
+  pub heads_got : (request : Got) → heads_heard request h ≡ heads_of (event.Got request ∷ past) (heads_heard request h).goal (heads_heard request h).generation
+  heads_got (got.Level l s) = subst (λ o. heard_in o (record { level = l; grace = s }) h ≡ heads_of (event.Got (got.Level l s) ∷ past) (heard_in o (record { level = l; grace = s }) h).goal (heard_in o (record { level = l; grace = s }) h).generation)
+      (sym (ap (λ (x : Heads). x.stage) kept)) (level_heard l s (stage_of past) refl)
+  heads_got got.Reload = λ i. record (kept i) { reread = true }
+  heads_got got.Reexec = λ i. record (kept i) { reexec = true }
+  heads_got (got.Call l) = λ i. record (kept i) { news = (ap (λ (x : Heads). with_call l true x.news) kept ∙ by l) i }
     where
       by : (l : Letter) → with_call l true (news_of past) ≡ news_of (event.Got (got.Call l) ∷ past)
       by letter.A = refl
       by letter.B = refl
       by letter.C = refl
-  wishes_got (got.Power k) = record { reexec = wishes.reexec; reread = wishes.reread; level = wishes.level; news = ap (with_kind k true) wishes.news ∙ by k }
+  heads_got (got.Power k) = λ i. record (kept i) { news = (ap (λ (x : Heads). with_kind k true x.news) kept ∙ by k) i }
     where
       by : (k : PowerKind) → with_kind k true (news_of past) ≡ news_of (event.Got (got.Power k) ∷ past)
       by power.Fail = refl
       by power.FailNow = refl
       by power.Ok = refl
-  wishes_got (got.Nothing cause) = record { reexec = wishes.reexec; reread = wishes.reread; level = wishes.level; news = wishes.news }
+  heads_got (got.Nothing cause) = kept
+
+  -- the goal of what is kept, where it is that of the past before the run levels
+  module _ (opening : Goal) (law : in_run (stage_of past) ≡ false → h.goal ≡ goal_of opening past) where
+    pub goal_heard : (request : Got) → in_run (stage_of past) ≡ false → (heads_heard request h).goal ≡ goal_of opening (event.Got request ∷ past)
+    goal_heard (got.Level l s) early = subst (λ o. in_run o ≡ false → (heard_in o (record { level = l; grace = s }) h).goal ≡ record { level = l; grace = s }) (sym (ap (λ (x : Heads). x.stage) kept)) (by (stage_of past)) (ap (λ (x : Heads). in_run x.stage) kept ∙ early)
+      where
+        by : (o : Option Stage) → in_run o ≡ false → (heard_in o (record { level = l; grace = s }) h).goal ≡ record { level = l; grace = s }
+        by (Some (stage.Run run)) h = absurd (false≢true (sym h))
+        by (Some stage.Sysinit) h = refl
+        by (Some stage.Boot) h = refl
+        by None h = refl
+    goal_heard got.Reload early = law early
+    goal_heard got.Reexec early = law early
+    goal_heard (got.Call l) early = law early
+    goal_heard (got.Power k) early = law early
+    goal_heard (got.Nothing cause) early = law early
+
+    -- a stage was entered: where no wish for another level stood, it came on the way up or is a run level
+    pub goal_entered : (next : Stage) → (h.level_wish ≡ None → in_run (Some next) ≡ false → in_run (stage_of past) ≡ false) → in_run (Some next) ≡ false → wished h.level_wish h.goal ≡ goal_of opening past
+    goal_entered next on_the_way early = at h.level_wish refl
+      where
+        at : (o : Option Goal) → h.level_wish ≡ o → wished o h.goal ≡ goal_of opening past
+        at None is = law (on_the_way is early)
+        at (Some wish) is = sym (wish_goal opening past wish (sym (ap (λ (x : Heads). x.level_wish) kept) ∙ is))

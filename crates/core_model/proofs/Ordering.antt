@@ -29,7 +29,7 @@ use Rattle.child_table.specs.State.{SlotState}
 use Rattle.child_table.specs.Changes.{after_order, after_hold, after_nudge}
 use Rattle.child_table.specs.Lists.{changed, with_changed}
 use Rattle.core_model.specs.Steps.{is_named, called_if, with_called}
-use Rattle.core_model.specs.Fit.{child_known, known_child, living, stop_known, stop_after, limiter_by, last_hold_end, record_of, records_of}
+use Rattle.core_model.specs.Fit.{LastStatuses, child_known, known_child, living, stop_known, stop_after, limiter_by, last_hold_end, record_of, records_of}
 
 -- two lists made along the same ids, alike at each
 pub records_same : (f g : List ℕ → SlotState) (change : SlotState → SlotState) → ((id : List ℕ) → change (f id) ≡ g id) → (ids : List (List ℕ)) → map change (map f ids) ≡ map g ids
@@ -63,19 +63,19 @@ entry_has id (x ∷ es) e is = at (same_id id x.id) refl (entry_has id es e) is
     at false differ rest is = rest is
 
 -- a look, a TERM and a KILL were ordered
-module _ (id : List ℕ) (past : List Event) (now : ℕ) where
-  pub look_ordered : with_changed id (after_order Look now) (records_of past) ≡ records_of (Asked id Look ∷ past)
-  look_ordered = records_same (record_of past) (record_of (Asked id Look ∷ past)) (changed id (after_order Look now)) (one_changed id (after_order Look now) (record_of past) (record_of (Asked id Look ∷ past)) (λ i. refl)
+module _ (lasts : LastStatuses) (id : List ℕ) (past : List Event) (now : ℕ) where
+  pub look_ordered : with_changed id (after_order Look now) (records_of lasts past) ≡ records_of lasts (Asked id Look ∷ past)
+  look_ordered = records_same (record_of lasts past) (record_of lasts (Asked id Look ∷ past)) (changed id (after_order Look now)) (one_changed id (after_order Look now) (record_of lasts past) (record_of lasts (Asked id Look ∷ past)) (λ i. refl)
       (λ i is. rw (same_id-sym i id, is, stop_still (Asked id Look) past (child_known i past) refl (λ c. refl), missed_known (Asked id Look) past (child_known i past) refl, and_false (has_child i (known_children past))) refl)
       (λ i is. rw (same_id-sym i id, is, stop_still (Asked id Look) past (child_known i past) refl (λ c. refl), missed_known (Asked id Look) past (child_known i past) refl) refl)) (record_ids past)
 
-  pub term_ordered : with_changed id (after_order Term now) (records_of past) ≡ records_of (Asked id Term ∷ past)
-  term_ordered = records_same (record_of past) (record_of (Asked id Term ∷ past)) (changed id (after_order Term now)) (one_changed id (after_order Term now) (record_of past) (record_of (Asked id Term ∷ past)) (λ i. refl)
+  pub term_ordered : with_changed id (after_order Term now) (records_of lasts past) ≡ records_of lasts (Asked id Term ∷ past)
+  term_ordered = records_same (record_of lasts past) (record_of lasts (Asked id Term ∷ past)) (changed id (after_order Term now)) (one_changed id (after_order Term now) (record_of lasts past) (record_of lasts (Asked id Term ∷ past)) (λ i. refl)
       (λ i is. rw (same_id-sym i id, is, stop_still (Asked id Term) past (child_known i past) refl (λ c. refl), missed_known (Asked id Term) past (child_known i past) refl) refl)
       (λ i is. rw (same_id-sym i id, is, stop_still (Asked id Term) past (child_known i past) refl (λ c. refl), missed_known (Asked id Term) past (child_known i past) refl) refl)) (record_ids past)
 
-  pub kill_ordered : with_changed id (after_order Kill now) (records_of past) ≡ records_of (Asked id Kill ∷ past)
-  kill_ordered = records_same (record_of past) (record_of (Asked id Kill ∷ past)) (changed id (after_order Kill now)) (one_changed id (after_order Kill now) (record_of past) (record_of (Asked id Kill ∷ past)) (λ i. refl)
+  pub kill_ordered : with_changed id (after_order Kill now) (records_of lasts past) ≡ records_of lasts (Asked id Kill ∷ past)
+  kill_ordered = records_same (record_of lasts past) (record_of lasts (Asked id Kill ∷ past)) (changed id (after_order Kill now)) (one_changed id (after_order Kill now) (record_of lasts past) (record_of lasts (Asked id Kill ∷ past)) (λ i. refl)
       (λ i is. rw (same_id-sym i id, is, stop_still (Asked id Kill) past (child_known i past) refl (λ c. refl), missed_known (Asked id Kill) past (child_known i past) refl) refl)
       (λ i is. rw (same_id-sym i id, is, stop_still (Asked id Kill) past (child_known i past) refl (λ c. refl), missed_known (Asked id Kill) past (child_known i past) refl) refl)) (record_ids past)
 
@@ -84,58 +84,58 @@ start_limiter : (starts holds : List ℕ) (now : ℕ) → with_start (limiter_by
 start_limiter starts holds now = rw (reverse_onto starts now []) (ap (λ noted. record { starts = noted; held = last_hold_end holds }) (drop_last_push 10 (reverse starts) now))
 
 -- a start was ordered of an id of the table
-module _ (id : List ℕ) (past : List Event) (e : Entry) (own : entry_of id (table_of past) ≡ Some e) where
-  start_own : after_order Start (time_of past) (record_of past id) ≡ record_of (Asked id Start ∷ past) id
+module _ (lasts : LastStatuses) (id : List ℕ) (past : List Event) (e : Entry) (own : entry_of id (table_of past) ≡ Some e) where
+  start_own : after_order Start (time_of past) (record_of lasts past id) ≡ record_of lasts (Asked id Start ∷ past) id
   start_own = at (is_limited e.act) refl
     where
       same : same_id e.id id ≡ true
       same = same_id-sym e.id id ∙ entry_has id (table_of past) e own
 
-      at : (b : Bool) → is_limited e.act ≡ b → after_order Start (time_of past) (record_of past id) ≡ record_of (Asked id Start ∷ past) id
+      at : (b : Bool) → is_limited e.act ≡ b → after_order Start (time_of past) (record_of lasts past id) ≡ record_of lasts (Asked id Start ∷ past) id
       at true is = rw (own, same, same_id-self id, is, or_false (stays_called e.act), stop_still (Asked id Start) past (child_known id past) refl (λ c. refl), missed_known (Asked id Start) past (child_known id past) refl, start_limiter (start_times e.id past) (hold_times e.id past) (time_of past)) refl
       at false is = rw (own, same, same_id-self id, is, or_false (stays_called e.act), stop_still (Asked id Start) past (child_known id past) refl (λ c. refl), missed_known (Asked id Start) past (child_known id past) refl) refl
 
-  start_other : (i : List ℕ) → same_id id i ≡ false → record_of past i ≡ record_of (Asked id Start ∷ past) i
+  start_other : (i : List ℕ) → same_id id i ≡ false → record_of lasts past i ≡ record_of lasts (Asked id Start ∷ past) i
   start_other i differ = at (entry_of i (table_of past)) refl
     where
       apart : same_id i id ≡ false
       apart = same_id-sym i id ∙ differ
 
-      at : (o : Option Entry) → entry_of i (table_of past) ≡ o → record_of past i ≡ record_of (Asked id Start ∷ past) i
+      at : (o : Option Entry) → entry_of i (table_of past) ≡ o → record_of lasts past i ≡ record_of lasts (Asked id Start ∷ past) i
       at None is = rw (is, apart, stop_still (Asked id Start) past (child_known i past) refl (λ c. refl), missed_known (Asked id Start) past (child_known i past) refl) refl
       at (Some x) is =
           let other : same_id x.id id ≡ false = ap (λ y. same_id y id) (sym (same_id-is i x.id (entry_has i (table_of past) x is))) ∙ apart in
           rw (is, apart, other, or_true (stays_called x.act), stop_still (Asked id Start) past (child_known i past) refl (λ c. refl), missed_known (Asked id Start) past (child_known i past) refl) refl
 
-  pub start_ordered : with_changed id (after_order Start (time_of past)) (records_of past) ≡ records_of (Asked id Start ∷ past)
-  start_ordered = records_same (record_of past) (record_of (Asked id Start ∷ past)) (changed id (after_order Start (time_of past))) (one_changed id (after_order Start (time_of past)) (record_of past) (record_of (Asked id Start ∷ past)) (λ i. refl)
-      (λ i is. subst (λ x. after_order Start (time_of past) (record_of past x) ≡ record_of (Asked id Start ∷ past) x) (same_id-is id i is) start_own)
+  pub start_ordered : with_changed id (after_order Start (time_of past)) (records_of lasts past) ≡ records_of lasts (Asked id Start ∷ past)
+  start_ordered = records_same (record_of lasts past) (record_of lasts (Asked id Start ∷ past)) (changed id (after_order Start (time_of past))) (one_changed id (after_order Start (time_of past)) (record_of lasts past) (record_of lasts (Asked id Start ∷ past)) (λ i. refl)
+      (λ i is. subst (λ x. after_order Start (time_of past) (record_of lasts past x) ≡ record_of lasts (Asked id Start ∷ past) x) (same_id-is id i is) start_own)
       start_other) (record_ids past)
 
   -- an entry that the limit holds for was held
   module _ (limited : is_limited e.act ≡ true) where
-    hold_own : after_hold (time_of past) (record_of past id) ≡ record_of (Hold id ∷ past) id
+    hold_own : after_hold (time_of past) (record_of lasts past id) ≡ record_of lasts (Hold id ∷ past) id
     hold_own =
         let same : same_id e.id id ≡ true = same_id-sym e.id id ∙ entry_has id (table_of past) e own in
         rw (own, same, limited, stop_still (Hold id) past (child_known id past) refl (λ c. refl), missed_known (Hold id) past (child_known id past) refl) refl
 
-    hold_other : (i : List ℕ) → same_id id i ≡ false → record_of past i ≡ record_of (Hold id ∷ past) i
+    hold_other : (i : List ℕ) → same_id id i ≡ false → record_of lasts past i ≡ record_of lasts (Hold id ∷ past) i
     hold_other i differ = at (entry_of i (table_of past)) refl
       where
-        at : (o : Option Entry) → entry_of i (table_of past) ≡ o → record_of past i ≡ record_of (Hold id ∷ past) i
+        at : (o : Option Entry) → entry_of i (table_of past) ≡ o → record_of lasts past i ≡ record_of lasts (Hold id ∷ past) i
         at None is = rw (is, stop_still (Hold id) past (child_known i past) refl (λ c. refl), missed_known (Hold id) past (child_known i past) refl) refl
         at (Some x) is =
             let other : same_id x.id id ≡ false = ap (λ y. same_id y id) (sym (same_id-is i x.id (entry_has i (table_of past) x is))) ∙ same_id-sym i id ∙ differ in
             rw (is, other, stop_still (Hold id) past (child_known i past) refl (λ c. refl), missed_known (Hold id) past (child_known i past) refl) refl
 
-    pub hold_made : with_changed id (after_hold (time_of past)) (records_of past) ≡ records_of (Hold id ∷ past)
-    hold_made = records_same (record_of past) (record_of (Hold id ∷ past)) (changed id (after_hold (time_of past))) (one_changed id (after_hold (time_of past)) (record_of past) (record_of (Hold id ∷ past)) (λ i. refl)
-        (λ i is. subst (λ x. after_hold (time_of past) (record_of past x) ≡ record_of (Hold id ∷ past) x) (same_id-is id i is) hold_own)
+    pub hold_made : with_changed id (after_hold (time_of past)) (records_of lasts past) ≡ records_of lasts (Hold id ∷ past)
+    hold_made = records_same (record_of lasts past) (record_of lasts (Hold id ∷ past)) (changed id (after_hold (time_of past))) (one_changed id (after_hold (time_of past)) (record_of lasts past) (record_of lasts (Hold id ∷ past)) (λ i. refl)
+        (λ i is. subst (λ x. after_hold (time_of past) (record_of lasts past x) ≡ record_of lasts (Hold id ∷ past) x) (same_id-is id i is) hold_own)
         hold_other) (record_ids past)
 
 -- a round began
-pub nudged : (past : List Event) → map after_nudge (records_of past) ≡ records_of (Nudge ∷ past)
-nudged past = records_same (record_of past) (record_of (Nudge ∷ past)) after_nudge one (record_ids past)
+pub nudged : (lasts : LastStatuses) → (past : List Event) → map after_nudge (records_of lasts past) ≡ records_of lasts (Nudge ∷ past)
+nudged lasts past = records_same (record_of lasts past) (record_of lasts (Nudge ∷ past)) after_nudge one (record_ids past)
   where
     by : (c w : Bool) → (c || c && w) ≡ (c && c)
     by true w = refl
@@ -152,7 +152,7 @@ nudged past = records_same (record_of past) (record_of (Nudge ∷ past)) after_n
     there : (id : List ℕ) → is_some (known_child id past) ≡ has_child id (known_children past)
     there id = found_any living (is_of id) (known_children past)
 
-    one : (id : List ℕ) → after_nudge (record_of past id) ≡ record_of (Nudge ∷ past) id
+    one : (id : List ℕ) → after_nudge (record_of lasts past id) ≡ record_of lasts (Nudge ∷ past) id
     one id = rw (there id, by (has_child id (known_children past)) (wants_look id past), stops (child_known id past), missed (child_known id past)) refl
 
 none_named : (p : Entry → Bool) (id : List ℕ) (es : List Entry) → list_any (has_id id) es ≡ false → list_any (λ e. has_id id e && p e) es ≡ false
@@ -180,17 +180,17 @@ called_same (Some e) named before after same slot is = rw (same e) (at (named e)
     at true = refl
     at false = rw (← is) refl
 
-module _ (past : List Event) (distinct : is_distinct (table_of past) ≡ true) where
-  pub power_called : (kind : PowerKind) → with_called (is_named (step.Power kind) (stage_of past)) (table_of past) (records_of past) ≡ records_of (Power kind ∷ past)
-  power_called kind = records_same (record_of past) (record_of (Power kind ∷ past)) (λ (slot : SlotState). called_if (list_any (λ e. has_id slot.id e && is_named (step.Power kind) (stage_of past) e) (table_of past)) slot) one (record_ids past)
+module _ (lasts : LastStatuses) (past : List Event) (distinct : is_distinct (table_of past) ≡ true) where
+  pub power_called : (kind : PowerKind) → with_called (is_named (step.Power kind) (stage_of past)) (table_of past) (records_of lasts past) ≡ records_of lasts (Power kind ∷ past)
+  power_called kind = records_same (record_of lasts past) (record_of lasts (Power kind ∷ past)) (λ (slot : SlotState). called_if (list_any (λ e. has_id slot.id e && is_named (step.Power kind) (stage_of past) e) (table_of past)) slot) one (record_ids past)
     where
-      one : (id : List ℕ) → called_if (list_any (λ e. has_id id e && is_named (step.Power kind) (stage_of past) e) (table_of past)) (record_of past id) ≡ record_of (Power kind ∷ past) id
+      one : (id : List ℕ) → called_if (list_any (λ e. has_id id e && is_named (step.Power kind) (stage_of past) e) (table_of past)) (record_of lasts past id) ≡ record_of lasts (Power kind ∷ past) id
       one id = rw (named_own (is_named (step.Power kind) (stage_of past)) id (table_of past) distinct, stop_still (Power kind) past (child_known id past) refl (λ c. refl), missed_known (Power kind) past (child_known id past) refl)
-          (called_same (entry_of id (table_of past)) (is_named (step.Power kind) (stage_of past)) (λ e. is_called e past) (λ e. is_called e (Power kind ∷ past)) (λ e. refl) (record_of past id) refl)
+          (called_same (entry_of id (table_of past)) (is_named (step.Power kind) (stage_of past)) (λ e. is_called e past) (λ e. is_called e (Power kind ∷ past)) (λ e. refl) (record_of lasts past id) refl)
 
-  pub letter_called : (letter : Letter) → with_called (is_named (step.Call letter) (stage_of past)) (table_of past) (records_of past) ≡ records_of (Call letter ∷ past)
-  letter_called letter = records_same (record_of past) (record_of (Call letter ∷ past)) (λ (slot : SlotState). called_if (list_any (λ e. has_id slot.id e && is_named (step.Call letter) (stage_of past) e) (table_of past)) slot) one (record_ids past)
+  pub letter_called : (letter : Letter) → with_called (is_named (step.Call letter) (stage_of past)) (table_of past) (records_of lasts past) ≡ records_of lasts (Call letter ∷ past)
+  letter_called letter = records_same (record_of lasts past) (record_of lasts (Call letter ∷ past)) (λ (slot : SlotState). called_if (list_any (λ e. has_id slot.id e && is_named (step.Call letter) (stage_of past) e) (table_of past)) slot) one (record_ids past)
     where
-      one : (id : List ℕ) → called_if (list_any (λ e. has_id id e && is_named (step.Call letter) (stage_of past) e) (table_of past)) (record_of past id) ≡ record_of (Call letter ∷ past) id
+      one : (id : List ℕ) → called_if (list_any (λ e. has_id id e && is_named (step.Call letter) (stage_of past) e) (table_of past)) (record_of lasts past id) ≡ record_of lasts (Call letter ∷ past) id
       one id = rw (named_own (is_named (step.Call letter) (stage_of past)) id (table_of past) distinct, stop_still (Call letter) past (child_known id past) refl (λ c. refl), missed_known (Call letter) past (child_known id past) refl)
-          (called_same (entry_of id (table_of past)) (is_named (step.Call letter) (stage_of past)) (λ e. is_called e past) (λ e. is_called e (Call letter ∷ past)) (λ e. refl) (record_of past id) refl)
+          (called_same (entry_of id (table_of past)) (is_named (step.Call letter) (stage_of past)) (λ e. is_called e past) (λ e. is_called e (Call letter ∷ past)) (λ e. refl) (record_of lasts past id) refl)

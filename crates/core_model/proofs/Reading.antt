@@ -27,7 +27,7 @@ use Rattle.child_table.specs.Lists.{is_busy}
 use Rattle.child_table.specs.Lists as lists
 use Rattle.core_model.specs.Decide as core
 use Rattle.core_model.specs.Decide.{or_else, signal_step, stop_step, stop_among, has_excluded, is_wanted_slot, is_owed_slot, limited_step, can_start_slot, start_step, start_along, is_done_slot, all_done, is_served_slot, all_served, look_among}
-use Rattle.core_model.specs.Fit.{known_child, stop_after, stop_known, stop_of, asked_of, called_of, limiter_of, limits_of, record_of, records_of}
+use Rattle.core_model.specs.Fit.{LastStatuses, known_child, stop_after, stop_known, stop_of, asked_of, called_of, limiter_of, limits_of, record_of, records_of}
 use Rattle.core_model.proofs.Acts.{child_some}
 
 -- a fact of each entry
@@ -60,8 +60,8 @@ pub table_front : (f : List ℕ → SlotState) (es : List Entry) (rest : List (L
 table_front f [] rest = refl
 table_front f (e ∷ es) rest = ap (λ ps. (e, f e.id) ∷ ps) (table_front f es rest)
 
-pub table_pairs : (past : List Event) → zip (table_of past) (records_of past) ≡ zip (table_of past) (map (λ (e : Entry). record_of past e.id) (table_of past))
-table_pairs past = table_front (record_of past) (table_of past) (filter (λ id. has_child id (known_children past)) (left_ids past))
+pub table_pairs : (lasts : LastStatuses) → (past : List Event) → zip (table_of past) (records_of lasts past) ≡ zip (table_of past) (map (λ (e : Entry). record_of lasts past e.id) (table_of past))
+table_pairs lasts past = table_front (record_of lasts past) (table_of past) (filter (λ id. has_child id (known_children past)) (left_ids past))
 
 -- a test of the entries and their records is one of the entries
 pub pairs_all : (f : Entry → SlotState) (P : Entry → Type 0) (q : Entry → Bool) (p : Entry × SlotState → Bool) → ((e : Entry) → P e → q e ≡ p (e, f e)) → (es : List Entry) → Each P es → list_all q es ≡ list_all p (zip es (map f es))
@@ -107,7 +107,7 @@ module _ (past : List Event) (e : Entry) (own : entry_of e.id (table_of past) �
   pub limits_own : limits_of e.id past ≡ limiter_of e past
   limits_own = rw own refl
 
-module _ (goal : Goal) (past : List Event) (sound : is_sound goal past ≡ true) where
+module _ (lasts : LastStatuses) (goal : Goal) (past : List Event) (sound : is_sound goal past ≡ true) where
   pub table_own : Each (IsOwn (table_of past)) (table_of past)
   table_own = each_own (table_of past) (sound_holds goal past sound).distinct
 
@@ -132,17 +132,17 @@ module _ (goal : Goal) (past : List Event) (sound : is_sound goal past ≡ true)
           let found = passing (λ id. option_map_or p (open_of id past) false) (record_ids past) h in
           any_less (λ order. same_id found.item order.id && p order.ask) (λ order. p order.ask) (λ order both. (and_parts (same_id found.item order.id) (p order.ask) both).1) (open_orders past) (open_listed p found.item past ∙ found.passes)
 
-  pub quiet_same : is_quiet past ≡ lists.is_quiet (records_of past)
+  pub quiet_same : is_quiet past ≡ lists.is_quiet (records_of lasts past)
   quiet_same = ap not (orders_same (λ ask. not (same_ask Look ask)) ∙ any_same (λ id. option_map_or (λ ask. not (same_ask Look ask)) (open_of id past) false) (λ id. is_busy (open_of id past)) (λ id. busy (open_of id past)) (record_ids past)
-      ∙ sym (any_map (record_of past) (λ (slot : SlotState). is_busy slot.order) (record_ids past)))
+      ∙ sym (any_map (record_of lasts past) (λ (slot : SlotState). is_busy slot.order) (record_ids past)))
     where
       busy : (o : Option Ask) → option_map_or (λ ask. not (same_ask Look ask)) o false ≡ is_busy o
       busy None = refl
       busy (Some ask) = refl
 
-  pub idle_same : is_idle past ≡ core.is_idle (records_of past)
+  pub idle_same : is_idle past ≡ core.is_idle (records_of lasts past)
   idle_same = ap not (orders_same (λ ask. true) ∙ any_same (λ id. option_map_or (λ ask. true) (open_of id past) false) (λ id. is_some (open_of id past)) (λ id. given (open_of id past)) (record_ids past)
-      ∙ sym (any_map (record_of past) (λ (slot : SlotState). is_some slot.order) (record_ids past)))
+      ∙ sym (any_map (record_of lasts past) (λ (slot : SlotState). is_some slot.order) (record_ids past)))
     where
       given : (o : Option Ask) → option_map_or (λ ask. true) o false ≡ is_some o
       given None = refl
@@ -160,8 +160,8 @@ module _ (goal : Goal) (past : List Event) (sound : is_sound goal past ≡ true)
       at None = refl
       at (Some child) = begun (is_excluded past child) child
 
-  pub excluded_same : list_any (is_excluded past) (known_children past) ≡ has_excluded (records_of past)
-  excluded_same = same_tests (list_any (is_excluded past) (known_children past)) (list_any (λ id. is_some (stop_of id past)) (record_ids past)) there back ∙ sym (any_map (record_of past) (λ (slot : SlotState). is_some slot.stop) (record_ids past))
+  pub excluded_same : list_any (is_excluded past) (known_children past) ≡ has_excluded (records_of lasts past)
+  excluded_same = same_tests (list_any (is_excluded past) (known_children past)) (list_any (λ id. is_some (stop_of id past)) (record_ids past)) there back ∙ sym (any_map (record_of lasts past) (λ (slot : SlotState). is_some slot.stop) (record_ids past))
     where
       there : list_any (is_excluded past) (known_children past) ≡ true → list_any (λ id. is_some (stop_of id past)) (record_ids past) ≡ true
       there h =
@@ -175,5 +175,5 @@ module _ (goal : Goal) (past : List Event) (sound : is_sound goal past ≡ true)
           let found = passing (λ id. is_some (stop_of id past)) (record_ids past) h in
           any_less (λ child. is_of found.item child && is_excluded past child) (is_excluded past) (λ child both. (and_parts (is_of found.item child) (is_excluded past child) both).1) (known_children past) (stop_begun found.item ∙ found.passes)
 
-  pub kept_excluded_same : list_any (is_excluded past) (kept_children past) ≡ has_excluded (records_of past)
+  pub kept_excluded_same : list_any (is_excluded past) (kept_children past) ≡ has_excluded (records_of lasts past)
   kept_excluded_same = excluded_known goal past sound ∙ excluded_same

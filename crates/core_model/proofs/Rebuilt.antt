@@ -1,26 +1,23 @@
 -- A core made anew keeps the rules, and what it was made from; and a core that keeps them is determined by that.
-use Rattle.std.proofs.Common.{◌≡◌, ◌≢◌, refl, sym, ◌∙◌, ap, cond, ℕ, Bool, true, false, not, ◌&&◌, ◌||◌, ◌==◌, List, [], ◌∷◌, map, nat_le, Option, Some, None, is_some, is_none, length, arith}
+use Rattle.std.proofs.Common.{◌≡◌, ◌≢◌, refl, sym, ◌∙◌, ap, cond, ℕ, Bool, true, false, ◌&&◌, ◌==◌, List, [], ◌∷◌, map, nat_le, Option, Some, None, is_some, is_none, length, arith}
 use Rattle.std.specs.List.{list_all}
 use Rattle.std.specs.Option.{option_map}
-use Rattle.std.proofs.lemmas.Bool.{and_parts, and_from, leb-true, le-leb, eqb-true, false≢true}
+use Rattle.std.proofs.lemmas.Bool.{and_parts, and_from, eqb-true, false≢true}
 use Rattle.init_words.specs.declared.actions.Act.{Act}
 use Rattle.init_words.specs.declared.entries.Entry.{Entry}
-use Rattle.init_words.specs.declared.stages.Stage.{Stage}
 use Rattle.init_words.specs.Ids.{same_id}
 use Rattle.init_words.proofs.Same.{same_id-is, same_id-self}
-use Rattle.respawn_limit.specs.declared.TheConstants.{CLOCK_LIMIT, STARTS}
+use Rattle.respawn_limit.specs.declared.TheConstants.{STARTS}
 use Rattle.respawn_limit.specs.State.{LimiterState}
-use Rattle.init_trace.specs.Wishes.{in_run}
 use Rattle.child_table.specs.declared.children.KnownChild.{KnownChild}
 use Rattle.child_table.specs.State.{SlotState, act_born_with, is_limited_slot}
-use Rattle.child_table.specs.Lists.{are_distinct}
 use Rattle.child_table.specs.Order.{IsInOrder}
-use Rattle.child_table.specs.Times.{is_timely, are_timely}
 use Rattle.core_model.specs.declared.parts.Record.{Record}
-use Rattle.core_model.specs.Parts.{SavedState, record_of, heads_of, state_of}
-use Rattle.core_model.specs.Rules.{IsFit, has_cause, is_birth_known, is_order_allowed, is_stop_judged, are_marks_due, is_limiter_kept, is_limit_kept, is_unused, is_hold_of, are_starts_in, are_starts_free, is_other_level, is_goal_reached, never_fall}
-use Rattle.core_model.specs.Rebuilding.{living_of, slot_from, slots_along, are_paired, is_whole, is_for, are_whole, core_of, are_heads_kept, is_slot_kept, are_slots_kept, is_kept}
+use Rattle.core_model.specs.Parts.{SavedState, record_of, state_of}
+use Rattle.core_model.specs.Rules.{IsFit, is_birth_known, is_limiter_kept, is_limit_kept, is_unused, is_hold_of, never_fall, is_kept}
+use Rattle.core_model.specs.Rebuilding.{living_of, slot_from, slots_along, are_paired, is_whole, is_for, are_whole, core_of}
 use Rattle.core_model.specs.State.{CoreState}
+use Rattle.core_model.proofs.Kept.{rules_of}
 
 -- a child by its number and its action
 living_is : (child : Option KnownChild) → living_of (option_map (λ (c : KnownChild). c.number) child) (act_born_with child) ≡ child
@@ -102,22 +99,6 @@ made_order (e ∷ table) (r ∷ records) h =
     let parts = whole_parts table e r records h in
     (same_id-is r.id e.id parts.0, refl, made_order table records parts.2)
 
-birth_made : (r : Record) → is_whole r ≡ true → is_birth_known (living_of r.child r.act) ≡ true
-birth_made r whole = paired_known r.child r.act (and_parts (are_paired r.child r.act) (never_fall r.starts.items) whole).0
-
-rest_births : (records : List Record) → list_all is_whole records ≡ true → list_all (λ (slot : SlotState). is_birth_known slot.child) (map (slot_from None) records) ≡ true
-rest_births [] h = refl
-rest_births (r ∷ records) h =
-    let parts = and_parts (is_whole r) (list_all is_whole records) h in
-    and_from (is_birth_known (living_of r.child r.act)) _ (birth_made r parts.0) (rest_births records parts.1)
-
-made_births : (table : List Entry) (records : List Record) → are_whole table records ≡ true → list_all (λ (slot : SlotState). is_birth_known slot.child) (slots_along table records) ≡ true
-made_births [] records h = rest_births records h
-made_births (e ∷ table) [] h = absurd (false≢true h)
-made_births (e ∷ table) (r ∷ records) h =
-    let parts = whole_parts table e r records h in
-    and_from (is_birth_known (living_of r.child r.act)) _ (birth_made r parts.1) (made_births table records parts.2)
-
 -- what is kept by the rules can be made anew
 limit_ordered : (now : ℕ) (b : Bool) (limiter : LimiterState) → cond b (is_limit_kept now limiter) (is_unused limiter) ≡ true → never_fall limiter.starts ≡ true
 limit_ordered now true limiter h =
@@ -152,110 +133,16 @@ kept_whole now (e ∷ table) (slot ∷ slots) order known kept =
     (and_from (same_id slot.id e.id) (is_whole (record_of slot)) (ap (same_id slot.id) (sym order.0) ∙ same_id-self slot.id) (slot_whole now slot births.0 limits.0))
     (kept_whole now table slots order.2 births.1 limits.1)
 
--- tests of all records, one by one and together
-all_parts : (p q : SlotState → Bool) (slots : List SlotState) → list_all (λ (s : SlotState). p s && q s) slots ≡ true → (list_all p slots ≡ true) × (list_all q slots ≡ true)
-all_parts p q [] h = (refl, refl)
-all_parts p q (slot ∷ slots) h =
-    let both = and_parts (p slot && q slot) (list_all (λ (s : SlotState). p s && q s) slots) h in
-    let first = and_parts (p slot) (q slot) both.0 in
-    let later = all_parts p q slots both.1 in
-    (and_from (p slot) (list_all p slots) first.0 later.0, and_from (q slot) (list_all q slots) first.1 later.1)
-
-all_from : (p q : SlotState → Bool) (slots : List SlotState) → list_all p slots ≡ true → list_all q slots ≡ true → list_all (λ (s : SlotState). p s && q s) slots ≡ true
-all_from p q [] h k = refl
-all_from p q (slot ∷ slots) h k =
-    let first = and_parts (p slot) (list_all p slots) h in
-    let second = and_parts (q slot) (list_all q slots) k in
-    and_from (p slot && q slot) (list_all (λ (s : SlotState). p s && q s) slots) (and_from (p slot) (q slot) first.0 second.0) (all_from p q slots first.1 second.1)
-
-module _ (stage : Option Stage) (table : List Entry) (now : ℕ) where
-  abbrev to_stop : SlotState → Bool
-  to_stop slot = has_cause slot && is_order_allowed slot && is_stop_judged stage table slot
-
-  abbrev to_marks : SlotState → Bool
-  to_marks slot = to_stop slot && are_marks_due slot
-
-  abbrev to_limiter : SlotState → Bool
-  to_limiter slot = to_marks slot && is_limiter_kept now slot
-
-  -- each of the rules that a record is held to alone
-  record EachKept (slots : List SlotState) : Type 0 where
-    caused : list_all has_cause slots ≡ true
-    orders : list_all is_order_allowed slots ≡ true
-    stops : list_all (is_stop_judged stage table) slots ≡ true
-    marks : list_all are_marks_due slots ≡ true
-    limiters : list_all (is_limiter_kept now) slots ≡ true
-    timely : are_timely now slots ≡ true
-
-  each_kept : (slots : List SlotState) → list_all (is_slot_kept stage table now) slots ≡ true → EachKept slots
-  each_kept slots h =
-      let fifth = all_parts to_limiter (is_timely now) slots h in
-      let fourth = all_parts to_marks (is_limiter_kept now) slots fifth.0 in
-      let third = all_parts to_stop are_marks_due slots fourth.0 in
-      let second = all_parts (λ (s : SlotState). has_cause s && is_order_allowed s) (is_stop_judged stage table) slots third.0 in
-      let first = all_parts has_cause is_order_allowed slots second.0 in
-      record { caused = first.0; orders = first.1; stops = second.1; marks = third.1; limiters = fourth.1; timely = fifth.1 }
-
-  all_kept : (slots : List SlotState) → EachKept slots → list_all (is_slot_kept stage table now) slots ≡ true
-  all_kept slots each =
-      all_from to_limiter (is_timely now) slots
-      (all_from to_marks (is_limiter_kept now) slots
-      (all_from to_stop are_marks_due slots
-      (all_from (λ (s : SlotState). has_cause s && is_order_allowed s) (is_stop_judged stage table) slots (all_from has_cause is_order_allowed slots each.caused each.orders) each.stops)
-      each.marks)
-      each.limiters)
-      each.timely
-
 -- what is made of whole records that pass the tests keeps the rules, and is what was kept
 pub made_kept : (s : SavedState) → are_whole s.table s.records ≡ true → is_kept s.heads s.table (slots_along s.table s.records) ≡ true → IsFit (core_of s)
-made_kept s whole kept =
-    let slots = slots_along s.table s.records in
-    let both = and_parts (are_heads_kept s.heads) (are_slots_kept s.heads.stage s.table s.heads.time slots) kept in
-    let third = and_parts (nat_le s.heads.time CLOCK_LIMIT && is_other_level s.heads.stage s.heads.level_wish && (not s.heads.announced || in_run s.heads.stage)) (is_goal_reached s.heads.stage s.heads.goal s.heads.booted) both.0 in
-    let second = and_parts (nat_le s.heads.time CLOCK_LIMIT && is_other_level s.heads.stage s.heads.level_wish) (not s.heads.announced || in_run s.heads.stage) third.0 in
-    let first = and_parts (nat_le s.heads.time CLOCK_LIMIT) (is_other_level s.heads.stage s.heads.level_wish) second.0 in
-    let all = and_parts (are_distinct slots && are_starts_in s.heads.stage s.table slots && are_starts_free slots) (list_all (is_slot_kept s.heads.stage s.table s.heads.time) slots) both.1 in
-    let some = and_parts (are_distinct slots && are_starts_in s.heads.stage s.table slots) (are_starts_free slots) all.0 in
-    let few = and_parts (are_distinct slots) (are_starts_in s.heads.stage s.table slots) some.0 in
-    let each = each_kept s.heads.stage s.table s.heads.time slots all.1 in
-    record {
-      in_order = made_order s.table s.records whole;
-      distinct = few.0;
-      caused = each.caused;
-      births = made_births s.table s.records whole;
-      orders = each.orders;
-      starts = few.1;
-      free = some.1;
-      stops = each.stops;
-      marks = each.marks;
-      limiters = each.limiters;
-      timely = each.timely;
-      clock = leb-true s.heads.time CLOCK_LIMIT first.0;
-      wish = first.1;
-      announced = second.1;
-      reached = third.1;
-    }
+made_kept s whole kept = record { in_order = made_order s.table s.records whole; kept = kept }
 
 pub made_state : (s : SavedState) → are_whole s.table s.records ≡ true → state_of (core_of s) ≡ s
 made_state s whole = λ i. record s { records = records_are s.table s.records whole i }
 
--- of what is kept by the rules, all records are whole, and it passes the tests
+-- of what is kept by the rules, all records are whole
 rules_whole : (core : CoreState) → IsFit core → are_whole core.table (map record_of core.slots) ≡ true
-rules_whole core rules = kept_whole core.time core.table core.slots rules.in_order rules.births rules.limiters
-
-rules_kept : (core : CoreState) → IsFit core → is_kept (heads_of core) core.table core.slots ≡ true
-rules_kept core rules =
-    and_from (are_heads_kept (heads_of core)) (are_slots_kept core.stage core.table core.time core.slots)
-    (and_from (nat_le core.time CLOCK_LIMIT && is_other_level core.stage core.level_wish && (not core.announced || in_run core.stage)) (is_goal_reached core.stage core.goal core.booted)
-    (and_from (nat_le core.time CLOCK_LIMIT && is_other_level core.stage core.level_wish) (not core.announced || in_run core.stage)
-    (and_from (nat_le core.time CLOCK_LIMIT) (is_other_level core.stage core.level_wish) (le-leb core.time CLOCK_LIMIT rules.clock) rules.wish)
-    rules.announced)
-    rules.reached)
-    (and_from (are_distinct core.slots && are_starts_in core.stage core.table core.slots && are_starts_free core.slots) (list_all (is_slot_kept core.stage core.table core.time) core.slots)
-    (and_from (are_distinct core.slots && are_starts_in core.stage core.table core.slots) (are_starts_free core.slots)
-    (and_from (are_distinct core.slots) (are_starts_in core.stage core.table core.slots) rules.distinct rules.starts)
-    rules.free)
-    (all_kept core.stage core.table core.time core.slots (record { caused = rules.caused; orders = rules.orders; stops = rules.stops; marks = rules.marks; limiters = rules.limiters; timely = rules.timely })))
+rules_whole core fit = let rules = rules_of core fit in kept_whole core.heads.time core.table core.slots fit.in_order rules.births rules.limiters
 
 -- a core that keeps the rules is the one made of what it keeps
 pub core_is : (core : CoreState) → IsFit core → core_of (state_of core) ≡ core
@@ -267,4 +154,4 @@ unfit_whole s fault core rules is = false≢true (sym fault ∙ ap (λ (x : Save
 
 pub unfit_kept : (s : SavedState) → is_kept s.heads s.table (slots_along s.table s.records) ≡ false → (core : CoreState) → IsFit core → state_of core ≢ s
 unfit_kept s fault core rules is = false≢true (sym fault ∙ ap (λ (x : SavedState). is_kept x.heads x.table (slots_along x.table x.records)) (sym is)
-    ∙ ap (is_kept (heads_of core) core.table) (slots_are core.table core.slots rules.in_order) ∙ rules_kept core rules)
+    ∙ ap (is_kept core.heads core.table) (slots_are core.table core.slots rules.in_order) ∙ rules.kept)

@@ -58,7 +58,7 @@ module _ (goal : Goal) (past : List Event) (c : CoreState) (sound : is_sound goa
   -- a record has a child where it is known
   recorded_known : (id : List ℕ) (n : ℕ) → has_record id n c ≡ is_known id n past
   recorded_known id n = ap (list_any (λ (slot : SlotState). is_slot_of id slot && is_numbered n slot.child)) (fit_records c goal past fits)
-      ∙ any_map (record_of past) (λ (slot : SlotState). is_slot_of id slot && is_numbered n slot.child) (record_ids past)
+      ∙ any_map (record_of fits.lasts past) (λ (slot : SlotState). is_slot_of id slot && is_numbered n slot.child) (record_ids past)
       ∙ one_id id (λ i. is_numbered n (known_child i past)) (record_ids past)
       ∙ listed (is_numbered n (known_child id past)) refl
       ∙ numbered_known n (child_known id past)

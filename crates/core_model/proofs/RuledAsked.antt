@@ -19,6 +19,7 @@ use Rattle.core_model.specs.Decide.{has_excluded, decide}
 use Rattle.core_model.specs.Rules.{may_follow, is_callable, is_started, are_starts_along, are_starts_in, are_starts_free, is_limit_kept, is_unused, IsFit}
 use Rattle.core_model.specs.State.{CoreState}
 use Rattle.core_model.specs.Work.{unheld}
+use Rattle.core_model.proofs.Kept.{rules_of}
 use Rattle.core_model.proofs.Allowed.{is_askable, is_holdable, decided}
 use Rattle.core_model.proofs.Each.{Each, each_less, each_both, each_changed, each_own, distinct_map}
 use Rattle.core_model.proofs.Ruled.{IsPlaced, AreRuled, each_placed}
@@ -120,34 +121,34 @@ module _ (stage : Option Stage) (table : List Entry) (now : ℕ) (slot : SlotSta
 module _ (c : CoreState) (keeps : IsFit c) (id : List ℕ) where
   module _ (ask : Ask) (is : decide c ≡ Order id ask) where
     abbrev order : SlotState → SlotState
-    order slot = changed id (after_order ask c.time) slot
+    order slot = changed id (after_order ask c.heads.time) slot
 
     abbrev IsAsked : SlotState → Type 0
-    IsAsked slot = IsPlaced c.stage c.table c.time slot × (is_slot_of id slot ≡ true → is_askable ask c.time slot ≡ true)
+    IsAsked slot = IsPlaced c.heads.stage c.table c.heads.time slot × (is_slot_of id slot ≡ true → is_askable ask c.heads.time slot ≡ true)
 
     each_asked : Each IsAsked c.slots
-    each_asked = each_both (IsPlaced c.stage c.table c.time) (λ s. is_slot_of id s ≡ true → is_askable ask c.time s ≡ true) c.slots (each_placed c keeps) (each_own id (is_askable ask c.time) c.slots keeps.distinct (decided c keeps.in_order (Order id ask) is))
+    each_asked = each_both (IsPlaced c.heads.stage c.table c.heads.time) (λ s. is_slot_of id s ≡ true → is_askable ask c.heads.time s ≡ true) c.slots (each_placed c keeps) (each_own id (is_askable ask c.heads.time) c.slots (rules_of c keeps).distinct (decided c keeps.in_order (Order id ask) is))
 
-    pub order_ruled : are_starts_in c.stage c.table (with_changed id (after_order ask c.time) c.slots) ≡ true → are_starts_free (with_changed id (after_order ask c.time) c.slots) ≡ true → AreRuled c.stage c.table c.time (with_changed id (after_order ask c.time) c.slots)
+    pub order_ruled : are_starts_in c.heads.stage c.table (with_changed id (after_order ask c.heads.time) c.slots) ≡ true → are_starts_free (with_changed id (after_order ask c.heads.time) c.slots) ≡ true → AreRuled c.heads.stage c.table c.heads.time (with_changed id (after_order ask c.heads.time) c.slots)
     order_ruled starts free = record {
-      each = each_changed IsAsked (IsRuled c.stage c.table c.time) id (after_order ask c.time) (λ s own. own.0.rules) (λ s here own. asked_ruled c.stage c.table c.time s own.0 ask (own.1 here)) c.slots each_asked;
-      in_order = order_changed id (after_order ask c.time) (id-after_order ask c.time) (act-after_order ask c.time) c.table c.slots keeps.in_order;
-      distinct = distinct_map order (kept_by_one (λ s. s.id) id (after_order ask c.time) (id-after_order ask c.time)) c.slots keeps.distinct;
+      each = each_changed IsAsked (IsRuled c.heads.stage c.table c.heads.time) id (after_order ask c.heads.time) (λ s own. own.0.rules) (λ s here own. asked_ruled c.heads.stage c.table c.heads.time s own.0 ask (own.1 here)) c.slots each_asked;
+      in_order = order_changed id (after_order ask c.heads.time) (id-after_order ask c.heads.time) (act-after_order ask c.heads.time) c.table c.slots keeps.in_order;
+      distinct = distinct_map order (kept_by_one (λ s. s.id) id (after_order ask c.heads.time) (id-after_order ask c.heads.time)) c.slots (rules_of c keeps).distinct;
       starts = starts;
       free = free;
-      timely = timely_changed c.time id (after_order ask c.time) (λ s h. timely_order ask c.time c.time (omega arith) s h) c.slots keeps.timely;
+      timely = timely_changed c.heads.time id (after_order ask c.heads.time) (λ s h. timely_order ask c.heads.time c.heads.time (omega arith) s h) c.slots (rules_of c keeps).timely;
     }
 
-    order_stops : (slot : SlotState) → (after_order ask c.time slot).stop ≡ slot.stop
+    order_stops : (slot : SlotState) → (after_order ask c.heads.time slot).stop ≡ slot.stop
     order_stops slot = at ask
       where
-        at : (a : Ask) → (after_order a c.time slot).stop ≡ slot.stop
+        at : (a : Ask) → (after_order a c.heads.time slot).stop ≡ slot.stop
         at Start = refl
         at Look = refl
         at Term = refl
         at Kill = refl
 
-    stop_of : (slot : SlotState) (b : Bool) → is_some (cond b (after_order ask c.time slot) slot).stop ≡ is_some slot.stop
+    stop_of : (slot : SlotState) (b : Bool) → is_some (cond b (after_order ask c.heads.time slot) slot).stop ≡ is_some slot.stop
     stop_of slot true = ap is_some (order_stops slot)
     stop_of slot false = refl
 
@@ -156,24 +157,24 @@ module _ (c : CoreState) (keeps : IsFit c) (id : List ℕ) where
     stops_same (slot ∷ slots) = λ i. stop_of slot (is_slot_of id slot) i || stops_same slots i
 
     -- an order about a child
-    module _ (there : (slot : SlotState) → is_askable ask c.time slot ≡ true → is_some slot.child ≡ true) (plain : (slot : SlotState) → is_started (after_order ask c.time slot) ≡ false) where
-      order_less : (slot : SlotState) → IsAsked slot → (now : Stage) (e : Entry) (b : Bool) → is_slot_of id slot ≡ b → IsLess now e slot (cond b (after_order ask c.time slot) slot)
-      order_less slot own now e true here = less_busy now e slot (after_order ask c.time slot) (or_left (is_some slot.child) (is_started slot) (there slot (own.1 here))) (plain slot)
+    module _ (there : (slot : SlotState) → is_askable ask c.heads.time slot ≡ true → is_some slot.child ≡ true) (plain : (slot : SlotState) → is_started (after_order ask c.heads.time slot) ≡ false) where
+      order_less : (slot : SlotState) → IsAsked slot → (now : Stage) (e : Entry) (b : Bool) → is_slot_of id slot ≡ b → IsLess now e slot (cond b (after_order ask c.heads.time slot) slot)
+      order_less slot own now e true here = less_busy now e slot (after_order ask c.heads.time slot) (or_left (is_some slot.child) (is_started slot) (there slot (own.1 here))) (plain slot)
       order_less slot own now e false here = less_same now e slot
 
-      started_less : (slot : SlotState) (b : Bool) → is_started (cond b (after_order ask c.time slot) slot) ≡ true → is_started slot ≡ true
-      started_less slot true h = both_ways (is_started (after_order ask c.time slot)) h (plain slot)
+      started_less : (slot : SlotState) (b : Bool) → is_started (cond b (after_order ask c.heads.time slot) slot) ≡ true → is_started slot ≡ true
+      started_less slot true h = both_ways (is_started (after_order ask c.heads.time slot)) h (plain slot)
       started_less slot false h = h
 
-      pub child_ruled : (now : Stage) → c.stage ≡ Some now → AreRuled c.stage c.table c.time (with_changed id (after_order ask c.time) c.slots)
+      pub child_ruled : (now : Stage) → c.heads.stage ≡ Some now → AreRuled c.heads.stage c.table c.heads.time (with_changed id (after_order ask c.heads.time) c.slots)
       child_ruled now in_stage = order_ruled
-          (ap (λ s. are_starts_in s c.table (with_changed id (after_order ask c.time) c.slots)) in_stage ∙ along_less now order c.table c.slots (each_less IsAsked (λ s. (e : Entry) → IsLess now e s (order s)) (λ s own e. order_less s own now e (is_slot_of id s) refl) c.slots each_asked) (sym (ap (λ s. are_starts_in s c.table c.slots) in_stage) ∙ keeps.starts))
-          (free_less order c.slots (each_less IsAsked (λ s. is_started (order s) ≡ true → is_started s ≡ true) (λ s own. started_less s (is_slot_of id s)) c.slots each_asked) (each_less IsAsked (λ s. is_some (order s).stop ≡ true → is_some s.stop ≡ true) (λ s own h. sym (stop_of s (is_slot_of id s)) ∙ h) c.slots each_asked) keeps.free)
+          (ap (λ s. are_starts_in s c.table (with_changed id (after_order ask c.heads.time) c.slots)) in_stage ∙ along_less now order c.table c.slots (each_less IsAsked (λ s. (e : Entry) → IsLess now e s (order s)) (λ s own e. order_less s own now e (is_slot_of id s) refl) c.slots each_asked) (sym (ap (λ s. are_starts_in s c.table c.slots) in_stage) ∙ (rules_of c keeps).starts))
+          (free_less order c.slots (each_less IsAsked (λ s. is_started (order s) ≡ true → is_started s ≡ true) (λ s own. started_less s (is_slot_of id s)) c.slots each_asked) (each_less IsAsked (λ s. is_some (order s).stop ≡ true → is_some s.stop ≡ true) (λ s own h. sym (stop_of s (is_slot_of id s)) ∙ h) c.slots each_asked) (rules_of c keeps).free)
 
   -- a start, where no child is excluded
-  pub start_all_ruled : decide c ≡ Order id Start → (now : Stage) → c.stage ≡ Some now → has_excluded c.slots ≡ false → are_starts_along now (zip c.table (with_changed id (after_order Start c.time) c.slots)) ≡ true → AreRuled c.stage c.table c.time (with_changed id (after_order Start c.time) c.slots)
-  start_all_ruled is now in_stage spared along = order_ruled Start is (ap (λ s. are_starts_in s c.table (with_changed id (after_order Start c.time) c.slots)) in_stage ∙ along)
-      (free (list_any is_started (with_changed id (after_order Start c.time) c.slots)) (has_excluded (with_changed id (after_order Start c.time) c.slots)) (stops_same Start is c.slots ∙ spared))
+  pub start_all_ruled : decide c ≡ Order id Start → (now : Stage) → c.heads.stage ≡ Some now → has_excluded c.slots ≡ false → are_starts_along now (zip c.table (with_changed id (after_order Start c.heads.time) c.slots)) ≡ true → AreRuled c.heads.stage c.table c.heads.time (with_changed id (after_order Start c.heads.time) c.slots)
+  start_all_ruled is now in_stage spared along = order_ruled Start is (ap (λ s. are_starts_in s c.table (with_changed id (after_order Start c.heads.time) c.slots)) in_stage ∙ along)
+      (free (list_any is_started (with_changed id (after_order Start c.heads.time) c.slots)) (has_excluded (with_changed id (after_order Start c.heads.time) c.slots)) (stops_same Start is c.slots ∙ spared))
     where
       free : (s x : Bool) → x ≡ false → (not s || not x) ≡ true
       free true false h = refl
@@ -183,32 +184,32 @@ module _ (c : CoreState) (keeps : IsFit c) (id : List ℕ) where
   -- a hold
   module _ (is : decide c ≡ Hold id) where
     abbrev hold : SlotState → SlotState
-    hold slot = changed id (after_hold c.time) slot
+    hold slot = changed id (after_hold c.heads.time) slot
 
     abbrev IsHeld : SlotState → Type 0
-    IsHeld slot = IsPlaced c.stage c.table c.time slot × (is_slot_of id slot ≡ true → is_holdable c.time slot ≡ true)
+    IsHeld slot = IsPlaced c.heads.stage c.table c.heads.time slot × (is_slot_of id slot ≡ true → is_holdable c.heads.time slot ≡ true)
 
     each_held : Each IsHeld c.slots
-    each_held = each_both (IsPlaced c.stage c.table c.time) (λ s. is_slot_of id s ≡ true → is_holdable c.time s ≡ true) c.slots (each_placed c keeps) (each_own id (is_holdable c.time) c.slots keeps.distinct (decided c keeps.in_order (Hold id) is))
+    each_held = each_both (IsPlaced c.heads.stage c.table c.heads.time) (λ s. is_slot_of id s ≡ true → is_holdable c.heads.time s ≡ true) c.slots (each_placed c keeps) (each_own id (is_holdable c.heads.time) c.slots (rules_of c keeps).distinct (decided c keeps.in_order (Hold id) is))
 
-    hold_less : (slot : SlotState) (now : Stage) (e : Entry) (b : Bool) → IsLess now e slot (cond b (after_hold c.time slot) slot)
+    hold_less : (slot : SlotState) (now : Stage) (e : Entry) (b : Bool) → IsLess now e slot (cond b (after_hold c.heads.time slot) slot)
     hold_less slot now e true = record { allowed = λ h. h; started = λ h. h; owed = λ h. h }
     hold_less slot now e false = less_same now e slot
 
-    hold_started : (slot : SlotState) (b : Bool) → is_started (cond b (after_hold c.time slot) slot) ≡ true → is_started slot ≡ true
+    hold_started : (slot : SlotState) (b : Bool) → is_started (cond b (after_hold c.heads.time slot) slot) ≡ true → is_started slot ≡ true
     hold_started slot true h = h
     hold_started slot false h = h
 
-    hold_stops : (slot : SlotState) (b : Bool) → is_some (cond b (after_hold c.time slot) slot).stop ≡ true → is_some slot.stop ≡ true
+    hold_stops : (slot : SlotState) (b : Bool) → is_some (cond b (after_hold c.heads.time slot) slot).stop ≡ true → is_some slot.stop ≡ true
     hold_stops slot true h = h
     hold_stops slot false h = h
 
-    pub hold_ruled : (now : Stage) → c.stage ≡ Some now → AreRuled c.stage c.table c.time (with_changed id (after_hold c.time) c.slots)
+    pub hold_ruled : (now : Stage) → c.heads.stage ≡ Some now → AreRuled c.heads.stage c.table c.heads.time (with_changed id (after_hold c.heads.time) c.slots)
     hold_ruled now in_stage = record {
-      each = each_changed IsHeld (IsRuled c.stage c.table c.time) id (after_hold c.time) (λ s own. own.0.rules) (λ s here own. held_ruled c.stage c.table c.time s own.0 (own.1 here)) c.slots each_held;
-      in_order = order_changed id (after_hold c.time) (λ s. refl) (λ s. refl) c.table c.slots keeps.in_order;
-      distinct = distinct_map hold (kept_by_one (λ s. s.id) id (after_hold c.time) (λ s. refl)) c.slots keeps.distinct;
-      starts = ap (λ s. are_starts_in s c.table (with_changed id (after_hold c.time) c.slots)) in_stage ∙ along_less now hold c.table c.slots (each_less IsHeld (λ s. (e : Entry) → IsLess now e s (hold s)) (λ s own e. hold_less s now e (is_slot_of id s)) c.slots each_held) (sym (ap (λ s. are_starts_in s c.table c.slots) in_stage) ∙ keeps.starts);
-      free = free_less hold c.slots (each_less IsHeld (λ s. is_started (hold s) ≡ true → is_started s ≡ true) (λ s own. hold_started s (is_slot_of id s)) c.slots each_held) (each_less IsHeld (λ s. is_some (hold s).stop ≡ true → is_some s.stop ≡ true) (λ s own. hold_stops s (is_slot_of id s)) c.slots each_held) keeps.free;
-      timely = timely_changed c.time id (after_hold c.time) (λ s h. h) c.slots keeps.timely;
+      each = each_changed IsHeld (IsRuled c.heads.stage c.table c.heads.time) id (after_hold c.heads.time) (λ s own. own.0.rules) (λ s here own. held_ruled c.heads.stage c.table c.heads.time s own.0 (own.1 here)) c.slots each_held;
+      in_order = order_changed id (after_hold c.heads.time) (λ s. refl) (λ s. refl) c.table c.slots keeps.in_order;
+      distinct = distinct_map hold (kept_by_one (λ s. s.id) id (after_hold c.heads.time) (λ s. refl)) c.slots (rules_of c keeps).distinct;
+      starts = ap (λ s. are_starts_in s c.table (with_changed id (after_hold c.heads.time) c.slots)) in_stage ∙ along_less now hold c.table c.slots (each_less IsHeld (λ s. (e : Entry) → IsLess now e s (hold s)) (λ s own e. hold_less s now e (is_slot_of id s)) c.slots each_held) (sym (ap (λ s. are_starts_in s c.table c.slots) in_stage) ∙ (rules_of c keeps).starts);
+      free = free_less hold c.slots (each_less IsHeld (λ s. is_started (hold s) ≡ true → is_started s ≡ true) (λ s own. hold_started s (is_slot_of id s)) c.slots each_held) (each_less IsHeld (λ s. is_some (hold s).stop ≡ true → is_some s.stop ≡ true) (λ s own. hold_stops s (is_slot_of id s)) c.slots each_held) (rules_of c keeps).free;
+      timely = timely_changed c.heads.time id (after_hold c.heads.time) (λ s h. h) c.slots (rules_of c keeps).timely;
     }

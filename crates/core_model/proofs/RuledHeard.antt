@@ -16,6 +16,7 @@ use Rattle.child_table.proofs.Timely.{timely_map, timely_later}
 use Rattle.core_model.specs.Rules.{is_started, is_other_level, is_goal_reached, IsFit}
 use Rattle.core_model.specs.State.{CoreState}
 use Rattle.core_model.specs.Steps.{after_clock, after_round, heard_in, after_got, after_not_read, after_handed, after_handed_on}
+use Rattle.core_model.proofs.Kept.{rules_of}
 use Rattle.core_model.proofs.Each.{each_always, each_less, each_map, distinct_map}
 use Rattle.core_model.proofs.Ruled.{all_kept, heads_kept, kept_by}
 use Rattle.core_model.proofs.RuledLimits.{limiter_later}
@@ -24,21 +25,21 @@ use Rattle.core_model.proofs.RuledRecord.{IsRuled, stop_same, allowed_same, mark
 
 module _ (c : CoreState) (keeps : IsFit c) where
   -- a level that was asked for: the goal before the run levels, and a wish for another in one
-  goal_heard : (wish : Goal) → is_goal_reached c.stage wish c.booted ≡ is_goal_reached c.stage c.goal c.booted → IsFit (record c { goal = wish; reread = true })
-  goal_heard wish same = kept_by (record c { goal = wish; reread = true }) (all_kept c keeps) (record { clock = keeps.clock; wish = keeps.wish; announced = keeps.announced; reached = same ∙ keeps.reached })
+  goal_heard : (wish : Goal) → is_goal_reached c.heads.stage wish c.heads.booted ≡ is_goal_reached c.heads.stage c.heads.goal c.heads.booted → IsFit (record c { heads = record c.heads { goal = wish; reread = true } })
+  goal_heard wish same = kept_by (record c { heads = record c.heads { goal = wish; reread = true } }) (all_kept c keeps) (record { clock = (rules_of c keeps).clock; wish = (rules_of c keeps).wish; announced = (rules_of c keeps).announced; reached = same ∙ (rules_of c keeps).reached })
 
-  wish_heard : (now : Level) (wish : Goal) → c.stage ≡ Some (stage.Run now) → (b : Bool) → same_level wish.level now ≡ b → IsFit (cond b (record c { level_wish = None }) (record c { level_wish = Some wish; reread = true }))
-  wish_heard now wish is true same = kept_by (record c { level_wish = None }) (all_kept c keeps) (record { clock = keeps.clock; wish = refl; announced = keeps.announced; reached = keeps.reached })
-  wish_heard now wish is false other = kept_by (record c { level_wish = Some wish; reread = true }) (all_kept c keeps) (record { clock = keeps.clock; wish = ap (λ o. is_other_level o (Some wish)) is ∙ ap not other; announced = keeps.announced; reached = keeps.reached })
+  wish_heard : (now : Level) (wish : Goal) → c.heads.stage ≡ Some (stage.Run now) → (b : Bool) → same_level wish.level now ≡ b → IsFit (record c { heads = cond b (record c.heads { level_wish = None }) (record c.heads { level_wish = Some wish; reread = true }) })
+  wish_heard now wish is true same = kept_by (record c { heads = record c.heads { level_wish = None } }) (all_kept c keeps) (record { clock = (rules_of c keeps).clock; wish = refl; announced = (rules_of c keeps).announced; reached = (rules_of c keeps).reached })
+  wish_heard now wish is false other = kept_by (record c { heads = record c.heads { level_wish = Some wish; reread = true } }) (all_kept c keeps) (record { clock = (rules_of c keeps).clock; wish = ap (λ o. is_other_level o (Some wish)) is ∙ ap not other; announced = (rules_of c keeps).announced; reached = (rules_of c keeps).reached })
 
-  level_heard : (wish : Goal) (o : Option Stage) → c.stage ≡ o → IsFit (heard_in o wish c)
-  level_heard wish None is = goal_heard wish (ap (λ o. is_goal_reached o wish c.booted) is ∙ sym (ap (λ o. is_goal_reached o c.goal c.booted) is))
-  level_heard wish (Some stage.Sysinit) is = goal_heard wish (ap (λ o. is_goal_reached o wish c.booted) is ∙ sym (ap (λ o. is_goal_reached o c.goal c.booted) is))
-  level_heard wish (Some stage.Boot) is = goal_heard wish (ap (λ o. is_goal_reached o wish c.booted) is ∙ sym (ap (λ o. is_goal_reached o c.goal c.booted) is))
+  level_heard : (wish : Goal) (o : Option Stage) → c.heads.stage ≡ o → IsFit (record c { heads = heard_in o wish c.heads })
+  level_heard wish None is = goal_heard wish (ap (λ o. is_goal_reached o wish c.heads.booted) is ∙ sym (ap (λ o. is_goal_reached o c.heads.goal c.heads.booted) is))
+  level_heard wish (Some stage.Sysinit) is = goal_heard wish (ap (λ o. is_goal_reached o wish c.heads.booted) is ∙ sym (ap (λ o. is_goal_reached o c.heads.goal c.heads.booted) is))
+  level_heard wish (Some stage.Boot) is = goal_heard wish (ap (λ o. is_goal_reached o wish c.heads.booted) is ∙ sym (ap (λ o. is_goal_reached o c.heads.goal c.heads.booted) is))
   level_heard wish (Some (stage.Run now)) is = wish_heard now wish is (same_level wish.level now) refl
 
   pub got_keeps : (request : Got) → IsFit (after_got request c)
-  got_keeps (got.Level level grace) = level_heard (record { level = level; grace = grace }) c.stage refl
+  got_keeps (got.Level level grace) = level_heard (record { level = level; grace = grace }) c.heads.stage refl
   got_keeps (got.Call letter) = kept_by (after_got (got.Call letter) c) (all_kept c keeps) (heads_kept c keeps)
   got_keeps got.Reload = kept_by (after_got got.Reload c) (all_kept c keeps) (heads_kept c keeps)
   got_keeps got.Reexec = kept_by (after_got got.Reexec c) (all_kept c keeps) (heads_kept c keeps)
@@ -56,33 +57,33 @@ module _ (c : CoreState) (keeps : IsFit c) where
   handed_on_keeps = kept_by (after_handed_on c) (all_kept c keeps) (heads_kept c keeps)
 
   -- a reading of the clock
-  later_ruled : (later : ℕ) → c.time ≤ later → (slot : SlotState) → IsRuled c.stage c.table c.time slot → IsRuled c.stage c.table later slot
-  later_ruled later more slot own = record { cause = own.cause; birth = own.birth; order = own.order; stop = own.stop; marks = own.marks; limiter = limiter_later c.time later more slot own.limiter }
+  later_ruled : (later : ℕ) → c.heads.time ≤ later → (slot : SlotState) → IsRuled c.heads.stage c.table c.heads.time slot → IsRuled c.heads.stage c.table later slot
+  later_ruled later more slot own = record { cause = own.cause; birth = own.birth; order = own.order; stop = own.stop; marks = own.marks; limiter = limiter_later c.heads.time later more slot own.limiter }
 
   pub clock_keeps : (reading : ℕ) → IsFit (after_clock reading c)
   clock_keeps reading =
       let ruled = all_kept c keeps in
-      let limit : c.time ≤ CLOCK_LIMIT = keeps.clock in
-      let more : c.time ≤ max (min reading CLOCK_LIMIT) c.time = omega arith in
-      let capped : max (min reading CLOCK_LIMIT) c.time ≤ CLOCK_LIMIT = omega arith in
+      let limit : c.heads.time ≤ CLOCK_LIMIT = (rules_of c keeps).clock in
+      let more : c.heads.time ≤ max (min reading CLOCK_LIMIT) c.heads.time = omega arith in
+      let capped : max (min reading CLOCK_LIMIT) c.heads.time ≤ CLOCK_LIMIT = omega arith in
       kept_by (after_clock reading c) (record {
-        each = each_less (IsRuled c.stage c.table c.time) (IsRuled c.stage c.table (max (min reading CLOCK_LIMIT) c.time)) (later_ruled (max (min reading CLOCK_LIMIT) c.time) more) c.slots ruled.each;
+        each = each_less (IsRuled c.heads.stage c.table c.heads.time) (IsRuled c.heads.stage c.table (max (min reading CLOCK_LIMIT) c.heads.time)) (later_ruled (max (min reading CLOCK_LIMIT) c.heads.time) more) c.slots ruled.each;
         in_order = keeps.in_order;
-        distinct = keeps.distinct;
-        starts = keeps.starts;
-        free = keeps.free;
-        timely = timely_later c.time (max (min reading CLOCK_LIMIT) c.time) more c.slots keeps.timely;
-      }) (record { clock = capped; wish = keeps.wish; announced = keeps.announced; reached = keeps.reached })
+        distinct = (rules_of c keeps).distinct;
+        starts = (rules_of c keeps).starts;
+        free = (rules_of c keeps).free;
+        timely = timely_later c.heads.time (max (min reading CLOCK_LIMIT) c.heads.time) more c.slots (rules_of c keeps).timely;
+      }) (record { clock = capped; wish = (rules_of c keeps).wish; announced = (rules_of c keeps).announced; reached = (rules_of c keeps).reached })
 
   -- a round
-  round_ruled : (slot : SlotState) → IsRuled c.stage c.table c.time slot → IsRuled c.stage c.table c.time (after_nudge slot)
+  round_ruled : (slot : SlotState) → IsRuled c.heads.stage c.table c.heads.time slot → IsRuled c.heads.stage c.table c.heads.time (after_nudge slot)
   round_ruled slot own =
       let marked = marks_parts slot own.marks in
       record {
         cause = own.cause;
         birth = own.birth;
         order = allowed_same slot.order slot (after_nudge slot) refl refl refl own.order;
-        stop = stop_same slot.child c.stage c.table slot (after_nudge slot) slot.stop refl own.stop;
+        stop = stop_same slot.child c.heads.stage c.table slot (after_nudge slot) slot.stop refl own.stop;
         marks = marks_from (after_nudge slot) (record { look = looked (is_some slot.child) slot.look marked.look; missed = refl; called = marked.called });
         limiter = own.limiter;
       }
@@ -93,10 +94,10 @@ module _ (c : CoreState) (keeps : IsFit c) where
 
   pub round_keeps : IsFit (after_round c)
   round_keeps = kept_by (after_round c) (record {
-    each = each_map (IsRuled c.stage c.table c.time) (IsRuled c.stage c.table c.time) after_nudge round_ruled c.slots (all_kept c keeps).each;
+    each = each_map (IsRuled c.heads.stage c.table c.heads.time) (IsRuled c.heads.stage c.table c.heads.time) after_nudge round_ruled c.slots (all_kept c keeps).each;
     in_order = order_map after_nudge (λ s. refl) (λ s. refl) c.table c.slots keeps.in_order;
-    distinct = distinct_map after_nudge (λ s. refl) c.slots keeps.distinct;
-    starts = starts_less c.stage after_nudge c.table c.slots (each_always (λ s. is_started (after_nudge s) ≡ true → is_started s ≡ true) (λ s h. h) c.slots) (λ now. each_always (λ s. (e : Entry) → IsLess now e s (after_nudge s)) (λ s e. record { allowed = λ h. h; started = λ h. h; owed = λ h. h }) c.slots) keeps.starts;
-    free = free_less after_nudge c.slots (each_always (λ s. is_started (after_nudge s) ≡ true → is_started s ≡ true) (λ s h. h) c.slots) (each_always (λ s. is_some (after_nudge s).stop ≡ true → is_some s.stop ≡ true) (λ s h. h) c.slots) keeps.free;
-    timely = timely_map c.time after_nudge (λ s h. h) c.slots keeps.timely;
+    distinct = distinct_map after_nudge (λ s. refl) c.slots (rules_of c keeps).distinct;
+    starts = starts_less c.heads.stage after_nudge c.table c.slots (each_always (λ s. is_started (after_nudge s) ≡ true → is_started s ≡ true) (λ s h. h) c.slots) (λ now. each_always (λ s. (e : Entry) → IsLess now e s (after_nudge s)) (λ s e. record { allowed = λ h. h; started = λ h. h; owed = λ h. h }) c.slots) (rules_of c keeps).starts;
+    free = free_less after_nudge c.slots (each_always (λ s. is_started (after_nudge s) ≡ true → is_started s ≡ true) (λ s h. h) c.slots) (each_always (λ s. is_some (after_nudge s).stop ≡ true → is_some s.stop ≡ true) (λ s h. h) c.slots) (rules_of c keeps).free;
+    timely = timely_map c.heads.time after_nudge (λ s h. h) c.slots (rules_of c keeps).timely;
   }) (heads_kept c keeps)

@@ -29,6 +29,7 @@ use Rattle.core_model.specs.Decide.{or_else, or_idle, level_step, news_step, wis
 use Rattle.core_model.specs.Rules.{may_follow, are_starts_along, are_starts_in, is_callable, is_other_level, is_goal_reached, IsFit}
 use Rattle.core_model.specs.State.{CoreState, opening_state}
 use Rattle.core_model.specs.Steps.{is_boot, wished, is_named, after_step, after_told, after_adopt}
+use Rattle.core_model.proofs.Kept.{rules_of}
 use Rattle.core_model.proofs.Ruled.{all_kept, heads_kept, kept_by}
 use Rattle.core_model.proofs.RuledAsked.{start_all_ruled, child_ruled, hold_ruled}
 use Rattle.core_model.proofs.RuledMade.{opening_ruled, entered_ruled, adopted_ruled, called_ruled}
@@ -41,10 +42,10 @@ opening_keeps table goal distinct = kept_by (opening_state table goal) (opening_
 
 -- what a step that is decided in a stage brings with it: a stage, news and an announcement come where they may, and a
 -- start is behind no owed entry and beside no excluded child
-module _ (c : CoreState) (keeps : IsFit c) (now : Stage) (in_stage : c.stage ≡ Some now) where
+module _ (c : CoreState) (keeps : IsFit c) (now : Stage) (in_stage : c.heads.stage ≡ Some now) where
   abbrev is_lawful : Option Step → Bool
-  is_lawful (Some (Order id Start)) = not (has_excluded c.slots) && are_starts_along now (zip c.table (with_changed id (after_order Start c.time) c.slots))
-  is_lawful (Some (Enter next grace)) = is_quiet c.slots && is_goal_reached (Some next) (wished c.level_wish c.goal) (is_boot next || c.booted)
+  is_lawful (Some (Order id Start)) = not (has_excluded c.slots) && are_starts_along now (zip c.table (with_changed id (after_order Start c.heads.time) c.slots))
+  is_lawful (Some (Enter next grace)) = is_quiet c.slots && is_goal_reached (Some next) (wished c.heads.level_wish c.heads.goal) (is_boot next || c.heads.booted)
   is_lawful (Some (Call letter)) = is_quiet c.slots
   is_lawful (Some (Power kind)) = is_quiet c.slots
   is_lawful (Some (Settle level)) = in_run (Some now)
@@ -64,20 +65,20 @@ module _ (c : CoreState) (keeps : IsFit c) (now : Stage) (in_stage : c.stage ≡
 
   -- the wishes, at a quiet point
   wished_lawful : is_quiet c.slots ≡ true → is_lawful (wished_step now c) ≡ true
-  wished_lawful quiet = at c.reexec c.reread
+  wished_lawful quiet = at c.heads.reexec c.heads.reread
     where
-      reached : (wish : Goal) → c.level_wish ≡ Some wish → (b : Bool) → is_goal_reached (Some (cond b stage.Boot (stage.Run wish.level))) (wished c.level_wish c.goal) (is_boot (cond b stage.Boot (stage.Run wish.level)) || c.booted) ≡ true
+      reached : (wish : Goal) → c.heads.level_wish ≡ Some wish → (b : Bool) → is_goal_reached (Some (cond b stage.Boot (stage.Run wish.level))) (wished c.heads.level_wish c.heads.goal) (is_boot (cond b stage.Boot (stage.Run wish.level)) || c.heads.booted) ≡ true
       reached wish is true = refl
-      reached wish is false = ap (λ o. same_level (wished o c.goal).level wish.level) is ∙ same_level-self wish.level
+      reached wish is false = ap (λ o. same_level (wished o c.heads.goal).level wish.level) is ∙ same_level-self wish.level
 
-      level : (wish : Option Goal) → c.level_wish ≡ wish → is_lawful (level_step c.booted wish) ≡ true
+      level : (wish : Option Goal) → c.heads.level_wish ≡ wish → is_lawful (level_step c.heads.booted wish) ≡ true
       level None is = refl
       level (Some wish) is =
-          let next : Stage = cond (not (same_level wish.level S) && not c.booted) stage.Boot (stage.Run wish.level) in
-          and_from (is_quiet c.slots) (is_goal_reached (Some next) (wished c.level_wish c.goal) (is_boot next || c.booted)) quiet (reached wish is (not (same_level wish.level S) && not c.booted))
+          let next : Stage = cond (not (same_level wish.level S) && not c.heads.booted) stage.Boot (stage.Run wish.level) in
+          and_from (is_quiet c.slots) (is_goal_reached (Some next) (wished c.heads.level_wish c.heads.goal) (is_boot next || c.heads.booted)) quiet (reached wish is (not (same_level wish.level S) && not c.heads.booted))
 
-      news : is_lawful (first_news c.news) ≡ true
-      news = one c.news.fail c.news.fail_now c.news.ok c.news.a c.news.b c.news.c
+      news : is_lawful (first_news c.heads.news) ≡ true
+      news = one c.heads.news.fail c.heads.news.fail_now c.heads.news.ok c.heads.news.a c.heads.news.b c.heads.news.c
         where
           one : (f n o a b l : Bool) → is_lawful (first_news (record { fail = f; fail_now = n; ok = o; a = a; b = b; c = l })) ≡ true
           one true n o a b l = quiet
@@ -88,17 +89,17 @@ module _ (c : CoreState) (keeps : IsFit c) (now : Stage) (in_stage : c.stage ≡
           one false false false false false true = quiet
           one false false false false false false = refl
 
-      at : (x r : Bool) → is_lawful (cond x (Some Reexec) (cond r (Some Reread) (or_else (level_step c.booted c.level_wish) (news_step now c)))) ≡ true
+      at : (x r : Bool) → is_lawful (cond x (Some Reexec) (cond r (Some Reread) (or_else (level_step c.heads.booted c.heads.level_wish) (news_step now c)))) ≡ true
       at true r = refl
       at false true = refl
-      at false false = lawful_or (level_step c.booted c.level_wish) (news_step now c) (level c.level_wish refl) (lawful_if (in_run (Some now)) (first_news c.news) (λ run. news))
+      at false false = lawful_or (level_step c.heads.booted c.heads.level_wish) (news_step now c) (level c.heads.level_wish refl) (lawful_if (in_run (Some now)) (first_news c.heads.news) (λ run. news))
 
   -- the stage that comes next, with no wish for another level
-  unwished : is_other_level (Some now) c.level_wish ≡ true
-  unwished = sym (ap (λ s. is_other_level s c.level_wish) in_stage) ∙ keeps.wish
+  unwished : is_other_level (Some now) c.heads.level_wish ≡ true
+  unwished = sym (ap (λ s. is_other_level s c.heads.level_wish) in_stage) ∙ (rules_of c keeps).wish
 
-  stage_lawful : is_lawful (stage_step now c.goal c.table c.slots) ≡ true
-  stage_lawful = lawful_if (is_over_among now c.table c.slots) (enter_step (next_stage now c.goal.level) c.goal.grace) (λ over. at now unwished (and_parts (is_quiet c.slots) (all_done now c.table c.slots) over).0)
+  stage_lawful : is_lawful (stage_step now c.heads.goal c.table c.slots) ≡ true
+  stage_lawful = lawful_if (is_over_among now c.table c.slots) (enter_step (next_stage now c.heads.goal.level) c.heads.goal.grace) (λ over. at now unwished (and_parts (is_quiet c.slots) (all_done now c.table c.slots) over).0)
     where
       none : (early : Stage) → in_run (Some early) ≡ false → (o : Option Goal) → is_other_level (Some early) o ≡ true → o ≡ None
       none early before None h = refl
@@ -106,34 +107,34 @@ module _ (c : CoreState) (keeps : IsFit c) (now : Stage) (in_stage : c.stage ≡
       none stage.Boot before (Some wish) h = absurd (false≢true h)
       none (stage.Run level) before (Some wish) h = absurd (false≢true (sym before))
 
-      first : c.level_wish ≡ None → (b : Bool) → same_level c.goal.level S ≡ b → is_goal_reached (Some (cond b (stage.Run S) stage.Boot)) (wished c.level_wish c.goal) (is_boot (cond b (stage.Run S) stage.Boot) || c.booted) ≡ true
-      first is true same = ap (λ o. same_level (wished o c.goal).level S) is ∙ same
+      first : c.heads.level_wish ≡ None → (b : Bool) → same_level c.heads.goal.level S ≡ b → is_goal_reached (Some (cond b (stage.Run S) stage.Boot)) (wished c.heads.level_wish c.heads.goal) (is_boot (cond b (stage.Run S) stage.Boot) || c.heads.booted) ≡ true
+      first is true same = ap (λ o. same_level (wished o c.heads.goal).level S) is ∙ same
       first is false other = refl
 
-      at : (early : Stage) → is_other_level (Some early) c.level_wish ≡ true → is_quiet c.slots ≡ true → is_lawful (enter_step (next_stage early c.goal.level) c.goal.grace) ≡ true
+      at : (early : Stage) → is_other_level (Some early) c.heads.level_wish ≡ true → is_quiet c.slots ≡ true → is_lawful (enter_step (next_stage early c.heads.goal.level) c.heads.goal.grace) ≡ true
       at stage.Sysinit wish quiet =
-          let next : Stage = cond (same_level c.goal.level S) (stage.Run S) stage.Boot in
-          and_from (is_quiet c.slots) (is_goal_reached (Some next) (wished c.level_wish c.goal) (is_boot next || c.booted)) quiet (first (none stage.Sysinit refl c.level_wish wish) (same_level c.goal.level S) refl)
-      at stage.Boot wish quiet = and_from (is_quiet c.slots) (same_level (wished c.level_wish c.goal).level c.goal.level) quiet (ap (λ o. same_level (wished o c.goal).level c.goal.level) (none stage.Boot refl c.level_wish wish) ∙ same_level-self c.goal.level)
+          let next : Stage = cond (same_level c.heads.goal.level S) (stage.Run S) stage.Boot in
+          and_from (is_quiet c.slots) (is_goal_reached (Some next) (wished c.heads.level_wish c.heads.goal) (is_boot next || c.heads.booted)) quiet (first (none stage.Sysinit refl c.heads.level_wish wish) (same_level c.heads.goal.level S) refl)
+      at stage.Boot wish quiet = and_from (is_quiet c.slots) (same_level (wished c.heads.level_wish c.heads.goal).level c.heads.goal.level) quiet (ap (λ o. same_level (wished o c.heads.goal).level c.heads.goal.level) (none stage.Boot refl c.heads.level_wish wish) ∙ same_level-self c.heads.goal.level)
       at (stage.Run level) wish quiet = refl
 
-  settle_lawful : is_lawful (settle_step now c.announced c.time c.table c.slots) ≡ true
+  settle_lawful : is_lawful (settle_step now c.heads.announced c.heads.time c.table c.slots) ≡ true
   settle_lawful = at now (λ h. h)
     where
-      at : (s : Stage) → (in_run (Some s) ≡ true → in_run (Some now) ≡ true) → is_lawful (settle_step s c.announced c.time c.table c.slots) ≡ true
+      at : (s : Stage) → (in_run (Some s) ≡ true → in_run (Some now) ≡ true) → is_lawful (settle_step s c.heads.announced c.heads.time c.table c.slots) ≡ true
       at stage.Sysinit run = refl
       at stage.Boot run = refl
-      at (stage.Run level) run = lawful_if (not c.announced && is_idle c.slots && all_served level c.time c.table c.slots) (Some (Settle level)) (λ h. run refl)
+      at (stage.Run level) run = lawful_if (not c.heads.announced && is_idle c.slots && all_served level c.heads.time c.table c.slots) (Some (Settle level)) (λ h. run refl)
 
   -- signals and looks
-  stops_lawful : (slots : List SlotState) → is_lawful (stop_among c.grace c.time slots) ≡ true
+  stops_lawful : (slots : List SlotState) → is_lawful (stop_among c.heads.grace c.heads.time slots) ≡ true
   stops_lawful [] = refl
-  stops_lawful (slot ∷ slots) = lawful_or (stop_step c.grace c.time slot) (stop_among c.grace c.time slots) (lawful_if (is_some slot.child && is_none slot.order && not slot.missed) (signal_step c.grace c.time slot.id slot.stop) (λ h. signal slot.stop)) (stops_lawful slots)
+  stops_lawful (slot ∷ slots) = lawful_or (stop_step c.heads.grace c.heads.time slot) (stop_among c.heads.grace c.heads.time slots) (lawful_if (is_some slot.child && is_none slot.order && not slot.missed) (signal_step c.heads.grace c.heads.time slot.id slot.stop) (λ h. signal slot.stop)) (stops_lawful slots)
     where
-      signal : (stop : Option Stop) → is_lawful (signal_step c.grace c.time slot.id stop) ≡ true
+      signal : (stop : Option Stop) → is_lawful (signal_step c.heads.grace c.heads.time slot.id stop) ≡ true
       signal None = refl
       signal (Some Due) = refl
-      signal (Some (Termed time)) = lawful_if (nat_le (time + c.grace) c.time) (Some (Order slot.id Kill)) (λ h. refl)
+      signal (Some (Termed time)) = lawful_if (nat_le (time + c.heads.grace) c.heads.time) (Some (Order slot.id Kill)) (λ h. refl)
       signal (Some (Killed time)) = refl
 
   looks_lawful : (slots : List SlotState) → is_lawful (look_among slots) ≡ true
@@ -155,9 +156,9 @@ module _ (c : CoreState) (keeps : IsFit c) (now : Stage) (in_stage : c.stage ≡
   walked_or None b ha hb = hb
   walked_or (Some step) b ha hb = ha
 
-  walked : (ps : List (Entry × SlotState)) → is_walked (start_along now c.time ps) ≡ true
+  walked : (ps : List (Entry × SlotState)) → is_walked (start_along now c.heads.time ps) ≡ true
   walked [] = refl
-  walked (p ∷ ps) = walked_or (start_step now c.time p.0 p.1) (cond (is_owed_slot now p.0 p.1) None (start_along now c.time ps)) (step (can_start_slot now p.0 p.1) (is_limited p.0.act) (is_held p.1.limiter.held c.time) (allows (may_of p.1.limiter c.time))) (rest (is_owed_slot now p.0 p.1) (walked ps))
+  walked (p ∷ ps) = walked_or (start_step now c.heads.time p.0 p.1) (cond (is_owed_slot now p.0 p.1) None (start_along now c.heads.time ps)) (step (can_start_slot now p.0 p.1) (is_limited p.0.act) (is_held p.1.limiter.held c.heads.time) (allows (may_of p.1.limiter c.heads.time))) (rest (is_owed_slot now p.0 p.1) (walked ps))
     where
       step : (b l h a : Bool) → is_walked (cond b (cond l (cond h None (Some (cond a (Order p.0.id Start) (Hold p.0.id)))) (Some (Order p.0.id Start))) None) ≡ true
       step true true true a = refl
@@ -166,16 +167,16 @@ module _ (c : CoreState) (keeps : IsFit c) (now : Stage) (in_stage : c.stage ≡
       step true false h a = refl
       step false l h a = refl
 
-      rest : (b : Bool) → is_walked (start_along now c.time ps) ≡ true → is_walked (cond b None (start_along now c.time ps)) ≡ true
+      rest : (b : Bool) → is_walked (start_along now c.heads.time ps) ≡ true → is_walked (cond b None (start_along now c.heads.time ps)) ≡ true
       rest true h = refl
       rest false h = h
 
-  starts_lawful : has_excluded c.slots ≡ false → is_lawful (start_along now c.time (zip c.table c.slots)) ≡ true
-  starts_lawful spared = at (start_along now c.time (zip c.table c.slots)) refl (walked (zip c.table c.slots))
+  starts_lawful : has_excluded c.slots ≡ false → is_lawful (start_along now c.heads.time (zip c.table c.slots)) ≡ true
+  starts_lawful spared = at (start_along now c.heads.time (zip c.table c.slots)) refl (walked (zip c.table c.slots))
     where
-      at : (o : Option Step) → start_along now c.time (zip c.table c.slots) ≡ o → is_walked o ≡ true → is_lawful o ≡ true
+      at : (o : Option Step) → start_along now c.heads.time (zip c.table c.slots) ≡ o → is_walked o ≡ true → is_lawful o ≡ true
       at None is h = refl
-      at (Some (Order id Start)) is h = and_from (not (has_excluded c.slots)) (are_starts_along now (zip c.table (with_changed id (after_order Start c.time) c.slots))) (ap not spared) (walk_kept now c.time id c.table c.slots keeps.in_order keeps.distinct is (sym (ap (λ s. are_starts_in s c.table c.slots) in_stage) ∙ keeps.starts))
+      at (Some (Order id Start)) is h = and_from (not (has_excluded c.slots)) (are_starts_along now (zip c.table (with_changed id (after_order Start c.heads.time) c.slots))) (ap not spared) (walk_kept now c.heads.time id c.table c.slots keeps.in_order (rules_of c keeps).distinct is (sym (ap (λ s. are_starts_in s c.table c.slots) in_stage) ∙ (rules_of c keeps).starts))
       at (Some (Hold id)) is h = refl
       at (Some (Order id Look)) is h = absurd (false≢true h)
       at (Some (Order id Term)) is h = absurd (false≢true h)
@@ -189,11 +190,11 @@ module _ (c : CoreState) (keeps : IsFit c) (now : Stage) (in_stage : c.stage ≡
       at (Some Idle) is h = absurd (false≢true h)
 
   work_lawful : is_lawful (work_step now c) ≡ true
-  work_lawful = lawful_unless (stands now c) (or_else (stop_among c.grace c.time c.slots) (cond (has_excluded c.slots) None (calm_step now c))) (λ still. lawful_or (stop_among c.grace c.time c.slots) (cond (has_excluded c.slots) None (calm_step now c)) (stops_lawful c.slots) (lawful_unless (has_excluded c.slots) (calm_step now c) calm))
+  work_lawful = lawful_unless (stands now c) (or_else (stop_among c.heads.grace c.heads.time c.slots) (cond (has_excluded c.slots) None (calm_step now c))) (λ still. lawful_or (stop_among c.heads.grace c.heads.time c.slots) (cond (has_excluded c.slots) None (calm_step now c)) (stops_lawful c.slots) (lawful_unless (has_excluded c.slots) (calm_step now c) calm))
     where
       calm : has_excluded c.slots ≡ false → is_lawful (calm_step now c) ≡ true
-      calm spared = lawful_or (start_along now c.time (zip c.table c.slots)) (or_else (stage_step now c.goal c.table c.slots) (settle_step now c.announced c.time c.table c.slots)) (starts_lawful spared)
-          (lawful_or (stage_step now c.goal c.table c.slots) (settle_step now c.announced c.time c.table c.slots) stage_lawful settle_lawful)
+      calm spared = lawful_or (start_along now c.heads.time (zip c.table c.slots)) (or_else (stage_step now c.heads.goal c.table c.slots) (settle_step now c.heads.announced c.heads.time c.table c.slots)) (starts_lawful spared)
+          (lawful_or (stage_step now c.heads.goal c.table c.slots) (settle_step now c.heads.announced c.heads.time c.table c.slots) stage_lawful settle_lawful)
 
   idle_lawful : (o : Option Step) → is_lawful o ≡ true → is_lawful (Some (or_idle o)) ≡ true
   idle_lawful None h = refl
@@ -204,8 +205,8 @@ module _ (c : CoreState) (keeps : IsFit c) (now : Stage) (in_stage : c.stage ≡
       ∙ idle_lawful (or_else (wish_step now c) (or_else (work_step now c) (look_among c.slots))) (lawful_or (wish_step now c) (or_else (work_step now c) (look_among c.slots)) (lawful_if (is_quiet c.slots) (wished_step now c) wished_lawful) (lawful_or (work_step now c) (look_among c.slots) work_lawful (looks_lawful c.slots)))
 
 -- a stage that is entered at a quiet point
-entered_keeps : (c : CoreState) → IsFit c → (next : Stage) (grace : ℕ) → is_quiet c.slots ≡ true → is_goal_reached (Some next) (wished c.level_wish c.goal) (is_boot next || c.booted) ≡ true → IsFit (after_step (Enter next grace) c)
-entered_keeps c keeps next grace quiet reached = kept_by (after_step (Enter next grace) c) (entered_ruled c keeps quiet next) (record { clock = keeps.clock; wish = refl; announced = refl; reached = reached })
+entered_keeps : (c : CoreState) → IsFit c → (next : Stage) (grace : ℕ) → is_quiet c.slots ≡ true → is_goal_reached (Some next) (wished c.heads.level_wish c.heads.goal) (is_boot next || c.heads.booted) ≡ true → IsFit (after_step (Enter next grace) c)
+entered_keeps c keeps next grace quiet reached = kept_by (after_step (Enter next grace) c) (entered_ruled c keeps quiet next) (record { clock = (rules_of c keeps).clock; wish = refl; announced = refl; reached = reached })
 
 -- an entry that a step names may be called
 named_callable : (s : Step) (now : Option Stage) (e : Entry) → is_named s now e ≡ true → is_callable (Some e.act) ≡ true
@@ -216,30 +217,30 @@ named_callable (Call letter) now e h = or_right (is_called_by power.Fail e.act |
 named_callable _ now e h = absurd (false≢true h)
 
 -- a step that was decided
-step_in : (c : CoreState) → IsFit c → (now : Stage) → c.stage ≡ Some now → (s : Step) → decide c ≡ s → IsFit (after_step s c)
+step_in : (c : CoreState) → IsFit c → (now : Stage) → c.heads.stage ≡ Some now → (s : Step) → decide c ≡ s → IsFit (after_step s c)
 step_in c keeps now in_stage (Enter next grace) is =
-    let parts = and_parts (is_quiet c.slots) (is_goal_reached (Some next) (wished c.level_wish c.goal) (is_boot next || c.booted)) (decided_lawful c keeps now in_stage (Enter next grace) is) in
+    let parts = and_parts (is_quiet c.slots) (is_goal_reached (Some next) (wished c.heads.level_wish c.heads.goal) (is_boot next || c.heads.booted)) (decided_lawful c keeps now in_stage (Enter next grace) is) in
     entered_keeps c keeps next grace parts.0 parts.1
-step_in c keeps now in_stage (Call letter) is = kept_by (after_step (Call letter) c) (called_ruled c keeps (decided_lawful c keeps now in_stage (Call letter) is) (is_named (Call letter) c.stage) (named_callable (Call letter) c.stage)) (heads_kept c keeps)
-step_in c keeps now in_stage (Power kind) is = kept_by (after_step (Power kind) c) (called_ruled c keeps (decided_lawful c keeps now in_stage (Power kind) is) (is_named (Power kind) c.stage) (named_callable (Power kind) c.stage)) (heads_kept c keeps)
+step_in c keeps now in_stage (Call letter) is = kept_by (after_step (Call letter) c) (called_ruled c keeps (decided_lawful c keeps now in_stage (Call letter) is) (is_named (Call letter) c.heads.stage) (named_callable (Call letter) c.heads.stage)) (heads_kept c keeps)
+step_in c keeps now in_stage (Power kind) is = kept_by (after_step (Power kind) c) (called_ruled c keeps (decided_lawful c keeps now in_stage (Power kind) is) (is_named (Power kind) c.heads.stage) (named_callable (Power kind) c.heads.stage)) (heads_kept c keeps)
 step_in c keeps now in_stage (Order id Start) is =
-    let parts = and_parts (not (has_excluded c.slots)) (are_starts_along now (zip c.table (with_changed id (after_order Start c.time) c.slots))) (decided_lawful c keeps now in_stage (Order id Start) is) in
+    let parts = and_parts (not (has_excluded c.slots)) (are_starts_along now (zip c.table (with_changed id (after_order Start c.heads.time) c.slots))) (decided_lawful c keeps now in_stage (Order id Start) is) in
     kept_by (after_step (Order id Start) c) (start_all_ruled c keeps id is now in_stage (not-true (has_excluded c.slots) parts.0) parts.1) (heads_kept c keeps)
-step_in c keeps now in_stage (Order id Look) is = kept_by (after_step (Order id Look) c) (child_ruled c keeps id Look is (λ s h. (and_parts (is_none s.order) (is_some s.child) (and_parts (can_be_asked Look c.time s) true h).0).1) (λ s. refl) now in_stage) (heads_kept c keeps)
-step_in c keeps now in_stage (Order id Term) is = kept_by (after_step (Order id Term) c) (child_ruled c keeps id Term is (λ s h. (and_parts (is_none s.order) (is_some s.child) (and_parts (can_be_asked Term c.time s) (may_follow Term s.stop) h).0).1) (λ s. refl) now in_stage) (heads_kept c keeps)
-step_in c keeps now in_stage (Order id Kill) is = kept_by (after_step (Order id Kill) c) (child_ruled c keeps id Kill is (λ s h. (and_parts (is_none s.order) (is_some s.child) (and_parts (can_be_asked Kill c.time s) (may_follow Kill s.stop) h).0).1) (λ s. refl) now in_stage) (heads_kept c keeps)
+step_in c keeps now in_stage (Order id Look) is = kept_by (after_step (Order id Look) c) (child_ruled c keeps id Look is (λ s h. (and_parts (is_none s.order) (is_some s.child) (and_parts (can_be_asked Look c.heads.time s) true h).0).1) (λ s. refl) now in_stage) (heads_kept c keeps)
+step_in c keeps now in_stage (Order id Term) is = kept_by (after_step (Order id Term) c) (child_ruled c keeps id Term is (λ s h. (and_parts (is_none s.order) (is_some s.child) (and_parts (can_be_asked Term c.heads.time s) (may_follow Term s.stop) h).0).1) (λ s. refl) now in_stage) (heads_kept c keeps)
+step_in c keeps now in_stage (Order id Kill) is = kept_by (after_step (Order id Kill) c) (child_ruled c keeps id Kill is (λ s h. (and_parts (is_none s.order) (is_some s.child) (and_parts (can_be_asked Kill c.heads.time s) (may_follow Kill s.stop) h).0).1) (λ s. refl) now in_stage) (heads_kept c keeps)
 step_in c keeps now in_stage (Hold id) is = kept_by (after_step (Hold id) c) (hold_ruled c keeps id is now in_stage) (heads_kept c keeps)
-step_in c keeps now in_stage (Settle level) is = kept_by (after_step (Settle level) c) (all_kept c keeps) (record { clock = keeps.clock; wish = keeps.wish; announced = ap in_run in_stage ∙ decided_lawful c keeps now in_stage (Settle level) is; reached = keeps.reached })
+step_in c keeps now in_stage (Settle level) is = kept_by (after_step (Settle level) c) (all_kept c keeps) (record { clock = (rules_of c keeps).clock; wish = (rules_of c keeps).wish; announced = ap in_run in_stage ∙ decided_lawful c keeps now in_stage (Settle level) is; reached = (rules_of c keeps).reached })
 step_in c keeps now in_stage _ is = keeps
 
 pub step_keeps : (c : CoreState) → IsFit c → (s : Step) → decide c ≡ s → IsFit (after_step s c)
-step_keeps c keeps s is = at c.stage refl
+step_keeps c keeps s is = at c.heads.stage refl
   where
-    first : c.stage ≡ None → (b : Bool) → is_quiet c.slots ≡ b → IsFit (after_step (or_idle (cond b (Some (Enter stage.Sysinit c.goal.grace)) None)) c)
-    first before true quiet = entered_keeps c keeps stage.Sysinit c.goal.grace quiet (sym (ap (λ o. is_goal_reached o c.goal c.booted) before) ∙ keeps.reached)
+    first : c.heads.stage ≡ None → (b : Bool) → is_quiet c.slots ≡ b → IsFit (after_step (or_idle (cond b (Some (Enter stage.Sysinit c.heads.goal.grace)) None)) c)
+    first before true quiet = entered_keeps c keeps stage.Sysinit c.heads.goal.grace quiet (sym (ap (λ o. is_goal_reached o c.heads.goal c.heads.booted) before) ∙ (rules_of c keeps).reached)
     first before false busy = keeps
 
-    at : (o : Option Stage) → c.stage ≡ o → IsFit (after_step s c)
+    at : (o : Option Stage) → c.heads.stage ≡ o → IsFit (after_step s c)
     at None before = subst (λ x. IsFit (after_step x c)) (sym (ap (λ o. decide_in o c) before) ∙ is) (first before (is_quiet c.slots) refl)
     at (Some now) in_stage = step_in c keeps now in_stage s is
 
@@ -249,4 +250,4 @@ told_keeps c keeps id answer taken = kept_by (after_told id answer c) (answer_ru
 
 -- another table, at a quiet point
 pub adopt_keeps : (c : CoreState) → IsFit c → is_quiet c.slots ≡ true → (table : List Entry) → is_distinct table ≡ true → IsFit (after_adopt table c)
-adopt_keeps c keeps quiet table distinct = kept_by (after_adopt table c) (adopted_ruled c keeps quiet table distinct) (record { clock = keeps.clock; wish = keeps.wish; announced = refl; reached = keeps.reached })
+adopt_keeps c keeps quiet table distinct = kept_by (after_adopt table c) (adopted_ruled c keeps quiet table distinct) (record { clock = (rules_of c keeps).clock; wish = (rules_of c keeps).wish; announced = refl; reached = (rules_of c keeps).reached })

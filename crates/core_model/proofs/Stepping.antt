@@ -16,8 +16,8 @@ use Rattle.init_trace.specs.declared.steps.Step.{Step}
 use Rattle.init_trace.specs.declared.steps.Step.TheVariants.{Enter, Call, Power, Reread, Order, Hold, Settle, Reexec, Idle}
 use Rattle.init_trace.specs.declared.steps.Goal.{Goal}
 use Rattle.init_trace.specs.Event.{Event}
-use Rattle.init_trace.specs.Past.{table_of, stage_of}
-use Rattle.init_trace.specs.Wishes.{in_run}
+use Rattle.init_trace.specs.Past.{table_of, stage_of, time_of}
+use Rattle.init_trace.specs.Wishes.{in_run, goal_of}
 use Rattle.init_trace.specs.Due.{due, first, same_step}
 use Rattle.init_trace.specs.Sound.{is_sound}
 use Rattle.trace_laws.proofs.Dues.{MayRun, due_facts}
@@ -25,7 +25,7 @@ use Rattle.trace_laws.proofs.Keeps.{sound_holds}
 use Rattle.child_table.specs.declared.children.Stop.{Stop}
 use Rattle.child_table.specs.declared.children.Stop.TheVariants.{Due, Termed, Killed}
 use Rattle.child_table.specs.State.{SlotState}
-use Rattle.child_table.specs.Changes.{after_order, after_hold, after_enter}
+use Rattle.child_table.specs.Changes.{after_enter}
 use Rattle.child_table.specs.Judging.{after_judge}
 use Rattle.child_table.specs.Lists as lists
 use Rattle.core_model.specs.declared.news.News.{News}
@@ -33,12 +33,12 @@ use Rattle.core_model.specs.News.{first_news}
 use Rattle.core_model.specs.State.{CoreState}
 use Rattle.core_model.specs.Decide as core
 use Rattle.core_model.specs.Decide.{decide, or_else, or_idle}
-use Rattle.core_model.specs.Steps.{after_step, with_called, is_named}
-use Rattle.core_model.specs.Fit.{Fits, records_of, with_step}
-use Rattle.core_model.proofs.Fitted.{fit_records, fits_by}
+use Rattle.core_model.specs.Steps.{after_step}
+use Rattle.core_model.specs.Fit.{LastStatuses, Fits, StillFits, lasts_after, heads_of, core_read, with_step}
+use Rattle.core_model.proofs.Fitted.{fit_stage, goes_on, still}
 use Rattle.core_model.proofs.Ordering.{look_ordered, term_ordered, kill_ordered, start_ordered, hold_made, power_called, letter_called}
 use Rattle.core_model.proofs.Newest.{by_first}
-use Rattle.core_model.proofs.Moments.{at_enter, wishes_enter, wishes_power, wishes_call}
+use Rattle.core_model.proofs.Moments.{heads_entered, heads_powered, heads_called, goal_entered}
 use Rattle.core_model.proofs.Tables.{enter_records}
 use Rattle.core_model.proofs.Hearing.{settle_records}
 use Rattle.core_model.proofs.Deciding.{decide_due}
@@ -92,30 +92,30 @@ news_enters : (news : News) → enters (first_news news) ≡ false
 news_enters = by_first (λ (n : News). enters (first_news n) ≡ false) (λ n o a b c. refl) (λ o a b c. refl) (λ a b c. refl) (λ b c. refl) (λ c. refl) refl refl
 
 -- in a run level in which no other is wished for the core enters no stage
-run_enters : (c : CoreState) (level : Level) → c.level_wish ≡ None → enters (or_else (core.wish_step (stage.Run level) c) (or_else (core.work_step (stage.Run level) c) (core.look_among c.slots))) ≡ false
+run_enters : (c : CoreState) (level : Level) → c.heads.level_wish ≡ None → enters (or_else (core.wish_step (stage.Run level) c) (or_else (core.work_step (stage.Run level) c) (core.look_among c.slots))) ≡ false
 run_enters c level none = neither (core.wish_step (stage.Run level) c) (or_else (core.work_step (stage.Run level) c) (core.look_among c.slots)) (not_if (lists.is_quiet c.slots) (core.wished_step (stage.Run level) c) wished)
     (neither (core.work_step (stage.Run level) c) (core.look_among c.slots) (not_else (core.stands (stage.Run level) c) _ worked) (look_enters c.slots))
   where
     wished : enters (core.wished_step (stage.Run level) c) ≡ false
-    wished = at c.reexec c.reread
+    wished = at c.heads.reexec c.heads.reread
       where
-        other : enters (or_else (core.level_step c.booted c.level_wish) (first_news c.news)) ≡ false
-        other = ap (λ o. enters (or_else (core.level_step c.booted o) (first_news c.news))) none ∙ news_enters c.news
+        other : enters (or_else (core.level_step c.heads.booted c.heads.level_wish) (first_news c.heads.news)) ≡ false
+        other = ap (λ o. enters (or_else (core.level_step c.heads.booted o) (first_news c.heads.news))) none ∙ news_enters c.heads.news
 
-        at : (x r : Bool) → enters (cond x (Some Reexec) (cond r (Some Reread) (or_else (core.level_step c.booted c.level_wish) (first_news c.news)))) ≡ false
+        at : (x r : Bool) → enters (cond x (Some Reexec) (cond r (Some Reread) (or_else (core.level_step c.heads.booted c.heads.level_wish) (first_news c.heads.news)))) ≡ false
         at true r = refl
         at false true = refl
         at false false = other
 
-    worked : enters (or_else (core.stop_among c.grace c.time c.slots) (cond (core.has_excluded c.slots) None (core.calm_step (stage.Run level) c))) ≡ false
-    worked = neither (core.stop_among c.grace c.time c.slots) (cond (core.has_excluded c.slots) None (core.calm_step (stage.Run level) c)) (stop_enters c.grace c.time c.slots)
+    worked : enters (or_else (core.stop_among c.heads.grace c.heads.time c.slots) (cond (core.has_excluded c.slots) None (core.calm_step (stage.Run level) c))) ≡ false
+    worked = neither (core.stop_among c.heads.grace c.heads.time c.slots) (cond (core.has_excluded c.slots) None (core.calm_step (stage.Run level) c)) (stop_enters c.heads.grace c.heads.time c.slots)
         (not_else (core.has_excluded c.slots) (core.calm_step (stage.Run level) c)
-        (neither (core.start_among (stage.Run level) c.time c.table c.slots) _ (start_enters (stage.Run level) c.time (zip c.table c.slots))
-        (neither (core.stage_step (stage.Run level) c.goal c.table c.slots) (core.settle_step (stage.Run level) c.announced c.time c.table c.slots)
+        (neither (core.start_among (stage.Run level) c.heads.time c.table c.slots) _ (start_enters (stage.Run level) c.heads.time (zip c.table c.slots))
+        (neither (core.stage_step (stage.Run level) c.heads.goal c.table c.slots) (core.settle_step (stage.Run level) c.heads.announced c.heads.time c.table c.slots)
         (not_if (core.is_over_among (stage.Run level) c.table c.slots) None refl)
-        (not_if (not c.announced && core.is_idle c.slots && core.all_served level c.time c.table c.slots) (Some (Settle level)) refl))))
+        (not_if (not c.heads.announced && core.is_idle c.slots && core.all_served level c.heads.time c.table c.slots) (Some (Settle level)) refl))))
 
-entered_before : (c : CoreState) (o : Option Stage) → c.level_wish ≡ None → (next : Stage) (grace : ℕ) → core.decide_in o c ≡ Enter next grace → in_run o ≡ false
+entered_before : (c : CoreState) (o : Option Stage) → c.heads.level_wish ≡ None → (next : Stage) (grace : ℕ) → core.decide_in o c ≡ Enter next grace → in_run o ≡ false
 entered_before c None none next grace is = refl
 entered_before c (Some stage.Sysinit) none next grace is = refl
 entered_before c (Some stage.Boot) none next grace is = refl
@@ -131,9 +131,6 @@ first_due s [] self busy is = absurd (busy (sym is))
 first_due s (x ∷ steps) self busy is = rw (is, self) refl
 
 module _ (goal : Goal) (past : List Event) (c : CoreState) (sound : is_sound goal past ≡ true) (fits : Fits c goal past) where
-  slots : c.slots ≡ records_of past
-  slots = fit_records c goal past fits
-
   -- a step: the first that is due
   due_now : decide c ≡ first (due goal past)
   due_now = decide_due goal past sound c fits
@@ -147,42 +144,55 @@ module _ (goal : Goal) (past : List Event) (c : CoreState) (sound : is_sound goa
   own_entry : (id : List ℕ) (may : MayRun id (table_of past) past) → entry_of id (table_of past) ≡ Some may.entry
   own_entry id may = may.found distinct
 
-  pub fits_step : Fits (after_step (decide c) c) goal (with_step (decide c) past)
+  abbrev g : Goal
+  g = c.heads.goal
+
+  abbrev n : ℕ
+  n = c.heads.generation
+
+  -- a step that leaves the goal, by what it makes of the core that is read off the past
+  goes : (s : Step) (happening : Event) → (after_step s c).heads.goal ≡ g → (after_step s c).heads.generation ≡ n → ((lasts : LastStatuses) → after_step s (core_read lasts past g n) ≡ core_read (lasts_after happening past lasts) (happening ∷ past) g n) → (in_run (stage_of (happening ∷ past)) ≡ false → g ≡ goal_of goal (happening ∷ past)) → StillFits c (after_step s c) goal past (happening ∷ past)
+  goes s happening same_goal same_age reads law = goes_on c (after_step s c) goal happening past fits (λ lasts kept. ap (after_step s) kept ∙ reads lasts ∙ (λ i. core_read (lasts_after happening past lasts) (happening ∷ past) (sym same_goal i) (sym same_age i))) (λ h. same_goal ∙ law h)
+
+  -- records alone
+  abbrev with_records : LastStatuses → Event → List SlotState → CoreState
+  with_records lasts happening slots = record (core_read lasts (happening ∷ past) g n) { slots = slots }
+
+  pub fits_step : StillFits c (after_step (decide c) c) goal past (with_step (decide c) past)
   fits_step = at (decide c) refl
     where
-      at : (s : Step) → decide c ≡ s → Fits (after_step s c) goal (with_step s past)
+      at : (s : Step) → decide c ≡ s → StillFits c (after_step s c) goal past (with_step s past)
       at (Enter next grace) is =
-          let way : c.level_wish ≡ None → in_run (Some next) ≡ false → in_run (stage_of past) ≡ false = λ none h. sym (ap in_run fits.now.stage) ∙ entered_before c c.stage none next grace is in
-          fits_by (after_step (Enter next grace) c) goal (event.Enter next grace ∷ past) fits.table.table
-          ((λ i. map (after_judge (fits.table.table i) next) (map after_enter (slots i))) ∙ enter_records goal next grace past sound)
-          (at_enter c goal past fits.now fits.wishes next grace way) (wishes_enter c goal past fits.now fits.wishes next grace way)
+          let way : c.heads.level_wish ≡ None → in_run (Some next) ≡ false → in_run (stage_of past) ≡ false = λ none h. sym (ap in_run (fit_stage c goal past fits)) ∙ entered_before c c.heads.stage none next grace is in
+          goes_on c (after_step (Enter next grace) c) goal (event.Enter next grace) past fits
+          (λ lasts kept i. record {
+            table = (kept i).table;
+            slots = (ap (λ (x : CoreState). map (after_judge x.table next) (map after_enter x.slots)) kept ∙ enter_records lasts goal next grace past sound) i;
+            heads = heads_entered c.heads past (ap (λ (x : CoreState). x.heads) kept) next grace i;
+          })
+          (λ early. goal_entered c.heads past (ap (λ (x : CoreState). x.heads) fits.kept) goal fits.goal next way early)
       at (Order id Start) is =
           let may = entry_start id is in
-          fits_by (after_step (Order id Start) c) goal (event.Asked id Start ∷ past) fits.table.table
-          ((λ i. lists.with_changed id (after_order Start (fits.now.time i)) (slots i)) ∙ start_ordered id past may.entry (own_entry id may))
-          (record { stage = fits.now.stage; grace = fits.now.grace; time = fits.now.time; goal = fits.now.goal; booted = fits.now.booted; announced = fits.now.announced }) (record { reexec = fits.wishes.reexec; reread = fits.wishes.reread; level = fits.wishes.level; news = fits.wishes.news })
-      at (Order id Look) is = fits_by (after_step (Order id Look) c) goal (event.Asked id Look ∷ past) fits.table.table
-          (ap (lists.with_changed id (after_order Look c.time)) slots ∙ look_ordered id past c.time)
-          (record { stage = fits.now.stage; grace = fits.now.grace; time = fits.now.time; goal = fits.now.goal; booted = fits.now.booted; announced = fits.now.announced }) (record { reexec = fits.wishes.reexec; reread = fits.wishes.reread; level = fits.wishes.level; news = fits.wishes.news })
-      at (Order id Term) is = fits_by (after_step (Order id Term) c) goal (event.Asked id Term ∷ past) fits.table.table
-          (ap (lists.with_changed id (after_order Term c.time)) slots ∙ term_ordered id past c.time)
-          (record { stage = fits.now.stage; grace = fits.now.grace; time = fits.now.time; goal = fits.now.goal; booted = fits.now.booted; announced = fits.now.announced }) (record { reexec = fits.wishes.reexec; reread = fits.wishes.reread; level = fits.wishes.level; news = fits.wishes.news })
-      at (Order id Kill) is = fits_by (after_step (Order id Kill) c) goal (event.Asked id Kill ∷ past) fits.table.table
-          (ap (lists.with_changed id (after_order Kill c.time)) slots ∙ kill_ordered id past c.time)
-          (record { stage = fits.now.stage; grace = fits.now.grace; time = fits.now.time; goal = fits.now.goal; booted = fits.now.booted; announced = fits.now.announced }) (record { reexec = fits.wishes.reexec; reread = fits.wishes.reread; level = fits.wishes.level; news = fits.wishes.news })
+          goes (Order id Start) (event.Asked id Start) refl refl (λ lasts. ap (with_records lasts (event.Asked id Start)) (start_ordered lasts id past may.entry (own_entry id may))) fits.goal
+      at (Order id Look) is = goes (Order id Look) (event.Asked id Look) refl refl (λ lasts. ap (with_records lasts (event.Asked id Look)) (look_ordered lasts id past (time_of past))) fits.goal
+      at (Order id Term) is = goes (Order id Term) (event.Asked id Term) refl refl (λ lasts. ap (with_records lasts (event.Asked id Term)) (term_ordered lasts id past (time_of past))) fits.goal
+      at (Order id Kill) is = goes (Order id Kill) (event.Asked id Kill) refl refl (λ lasts. ap (with_records lasts (event.Asked id Kill)) (kill_ordered lasts id past (time_of past))) fits.goal
       at (Hold id) is =
           let may = due_facts goal past (Hold id) (first_due (Hold id) (due goal past) (same_id-self id) (λ h. cc) (sym due_now ∙ is)) in
-          fits_by (after_step (Hold id) c) goal (event.Hold id ∷ past) fits.table.table
-          ((λ i. lists.with_changed id (after_hold (fits.now.time i)) (slots i)) ∙ hold_made id past may.run.entry (own_entry id may.run) may.limited)
-          (record { stage = fits.now.stage; grace = fits.now.grace; time = fits.now.time; goal = fits.now.goal; booted = fits.now.booted; announced = fits.now.announced }) (record { reexec = fits.wishes.reexec; reread = fits.wishes.reread; level = fits.wishes.level; news = fits.wishes.news })
-      at (Settle level) is = fits_by (after_step (Settle level) c) goal (event.Settle level ∷ past) fits.table.table (slots ∙ settle_records past level)
-          (record { stage = fits.now.stage; grace = fits.now.grace; time = fits.now.time; goal = fits.now.goal; booted = fits.now.booted; announced = refl }) (record { reexec = fits.wishes.reexec; reread = fits.wishes.reread; level = fits.wishes.level; news = fits.wishes.news })
-      at (Power kind) is = fits_by (after_step (Power kind) c) goal (event.Power kind ∷ past) fits.table.table
-          ((λ i. with_called (is_named (Power kind) (fits.now.stage i)) (fits.table.table i) (slots i)) ∙ power_called past distinct kind)
-          (record { stage = fits.now.stage; grace = fits.now.grace; time = fits.now.time; goal = fits.now.goal; booted = fits.now.booted; announced = fits.now.announced }) (wishes_power c goal past fits.now fits.wishes kind)
-      at (Call letter) is = fits_by (after_step (Call letter) c) goal (event.Call letter ∷ past) fits.table.table
-          ((λ i. with_called (is_named (Call letter) (fits.now.stage i)) (fits.table.table i) (slots i)) ∙ letter_called past distinct letter)
-          (record { stage = fits.now.stage; grace = fits.now.grace; time = fits.now.time; goal = fits.now.goal; booted = fits.now.booted; announced = fits.now.announced }) (wishes_call c goal past fits.now fits.wishes letter)
-      at Reread is = fits
-      at Reexec is = fits
-      at Idle is = fits
+          goes (Hold id) (event.Hold id) refl refl (λ lasts. ap (with_records lasts (event.Hold id)) (hold_made lasts id past may.run.entry (own_entry id may.run) may.limited)) fits.goal
+      at (Settle level) is = goes (Settle level) (event.Settle level) refl refl (λ lasts. ap (with_records lasts (event.Settle level)) (settle_records lasts past level)) fits.goal
+      at (Power kind) is = goes (Power kind) (event.Power kind) refl refl
+          (λ lasts i. record {
+            table = table_of past;
+            slots = power_called lasts past distinct kind i;
+            heads = heads_powered (heads_of past g n) past refl kind i;
+          }) fits.goal
+      at (Call letter) is = goes (Call letter) (event.Call letter) refl refl
+          (λ lasts i. record {
+            table = table_of past;
+            slots = letter_called lasts past distinct letter i;
+            heads = heads_called (heads_of past g n) past refl letter i;
+          }) fits.goal
+      at Reread is = still c goal past fits
+      at Reexec is = still c goal past fits
+      at Idle is = still c goal past fits

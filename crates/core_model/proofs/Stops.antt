@@ -20,7 +20,7 @@ use Rattle.trace_laws.proofs.Known.{known_single}
 use Rattle.trace_laws.proofs.Stopping.{hits_are, hits_shape}
 use Rattle.child_table.specs.declared.children.Stop.TheVariants.{Termed, Killed}
 use Rattle.core_model.specs.Decide.{or_else, signal_step, stop_step, stop_among}
-use Rattle.core_model.specs.Fit.{living, stop_after, stop_known, record_of, records_of}
+use Rattle.core_model.specs.Fit.{LastStatuses, living, stop_after, stop_known, record_of, records_of}
 use Rattle.core_model.proofs.Firsts.{head, head_append, head_steps_if}
 use Rattle.core_model.proofs.Reading.{none_left}
 
@@ -69,8 +69,8 @@ module _ (past : List Event) where
           ∙ or_nothing (head (due.stop_step id (stop_due child past)))
       at false one later = later one
 
-module _ (goal : Goal) (past : List Event) (sound : is_sound goal past ≡ true) where
-  stop_same : (id : List ℕ) → head (steps_if (is_none (open_of id past)) (stops_of id (known_children past) past)) ≡ stop_step (grace_of past) (time_of past) (record_of past id)
+module _ (lasts : LastStatuses) (goal : Goal) (past : List Event) (sound : is_sound goal past ≡ true) where
+  stop_same : (id : List ℕ) → head (steps_if (is_none (open_of id past)) (stops_of id (known_children past) past)) ≡ stop_step (grace_of past) (time_of past) (record_of lasts past id)
   stop_same id = rw (head_steps_if (is_none (open_of id past)) (stops_of id (known_children past) past), stops_found past id (known_children past) (known_single goal past sound id)) (at (find (is_of id) (known_children past)) refl (is_none (open_of id past)))
     where
       due_same : (child : Child) → hits_are (spell_hits child past) ≡ true → (x m : Bool)
@@ -87,10 +87,10 @@ module _ (goal : Goal) (past : List Event) (sound : is_sound goal past ≡ true)
       at (Some child) is true = due_same child (hits_shape goal past sound id child is) (is_excluded past child) (is_missed child past)
       at (Some child) is false = refl
 
-  stops_along : (ids : List (List ℕ)) → head (stops_among ids past) ≡ stop_among (grace_of past) (time_of past) (map (record_of past) ids)
+  stops_along : (ids : List (List ℕ)) → head (stops_among ids past) ≡ stop_among (grace_of past) (time_of past) (map (record_of lasts past) ids)
   stops_along [] = refl
   stops_along (id ∷ ids) = head_append (steps_if (is_none (open_of id past)) (stops_of id (known_children past) past)) (stops_among ids past) ∙ (λ i. or_else (stop_same id i) (stops_along ids i))
 
   -- 6: the first signal
-  pub stops_same : head (stops_among (record_ids past) past) ≡ stop_among (grace_of past) (time_of past) (records_of past)
+  pub stops_same : head (stops_among (record_ids past) past) ≡ stop_among (grace_of past) (time_of past) (records_of lasts past)
   stops_same = stops_along (record_ids past)

@@ -43,7 +43,7 @@ use Rattle.child_table.specs.Judging as judging
 use Rattle.child_table.specs.Adopting.{adopted, left_over, is_left_over, entry_slots, left_slots}
 use Rattle.child_table.specs.Adopting as adopting
 use Rattle.core_model.specs.Steps.{judged_in}
-use Rattle.core_model.specs.Fit.{child_known, living, known_child, stop_after, stop_known, stop_of, is_to_look, was_missed, limiter_by, asked_of, last_of, record_of, records_of}
+use Rattle.core_model.specs.Fit.{LastStatuses, child_known, living, known_child, stop_after, stop_known, stop_of, is_to_look, was_missed, limiter_by, asked_of, lasts_after, record_of, records_of}
 use Rattle.core_model.proofs.Acts.{found_own, child_some, found_record, no_record}
 
 -- two actions are one either way
@@ -99,13 +99,13 @@ mapped f g k same [] = refl
 mapped f g k same (x ∷ xs) = λ i. same x i ∷ mapped f g k same xs i
 
 -- a stage was entered
-pub enter_records : (goal : Goal) (stage : Stage) (grace : ℕ) (past : List Event) → is_sound goal past ≡ true → map (after_judge (table_of past) stage) (map after_enter (records_of past)) ≡ records_of (Enter stage grace ∷ past)
-enter_records goal stage grace past sound = ap (map (after_judge (table_of past) stage)) (mapped after_enter (record_of past) entered (λ id. refl) (record_ids past)) ∙ mapped (after_judge (table_of past) stage) entered (record_of (Enter stage grace ∷ past)) same (record_ids past) where
+pub enter_records : (lasts : LastStatuses) → (goal : Goal) (stage : Stage) (grace : ℕ) (past : List Event) → is_sound goal past ≡ true → map (after_judge (table_of past) stage) (map after_enter (records_of lasts past)) ≡ records_of lasts (Enter stage grace ∷ past)
+enter_records lasts goal stage grace past sound = ap (map (after_judge (table_of past) stage)) (mapped after_enter (record_of lasts past) entered (λ id. refl) (record_ids past)) ∙ mapped (after_judge (table_of past) stage) entered (record_of lasts (Enter stage grace ∷ past)) same (record_ids past) where
   entered : List ℕ → SlotState
-  entered id = after_enter (record_of past id)
+  entered id = after_enter (record_of lasts past id)
 
-  same : (id : List ℕ) → after_judge (table_of past) stage (entered id) ≡ record_of (Enter stage grace ∷ past) id
-  same id = judged_known (Enter stage grace ∷ past) past (λ child. spell_enter child stage grace past) (λ child. missed_enter child stage grace past) stage refl id (entered id) refl refl refl refl ∙ (λ i. record (record_of (Enter stage grace ∷ past) id) { asked = never (entry_of id (table_of past)) i; called = never (entry_of id (table_of past)) i; limiter = unused_same (entry_of id (table_of past)) i })
+  same : (id : List ℕ) → after_judge (table_of past) stage (entered id) ≡ record_of lasts (Enter stage grace ∷ past) id
+  same id = judged_known (Enter stage grace ∷ past) past (λ child. spell_enter child stage grace past) (λ child. missed_enter child stage grace past) stage refl id (entered id) refl refl refl refl ∙ (λ i. record (record_of lasts (Enter stage grace ∷ past) id) { asked = never (entry_of id (table_of past)) i; called = never (entry_of id (table_of past)) i; limiter = unused_same (entry_of id (table_of past)) i })
 
 -- the entry that is found for an id has the id
 pub entry_own : (id : List ℕ) (es : List Entry) (e : Entry) → entry_of id es ≡ Some e → e.id ≡ id
@@ -167,9 +167,12 @@ pub listed_record : (id : List ℕ) (past : List Event) → list_any (has_id id)
 listed_record id past there = list_any-append (same_id id) (ids_of (table_of past)) (filter (λ x. has_child x (known_children past)) (left_ids past)) ∙ or_left (list_any (same_id id) (ids_of (table_of past))) (list_any (same_id id) (filter (λ x. has_child x (known_children past)) (left_ids past))) (ids_listed id (table_of past) ∙ there)
 
 -- another table at a quiet point
-module _ (goal : Goal) (table : List Entry) (past : List Event) (sound : is_sound goal past ≡ true) (distinct : is_distinct table ≡ true) where
+module _ (lasts : LastStatuses) (goal : Goal) (table : List Entry) (past : List Event) (sound : is_sound goal past ≡ true) (distinct : is_distinct table ≡ true) where
   abbrev next : List Event
   next = NewTable table ∷ past
+
+  abbrev later : LastStatuses
+  later = lasts_after (NewTable table) past lasts
 
   -- before the first stage no child is known
   dawn_none : stage_of past ≡ None → (id : List ℕ) → child_known id past ≡ None
@@ -200,18 +203,18 @@ module _ (goal : Goal) (table : List Entry) (past : List Event) (sound : is_soun
     by (Some x) is = ap (λ y. is_asked y past && same_act x.act e.act) (entry_own e.id (table_of past) x is) ∙ swap (is_asked e.id past) (same_act x.act e.act) (same_act e.act x.act) (same_act-sym x.act e.act)
 
   -- a record that stays keeps how the last child ended
-  last_kept : (id : List ℕ) → list_any (same_id id) (record_ids past) ≡ true → last_of id past ≡ last_of id next
-  last_kept id there = sym (ap (λ b. cond b (last_of id past) None) there)
+  last_kept : (id : List ℕ) → list_any (same_id id) (record_ids past) ≡ true → lasts id ≡ later id
+  last_kept id there = sym (ap (λ b. cond b (lasts id) None) there)
 
   -- the record of an entry before it is judged
   abbrev entered_slot : Entry → SlotState
-  entered_slot e = record (record_of past e.id) { table_act = Some e.act; asked = asked_of e.id past && is_act e.act (act_of e.id (table_of past)); called = false; limiter = unused; last = last_of e.id next }
+  entered_slot e = record (record_of lasts past e.id) { table_act = Some e.act; asked = asked_of e.id past && is_act e.act (act_of e.id (table_of past)); called = false; limiter = unused; last = later e.id }
 
-  adopted_same : (e : Entry) → adopted e (slot_of e.id (records_of past)) ≡ entered_slot e
+  adopted_same : (e : Entry) → adopted e (slot_of e.id (records_of lasts past)) ≡ entered_slot e
   adopted_same e = by (list_any (same_id e.id) (record_ids past)) refl where
-    by : (b : Bool) → list_any (same_id e.id) (record_ids past) ≡ b → adopted e (slot_of e.id (records_of past)) ≡ entered_slot e
-    by true there = ap (adopted e) (found_record past e.id (record_ids past) there) ∙ (λ i. record (adopted e (Some (record_of past e.id))) { last = last_kept e.id there i })
-    by false none = ap (adopted e) (no_record past e.id (record_ids past) none) ∙ (λ i. record {
+    by : (b : Bool) → list_any (same_id e.id) (record_ids past) ≡ b → adopted e (slot_of e.id (records_of lasts past)) ≡ entered_slot e
+    by true there = ap (adopted e) (found_record lasts past e.id (record_ids past) there) ∙ (λ i. record (adopted e (Some (record_of lasts past e.id))) { last = last_kept e.id there i })
+    by false none = ap (adopted e) (no_record lasts past e.id (record_ids past) none) ∙ (λ i. record {
       id = e.id;
       table_act = Some e.act;
       child = option_map living (childless i);
@@ -239,24 +242,24 @@ module _ (goal : Goal) (table : List Entry) (past : List Event) (sound : is_soun
       unlisted : None ≡ entry_of e.id (table_of past)
       unlisted = sym (find_none (has_id e.id) (table_of past) (falsely (list_any (has_id e.id) (table_of past)) (list_any (same_id e.id) (record_ids past)) (listed_record e.id past) none))
 
-      last_new : None ≡ last_of e.id next
-      last_new = sym (ap (λ b. cond b (last_of e.id past) None) none)
+      last_new : None ≡ later e.id
+      last_new = sym (ap (λ b. cond b (lasts e.id) None) none)
 
       unlooked : false ≡ is_to_look e.id past
       unlooked = sym (ap (λ b. b && wants_look e.id past) no_child)
 
-  entry_same : (e : Entry) → entry_of e.id table ≡ Some e → judged_by (stage_of past) table (adopted e (slot_of e.id (records_of past))) ≡ record_of next e.id
-  entry_same e found = ap (judged_by (stage_of past) table) (adopted_same e) ∙ judged_slot (stage_of past) refl e.id (entered_slot e) refl refl refl refl ∙ (λ i. record (record_of next e.id) { table_act = option_map (λ (x : Entry). x.act) (sym found i); asked = asked_same e found i; called = never (entry_of e.id table) i; limiter = unused_same (entry_of e.id table) i })
+  entry_same : (e : Entry) → entry_of e.id table ≡ Some e → judged_by (stage_of past) table (adopted e (slot_of e.id (records_of lasts past))) ≡ record_of later next e.id
+  entry_same e found = ap (judged_by (stage_of past) table) (adopted_same e) ∙ judged_slot (stage_of past) refl e.id (entered_slot e) refl refl refl refl ∙ (λ i. record (record_of later next e.id) { table_act = option_map (λ (x : Entry). x.act) (sym found i); asked = asked_same e found i; called = never (entry_of e.id table) i; limiter = unused_same (entry_of e.id table) i })
 
-  entries_same : judged_in (stage_of past) table (entry_slots table (records_of past)) ≡ map (record_of next) (ids_of table)
-  entries_same = judged_all (stage_of past) table (entry_slots table (records_of past)) ∙ twice table ∙ along table distinct (λ e. judged_by (stage_of past) table (adopted e (slot_of e.id (records_of past)))) (λ e. record_of next e.id) entry_same ∙ sym (by_ids table) where
-    twice : (es : List Entry) → map (judged_by (stage_of past) table) (map (λ (e : Entry). adopted e (slot_of e.id (records_of past))) es) ≡ map (λ (e : Entry). judged_by (stage_of past) table (adopted e (slot_of e.id (records_of past)))) es
+  entries_same : judged_in (stage_of past) table (entry_slots table (records_of lasts past)) ≡ map (record_of later next) (ids_of table)
+  entries_same = judged_all (stage_of past) table (entry_slots table (records_of lasts past)) ∙ twice table ∙ along table distinct (λ e. judged_by (stage_of past) table (adopted e (slot_of e.id (records_of lasts past)))) (λ e. record_of later next e.id) entry_same ∙ sym (by_ids table) where
+    twice : (es : List Entry) → map (judged_by (stage_of past) table) (map (λ (e : Entry). adopted e (slot_of e.id (records_of lasts past))) es) ≡ map (λ (e : Entry). judged_by (stage_of past) table (adopted e (slot_of e.id (records_of lasts past)))) es
     twice [] = refl
-    twice (e ∷ es) = ap (λ rest. judged_by (stage_of past) table (adopted e (slot_of e.id (records_of past))) ∷ rest) (twice es)
+    twice (e ∷ es) = ap (λ rest. judged_by (stage_of past) table (adopted e (slot_of e.id (records_of lasts past))) ∷ rest) (twice es)
 
-    by_ids : (es : List Entry) → map (record_of next) (ids_of es) ≡ map (λ (e : Entry). record_of next e.id) es
+    by_ids : (es : List Entry) → map (record_of later next) (ids_of es) ≡ map (λ (e : Entry). record_of later next e.id) es
     by_ids [] = refl
-    by_ids (e ∷ es) = ap (λ rest. record_of next e.id ∷ rest) (by_ids es)
+    by_ids (e ∷ es) = ap (λ rest. record_of later next e.id ∷ rest) (by_ids es)
 
   -- an id that is not in the table, and has a known child
   abbrev is_kept : List ℕ → Bool
@@ -269,16 +272,16 @@ module _ (goal : Goal) (table : List Entry) (past : List Event) (sound : is_soun
   stays id = has_left id && is_kept id
 
   -- the ids of the records that are left over
-  left_over_ids : filter (λ id. is_left_over table (record_of past id)) (record_ids past) ≡ filter stays (ids_of (table_of past) ++ left_ids past)
-  left_over_ids = filter_agree (λ id. is_left_over table (record_of past id)) stays same (record_ids past) ∙ filter-append stays (ids_of (table_of past)) (filter is_kept (left_ids past)) ∙ ap (λ rest. filter stays (ids_of (table_of past)) ++ rest) (filter_within stays is_kept (λ id h. (and_parts (has_left id) (is_kept id) h).1) (left_ids past)) ∙ sym (filter-append stays (ids_of (table_of past)) (left_ids past)) where
-    same : (id : List ℕ) → is_left_over table (record_of past id) ≡ stays id
+  left_over_ids : filter (λ id. is_left_over table (record_of lasts past id)) (record_ids past) ≡ filter stays (ids_of (table_of past) ++ left_ids past)
+  left_over_ids = filter_agree (λ id. is_left_over table (record_of lasts past id)) stays same (record_ids past) ∙ filter-append stays (ids_of (table_of past)) (filter is_kept (left_ids past)) ∙ ap (λ rest. filter stays (ids_of (table_of past)) ++ rest) (filter_within stays is_kept (λ id h. (and_parts (has_left id) (is_kept id) h).1) (left_ids past)) ∙ sym (filter-append stays (ids_of (table_of past)) (left_ids past)) where
+    same : (id : List ℕ) → is_left_over table (record_of lasts past id) ≡ stays id
     same id = (λ i. child_some id past i && none_found (has_id id) table i) ∙ and_comm (is_kept id) (has_left id)
 
   left_ids_next : filter is_kept (left_ids next) ≡ filter stays (ids_of (table_of past) ++ left_ids past)
   left_ids_next = filter_both is_kept has_left (ids_of (table_of past) ++ left_ids past)
 
-  left_same : (id : List ℕ) → stays id ≡ true → judged_by (stage_of past) table (left_over (record_of past id)) ≡ record_of next id
-  left_same id h = judged_slot (stage_of past) refl id (left_over (record_of past id)) refl refl refl refl ∙ (λ i. record (record_of next id) { table_act = option_map (λ (x : Entry). x.act) (none i); asked = off_asked none i; called = never (entry_of id table) i; limiter = unused_same (entry_of id table) i; last = last_kept id placed i }) where
+  left_same : (id : List ℕ) → stays id ≡ true → judged_by (stage_of past) table (left_over (record_of lasts past id)) ≡ record_of later next id
+  left_same id h = judged_slot (stage_of past) refl id (left_over (record_of lasts past id)) refl refl refl refl ∙ (λ i. record (record_of later next id) { table_act = option_map (λ (x : Entry). x.act) (none i); asked = off_asked none i; called = never (entry_of id table) i; limiter = unused_same (entry_of id table) i; last = last_kept id placed i }) where
     placed : list_any (same_id id) (record_ids past) ≡ true
     placed = child_in_records goal past sound id (and_parts (has_left id) (is_kept id) h).1
 
@@ -288,13 +291,13 @@ module _ (goal : Goal) (table : List Entry) (past : List Event) (sound : is_soun
     off_asked : None ≡ entry_of id table → false ≡ asked_of id next
     off_asked gone = ap (λ o. option_map_or (λ (x : Entry). is_asked x.id next) o false) gone
 
-  lefts_same : judged_in (stage_of past) table (left_slots table (records_of past)) ≡ map (record_of next) (filter is_kept (left_ids next))
-  lefts_same = judged_all (stage_of past) table (left_slots table (records_of past)) ∙ ap (λ slots. map (judged_by (stage_of past) table) (map left_over slots)) (filter_mapped (is_left_over table) (record_of past) (record_ids past) ∙ ap (map (record_of past)) left_over_ids) ∙ ap (map (judged_by (stage_of past) table)) (mapped left_over (record_of past) (λ id. left_over (record_of past id)) (λ id. refl) kept) ∙ mapped (judged_by (stage_of past) table) (λ id. left_over (record_of past id)) (λ id. judged_by (stage_of past) table (left_over (record_of past id))) (λ id. refl) kept ∙ mapped_passing stays (λ id. judged_by (stage_of past) table (left_over (record_of past id))) (record_of next) left_same (ids_of (table_of past) ++ left_ids past) ∙ ap (map (record_of next)) (sym left_ids_next) where
+  lefts_same : judged_in (stage_of past) table (left_slots table (records_of lasts past)) ≡ map (record_of later next) (filter is_kept (left_ids next))
+  lefts_same = judged_all (stage_of past) table (left_slots table (records_of lasts past)) ∙ ap (λ slots. map (judged_by (stage_of past) table) (map left_over slots)) (filter_mapped (is_left_over table) (record_of lasts past) (record_ids past) ∙ ap (map (record_of lasts past)) left_over_ids) ∙ ap (map (judged_by (stage_of past) table)) (mapped left_over (record_of lasts past) (λ id. left_over (record_of lasts past id)) (λ id. refl) kept) ∙ mapped (judged_by (stage_of past) table) (λ id. left_over (record_of lasts past id)) (λ id. judged_by (stage_of past) table (left_over (record_of lasts past id))) (λ id. refl) kept ∙ mapped_passing stays (λ id. judged_by (stage_of past) table (left_over (record_of lasts past id))) (record_of later next) left_same (ids_of (table_of past) ++ left_ids past) ∙ ap (map (record_of later next)) (sym left_ids_next) where
     kept : List (List ℕ)
     kept = filter stays (ids_of (table_of past) ++ left_ids past)
 
-pub table_records : (goal : Goal) (table : List Entry) (past : List Event) → is_sound goal past ≡ true → is_distinct table ≡ true → judged_in (stage_of past) table (adopting.after_adopt table (records_of past)) ≡ records_of (NewTable table ∷ past)
-table_records goal table past sound distinct = both (stage_of past) (entry_slots table (records_of past)) (left_slots table (records_of past)) ∙ (λ i. entries_same goal table past sound distinct i ++ lefts_same goal table past sound distinct i) ∙ sym (map-append (record_of (NewTable table ∷ past)) (ids_of table) (filter (λ id. has_child id (known_children past)) (left_ids (NewTable table ∷ past)))) where
+pub table_records : (lasts : LastStatuses) → (goal : Goal) (table : List Entry) (past : List Event) → is_sound goal past ≡ true → is_distinct table ≡ true → judged_in (stage_of past) table (adopting.after_adopt table (records_of lasts past)) ≡ records_of (lasts_after (NewTable table) past lasts) (NewTable table ∷ past)
+table_records lasts goal table past sound distinct = both (stage_of past) (entry_slots table (records_of lasts past)) (left_slots table (records_of lasts past)) ∙ (λ i. (entries_same lasts) goal table past sound distinct i ++ (lefts_same lasts) goal table past sound distinct i) ∙ sym (map-append (record_of (lasts_after (NewTable table) past lasts) (NewTable table ∷ past)) (ids_of table) (filter (λ id. has_child id (known_children past)) (left_ids (NewTable table ∷ past)))) where
   both : (o : Option Stage) (xs ys : List SlotState) → judged_in o table (xs ++ ys) ≡ judged_in o table xs ++ judged_in o table ys
   both None xs ys = refl
   both (Some stage) xs ys = map-append (after_judge table stage) xs ys

@@ -35,26 +35,26 @@ use Rattle.child_table.specs.declared.children.Stop.{Stop}
 use Rattle.child_table.specs.State.{SlotState}
 use Rattle.child_table.specs.Changes.{after_hit, after_answer, is_over}
 use Rattle.child_table.specs.Lists as lists
-use Rattle.core_model.specs.Fit.{child_known, living, stop_after, stop_known, stop_of, is_to_look, was_missed, last_told, last_of, record_of, records_of}
+use Rattle.core_model.specs.Fit.{LastStatuses, child_known, living, stop_after, stop_known, stop_of, is_to_look, was_missed, last_told, lasts_after, record_of, records_of}
 use Rattle.core_model.proofs.Acts.{found_own, child_some, found_record, stop_same, missed_same}
 use Rattle.core_model.proofs.Tables.{none_found, mapped, filter_mapped, mapped_passing}
 
 -- the record of an answered id is there, with an open order that is answered so
-module _ (goal : Goal) (past : List Event) (sound : is_sound goal past ≡ true) (id : List ℕ) (given : Answer) (is : answered_of id past ≡ Some given) where
-  answered_record : lists.slot_of id (records_of past) ≡ Some (record_of past id)
+module _ (lasts : LastStatuses) (goal : Goal) (past : List Event) (sound : is_sound goal past ≡ true) (id : List ℕ) (given : Answer) (is : answered_of id past ≡ Some given) where
+  answered_record : lists.slot_of id (records_of lasts past) ≡ Some (record_of lasts past id)
   answered_record = read (open_of id past) refl (answers_open goal past sound id given is) where
-    read : (o : Option Ask) → open_of id past ≡ o → option_map_or (answers given) o false ≡ true → lists.slot_of id (records_of past) ≡ Some (record_of past id)
+    read : (o : Option Ask) → open_of id past ≡ o → option_map_or (answers given) o false ≡ true → lists.slot_of id (records_of lasts past) ≡ Some (record_of lasts past id)
     read None order h = absurd (false≢true h)
-    read (Some ask) order h = found_record past id (record_ids past) (open_in_records goal past sound id ask order)
+    read (Some ask) order h = found_record lasts past id (record_ids past) (open_in_records goal past sound id ask order)
 
-  pub told_taken : lists.refusal_of (lists.order_in id (records_of past)) given ≡ Ok tt
+  pub told_taken : lists.refusal_of (lists.order_in id (records_of lasts past)) given ≡ Ok tt
   told_taken = ap (λ o. lists.refusal_of (lists.order_of o) given) answered_record ∙ read (open_of id past) (answers_open goal past sound id given is) where
     read : (o : Option Ask) → option_map_or (answers given) o false ≡ true → lists.refusal_of o given ≡ Ok tt
     read None h = absurd (false≢true h)
     read (Some ask) h = ap (λ b. cond b (Ok tt) (Err WrongAnswer)) h
 
 -- a Told of another id leaves the record of an id
-module _ (past : List Event) (id x : List ℕ) (differ : same_id x id ≡ false) where
+module _ (lasts : LastStatuses) (past : List Event) (id x : List ℕ) (differ : same_id x id ≡ false) where
   other_child : child_known x (Told id ∷ past) ≡ child_known x past
   other_child = same_find (is_of x) (known_children (Told id ∷ past)) (known_children past) (told_other x id (unreaped_children past) (known_children past) differ)
 
@@ -73,20 +73,23 @@ module _ (past : List Event) (id x : List ℕ) (differ : same_id x id ≡ false)
     goes_on true c none = refl
     goes_on false c none = sym (none refl)
 
-  told_apart : record_of past x ≡ record_of (Told id ∷ past) x
-  told_apart = sym (λ i. record (record_of past x) {
+  told_apart : record_of lasts past x ≡ record_of (lasts_after (Told id) past lasts) (Told id ∷ past) x
+  told_apart = sym (λ i. record (record_of lasts past x) {
     child = option_map living (other_child i);
     order = cond (differ i) None (open_of x past);
     stop = other_stop i;
     look = other_has i && wants_look x past;
     missed = other_missed i;
-    last = cond (differ i) (last_told (answered_of x past) (last_of x past)) (last_of x past);
+    last = cond (differ i) (last_told (answered_of x past) (lasts x)) (lasts x);
   })
 
 -- the record of the id whose answer is told
-module _ (goal : Goal) (past : List Event) (sound : is_sound goal past ≡ true) (id : List ℕ) where
+module _ (lasts : LastStatuses) (goal : Goal) (past : List Event) (sound : is_sound goal past ≡ true) (id : List ℕ) where
   abbrev next : List Event
   next = Told id ∷ past
+
+  abbrev later : LastStatuses
+  later = lasts_after (Told id) past lasts
 
   -- the signals and the Misses of the known child, by those that are under way
   hits_next : (child : Child) → child_known id past ≡ Some child → (hits : List (Option Ask)) → untold_hits id past ≡ hits → spell_hits child next ≡ cond (is_excluded past child) (map (told_at (time_of past)) hits ++ spell_hits child past) (spell_hits child past)
@@ -119,27 +122,27 @@ module _ (goal : Goal) (past : List Event) (sound : is_sound goal past ≡ true)
     goes_on false c none = sym (none refl)
 
   -- how the last child ended, by the answer
-  last_next : (given : Answer) → answered_of id past ≡ Some given → last_told (Some given) (last_of id past) ≡ last_of id next
-  last_next given is = sym (λ i. cond (same_id-self id i) (last_told (is i) (last_of id past)) (last_of id past))
+  last_next : (given : Answer) → answered_of id past ≡ Some given → last_told (Some given) (lasts id) ≡ later id
+  last_next given is = sym (λ i. cond (same_id-self id i) (last_told (is i) (lasts id)) (lasts id))
 
   -- the record with a child, a stop, a look, a Miss and a last status that are those of the past after the Told
-  told_as : (child : Option Child) (stop : Option Stop) (look missed : Bool) (last : Option Status) → child_known id next ≡ child → stop ≡ stop_known next child → look ≡ is_to_look id next → missed ≡ option_map_or (λ (c : Child). is_missed c next) child false → last ≡ last_of id next → record (record_of past id) { child = option_map living child; order = None; stop = stop; look = look; missed = missed; last = last } ≡ record_of next id
-  told_as child stop look missed last known stops looks misses lasts =
+  told_as : (child : Option Child) (stop : Option Stop) (look missed : Bool) (last : Option Status) → child_known id next ≡ child → stop ≡ stop_known next child → look ≡ is_to_look id next → missed ≡ option_map_or (λ (c : Child). is_missed c next) child false → last ≡ later id → record (record_of lasts past id) { child = option_map living child; order = None; stop = stop; look = look; missed = missed; last = last } ≡ record_of later next id
+  told_as child stop look missed last known stops looks misses ends =
       let stops_all : stop ≡ stop_of id next = stops ∙ ap (stop_known next) (sym known) in
       let misses_all : missed ≡ was_missed id next = misses ∙ ap (λ o. option_map_or (λ (c : Child). is_missed c next) o false) (sym known) in
-      λ i. record (record_of past id) {
+      λ i. record (record_of lasts past id) {
         child = option_map living (sym known i);
         order = cond (sym (same_id-self id) i) None (open_of id past);
         stop = stops_all i;
         look = looks i;
         missed = misses_all i;
-        last = lasts i;
+        last = ends i;
       }
 
   -- of an answer that leaves the child
   module _ (given : Answer) (is : answered_of id past ≡ Some given) (child_stays : (o : Option Child) → child_after id past given o ≡ o) (has_stays : (b : Bool) → has_after given b ≡ b) (last_stays : (o : Option Status) → last_told (Some given) o ≡ o) where
-    stays_with : (stop : Option Stop) (missed : Bool) → stop ≡ stop_known next (child_known id past) → missed ≡ option_map_or (λ child. is_missed child next) (child_known id past) false → record (record_of past id) { order = None; stop = stop; missed = missed } ≡ record_of next id
-    stays_with stop missed stops misses = told_as (child_known id past) stop (is_to_look id past) missed (last_of id past) (told_child goal past sound id given is ∙ child_stays (child_known id past)) stops (ap (λ b. b && wants_look id past) (sym (told_leaves goal past sound id given is ∙ has_stays (has_child id (known_children past))))) misses (sym (last_stays (last_of id past)) ∙ last_next given is)
+    stays_with : (stop : Option Stop) (missed : Bool) → stop ≡ stop_known next (child_known id past) → missed ≡ option_map_or (λ child. is_missed child next) (child_known id past) false → record (record_of lasts past id) { order = None; stop = stop; missed = missed } ≡ record_of later next id
+    stays_with stop missed stops misses = told_as (child_known id past) stop (is_to_look id past) missed (lasts id) (told_child goal past sound id given is ∙ child_stays (child_known id past)) stops (ap (λ b. b && wants_look id past) (sym (told_leaves goal past sound id given is ∙ has_stays (has_child id (known_children past))))) misses (sym (last_stays (lasts id)) ∙ last_next given is)
 
     abbrev tells : Tells id past given
     tells = answered_tells goal past sound id given is
@@ -150,7 +153,7 @@ module _ (goal : Goal) (past : List Event) (sound : is_sound goal past ≡ true)
     no_miss : is_miss given ≡ false → was_missed id past ≡ option_map_or (λ child. is_missed child next) (child_known id past) false
     no_miss none = same_flag (tells.miss ∙ none)
 
-    only_order : is_hit given ≡ false → is_miss given ≡ false → record (record_of past id) { order = None } ≡ record_of next id
+    only_order : is_hit given ≡ false → is_miss given ≡ false → record (record_of lasts past id) { order = None } ≡ record_of later next id
     only_order hit miss = stays_with (stop_of id past) (was_missed id past) (no_hit hit) (no_miss miss)
 
   -- a signal was sent: to an excluded child, on a TERM or a KILL
@@ -225,15 +228,15 @@ module _ (goal : Goal) (past : List Event) (sound : is_sound goal past ≡ true)
     by_child (Some child) known = by_order (open_of id past) refl (answers_open goal past sound id answer.Miss is) child known
 
   -- a birth: of a child that is not excluded, of an id that had none
-  born_same : (n : ℕ) → answered_of id past ≡ Some (answer.Born n) → after_answer (answer.Born n) (time_of past) (record_of past id) ≡ record_of next id
-  born_same n is = told_as (Some (newborn id n past)) None false (was_missed id past) (last_of id past) (told_child goal past sound id (answer.Born n) is) (sym (ap (λ b. cond b (Some (stop_after (spell_hits (newborn id n past) next))) None) spared)) (sym (ap (λ b. has_child id (known_children next) && b) (unborn_unlooked goal past sound id n is) ∙ and_false (has_child id (known_children next)))) (ap (λ o. option_map_or (λ (c : Child). is_missed c past) o false) (find_none (is_of id) (known_children past) (unborn_childless goal past sound id n is)) ∙ sym (missed_none (newborn id n past) next spared)) (last_next (answer.Born n) is) where
+  born_same : (n : ℕ) → answered_of id past ≡ Some (answer.Born n) → after_answer (answer.Born n) (time_of past) (record_of lasts past id) ≡ record_of later next id
+  born_same n is = told_as (Some (newborn id n past)) None false (was_missed id past) (lasts id) (told_child goal past sound id (answer.Born n) is) (sym (ap (λ b. cond b (Some (stop_after (spell_hits (newborn id n past) next))) None) spared)) (sym (ap (λ b. has_child id (known_children next) && b) (unborn_unlooked goal past sound id n is) ∙ and_false (has_child id (known_children next)))) (ap (λ o. option_map_or (λ (c : Child). is_missed c past) o false) (find_none (is_of id) (known_children past) (unborn_childless goal past sound id n is)) ∙ sym (missed_none (newborn id n past) next spared)) (last_next (answer.Born n) is) where
     spared : is_excluded past (newborn id n past) ≡ false
     spared = newborn_spared goal past sound id n is
 
-  ended_same : (status : Status) → answered_of id past ≡ Some (answer.Ended status) → after_answer (answer.Ended status) (time_of past) (record_of past id) ≡ record_of next id
+  ended_same : (status : Status) → answered_of id past ≡ Some (answer.Ended status) → after_answer (answer.Ended status) (time_of past) (record_of lasts past id) ≡ record_of later next id
   ended_same status is = told_as None None false false (Some status) (told_child goal past sound id (answer.Ended status) is) refl (sym (ap (λ b. b && wants_look id past) (told_leaves goal past sound id (answer.Ended status) is))) refl (last_next (answer.Ended status) is)
 
-  told_own : (given : Answer) → answered_of id past ≡ Some given → after_answer given (time_of past) (record_of past id) ≡ record_of next id
+  told_own : (given : Answer) → answered_of id past ≡ Some given → after_answer given (time_of past) (record_of lasts past id) ≡ record_of later next id
   told_own (answer.Born n) is = born_same n is
   told_own (answer.Ended status) is = ended_same status is
   told_own answer.NotBorn is = only_order answer.NotBorn is (λ o. refl) (λ b. refl) (λ s. refl) refl refl
@@ -262,9 +265,12 @@ act_listed id es = mapped_none (entry_of id es) ∙ none_found (has_id id) es wh
   mapped_none None = refl
   mapped_none (Some e) = refl
 
-module _ (goal : Goal) (past : List Event) (sound : is_sound goal past ≡ true) (id : List ℕ) (given : Answer) (is : answered_of id past ≡ Some given) where
+module _ (lasts : LastStatuses) (goal : Goal) (past : List Event) (sound : is_sound goal past ≡ true) (id : List ℕ) (given : Answer) (is : answered_of id past ≡ Some given) where
   abbrev after : List Event
   after = Told id ∷ past
+
+  abbrev lasts_then : LastStatuses
+  lasts_then = lasts_after (Told id) past lasts
 
   abbrev is_kept : List ℕ → Bool
   is_kept x = has_child x (known_children past)
@@ -274,17 +280,17 @@ module _ (goal : Goal) (past : List Event) (sound : is_sound goal past ≡ true)
 
   -- which ids have a known child after it
   kept_other : (x : List ℕ) → same_id id x ≡ false → kept_after x ≡ is_kept x
-  kept_other x differ = other_has past id x (same_id-sym x id ∙ differ)
+  kept_other x differ = other_has lasts past id x (same_id-sym x id ∙ differ)
 
   kept_own : (x : List ℕ) → same_id id x ≡ true → kept_after x ≡ has_after given (is_kept x)
   kept_own x same = ap kept_after (sym (same_id-is id x same)) ∙ told_leaves goal past sound id given is ∙ ap (λ y. has_after given (is_kept y)) (same_id-is id x same)
 
   -- where none of its records goes, its records are of the same ids, and each is as the past has it
-  changed_same : record_ids past ≡ record_ids after → lists.with_changed id (after_answer given (time_of past)) (records_of past) ≡ records_of after
-  changed_same ids = mapped (lists.changed id (after_answer given (time_of past))) (record_of past) (record_of after) (λ x. by x (same_id id x) refl) (record_ids past) ∙ ap (map (record_of after)) ids where
-    by : (x : List ℕ) (b : Bool) → same_id id x ≡ b → cond (same_id id x) (after_answer given (time_of past) (record_of past x)) (record_of past x) ≡ record_of after x
-    by x true same = ap (λ b. cond b (after_answer given (time_of past) (record_of past x)) (record_of past x)) same ∙ ap (λ y. after_answer given (time_of past) (record_of past y)) (sym (same_id-is id x same)) ∙ told_own goal past sound id given is ∙ ap (record_of after) (same_id-is id x same)
-    by x false differ = ap (λ b. cond b (after_answer given (time_of past) (record_of past x)) (record_of past x)) differ ∙ told_apart past id x (same_id-sym x id ∙ differ)
+  changed_same : record_ids past ≡ record_ids after → lists.with_changed id (after_answer given (time_of past)) (records_of lasts past) ≡ records_of lasts_then after
+  changed_same ids = mapped (lists.changed id (after_answer given (time_of past))) (record_of lasts past) (record_of lasts_then after) (λ x. by x (same_id id x) refl) (record_ids past) ∙ ap (map (record_of lasts_then after)) ids where
+    by : (x : List ℕ) (b : Bool) → same_id id x ≡ b → cond (same_id id x) (after_answer given (time_of past) (record_of lasts past x)) (record_of lasts past x) ≡ record_of lasts_then after x
+    by x true same = ap (λ b. cond b (after_answer given (time_of past) (record_of lasts past x)) (record_of lasts past x)) same ∙ ap (λ y. after_answer given (time_of past) (record_of lasts past y)) (sym (same_id-is id x same)) ∙ told_own lasts goal past sound id given is ∙ ap (record_of lasts_then after) (same_id-is id x same)
+    by x false differ = ap (λ b. cond b (after_answer given (time_of past) (record_of lasts past x)) (record_of lasts past x)) differ ∙ told_apart lasts past id x (same_id-sym x id ∙ differ)
 
   -- the answer ends no record: of an id of the table, or one that leaves the child of an id
   ids_stay : list_any (has_id id) (table_of past) ≡ true → record_ids past ≡ record_ids after
@@ -297,8 +303,8 @@ module _ (goal : Goal) (past : List Event) (sound : is_sound goal past ≡ true)
     by x false differ = sym (kept_other x differ)
 
   -- the record of a child that ended goes, where the table doesn't have the id
-  ended_without : list_any (has_id id) (table_of past) ≡ false → ((b : Bool) → has_after given b ≡ false) → lists.without id (records_of past) ≡ records_of after
-  ended_without gone ends = filter_mapped (λ (slot : SlotState). not (lists.is_slot_of id slot)) (record_of past) (record_ids past) ∙ mapped_passing others (record_of past) (record_of after) (λ x other. told_apart past id x (same_id-sym x id ∙ not-true (same_id id x) other)) (record_ids past) ∙ ap (map (record_of after)) ids where
+  ended_without : list_any (has_id id) (table_of past) ≡ false → ((b : Bool) → has_after given b ≡ false) → lists.without id (records_of lasts past) ≡ records_of lasts_then after
+  ended_without gone ends = filter_mapped (λ (slot : SlotState). not (lists.is_slot_of id slot)) (record_of lasts past) (record_ids past) ∙ mapped_passing others (record_of lasts past) (record_of lasts_then after) (λ x other. (told_apart lasts) past id x (same_id-sym x id ∙ not-true (same_id id x) other)) (record_ids past) ∙ ap (map (record_of lasts_then after)) ids where
     others : List ℕ → Bool
     others x = not (same_id id x)
 
@@ -309,24 +315,24 @@ module _ (goal : Goal) (past : List Event) (sound : is_sound goal past ≡ true)
     ids : filter others (record_ids past) ≡ record_ids after
     ids = filter-append others (ids_of (table_of past)) (filter is_kept (left_ids past)) ∙ (λ i. hides_none id (ids_of (table_of past)) (ids_listed id (table_of past) ∙ gone) i ++ (filter_both others is_kept (left_ids past) ∙ filter_agree (λ x. is_kept x && others x) kept_after (λ x. by x (same_id id x) refl) (left_ids past)) i)
 
-  over_same : lists.is_over_in id given (records_of past) ≡ is_over given (record_of past id)
-  over_same = ap (lists.is_over_of given) (answered_record goal past sound id given is)
+  over_same : lists.is_over_in id given (records_of lasts past) ≡ is_over given (record_of lasts past id)
+  over_same = ap (lists.is_over_of given) (answered_record lasts goal past sound id given is)
 
-  stays_same : is_over given (record_of past id) ≡ false → record_ids past ≡ record_ids after → lists.after_told id given (time_of past) (records_of past) ≡ records_of after
-  stays_same stays ids = ap (λ b. cond b (lists.without id (records_of past)) (lists.with_changed id (after_answer given (time_of past)) (records_of past))) (over_same ∙ stays) ∙ changed_same ids
+  stays_same : is_over given (record_of lasts past id) ≡ false → record_ids past ≡ record_ids after → lists.after_told id given (time_of past) (records_of lasts past) ≡ records_of lasts_then after
+  stays_same stays ids = ap (λ b. cond b (lists.without id (records_of lasts past)) (lists.with_changed id (after_answer given (time_of past)) (records_of lasts past))) (over_same ∙ stays) ∙ changed_same ids
 
-  goes_same : is_over given (record_of past id) ≡ true → list_any (has_id id) (table_of past) ≡ false → ((b : Bool) → has_after given b ≡ false) → lists.after_told id given (time_of past) (records_of past) ≡ records_of after
-  goes_same over gone ends = ap (λ b. cond b (lists.without id (records_of past)) (lists.with_changed id (after_answer given (time_of past)) (records_of past))) (over_same ∙ over) ∙ ended_without gone ends
+  goes_same : is_over given (record_of lasts past id) ≡ true → list_any (has_id id) (table_of past) ≡ false → ((b : Bool) → has_after given b ≡ false) → lists.after_told id given (time_of past) (records_of lasts past) ≡ records_of lasts_then after
+  goes_same over gone ends = ap (λ b. cond b (lists.without id (records_of lasts past)) (lists.with_changed id (after_answer given (time_of past)) (records_of lasts past))) (over_same ∙ over) ∙ ended_without gone ends
 
 -- the records after an answer was told
-pub told_records : (goal : Goal) (past : List Event) → is_sound goal past ≡ true → (id : List ℕ) (given : Answer) → answered_of id past ≡ Some given → lists.after_told id given (time_of past) (records_of past) ≡ records_of (Told id ∷ past)
-told_records goal past sound id (answer.Born n) is = stays_same goal past sound id (answer.Born n) is refl (ids_stay goal past sound id (answer.Born n) is (start_in_table goal past sound id (born_open goal past sound id n is)))
-told_records goal past sound id (answer.Ended status) is = by (list_any (has_id id) (table_of past)) refl where
-  by : (b : Bool) → list_any (has_id id) (table_of past) ≡ b → lists.after_told id (answer.Ended status) (time_of past) (records_of past) ≡ records_of (Told id ∷ past)
-  by true there = stays_same goal past sound id (answer.Ended status) is (act_listed id (table_of past) ∙ ap not there) (ids_stay goal past sound id (answer.Ended status) is there)
-  by false gone = goes_same goal past sound id (answer.Ended status) is (act_listed id (table_of past) ∙ ap not gone) gone (λ b. refl)
-told_records goal past sound id answer.NotBorn is = stays_same goal past sound id answer.NotBorn is refl (ids_kept goal past sound id answer.NotBorn is (λ b. refl))
-told_records goal past sound id answer.Alive is = stays_same goal past sound id answer.Alive is refl (ids_kept goal past sound id answer.Alive is (λ b. refl))
-told_records goal past sound id answer.NoLook is = stays_same goal past sound id answer.NoLook is refl (ids_kept goal past sound id answer.NoLook is (λ b. refl))
-told_records goal past sound id answer.Hit is = stays_same goal past sound id answer.Hit is refl (ids_kept goal past sound id answer.Hit is (λ b. refl))
-told_records goal past sound id answer.Miss is = stays_same goal past sound id answer.Miss is refl (ids_kept goal past sound id answer.Miss is (λ b. refl))
+pub told_records : (lasts : LastStatuses) → (goal : Goal) (past : List Event) → is_sound goal past ≡ true → (id : List ℕ) (given : Answer) → answered_of id past ≡ Some given → lists.after_told id given (time_of past) (records_of lasts past) ≡ records_of (lasts_after (Told id) past lasts) (Told id ∷ past)
+told_records lasts goal past sound id (answer.Born n) is = stays_same lasts goal past sound id (answer.Born n) is refl (ids_stay lasts goal past sound id (answer.Born n) is (start_in_table goal past sound id (born_open goal past sound id n is)))
+told_records lasts goal past sound id (answer.Ended status) is = by (list_any (has_id id) (table_of past)) refl where
+  by : (b : Bool) → list_any (has_id id) (table_of past) ≡ b → lists.after_told id (answer.Ended status) (time_of past) (records_of lasts past) ≡ records_of (lasts_after (Told id) past lasts) (Told id ∷ past)
+  by true there = stays_same lasts goal past sound id (answer.Ended status) is (act_listed id (table_of past) ∙ ap not there) (ids_stay lasts goal past sound id (answer.Ended status) is there)
+  by false gone = goes_same lasts goal past sound id (answer.Ended status) is (act_listed id (table_of past) ∙ ap not gone) gone (λ b. refl)
+told_records lasts goal past sound id answer.NotBorn is = stays_same lasts goal past sound id answer.NotBorn is refl (ids_kept lasts goal past sound id answer.NotBorn is (λ b. refl))
+told_records lasts goal past sound id answer.Alive is = stays_same lasts goal past sound id answer.Alive is refl (ids_kept lasts goal past sound id answer.Alive is (λ b. refl))
+told_records lasts goal past sound id answer.NoLook is = stays_same lasts goal past sound id answer.NoLook is refl (ids_kept lasts goal past sound id answer.NoLook is (λ b. refl))
+told_records lasts goal past sound id answer.Hit is = stays_same lasts goal past sound id answer.Hit is refl (ids_kept lasts goal past sound id answer.Hit is (λ b. refl))
+told_records lasts goal past sound id answer.Miss is = stays_same lasts goal past sound id answer.Miss is refl (ids_kept lasts goal past sound id answer.Miss is (λ b. refl))

@@ -118,24 +118,24 @@ one_same id change p same slot = at (is_slot_of id slot)
     at false = refl
 
 -- an order to a record with none leaves less to do
-order_falls : (id : List ℕ) (ask : Ask) (c : CoreState) → has_with id (can_be_asked ask c.time) c.slots ≡ true → work_left (after_step (Order id ask) c) < work_left c
+order_falls : (id : List ℕ) (ask : Ask) (c : CoreState) → has_with id (can_be_asked ask c.heads.time) c.slots ≡ true → work_left (after_step (Order id ask) c) < work_left c
 order_falls id ask c there =
-    let free : has_with id unasked c.slots ≡ true = any_less (λ (s : SlotState). is_slot_of id s && can_be_asked ask c.time s) (λ (s : SlotState). is_slot_of id s && unasked s) (λ s both. let parts = and_parts (is_slot_of id s) (can_be_asked ask c.time s) both in and_from (is_slot_of id s) (unasked s) parts.0 (asked_free ask c.time s parts.1)) c.slots there in
-    let less : length (filter unasked (with_changed id (after_order ask c.time) c.slots)) < length (filter unasked c.slots) = one_fewer unasked id (after_order ask c.time) (order_asked ask c.time) c.slots free in
-    let same : length (filter (unheld c.time) (with_changed id (after_order ask c.time) c.slots)) ≡ length (filter (unheld c.time) c.slots) = as_many (unheld c.time) (changed id (after_order ask c.time)) (one_same id (after_order ask c.time) (unheld c.time) (order_unheld ask c.time c.time)) c.slots in
-    let long : length (with_changed id (after_order ask c.time) c.slots) ≡ length c.slots = length-map (changed id (after_order ask c.time)) c.slots in
+    let free : has_with id unasked c.slots ≡ true = any_less (λ (s : SlotState). is_slot_of id s && can_be_asked ask c.heads.time s) (λ (s : SlotState). is_slot_of id s && unasked s) (λ s both. let parts = and_parts (is_slot_of id s) (can_be_asked ask c.heads.time s) both in and_from (is_slot_of id s) (unasked s) parts.0 (asked_free ask c.heads.time s parts.1)) c.slots there in
+    let less : length (filter unasked (with_changed id (after_order ask c.heads.time) c.slots)) < length (filter unasked c.slots) = one_fewer unasked id (after_order ask c.heads.time) (order_asked ask c.heads.time) c.slots free in
+    let same : length (filter (unheld c.heads.time) (with_changed id (after_order ask c.heads.time) c.slots)) ≡ length (filter (unheld c.heads.time) c.slots) = as_many (unheld c.heads.time) (changed id (after_order ask c.heads.time)) (one_same id (after_order ask c.heads.time) (unheld c.heads.time) (order_unheld ask c.heads.time c.heads.time)) c.slots in
+    let long : length (with_changed id (after_order ask c.heads.time) c.slots) ≡ length c.slots = length-map (changed id (after_order ask c.heads.time)) c.slots in
     rw (same, long) (omega arith)
 
 -- a hold of a record that was not held leaves less to do
-hold_falls : (id : List ℕ) (c : CoreState) → has_with id (unheld c.time) c.slots ≡ true → work_left (after_step (Hold id) c) < work_left c
+hold_falls : (id : List ℕ) (c : CoreState) → has_with id (unheld c.heads.time) c.slots ≡ true → work_left (after_step (Hold id) c) < work_left c
 hold_falls id c there =
-    let later : nat_lt c.time (c.time + HOLD) ≡ true = grind (arith, nat_tests) in
-    let less : length (filter (unheld c.time) (with_changed id (after_hold c.time) c.slots)) < length (filter (unheld c.time) c.slots) = one_fewer (unheld c.time) id (after_hold c.time) (λ slot. ap not later) c.slots there in
-    let same : length (filter unasked (with_changed id (after_hold c.time) c.slots)) ≡ length (filter unasked c.slots) = as_many unasked (changed id (after_hold c.time)) (one_same id (after_hold c.time) unasked (λ slot. refl)) c.slots in
-    let long : length (with_changed id (after_hold c.time) c.slots) ≡ length c.slots = length-map (changed id (after_hold c.time)) c.slots in
+    let later : nat_lt c.heads.time (c.heads.time + HOLD) ≡ true = grind (arith, nat_tests) in
+    let less : length (filter (unheld c.heads.time) (with_changed id (after_hold c.heads.time) c.slots)) < length (filter (unheld c.heads.time) c.slots) = one_fewer (unheld c.heads.time) id (after_hold c.heads.time) (λ slot. ap not later) c.slots there in
+    let same : length (filter unasked (with_changed id (after_hold c.heads.time) c.slots)) ≡ length (filter unasked c.slots) = as_many unasked (changed id (after_hold c.heads.time)) (one_same id (after_hold c.heads.time) unasked (λ slot. refl)) c.slots in
+    let long : length (with_changed id (after_hold c.heads.time) c.slots) ≡ length c.slots = length-map (changed id (after_hold c.heads.time)) c.slots in
     rw (same, long) (omega arith)
 
-settle_falls : (level : Level) (c : CoreState) → c.announced ≡ false → work_left (after_step (Settle level) c) < work_left c
+settle_falls : (level : Level) (c : CoreState) → c.heads.announced ≡ false → work_left (after_step (Settle level) c) < work_left c
 settle_falls level c is = rw is (omega arith)
 
 -- a stage that is entered leaves one less to come, whatever its records make of it
@@ -144,8 +144,8 @@ enter_falls next grace c fewer_stages =
     let entered : List SlotState = map (after_judge c.table next) (map after_enter c.slots) in
     let long : length (map (after_judge c.table next) (map after_enter c.slots)) ≡ length c.slots = length-map (after_judge c.table next) (map after_enter c.slots) ∙ length-map after_enter c.slots in
     let first : length (filter unasked entered) ≤ length c.slots = subst (λ n. length (filter unasked entered) ≤ n) long (length-filter-le unasked entered) in
-    let second : length (filter (unheld c.time) entered) ≤ length c.slots = subst (λ n. length (filter (unheld c.time) entered) ≤ n) long (length-filter-le (unheld c.time) entered) in
-    rw long (by (stages_left (Some next)) (enters_left c) (length c.slots) (length (filter unasked entered)) (length (filter (unheld c.time) entered)) (news_count c.news) (length (filter unasked c.slots) + length (filter (unheld c.time) c.slots) + (cond c.announced 0 1)) fewer_stages first second)
+    let second : length (filter (unheld c.heads.time) entered) ≤ length c.slots = subst (λ n. length (filter (unheld c.heads.time) entered) ≤ n) long (length-filter-le (unheld c.heads.time) entered) in
+    rw long (by (stages_left (Some next)) (enters_left c) (length c.slots) (length (filter unasked entered)) (length (filter (unheld c.heads.time) entered)) (news_count c.heads.news) (length (filter unasked c.slots) + length (filter (unheld c.heads.time) c.slots) + (cond c.heads.announced 0 1)) fewer_stages first second)
   where
     by : (s t k a b n w : ℕ) → suc s ≤ t → a ≤ k → b ≤ k → (s + 0) * (2 * k + 2) + (a + b + 1 + n) < t * (2 * k + 2) + (w + n)
     by s t k a b n w h ha hb = let more : (suc s) * (2 * k + 2) ≤ t * (2 * k + 2) = mul-le-mul_right (2 * k + 2) h in omega (arith, more)
@@ -155,11 +155,11 @@ called_same : {X : Type 0} (p : SlotState → X) → ((slot : SlotState) → p (
 called_same p same true slot = same slot
 called_same p same false slot = refl
 
-called_falls : (named : Entry → Bool) (news : News) (c : CoreState) → news_count news < news_count c.news → work_left (record c { slots = with_called named c.table c.slots; news = news }) < work_left c
+called_falls : (named : Entry → Bool) (news : News) (c : CoreState) → news_count news < news_count c.heads.news → work_left (record c { slots = with_called named c.table c.slots; heads = record c.heads { news = news } }) < work_left c
 called_falls named news c fewer_news =
     let change : SlotState → SlotState = λ (slot : SlotState). called_if (list_any (λ e. has_id slot.id e && named e) c.table) slot in
     let first : length (filter unasked (map change c.slots)) ≡ length (filter unasked c.slots) = as_many unasked change (λ slot. called_same unasked (λ s. refl) (list_any (λ e. has_id slot.id e && named e) c.table) slot) c.slots in
-    let second : length (filter (unheld c.time) (map change c.slots)) ≡ length (filter (unheld c.time) c.slots) = as_many (unheld c.time) change (λ slot. called_same (unheld c.time) (λ s. refl) (list_any (λ e. has_id slot.id e && named e) c.table) slot) c.slots in
+    let second : length (filter (unheld c.heads.time) (map change c.slots)) ≡ length (filter (unheld c.heads.time) c.slots) = as_many (unheld c.heads.time) change (λ slot. called_same (unheld c.heads.time) (λ s. refl) (list_any (λ e. has_id slot.id e && named e) c.table) slot) c.slots in
     let long : length (map change c.slots) ≡ length c.slots = length-map change c.slots in
     rw (first, second, long) (omega arith)
 
@@ -178,12 +178,12 @@ pub decide_falls : (c : CoreState) → IsInOrder c.table c.slots → is_rest (de
 decide_falls c order busy = at (decide c) (decided c order (decide c) refl) busy
   where
     at : (s : Step) → is_backed c c.slots (Some s) ≡ true → is_rest s ≡ false → work_left (after_step s c) < work_left c
-    at (Order id ask) backed b = order_falls id ask c (has_asked id ask c.time c.slots backed)
-    at (Hold id) backed b = hold_falls id c (has_unheld id c.time c.slots backed)
+    at (Order id ask) backed b = order_falls id ask c (has_asked id ask c.heads.time c.slots backed)
+    at (Hold id) backed b = hold_falls id c (has_unheld id c.heads.time c.slots backed)
     at (Enter next grace) backed b = enter_falls next grace c (ltb-true (stages_left (Some next)) (enters_left c) backed)
-    at (Settle level) backed b = settle_falls level c (not-true c.announced backed)
-    at (Power kind) backed b = called_falls (is_named (Power kind) c.stage) (with_kind kind false c.news) c (kind_falls kind c.news backed)
-    at (Call l) backed b = called_falls (is_named (Call l) c.stage) (with_call l false c.news) c (call_falls l c.news backed)
+    at (Settle level) backed b = settle_falls level c (not-true c.heads.announced backed)
+    at (Power kind) backed b = called_falls (is_named (Power kind) c.heads.stage) (with_kind kind false c.heads.news) c (kind_falls kind c.heads.news backed)
+    at (Call l) backed b = called_falls (is_named (Call l) c.heads.stage) (with_call l false c.heads.news) c (call_falls l c.heads.news backed)
     at Reread backed b = absurd (false≢true (sym b))
     at Reexec backed b = absurd (false≢true (sym b))
     at Idle backed b = absurd (false≢true (sym b))

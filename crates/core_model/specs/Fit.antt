@@ -32,8 +32,8 @@ use Rattle.child_table.specs.declared.children.KnownChild.{KnownChild}
 use Rattle.child_table.specs.declared.children.Stop.{Stop}
 use Rattle.child_table.specs.declared.children.Stop.TheVariants.{Due, Termed, Killed}
 use Rattle.child_table.specs.State.{SlotState}
-use Rattle.child_table.specs.Lists.{slot_ids}
 use Rattle.core_model.specs.declared.news.News.{News}
+use Rattle.core_model.specs.declared.parts.Heads.{Heads}
 use Rattle.core_model.specs.State.{CoreState}
 
 -- the known child of an id, and as a record has it
@@ -92,89 +92,31 @@ called_of id past = option_map_or (λ e. is_called e past) (entry_of id (table_o
 abbrev pub limits_of : List ℕ → List Event → LimiterState
 limits_of id past = option_map_or (λ e. limiter_of e past) (entry_of id (table_of past)) unused
 
--- how the last child of a record's id ended, by the answers that were told; a table whose id has no record brings none
+-- how the last child of each id ended
+abbrev pub LastStatuses : Type 0
+LastStatuses = List ℕ → Option Status
+
+-- an end that is told is the last status of its id
 abbrev pub last_told : Option Answer → Option Status → Option Status
 last_told (Some (Ended status)) before = Some status
 last_told _ before = before
 
-abbrev pub last_of : List ℕ → List Event → Option Status
-last_of id [] = None
-last_of id (happened.NewTable table ∷ past) = if list_any (same_id id) (record_ids past) then last_of id past else None
-last_of id (happened.Told i ∷ past) =
-    if same_id id i then last_told (answered_of id past) (last_of id past) else last_of id past
-last_of id (_ ∷ past) = last_of id past
+-- the last statuses after a happening: a told answer may bring one, and a table keeps those of the ids that had a record
+abbrev pub lasts_after : Event → List Event → LastStatuses → LastStatuses
+lasts_after (happened.NewTable table) past lasts =
+    λ id. if list_any (same_id id) (record_ids past) then lasts id else None
+lasts_after (happened.Told i) past lasts =
+    λ id. if same_id id i then last_told (answered_of id past) (lasts id) else lasts id
+lasts_after _ past lasts = lasts
 
--- what holds of each record is what the past says of the id at its place
-abbrev pub Along : {X : Type 0} → (SlotState → X) → (List ℕ → List Event → X) → CoreState → List Event → Type 0
-Along kept said core past = map kept core.slots ≡ map (λ id. said id past) (record_ids past)
+-- how the last child of each id ended, by the answers that were told
+abbrev pub lasts_of : List Event → LastStatuses
+lasts_of [] = λ id. None
+lasts_of (happening ∷ past) = lasts_after happening past (lasts_of past)
 
--- 1: the records that have a child are the known children, each with its action at birth
-abbrev pub HasChildren : CoreState → List Event → Type 0
-HasChildren core past = Along (λ (slot : SlotState). slot.child) known_child core past
-
--- 2: each record's order is the open order of its id
-abbrev pub HasOrders : CoreState → List Event → Type 0
-HasOrders core past = Along (λ (slot : SlotState). slot.order) open_of core past
-
--- 3: the table is the one in force, and the records stand in record order, each with the table's action for its id
-pub record HasTable (core : CoreState) (past : List Event) : Type 0 where
-  pub table : core.table ≡ table_of past
-  pub ids : slot_ids core.slots ≡ record_ids past
-  pub acts : Along (λ (slot : SlotState). slot.table_act) (λ id past. act_of id (table_of past)) core past
-
--- 4: the stage and its grace, the time, the goal where it is looked at, whether Boot was entered and the announcement
-pub record IsAt (core : CoreState) (opening : Goal) (past : List Event) : Type 0 where
-  pub stage : core.stage ≡ stage_of past
-  pub grace : core.grace ≡ grace_of past
-  pub time : core.time ≡ time_of past
-  pub goal : in_run (stage_of past) ≡ false → core.goal ≡ goal_of opening past
-  pub booted : core.booted ≡ was_booted past
-  pub announced : core.announced ≡ is_announced past
-
--- 5: the wishes
-abbrev pub news_of : List Event → News
-news_of past = record {
-  fail = keeps_power power.Fail past;
-  fail_now = keeps_power power.FailNow past;
-  ok = keeps_power power.Ok past;
-  a = keeps_letter letter.A past;
-  b = keeps_letter letter.B past;
-  c = keeps_letter letter.C past;
-}
-
-pub record HasWishes (core : CoreState) (past : List Event) : Type 0 where
-  pub reexec : core.reexec ≡ wants_reexec past
-  pub reread : core.reread ≡ wants_reread past
-  pub level : core.level_wish ≡ level_wish past
-  pub news : core.news ≡ news_of past
-
--- 6: how far the stops have come, and which children are to be looked at, or were missed by a signal
-pub record HasStops (core : CoreState) (past : List Event) : Type 0 where
-  pub stops : Along (λ (slot : SlotState). slot.stop) stop_of core past
-  pub looks : Along (λ (slot : SlotState). slot.look) is_to_look core past
-  pub missed : Along (λ (slot : SlotState). slot.missed) was_missed core past
-
--- 7: which entries of the table were asked and called, and the starts and the hold of those that the respawn limit
--- holds for, all others have none; and how the last children ended
-pub record HasFlags (core : CoreState) (past : List Event) : Type 0 where
-  pub asked : Along (λ (slot : SlotState). slot.asked) asked_of core past
-  pub called : Along (λ (slot : SlotState). slot.called) called_of core past
-  pub limits : Along (λ (slot : SlotState). slot.limiter) limits_of core past
-  pub lasts : Along (λ (slot : SlotState). slot.last) last_of core past
-
--- the core fits the opening goal and the trace: all seven
-pub record Fits (core : CoreState) (opening : Goal) (past : List Event) : Type 0 where
-  pub children : HasChildren core past
-  pub orders : HasOrders core past
-  pub table : HasTable core past
-  pub now : IsAt core opening past
-  pub wishes : HasWishes core past
-  pub stops : HasStops core past
-  pub flags : HasFlags core past
-
--- the record of an id, as the past has it; and all, in record order
-abbrev pub record_of : List Event → List ℕ → SlotState
-record_of past id = record {
+-- the record of an id, as the past has it, with this last status
+abbrev pub record_of : LastStatuses → List Event → List ℕ → SlotState
+record_of lasts past id = record {
   id = id;
   table_act = act_of id (table_of past);
   child = known_child id past;
@@ -185,29 +127,71 @@ record_of past id = record {
   look = is_to_look id past;
   missed = was_missed id past;
   limiter = limits_of id past;
-  last = last_of id past;
+  last = lasts id;
 }
 
-abbrev pub records_of : List Event → List SlotState
-records_of past = map (record_of past) (record_ids past)
+-- all, in record order
+abbrev pub records_of : LastStatuses → List Event → List SlotState
+records_of lasts past = map (record_of lasts past) (record_ids past)
 
--- what init keeps as the past has it, with this goal and of this generation
-abbrev pub core_read : List Event → Goal → ℕ → CoreState
-core_read past goal generation = record {
-  table = table_of past;
-  slots = records_of past;
+-- what is kept of the power and of letters
+abbrev pub news_of : List Event → News
+news_of past = record {
+  fail = keeps_power power.Fail past;
+  fail_now = keeps_power power.FailNow past;
+  ok = keeps_power power.Ok past;
+  a = keeps_letter letter.A past;
+  b = keeps_letter letter.B past;
+  c = keeps_letter letter.C past;
+}
+
+-- the single values of init as the past has them, with this goal and of this generation
+abbrev pub heads_of : List Event → Goal → ℕ → Heads
+heads_of past goal generation = record {
+  generation = generation;
+  time = time_of past;
   stage = stage_of past;
   grace = grace_of past;
   goal = goal;
   booted = was_booted past;
   announced = is_announced past;
-  time = time_of past;
-  reexec = wants_reexec past;
   reread = wants_reread past;
+  reexec = wants_reexec past;
   level_wish = level_wish past;
   news = news_of past;
-  generation = generation;
 }
+
+-- what init keeps as the past has it, with these last statuses, this goal and of this generation
+abbrev pub core_read : LastStatuses → List Event → Goal → ℕ → CoreState
+core_read lasts past goal generation = record {
+  table = table_of past;
+  slots = records_of lasts past;
+  heads = heads_of past goal generation;
+}
+
+-- the core fits the opening goal and the trace: with some last statuses, it is what is read off the past, and its goal
+-- is that of the past where it is looked at, before the run levels
+pub record Fits (core : CoreState) (opening : Goal) (past : List Event) : Type 0 where
+  pub lasts : LastStatuses
+  pub kept : core ≡ core_read lasts past core.heads.goal core.heads.generation
+  pub goal : in_run (stage_of past) ≡ false → core.heads.goal ≡ goal_of opening past
+
+-- the core with these last statuses
+abbrev pub with_lasts : LastStatuses → CoreState → CoreState
+with_lasts lasts core =
+    record core { slots = map (λ (slot : SlotState). record slot { last = lasts slot.id }) core.slots }
+
+-- beside it: the last statuses of its records are those of the past
+abbrev pub HasLasts : CoreState → List Event → Type 0
+HasLasts core past = map (λ (slot : SlotState). slot.last) core.slots ≡ map (lasts_of past) (record_ids past)
+
+-- the core fits the trace, and its last statuses are those of the past
+abbrev pub FitsAll : CoreState → Goal → List Event → Type 0
+FitsAll core opening past = Fits core opening past × HasLasts core past
+
+-- the core fits the trace that has gone on, and its last statuses are still those of the past
+abbrev pub StillFits : CoreState → CoreState → Goal → List Event → List Event → Type 0
+StillFits old new goal past next = Fits new goal next × (HasLasts old past → HasLasts new next)
 
 -- the trace with the happening of a step; a reading, a hand-over and idling are none
 abbrev pub with_step : Step → List Event → List Event

@@ -29,22 +29,6 @@ record_of slot = record {
   last = slot.last;
 }
 
--- what init keeps, but for its table and its records
-abbrev pub heads_of : CoreState → Heads
-heads_of core = record {
-  generation = core.generation;
-  time = core.time;
-  stage = core.stage;
-  grace = core.grace;
-  goal = core.goal;
-  booted = core.booted;
-  announced = core.announced;
-  reread = core.reread;
-  reexec = core.reexec;
-  level_wish = core.level_wish;
-  news = core.news;
-}
-
 -- what a core keeps, as plain values
 abbrev pub state_of : CoreState → SavedState
-state_of core = record { heads = heads_of core; table = core.table; records = map record_of core.slots }
+state_of core = record { heads = core.heads; table = core.table; records = map record_of core.slots }

@@ -1,6 +1,6 @@
 -- The rules that whatever init keeps is held to (init(8), telinit(8)): it never comes to a state that breaks one, and
 -- the text of such a state is taken for no state of init's.
-use Rattle.std.specs.Prelude.{◌≡◌, ◌≤◌, ℕ, Bool, true, false, not, ◌&&◌, ◌||◌, ◌==◌, ◌+◌, if◌then◌else◌, List, [], ◌∷◌, length, zip, nat_le, Option, Some, None, is_some, is_none}
+use Rattle.std.specs.Prelude.{◌≡◌, ℕ, Bool, true, false, not, ◌&&◌, ◌||◌, ◌==◌, ◌+◌, if◌then◌else◌, List, [], ◌∷◌, length, zip, nat_le, Option, Some, None, is_some, is_none}
 use Rattle.std.specs.List.{list_all, list_any}
 use Rattle.init_words.specs.declared.actions.Act.{Act}
 use Rattle.init_words.specs.declared.entries.Entry.{Entry}
@@ -25,7 +25,8 @@ use Rattle.child_table.specs.State.{SlotState, is_limited_slot}
 use Rattle.child_table.specs.Judging.{is_excluded}
 use Rattle.child_table.specs.Lists.{are_distinct}
 use Rattle.child_table.specs.Order.{IsInOrder}
-use Rattle.child_table.specs.Times.{are_timely}
+use Rattle.child_table.specs.Times.{is_timely}
+use Rattle.core_model.specs.declared.parts.Heads.{Heads}
 use Rattle.core_model.specs.Decide.{has_excluded, is_owed_slot}
 use Rattle.core_model.specs.State.{CoreState}
 
@@ -146,22 +147,26 @@ is_goal_reached (Some (stage.Run level)) goal booted = same_level goal.level lev
 is_goal_reached (Some stage.Boot) goal booted = booted
 is_goal_reached _ goal booted = not booted
 
--- the records stand in record order, one an id; init knows how each child was born; each open order is allowed, and a
--- start where nothing that comes first is owed or excluded; stops, marks and limiters are as they should be; no time
--- is later than now; and so are the wish for a level, the announcement and the goal
+-- the rules of the single values: no time later than the clock's limit, the wish for a level, the announcement, the goal
+abbrev pub are_heads_kept : Heads → Bool
+are_heads_kept heads = nat_le heads.time CLOCK_LIMIT && is_other_level heads.stage heads.level_wish
+    && (not heads.announced || in_run heads.stage) && is_goal_reached heads.stage heads.goal heads.booted
+
+-- of each record: init knows how its child was born, its open order is allowed, its stop, marks and limiter are as they
+-- should be, and no time is later than now
+abbrev pub is_slot_kept : Option Stage → List Entry → ℕ → SlotState → Bool
+is_slot_kept stage table now slot = has_cause slot && is_birth_known slot.child && is_order_allowed slot
+    && is_stop_judged stage table slot && are_marks_due slot && is_limiter_kept now slot && is_timely now slot
+
+-- of all records: one an id, and no start is open where what comes first is owed or excluded
+abbrev pub are_slots_kept : Option Stage → List Entry → ℕ → List SlotState → Bool
+are_slots_kept stage table now slots = are_distinct slots && are_starts_in stage table slots
+    && are_starts_free slots && list_all (is_slot_kept stage table now) slots
+
+abbrev pub is_kept : Heads → List Entry → List SlotState → Bool
+is_kept heads table slots = are_heads_kept heads && are_slots_kept heads.stage table heads.time slots
+
+-- what init keeps is fit: the records stand in record order, and the rules are kept
 pub record IsFit (c : CoreState) : Type 0 where
   pub in_order : IsInOrder c.table c.slots
-  pub distinct : are_distinct c.slots ≡ true
-  pub caused : list_all has_cause c.slots ≡ true
-  pub births : list_all (λ (slot : SlotState). is_birth_known slot.child) c.slots ≡ true
-  pub orders : list_all is_order_allowed c.slots ≡ true
-  pub starts : are_starts_in c.stage c.table c.slots ≡ true
-  pub free : are_starts_free c.slots ≡ true
-  pub stops : list_all (is_stop_judged c.stage c.table) c.slots ≡ true
-  pub marks : list_all are_marks_due c.slots ≡ true
-  pub limiters : list_all (is_limiter_kept c.time) c.slots ≡ true
-  pub timely : are_timely c.time c.slots ≡ true
-  pub clock : c.time ≤ CLOCK_LIMIT
-  pub wish : is_other_level c.stage c.level_wish ≡ true
-  pub announced : (not c.announced || in_run c.stage) ≡ true
-  pub reached : is_goal_reached c.stage c.goal c.booted ≡ true
+  pub kept : is_kept c.heads c.table c.slots ≡ true

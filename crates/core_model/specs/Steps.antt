@@ -21,6 +21,7 @@ use Rattle.child_table.specs.Changes.{after_order, after_hold, after_call, after
 use Rattle.child_table.specs.Judging.{after_judge}
 use Rattle.child_table.specs.Lists as lists
 use Rattle.child_table.specs.Adopting as adopting
+use Rattle.core_model.specs.declared.parts.Heads.{Heads}
 use Rattle.core_model.specs.News.{with_kind, with_call}
 use Rattle.core_model.specs.State.{CoreState}
 
@@ -52,53 +53,58 @@ with_called named table slots =
 abbrev pub after_step : Step → CoreState → CoreState
 after_step (Enter stage grace) c = record c {
   slots = map (after_judge c.table stage) (map after_enter c.slots);
-  stage = Some stage;
-  grace = grace;
-  goal = wished c.level_wish c.goal;
-  level_wish = None;
-  booted = is_boot stage || c.booted;
-  announced = false;
+  heads = record c.heads {
+    stage = Some stage;
+    grace = grace;
+    goal = wished c.heads.level_wish c.heads.goal;
+    level_wish = None;
+    booted = is_boot stage || c.heads.booted;
+    announced = false;
+  };
 }
 after_step (Power kind) c = record c {
-  slots = with_called (is_named (Power kind) c.stage) c.table c.slots;
-  news = with_kind kind false c.news;
+  slots = with_called (is_named (Power kind) c.heads.stage) c.table c.slots;
+  heads = record c.heads { news = with_kind kind false c.heads.news };
 }
 after_step (Call letter) c = record c {
-  slots = with_called (is_named (Call letter) c.stage) c.table c.slots;
-  news = with_call letter false c.news;
+  slots = with_called (is_named (Call letter) c.heads.stage) c.table c.slots;
+  heads = record c.heads { news = with_call letter false c.heads.news };
 }
-after_step (Order id ask) c = record c { slots = lists.with_changed id (after_order ask c.time) c.slots }
-after_step (Hold id) c = record c { slots = lists.with_changed id (after_hold c.time) c.slots }
-after_step (Settle level) c = record c { announced = true }
+after_step (Order id ask) c = record c { slots = lists.with_changed id (after_order ask c.heads.time) c.slots }
+after_step (Hold id) c = record c { slots = lists.with_changed id (after_hold c.heads.time) c.slots }
+after_step (Settle level) c = record c { heads = record c.heads { announced = true } }
 after_step _ c = c
 
 -- after a reading of the clock, cut to the limit; one set back changes nothing
 abbrev pub after_clock : ℕ → CoreState → CoreState
-after_clock reading c = record c { time = max (min reading CLOCK_LIMIT) c.time }
+after_clock reading c = record c { heads = record c.heads { time = max (min reading CLOCK_LIMIT) c.heads.time } }
 
 -- after a round began, and after an answer was told
 abbrev pub after_round : CoreState → CoreState
 after_round c = record c { slots = map after_nudge c.slots }
 
 abbrev pub after_told : List ℕ → Answer → CoreState → CoreState
-after_told id answer c = record c { slots = lists.after_told id answer c.time c.slots }
+after_told id answer c = record c { slots = lists.after_told id answer c.heads.time c.slots }
 
 -- after a level was asked for: in that level a wish for another is forgotten, in another level it is wished for, and
 -- before the run levels it is the goal
-abbrev pub heard_in : Option Stage → Goal → CoreState → CoreState
-heard_in (Some (stage.Run now)) wish c =
-    if same_level wish.level now then record c { level_wish = None }
-    else record c { level_wish = Some wish; reread = true }
-heard_in _ wish c = record c { goal = wish; reread = true }
+abbrev pub heard_in : Option Stage → Goal → Heads → Heads
+heard_in (Some (stage.Run now)) wish heads =
+    if same_level wish.level now then record heads { level_wish = None }
+    else record heads { level_wish = Some wish; reread = true }
+heard_in _ wish heads = record heads { goal = wish; reread = true }
 
 -- after a request
+abbrev pub heads_heard : Got → Heads → Heads
+heads_heard (got.Level level grace) heads = heard_in heads.stage (record { level = level; grace = grace }) heads
+heads_heard (got.Call letter) heads = record heads { news = with_call letter true heads.news }
+heads_heard got.Reload heads = record heads { reread = true }
+heads_heard got.Reexec heads = record heads { reexec = true }
+heads_heard (got.Power kind) heads = record heads { news = with_kind kind true heads.news }
+heads_heard (got.Nothing cause) heads = heads
+
 abbrev pub after_got : Got → CoreState → CoreState
-after_got (got.Level level grace) c = heard_in c.stage (record { level = level; grace = grace }) c
-after_got (got.Call letter) c = record c { news = with_call letter true c.news }
-after_got got.Reload c = record c { reread = true }
-after_got got.Reexec c = record c { reexec = true }
-after_got (got.Power kind) c = record c { news = with_kind kind true c.news }
-after_got (got.Nothing cause) c = c
+after_got request c = record c { heads = heads_heard request c.heads }
 
 -- after another table was adopted: its children are judged by the stage, where there is one
 abbrev pub judged_in : Option Stage → List Entry → List SlotState → List SlotState
@@ -108,18 +114,17 @@ judged_in (Some stage) table slots = map (after_judge table stage) slots
 abbrev pub after_adopt : List Entry → CoreState → CoreState
 after_adopt table c = record c {
   table = table;
-  slots = judged_in c.stage table (adopting.after_adopt table c.slots);
-  announced = false;
-  reread = false;
+  slots = judged_in c.heads.stage table (adopting.after_adopt table c.slots);
+  heads = record c.heads { announced = false; reread = false };
 }
 
 -- after inittab could not be read, and after a hand-over
 abbrev pub after_not_read : CoreState → CoreState
-after_not_read c = record c { reread = false }
+after_not_read c = record c { heads = record c.heads { reread = false } }
 
 abbrev pub after_handed : CoreState → CoreState
-after_handed c = record c { reexec = false }
+after_handed c = record c { heads = record c.heads { reexec = false } }
 
 -- after init's state was handed on to the next init
 abbrev pub after_handed_on : CoreState → CoreState
-after_handed_on c = record c { reexec = false; generation = c.generation + 1 }
+after_handed_on c = record c { heads = record c.heads { reexec = false; generation = c.heads.generation + 1 } }

@@ -15,7 +15,7 @@ stages_left (Some Boot) = 1
 stages_left (Some (Run level)) = 0
 
 abbrev pub enters_left : CoreState → ℕ
-enters_left c = stages_left c.stage + (if is_some c.level_wish then 2 else 0)
+enters_left c = stages_left c.heads.stage + (if is_some c.heads.level_wish then 2 else 0)
 
 -- the records of which something may be asked, and those that may be held
 abbrev pub unasked : SlotState → Bool
@@ -27,8 +27,8 @@ unheld now slot = not (is_held slot.limiter.held now)
 -- what may be done in the stage: an order or a hold for each record, the announcement, and the news
 abbrev pub work_here : CoreState → ℕ
 work_here c =
-    length (filter unasked c.slots) + length (filter (unheld c.time) c.slots)
-    + (if c.announced then 0 else 1) + news_count c.news
+    length (filter unasked c.slots) + length (filter (unheld c.heads.time) c.slots)
+    + (if c.heads.announced then 0 else 1) + news_count c.heads.news
 
 -- and in all the stages to come
 abbrev pub work_left : CoreState → ℕ

@@ -11,6 +11,6 @@ mod news;
 mod parts;
 
 pub use headline::law_agreement;
-pub use laws::law_of_acts;
+pub use laws::{law_of_acts, law_of_lasts};
 pub use news::News;
 pub use parts::{Heads, Parts, Record};

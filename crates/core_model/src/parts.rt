@@ -2,6 +2,7 @@
 
 ghost use Rattle.std.specs.Prelude.{◌≡◌};
 ghost use Rattle.core_model.specs.Parts.{record_of};
+ghost use Rattle.core_model.specs.State.{opening_heads};
 
 use crate::news::News;
 use arrayvec::ArrayVec;
@@ -36,6 +37,27 @@ pub struct Heads {
     /// The level that was asked for.
     pub level_wish: Option<Goal>,
     pub news: News,
+}
+
+impl Heads {
+    /// Those of an opening with the goal: no stage yet, and no wish.
+    pub fn opening(goal: Goal) -> Heads
+        ensures { result ≡ opening_heads goal }
+    {
+        Heads {
+            generation: 0,
+            time: 0,
+            stage: None,
+            grace: 0,
+            goal,
+            booted: false,
+            announced: false,
+            reread: false,
+            reexec: false,
+            level_wish: None,
+            news: News::new(),
+        }
+    }
 }
 
 /// What init keeps of one id.

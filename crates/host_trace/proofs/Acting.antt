@@ -28,9 +28,9 @@ use Rattle.trace_laws.proofs.Runs.{first_due}
 use Rattle.child_table.specs.Lists as lists
 use Rattle.core_model.specs.State.{CoreState}
 use Rattle.core_model.specs.Steps.{after_told}
-use Rattle.core_model.specs.Fit.{Fits, OnEachTrace, with_step, records_of}
+use Rattle.core_model.specs.Fit.{Fits, FitsAll, StillFits, OnEachTrace, with_step, records_of, is_act}
 use Rattle.core_model.proofs.Acts.{found_record, no_record}
-use Rattle.core_model.proofs.Fitted.{fit_records}
+use Rattle.core_model.proofs.Fitted.{fit_records, all_on}
 use Rattle.core_model.proofs.Hearing.{fits_act, fits_told}
 use Rattle.core_model.proofs.Reading.{quiet_same}
 use Rattle.trace_log.specs.Logs.{LogState}
@@ -67,21 +67,21 @@ Hears-edge fitted fit old new happening other fits took goal so_far sound before
     record { sound = more; fits = fits goal so_far sound before more; log = took so_far }
 
 -- the same where the core says so itself
-pub Hears-told : (c new : CoreState) (l₀ l₁ : LogState) (happening : Event) → is_own happening ≡ false → OnEachTrace c (λ goal so_far. Fits new goal (happening ∷ so_far)) → ((so_far : List Event) → Logs l₀ l₁ so_far (happening ∷ so_far)) → HearsBy (Fits c) (Fits new) l₀ l₁ (λ so_far. happening ∷ so_far)
-Hears-told c new l₀ l₁ happening other fits took = Hears-edge (Fits c) (Fits new) l₀ l₁ happening other (λ goal so_far sound before more. fits goal so_far sound before) took
+pub Hears-told : (c new : CoreState) (l₀ l₁ : LogState) (happening : Event) → is_own happening ≡ false → OnEachTrace c (λ goal so_far. StillFits c new goal so_far (happening ∷ so_far)) → ((so_far : List Event) → Logs l₀ l₁ so_far (happening ∷ so_far)) → HearsBy (FitsAll c) (FitsAll new) l₀ l₁ (λ so_far. happening ∷ so_far)
+Hears-told c new l₀ l₁ happening other fits took = Hears-edge (FitsAll c) (FitsAll new) l₀ l₁ happening other (λ goal so_far sound before more. all_on c new goal so_far (happening ∷ so_far) (fits goal so_far sound before.0) before) took
 
 -- what tracks a record tracks another with its trace and its generation
 pub tracks_at : (c : CoreState) (goal : Goal) (p q : Point) → p.past ≡ q.past → p.generation ≡ q.generation → Tracks c goal p → Tracks c goal q
-tracks_at c goal p q past same tracked = record { fits = subst (Fits c goal) past tracked.fits; short = tracked.short; own = tracked.own ∙ same }
+tracks_at c goal p q past same tracked = record { fits = subst (FitsAll c goal) past tracked.fits; short = tracked.short; own = tracked.own ∙ same }
 
 -- and so does what it became, where that fits
-pub tracks : (c new : CoreState) (goal : Goal) (p q : Point) → Lasts c new → p.generation ≡ q.generation → Tracks c goal p → Fits new goal q.past → Tracks new goal q
+pub tracks : (c new : CoreState) (goal : Goal) (p q : Point) → Lasts c new → p.generation ≡ q.generation → Tracks c goal p → FitsAll new goal q.past → Tracks new goal q
 tracks c new goal p q lasts same tracked fits = record { fits = fits; short = lasts.short tracked.short; own = lasts.same ∙ tracked.own ∙ same }
 
 -- what keeps the rules, seconds of an hour at most, and the generation tracks the record that it fits
-pub Hears-tracks : (c new : CoreState) (l₀ l₁ : LogState) (more : List Event → List Event) → Lasts c new → HearsBy (Fits c) (Fits new) l₀ l₁ more → Hears (Tracks c) (Tracks new) l₀ l₁ more
+pub Hears-tracks : (c new : CoreState) (l₀ l₁ : LogState) (more : List Event → List Event) → Lasts c new → HearsBy (FitsAll c) (FitsAll new) l₀ l₁ more → Hears (Tracks c) (Tracks new) l₀ l₁ more
 Hears-tracks c new l₀ l₁ more lasts hears goal p sound tracked allowed =
-    let heard : HeardBy (Fits new) l₀ l₁ goal p.past (more p.past) = hears goal p.past sound tracked.fits allowed in
+    let heard : HeardBy (FitsAll new) l₀ l₁ goal p.past (more p.past) = hears goal p.past sound tracked.fits allowed in
     record { sound = heard.sound; fits = tracks c new goal p (gone_on more p) lasts refl tracked heard.fits; log = heard.log }
 
 -- a step that init gave: it was due, so the trace with its happening is sound
@@ -105,9 +105,9 @@ Hears-step fit l₀ l₁ made took goal p sound gave allowed = record { sound = 
 order_same : (goal : Goal) (so_far : List Event) (c : CoreState) → is_sound goal so_far ≡ true → Fits c goal so_far → (id : List ℕ) → lists.order_in id c.slots ≡ open_of id so_far
 order_same goal so_far c sound fits id = ap (lists.order_in id) (fit_records c goal so_far fits) ∙ by (list_any (same_id id) (record_ids so_far)) refl
   where
-    by : (b : Bool) → list_any (same_id id) (record_ids so_far) ≡ b → lists.order_in id (records_of so_far) ≡ open_of id so_far
-    by true there = ap lists.order_of (found_record so_far id (record_ids so_far) there)
-    by false none = ap lists.order_of (no_record so_far id (record_ids so_far) none) ∙ sym (unopened (open_of id so_far) refl)
+    by : (b : Bool) → list_any (same_id id) (record_ids so_far) ≡ b → lists.order_in id (records_of fits.lasts so_far) ≡ open_of id so_far
+    by true there = ap lists.order_of (found_record fits.lasts so_far id (record_ids so_far) there)
+    by false none = ap lists.order_of (no_record fits.lasts so_far id (record_ids so_far) none) ∙ sym (unopened (open_of id so_far) refl)
       where
         unopened : (o : Option Ask) → open_of id so_far ≡ o → open_of id so_far ≡ None
         unopened None is = is
@@ -139,57 +139,60 @@ refused_unasked (Some ask) given why h = by (answers given ask) h
 -- the act of an answer: the trace with it is sound, the core fits it, and the answer is under way
 record Acted (goal : Goal) (c : CoreState) (id : List ℕ) (given : Answer) (now : List Event) : Type 0 where
   sound : is_sound goal now ≡ true
-  fits : Fits c goal now
+  fits : FitsAll c goal now
   under_way : answered_of id now ≡ Some given
 
-acted_by : (goal : Goal) (c : CoreState) (so_far : List Event) → is_sound goal so_far ≡ true → Fits c goal so_far → (id : List ℕ) (given : Answer) → is_allowed goal (acted id given so_far) ≡ true → Acted goal c id given (acted id given so_far)
+acts_all : (goal : Goal) (so_far : List Event) (c : CoreState) → is_sound goal so_far ≡ true → FitsAll c goal so_far → (happening : Event) → is_act happening ≡ true → is_sound goal (happening ∷ so_far) ≡ true → FitsAll c goal (happening ∷ so_far)
+acts_all goal so_far c sound fits happening act more = all_on c c goal so_far (happening ∷ so_far) (fits_act goal so_far c sound fits.0 happening act more) fits
+
+acted_by : (goal : Goal) (c : CoreState) (so_far : List Event) → is_sound goal so_far ≡ true → FitsAll c goal so_far → (id : List ℕ) (given : Answer) → is_allowed goal (acted id given so_far) ≡ true → Acted goal c id given (acted id given so_far)
 acted_by goal c so_far sound fits id (answer.Born n) allowed =
     let more = sound_met goal (past.Birth id n) so_far refl allowed sound in
-    record { sound = more; fits = fits_act goal so_far c sound fits (past.Birth id n) refl more; under_way = rw (same_id-self id) refl }
+    record { sound = more; fits = acts_all goal so_far c sound fits (past.Birth id n) refl more; under_way = rw (same_id-self id) refl }
 acted_by goal c so_far sound fits id answer.NotBorn allowed =
     let more = sound_met goal (past.NoBirth id) so_far refl allowed sound in
-    record { sound = more; fits = fits_act goal so_far c sound fits (past.NoBirth id) refl more; under_way = rw (same_id-self id) refl }
+    record { sound = more; fits = acts_all goal so_far c sound fits (past.NoBirth id) refl more; under_way = rw (same_id-self id) refl }
 acted_by goal c so_far sound fits id (answer.Ended status) allowed =
     let n = last_birth id so_far in
     let dead = sound_met goal (past.Death n) so_far refl (allowed_rest goal (past.Reaped id n status) (past.Death n ∷ so_far) allowed) sound in
-    let fits_dead = fits_act goal so_far c sound fits (past.Death n) refl dead in
+    let fits_dead = acts_all goal so_far c sound fits (past.Death n) refl dead in
     let more = sound_met goal (past.Reaped id n status) (past.Death n ∷ so_far) refl allowed dead in
-    record { sound = more; fits = fits_act goal (past.Death n ∷ so_far) c dead fits_dead (past.Reaped id n status) refl more; under_way = rw (same_id-self id) refl }
+    record { sound = more; fits = acts_all goal (past.Death n ∷ so_far) c dead fits_dead (past.Reaped id n status) refl more; under_way = rw (same_id-self id) refl }
 acted_by goal c so_far sound fits id answer.Alive allowed =
     let more = sound_met goal (past.Still id) so_far refl allowed sound in
-    record { sound = more; fits = fits_act goal so_far c sound fits (past.Still id) refl more; under_way = rw (same_id-self id) refl }
+    record { sound = more; fits = acts_all goal so_far c sound fits (past.Still id) refl more; under_way = rw (same_id-self id) refl }
 acted_by goal c so_far sound fits id answer.NoLook allowed =
     let more = sound_met goal (past.NoLook id) so_far refl allowed sound in
-    record { sound = more; fits = fits_act goal so_far c sound fits (past.NoLook id) refl more; under_way = rw (same_id-self id) refl }
+    record { sound = more; fits = acts_all goal so_far c sound fits (past.NoLook id) refl more; under_way = rw (same_id-self id) refl }
 acted_by goal c so_far sound fits id answer.Hit allowed =
     let more = sound_met goal (past.Hit id) so_far refl allowed sound in
-    record { sound = more; fits = fits_act goal so_far c sound fits (past.Hit id) refl more; under_way = rw (same_id-self id) refl }
+    record { sound = more; fits = acts_all goal so_far c sound fits (past.Hit id) refl more; under_way = rw (same_id-self id) refl }
 acted_by goal c so_far sound fits id answer.Miss allowed =
     let more = sound_met goal (past.Miss id) so_far refl allowed sound in
-    record { sound = more; fits = fits_act goal so_far c sound fits (past.Miss id) refl more; under_way = rw (same_id-self id) refl }
+    record { sound = more; fits = acts_all goal so_far c sound fits (past.Miss id) refl more; under_way = rw (same_id-self id) refl }
 
 -- An answer: one that the core takes is its act and that it was told; one that it refuses is nothing.
-pub Hears-answer : (c new : CoreState) (l₀ l₁ : LogState) (id : List ℕ) (given : Answer) (result : Result (Unit {0}) Refusal) → result ≡ lists.refusal_of (lists.order_in id c.slots) given → OnOk result (new ≡ after_told id given c) → OnErr result (new ≡ c) → OnOk result ((goal : Goal) (so_far : List Event) → is_sound goal so_far ≡ true → Fits c goal so_far → is_allowed goal (acted id given so_far) ≡ true → Logs l₀ l₁ so_far (past.Told id ∷ acted id given so_far)) → OnErr result ((so_far : List Event) → Logs l₀ l₁ so_far so_far) → HearsBy (Fits c) (Fits new) l₀ l₁ (answered id given)
-Hears-answer c new l₀ l₁ id given (Ok tt) is told same took left goal so_far sound fits allowed = by (is_asked_for id given so_far) refl (taken_asked (open_of id so_far) given (is ∙ ap (λ o. lists.refusal_of o given) (order_same goal so_far c sound fits id)))
+pub Hears-answer : (c new : CoreState) (l₀ l₁ : LogState) (id : List ℕ) (given : Answer) (result : Result (Unit {0}) Refusal) → result ≡ lists.refusal_of (lists.order_in id c.slots) given → OnOk result (new ≡ after_told id given c) → OnErr result (new ≡ c) → OnOk result ((goal : Goal) (so_far : List Event) → is_sound goal so_far ≡ true → FitsAll c goal so_far → is_allowed goal (acted id given so_far) ≡ true → Logs l₀ l₁ so_far (past.Told id ∷ acted id given so_far)) → OnErr result ((so_far : List Event) → Logs l₀ l₁ so_far so_far) → HearsBy (FitsAll c) (FitsAll new) l₀ l₁ (answered id given)
+Hears-answer c new l₀ l₁ id given (Ok tt) is told same took left goal so_far sound fits allowed = by (is_asked_for id given so_far) refl (taken_asked (open_of id so_far) given (is ∙ ap (λ o. lists.refusal_of o given) (order_same goal so_far c sound fits.0 id)))
   where
-    by : (b : Bool) → is_asked_for id given so_far ≡ b → b ≡ true → HeardBy (Fits new) l₀ l₁ goal so_far (answered id given so_far)
+    by : (b : Bool) → is_asked_for id given so_far ≡ b → b ≡ true → HeardBy (FitsAll new) l₀ l₁ goal so_far (answered id given so_far)
     by b is so =
         let asked : answered id given so_far ≡ past.Told id ∷ acted id given so_far = ap (λ b. cond b (past.Told id ∷ acted id given so_far) so_far) (is ∙ so) in
         let possible : is_allowed goal (past.Told id ∷ acted id given so_far) ≡ true = ap (is_allowed goal) (sym asked) ∙ allowed in
         let was : is_allowed goal (acted id given so_far) ≡ true = allowed_rest goal (past.Told id) (acted id given so_far) possible in
         let done : Acted goal c id given (acted id given so_far) = acted_by goal c so_far sound fits id given was in
-        subst (HeardBy (Fits new) l₀ l₁ goal so_far) (sym asked) (record {
+        subst (HeardBy (FitsAll new) l₀ l₁ goal so_far) (sym asked) (record {
           sound = sound_met goal (past.Told id) (acted id given so_far) refl possible done.sound;
-          fits = subst (λ s. Fits s goal (past.Told id ∷ acted id given so_far)) (sym told) (fits_told goal (acted id given so_far) c done.sound done.fits id given done.under_way);
+          fits = subst (λ s. FitsAll s goal (past.Told id ∷ acted id given so_far)) (sym told) (all_on c (after_told id given c) goal (acted id given so_far) (past.Told id ∷ acted id given so_far) (fits_told goal (acted id given so_far) c done.sound done.fits.0 id given done.under_way) done.fits);
           log = took goal so_far sound fits was;
         })
 Hears-answer c new l₀ l₁ id given (Err why) is told same took left goal so_far sound fits allowed =
-    let unasked : is_asked_for id given so_far ≡ false = refused_unasked (open_of id so_far) given why (is ∙ ap (λ o. lists.refusal_of o given) (order_same goal so_far c sound fits id)) in
+    let unasked : is_asked_for id given so_far ≡ false = refused_unasked (open_of id so_far) given why (is ∙ ap (λ o. lists.refusal_of o given) (order_same goal so_far c sound fits.0 id)) in
     let nothing : answered id given so_far ≡ so_far = ap (λ b. cond b (past.Told id ∷ acted id given so_far) so_far) unasked in
-    subst (HeardBy (Fits new) l₀ l₁ goal so_far) (sym nothing) (record { sound = sound; fits = subst (λ s. Fits s goal so_far) (sym same) fits; log = left so_far })
+    subst (HeardBy (FitsAll new) l₀ l₁ goal so_far) (sym nothing) (record { sound = sound; fits = subst (λ s. FitsAll s goal so_far) (sym same) fits; log = left so_far })
 
 -- ---- a table that was read
 
 -- a table comes at a quiet point, with no id twice
 pub table_sound : (goal : Goal) (so_far : List Event) (c : CoreState) (table : List Entry) → is_sound goal so_far ≡ true → Fits c goal so_far → lists.is_quiet c.slots ≡ true → is_distinct table ≡ true → is_sound goal (past.NewTable table ∷ so_far) ≡ true
-table_sound goal so_far c table sound fits quiet distinct = sound_more goal (past.NewTable table) so_far (and_from (is_quiet so_far) (is_distinct table) (quiet_same goal so_far sound ∙ ap lists.is_quiet (sym (fit_records c goal so_far fits)) ∙ quiet) distinct) sound
+table_sound goal so_far c table sound fits quiet distinct = sound_more goal (past.NewTable table) so_far (and_from (is_quiet so_far) (is_distinct table) (quiet_same fits.lasts goal so_far sound ∙ ap lists.is_quiet (sym (fit_records c goal so_far fits)) ∙ quiet) distinct) sound

@@ -25,13 +25,15 @@ use Rattle.init_trace.specs.Wishes.{wants_reexec}
 use Rattle.trace_laws.proofs.Runs.{same_step-self}
 use Rattle.child_table.specs.Lists as lists
 use Rattle.core_model.specs.State.{CoreState}
-use Rattle.core_model.specs.Fit.{Fits, OnEachTrace, with_step}
+use Rattle.core_model.specs.Fit.{Fits, FitsAll, StillFits, OnEachTrace, with_step}
 use Rattle.core_model.specs.Parts.{state_of}
 use Rattle.core_model.specs.Rules.{IsFit}
 use Rattle.core_model.proofs.Decided.{reexec_wished}
 use Rattle.core_model.proofs.Deciding.{decide_due}
+use Rattle.core_model.proofs.Fitted.{fit_table, all_on}
+use Rattle.state_text.specs.declared.versions.Version.TheVariants.{V2}
 use Rattle.state_text.specs.Range as range
-use Rattle.state_text.specs.Refused.{IsTextOf}
+use Rattle.state_text.specs.Refused.{IsTextIn, IsTextOf}
 use Rattle.trace_log.specs.Logs.{LogState}
 use Rattle.child_host.specs.declared.calls.Call.TheVariants.{Start, Late, Clock, ReadTables, Announce}
 use Rattle.child_host.specs.declared.calls.HostFault.{HostFault}
@@ -61,12 +63,12 @@ Hears-order c new l₀ l₁ l₂ id order reply took heard = Hears-then (Gave (T
 -- the command of the id's entry in the core's table is that of the entry in force
 pub command_placed : (goal : Goal) (so_far : List Event) (c : CoreState) (id command : List ℕ) (e : Entry) → Fits c goal (with_step (step.Order id ask.Start) so_far) → entry_of id c.table ≡ Some e → command ≡ command_of e → is_command id command so_far ≡ true
 command_placed goal so_far c id command e fits own is =
-    ap (λ table. option_map_or (λ e. same_text command (command_of e)) (entry_of id table) false) (sym fits.table.table)
+    ap (λ table. option_map_or (λ e. same_text command (command_of e)) (entry_of id table) false) (sym (fit_table c goal (with_step (step.Order id ask.Start) so_far) fits))
     ∙ ap (λ o. option_map_or (λ e. same_text command (command_of e)) o false) own
     ∙ ap (λ text. same_text text (command_of e)) is ∙ same_id-self (command_of e)
 
 pub Leads-start : (c new : CoreState) (l₀ l₁ : LogState) (id command : List ℕ) (reply : Reply) (e : Entry) → entry_of id c.table ≡ Some e → command ≡ command_of e → Hears (Gave (Tracks c) (step.Order id ask.Start)) (Tracks new) l₀ l₁ (ordered id ask.Start reply) → Leads (Gave (Tracks c) (step.Order id ask.Start)) (Tracks new) l₀ l₁ (Start id command reply ∷ [])
-Leads-start c new l₀ l₁ id command reply e own is hears = Leads-heard (Gave (Tracks c) (step.Order id ask.Start)) (Tracks new) l₀ l₁ (Start id command reply) (ordered id ask.Start reply) hears (λ p. refl) (λ goal p sound gave. and_from (is_first goal (step.Order id ask.Start) p.past) (is_command id command p.past) (first_is goal p.past (step.Order id ask.Start) gave.0) (command_placed goal p.past c id command e gave.1.fits own is)) (λ goal p. tt)
+Leads-start c new l₀ l₁ id command reply e own is hears = Leads-heard (Gave (Tracks c) (step.Order id ask.Start)) (Tracks new) l₀ l₁ (Start id command reply) (ordered id ask.Start reply) hears (λ p. refl) (λ goal p sound gave. and_from (is_first goal (step.Order id ask.Start) p.past) (is_command id command p.past) (first_is goal p.past (step.Order id ask.Start) gave.0) (command_placed goal p.past c id command e gave.1.fits.0 own is)) (λ goal p. tt)
 
 -- ---- what is heard at the beginning of a turn
 
@@ -105,14 +107,14 @@ Hears-last f₀ f₁ f₂ l₀ l₁ l₂ late count last hears round = subst (λ
 -- ---- inittab is read again
 
 -- the table that was read is in force
-pub Leads-used : (c new : CoreState) (l₀ l₁ : LogState) (parts : List NamedText) → are_readable (texts_of parts) ≡ true → lists.is_quiet c.slots ≡ true → OnEachTrace c (λ goal so_far. Fits new goal (past.NewTable (table_of_texts (texts_of parts)) ∷ so_far)) → Lasts c new → ((so_far : List Event) → Logs l₀ l₁ so_far (past.NewTable (table_of_texts (texts_of parts)) ∷ so_far)) → Leads (Gave (Tracks c) step.Reread) (Tracks new) l₀ l₁ (ReadTables (Ok parts) ∷ [])
+pub Leads-used : (c new : CoreState) (l₀ l₁ : LogState) (parts : List NamedText) → are_readable (texts_of parts) ≡ true → lists.is_quiet c.slots ≡ true → OnEachTrace c (λ goal so_far. StillFits c new goal so_far (past.NewTable (table_of_texts (texts_of parts)) ∷ so_far)) → Lasts c new → ((so_far : List Event) → Logs l₀ l₁ so_far (past.NewTable (table_of_texts (texts_of parts)) ∷ so_far)) → Leads (Gave (Tracks c) step.Reread) (Tracks new) l₀ l₁ (ReadTables (Ok parts) ∷ [])
 Leads-used c new l₀ l₁ parts readable quiet fits lasts took = Leads-heard (Gave (Tracks c) step.Reread) (Tracks new) l₀ l₁ (ReadTables (Ok parts)) used heard (λ p. ap (λ b. record p { past = cond b (past.NewTable (table_of_texts (texts_of parts))) past.NotRead ∷ p.past }) readable) (λ goal p sound gave. first_is goal p.past step.Reread gave.0) (λ goal p. tt)
   where
     used : List Event → List Event
     used so_far = past.NewTable (table_of_texts (texts_of parts)) ∷ so_far
 
     heard : Hears (Gave (Tracks c) step.Reread) (Tracks new) l₀ l₁ used
-    heard goal p sound gave allowed = record { sound = table_sound goal p.past c (table_of_texts (texts_of parts)) sound gave.1.fits quiet (distinct_texts (texts_of parts)); fits = tracks c new goal p (gone_on used p) lasts refl gave.1 (fits goal p.past sound gave.1.fits); log = took p.past }
+    heard goal p sound gave allowed = record { sound = table_sound goal p.past c (table_of_texts (texts_of parts)) sound gave.1.fits.0 quiet (distinct_texts (texts_of parts)); fits = tracks c new goal p (gone_on used p) lasts refl gave.1 (all_on c new goal p.past (used p.past) (fits goal p.past sound gave.1.fits.0) gave.1.fits); log = took p.past }
 
 -- it could not be read, or its table not be taken
 reading_goes : (parts : PartsRead) (so_far : List Event) → before_reading (reading parts ∷ so_far) ≡ so_far
@@ -123,7 +125,7 @@ reading_goes (Ok parts) so_far = by (are_readable (texts_of parts))
     by true = refl
     by false = refl
 
-pub Leads-not_read : (c new : CoreState) (l₀ l₁ : LogState) (parts : PartsRead) → OnEachTrace c (λ goal so_far. Fits new goal (past.NotRead ∷ so_far)) → Lasts c new → ((so_far : List Event) → Logs l₀ l₁ so_far (past.NotRead ∷ so_far)) → Leads (Gave (Tracks c) step.Reread) (Tracks new) l₀ l₁ (Announce past.NotRead ∷ ReadTables parts ∷ [])
+pub Leads-not_read : (c new : CoreState) (l₀ l₁ : LogState) (parts : PartsRead) → OnEachTrace c (λ goal so_far. StillFits c new goal so_far (past.NotRead ∷ so_far)) → Lasts c new → ((so_far : List Event) → Logs l₀ l₁ so_far (past.NotRead ∷ so_far)) → Leads (Gave (Tracks c) step.Reread) (Tracks new) l₀ l₁ (Announce past.NotRead ∷ ReadTables parts ∷ [])
 Leads-not_read c new l₀ l₁ parts fits lasts took goal p sound gave allowed = (
   tt,
   λ carried.
@@ -132,7 +134,7 @@ Leads-not_read c new l₀ l₁ parts fits lasts took goal p sound gave allowed =
       record {
         in_place = and_from (is_first goal step.Reread p.past) true (first_is goal p.past step.Reread gave.0) refl;
         sound = ap (is_sound goal) goes ∙ more;
-        fits = tracks c new goal p (point_after (Announce past.NotRead ∷ ReadTables parts ∷ []) p) lasts refl gave.1 (subst (Fits new goal) (sym goes) (fits goal p.past sound gave.1.fits));
+        fits = tracks c new goal p (point_after (Announce past.NotRead ∷ ReadTables parts ∷ []) p) lasts refl gave.1 (subst (FitsAll new goal) (sym goes) (all_on c new goal p.past (past.NotRead ∷ p.past) (fits goal p.past sound gave.1.fits.0) gave.1.fits));
         log = logged goal (Announce past.NotRead ∷ ReadTables parts ∷ []) p l₀ l₁ (ap (is_sound goal) goes ∙ more) (subst (Logs l₀ l₁ p.past) (sym goes) (took p.past));
       },
 )
@@ -141,7 +143,7 @@ Leads-not_read c new l₀ l₁ parts fits lasts took goal p sound gave allowed =
 
 -- where it is to be, no hand-over stands newest
 none_handed : (goal : Goal) (so_far : List Event) (c : CoreState) → is_sound goal so_far ≡ true → first (due goal so_far) ≡ step.Reexec → Fits c goal so_far → before_handing so_far ≡ so_far
-none_handed goal so_far c sound is fits = by so_far (sym fits.wishes.reexec ∙ reexec_wished c (decide_due goal so_far sound c fits ∙ is))
+none_handed goal so_far c sound is fits = by so_far (sym (ap (λ (x : CoreState). x.heads.reexec) fits.kept) ∙ reexec_wished c (decide_due goal so_far sound c fits ∙ is))
   where
     by : (trace : List Event) → wants_reexec trace ≡ true → before_handing trace ≡ trace
     by [] h = refl
@@ -149,16 +151,16 @@ none_handed goal so_far c sound is fits = by so_far (sym fits.wishes.reexec ∙ 
     by (_ ∷ trace) h = refl
 
 -- no text was made: it says so
-pub Leads-not_handed : (c new : CoreState) (l₀ l₁ : LogState) → OnEachTrace c (λ goal so_far. Fits new goal (past.Handed handed.Failed ∷ so_far)) → Lasts c new → ((so_far : List Event) → Logs l₀ l₁ so_far (past.Handed handed.Failed ∷ so_far)) → Leads (Gave (Tracks c) step.Reexec) (Tracks new) l₀ l₁ (Announce (past.Handed handed.Failed) ∷ [])
+pub Leads-not_handed : (c new : CoreState) (l₀ l₁ : LogState) → OnEachTrace c (λ goal so_far. StillFits c new goal so_far (past.Handed handed.Failed ∷ so_far)) → Lasts c new → ((so_far : List Event) → Logs l₀ l₁ so_far (past.Handed handed.Failed ∷ so_far)) → Leads (Gave (Tracks c) step.Reexec) (Tracks new) l₀ l₁ (Announce (past.Handed handed.Failed) ∷ [])
 Leads-not_handed c new l₀ l₁ fits lasts took goal p sound gave allowed = (
   tt,
   λ carried.
-      let goes : past.Handed handed.Failed ∷ before_handing p.past ≡ past.Handed handed.Failed ∷ p.past = ap (λ (so_far : List Event). past.Handed handed.Failed ∷ so_far) (none_handed goal p.past c sound gave.0 gave.1.fits) in
+      let goes : past.Handed handed.Failed ∷ before_handing p.past ≡ past.Handed handed.Failed ∷ p.past = ap (λ (so_far : List Event). past.Handed handed.Failed ∷ so_far) (none_handed goal p.past c sound gave.0 gave.1.fits.0) in
       let more : is_sound goal (past.Handed handed.Failed ∷ p.past) ≡ true = sound_met goal (past.Handed handed.Failed) p.past refl (ap (is_allowed goal) (sym goes) ∙ allowed) sound in
       record {
         in_place = and_from (is_first goal step.Reexec p.past) true (first_is goal p.past step.Reexec gave.0) refl;
         sound = ap (is_sound goal) goes ∙ more;
-        fits = tracks c new goal p (point_after (Announce (past.Handed handed.Failed) ∷ []) p) lasts refl gave.1 (subst (Fits new goal) (sym goes) (fits goal p.past sound gave.1.fits));
+        fits = tracks c new goal p (point_after (Announce (past.Handed handed.Failed) ∷ []) p) lasts refl gave.1 (subst (FitsAll new goal) (sym goes) (all_on c new goal p.past (past.Handed handed.Failed ∷ p.past) (fits goal p.past sound gave.1.fits.0) gave.1.fits));
         log = logged goal (Announce (past.Handed handed.Failed) ∷ []) p l₀ l₁ (ap (is_sound goal) goes ∙ more) (subst (Logs l₀ l₁ p.past) (sym goes) (took p.past));
       },
 )
@@ -199,26 +201,26 @@ came_back handed.Failed text back p carried = (and_parts (comes_back (p.generati
 
 -- init's state was handed on, and its text is that of the next
 pub record HandedOn (c next : CoreState) (text : List ℕ) : Type 0 where
-  pub fits : OnEachTrace c (λ goal so_far. (h : HandOver) → Fits next goal (past.Handed h ∷ so_far))
-  pub own : next.generation ≡ c.generation + 1
+  pub fits : OnEachTrace c (λ goal so_far. (h : HandOver) → StillFits c next goal so_far (past.Handed h ∷ so_far))
+  pub own : next.heads.generation ≡ c.heads.generation + 1
   pub short : range.has_short_seconds next ≡ range.has_short_seconds c
-  pub says : range.has_short_seconds c ≡ true → IsTextOf text (state_of next) × IsFit next
+  pub says : range.has_short_seconds c ≡ true → IsTextIn V2 text (state_of next) × IsFit next
 
 -- a text was made and carried, and taken over or refused: init goes on as the next
-pub Leads-carried : (c next new : CoreState) (l₀ l₁ : LogState) (how : HandOver) (text : List ℕ) (back : TextRead) → HandedOn c next text → (IsFit next → IsTextOf text (state_of next) → comes_back next.generation text back ≡ true → (new ≡ next) × (is_outcome how text back ≡ true)) → ((so_far : List Event) → Logs l₀ l₁ so_far (past.Handed how ∷ so_far)) → Leads (Gave (Tracks c) step.Reexec) (Tracks new) l₀ l₁ (carrying how text back)
+pub Leads-carried : (c next new : CoreState) (l₀ l₁ : LogState) (how : HandOver) (text : List ℕ) (back : TextRead) → HandedOn c next text → (IsFit next → IsTextOf text (state_of next) → comes_back next.heads.generation text back ≡ true → (new ≡ next) × (is_outcome how text back ≡ true)) → ((so_far : List Event) → Logs l₀ l₁ so_far (past.Handed how ∷ so_far)) → Leads (Gave (Tracks c) step.Reexec) (Tracks new) l₀ l₁ (carrying how text back)
 Leads-carried c next new l₀ l₁ how text back handed comes took goal p sound gave allowed =
     let said = handed.says gave.1.short in
-    let own : next.generation ≡ p.generation + 1 = handed.own ∙ ap (λ n. n + 1) gave.1.own in
-    let fits : (h : HandOver) → Fits next goal (past.Handed h ∷ p.past) = handed.fits goal p.past sound gave.1.fits in (
+    let own : next.heads.generation ≡ p.generation + 1 = handed.own ∙ ap (λ n. n + 1) gave.1.own in
+    let fits : (h : HandOver) → FitsAll next goal (past.Handed h ∷ p.past) = λ h. all_on c next goal p.past (past.Handed h ∷ p.past) (handed.fits goal p.past sound gave.1.fits.0 h) gave.1.fits in (
       carrying_text how text back goal p (record { core = next; fits = fits; fit = said.1; own = own; says = said.0 }),
       λ carried.
-          let (same, outcome) = comes said.1 said.0 (ap (λ n. comes_back n text back) own ∙ came_back how text back p carried) in
-          let goes : (point_after (carrying how text back) p).past ≡ past.Handed how ∷ p.past = carrying_goes how text back p (none_handed goal p.past c sound gave.0 gave.1.fits) outcome in
+          let (same, outcome) = comes said.1 (V2, said.0) (ap (λ n. comes_back n text back) own ∙ came_back how text back p carried) in
+          let goes : (point_after (carrying how text back) p).past ≡ past.Handed how ∷ p.past = carrying_goes how text back p (none_handed goal p.past c sound gave.0 gave.1.fits.0) outcome in
           let more : is_sound goal (past.Handed how ∷ p.past) ≡ true = sound_met goal (past.Handed how) p.past refl (ap (is_allowed goal) (sym goes) ∙ allowed) sound in
           record {
             in_place = carrying_placed how text back goal p (first_is goal p.past step.Reexec gave.0) outcome;
             sound = ap (is_sound goal) goes ∙ more;
-            fits = subst (λ s. Tracks s goal (point_after (carrying how text back) p)) (sym same) (record { fits = subst (Fits next goal) (sym goes) (fits how); short = handed.short ∙ gave.1.short; own = own ∙ sym (carrying_generation how text back p) });
+            fits = subst (λ s. Tracks s goal (point_after (carrying how text back) p)) (sym same) (record { fits = subst (FitsAll next goal) (sym goes) (fits how); short = handed.short ∙ gave.1.short; own = own ∙ sym (carrying_generation how text back p) });
             log = logged goal (carrying how text back) p l₀ l₁ (ap (is_sound goal) goes ∙ more) (subst (Logs l₀ l₁ p.past) (sym goes) (took p.past));
           },
     )

@@ -64,7 +64,7 @@ end_number goal so_far c id status sound fits allowed = by (child_known id so_fa
     by (Some child) is h =
         let there : has_child id (known_children so_far) ≡ true = sym (child_some id so_far) ∙ ap (λ o. is_some (option_map living o)) is in
         record {
-          slot = record_of so_far id;
-          found = ap (lists.slot_of id) (fit_records c goal so_far fits) ∙ found_record so_far id (record_ids so_far) (child_in_records goal so_far sound id there);
+          slot = record_of fits.lasts so_far id;
+          found = ap (lists.slot_of id) (fit_records c goal so_far fits) ∙ found_record fits.lasts so_far id (record_ids so_far) (child_in_records goal so_far sound id there);
           number_is = ap (λ o. option_map (λ child. child.number) (option_map living o)) is ∙ ap Some (sym (eqb-true n child.number h));
         }

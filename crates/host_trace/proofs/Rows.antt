@@ -18,8 +18,7 @@ use Rattle.init_trace.specs.declared.steps.Step.TheVariants as step
 use Rattle.init_trace.specs.Due.{due, first}
 use Rattle.init_trace.specs.Sound.{is_sound}
 use Rattle.core_model.specs.Parts.{SavedState, state_of}
-use Rattle.state_text.specs.declared.versions.Version.{Version}
-use Rattle.state_text.specs.declared.versions.Version.TheVariants.{V1, V2}
+use Rattle.state_text.specs.declared.versions.Version.TheVariants.{V2}
 use Rattle.state_text.specs.Lines.{text_in}
 use Rattle.child_host.specs.declared.calls.Call.TheVariants.{Start, Look, Late, Clock, TakeBytes, ReadTables, Carry, Announce, Pause}
 use Rattle.child_host.specs.declared.calls.Reply.TheVariants.{Now, Later}
@@ -209,9 +208,8 @@ unasked-is_not : has_trace goal (Carry text (Ok text) ∷ asked_to_read) opening
 unasked-is_not = refl
 
 -- what is carried is a text of init's state
-no_text : (version : Version) (state : SavedState) → text_in version state ≡ codes "x" → ⊥
-no_text V1 state is = cc
-no_text V2 state is = cc
+no_text : (state : SavedState) → text_in V2 state ≡ codes "x" → ⊥
+no_text state is = cc
 
 no_state-is_not : AreTexts goal (Carry (codes "x") (Ok (codes "x")) ∷ asked_anew) opening → ⊥
-no_state-is_not texts = let said = texts.0 refl in no_text said.says.0 (state_of said.core) said.says.1.1
+no_state-is_not texts = let said = texts.0 refl in no_text (state_of said.core) said.says.1

@@ -12,11 +12,12 @@ use Rattle.init_trace.specs.Range.{are_short, is_seconds}
 use Rattle.init_trace.specs.Run.{step_in}
 use Rattle.init_trace.specs.Sound.{is_sound, may_come}
 use Rattle.core_model.specs.State.{CoreState}
-use Rattle.core_model.specs.Fit.{Fits, with_step}
+use Rattle.core_model.specs.Fit.{FitsAll, with_step}
 use Rattle.core_model.specs.Parts.{state_of}
 use Rattle.core_model.specs.Rules.{IsFit}
 use Rattle.state_text.specs.Range as range
-use Rattle.state_text.specs.Refused.{IsTextOf}
+use Rattle.state_text.specs.declared.versions.Version.TheVariants.{V2}
+use Rattle.state_text.specs.Refused.{IsTextIn}
 use Rattle.trace_log.specs.Logs.{LogState}
 use Rattle.child_host.specs.declared.calls.Call.TheVariants.{Carry}
 use Rattle.child_host.specs.Calls.{HostCall, TextRead}
@@ -48,14 +49,14 @@ are_carried (Carry text back ∷ calls) p =
     comes_back ((point_after calls p).generation + 1) text back && are_carried calls p
 are_carried (_ ∷ calls) p = are_carried calls p
 
--- The text is that of a state of init's, of the generation: of a core that keeps the rules, and fits the trace
+-- The text, of version 2, is that of a state of init's, of the generation: of a core that keeps the rules, and fits the trace
 -- whatever comes of the hand-over.
 pub record IsStateText (goal : Goal) (past : List Event) (generation : ℕ) (text : List ℕ) : Type 0 where
   pub core : CoreState
-  pub fits : (how : HandOver) → Fits core goal (Handed how ∷ past)
+  pub fits : (how : HandOver) → FitsAll core goal (Handed how ∷ past)
   pub fit : IsFit core
-  pub own : core.generation ≡ generation
-  pub says : IsTextOf text (state_of core)
+  pub own : core.heads.generation ≡ generation
+  pub says : IsTextIn V2 text (state_of core)
 
 -- each text that was carried is that of init's state there, a generation more, where those before it came back as they
 -- may
@@ -108,14 +109,14 @@ pub record IsOver (blocks : Begun) (over : List ℕ) : Type 0 where
 -- init's core tracks the record: it fits the trace, its seconds are at most an hour, and it is of the record's
 -- generation
 pub record Tracks (core : CoreState) (goal : Goal) (p : Point) : Type 0 where
-  pub fits : Fits core goal p.past
+  pub fits : FitsAll core goal p.past
   pub short : range.has_short_seconds core ≡ true
-  pub own : core.generation ≡ p.generation
+  pub own : core.heads.generation ≡ p.generation
 
 -- a change that keeps seconds of an hour at most, and the generation
 pub record Lasts (c new : CoreState) : Type 0 where
   pub short : range.has_short_seconds c ≡ true → range.has_short_seconds new ≡ true
-  pub same : new.generation ≡ c.generation
+  pub same : new.heads.generation ≡ c.heads.generation
 
 -- the core tracks the record, and the reader of requests stands where it does
 abbrev pub At : CoreState → Begun → Goal → Point → Type 0

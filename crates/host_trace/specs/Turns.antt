@@ -8,13 +8,13 @@ use Rattle.init_trace.specs.Due.{due, first}
 use Rattle.init_trace.specs.Sound.{is_sound}
 use Rattle.core_model.specs.State.{CoreState}
 use Rattle.core_model.specs.Decide.{is_drained}
-use Rattle.core_model.specs.Fit.{Fits}
+use Rattle.core_model.specs.Fit.{FitsAll}
 use Rattle.child_host.specs.declared.calls.Call.TheVariants.{Start, Look, Signal, Late, Clock, TakeBytes, ReadTables, Carry, Announce, Pause}
 use Rattle.child_host.specs.declared.calls.HostFault.{HostFault}
 use Rattle.child_host.specs.Calls.{HostCall, TextRead}
 use Rattle.host_trace.specs.declared.TheConstants.{BYTE_LIMIT, PIECE, LATE_LIMIT, STEP_LIMIT}
-use Rattle.host_trace.specs.Point.{Point, point_after}
-use Rattle.host_trace.specs.Leads.{are_carried, is_allowed}
+use Rattle.host_trace.specs.Point.{Point, point_after, has_trace}
+use Rattle.host_trace.specs.Leads.{AreTexts, are_carried, is_allowed}
 
 -- a call that takes no bytes
 abbrev pub takes_none : HostCall → Bool
@@ -92,6 +92,20 @@ pub record IsTurn (done : Bool) (calls : List HostCall) : Type 0 where
   pub most : count ≤ STEP_LIMIT
   pub ended : IsTrue done ⊎ (count ≡ STEP_LIMIT)
 
+-- up to these calls, whatever comes after them: from each point whose trace is sound and fitted, where the answers to
+-- them were possible, each text that was carried was that of init's state; and where these came back as they may, each
+-- call was in its place, the trace with them is sound, and a core fits it
+pub record WentWell (goal : Goal) (p : Point) (calls : List HostCall) : Type 0 where
+  pub in_place : IsTrue (has_trace goal calls p)
+  pub sound : IsTrue (is_sound goal (point_after calls p).past)
+  pub core : CoreState
+  pub fits : FitsAll core goal (point_after calls p).past
+
+abbrev pub GoesWell : (Goal → Point → Type 0) → List HostCall → Type 0
+GoesWell fitted calls = (goal : Goal) (p : Point) → IsTrue (is_sound goal p.past) → fitted goal p
+    → IsTrue (is_allowed goal (point_after calls p).past)
+    → AreTexts goal calls p × (IsTrue (are_carried calls p) → WentWell goal p calls)
+
 -- nothing is due after the calls: from each point whose trace is sound and fitted, where the answers were possible
 abbrev pub Rests : (Goal → Point → Type 0) → List HostCall → Type 0
 Rests fitted calls = (goal : Goal) (p : Point) → IsTrue (is_sound goal p.past) → fitted goal p
@@ -102,12 +116,13 @@ Rests fitted calls = (goal : Goal) (p : Point) → IsTrue (is_sound goal p.past)
 abbrev pub Undrained : (Goal → Point → Type 0) → List HostCall → Type 0
 Undrained fitted calls = (goal : Goal) (p : Point) → IsTrue (is_sound goal p.past) → fitted goal p
     → IsTrue (is_allowed goal (point_after calls p).past) → IsTrue (are_carried calls p)
-    → (core : CoreState) × Fits core goal (point_after calls p).past × (is_drained core ≡ false)
+    → (core : CoreState) × FitsAll core goal (point_after calls p).past × (is_drained core ≡ false)
 
--- The given number of turns, with a pause after each. After each that is done nothing is due; and where they end when
+-- The given number of turns, with a pause after each. Up to each of them all goes well, as far as the answers until
+-- then were possible, whatever is answered later. After each that is done nothing is due; and where they end when
 -- init is drained, none but the last left it so.
 abbrev pub AreTurns : Bool → (Goal → Point → Type 0) → ℕ → List HostCall → Type 0
 AreTurns drain fitted zero calls = calls ≡ []
 AreTurns drain fitted (suc n) calls = (done : Bool) × (last before : List HostCall) × (calls ≡ Pause ∷ (last ++ before))
-    × IsTurn done last × (IsTrue done → Rests fitted (last ++ before))
+    × IsTurn done last × GoesWell fitted (last ++ before) × (IsTrue done → Rests fitted (last ++ before))
     × (IsTrue drain → (n ≡ 0) ⊎ Undrained fitted before) × AreTurns drain fitted n before

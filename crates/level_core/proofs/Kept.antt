@@ -16,7 +16,7 @@ use Rattle.core_model.proofs.RuledMade.{called_act, called_id}
 use Rattle.core_model.specs.Steps.{judged_in, called_if, with_called}
 use Rattle.core_model.specs.Steps as core
 use Rattle.core_model.specs.State.{CoreState}
-use Rattle.core_model.specs.Fit.{Fits, OnEachTrace}
+use Rattle.core_model.specs.Fit.{StillFits, OnEachTrace}
 use Rattle.core_model.specs.Decide.{decide}
 use Rattle.core_model.proofs.Allowed.{decide_holds}
 use Rattle.core_model.proofs.Hearing.{fits_adopt}
@@ -60,7 +60,7 @@ kept_called now table named slots kept = (timely_map now call (λ slot h. called
     call slot = called_if (list_any (λ e. has_id slot.id e && named e) table) slot
 
 -- what was adopted fits
-pub adopted_fits : (result : Result (Unit {0}) Refusal) (table : List Entry) (old new : CoreState) → OnOk result (new ≡ core.after_adopt table old) → OnOk result (is_distinct table ≡ true) → OnOk result (OnEachTrace old (λ goal past. Fits new goal (NewTable table ∷ past)))
+pub adopted_fits : (result : Result (Unit {0}) Refusal) (table : List Entry) (old new : CoreState) → OnOk result (new ≡ core.after_adopt table old) → OnOk result (is_distinct table ≡ true) → OnOk result (OnEachTrace old (λ goal past. StillFits old new goal past (NewTable table ∷ past)))
 adopted_fits (Ok done) table old new is distinct = λ goal past sound fits. rw is (fits_adopt goal past old sound fits table distinct)
 adopted_fits (Err why) table old new is distinct = tt
 

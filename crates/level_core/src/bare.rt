@@ -9,7 +9,7 @@ use crate::walking::{
     start_among, stop_among,
 };
 use child_table::Slots;
-use core_model::{Heads, News};
+use core_model::Heads;
 use init_trace::{Goal, Step};
 use init_words::{Answer, Ask, GRACE, Id, Level, Memory, Refusal, Stage};
 use initctl_frame::Got;
@@ -24,17 +24,7 @@ use std::marker::Model;
 pub(crate) struct BareCore<A: Allocator> {
     table: Table<A>,
     slots: Slots<A>,
-    stage: Option<Stage>,
-    grace: u16,
-    goal: Goal,
-    booted: bool,
-    announced: bool,
-    time: u64,
-    reexec: bool,
-    reread: bool,
-    level_wish: Option<Goal>,
-    news: News,
-    generation: u64,
+    heads: Heads,
     // `next` walks the records from two places on. No record before this one has a child that is to be looked at.
     looks_from: usize,
     // No entry before this one is to be started or waited for.
@@ -51,25 +41,11 @@ impl<A: Allocator> Model for BareCore<A> {
 
     ghost Value = { CoreState };
 
-    ghost view = { λ c. record {
-      table = c.table;
-      slots = c.slots;
-      stage = c.stage;
-      grace = c.grace;
-      goal = c.goal;
-      booted = c.booted;
-      announced = c.announced;
-      time = c.time;
-      reexec = c.reexec;
-      reread = c.reread;
-      level_wish = c.level_wish;
-      news = c.news;
-      generation = c.generation;
-    } };
+    ghost view = { λ c. record { table = c.table; slots = c.slots; heads = c.heads } };
 
-    ghost invariant = { λ c. (c.time ≤ CLOCK_LIMIT) × (are_timely c.time c.slots ≡ true)
+    ghost invariant = { λ c. (c.heads.time ≤ CLOCK_LIMIT) × (are_timely c.heads.time c.slots ≡ true)
         × IsInOrder c.table c.slots × (are_seen c.looks_from c.slots ≡ true)
-        × (are_passed c.stage c.starts_from c.table c.slots ≡ true) };
+        × (are_passed c.heads.stage c.starts_from c.table c.slots ≡ true) };
 }
 
 impl<A: Allocator + Copy> BareCore<A> {
@@ -96,20 +72,10 @@ impl<A: Allocator + Copy> BareCore<A> {
         Ok(BareCore {
             table,
             slots,
-            stage: None,
-            grace: 0,
-            goal: Goal {
+            heads: Heads::opening(Goal {
                 level,
                 grace: GRACE,
-            },
-            booted: false,
-            announced: false,
-            time: 0,
-            reexec: false,
-            reread: false,
-            level_wish: None,
-            news: News::new(),
-            generation: 0,
+            }),
             looks_from: 0,
             starts_from: 0,
         })
@@ -127,10 +93,10 @@ impl<A: Allocator + Copy> BareCore<A> {
             return Err(Refusal::NotQuiet);
         }
         self.slots.adopt(&table)?;
-        judge_in(&mut self.slots, &table, self.stage);
+        judge_in(&mut self.slots, &table, self.heads.stage);
         self.table = table;
-        self.announced = false;
-        self.reread = false;
+        self.heads.announced = false;
+        self.heads.reread = false;
         self.looks_from = 0;
         self.starts_from = 0;
         Ok(())
@@ -153,8 +119,6 @@ impl<A: Allocator> BareCore<A> {
     ghost use Rattle.core_model.specs.Steps.{after_step, after_told, after_round, after_clock, after_got, after_not_read, after_handed, after_handed_on};
     ghost use Rattle.core_model.specs.Fit.{Fits, OnEachTrace, with_step};
     ghost use Rattle.core_model.specs.Work.{work_left};
-    ghost use Rattle.core_model.specs.Parts.{heads_of};
-    ghost use Rattle.core_model.specs.Rebuilding.{core_with};
     ghost use Rattle.child_table.specs.Times.{are_timely};
     ghost use Rattle.respawn_limit.specs.declared.TheConstants.{CLOCK_LIMIT};
 
@@ -163,22 +127,12 @@ impl<A: Allocator> BareCore<A> {
         requires clock { heads.time ≤ CLOCK_LIMIT }
         requires timely { are_timely heads.time slots ≡ true }
         requires order { IsInOrder table slots }
-        ensures { result ≡ core_with heads table slots }
+        ensures { result ≡ record { table = table; slots = slots; heads = heads } }
     {
         BareCore {
             table,
             slots,
-            stage: heads.stage,
-            grace: heads.grace,
-            goal: heads.goal,
-            booted: heads.booted,
-            announced: heads.announced,
-            time: heads.time,
-            reexec: heads.reexec,
-            reread: heads.reread,
-            level_wish: heads.level_wish,
-            news: heads.news,
-            generation: heads.generation,
+            heads,
             looks_from: 0,
             starts_from: 0,
         }
@@ -186,35 +140,23 @@ impl<A: Allocator> BareCore<A> {
 
     /// What it keeps, but for its table and its records.
     pub(crate) fn heads(&self) -> Heads
-        ensures { result ≡ heads_of self.now }
+        ensures { result ≡ self.now.heads }
     {
-        Heads {
-            generation: self.generation,
-            time: self.time,
-            stage: self.stage,
-            grace: self.grace,
-            goal: self.goal,
-            booted: self.booted,
-            announced: self.announced,
-            reread: self.reread,
-            reexec: self.reexec,
-            level_wish: self.level_wish,
-            news: self.news,
-        }
+        self.heads
     }
 
     /// The stage in force.
     pub(crate) fn stage(&self) -> Option<Stage>
-        ensures { result ≡ self.now.stage }
+        ensures { result ≡ self.now.heads.stage }
     {
-        self.stage
+        self.heads.stage
     }
 
     /// The time, in seconds: the greatest reading so far.
     pub(crate) fn time(&self) -> u64
-        ensures { result ≡ self.now.time }
+        ensures { result ≡ self.now.heads.time }
     {
-        self.time
+        self.heads.time
     }
 
     /// The table in force.
@@ -233,16 +175,16 @@ impl<A: Allocator> BareCore<A> {
 
     /// The goal: the level to go to, and the seconds between the two signals.
     pub(crate) fn goal(&self) -> Goal
-        ensures { result ≡ self.now.goal }
+        ensures { result ≡ self.now.heads.goal }
     {
-        self.goal
+        self.heads.goal
     }
 
     /// How often init was re-executed since its opening.
     pub(crate) fn generation(&self) -> u64
-        ensures { result ≡ self.now.generation }
+        ensures { result ≡ self.now.heads.generation }
     {
-        self.generation
+        self.heads.generation
     }
 
     /// Nothing is left to do and nothing runs: a run level is announced as settled, no record has a child or an order,
@@ -250,11 +192,11 @@ impl<A: Allocator> BareCore<A> {
     pub(crate) fn drained(&self) -> bool
         ensures { result ≡ is_drained self.now }
     {
-        match self.stage {
+        match self.heads.stage {
             Some(Stage::Run(level)) => {
-                self.announced
+                self.heads.announced
                     && !self.stands(Stage::Run(level))
-                    && !any_busy(self.time, self.slots.as_slice())
+                    && !any_busy(self.heads.time, self.slots.as_slice())
             }
             _ => false,
         }
@@ -264,13 +206,13 @@ impl<A: Allocator> BareCore<A> {
     fn wished_step(&self, stage: Stage) -> Option<Step>
         ensures { result ≡ wished_step stage self.now }
     {
-        if self.reexec {
+        if self.heads.reexec {
             return Some(Step::Reexec);
         }
-        if self.reread {
+        if self.heads.reread {
             return Some(Step::Reread);
         }
-        if let Some(step) = level_step(self.booted, self.level_wish) {
+        if let Some(step) = level_step(self.heads.booted, self.heads.level_wish) {
             return Some(step);
         }
         self.news_step(stage)
@@ -280,7 +222,7 @@ impl<A: Allocator> BareCore<A> {
         ensures { result ≡ core.news_step stage self.now }
     {
         match stage {
-            Stage::Run(_) => self.news.first_step(),
+            Stage::Run(_) => self.heads.news.first_step(),
             Stage::Sysinit | Stage::Boot => None,
         }
     }
@@ -299,7 +241,10 @@ impl<A: Allocator> BareCore<A> {
     fn stands(&self, stage: Stage) -> bool
         ensures { result ≡ stands stage self.now }
     {
-        self.reexec || self.reread || self.level_wish.is_some() || self.has_news(stage)
+        self.heads.reexec
+            || self.heads.reread
+            || self.heads.level_wish.is_some()
+            || self.has_news(stage)
     }
 
     /// There is news, and it counts in the stage.
@@ -307,18 +252,18 @@ impl<A: Allocator> BareCore<A> {
         ensures { result ≡ core.counts_news stage self.now }
     {
         match stage {
-            Stage::Run(_) => self.news.is_some(),
+            Stage::Run(_) => self.heads.news.is_some(),
             Stage::Sysinit | Stage::Boot => false,
         }
     }
 
     /// After Sysinit and Boot, the stage that comes next.
     fn stage_step(&self, stage: Stage) -> Option<Step>
-        ensures { result ≡ core.stage_step stage self.now.goal self.now.table self.now.slots }
+        ensures { result ≡ core.stage_step stage self.now.heads.goal self.now.table self.now.slots }
     {
-        let next = next_stage(stage, self.goal.level)?;
+        let next = next_stage(stage, self.heads.goal.level)?;
         if self.slots.quiet() && all_done(stage, &self.table, self.slots.as_slice()) {
-            Some(Step::Enter(next, self.goal.grace))
+            Some(Step::Enter(next, self.heads.goal.grace))
         } else {
             None
         }
@@ -326,15 +271,15 @@ impl<A: Allocator> BareCore<A> {
 
     /// In a run level, that it is settled, once.
     fn settle_step(&self, stage: Stage) -> Option<Step>
-        ensures { result ≡ core.settle_step stage self.now.announced
-            self.now.time self.now.table self.now.slots }
+        ensures { result ≡ core.settle_step stage self.now.heads.announced
+            self.now.heads.time self.now.table self.now.slots }
     {
         let Stage::Run(level) = stage else {
             return None;
         };
         let slots = &self.slots;
-        let idle = !self.announced && slots.is_idle();
-        if idle && all_served(level, self.time, &self.table, slots.as_slice()) {
+        let idle = !self.heads.announced && slots.is_idle();
+        if idle && all_served(level, self.heads.time, &self.table, slots.as_slice()) {
             Some(Step::Settle(level))
         } else {
             None
@@ -343,11 +288,17 @@ impl<A: Allocator> BareCore<A> {
 
     /// Where no child is excluded: a start or a hold, the next stage, or that the level is settled.
     fn calm_step(&self, stage: Stage) -> Option<Step>
-        requires { self.now.stage ≡ Some stage }
+        requires { self.now.heads.stage ≡ Some stage }
         ensures { result ≡ calm_step stage self.now }
     {
         let slots = self.slots.as_slice();
-        if let Some(step) = start_among(stage, self.time, &self.table, slots, self.starts_from) {
+        if let Some(step) = start_among(
+            stage,
+            self.heads.time,
+            &self.table,
+            slots,
+            self.starts_from,
+        ) {
             return Some(step);
         }
         if let Some(step) = self.stage_step(stage) {
@@ -358,7 +309,7 @@ impl<A: Allocator> BareCore<A> {
 
     /// Where no wish stands: a signal, or one of those.
     fn work_step(&self, stage: Stage) -> Option<Step>
-        requires { self.now.stage ≡ Some stage }
+        requires { self.now.heads.stage ≡ Some stage }
         ensures { result ≡ work_step stage self.now }
     {
         if self.stands(stage) {
@@ -373,11 +324,11 @@ impl<A: Allocator> BareCore<A> {
     /// The first signal that is due. The records are walked only where a stop is due, or the grace of the first
     /// SIGTERM is over.
     fn stop_step(&self) -> Option<Step>
-        ensures { result ≡ stop_among self.now.grace self.now.time self.now.slots }
+        ensures { result ≡ stop_among self.now.heads.grace self.now.heads.time self.now.slots }
     {
         let slots = &self.slots;
-        if slots.has_due() || is_past(slots.first_termed(), self.grace, self.time) {
-            return stop_among(self.grace, self.time, slots.as_slice());
+        if slots.has_due() || is_past(slots.first_termed(), self.heads.grace, self.heads.time) {
+            return stop_among(self.heads.grace, self.heads.time, slots.as_slice());
         }
         None
     }
@@ -389,7 +340,7 @@ impl<A: Allocator> BareCore<A> {
         if !self.slots.quiet() {
             return Step::Idle;
         }
-        Step::Enter(Stage::Sysinit, self.goal.grace)
+        Step::Enter(Stage::Sysinit, self.heads.goal.grace)
     }
 
     fn due_step(&self) -> Step
@@ -398,7 +349,7 @@ impl<A: Allocator> BareCore<A> {
         ensures order { IsInOrder self.now.table self.now.slots }
     {
         let slots = self.slots.as_slice();
-        let Some(stage) = self.stage else {
+        let Some(stage) = self.heads.stage else {
             return self.first_step();
         };
         if let Some(step) = self.wish_step(stage) {
@@ -416,7 +367,7 @@ impl<A: Allocator> BareCore<A> {
     {
         let slots = self.slots.as_slice();
         self.looks_from = seen_to(slots, self.looks_from);
-        if let Some(stage) = self.stage {
+        if let Some(stage) = self.heads.stage {
             self.starts_from = passed_to(stage, &self.table, slots, self.starts_from);
         }
     }
@@ -426,24 +377,24 @@ impl<A: Allocator> BareCore<A> {
     {
         self.slots.entered();
         self.slots.judge(&self.table, stage);
-        self.stage = Some(stage);
-        self.grace = grace;
-        self.goal = self.level_wish.unwrap_or(self.goal);
-        self.level_wish = None;
-        self.booted = stage == Stage::Boot || self.booted;
-        self.announced = false;
+        self.heads.stage = Some(stage);
+        self.heads.grace = grace;
+        self.heads.goal = self.heads.level_wish.unwrap_or(self.heads.goal);
+        self.heads.level_wish = None;
+        self.heads.booted = stage == Stage::Boot || self.heads.booted;
+        self.heads.announced = false;
         self.looks_from = 0;
         self.starts_from = 0;
     }
 
     /// An order is given about an id.
     fn order(&mut self, id: Id, ask: Ask)
-        requires allowed { can_ask id ask self.old.time self.old.slots ≡ true }
+        requires allowed { can_ask id ask self.old.heads.time self.old.slots ≡ true }
         requires distinct { are_distinct self.old.slots ≡ true }
         ensures { self.new ≡ after_step (Step.Order id ask) self.old }
     {
         let kept = leaves_passed(&self.slots, self.starts_from, &id, ask);
-        self.slots.ask(id, ask, self.time);
+        self.slots.ask(id, ask, self.heads.time);
         self.starts_from = place_if(kept, self.starts_from);
     }
 
@@ -457,18 +408,18 @@ impl<A: Allocator> BareCore<A> {
         match *step {
             Step::Enter(stage, grace) => self.enter(stage, grace),
             Step::Power(kind) => {
-                call_named(&mut self.slots, &self.table, step, self.stage);
-                self.news.set_power(kind, false);
+                call_named(&mut self.slots, &self.table, step, self.heads.stage);
+                self.heads.news.set_power(kind, false);
                 self.starts_from = 0;
             }
             Step::Call(letter) => {
-                call_named(&mut self.slots, &self.table, step, self.stage);
-                self.news.set_letter(letter, false);
+                call_named(&mut self.slots, &self.table, step, self.heads.stage);
+                self.heads.news.set_letter(letter, false);
                 self.starts_from = 0;
             }
             Step::Order(id, ask) => self.order(id, ask),
-            Step::Hold(id) => self.slots.hold(id, self.time),
-            Step::Settle(_) => self.announced = true,
+            Step::Hold(id) => self.slots.hold(id, self.heads.time),
+            Step::Settle(_) => self.heads.announced = true,
             Step::Reread | Step::Reexec | Step::Idle => {}
         }
     }
@@ -492,7 +443,7 @@ impl<A: Allocator> BareCore<A> {
         // `len` says that no id has two records, as `told` doesn't.
         let _ = self.slots.len();
         let kept = brings_nothing(&answer);
-        self.slots.told(id, answer, self.time)?;
+        self.slots.told(id, answer, self.heads.time)?;
         self.looks_from = place_if(kept, self.looks_from);
         self.starts_from = place_if(kept, self.starts_from);
         Ok(())
@@ -503,10 +454,10 @@ impl<A: Allocator> BareCore<A> {
     {
         match request {
             Got::Level(level, grace) => self.hear_level(Goal { level, grace }),
-            Got::Call(letter) => self.news.set_letter(letter, true),
-            Got::Reload => self.reread = true,
-            Got::Reexec => self.reexec = true,
-            Got::Power(kind) => self.news.set_power(kind, true),
+            Got::Call(letter) => self.heads.news.set_letter(letter, true),
+            Got::Reload => self.heads.reread = true,
+            Got::Reexec => self.heads.reexec = true,
+            Got::Power(kind) => self.heads.news.set_power(kind, true),
             Got::Nothing(_) => {}
         }
     }
@@ -514,39 +465,41 @@ impl<A: Allocator> BareCore<A> {
     /// In the level that is asked for a wish for another is forgotten; in another level it is wished for; before the
     /// run levels it is the goal.
     fn hear_level(&mut self, wish: Goal)
-        ensures { self.new ≡ steps.heard_in self.old.stage wish self.old }
+        ensures { self.new ≡ record self.old {
+          heads = steps.heard_in self.old.heads.stage wish self.old.heads;
+        } }
     {
-        let Some(Stage::Run(now)) = self.stage else {
-            self.goal = wish;
-            self.reread = true;
+        let Some(Stage::Run(now)) = self.heads.stage else {
+            self.heads.goal = wish;
+            self.heads.reread = true;
             return;
         };
         if wish.level == now {
-            self.level_wish = None;
+            self.heads.level_wish = None;
         } else {
-            self.level_wish = Some(wish);
-            self.reread = true;
+            self.heads.level_wish = Some(wish);
+            self.heads.reread = true;
         }
     }
 
     pub(crate) fn not_read_by_state(&mut self)
         ensures { self.new ≡ after_not_read self.old }
     {
-        self.reread = false;
+        self.heads.reread = false;
     }
 
     pub(crate) fn not_handed_by_state(&mut self)
         ensures { self.new ≡ after_handed self.old }
     {
-        self.reexec = false;
+        self.heads.reexec = false;
     }
 
     pub(crate) fn handed_on_by_state(&mut self)
-        requires { self.old.generation + 1 < 2 ^ 64 }
+        requires { self.old.heads.generation + 1 < 2 ^ 64 }
         ensures { self.new ≡ after_handed_on self.old }
     {
-        self.reexec = false;
-        self.generation += 1;
+        self.heads.reexec = false;
+        self.heads.generation += 1;
     }
 
     pub(crate) fn nudge_by_state(&mut self)
@@ -559,6 +512,6 @@ impl<A: Allocator> BareCore<A> {
     pub(crate) fn clock_by_state(&mut self, reading: u64)
         ensures { self.new ≡ after_clock reading self.old }
     {
-        self.time = reading.min(CLOCK_LIMIT).max(self.time);
+        self.heads.time = reading.min(CLOCK_LIMIT).max(self.heads.time);
     }
 }

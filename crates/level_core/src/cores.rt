@@ -37,7 +37,7 @@ impl<A: Allocator + Copy> Core<A> {
     ghost use Rattle.child_table.specs.Lists.{is_quiet};
     ghost use Rattle.core_model.specs.State.{opening_goal, opening_state};
     ghost use Rattle.core_model.specs.Steps.{after_adopt};
-    ghost use Rattle.core_model.specs.Fit.{Fits, OnEachTrace};
+    ghost use Rattle.core_model.specs.Fit.{Fits, HasLasts, StillFits, OnEachTrace};
 
     /// The core before its first stage, with the goal of the level that is given, else of the table's default level,
     /// else of S.
@@ -45,7 +45,8 @@ impl<A: Allocator + Copy> Core<A> {
         ensures state { IfOk result (λ core.
             core ≡ opening_state table (opening_goal level table)) }
         ensures fits { IfOk result (λ core.
-            Fits core (opening_goal level table) (NewTable table ∷ [])) }
+            Fits core (opening_goal level table) (NewTable table ∷ [])
+            × HasLasts core (NewTable table ∷ [])) }
     {
         let bare = BareCore::new_by_state(alloc, table, level)?;
         Ok(Core { bare })
@@ -61,7 +62,7 @@ impl<A: Allocator + Copy> Core<A> {
             why ≡ (if is_quiet self.old.slots then refusal.Memory else refusal.NotQuiet)) }
         ensures unchanged { OnErr result (self.new ≡ self.old) }
         ensures fits { OnOk result (OnEachTrace self.old (λ goal past.
-            Fits self.new goal (NewTable table ∷ past))) }
+            StillFits self.old self.new goal past (NewTable table ∷ past))) }
     {
         self.bare.adopt_by_state(table)
     }
@@ -78,10 +79,9 @@ impl<A: Allocator> Core<A> {
     ghost use Rattle.child_table.specs.Lists.{order_in, refusal_of, slot_of};
     ghost use Rattle.core_model.specs.Decide.{decide, is_drained};
     ghost use Rattle.core_model.specs.Steps.{after_step, after_told, after_round, after_clock, after_got, after_not_read, after_handed, after_handed_on};
-    ghost use Rattle.core_model.specs.Fit.{Fits, OnEachTrace, with_step};
+    ghost use Rattle.core_model.specs.Fit.{StillFits, OnEachTrace, with_step};
     ghost use Rattle.core_model.specs.Rules.{IsFit};
     ghost use Rattle.core_model.specs.Work.{work_left};
-    ghost use Rattle.core_model.specs.Parts.{heads_of};
 
     /// The core that keeps these.
     pub(crate) fn of(bare: BareCore<A>) -> Core<A>
@@ -100,21 +100,21 @@ impl<A: Allocator> Core<A> {
 
     /// What it keeps, but for its table and its records.
     pub fn heads(&self) -> Heads
-        ensures { result ≡ heads_of self.now }
+        ensures { result ≡ self.now.heads }
     {
         self.bare.heads()
     }
 
     /// The stage in force.
     pub fn stage(&self) -> Option<Stage>
-        ensures { result ≡ self.now.stage }
+        ensures { result ≡ self.now.heads.stage }
     {
         self.bare.stage()
     }
 
     /// The time, in seconds: the greatest reading so far.
     pub fn time(&self) -> u64
-        ensures { result ≡ self.now.time }
+        ensures { result ≡ self.now.heads.time }
     {
         self.bare.time()
     }
@@ -144,14 +144,14 @@ impl<A: Allocator> Core<A> {
 
     /// The goal: the level to go to, and the seconds between the two signals.
     pub fn goal(&self) -> Goal
-        ensures { result ≡ self.now.goal }
+        ensures { result ≡ self.now.heads.goal }
     {
         self.bare.goal()
     }
 
     /// How often init was re-executed since its opening.
     pub fn generation(&self) -> u64
-        ensures { result ≡ self.now.generation }
+        ensures { result ≡ self.now.heads.generation }
     {
         self.bare.generation()
     }
@@ -175,7 +175,7 @@ impl<A: Allocator> Core<A> {
         ensures state { self.new ≡ after_step result self.old }
         ensures due { OnEachTrace self.old (λ goal past. result ≡ first (due goal past)) }
         ensures fits { OnEachTrace self.old (λ goal past.
-            Fits self.new goal (with_step result past)) }
+            StillFits self.old self.new goal past (with_step result past)) }
         // its own steps end: each leaves less to do
         ensures falls { is_rest result ≡ false → work_left self.new < work_left self.old }
     {
@@ -191,7 +191,8 @@ impl<A: Allocator> Core<A> {
         ensures taken { OnEachTrace self.old (λ goal past.
             answered_of id past ≡ Some answer → IsOk result) }
         ensures fits { OnEachTrace self.old (λ goal past.
-            answered_of id past ≡ Some answer → Fits self.new goal (happening.Told id ∷ past)) }
+            answered_of id past ≡ Some answer
+            → StillFits self.old self.new goal past (happening.Told id ∷ past)) }
     {
         self.bare.answer_by_state(id, answer)
     }
@@ -200,7 +201,7 @@ impl<A: Allocator> Core<A> {
     pub fn got(&mut self, request: Got)
         ensures state { self.new ≡ after_got request self.old }
         ensures fits { OnEachTrace self.old (λ goal past.
-            Fits self.new goal (happening.Got request ∷ past)) }
+            StillFits self.old self.new goal past (happening.Got request ∷ past)) }
     {
         self.bare.got_by_state(request);
     }
@@ -209,7 +210,7 @@ impl<A: Allocator> Core<A> {
     pub fn not_read(&mut self)
         ensures state { self.new ≡ after_not_read self.old }
         ensures fits { OnEachTrace self.old (λ goal past.
-            Fits self.new goal (happening.NotRead ∷ past)) }
+            StillFits self.old self.new goal past (happening.NotRead ∷ past)) }
     {
         self.bare.not_read_by_state();
     }
@@ -218,7 +219,7 @@ impl<A: Allocator> Core<A> {
     pub fn not_handed(&mut self)
         ensures state { self.new ≡ after_handed self.old }
         ensures fits { OnEachTrace self.old (λ goal past. (how : Handed)
-            → Fits self.new goal (happening.Handed how ∷ past)) }
+            → StillFits self.old self.new goal past (happening.Handed how ∷ past)) }
     {
         self.bare.not_handed_by_state();
     }
@@ -226,10 +227,10 @@ impl<A: Allocator> Core<A> {
     /// Its state was handed on to the next init, which is a generation more: the wish for it is over, whatever comes of
     /// the hand-over.
     pub fn handed_on(&mut self)
-        requires { self.old.generation + 1 < 2 ^ 64 }
+        requires { self.old.heads.generation + 1 < 2 ^ 64 }
         ensures state { self.new ≡ after_handed_on self.old }
         ensures fits { OnEachTrace self.old (λ goal past. (how : Handed)
-            → Fits self.new goal (happening.Handed how ∷ past)) }
+            → StillFits self.old self.new goal past (happening.Handed how ∷ past)) }
     {
         self.bare.handed_on_by_state();
     }
@@ -238,7 +239,7 @@ impl<A: Allocator> Core<A> {
     pub fn nudge(&mut self)
         ensures state { self.new ≡ after_round self.old }
         ensures fits { OnEachTrace self.old (λ goal past.
-            Fits self.new goal (happening.Nudge ∷ past)) }
+            StillFits self.old self.new goal past (happening.Nudge ∷ past)) }
     {
         self.bare.nudge_by_state();
     }
@@ -248,7 +249,7 @@ impl<A: Allocator> Core<A> {
     pub fn clock(&mut self, reading: u64)
         ensures state { self.new ≡ after_clock reading self.old }
         ensures fits { OnEachTrace self.old (λ goal past.
-            Fits self.new goal (happening.Clock reading ∷ past)) }
+            StillFits self.old self.new goal past (happening.Clock reading ∷ past)) }
     {
         self.bare.clock_by_state(reading);
     }

@@ -9,8 +9,7 @@ ghost use Rattle.child_table.specs.Lists.{are_distinct, is_slot_of};
 ghost use Rattle.child_table.specs.Times.{is_stop_timely, is_timely};
 ghost use Rattle.core_model.specs.Decide.{has_excluded};
 ghost use Rattle.core_model.specs.Rules as rules;
-ghost use Rattle.core_model.specs.Rules.{has_cause, may_follow, is_order_allowed, is_started, is_start_allowed, are_starts_in, is_child_excluded, is_stop_judged, is_callable, may_be_signalled, are_marks_due, is_hold_of, is_limiter_kept, is_other_level, is_goal_reached};
-ghost use Rattle.core_model.specs.Rebuilding.{are_heads_kept, is_slot_kept, are_slots_kept, is_kept};
+ghost use Rattle.core_model.specs.Rules.{has_cause, may_follow, is_order_allowed, is_started, is_start_allowed, are_starts_in, is_child_excluded, is_stop_judged, is_callable, may_be_signalled, are_marks_due, is_hold_of, is_limiter_kept, is_other_level, is_goal_reached, is_birth_known, are_heads_kept, is_slot_kept, are_slots_kept, is_kept};
 
 use crate::deciding::{is_owed, is_starting};
 use child_table::{Slot, Stop, is_excluded};
@@ -222,12 +221,20 @@ fn is_timely(now: u64, slot: &Slot) -> bool
     are_past(now, slot.starts()) && is_stop_timely(now, slot.stop())
 }
 
+/// The action that the record's child was born with is known.
+fn is_birth_known(slot: &Slot) -> bool
+    ensures { result ≡ is_birth_known slot.now.child }
+{
+    slot.child().is_none() || slot.act().is_some()
+}
+
 /// The record keeps the rules that it is held to alone.
 fn is_slot_kept<A: Allocator>(stage: Option<Stage>, table: &Table<A>, now: u64, slot: &Slot) -> bool
     requires { now ≤ CLOCK_LIMIT }
     ensures { result ≡ is_slot_kept stage table.now now slot.now }
 {
     has_cause(slot)
+        && is_birth_known(slot)
         && is_order_allowed(slot)
         && is_stop_judged(stage, table, slot)
         && are_marks_due(slot)
@@ -323,7 +330,7 @@ fn are_heads_kept(heads: &Heads) -> bool
         && is_goal_reached(heads.stage, heads.goal, heads.booted)
 }
 
-/// What is kept keeps the rules, but for those of the order of the records and of how each child was born.
+/// What is kept keeps the rules, but for the order of the records.
 pub(crate) fn is_kept<A: Allocator>(heads: &Heads, table: &Table<A>, slots: &[Slot]) -> bool
     ensures { result ≡ is_kept heads.now table.now slots.now }
 {

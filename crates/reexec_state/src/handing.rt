@@ -6,14 +6,15 @@ ghost use Rattle.child_table.specs.State.{child_number};
 ghost use Rattle.init_trace.specs.Range.{is_status};
 ghost use Rattle.init_trace.specs.declared.happenings.Handed.{Handed};
 ghost use Rattle.init_trace.specs.declared.happenings.Happening.TheVariants as happening;
-ghost use Rattle.core_model.specs.Fit.{Fits, OnEachTrace};
+ghost use Rattle.core_model.specs.Fit.{StillFits, OnEachTrace};
 ghost use Rattle.core_model.specs.Parts.{record_of, state_of};
 ghost use Rattle.core_model.specs.Rules.{IsFit};
 ghost use Rattle.core_model.specs.Steps.{after_handed_on};
 ghost use Rattle.state_text.specs.declared.over.Over.TheVariants as over;
 ghost use Rattle.state_text.specs.Lines.{state_text};
 ghost use Rattle.state_text.specs.Range.{has_ranged_words, has_short_seconds, is_child, passes};
-ghost use Rattle.state_text.specs.Refused.{IsTextOf};
+ghost use Rattle.state_text.specs.declared.versions.Version.TheVariants.{V2};
+ghost use Rattle.state_text.specs.Refused.{IsTextIn};
 
 use child_table::Slot;
 use core_model::Heads;
@@ -105,15 +106,15 @@ pub fn hand_over<A: Allocator + Copy, B: Allocator>(
 ) -> Result<Vec<u8, A>, Over>
     ensures text { IfOk result (λ text. text.items ≡ state_text (state_of core.new)) }
     ensures state { OnOk result (core.new ≡ after_handed_on core.old) }
-    ensures worn { core.old.generation + 1 ≡ 2 ^ 64 → result ≡ Err over.Worn }
+    ensures worn { core.old.heads.generation + 1 ≡ 2 ^ 64 → result ≡ Err over.Worn }
     ensures refused { IfErr result (λ why.
-        why ≡ (if core.old.generation + 1 == 2 ^ 64 then over.Worn else over.Memory)) }
+        why ≡ (if core.old.heads.generation + 1 == 2 ^ 64 then over.Worn else over.Memory)) }
     ensures unchanged { OnErr result (core.new ≡ core.old) }
     ensures fits { OnOk result (OnEachTrace core.old (λ goal past. (how : Handed)
-        → Fits core.new goal (happening.Handed how ∷ past))) }
+        → StillFits core.old core.new goal past (happening.Handed how ∷ past))) }
     // What was handed on can be taken over.
     ensures said { IfOk result (λ text. has_short_seconds core.old ≡ true
-        → IsTextOf text.items (state_of core.new) × IsFit core.new) }
+        → IsTextIn V2 text.items (state_of core.new) × IsFit core.new) }
 {
     core.law_of_rules();
     let heads = next_heads(core.heads())?;

@@ -51,7 +51,7 @@ may_older made size generation how is none =
     no_objection (has_next made) (is_made generation made) _ _ now
 
 -- a core is taken over from its own text, and none from the text of no state of its generation
-pub own_taken : (back : List ℕ) (generation : ℕ) (core : CoreState) (taken : Option CoreState) → IsFit core → IsTextOf back (state_of core) → core.generation ≡ generation
+pub own_taken : (back : List ℕ) (generation : ℕ) (core : CoreState) (taken : Option CoreState) → IsFit core → IsTextOf back (state_of core) → core.heads.generation ≡ generation
     → IsTakenOver back generation taken → taken ≡ Some core
 own_taken back generation core None fit says own none = absurd (none core fit says own)
 own_taken back generation core (Some other) fit says own (said, kept, its) =

@@ -22,8 +22,8 @@ use Rattle.trace_laws.proofs.Runs.{run_sound}
 use Rattle.trace_laws.proofs.Told.{answered_untold}
 use Rattle.child_table.specs.Lists as lists
 use Rattle.core_model.specs.State.{CoreState}
-use Rattle.core_model.specs.Fit.{Fits, is_act}
-use Rattle.core_model.proofs.Fitted.{fit_records}
+use Rattle.core_model.specs.Fit.{FitsAll, is_act}
+use Rattle.core_model.proofs.Fitted.{fit_records, all_on}
 use Rattle.core_model.proofs.Reading.{quiet_same}
 use Rattle.core_model.proofs.Hearing.{fits_act}
 use Rattle.simulated_system.specs.declared.objections.Objection.{Objection}
@@ -97,52 +97,52 @@ none_said goal past side sound follows rests = at
 
 -- what is objected by what the core keeps is what is objected by the trace
 same_objection : (goal : Goal) (past : List Event) (happening : Event) (rereads : Bool) (core : CoreState) (side : SystemState) → AtRest goal past rereads core side
-    → objection_in rereads core.generation (length (text_made core)) side happening ≡ objection_now goal past side happening
-same_objection goal past happening rereads core side at = ap (λ b. objection_in b core.generation (length (text_made core)) side happening) at.read
-    ∙ ap (λ (c : CoreState). objection_in (is_reread (first (due goal past))) c.generation (length (text_made c)) side happening) (kept_is core goal past at.moment.fits at.moment.lasts)
+    → objection_in rereads core.heads.generation (length (text_made core)) side happening ≡ objection_now goal past side happening
+same_objection goal past happening rereads core side at = ap (λ b. objection_in b core.heads.generation (length (text_made core)) side happening) at.read
+    ∙ ap (λ (c : CoreState). objection_in (is_reread (first (due goal past))) c.heads.generation (length (text_made c)) side happening) (kept_is core goal past at.moment.fits at.moment.lasts)
 
 pub may_say : (goal : Goal) (past : List Event) (happening : Event) (rereads : Bool) (core : CoreState) (side : SystemState) → AtRest goal past rereads core side → is_in_range happening ≡ true
-    → None ≡ objection_in rereads core.generation (length (text_made core)) side happening → may_be_scripted goal happening past ≡ true
+    → None ≡ objection_in rereads core.heads.generation (length (text_made core)) side happening → may_be_scripted goal happening past ≡ true
 may_say goal past happening rereads core side at ranged none = sym (none_said goal past side (run_sound goal past at.moment.runs) at.moment.follows at.rests happening ranged)
     ∙ ap is_none (sym (none ∙ same_objection goal past happening rereads core side at))
 
 pub objected : (goal : Goal) (past : List Event) (happening : Event) (rereads : Bool) (core : CoreState) (side : SystemState) (why : Objection) → AtRest goal past rereads core side → is_in_range happening ≡ true
-    → Some why ≡ objection_in rereads core.generation (length (text_made core)) side happening → (may_be_scripted goal happening past ≡ false) × IsObjected goal happening past why
+    → Some why ≡ objection_in rereads core.heads.generation (length (text_made core)) side happening → (may_be_scripted goal happening past ≡ false) × IsObjected goal happening past why
 objected goal past happening rereads core side why at ranged some =
     let given : objection_now goal past side happening ≡ Some why = sym (some ∙ same_objection goal past happening rereads core side at) in
     (sym (none_said goal past side (run_sound goal past at.moment.runs) at.moment.follows at.rests happening ranged) ∙ ap is_none given, (side, at.moment.follows, given))
 
 -- where nothing is objected, the core is ready for what may be said
 pub ready : (goal : Goal) (past : List Event) (happening : Event) (rereads : Bool) (core : CoreState) (side : SystemState) → Moment goal past core side → may_be_scripted goal happening past ≡ true
-    → None ≡ objection_in rereads core.generation (length (text_made core)) side happening → IsReadyFor happening core
+    → None ≡ objection_in rereads core.heads.generation (length (text_made core)) side happening → IsReadyFor happening core
 ready goal past (event.NewTable table) rereads core side moment may none =
     let reads = (and_parts (is_reread (first (due goal past))) (is_quiet past && is_distinct table) may).0 in
-    ap lists.is_quiet (fit_records core goal past moment.fits) ∙ sym (quiet_same goal past (run_sound goal past moment.runs)) ∙ reread_quiet goal past reads
+    ap lists.is_quiet (fit_records core goal past moment.fits.0) ∙ sym (quiet_same moment.fits.0.lasts goal past (run_sound goal past moment.runs)) ∙ reread_quiet goal past reads
 ready goal past (event.Handed how) rereads core side moment may none = record { short = moment.lasts.short; may = sym none }
 ready goal past _ rereads core side moment may none = tt
 
 pub sound_then : (goal : Goal) (past : List Event) (happening : Event) (core : CoreState) (side : SystemState) → Moment goal past core side → may_be_scripted goal happening past ≡ true → is_sound goal (happening ∷ past) ≡ true
 sound_then goal past happening core side moment may = run_sound goal (happening ∷ past) (run_hears goal happening past may moment.runs)
 
-pub fits_at : (goal : Goal) (past : List Event) (core : CoreState) (happening same : Event) → happening ≡ same → Fits core goal (same ∷ past) → Fits core goal (happening ∷ past)
-fits_at goal past core happening same become fits = subst (λ h. Fits core goal (h ∷ past)) (sym become) fits
+pub fits_at : (goal : Goal) (past : List Event) (core : CoreState) (happening same : Event) → happening ≡ same → FitsAll core goal (same ∷ past) → FitsAll core goal (happening ∷ past)
+fits_at goal past core happening same become fits = subst (λ h. FitsAll core goal (h ∷ past)) (sym become) fits
 
 -- what the system does changes nothing in the core
 pub fits_silent : (goal : Goal) (past : List Event) (happening : Event) (core : CoreState) (side : SystemState) → Moment goal past core side → may_be_scripted goal happening past ≡ true
     → ((table : List Entry) → happening ≢ event.NewTable table) → happening ≢ event.NotRead → ((id : List ℕ) → happening ≢ event.Told id) → ((reading : ℕ) → happening ≢ event.Clock reading)
-    → happening ≢ event.Nudge → ((request : Request) → happening ≢ event.Got request) → ((how : HandOver) → happening ≢ event.Handed how) → Fits core goal (happening ∷ past)
+    → happening ≢ event.Nudge → ((request : Request) → happening ≢ event.Got request) → ((how : HandOver) → happening ≢ event.Handed how) → FitsAll core goal (happening ∷ past)
 fits_silent goal past happening core side moment may not_table not_read not_told not_clock not_nudge not_got not_handed = at happening refl
   where
     said : is_scripted happening ≡ true
     said = (said_parts goal happening past may).0
 
-    act : (h : Event) → happening ≡ h → is_act h ≡ true → Fits core goal (happening ∷ past)
-    act h is acts = fits_act goal past core (run_sound goal past moment.runs) moment.fits happening (ap is_act is ∙ acts) (sound_then goal past happening core side moment may)
+    act : (h : Event) → happening ≡ h → is_act h ≡ true → FitsAll core goal (happening ∷ past)
+    act h is acts = all_on core core goal past (happening ∷ past) (fits_act goal past core (run_sound goal past moment.runs) moment.fits.0 happening (ap is_act is ∙ acts) (sound_then goal past happening core side moment may)) moment.fits
 
-    unsaid : (h : Event) → happening ≡ h → is_scripted h ≡ false → Fits core goal (happening ∷ past)
+    unsaid : (h : Event) → happening ≡ h → is_scripted h ≡ false → FitsAll core goal (happening ∷ past)
     unsaid h is other = absurd (false≢true (sym other ∙ sym (ap is_scripted is) ∙ said))
 
-    at : (h : Event) → happening ≡ h → Fits core goal (happening ∷ past)
+    at : (h : Event) → happening ≡ h → FitsAll core goal (happening ∷ past)
     at (event.NewTable table) is = absurd (not_table table is)
     at event.NotRead is = absurd (not_read is)
     at (event.Enter stage grace) is = unsaid _ is refl
@@ -166,7 +166,7 @@ fits_silent goal past happening core side moment may not_table not_read not_told
     at (event.Handed how) is = absurd (not_handed how is)
 
 -- a moment after a happening that was heard
-pub moment_heard : (goal : Goal) (past : List Event) (happening : Event) (core new_core : CoreState) (side new_side : SystemState) → Moment goal past core side → may_be_scripted goal happening past ≡ true → Fits new_core goal (happening ∷ past) → LastsTo new_core goal (happening ∷ past)
+pub moment_heard : (goal : Goal) (past : List Event) (happening : Event) (core new_core : CoreState) (side new_side : SystemState) → Moment goal past core side → may_be_scripted goal happening past ≡ true → FitsAll new_core goal (happening ∷ past) → LastsTo new_core goal (happening ∷ past)
     → (is_sound goal (happening ∷ past) ≡ true → Follows side past → Follows new_side (happening ∷ past)) → Moment goal (happening ∷ past) new_core new_side
 moment_heard goal past happening core new_core side new_side moment may fits lasts follows =
     let runs = run_hears goal happening past may moment.runs in

@@ -19,11 +19,12 @@ use Rattle.init_trace.specs.Event.{Event}
 use Rattle.init_trace.specs.Past.{stage_of}
 use Rattle.init_trace.specs.Range.{is_request}
 use Rattle.init_trace.specs.Wishes.{in_run, level_wish}
+use Rattle.core_model.specs.declared.parts.Heads.{Heads}
 use Rattle.core_model.specs.Decide.{decide}
-use Rattle.core_model.specs.Fit.{Fits, core_read, with_step}
+use Rattle.core_model.specs.Fit.{FitsAll, lasts_of, core_read, with_step}
 use Rattle.core_model.specs.State.{CoreState}
 use Rattle.core_model.specs.Steps.{wished, heard_in, after_step, after_adopt, after_clock, after_got, after_not_read, after_round, after_told}
-use Rattle.core_model.proofs.Deciding.{is_read}
+use Rattle.core_model.proofs.Fitted.{own_read}
 use Rattle.state_text.specs.Range.{has_short_seconds}
 use Rattle.reexec_state.proofs.Lasting.{step_lasts, request_lasts}
 use Rattle.simulator.specs.Handing.{made_in, kept_goal, kept_at, after_hand}
@@ -31,19 +32,19 @@ use Rattle.simulator.specs.Moments.{LastsTo}
 use Rattle.simulator.specs.Said.{is_scripted}
 
 -- what init keeps is what the trace says of it
-pub kept_is : (core : CoreState) (goal : Goal) (past : List Event) → Fits core goal past → LastsTo core goal past → core ≡ kept_at goal past
-kept_is core goal past fits lasts = is_read core goal past fits ∙ (λ i. core_read past (lasts.goal i) (lasts.made i))
+pub kept_is : (core : CoreState) (goal : Goal) (past : List Event) → FitsAll core goal past → LastsTo core goal past → core ≡ kept_at goal past
+kept_is core goal past fits lasts = own_read core goal past fits.0 fits.1 ∙ (λ i. core_read (lasts_of past) past (lasts.goal i) (lasts.made i))
 
-lasts_as : (core same : CoreState) (goal : Goal) (past : List Event) → core ≡ same → has_short_seconds same ≡ true → same.generation ≡ made_in past → same.goal ≡ kept_goal goal past → LastsTo core goal past
+lasts_as : (core same : CoreState) (goal : Goal) (past : List Event) → core ≡ same → has_short_seconds same ≡ true → same.heads.generation ≡ made_in past → same.heads.goal ≡ kept_goal goal past → LastsTo core goal past
 lasts_as core same goal past is short made kept = record {
   short = ap has_short_seconds is ∙ short;
-  made = ap (λ (c : CoreState). c.generation) is ∙ made;
-  goal = ap (λ (c : CoreState). c.goal) is ∙ kept;
+  made = ap (λ (c : CoreState). c.heads.generation) is ∙ made;
+  goal = ap (λ (c : CoreState). c.heads.goal) is ∙ kept;
 }
 
 -- ---- behind a step of init
 
-step_made : (s : Step) (core : CoreState) (past : List Event) → core.generation ≡ made_in past → (after_step s core).generation ≡ made_in (with_step s past)
+step_made : (s : Step) (core : CoreState) (past : List Event) → core.heads.generation ≡ made_in past → (after_step s core).heads.generation ≡ made_in (with_step s past)
 step_made (Enter now grace) core past made = made
 step_made (Call letter) core past made = made
 step_made (Power kind) core past made = made
@@ -54,8 +55,8 @@ step_made Reread core past made = made
 step_made Reexec core past made = made
 step_made Idle core past made = made
 
-step_goal : (s : Step) (core : CoreState) (goal : Goal) (past : List Event) → core.level_wish ≡ level_wish past → core.goal ≡ kept_goal goal past → (after_step s core).goal ≡ kept_goal goal (with_step s past)
-step_goal (Enter now grace) core goal past wish kept = ap (λ w. wished w core.goal) wish ∙ ap (wished (level_wish past)) kept
+step_goal : (s : Step) (core : CoreState) (goal : Goal) (past : List Event) → core.heads.level_wish ≡ level_wish past → core.heads.goal ≡ kept_goal goal past → (after_step s core).heads.goal ≡ kept_goal goal (with_step s past)
+step_goal (Enter now grace) core goal past wish kept = ap (λ w. wished w core.heads.goal) wish ∙ ap (wished (level_wish past)) kept
 step_goal (Call letter) core goal past wish kept = kept
 step_goal (Power kind) core goal past wish kept = kept
 step_goal (Order id ask) core goal past wish kept = kept
@@ -65,13 +66,13 @@ step_goal Reread core goal past wish kept = kept
 step_goal Reexec core goal past wish kept = kept
 step_goal Idle core goal past wish kept = kept
 
-pub lasts_step : (core new : CoreState) (s : Step) → s ≡ decide core → new ≡ after_step s core → (goal : Goal) (past : List Event) → Fits core goal past → LastsTo core goal past → LastsTo new goal (with_step s past)
+pub lasts_step : (core new : CoreState) (s : Step) → s ≡ decide core → new ≡ after_step s core → (goal : Goal) (past : List Event) → FitsAll core goal past → LastsTo core goal past → LastsTo new goal (with_step s past)
 lasts_step core new s decides is goal past fits lasts = lasts_as new (after_step s core) goal (with_step s past) is
     (subst (λ t. has_short_seconds (after_step t core) ≡ true) (sym decides) (step_lasts core lasts.short))
     (step_made s core past lasts.made)
-    (step_goal s core goal past fits.wishes.level lasts.goal)
+    (step_goal s core goal past (ap (λ (x : CoreState). x.heads.level_wish) fits.0.kept) lasts.goal)
 
-pub same_generation : (s : Step) (core : CoreState) → (after_step s core).generation ≡ core.generation
+pub same_generation : (s : Step) (core : CoreState) → (after_step s core).heads.generation ≡ core.heads.generation
 same_generation (Enter now grace) core = refl
 same_generation (Call letter) core = refl
 same_generation (Power kind) core = refl
@@ -84,37 +85,37 @@ same_generation Idle core = refl
 
 -- ---- behind what is heard
 
-heard_goal : (now : Option Stage) (wish : Goal) (core : CoreState) → (heard_in now wish core).goal ≡ cond (in_run now) core.goal wish
-heard_goal None wish core = refl
-heard_goal (Some stage.Sysinit) wish core = refl
-heard_goal (Some stage.Boot) wish core = refl
-heard_goal (Some (stage.Run level)) wish core = at (same_level wish.level level)
+heard_goal : (now : Option Stage) (wish : Goal) (heads : Heads) → (heard_in now wish heads).goal ≡ cond (in_run now) heads.goal wish
+heard_goal None wish heads = refl
+heard_goal (Some stage.Sysinit) wish heads = refl
+heard_goal (Some stage.Boot) wish heads = refl
+heard_goal (Some (stage.Run level)) wish heads = at (same_level wish.level level)
   where
-    at : (b : Bool) → (cond b (record core { level_wish = None }) (record core { level_wish = Some wish; reread = true })).goal ≡ core.goal
+    at : (b : Bool) → (cond b (record heads { level_wish = None }) (record heads { level_wish = Some wish; reread = true })).goal ≡ heads.goal
     at true = refl
     at false = refl
 
-heard_generation : (now : Option Stage) (wish : Goal) (core : CoreState) → (heard_in now wish core).generation ≡ core.generation
-heard_generation None wish core = refl
-heard_generation (Some stage.Sysinit) wish core = refl
-heard_generation (Some stage.Boot) wish core = refl
-heard_generation (Some (stage.Run level)) wish core = at (same_level wish.level level)
+heard_generation : (now : Option Stage) (wish : Goal) (heads : Heads) → (heard_in now wish heads).generation ≡ heads.generation
+heard_generation None wish heads = refl
+heard_generation (Some stage.Sysinit) wish heads = refl
+heard_generation (Some stage.Boot) wish heads = refl
+heard_generation (Some (stage.Run level)) wish heads = at (same_level wish.level level)
   where
-    at : (b : Bool) → (cond b (record core { level_wish = None }) (record core { level_wish = Some wish; reread = true })).generation ≡ core.generation
+    at : (b : Bool) → (cond b (record heads { level_wish = None }) (record heads { level_wish = Some wish; reread = true })).generation ≡ heads.generation
     at true = refl
     at false = refl
 
-got_made : (request : Request) (core : CoreState) → (after_got request core).generation ≡ core.generation
-got_made (got.Level level grace) core = heard_generation core.stage (record { level = level; grace = grace }) core
+got_made : (request : Request) (core : CoreState) → (after_got request core).heads.generation ≡ core.heads.generation
+got_made (got.Level level grace) core = heard_generation core.heads.stage (record { level = level; grace = grace }) core.heads
 got_made (got.Call letter) core = refl
 got_made got.Reload core = refl
 got_made got.Reexec core = refl
 got_made (got.Power kind) core = refl
 got_made (got.Nothing cause) core = refl
 
-got_goal : (request : Request) (core : CoreState) (goal : Goal) (past : List Event) → core.stage ≡ stage_of past → core.goal ≡ kept_goal goal past → (after_got request core).goal ≡ kept_goal goal (event.Got request ∷ past)
-got_goal (got.Level level grace) core goal past now kept = heard_goal core.stage (record { level = level; grace = grace }) core
-    ∙ ap (λ o. cond (in_run o) core.goal (record { level = level; grace = grace })) now ∙ ap (λ g. cond (in_run (stage_of past)) g (record { level = level; grace = grace })) kept
+got_goal : (request : Request) (core : CoreState) (goal : Goal) (past : List Event) → core.heads.stage ≡ stage_of past → core.heads.goal ≡ kept_goal goal past → (after_got request core).heads.goal ≡ kept_goal goal (event.Got request ∷ past)
+got_goal (got.Level level grace) core goal past now kept = heard_goal core.heads.stage (record { level = level; grace = grace }) core.heads
+    ∙ ap (λ o. cond (in_run o) core.heads.goal (record { level = level; grace = grace })) now ∙ ap (λ g. cond (in_run (stage_of past)) g (record { level = level; grace = grace })) kept
 got_goal (got.Call letter) core goal past now kept = kept
 got_goal got.Reload core goal past now kept = kept
 got_goal got.Reexec core goal past now kept = kept
@@ -139,11 +140,11 @@ module _ (core new : CoreState) (goal : Goal) (past : List Event) (lasts : Lasts
   lasts_told (Ok x) id answer is kept = lasts_as new (after_told id answer core) goal (event.Told id ∷ past) is lasts.short lasts.made lasts.goal
   lasts_told (Err e) id answer is kept = lasts_as new core goal (event.Told id ∷ past) kept lasts.short lasts.made lasts.goal
 
-  pub lasts_got : (request : Request) → Fits core goal past → is_request request ≡ true → new ≡ after_got request core → LastsTo new goal (event.Got request ∷ past)
+  pub lasts_got : (request : Request) → FitsAll core goal past → is_request request ≡ true → new ≡ after_got request core → LastsTo new goal (event.Got request ∷ past)
   lasts_got request fits asks is = lasts_as new (after_got request core) goal (event.Got request ∷ past) is
       (request_lasts request core asks lasts.short)
       (got_made request core ∙ lasts.made)
-      (got_goal request core goal past fits.now.stage lasts.goal)
+      (got_goal request core goal past (ap (λ (x : CoreState). x.heads.stage) fits.0.kept) lasts.goal)
 
   pub lasts_hand : (how : HandOver) → new ≡ after_hand how core → LastsTo new goal (event.Handed how ∷ past)
   lasts_hand handed.Failed is = lasts_as new (after_hand handed.Failed core) goal (event.Handed handed.Failed ∷ past) is lasts.short lasts.made lasts.goal

@@ -16,7 +16,8 @@ use Rattle.trace_laws.proofs.Runs.{first_due, same_step-self, run_sound}
 use Rattle.std.proofs.lemmas.Grind.{reverse_onto}
 use Rattle.std.proofs.lemmas.List.{append-nil}
 use Rattle.core_model.specs.State.{CoreState}
-use Rattle.core_model.specs.Fit.{Fits, OnEachTrace, with_step}
+use Rattle.core_model.specs.Fit.{FitsAll, StillFits, OnEachTrace, with_step}
+use Rattle.core_model.proofs.Fitted.{all_on}
 use Rattle.simulated_system.specs.State.{SystemState}
 use Rattle.simulated_system.specs.Follows.{Follows}
 use Rattle.simulator.specs.declared.running.SimFault.{SimFault}
@@ -154,16 +155,16 @@ WentOn goal past core side old new = (next : List Event) × (more : List ℕ) ×
 
 -- a step of the core and of the system's side
 module _ (core new_core : CoreState) (side new_side : SystemState) (s : Step) (happening : Event) (due_now : OnEachTrace core (λ goal past. s ≡ first (due goal past)))
-    (fits : OnEachTrace core (λ goal past. Fits new_core goal (with_step s past))) (added : (past : List Event) → with_step s past ≡ happening ∷ past)
+    (fits : OnEachTrace core (λ goal past. StillFits core new_core goal past (with_step s past))) (added : (past : List Event) → with_step s past ≡ happening ∷ past)
     (follows : (goal : Goal) (past : List Event) → is_sound goal (happening ∷ past) ≡ true → Follows side past → Follows new_side (happening ∷ past))
-    (lasts : (goal : Goal) (past : List Event) → Fits core goal past → LastsTo core goal past → LastsTo new_core goal (with_step s past)) where
+    (lasts : (goal : Goal) (past : List Event) → FitsAll core goal past → LastsTo core goal past → LastsTo new_core goal (with_step s past)) where
   pub moment_step : (goal : Goal) (past : List Event) → Moment goal past core side → Moment goal (happening ∷ past) new_core new_side
   moment_step goal past moment =
       let sound = run_sound goal past moment.runs in
-      let runs = more_run goal past happening s (due_now goal past sound moment.fits) (added past) moment.runs in
+      let runs = more_run goal past happening s (due_now goal past sound moment.fits.0) (added past) moment.runs in
       record {
         runs = runs;
-        fits = subst (Fits new_core goal) (added past) (fits goal past sound moment.fits);
+        fits = subst (FitsAll new_core goal) (added past) (all_on core new_core goal past (with_step s past) (fits goal past sound moment.fits.0) moment.fits);
         lasts = subst (LastsTo new_core goal) (added past) (lasts goal past moment.fits moment.lasts);
         follows = follows goal past (run_sound goal (happening ∷ past) runs) moment.follows;
       }
@@ -196,11 +197,11 @@ memory_before known text = ([], text, refl, Appends-nil known)
 
 -- a moment stays one while init rests
 pub at_rest : (goal : Goal) (past : List Event) (s : Step) (rereads : Bool) (core new_core : CoreState) (side : SystemState) → Moment goal past core side
-    → s ≡ first (due goal past) → is_rest s ≡ true → rereads ≡ is_reread s → Fits new_core goal (with_step s past) → LastsTo new_core goal (with_step s past) → AtRest goal past rereads new_core side
+    → s ≡ first (due goal past) → is_rest s ≡ true → rereads ≡ is_reread s → FitsAll new_core goal (with_step s past) → LastsTo new_core goal (with_step s past) → AtRest goal past rereads new_core side
 at_rest goal past s rereads core new_core side moment is rests read fits lasts = record {
   moment = record {
     runs = moment.runs;
-    fits = subst (Fits new_core goal) (rest_step s past rests) fits;
+    fits = subst (FitsAll new_core goal) (rest_step s past rests) fits;
     lasts = subst (LastsTo new_core goal) (rest_step s past rests) lasts;
     follows = moment.follows;
   };

@@ -16,7 +16,7 @@ use Rattle.trace_text.proofs.ReadTexts.{counted_on}
 use Rattle.text_lines.specs.Lines.{newlines}
 use Rattle.init_trace.specs.Run.{is_run}
 use Rattle.core_model.specs.State.{CoreState}
-use Rattle.core_model.specs.Fit.{Fits}
+use Rattle.core_model.specs.Fit.{FitsAll}
 use Rattle.simulated_system.specs.State.{SystemState}
 use Rattle.simulated_system.specs.Follows.{Follows}
 use Rattle.simulator.specs.declared.running.SimFault.{SimFault}
@@ -36,7 +36,7 @@ table_text : (table : List Entry) → past_text (NewTable table ∷ []) ≡ even
 table_text table = append-nil (event_text (NewTable table))
 
 -- the first moment
-pub first_moment : (inittab : List ℕ) (goal : Goal) (core : CoreState) (side : SystemState) → Fits core goal (NewTable (table_of_text inittab) ∷ []) → LastsTo core goal (NewTable (table_of_text inittab) ∷ []) → Follows side (NewTable (table_of_text inittab) ∷ [])
+pub first_moment : (inittab : List ℕ) (goal : Goal) (core : CoreState) (side : SystemState) → FitsAll core goal (NewTable (table_of_text inittab) ∷ []) → LastsTo core goal (NewTable (table_of_text inittab) ∷ []) → Follows side (NewTable (table_of_text inittab) ∷ [])
     → Moment goal (NewTable (table_of_text inittab) ∷ []) core side
 first_moment inittab goal core side fits lasts follows = record { runs = distinct_text inittab; fits = fits; lasts = lasts; follows = follows }
 

@@ -8,7 +8,7 @@ use Rattle.init_trace.specs.declared.steps.Goal.{Goal}
 use Rattle.init_trace.specs.Event.{Event}
 use Rattle.init_trace.specs.Past.{stage_of}
 use Rattle.init_trace.specs.Wishes.{in_run, level_wish}
-use Rattle.core_model.specs.Fit.{core_read}
+use Rattle.core_model.specs.Fit.{lasts_of, core_read}
 use Rattle.core_model.specs.Parts.{state_of}
 use Rattle.core_model.specs.State.{CoreState}
 use Rattle.core_model.specs.Steps.{wished, after_handed, after_handed_on}
@@ -35,7 +35,7 @@ kept_goal opening (_ ∷ past) = kept_goal opening past
 
 -- what init keeps after the trace
 abbrev pub kept_at : Goal → List Event → CoreState
-kept_at opening past = core_read past (kept_goal opening past) (made_in past)
+kept_at opening past = core_read (lasts_of past) past (kept_goal opening past) (made_in past)
 
 -- the text that is made of what init keeps: it is handed on, to a generation more
 abbrev pub text_made : CoreState → List ℕ

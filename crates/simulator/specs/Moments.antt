@@ -12,7 +12,7 @@ use Rattle.init_trace.specs.Due.{due, first}
 use Rattle.init_trace.specs.Run.{is_run, is_rest, is_reread}
 use Rattle.child_table.specs.Lists.{is_quiet}
 use Rattle.core_model.specs.State.{CoreState}
-use Rattle.core_model.specs.Fit.{Fits}
+use Rattle.core_model.specs.Fit.{FitsAll}
 use Rattle.state_text.specs.Range.{has_short_seconds}
 use Rattle.simulated_system.specs.State.{SystemState}
 use Rattle.simulated_system.specs.Follows.{Follows}
@@ -28,13 +28,13 @@ use Rattle.simulator.specs.Simulation.{IsTooLong, RunOver, Scenario, goal_in, he
 -- of the run so far
 pub record LastsTo (core : CoreState) (opening : Goal) (past : List Event) : Type 0 where
   pub short : has_short_seconds core ≡ true
-  pub made : core.generation ≡ made_in past
-  pub goal : core.goal ≡ kept_goal opening past
+  pub made : core.heads.generation ≡ made_in past
+  pub goal : core.heads.goal ≡ kept_goal opening past
 
 -- the core fits the run so far and can be handed over, and the system's side follows the run
 pub record Moment (goal : Goal) (past : List Event) (core : CoreState) (side : SystemState) : Type 0 where
   pub runs : is_run goal past ≡ true
-  pub fits : Fits core goal past
+  pub fits : FitsAll core goal past
   pub lasts : LastsTo core goal past
   pub follows : Follows side past
 

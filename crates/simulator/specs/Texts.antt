@@ -28,11 +28,11 @@ IsForeign text generation = (state : SavedState) → IsTextOf text state → sta
 -- nothing is objected to the hand-over, and what the core keeps can be handed over
 pub record CanHand (how : HandOver) (core : CoreState) : Type 0 where
   pub short : has_short_seconds core ≡ true
-  pub may : objection_handed core.generation (length (text_made core)) how ≡ None
+  pub may : objection_handed core.heads.generation (length (text_made core)) how ≡ None
 
 -- the core that is taken over from a text, of an init of this generation; none where no core that keeps the rules has it
 abbrev pub IsTakenOver : List ℕ → ℕ → Option CoreState → Type 0
 IsTakenOver back generation (Some core) =
-    IsTextOf back (state_of core) × IsFit core × (core.generation ≡ generation)
+    IsTextOf back (state_of core) × IsFit core × (core.heads.generation ≡ generation)
 IsTakenOver back generation None = (core : CoreState) → IsFit core → IsTextOf back (state_of core)
-    → core.generation ≡ generation → ⊥
+    → core.heads.generation ≡ generation → ⊥

@@ -11,7 +11,7 @@ ghost use Rattle.init_words.specs.declared.levels.Level.{Level};
 ghost use Rattle.inittab_text.specs.Reading.{table_of_text};
 ghost use Rattle.child_table.specs.Lists.{is_quiet};
 ghost use Rattle.core_model.specs.State.{opening_goal};
-ghost use Rattle.core_model.specs.Fit.{Fits, OnEachTrace, with_step};
+ghost use Rattle.core_model.specs.Fit.{FitsAll, StillFits, OnEachTrace, with_step};
 ghost use Rattle.core_model.specs.Steps.{after_adopt};
 ghost use Rattle.simulator.specs.Faults.{Leaves};
 ghost use Rattle.simulator.specs.Handing.{text_made};
@@ -152,7 +152,7 @@ fn run_until_rest<A: Allocator + Copy, W: Write>(
     ensures ok { IfOk result (λ rereads. FromMoment core.old side.old (λ goal past.
         ComesToRest goal past rereads core.new side.new (W.contents out.old)
         (W.contents out.new))) }
-    ensures generation { OnOk result (core.new.generation ≡ core.old.generation) }
+    ensures generation { OnOk result (core.new.heads.generation ≡ core.old.heads.generation) }
     ensures err { IfErr result (λ fault. FromMoment core.old side.old (λ goal past.
         Breaks goal past fault (W.contents out.old) (W.contents out.new))) }
 {
@@ -176,7 +176,7 @@ fn objection_to<A: Allocator + Copy>(
     happening: &HappeningIn<A>,
     rereads: bool,
 ) -> Result<Option<Objection>, Memory>
-    ensures { IfOk result (λ objection. objection ≡ objection_in rereads core.now.generation
+    ensures { IfOk result (λ objection. objection ≡ objection_in rereads core.now.heads.generation
         (length (text_made core.now)) side.now happening.now) }
 {
     match happening {
@@ -197,7 +197,7 @@ fn adopt<A: Allocator + Copy>(alloc: A, core: &mut Core<A>, table: &Table<A>) ->
     requires { is_quiet core.old.slots ≡ true }
     ensures state { OnOk result (core.new ≡ after_adopt table.now core.old) }
     ensures fits { OnOk result (OnEachTrace core.old (λ goal past.
-        Fits core.new goal (NewTable table.now ∷ past))) }
+        StillFits core.old core.new goal past (NewTable table.now ∷ past))) }
 {
     let copy = table.copy(alloc)?;
     match core.adopt(copy) {
@@ -216,16 +216,16 @@ fn pass_on<A: Allocator + Copy>(
     happening: &HappeningIn<A>,
 ) -> Result<(), Memory>
     requires ready { IsReadyFor happening.now core.old }
-    requires made { HasTexts (map (λ text. text.items) made.old.items) core.old.generation }
+    requires made { HasTexts (map (λ text. text.items) made.old.items) core.old.heads.generation }
     requires ranged { is_in_range happening.now ≡ true }
     ensures fits { OnOk result (FromMoment core.old side.now (λ goal past.
         may_be_scripted goal happening.now past ≡ true
-        → Fits core.new goal (happening.now ∷ past))) }
+        → FitsAll core.new goal (happening.now ∷ past))) }
     ensures lasts { OnOk result (FromMoment core.old side.now (λ goal past.
         may_be_scripted goal happening.now past ≡ true
         → LastsTo core.new goal (happening.now ∷ past))) }
     ensures made { OnOk result
-        (HasTexts (map (λ text. text.items) made.new.items) core.new.generation) }
+        (HasTexts (map (λ text. text.items) made.new.items) core.new.heads.generation) }
 {
     match happening {
         Happening::NewTable(table) => adopt(alloc, core, table)?,
@@ -254,7 +254,7 @@ fn hear<A: Allocator + Copy, W: Write>(
     happening: &HappeningIn<A>,
 ) -> Result<(), SimFault>
     requires ready { IsReadyFor happening.now core.old }
-    requires made { HasTexts (map (λ text. text.items) made.old.items) core.old.generation }
+    requires made { HasTexts (map (λ text. text.items) made.old.items) core.old.heads.generation }
     requires ranged { is_in_range happening.now ≡ true }
     ensures text { OnOk result
         (Appends (W.contents out.old) (W.contents out.new) (event_text happening.now)) }
@@ -262,7 +262,7 @@ fn hear<A: Allocator + Copy, W: Write>(
         may_be_scripted goal happening.now past ≡ true
         → Moment goal (happening.now ∷ past) core.new side.new)) }
     ensures made { OnOk result
-        (HasTexts (map (λ text. text.items) made.new.items) core.new.generation) }
+        (HasTexts (map (λ text. text.items) made.new.items) core.new.heads.generation) }
     ensures err { IfErr result (λ fault.
         Leaves fault (W.contents out.old) (W.contents out.new) (event_text happening.now)) }
 {
@@ -285,10 +285,10 @@ fn hear_next<A: Allocator + Copy, W: Write>(
     number: u64,
 ) -> Result<bool, SimFault>
     requires rests { SomeRest rereads core.old side.old }
-    requires made { HasTexts (map (λ text. text.items) made.old.items) core.old.generation }
+    requires made { HasTexts (map (λ text. text.items) made.old.items) core.old.heads.generation }
     requires ranged { is_in_range happening.now ≡ true }
     ensures made { OnOk result
-        (HasTexts (map (λ text. text.items) made.new.items) core.new.generation) }
+        (HasTexts (map (λ text. text.items) made.new.items) core.new.heads.generation) }
     ensures ok { IfOk result (λ next. FromRest rereads core.old side.old (λ goal past.
         HeardOne goal past happening.now next core.new side.new (W.contents out.old)
         (W.contents out.new))) }
@@ -323,7 +323,7 @@ fn open_core<A: Allocator + Copy>(
     level: Option<Level>,
 ) -> Result<Core<A>, SimFault>
     ensures table { IfOk result (λ core. core.table ≡ table_of_text inittab.now) }
-    ensures fits { IfOk result (λ core. Fits core (opening_goal level (table_of_text inittab.now))
+    ensures fits { IfOk result (λ core. FitsAll core (opening_goal level (table_of_text inittab.now))
         (NewTable (table_of_text inittab.now) ∷ [])) }
     ensures lasts { IfOk result (λ core.
         LastsTo core (opening_goal level (table_of_text inittab.now))
@@ -363,7 +363,7 @@ fn hear_all<A: Allocator + Copy, W: Write>(
     rereads: bool,
 ) -> Result<(), SimFault>
     requires rests { SomeRest rereads core.old side.old }
-    requires none { core.old.generation ≡ 0 }
+    requires none { core.old.heads.generation ≡ 0 }
     ensures done { OnOk result (
         FromScript text.now rereads core.old side.old (W.contents out.old)
         (λ s before. Done s before (W.contents out.new))) }
@@ -395,7 +395,7 @@ fn run_script<A: Allocator + Copy, W: Write>(
     script: &[u8],
 ) -> Result<(), SimFault>
     requires moment { SomeMoment core.old side.old }
-    requires none { core.old.generation ≡ 0 }
+    requires none { core.old.heads.generation ≡ 0 }
     ensures done { OnOk result (
         FromOpening script.now core.old side.old (W.contents out.old)
         (λ s before. Done s before (W.contents out.new))) }

@@ -11,8 +11,8 @@ use Rattle.core_model.specs.declared.parts.Record.{Record}
 use Rattle.core_model.specs.Parts.{SavedState}
 use Rattle.state_text.specs.declared.versions.Version.{Version}
 use Rattle.state_text.specs.declared.versions.Version.TheVariants.{V1, V2}
-use Rattle.state_text.specs.Lines.{body_lines, end_line, generation_line, slot_line, state_lines, text_in, text_of_lines, version_line}
-use Rattle.state_text.specs.Range.{are_heads, is_generation, is_goal, is_record, is_stage, is_state, is_time, passes}
+use Rattle.state_text.specs.Lines.{body_lines, end_line, generation_line, slot_line, state_lines, text_of_lines, version_line}
+use Rattle.state_text.specs.Range.{are_heads, is_generation, is_goal, is_record, is_stage, is_time, passes}
 use Rattle.state_text.specs.Reading.{generation_line_read, generation_of, heads_read, line_read, slot_line_read, table_read}
 use Rattle.state_text.specs.Refused.{IsTextIn, IsTextOf}
 use Rattle.state_text.proofs.Bodies.{Steps, body_text, state_parts, steps}

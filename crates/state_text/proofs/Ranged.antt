@@ -22,6 +22,7 @@ use Rattle.child_table.specs.Times.{is_timely, is_stop_timely}
 use Rattle.core_model.specs.Parts.{record_of, state_of}
 use Rattle.core_model.specs.Rules.{IsFit, is_hold_of, is_limit_kept, is_limiter_kept, is_unused, never_fall}
 use Rattle.core_model.specs.State.{CoreState}
+use Rattle.core_model.proofs.Kept.{rules_of}
 use Rattle.state_text.specs.Range.{are_starts, has_ranged_words, has_short_seconds, is_child, is_goal, is_record, is_stage, is_state, is_stop, is_time, passes}
 
 -- a time up to the clock's limit, and a hold's end
@@ -100,12 +101,13 @@ records_ranged now clock (slot ∷ slots) limiters timely ids =
     let own = and_parts (has_ranged_words slot) (list_all has_ranged_words slots) ids in
     and_from (is_record V2 (record_of slot)) (list_all (is_record V2) (map record_of slots)) (record_ranged now clock slot kept.0 past.0 own.0) (records_ranged now clock slots kept.1 past.1 own.1)
 
-pub state_ranged : (c : CoreState) → IsFit c → 1 ≤ c.generation → c.generation < 2 ^ 64 → c.reexec ≡ false → has_short_seconds c ≡ true → is_table c.table ≡ true → list_all has_ranged_words c.slots ≡ true → is_state V2 (state_of c) ≡ true
-state_ranged c rules some small reexec seconds table ids =
-    let outer = and_parts (is_stage c.stage c.grace && is_goal c.goal) (passes is_goal c.level_wish) seconds in
-    let inner = and_parts (is_stage c.stage c.grace) (is_goal c.goal) outer.0 in
-    let generation : (is_time c.generation && nat_le 1 c.generation) ≡ true = and_from (is_time c.generation) (nat_le 1 c.generation) (lt-ltb c.generation (2 ^ 64) small) (le-leb 1 c.generation some) in
-    let time : is_time c.time ≡ true = time_fits c.time c.time rules.clock (omega arith) in
-    let heads = and_from _ (passes is_goal c.level_wish) (and_from _ (not c.reexec) (and_from _ (is_goal c.goal) (and_from _ (is_stage c.stage c.grace) (and_from _ (is_time c.time) generation time) inner.0) inner.1) (ap not reexec)) outer.1 in
+pub state_ranged : (c : CoreState) → IsFit c → 1 ≤ c.heads.generation → c.heads.generation < 2 ^ 64 → c.heads.reexec ≡ false → has_short_seconds c ≡ true → is_table c.table ≡ true → list_all has_ranged_words c.slots ≡ true → is_state V2 (state_of c) ≡ true
+state_ranged c fit some small reexec seconds table ids =
+    let rules = rules_of c fit in
+    let outer = and_parts (is_stage c.heads.stage c.heads.grace && is_goal c.heads.goal) (passes is_goal c.heads.level_wish) seconds in
+    let inner = and_parts (is_stage c.heads.stage c.heads.grace) (is_goal c.heads.goal) outer.0 in
+    let generation : (is_time c.heads.generation && nat_le 1 c.heads.generation) ≡ true = and_from (is_time c.heads.generation) (nat_le 1 c.heads.generation) (lt-ltb c.heads.generation (2 ^ 64) small) (le-leb 1 c.heads.generation some) in
+    let time : is_time c.heads.time ≡ true = time_fits c.heads.time c.heads.time rules.clock (omega arith) in
+    let heads = and_from _ (passes is_goal c.heads.level_wish) (and_from _ (not c.heads.reexec) (and_from _ (is_goal c.heads.goal) (and_from _ (is_stage c.heads.stage c.heads.grace) (and_from _ (is_time c.heads.time) generation time) inner.0) inner.1) (ap not reexec)) outer.1 in
     and_from _ (list_all (is_record V2) (map record_of c.slots)) (and_from _ (is_table c.table && holds_table V2 c.table) heads (and_from (is_table c.table) (holds_table V2 c.table) table (table_held c.table table)))
-    (records_ranged c.time rules.clock c.slots rules.limiters rules.timely ids)
+    (records_ranged c.heads.time rules.clock c.slots rules.limiters rules.timely ids)

@@ -75,7 +75,7 @@ is_state version state =
 
 -- the seconds that a core keeps are at most an hour, and none before the first stage
 abbrev pub has_short_seconds : CoreState → Bool
-has_short_seconds c = is_stage c.stage c.grace && is_goal c.goal && passes is_goal c.level_wish
+has_short_seconds c = is_stage c.heads.stage c.heads.grace && is_goal c.heads.goal && passes is_goal c.heads.level_wish
 
 -- the id of a record is an id, and the number of its child and its last status fit their words
 abbrev pub has_ranged_words : SlotState → Bool

@@ -17,8 +17,9 @@ use Rattle.child_table.specs.State.{child_number}
 use Rattle.child_table.specs.Lists.{order_in, refusal_of, slot_of}
 use Rattle.core_model.specs.State.{CoreState}
 use Rattle.core_model.specs.Steps.{after_told}
-use Rattle.core_model.specs.Fit.{Fits, OnEachTrace, with_step}
+use Rattle.core_model.specs.Fit.{Fits, FitsAll, StillFits, OnEachTrace, with_step}
 use Rattle.state_text.specs.Range as range
+use Rattle.core_model.proofs.Fitted.{all_on}
 use Rattle.core_model.proofs.Recorded.{unreaped_recorded}
 use Rattle.trace_log.specs.Logs.{LogState}
 use Rattle.child_host.specs.declared.calls.Call.TheVariants.{Announce}
@@ -43,11 +44,11 @@ Leads-said c l₀ l₁ made happening says took = Leads-heard (Gave (Tracks c) m
 -- ---- answers
 
 -- a change to such a core
-pub lasts_as : (c new after : CoreState) → new ≡ after → (range.has_short_seconds c ≡ true → range.has_short_seconds after ≡ true) → after.generation ≡ c.generation → Lasts c new
-lasts_as c new after is short same = record { short = λ h. ap range.has_short_seconds is ∙ short h; same = ap (λ (s : CoreState). s.generation) is ∙ same }
+pub lasts_as : (c new after : CoreState) → new ≡ after → (range.has_short_seconds c ≡ true → range.has_short_seconds after ≡ true) → after.heads.generation ≡ c.heads.generation → Lasts c new
+lasts_as c new after is short same = record { short = λ h. ap range.has_short_seconds is ∙ short h; same = ap (λ (s : CoreState). s.heads.generation) is ∙ same }
 
 -- the core takes the answer, and it is written
-pub Hears-taken : (c new : CoreState) (l₀ l₁ : LogState) (id : List ℕ) (given : Answer) (result : Result (Unit {0}) Refusal) → is_ok result ≡ true → result ≡ refusal_of (order_in id c.slots) given → OnOk result (new ≡ after_told id given c) → ((goal : Goal) (so_far : List Event) → is_sound goal so_far ≡ true → Fits c goal so_far → is_allowed goal (acted id given so_far) ≡ true → Logs l₀ l₁ so_far (past.Told id ∷ acted id given so_far)) → Hears (Tracks c) (Tracks new) l₀ l₁ (answered id given)
+pub Hears-taken : (c new : CoreState) (l₀ l₁ : LogState) (id : List ℕ) (given : Answer) (result : Result (Unit {0}) Refusal) → is_ok result ≡ true → result ≡ refusal_of (order_in id c.slots) given → OnOk result (new ≡ after_told id given c) → ((goal : Goal) (so_far : List Event) → is_sound goal so_far ≡ true → FitsAll c goal so_far → is_allowed goal (acted id given so_far) ≡ true → Logs l₀ l₁ so_far (past.Told id ∷ acted id given so_far)) → Hears (Tracks c) (Tracks new) l₀ l₁ (answered id given)
 Hears-taken c new l₀ l₁ id given (Ok tt) ok is told took = Hears-tracks c new l₀ l₁ (answered id given) (lasts_as c new (after_told id given c) told (λ short. short) refl) (Hears-answer c new l₀ l₁ id given (Ok tt) is told tt took tt)
 Hears-taken c new l₀ l₁ id given (Err why) ok is told took = absurd (false≢true ok)
 
@@ -71,6 +72,15 @@ Makes-said old new l₀ l₁ c given made happening is other says said =
     subst (λ s. Makes old new l₀ l₁ (IsStepUnless (is_idle s)) (Gave (Tracks c) s) (Tracks c)) (sym is)
     (subst (λ b. Makes old new l₀ l₁ (IsStepUnless b) (Gave (Tracks c) made) (Tracks c)) (sym other) (said c made says))
 
+-- a step that was given is another one by name
+pub Makes-given : (old new : Option (List HostCall)) (l₀ l₁ : LogState) (c behind : CoreState) (given made : Step) → given ≡ made → Makes old new l₀ l₁ IsStep (Gave (Tracks c) made) (Tracks behind) → Makes old new l₀ l₁ IsStep (Gave (Tracks c) given) (Tracks behind)
+Makes-given old new l₀ l₁ c behind given made is makes = subst (λ s. Makes old new l₀ l₁ IsStep (Gave (Tracks c) s) (Tracks behind)) (sym is) makes
+
+pub Makes-unless : (old new : Option (List HostCall)) (l₀ l₁ : LogState) (c behind : CoreState) (given made : Step) → given ≡ made → is_idle made ≡ false → Makes old new l₀ l₁ IsStep (Gave (Tracks c) made) (Tracks behind) → Makes old new l₀ l₁ (IsStepUnless (is_idle given)) (Gave (Tracks c) given) (Tracks behind)
+Makes-unless old new l₀ l₁ c behind given made is busy makes =
+    subst (λ s. Makes old new l₀ l₁ (IsStepUnless (is_idle s)) (Gave (Tracks c) s) (Tracks behind)) (sym is)
+    (subst (λ b. Makes old new l₀ l₁ (IsStepUnless b) (Gave (Tracks c) made) (Tracks behind)) (sym busy) makes)
+
 -- nothing was due
 pub Makes-idle : (now : Option (List HostCall)) (log : LogState) (c : CoreState) (given : Step) → given ≡ step.Idle → Makes now now log log (IsStepUnless (is_idle given)) (Gave (Tracks c) given) (Tracks c)
 Makes-idle now log c given is =
@@ -84,14 +94,14 @@ idle_is step.Idle h = refl
 idle_is _ h = absurd (false≢true h)
 
 -- the step was the first due, and was carried out; where it was none, nothing is due still
-pub Makes-stepped : (old new : Option (List HostCall)) (l₀ l₁ : LogState) (c between behind : CoreState) (made : Step) → OnEachTrace c (λ goal so_far. made ≡ first (due goal so_far)) → OnEachTrace c (λ goal so_far. Fits between goal (with_step made so_far)) → Lasts c between → Makes old new l₀ l₁ (IsStepUnless (is_idle made)) (Gave (Tracks between) made) (Tracks behind) → Makes old new l₀ l₁ (IsStepUnless (is_idle made)) (Tracks c) (AndRests (is_idle made) (Tracks behind))
+pub Makes-stepped : (old new : Option (List HostCall)) (l₀ l₁ : LogState) (c between behind : CoreState) (made : Step) → OnEachTrace c (λ goal so_far. made ≡ first (due goal so_far)) → OnEachTrace c (λ goal so_far. StillFits c between goal so_far (with_step made so_far)) → Lasts c between → Makes old new l₀ l₁ (IsStepUnless (is_idle made)) (Gave (Tracks between) made) (Tracks behind) → Makes old new l₀ l₁ (IsStepUnless (is_idle made)) (Tracks c) (AndRests (is_idle made) (Tracks behind))
 Makes-stepped old new l₀ l₁ c between behind made due_now fits lasts makes = Makes-map old new l₀ l₁ (IsStepUnless (is_idle made)) (IsStepUnless (is_idle made)) (Gave (Tracks between) made) (Tracks behind) (Tracks c) (AndRests (is_idle made) (Tracks behind)) makes
     (λ calls shape leads. (shape, goes calls shape leads))
   where
     goes : (calls : List HostCall) → IsStepUnless (is_idle made) calls → Leads (Gave (Tracks between) made) (Tracks behind) l₀ l₁ calls → Leads (Tracks c) (AndRests (is_idle made) (Tracks behind)) l₀ l₁ calls
     goes calls shape leads goal p sound fitted allowed =
-        let is_first : made ≡ first (due goal p.past) = due_now goal p.past sound fitted.fits in
-        let led = leads goal p sound (sym is_first, tracks c between goal p (gone_on (with_step made) p) lasts refl fitted (fits goal p.past sound fitted.fits)) allowed in (
+        let is_first : made ≡ first (due goal p.past) = due_now goal p.past sound fitted.fits.0 in
+        let led = leads goal p sound (sym is_first, tracks c between goal p (gone_on (with_step made) p) lasts refl fitted (all_on c between goal p.past (with_step made p.past) (fits goal p.past sound fitted.fits.0) fitted.fits)) allowed in (
           led.0,
           λ carried.
               let went : Went (Tracks behind) l₀ l₁ goal p calls = led.1 carried in
@@ -118,7 +128,7 @@ Leads-left fitted done c b l₀ l₁ calls leads goal p sound fits allowed =
           record {
             in_place = went.in_place;
             sound = went.sound;
-            fits = record { at = went.fits.0; children = unreaped_recorded goal (point_after calls p).past c went.sound went.fits.0.0.fits; rests = went.fits.1 };
+            fits = record { at = went.fits.0; children = unreaped_recorded goal (point_after calls p).past c went.sound went.fits.0.0.fits.0; rests = went.fits.1 };
             log = went.log;
           },
     )

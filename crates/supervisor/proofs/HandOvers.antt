@@ -12,14 +12,15 @@ use Rattle.init_trace.specs.declared.happenings.Handed.TheVariants as handed
 use Rattle.init_trace.specs.declared.happenings.Happening.TheVariants as past
 use Rattle.init_trace.specs.declared.steps.Step.TheVariants as step
 use Rattle.init_trace.specs.Event.{Event}
-use Rattle.core_model.specs.Fit.{Fits, OnEachTrace}
+use Rattle.core_model.specs.Fit.{StillFits, OnEachTrace}
 use Rattle.core_model.specs.Parts.{SavedState, state_of}
 use Rattle.core_model.specs.Rules.{IsFit}
 use Rattle.core_model.specs.State.{CoreState}
 use Rattle.core_model.specs.Steps.{after_handed_on}
 use Rattle.state_text.specs.Range as range
 use Rattle.state_text.specs.Reading.{generation_of}
-use Rattle.state_text.specs.Refused.{IsCut, IsOther, IsTextOf}
+use Rattle.state_text.specs.declared.versions.Version.TheVariants.{V2}
+use Rattle.state_text.specs.Refused.{IsCut, IsOther, IsTextIn, IsTextOf}
 use Rattle.state_text.proofs.Ends.{no_prefix, whole_ends}
 use Rattle.state_text.proofs.Prefixes.{generation_said}
 use Rattle.trace_log.specs.Logs.{LogState}
@@ -42,7 +43,7 @@ begins : (text back : List ℕ) → starts_with ◌==◌ text back ≡ true → 
 begins text back h = (starts_is Decides-eqb text back _ refl).0 h
 
 -- it came back as it was, and so init keeps what it kept
-pub taken_back : (old next : CoreState) (text back : List ℕ) → IsTextOf text (state_of old) → IsFit old → comes_back old.generation text (Ok back) ≡ true → IsTextOf back (state_of next) → next.generation ≡ old.generation → ((core : CoreState) → IsFit core → IsTextOf back (state_of core) → core.generation ≡ old.generation → next ≡ core) → (next ≡ old) × (same_text text back ≡ true)
+pub taken_back : (old next : CoreState) (text back : List ℕ) → IsTextOf text (state_of old) → IsFit old → comes_back old.heads.generation text (Ok back) ≡ true → IsTextOf back (state_of next) → next.heads.generation ≡ old.heads.generation → ((core : CoreState) → IsFit core → IsTextOf back (state_of core) → core.heads.generation ≡ old.heads.generation → next ≡ core) → (next ≡ old) × (same_text text back ≡ true)
 taken_back old next text back says fit comes said own only = by (starts_with ◌==◌ text back) refl comes
   where
     whole : starts_with ◌==◌ text back ≡ true → (next ≡ old) × (same_text text back ≡ true)
@@ -52,9 +53,9 @@ taken_back old next text back says fit comes said own only = by (starts_with ◌
         let same : text ≡ back = parts ∙ ap (λ l. back ++ l) none ∙ append-nil back in
         (only old fit (subst (λ t. IsTextOf t (state_of old)) same says) refl, subst (λ t. same_text text t ≡ true) same (same_id-self text))
 
-    by : (b : Bool) → starts_with ◌==◌ text back ≡ b → (b || not (is_of_generation old.generation back)) ≡ true → (next ≡ old) × (same_text text back ≡ true)
+    by : (b : Bool) → starts_with ◌==◌ text back ≡ b → (b || not (is_of_generation old.heads.generation back)) ≡ true → (next ≡ old) × (same_text text back ≡ true)
     by true starts h = whole starts
-    by false starts h = absurd (false≢true (ap not (sym (names_own back (state_of next) old.generation said own)) ∙ h))
+    by false starts h = absurd (false≢true (ap not (sym (names_own back (state_of next) old.heads.generation said own)) ∙ h))
 
 -- ---- or refused
 
@@ -86,14 +87,14 @@ older_said text back own g says names other = and_from (is_of_generation g back)
 
 -- the state was handed over as a text, which was carried, and what came of it was said
 pub Makes-carried : (old mid new : Option (List HostCall)) (l₀ l₁ : LogState) (c next behind : CoreState) (how : HandOver) (text : List ℕ) (back : TextRead) → Adds old mid (Carry text back) → Saying how mid new
-    → next ≡ after_handed_on c → OnEachTrace c (λ goal so_far. (h : HandOver) → Fits next goal (past.Handed h ∷ so_far))
-    → (range.has_short_seconds c ≡ true → IsTextOf text (state_of next) × IsFit next) → ComesTo how text back next behind
+    → next ≡ after_handed_on c → OnEachTrace c (λ goal so_far. (h : HandOver) → StillFits c next goal so_far (past.Handed h ∷ so_far))
+    → (range.has_short_seconds c ≡ true → IsTextIn V2 text (state_of next) × IsFit next) → ComesTo how text back next behind
     → ((so_far : List Event) → Logs l₀ l₁ so_far (past.Handed how ∷ so_far))
     → Makes old new l₀ l₁ IsStep (Gave (Tracks c) step.Reexec) (Tracks behind)
 Makes-carried old mid new l₀ l₁ c next behind how text back adds says is fits said comes took = by how adds says leads
   where
     handed_on : HandedOn c next text
-    handed_on = record { fits = fits; own = ap (λ (s : CoreState). s.generation) is; short = ap range.has_short_seconds is; says = said }
+    handed_on = record { fits = fits; own = ap (λ (s : CoreState). s.heads.generation) is; short = ap range.has_short_seconds is; says = said }
 
     leads : Leads (Gave (Tracks c) step.Reexec) (Tracks behind) l₀ l₁ (carrying how text back)
     leads = Leads-carried c next behind l₀ l₁ how text back handed_on comes took

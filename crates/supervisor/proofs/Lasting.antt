@@ -10,6 +10,7 @@ use Rattle.init_trace.specs.declared.steps.Goal.{Goal}
 use Rattle.init_trace.specs.declared.steps.Step.{Step}
 use Rattle.init_trace.specs.declared.steps.Step.TheVariants.{Enter, Call, Power, Reread, Order, Hold, Settle, Reexec, Idle}
 use Rattle.init_trace.specs.Range.{is_request}
+use Rattle.core_model.specs.declared.parts.Heads.{Heads}
 use Rattle.core_model.specs.Decide.{decide}
 use Rattle.core_model.specs.State.{CoreState}
 use Rattle.core_model.specs.Steps.{after_adopt, after_clock, after_got, after_handed, after_not_read, after_round, after_step, heard_in}
@@ -18,7 +19,7 @@ use Rattle.host_trace.specs.Leads.{Lasts}
 use Rattle.supervisor.proofs.Carried.{lasts_as}
 
 -- no step and no request is a generation more
-step_same : (s : Step) (c : CoreState) → (after_step s c).generation ≡ c.generation
+step_same : (s : Step) (c : CoreState) → (after_step s c).heads.generation ≡ c.heads.generation
 step_same (Enter now grace) c = refl
 step_same (Call letter) c = refl
 step_same (Power kind) c = refl
@@ -29,18 +30,18 @@ step_same Reread c = refl
 step_same Reexec c = refl
 step_same Idle c = refl
 
-heard_same : (now : Option Stage) (wish : Goal) (c : CoreState) → (heard_in now wish c).generation ≡ c.generation
-heard_same (Some (stage.Run level)) wish c = by (same_level wish.level level)
+heard_same : (now : Option Stage) (wish : Goal) (heads : Heads) → (heard_in now wish heads).generation ≡ heads.generation
+heard_same (Some (stage.Run level)) wish heads = by (same_level wish.level level)
   where
-    by : (b : Bool) → (cond b (record c { level_wish = None }) (record c { level_wish = Some wish; reread = true })).generation ≡ c.generation
+    by : (b : Bool) → (cond b (record heads { level_wish = None }) (record heads { level_wish = Some wish; reread = true })).generation ≡ heads.generation
     by true = refl
     by false = refl
-heard_same (Some stage.Boot) wish c = refl
-heard_same (Some stage.Sysinit) wish c = refl
-heard_same None wish c = refl
+heard_same (Some stage.Boot) wish heads = refl
+heard_same (Some stage.Sysinit) wish heads = refl
+heard_same None wish heads = refl
 
-request_same : (request : Got) (c : CoreState) → (after_got request c).generation ≡ c.generation
-request_same (got.Level level grace) c = heard_same c.stage (record { level = level; grace = grace }) c
+request_same : (request : Got) (c : CoreState) → (after_got request c).heads.generation ≡ c.heads.generation
+request_same (got.Level level grace) c = heard_same c.heads.stage (record { level = level; grace = grace }) c.heads
 request_same (got.Call letter) c = refl
 request_same got.Reload c = refl
 request_same got.Reexec c = refl

@@ -114,35 +114,35 @@ start_listed stage now before (e ∷ table) (slot ∷ slots) =
     (if_listed (before ++ e ∷ table) (is_owed_slot stage e slot) None (start_along stage now (zip table slots)) refl
     (subst (λ all. Listed all (start_along stage now (zip table slots))) (append_assoc before (e ∷ []) table) (start_listed stage now (before ++ e ∷ []) table slots)))
 
-settle_listed : (c : CoreState) (stage : Stage) → Listed c.table (settle_step stage c.announced c.time c.table c.slots)
-settle_listed c (stage.Run level) = if_listed c.table (not c.announced && is_idle c.slots && all_served level c.time c.table c.slots) (Some (step.Settle level)) None refl refl
+settle_listed : (c : CoreState) (stage : Stage) → Listed c.table (settle_step stage c.heads.announced c.heads.time c.table c.slots)
+settle_listed c (stage.Run level) = if_listed c.table (not c.heads.announced && is_idle c.slots && all_served level c.heads.time c.table c.slots) (Some (step.Settle level)) None refl refl
 settle_listed c stage.Sysinit = refl
 settle_listed c stage.Boot = refl
 
 decide_in_listed : (c : CoreState) (stage : Option Stage) → is_listed c.table (decide_in stage c) ≡ true
-decide_in_listed c None = idle_listed c.table (first_step c) (if_listed c.table (is_quiet c.slots) (Some (step.Enter stage.Sysinit c.goal.grace)) None refl refl)
+decide_in_listed c None = idle_listed c.table (first_step c) (if_listed c.table (is_quiet c.slots) (Some (step.Enter stage.Sysinit c.heads.goal.grace)) None refl refl)
 decide_in_listed c (Some stage) = idle_listed c.table (or_else (wish_step stage c) (or_else (work_step stage c) (look_among c.slots))) (else_listed c.table (wish_step stage c) (or_else (work_step stage c) (look_among c.slots)) wish (else_listed c.table (work_step stage c) (look_among c.slots) work (look_listed c.table c.slots)))
   where
     wished : Listed c.table (wished_step stage c)
-    wished = if_listed c.table c.reexec (Some step.Reexec) (cond c.reread (Some step.Reread) (or_else (level_step c.booted c.level_wish) (news_step stage c))) refl (if_listed c.table c.reread (Some step.Reread) (or_else (level_step c.booted c.level_wish) (news_step stage c)) refl
-        (else_listed c.table (level_step c.booted c.level_wish) (news_step stage c) (level_listed c.table c.booted c.level_wish)
-        (if_listed c.table (in_run (Some stage)) (first_news c.news) None (first_listed c.table c.news) refl)))
+    wished = if_listed c.table c.heads.reexec (Some step.Reexec) (cond c.heads.reread (Some step.Reread) (or_else (level_step c.heads.booted c.heads.level_wish) (news_step stage c))) refl (if_listed c.table c.heads.reread (Some step.Reread) (or_else (level_step c.heads.booted c.heads.level_wish) (news_step stage c)) refl
+        (else_listed c.table (level_step c.heads.booted c.heads.level_wish) (news_step stage c) (level_listed c.table c.heads.booted c.heads.level_wish)
+        (if_listed c.table (in_run (Some stage)) (first_news c.heads.news) None (first_listed c.table c.heads.news) refl)))
 
     wish : Listed c.table (wish_step stage c)
     wish = if_listed c.table (is_quiet c.slots) (wished_step stage c) None wished refl
 
     calm : Listed c.table (calm_step stage c)
-    calm = else_listed c.table (start_along stage c.time (zip c.table c.slots)) (or_else (stage_step stage c.goal c.table c.slots) (settle_step stage c.announced c.time c.table c.slots)) (start_listed stage c.time [] c.table c.slots) (else_listed c.table (stage_step stage c.goal c.table c.slots) (settle_step stage c.announced c.time c.table c.slots)
-        (if_listed c.table (is_over_among stage c.table c.slots) (enter_step (next_stage stage c.goal.level) c.goal.grace) None (enter_listed c.table (next_stage stage c.goal.level) c.goal.grace) refl)
+    calm = else_listed c.table (start_along stage c.heads.time (zip c.table c.slots)) (or_else (stage_step stage c.heads.goal c.table c.slots) (settle_step stage c.heads.announced c.heads.time c.table c.slots)) (start_listed stage c.heads.time [] c.table c.slots) (else_listed c.table (stage_step stage c.heads.goal c.table c.slots) (settle_step stage c.heads.announced c.heads.time c.table c.slots)
+        (if_listed c.table (is_over_among stage c.table c.slots) (enter_step (next_stage stage c.heads.goal.level) c.heads.goal.grace) None (enter_listed c.table (next_stage stage c.heads.goal.level) c.heads.goal.grace) refl)
         (settle_listed c stage))
 
     work : Listed c.table (work_step stage c)
-    work = if_listed c.table (stands stage c) None (or_else (stop_among c.grace c.time c.slots) (cond (has_excluded c.slots) None (calm_step stage c))) refl (else_listed c.table (stop_among c.grace c.time c.slots) (cond (has_excluded c.slots) None (calm_step stage c)) (stop_listed c.table c.grace c.time c.slots)
+    work = if_listed c.table (stands stage c) None (or_else (stop_among c.heads.grace c.heads.time c.slots) (cond (has_excluded c.slots) None (calm_step stage c))) refl (else_listed c.table (stop_among c.heads.grace c.heads.time c.slots) (cond (has_excluded c.slots) None (calm_step stage c)) (stop_listed c.table c.heads.grace c.heads.time c.slots)
         (if_listed c.table (has_excluded c.slots) None (calm_step stage c) refl calm))
 
 -- the step that a core decides on
 pub decide_listed : (c : CoreState) → is_listed c.table (decide c) ≡ true
-decide_listed c = decide_in_listed c c.stage
+decide_listed c = decide_in_listed c c.heads.stage
 
 -- a step leaves the table
 pub table_kept : (made : Step) (c : CoreState) → (after_step made c).table ≡ c.table

@@ -21,12 +21,13 @@ use Rattle.supervisor.specs.Opening.{IsOpening, IsOpeningOf, LeadsFrom, OpeningS
 -- turns that are said of what fitted are said of what is narrower
 turns_narrower : (drain : Bool) (f g : Goal → Point → Type 0) → ((goal : Goal) (p : Point) → g goal p → f goal p) → (n : ℕ) (calls : List HostCall) → AreTurns drain f n calls → AreTurns drain g n calls
 turns_narrower drain f g narrower zero calls turns = turns
-turns_narrower drain f g narrower (suc n) calls (done, last, before, is, turn, rests, going, earlier) = (
+turns_narrower drain f g narrower (suc n) calls (done, last, before, is, turn, well, rests, going, earlier) = (
   done,
   last,
   before,
   is,
   turn,
+  (λ goal p sound fits. well goal p sound (narrower goal p fits)),
   (λ ended goal p sound fits. rests ended goal p sound (narrower goal p fits)),
   (λ drains. elim (going drains) [ inl none ↦ inl none | inr still ↦ inr (λ goal p sound fits. still goal p sound (narrower goal p fits)) ]),
   turns_narrower drain f g narrower n before earlier,

@@ -18,7 +18,7 @@ use Rattle.host_trace.specs.Point.{Point, point_after}
 use Rattle.child_host.specs.Record.{Since}
 use Rattle.host_trace.specs.Requests.{Brings}
 use Rattle.host_trace.specs.Leads.{At, Counted, IsOver, Leads, Tracks, Went}
-use Rattle.host_trace.specs.Turns.{AreSteps, AreTurns, IsTurn, Undrained, are_full, are_lates, are_takes, bytes_taken, has_come, is_room, is_step, takes_none}
+use Rattle.host_trace.specs.Turns.{AreSteps, AreTurns, IsTurn, GoesWell, Undrained, are_full, are_lates, are_takes, bytes_taken, has_come, is_room, is_step, takes_none}
 use Rattle.host_trace.proofs.Leading.{Leads-beside, Leads-frame, Leads-still, Leads-then, Leads-weaken, bytes_counted}
 use Rattle.child_host.proofs.Record.{Since-map, Since-one, Since-then}
 use Rattle.host_trace.proofs.Requests.{calls_bring}
@@ -167,10 +167,19 @@ turns_more drain done n t₀ t₁ t₂ t₃ l₀ l₁ l₂ c₀ c c' b b' before
     still xs leads (inl none) = inl none
     still xs leads (inr busy) = inr (λ goal p sound fits allowed carried. (c, ((leads goal p sound fits allowed).1 carried).fits.0.fits, busy))
 
+    well : {xs : List HostCall} → Leads (Fresh c₀) (Left done c' b') l₀ l₂ xs → GoesWell (Fresh c₀) xs
+    well {xs} leads goal p sound fits allowed =
+        let led = leads goal p sound fits allowed in (
+          led.0,
+          λ carried.
+              let went : Went (Left done c' b') l₀ l₂ goal p xs = led.1 carried in
+              record { in_place = went.in_place; sound = went.sound; core = c'; fits = went.fits.at.0.fits },
+        )
+
     paused : (xs ys : List HostCall) → IsLast drain done c₀ n xs × Leads (Fresh c₀) (Left done c' b') l₀ l₂ xs → ys ≡ Pause ∷ [] → AreTurns drain (Fresh c₀) (suc n) (ys ++ xs) × Leads (Fresh c₀) (At c' b') l₀ l₂ (ys ++ xs)
     paused xs ys ((last, earlier, is, made, rested, turns), leads) one =
         let rests : Leads (Fresh c₀) (Left done c' b') l₀ l₂ (last ++ earlier) = subst (Leads (Fresh c₀) (Left done c' b') l₀ l₂) is leads in (
-          (done, last, earlier, (λ i. one i ++ is i), made, (λ ended goal p sound fits allowed carried. ((rests goal p sound fits allowed).1 carried).fits.rests ended), rested, turns),
+          (done, last, earlier, (λ i. one i ++ is i), made, well rests, (λ ended goal p sound fits allowed carried. ((rests goal p sound fits allowed).1 carried).fits.rests ended), rested, turns),
           subst (λ zs. Leads (Fresh c₀) (At c' b') l₀ l₂ (zs ++ xs)) (sym one)
               (Leads-then (Fresh c₀) (Left done c' b') (At c' b') l₀ l₂ l₂ xs (Pause ∷ []) leads
               (Leads-weaken (Left done c' b') (Left done c' b') (Left done c' b') (At c' b') l₂ l₂ (Pause ∷ []) (λ goal p fits. fits) (λ goal p fits. fits.at)
@@ -190,7 +199,7 @@ turns_left t₀ t₁ l₀ l₁ Shape c₀ c b makes = Makes-map t₀ t₁ l₀ l
               record {
                 in_place = went.in_place;
                 sound = went.sound;
-                fits = (went.fits.0, unreaped_recorded goal (point_after calls p).past c went.sound went.fits.0.fits);
+                fits = (went.fits.0, unreaped_recorded goal (point_after calls p).past c went.sound went.fits.0.fits.0);
                 log = went.log;
               },
         )

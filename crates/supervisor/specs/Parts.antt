@@ -76,7 +76,7 @@ pub record AreAllSteps (done : Bool) (calls : List HostCall) : Type 0 where
 -- text is that of its state, which keeps the rules, and came back as a text that is carried may.
 abbrev pub ComesTo : HandOver → List ℕ → TextRead → CoreState → CoreState → Type 0
 ComesTo how text back old new = IsFit old → IsTextOf text (state_of old)
-    → IsTrue (comes_back old.generation text back) → (new ≡ old) × IsTrue (is_outcome how text back)
+    → IsTrue (comes_back old.heads.generation text back) → (new ≡ old) × IsTrue (is_outcome how text back)
 
 -- a refusal is announced
 abbrev pub Saying : HandOver → Option (List HostCall) → Option (List HostCall) → Type 0

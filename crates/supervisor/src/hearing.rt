@@ -11,6 +11,7 @@ ghost use Rattle.host_trace.specs.Turns.{are_lates, are_takes, is_room};
 ghost use Rattle.supervisor.specs.Parts.{IsLate, IsReading, IsTake, Makes};
 
 use crate::answering::{hear_answer, note};
+use crate::causes::tell_cause;
 use child_host::Host;
 use host_trace::{BYTE_LIMIT, LATE_LIMIT, PIECE};
 use init_trace::Happening;
@@ -36,18 +37,26 @@ pub(crate) fn hear_clock<A: Allocator, H: Host, L: Log>(
     }
 }
 
-fn hear_request<A: Allocator, L: Log>(core: &mut Core<A>, log: &mut L, request: Got)
-    ensures { IsTrue (is_request request)
+fn hear_request<A: Allocator, H: Host, L: Log>(
+    core: &mut Core<A>,
+    host: &mut H,
+    log: &mut L,
+    request: Got,
+)
+    ensures told { H.told host.new ≡ H.told host.old }
+    ensures hears { IsTrue (is_request request)
         → Hears (Tracks core.old) (Tracks core.new) (L.state log.old) (L.state log.new)
         (λ past. happening.Got request ∷ past) }
 {
+    tell_cause(host, &request);
     core.got(request);
     note(log, Happening::Got(request));
 }
 
 /// Hears the bytes up to the end of the block under way, or all of them; gives how many.
-fn hear_front<A: Allocator, L: Log>(
+fn hear_front<A: Allocator, H: Host, L: Log>(
     core: &mut Core<A>,
+    host: &mut H,
     log: &mut L,
     blocks: &mut Blocks,
     bytes: &[u8],
@@ -55,28 +64,31 @@ fn hear_front<A: Allocator, L: Log>(
     requires { 0 < length bytes.now }
     ensures progress { 0 < result }
     ensures within { result ≤ length bytes.now }
+    ensures told { H.told host.new ≡ H.told host.old }
     ensures leads { (room : ℕ) → Leads (At core.old blocks.old) (At core.new blocks.new)
         (L.state log.old) (L.state log.new) (TakeBytes room (Ok (take result bytes.now)) ∷ []) }
 {
     let (count, request) = blocks.feed(bytes);
     if let Some(request) = request {
-        hear_request(core, log, request);
+        hear_request(core, host, log, request);
     }
     count
 }
 
-fn hear_bytes<A: Allocator, L: Log>(
+fn hear_bytes<A: Allocator, H: Host, L: Log>(
     core: &mut Core<A>,
+    host: &mut H,
     log: &mut L,
     blocks: &mut Blocks,
     bytes: &[u8],
 )
-    ensures { (room : ℕ) → Leads (At core.old blocks.old) (At core.new blocks.new)
+    ensures told { H.told host.new ≡ H.told host.old }
+    ensures leads { (room : ℕ) → Leads (At core.old blocks.old) (At core.new blocks.new)
         (L.state log.old) (L.state log.new) (TakeBytes room (Ok bytes.now) ∷ []) }
 {
     let mut rest = bytes;
     while !rest.is_empty() {
-        let count = hear_front(core, log, blocks, rest);
+        let count = hear_front(core, host, log, blocks, rest);
         rest = &rest[count..];
     }
 }
@@ -98,7 +110,7 @@ fn take_into<A: Allocator, H: Host, L: Log>(
     let Ok(count) = host.take_bytes(buffer) else {
         return 0;
     };
-    hear_bytes(core, log, blocks, &buffer[..count]);
+    hear_bytes(core, host, log, blocks, &buffer[..count]);
     count
 }
 

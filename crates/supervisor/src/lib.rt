@@ -6,6 +6,7 @@
 #![tactic(auto)]
 
 mod answering;
+mod causes;
 mod hearing;
 mod laws;
 mod opening;

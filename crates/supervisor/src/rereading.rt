@@ -9,7 +9,7 @@ ghost use Rattle.init_trace.specs.Event.{Event};
 ghost use Rattle.child_table.specs.Lists.{is_quiet};
 ghost use Rattle.child_host.specs.declared.calls.Call.TheVariants.{ReadTables};
 ghost use Rattle.child_host.specs.Calls.{Adds, PartsRead};
-ghost use Rattle.core_model.specs.Fit.{Fits, OnEachTrace};
+ghost use Rattle.core_model.specs.Fit.{StillFits, OnEachTrace};
 ghost use Rattle.host_trace.specs.Leads.{Gave, Lasts, Logs, Tracks};
 ghost use Rattle.supervisor.specs.Parts.{IsStep, Makes};
 
@@ -22,25 +22,32 @@ use level_core::Core;
 use std::alloc::Allocator;
 use trace_log::Log;
 
-/// Takes the table of files for that in force; gives whether it did.
-fn use_parts<A: Allocator + Copy, L: Log>(
+/// Takes the table of files for that in force, where the host takes it; gives whether it did.
+fn use_parts<A: Allocator + Copy, H: Host, L: Log>(
     alloc: A,
     core: &mut Core<A>,
+    host: &mut H,
     log: &mut L,
     parts: &[Part<A>],
 ) -> bool
     ensures readable { result ≡ true → are_readable (texts_of parts.now) ≡ true }
     ensures quiet { result ≡ true → is_quiet core.old.slots ≡ true }
     ensures fits { result ≡ true → OnEachTrace core.old (λ goal past.
-        Fits core.new goal (NewTable (table_of_texts (texts_of parts.now)) ∷ past)) }
+        StillFits core.old core.new goal past
+        (NewTable (table_of_texts (texts_of parts.now)) ∷ past)) }
     ensures lasts { result ≡ true → Lasts core.old core.new }
     ensures took { result ≡ true → (past : List Event)
         → Logs (L.state log.old) (L.state log.new) past
         (NewTable (table_of_texts (texts_of parts.now)) ∷ past) }
     ensures core { result ≡ false → core.new ≡ core.old }
     ensures log { result ≡ false → L.state log.new ≡ L.state log.old }
+    ensures told { H.told host.new ≡ H.told host.old }
 {
-    let Ok((table, _)) = read_parts(alloc, parts) else {
+    let reading = read_parts(alloc, parts);
+    if !host.takes(parts, &reading) {
+        return false;
+    }
+    let Ok((table, _faults)) = reading else {
         return false;
     };
     let Ok(copy) = table.copy(alloc) else {
@@ -72,7 +79,7 @@ fn use_table<A: Allocator + Copy, H: Host, L: Log>(
     let Ok(parts) = host.read_tables(alloc) else {
         return false;
     };
-    use_parts(alloc, core, log, &parts)
+    use_parts(alloc, core, host, log, &parts)
 }
 
 /// Reads inittab again. Where that fails, or the table can't be taken, the one in force stays.

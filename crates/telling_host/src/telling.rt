@@ -6,7 +6,7 @@ use crate::adding::{CallList, no_calls, with};
 use crate::made::{
     Announce, Carry, Clock, Late, Look, Pause, ReadTables, Signal, Start, TakeBytes,
 };
-use child_host::{Host, HostFault, Reply};
+use child_host::{Host, HostFault, Reading, Reply};
 use init_trace::HappeningIn;
 use init_words::{Answer, Id, Part, Sig};
 use proof_values::Noted;
@@ -148,6 +148,14 @@ impl<H: Host> Host for Telling<H> {
         let parts = self.host.read_tables(alloc);
         self.calls = with(&self.calls, ReadTables { parts: &parts });
         parts
+    }
+
+    fn takes<A: Allocator>(&mut self, parts: &[Part<A>], reading: &Reading<A>) -> bool {
+        self.host.takes(parts, reading)
+    }
+
+    fn pass_over(&mut self, why: &str) {
+        self.host.pass_over(why);
     }
 
     fn carry<A: Allocator + Copy>(

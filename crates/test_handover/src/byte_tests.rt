@@ -1,8 +1,9 @@
-//! Each byte of two texts is changed to each other: what is left is taken over, and handed over again as it stands, or
-//! refused by the first check that fails.
+//! Each byte of three texts, of both versions, is changed to each other: what is left is taken over, and handed over again
+//! as it stands, or refused by the first check that fails.
 
 use crate::texts::{STARTED, STARTED_NOW};
 use init_words::Memory;
+use level_core::Core;
 use reexec_state::Over::{self, Cut, Generation, Line, Unfit, Version};
 use reexec_state::{hand_over, take_over};
 use std::alloc::Global;
@@ -56,11 +57,8 @@ table 0
 end 8
 ";
 
-/// Of a core with two starts open.
-const OF_STARTED: &[Row] = &[
-    // Records of version 1 don't say how the last child ended.
-    (1, 12, 12, These(b"1"), Some(Line(12))),
-    (1, 0, ALL, Others, Some(Version)),
+/// The heads and the table of a core with two starts open, in both versions.
+const OF_HEADS: &[Row] = &[
     (2, 11, 11, These(b"23456789"), Some(Generation)),
     (2, 0, ALL, Others, Some(Line(2))),
     (3, 6, 6, These(b"123456789"), None),
@@ -107,6 +105,13 @@ const OF_STARTED: &[Row] = &[
     // The first record becomes a part of the process, and the last line says one line too many.
     (11, 10, 10, InProcess, Some(Line(14))),
     (11, 0, ALL, Others, Some(Line(11))),
+];
+
+/// The first line of version 2, and its records.
+const OF_STARTED_NOW: &[Row] = &[
+    // Records of version 1 don't say how the last child ended.
+    (1, 12, 12, These(b"1"), Some(Line(12))),
+    (1, 0, ALL, Others, Some(Version)),
     (12, 5, 5, FirstOfId, Some(Unfit)),
     (12, 6, 6, OfId, Some(Unfit)),
     // A child has a number and an action.
@@ -137,6 +142,41 @@ const OF_STARTED: &[Row] = &[
     (14, 26, 26, These(DIGITS), Some(Unfit)),
     // The last line doesn't begin with its word.
     (14, 34, 34, Others, Some(Cut)),
+    (14, 0, ALL, Others, Some(Line(14))),
+    (15, 0, 3, Others, Some(Cut)),
+    (15, 4, 5, These(b"\n"), Some(Cut)),
+    (15, 6, 6, Others, Some(Cut)),
+    (15, 0, ALL, Others, Some(Line(15))),
+];
+
+/// The first line of version 1, and its records.
+const OF_STARTED: &[Row] = &[
+    // Records of version 2 say how the last child ended.
+    (1, 12, 12, These(b"2"), Some(Line(12))),
+    (1, 0, ALL, Others, Some(Version)),
+    (12, 5, 5, FirstOfId, Some(Unfit)),
+    (12, 6, 6, OfId, Some(Unfit)),
+    (12, 8, 8, These(DIGITS), Some(Unfit)),
+    (12, 16, 16, These(b"1"), None),
+    (12, 17, 19, These(b"1"), Some(Unfit)),
+    (12, 21, 21, These(DIGITS), Some(Unfit)),
+    (12, 23, 23, These(DIGITS), Some(Unfit)),
+    (12, 0, ALL, Others, Some(Line(12))),
+    (13, 5, 5, FirstOfId, Some(Unfit)),
+    (13, 7, 7, These(DIGITS), Some(Unfit)),
+    (13, 19, 19, These(b"0"), Some(Unfit)),
+    (13, 20, 22, These(b"1"), Some(Unfit)),
+    (13, 24, 24, These(DIGITS), Some(Unfit)),
+    (13, 26, 26, These(b"123456789"), Some(Unfit)),
+    (13, 26, 26, These(b"-"), None),
+    (13, 0, ALL, Others, Some(Line(13))),
+    (14, 5, 5, FirstOfId, Some(Unfit)),
+    (14, 7, 7, These(DIGITS), Some(Unfit)),
+    (14, 19, 19, These(b"0"), Some(Unfit)),
+    (14, 20, 22, These(b"1"), Some(Unfit)),
+    (14, 24, 24, These(DIGITS), Some(Unfit)),
+    (14, 26, 26, These(DIGITS), Some(Unfit)),
+    (14, 27, 27, Others, Some(Cut)),
     (14, 0, ALL, Others, Some(Line(14))),
     (15, 0, 3, Others, Some(Cut)),
     (15, 4, 5, These(b"\n"), Some(Cut)),
@@ -193,8 +233,8 @@ fn has(bytes: Bytes, byte: u8) -> bool {
 }
 
 /// What is answered where the byte stands at this line and column. A row's columns are counted with its ends.
-fn wanted(rows: &[Row], line: usize, column: usize, byte: u8) -> Option<Over> {
-    for (own, first, last, bytes, want) in rows {
+fn wanted(part: &Part, line: usize, column: usize, byte: u8) -> Option<Over> {
+    for (own, first, last, bytes, want) in part.heads.iter().chain(part.records) {
         if *own == line && *first <= column && column <= *last && has(*bytes, byte) {
             return *want;
         }
@@ -240,73 +280,101 @@ fn changed(alloc: Global, text: &str, place: usize, byte: u8) -> Result<Vec<u8>,
     Ok(made)
 }
 
-/// What is answered to the text; and where it is taken over, whether it is handed over again as it stands, but for its
-/// version and its generation.
-fn answer(alloc: Global, text: &[u8]) -> Result<(Option<Over>, bool), Fail> {
+/// Whether a text is handed over again as it stood, but for its version and its generation, and that each record has
+/// this behind it.
+fn is_again(again: &[u8], text: &[u8], behind: &[u8]) -> bool {
+    let mut news = again.split(|byte| *byte == b'\n').skip(2);
+    for line in text.split(|byte| *byte == b'\n').skip(2) {
+        let end: &[u8] = if line.starts_with(b"slot ") {
+            behind
+        } else {
+            b""
+        };
+        let Some(new) = news.next() else {
+            return false;
+        };
+        if new.strip_prefix(line) != Some(end) {
+            return false;
+        }
+    }
+    news.next().is_none()
+}
+
+/// What is answered to the text; and where it is taken over, whether it is handed over again as it stands.
+fn answer(alloc: Global, text: &[u8], behind: &str) -> Result<(Option<Over>, bool), Memory> {
     let mut core = match take_over(alloc, text, 1) {
         Ok(core) => core,
         Err(why) => return Ok((Some(why), true)),
     };
-    let mut again = hand_over(alloc, &mut core)?;
-    match again.get_mut(GENERATION_AT) {
-        Some(digit) => *digit = b'1',
-        None => return Err(Fail::from("no generation")),
+    match hand_over(alloc, &mut core) {
+        Ok(again) => Ok((None, is_again(&again, text, behind.as_bytes()))),
+        Err(_) => Ok((None, false)),
     }
-    Ok((
-        None,
-        again.as_slice().get(VERSION_END..) == text.get(VERSION_END..),
-    ))
 }
 
-/// Where the first line ends.
-const VERSION_END: usize = 13;
-
-/// Where the digit of the generation stands.
-const GENERATION_AT: usize = 25;
-
 /// Whether the text is answered as its rows say with this byte at the place.
-fn is_answered(
-    alloc: Global,
-    text: &str,
-    rows: &[Row],
-    place: &Place,
-    byte: u8,
-) -> Result<bool, Fail> {
-    let made = changed(alloc, text, place.at, byte)?;
-    let (got, whole) = answer(alloc, &made)?;
-    Ok(got == wanted(rows, place.line, place.column, byte) && whole)
+fn is_answered(alloc: Global, part: &Part, place: &Place, byte: u8) -> Result<bool, Memory> {
+    let made = changed(alloc, part.text, place.at, byte)?;
+    let (got, whole) = answer(alloc, &made, part.behind)?;
+    Ok(got == wanted(part, place.line, place.column, byte) && whole)
 }
 
 /// The first byte, other than its own, with which the place is answered otherwise than the rows say.
-fn wrong_byte(
-    alloc: Global,
-    text: &str,
-    rows: &[Row],
-    place: &Place,
-    own: u8,
-) -> Result<Option<u8>, Fail> {
+fn wrong_byte(alloc: Global, part: &Part, place: &Place, own: u8) -> Result<Option<u8>, Memory> {
     for byte in 0..=255u8 {
-        if byte != own && !is_answered(alloc, text, rows, place, byte)? {
+        if byte != own && !is_answered(alloc, part, place, byte)? {
             return Ok(Some(byte));
         }
     }
     Ok(None)
 }
 
-/// A text, the rows of its bytes, and lines of it, the first and the last.
-type Part = (&'static str, &'static [Row], usize, usize);
+/// A text, what stands behind each of its records when it is handed over again, and the rows of its bytes.
+struct Part {
+    text: &'static str,
+    behind: &'static str,
+    heads: &'static [Row],
+    records: &'static [Row],
+}
 
-/// The line, the column and the byte of the first change of these lines that is answered otherwise than the rows say.
-fn wrong_change(alloc: Global, part: &Part) -> Result<Option<(usize, usize, u8)>, Fail> {
-    let (text, rows, first, last) = *part;
+const PARTS: &[Part] = &[
+    Part {
+        text: STARTED_NOW,
+        behind: "",
+        heads: OF_HEADS,
+        records: OF_STARTED_NOW,
+    },
+    // It says nothing of how the last children ended.
+    Part {
+        text: STARTED,
+        behind: " -",
+        heads: OF_HEADS,
+        records: OF_STARTED,
+    },
+    Part {
+        text: OPENING_NOW,
+        behind: "",
+        heads: OF_OPENING,
+        records: &[],
+    },
+];
+
+/// The line, the column and the byte of the first change of these lines, the first and the last, that is answered
+/// otherwise than the rows say.
+fn wrong_change(
+    alloc: Global,
+    part: &Part,
+    first: usize,
+    last: usize,
+) -> Result<Option<(usize, usize, u8)>, Memory> {
     let mut place = Place {
         at: 0,
         line: 1,
         column: 0,
     };
-    for own in text.bytes() {
+    for own in part.text.bytes() {
         if first <= place.line && place.line <= last {
-            if let Some(byte) = wrong_byte(alloc, text, rows, &place, own)? {
+            if let Some(byte) = wrong_byte(alloc, part, &place, own)? {
                 return Ok(Some((place.line, place.column, byte)));
             }
         }
@@ -315,37 +383,45 @@ fn wrong_change(alloc: Global, part: &Part) -> Result<Option<(usize, usize, u8)>
     Ok(None)
 }
 
+/// The first wrong change of these lines of any text: its line, column and byte.
+fn wrong_among(
+    alloc: Global,
+    first: usize,
+    last: usize,
+) -> Result<Option<(usize, usize, u8)>, Memory> {
+    for part in PARTS {
+        let wrong = wrong_change(alloc, part, first, last)?;
+        if wrong.is_some() {
+            return Ok(wrong);
+        }
+    }
+    Ok(None)
+}
+
 #[test]
 fn each_byte_of_heads_is_changed(rt: HostRuntime) -> Result<(), Fail> {
-    let wrong = wrong_change(rt.alloc(), &(STARTED_NOW, OF_STARTED, 1, 7))?;
+    let wrong = wrong_among(rt.alloc(), 1, 7)?;
     assert!(rt; wrong.is_none(), "{wrong:?}");
     Ok(())
 }
 
 #[test]
-fn each_byte_of_a_table_is_changed(rt: HostRuntime) -> Result<(), Fail> {
-    let wrong = wrong_change(rt.alloc(), &(STARTED_NOW, OF_STARTED, 8, 11))?;
+fn each_byte_of_tables_is_changed(rt: HostRuntime) -> Result<(), Fail> {
+    let wrong = wrong_among(rt.alloc(), 8, 11)?;
     assert!(rt; wrong.is_none(), "{wrong:?}");
     Ok(())
 }
 
 #[test]
 fn each_byte_of_records_is_changed(rt: HostRuntime) -> Result<(), Fail> {
-    let wrong = wrong_change(rt.alloc(), &(STARTED_NOW, OF_STARTED, 12, 13))?;
+    let wrong = wrong_among(rt.alloc(), 12, 13)?;
     assert!(rt; wrong.is_none(), "{wrong:?}");
     Ok(())
 }
 
 #[test]
-fn each_byte_of_the_end_is_changed(rt: HostRuntime) -> Result<(), Fail> {
-    let wrong = wrong_change(rt.alloc(), &(STARTED_NOW, OF_STARTED, 14, ALL))?;
-    assert!(rt; wrong.is_none(), "{wrong:?}");
-    Ok(())
-}
-
-#[test]
-fn each_byte_without_records_is_changed(rt: HostRuntime) -> Result<(), Fail> {
-    let wrong = wrong_change(rt.alloc(), &(OPENING_NOW, OF_OPENING, 1, ALL))?;
+fn each_byte_of_ends_is_changed(rt: HostRuntime) -> Result<(), Fail> {
+    let wrong = wrong_among(rt.alloc(), 14, ALL)?;
     assert!(rt; wrong.is_none(), "{wrong:?}");
     Ok(())
 }
@@ -366,18 +442,29 @@ fn whole_texts(rt: HostRuntime) -> Result<(), Fail> {
         let got = take_over(rt.alloc(), text.as_bytes(), *generation).err();
         assert!(rt; got == *want, "{generation}: {text}");
     }
-    let (_, whole) = answer(rt.alloc(), STARTED_NOW.as_bytes())?;
-    assert!(rt; whole);
+    for part in PARTS {
+        let got = answer(rt.alloc(), part.text.as_bytes(), part.behind)?;
+        assert!(rt; got == (None, true), "{}", part.text);
+    }
     Ok(())
 }
 
-/// Each proper front of a text is cut, the empty one among them.
+/// The length of the first proper front of a text, the empty one among them, that isn't refused as cut.
+fn uncut(alloc: Global, text: &[u8]) -> Option<usize> {
+    for length in 0..text.len() {
+        let front = text.get(..length)?;
+        if take_over(alloc, front, 1).err() != Some(Cut) {
+            return Some(length);
+        }
+    }
+    None
+}
+
 #[test]
 fn each_front_is_cut(rt: HostRuntime) -> Result<(), Fail> {
-    for length in 0..STARTED_NOW.len() {
-        let front = STARTED_NOW.as_bytes().get(..length).ok_or("too short")?;
-        let got = take_over(rt.alloc(), front, 1).err();
-        assert!(rt; got == Some(Cut), "{length}");
+    for part in PARTS {
+        let length = uncut(rt.alloc(), part.text.as_bytes());
+        assert!(rt; length.is_none(), "{length:?}: {}", part.text);
     }
     Ok(())
 }
@@ -403,5 +490,27 @@ fn lines_are_exchanged(rt: HostRuntime) -> Result<(), Fail> {
         let got = take_over(rt.alloc(), text.as_bytes(), 1).err();
         assert!(rt; got == *want, "{new}");
     }
+    Ok(())
+}
+
+/// The core of which the text says: a start of `a` and one of `b` were asked for.
+fn started(alloc: Global) -> Result<Core, Fail> {
+    let (table, _) = inittab_text::read(alloc, b"id:3:initdefault:\na:3:respawn:x\nb:3:once:y\n")?;
+    let mut core = Core::new(alloc, table, None)?;
+    for _ in 0..5 {
+        let _ = core.next();
+    }
+    Ok(core)
+}
+
+/// A text of version 1 gives the core that was written: both hand over the same, and take the same step next.
+#[test]
+fn the_written_core_is_taken_over(rt: HostRuntime) -> Result<(), Fail> {
+    let mut written = started(rt.alloc())?;
+    let text = hand_over(rt.alloc(), &mut written)?;
+    assert!(rt; is_again(&text, STARTED.as_bytes(), b" -"));
+    let mut taken = take_over(rt.alloc(), STARTED.as_bytes(), 1)?;
+    let same = hand_over(rt.alloc(), &mut taken)? == hand_over(rt.alloc(), &mut written)?;
+    assert!(rt; same && taken.next() == written.next());
     Ok(())
 }

@@ -117,8 +117,8 @@ fn a_core_without_room_is_not_rebuilt(rt: HostRuntime) -> Result<(), Fail> {
     let text = format!(in rt.alloc(); "initd-state 2\ngeneration 1\n{SETTLED}")?;
     let mut refused = 0usize;
     let mut rebuilt = 0usize;
-    for step in 1..400usize {
-        match is_rebuilt(rt.alloc(), &text, 32 * step)? {
+    for step in 1..800usize {
+        match is_rebuilt(rt.alloc(), &text, STEP * step)? {
             Some(true) => rebuilt = rebuilt.wrapping_add(1),
             Some(false) => refused = refused.wrapping_add(1),
             None => {}
@@ -139,8 +139,8 @@ fn a_text_without_room_is_not_taken_over(rt: HostRuntime) -> Result<(), Fail> {
     Err(Fail::from("no heap has room"))
 }
 
-/// A core with a child, a look at it that is open, a child to be stopped, a wish for another level, times, and ends of
-/// children.
+/// A core with a child, a look at it that is open, a child that was sent SIGTERM, a hold, a wish for another level, times,
+/// and ends of children.
 const QUIET: &str = "initd-state 2
 generation 1
 clock 700
@@ -152,8 +152,8 @@ table 2
 w:3:wait:a
 r:3:respawn:b
 slot w - - - - 1000 - - exit:3
-slot r 700 respawn look - 1010 - 6,7,600 -
-slot x 701 once - due 0011 - - exit:255
+slot r 700 respawn look - 1010 900 6,7,8,9,10,11,12,13,14,600 -
+slot x 701 once - term:650 0011 - - exit:255
 end 13
 ";
 
@@ -169,8 +169,8 @@ table 2
 w:3:wait:a
 r:3:respawn:b
 slot w - - - - 1000 - - exit:3
-slot r 700 respawn look - 1010 - 6,7,600 -
-slot x 701 once - due 0011 - - exit:255
+slot r 700 respawn look - 1010 900 6,7,8,9,10,11,12,13,14,600 -
+slot x 701 once - term:650 0011 - - exit:255
 end 13
 ";
 

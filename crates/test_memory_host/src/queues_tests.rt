@@ -403,3 +403,42 @@ fn calls_take_the_first_of_their_queue(rt: HostRuntime) -> Result<(), Fail> {
     }
     Ok(())
 }
+
+/// The fault of a call that gives a text in memory of a heap.
+fn fault_in(heap: &LocalHeap, host: &mut MemoryHost, is_table: bool) -> Option<HostFault> {
+    if is_table {
+        return host.read_tables(heap).err();
+    }
+    host.carry(heap, &[b'x'; 64]).err()
+}
+
+/// Whether a text that is given has room on a heap of the given number of bytes; where it has none, that is counted.
+fn has_room_in(alloc: Global, room: usize, is_table: bool) -> Result<bool, Fail> {
+    let heap = LocalHeap::new(alloc, room)?;
+    let mut host = MemoryHost::new(alloc);
+    give_table(alloc, &mut host, INITTAB)?;
+    let fault = fault_in(&heap, &mut host, is_table);
+    match (fault, host.faults(), told(&host)) {
+        (None, 0, Some(1)) => Ok(true),
+        (Some(HostFault::Memory), 1, Some(1)) => Ok(false),
+        _ => Err(Fail::from("another answer")),
+    }
+}
+
+/// How many heaps, each with less more room than the least growth takes, have no room, until one has.
+fn refused_until_given(alloc: Global, is_table: bool) -> Result<usize, Fail> {
+    for refused in 0..4096usize {
+        if has_room_in(alloc, 16 * refused, is_table)? {
+            return Ok(refused);
+        }
+    }
+    Err(Fail::from("no heap has room"))
+}
+
+#[test]
+fn a_text_without_room_is_not_given(rt: HostRuntime) -> Result<(), Fail> {
+    let tables = refused_until_given(rt.alloc(), true)?;
+    let texts = refused_until_given(rt.alloc(), false)?;
+    assert!(rt; tables > 8 && texts > 0, "{tables} {texts}");
+    Ok(())
+}

@@ -4,9 +4,11 @@ use crate::gifts::give_all;
 use crate::runs::core_of;
 use child_host::Host;
 use init_trace::HappeningIn;
+use init_words::{Id, Status};
 use level_core::Core;
 use linked_list_allocator::LocalHeap;
 use memory_host::MemoryHost;
+use run_notes::{LastEnd, RunNotes};
 use std::alloc::Global;
 use std::test::Fail;
 use supervisor::{Served, Unwatched};
@@ -128,17 +130,56 @@ fn is_listed(alloc: Global, room: usize) -> Option<bool> {
     }
 }
 
-#[test]
-fn a_list_that_cannot_grow_ends_the_log(rt: HostRuntime) {
-    let mut whole = 0u32;
-    for step in 1..60usize {
-        let listed = is_listed(rt.alloc(), 1024 * step);
-        assert!(rt; listed.is_some(), "at {step}");
-        if listed == Some(true) {
-            whole = whole.saturating_add(1);
+/// How many heaps, each with less more room than the least growth takes, refuse something until one refuses nothing;
+/// None where something else is said on one.
+fn refused_until_whole<F: Fn(Global, usize) -> Option<bool>>(
+    alloc: Global,
+    said_in: F,
+) -> Option<usize>
+    requires { F.IsAlwaysCallable said_in }
+{
+    for refused in 0..4096usize {
+        if said_in(alloc, 16 * refused)? {
+            return Some(refused);
         }
     }
-    assert!(rt; whole > 0 && whole < 59);
+    None
+}
+
+#[test]
+fn a_list_that_cannot_grow_ends_the_log(rt: HostRuntime) {
+    let refused = refused_until_whole(rt.alloc(), is_listed);
+    assert!(rt; refused > Some(8), "{refused:?}");
+}
+
+fn is_noted_over(alloc: Global, heap: &LocalHeap) -> Option<bool> {
+    let mut notes = RunNotes::new(heap, ListLog::new(alloc));
+    let served = served(alloc, &mut notes)?;
+    let text = trace_text::print(alloc, notes.log().list()).ok()?;
+    if text.as_slice() != TRACE || served != ended(true) || notes.births() != 1 {
+        return None;
+    }
+    match (notes.last(&Id::read(b"r")?), notes.running()) {
+        (LastEnd::Unnoted, None) => Some(false),
+        (LastEnd::Ended(Status::Killed), Some(running)) if running.len() == 0 => Some(true),
+        _ => None,
+    }
+}
+
+/// Whether the notes in front of a log are complete on a heap of the given number of bytes; `None` where they say
+/// anything false, or the log behind them has not the whole trace.
+fn is_noted(alloc: Global, room: usize) -> Option<bool> {
+    match &LocalHeap::new(alloc, room) {
+        Ok(heap) => is_noted_over(alloc, heap),
+        Err(_) => None,
+    }
+}
+
+/// Notes that can't grow say so, and keep nothing from the log behind them.
+#[test]
+fn notes_that_cannot_grow_say_so(rt: HostRuntime) {
+    let refused = refused_until_whole(rt.alloc(), is_noted);
+    assert!(rt; refused > Some(8), "{refused:?}");
 }
 
 /// Whether a log over a heap of the given number of bytes has room for each happening's text: what it wrote is a front

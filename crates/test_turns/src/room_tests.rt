@@ -3,13 +3,13 @@
 use crate::gifts::give_all;
 use crate::runs::{Row, core_of};
 use crate::trials::{Trial, passes_over};
-use child_host::Call;
+use child_host::{Call, Host};
 use level_core::Core;
 use linked_list_allocator::LocalHeap;
 use memory_host::MemoryHost;
 use std::alloc::{Allocator, Global};
 use std::test::Fail;
-use supervisor::Unwatched;
+use supervisor::{Opening, Unwatched};
 use trace_log::ListLog;
 
 /// Takes what a heap has left in blocks of one size, up to 64 of them.
@@ -134,7 +134,7 @@ fn turn_text<A: Allocator + Copy>(
 }
 
 /// What became of a table that is read where there is little room.
-#[derive(PartialEq, Eq)]
+#[derive(Clone, Copy, PartialEq, Eq)]
 enum Reading {
     /// There was no room for its text.
     Unread,
@@ -224,20 +224,89 @@ fn read_in(own: Global, room: usize) -> Option<Reading> {
     }
 }
 
+/// What has no room first where a table is read anew.
+#[derive(Clone, Copy)]
+enum First {
+    Text,
+    Table,
+    Copy,
+    Records,
+    Nothing,
+}
+
+/// What has no room first of what a reading takes, one after another.
+fn first_of<'a>(
+    heap: &'a LocalHeap,
+    core: &mut Core<&'a LocalHeap>,
+    host: &mut MemoryHost,
+) -> First {
+    let Ok(parts) = host.read_tables(heap) else {
+        return First::Text;
+    };
+    let Ok((table, _)) = inittab_text::read_parts(heap, &parts) else {
+        return First::Table;
+    };
+    let Ok(copy) = table.copy(heap) else {
+        return First::Copy;
+    };
+    if core.adopt(table).is_err() || copy.len() != 5 {
+        return First::Records;
+    }
+    First::Nothing
+}
+
+fn first_over(own: Global, heap: &LocalHeap, room: usize) -> Option<First> {
+    let mut core = core_of(own, heap, INITTAB)?;
+    let mut host = MemoryHost::new(own);
+    if !begins(own, heap, &mut core, &mut host, GIFTS) {
+        return None;
+    }
+    let _fillers = fill(own, heap, room)?;
+    Some(first_of(heap, &mut core, &mut host))
+}
+
+fn first_in(own: Global, room: usize) -> Option<First> {
+    match &LocalHeap::new(own, 32_768) {
+        Ok(heap) => first_over(own, heap, room),
+        Err(_) => None,
+    }
+}
+
+/// What has no room first, where the turn does what it has to then.
+fn first_answered(own: Global, room: usize) -> Option<First> {
+    let first = first_in(own, room)?;
+    let want = match first {
+        First::Text => Reading::Unread,
+        First::Table | First::Copy | First::Records => Reading::Refused,
+        First::Nothing => Reading::Adopted,
+    };
+    (read_in(own, room)? == want).then_some(first)
+}
+
+fn bit(first: First) -> u8 {
+    match first {
+        First::Text => 1,
+        First::Table => 2,
+        First::Copy => 4,
+        First::Records => 8,
+        First::Nothing => 16,
+    }
+}
+
+/// What has no room first in some of the rooms, from one to the next less more than the least growth takes; None where
+/// a turn answers otherwise.
+fn firsts(own: Global) -> Option<u8> {
+    let mut seen = 0u8;
+    for step in 0..600usize {
+        seen |= bit(first_answered(own, 16 * step)?);
+    }
+    Some(seen)
+}
+
 #[test]
 fn a_table_without_room_is_not_read(rt: HostRuntime) {
-    let mut unread = 0u32;
-    let mut refused = 0u32;
-    let mut adopted = 0u32;
-    for step in 0..300usize {
-        match read_in(rt.alloc(), 32 * step) {
-            Some(Reading::Unread) => unread = unread.saturating_add(1),
-            Some(Reading::Refused) => refused = refused.saturating_add(1),
-            Some(Reading::Adopted) => adopted = adopted.saturating_add(1),
-            None => panic!(rt; "at {step}"),
-        }
-    }
-    assert!(rt; unread > 0 && refused > 3 && adopted > 0);
+    let seen = firsts(rt.alloc());
+    assert!(rt; seen == Some(31), "{seen:?}");
 }
 
 /// A turn that executes init anew, and one whose re-execution is refused.
@@ -347,8 +416,8 @@ fn init_without_room_is_not_re_executed(rt: HostRuntime) {
     let mut unmade = 0u32;
     let mut refused = 0u32;
     let mut taken = 0u32;
-    for step in 0..200usize {
-        match handed_in(rt.alloc(), 32 * step) {
+    for step in 0..400usize {
+        match handed_in(rt.alloc(), 16 * step) {
             Some(HandOver::Unmade) => unmade = unmade.saturating_add(1),
             Some(HandOver::Refused) => refused = refused.saturating_add(1),
             Some(HandOver::Taken) => taken = taken.saturating_add(1),
@@ -356,4 +425,37 @@ fn init_without_room_is_not_re_executed(rt: HostRuntime) {
         }
     }
     assert!(rt; unmade > 0 && refused > 3 && taken > 0);
+}
+
+/// Whether an opening has room on a heap; None where the table alone has none.
+fn opens_over(heap: &LocalHeap) -> Option<bool> {
+    let (table, _) = inittab_text::read(
+        heap,
+        b"id:3:initdefault:\nw:3:wait:prep\nr:3:respawn:serv\n",
+    )
+    .ok()?;
+    Some(Opening::new(heap, table, None).is_ok())
+}
+
+fn opens_in(alloc: Global, room: usize) -> Option<bool> {
+    match &LocalHeap::new(alloc, room) {
+        Ok(heap) => opens_over(heap),
+        Err(_) => None,
+    }
+}
+
+#[test]
+fn an_opening_without_room_is_refused(rt: HostRuntime) {
+    let mut refused = 0u32;
+    for step in 0..4096usize {
+        match opens_in(rt.alloc(), 16 * step) {
+            None => {}
+            Some(false) => refused = refused.saturating_add(1),
+            Some(true) => {
+                assert!(rt; refused > 3, "{refused}");
+                return;
+            }
+        }
+    }
+    panic!(rt; "no heap has room");
 }

@@ -27,8 +27,8 @@ use Rattle.child_table.specs.declared.children.KnownChild.{KnownChild}
 use Rattle.child_table.specs.declared.children.Stop.{Stop}
 use Rattle.core_model.specs.State.{CoreState}
 use Rattle.core_model.specs.Decide.{is_wanted_slot}
-use Rattle.core_model.specs.Fit.{Fits, child_known, living, stop_after, stop_of, stop_known, record_of}
-use Rattle.core_model.proofs.Fitted.{fit_records}
+use Rattle.core_model.specs.Fit.{LastStatuses, Fits, child_known, living, stop_after, stop_of, stop_known, record_of}
+use Rattle.core_model.proofs.Fitted.{fit_records, fit_table, fit_stage}
 use Rattle.core_model.proofs.Reading.{any_found}
 use Rattle.core_model.proofs.Ranks.{wanted_same}
 use Rattle.trace_rest.specs.declared.Awaited.{Awaited}
@@ -133,22 +133,22 @@ module _ (goal : Goal) (past : List Event) (sound : is_sound goal past ≡ true)
       ∙ sym (found_filter (is_of id) (is_awaited past) (known_children past))
 
   -- an entry of the table in force is wanted where its record says so
-  wanted_in : (id : List ℕ) (e : Entry) → entry_of id (table_of past) ≡ Some e → is_wanted_in (stage_of past) e (record_of past id) ≡ is_wanted e past
-  wanted_in id e found = at (stage_of past) refl where
+  wanted_in : (lasts : LastStatuses) (id : List ℕ) (e : Entry) → entry_of id (table_of past) ≡ Some e → is_wanted_in (stage_of past) e (record_of lasts past id) ≡ is_wanted e past
+  wanted_in lasts id e found = at (stage_of past) refl where
     same : id ≡ e.id
     same = found_id id (table_of past) e found
 
-    at : (o : Option Stage) → stage_of past ≡ o → is_wanted_in o e (record_of past id) ≡ is_wanted e past
+    at : (o : Option Stage) → stage_of past ≡ o → is_wanted_in o e (record_of lasts past id) ≡ is_wanted e past
     at None is = sym (ap (λ o. starts_in e o && wanted_by e.act (nothing_runs e.id past) (not (is_asked e.id past)) (is_called e past)) is)
-    at (Some now) is = ap (λ i. is_wanted_slot now e (record_of past i)) same ∙ sym (wanted_same goal past sound now is e (ap (λ i. entry_of i (table_of past)) (sym same) ∙ found))
+    at (Some now) is = ap (λ i. is_wanted_slot now e (record_of lasts past i)) same ∙ sym (wanted_same lasts goal past sound now is e (ap (λ i. entry_of i (table_of past)) (sym same) ∙ found))
 
-  by_entry : (id : List ℕ) (o : Option Entry) → entry_of id (table_of past) ≡ o → why_by_entry (stage_of past) o (record_of past id) ≡ why_of_entry o past
-  by_entry id None is = refl
-  by_entry id (Some e) is = ap (λ b. cond (waited_of e) (Some WaitedFor) (cond b (Some InTheWay) None)) (wanted_in id e is)
+  by_entry : (lasts : LastStatuses) (id : List ℕ) (o : Option Entry) → entry_of id (table_of past) ≡ o → why_by_entry (stage_of past) o (record_of lasts past id) ≡ why_of_entry o past
+  by_entry lasts id None is = refl
+  by_entry lasts id (Some e) is = ap (λ b. cond (waited_of e) (Some WaitedFor) (cond b (Some InTheWay) None)) (wanted_in lasts id e is)
 
   -- so why the end of its child is awaited
-  whys_same : (id : List ℕ) (child : Child) → child_known id past ≡ Some child → why_of_record (stage_of past) (table_of past) (record_of past id) ≡ why_awaited past child
-  whys_same id child there = λ i. cond (stopped i) (Some Excluded) (entry i) where
+  whys_same : (lasts : LastStatuses) (id : List ℕ) (child : Child) → child_known id past ≡ Some child → why_of_record (stage_of past) (table_of past) (record_of lasts past id) ≡ why_awaited past child
+  whys_same lasts id child there = λ i. cond (stopped i) (Some Excluded) (entry i) where
     given : (b : Bool) (stop : Stop) → is_some (cond b (Some stop) None) ≡ b
     given true stop = refl
     given false stop = refl
@@ -156,19 +156,19 @@ module _ (goal : Goal) (past : List Event) (sound : is_sound goal past ≡ true)
     stopped : is_some (stop_of id past) ≡ is_excluded past child
     stopped = ap (λ o. is_some (stop_known past o)) there ∙ given (is_excluded past child) (stop_after (spell_hits child past))
 
-    entry : why_by_entry (stage_of past) (entry_of id (table_of past)) (record_of past id) ≡ why_of_entry (entry_of child.id (table_of past)) past
-    entry = by_entry id (entry_of id (table_of past)) refl ∙ ap (λ i. why_of_entry (entry_of i (table_of past)) past) (found_own id (known_children past) child there)
+    entry : why_by_entry (stage_of past) (entry_of id (table_of past)) (record_of lasts past id) ≡ why_of_entry (entry_of child.id (table_of past)) past
+    entry = by_entry lasts id (entry_of id (table_of past)) refl ∙ ap (λ i. why_of_entry (entry_of i (table_of past)) past) (found_own id (known_children past) child there)
 
-  one_same : (id : List ℕ) → awaited_of_record (stage_of past) (table_of past) (record_of past id) ≡ option_and_then (with_why past) (child_known id past)
-  one_same id = at (child_known id past) refl where
-    at : (o : Option Child) → child_known id past ≡ o → option_and_then (λ (child : KnownChild). option_map (λ why. record { id = id; number = child.number; why = why }) (why_of_record (stage_of past) (table_of past) (record_of past id))) (option_map living o) ≡ option_and_then (with_why past) o
+  one_same : (lasts : LastStatuses) (id : List ℕ) → awaited_of_record (stage_of past) (table_of past) (record_of lasts past id) ≡ option_and_then (with_why past) (child_known id past)
+  one_same lasts id = at (child_known id past) refl where
+    at : (o : Option Child) → child_known id past ≡ o → option_and_then (λ (child : KnownChild). option_map (λ why. record { id = id; number = child.number; why = why }) (why_of_record (stage_of past) (table_of past) (record_of lasts past id))) (option_map living o) ≡ option_and_then (with_why past) o
     at None is = refl
-    at (Some child) is = λ i. option_map (λ why. record { id = found_own id (known_children past) child is i; number = child.number; why = why }) (whys_same id child is i)
+    at (Some child) is = λ i. option_map (λ why. record { id = found_own id (known_children past) child is i; number = child.number; why = why }) (whys_same lasts id child is i)
 
   pub known_same : (core : CoreState) → Fits core goal past → awaited_by core ≡ in_record_order (awaited_known past) past
-  known_same core fits = (λ i. filter_map (awaited_of_record (fits.now.stage i) (fits.table.table i)) (fit_records core goal past fits i))
-      ∙ filter_map_map (awaited_of_record (stage_of past) (table_of past)) (record_of past) (record_ids past)
-      ∙ same_filter_map (λ id. awaited_of_record (stage_of past) (table_of past) (record_of past id)) (λ id. option_and_then (with_why past) (find (is_of id) (awaited_known past))) (λ id. one_same id ∙ sym (known_found id)) (record_ids past)
+  known_same core fits = (λ i. filter_map (awaited_of_record (fit_stage core goal past fits i) (fit_table core goal past fits i)) (fit_records core goal past fits i))
+      ∙ filter_map_map (awaited_of_record (stage_of past) (table_of past)) (record_of fits.lasts past) (record_ids past)
+      ∙ same_filter_map (λ id. awaited_of_record (stage_of past) (table_of past) (record_of fits.lasts past id)) (λ id. option_and_then (with_why past) (find (is_of id) (awaited_known past))) (λ id. one_same fits.lasts id ∙ sym (known_found id)) (record_ids past)
 
   -- at a quiet point the kept children are known
   pub quiet_same : is_quiet past ≡ true → in_record_order (awaited_children past) past ≡ in_record_order (awaited_known past) past

@@ -19,7 +19,7 @@ ghost use Rattle.init_trace.specs.Sound.{is_sound};
 ghost use Rattle.trace_laws.specs.Moments.{AtEachMoment};
 ghost use Rattle.core_model.specs.State.{CoreState};
 ghost use Rattle.core_model.specs.Decide.{decide};
-ghost use Rattle.core_model.specs.Fit.{Fits, OnEachTrace};
+ghost use Rattle.core_model.specs.Fit.{StillFits, OnEachTrace};
 ghost use Rattle.core_model.specs.Work.{work_left};
 ghost use Rattle.trace_rest.specs.Awaiting.{with_why, in_record_order, awaited_known, awaited_by};
 ghost use Rattle.trace_rest.specs.Coming.{with_own_steps, after_own_steps};
@@ -102,7 +102,7 @@ pub fn law_of_coming()
     // and after so many of its own steps the trace is sound, and what init keeps fits it
     ensures fits { (core : CoreState) → OnEachTrace core (λ goal past. (n : ℕ)
         → IsTrue (is_sound goal (with_own_steps goal n past))
-        × Fits (after_own_steps n core) goal (with_own_steps goal n past)) }
+        × StillFits core (after_own_steps n core) goal past (with_own_steps goal n past)) }
 {}
 
 /// By what it keeps init can name each child whose end it awaits. It does nothing: its contract says the laws.

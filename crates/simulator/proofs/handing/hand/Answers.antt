@@ -1,6 +1,6 @@
 use Rattle.std.proofs.Common.{Vec, ℕ, map, ◌∷◌, sym, ap, ◌∙◌, subst}
 use Rattle.init_trace.specs.declared.happenings.Happening.TheVariants as happening
-use Rattle.core_model.specs.Fit.{Fits}
+use Rattle.core_model.specs.Fit.{StillFits}
 use Rattle.core_model.specs.Parts.{state_of}
 use Rattle.core_model.specs.State.{CoreState}
 use Rattle.simulator.proofs.Foreign.{handed_then, kept_more, kept_push, more_texts, same_core, same_made}
@@ -20,14 +20,14 @@ returns-clause-state g c =
 pub returns-clause-fits : goal.returns-clause-fits
 returns-clause-fits g c goal past sound fits =
     let same = same_core c.args.how c.make_text.new.core c.go_on_as.new.core c.in_ok-taken.taken c.in_ok-taken.ensures.taken c.go_on_as.ensures in
-    subst (λ (core : CoreState). Fits core goal (happening.Handed c.args.how ∷ past)) (sym same) (c.in_ok-text.ensures.fits goal past sound fits c.args.how)
+    subst (λ (core : CoreState). StillFits c.args.core.now core goal past (happening.Handed c.args.how ∷ past)) (sym same) (c.in_ok-text.ensures.fits goal past sound fits c.args.how)
 
 pub returns-clause-made : goal.returns-clause-made
 returns-clause-made g c =
     let same = same_core c.args.how c.make_text.new.core c.go_on_as.new.core c.in_ok-taken.taken c.in_ok-taken.ensures.taken c.go_on_as.ensures in
-    let next = ap (λ (core : CoreState). core.generation) c.in_ok-text.ensures.state in
-    more_texts (λ (text : Vec ℕ g.row.A.Denot). text.items) c.args.made.now.items c.push.new.self.items c.in_ok-text.text c.args.core.now.generation c.go_on_as.new.core.generation
-    c.in_ok-push.ensures.items c.requires.made (state_of c.make_text.new.core, c.in_ok-text.ensures.says, next) (ap (λ (core : CoreState). core.generation) same ∙ next)
+    let next = ap (λ (core : CoreState). core.heads.generation) c.in_ok-text.ensures.state in
+    more_texts (λ (text : Vec ℕ g.row.A.Denot). text.items) c.args.made.now.items c.push.new.self.items c.in_ok-text.text c.args.core.now.heads.generation c.go_on_as.new.core.heads.generation
+    c.in_ok-push.ensures.items c.requires.made (state_of c.make_text.new.core, c.in_ok-text.ensures.says, next) (ap (λ (core : CoreState). core.heads.generation) same ∙ next)
 
 pub returns-clause-kept : goal.returns-clause-kept
 returns-clause-kept g c =

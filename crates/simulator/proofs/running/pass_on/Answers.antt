@@ -1,7 +1,8 @@
-use Rattle.std.proofs.Common.{sym, ◌∙◌, subst, true, ◌≡◌}
+use Rattle.std.proofs.Common.{sym, ◌∙◌, subst, true, ◌≡◌, ◌∷◌}
 use Rattle.init_trace.specs.declared.happenings.Happening.TheVariants as event
 use Rattle.init_trace.specs.Range.{is_in_range}
 use Rattle.trace_laws.proofs.Runs.{run_sound}
+use Rattle.core_model.proofs.Fitted.{all_on}
 use Rattle.simulator.proofs.Hearing.{fits_at, fits_silent, nothing_told}
 use Rattle.simulator.proofs.Keeping.{lasts_at, lasts_adopt, lasts_not_read, lasts_told, lasts_clock, lasts_nudge, lasts_got, lasts_hand, lasts_silent}
 use Rattle.simulator.proofs.Moves.{said_parts}
@@ -9,7 +10,7 @@ use Rattle.simulator.proofs.running.pass_on.Goals as goal
 
 pub returns-in_ok-adopt-in-NewTable-clause-fits : goal.returns-in_ok-adopt-in-NewTable-clause-fits
 returns-in_ok-adopt-in-NewTable-clause-fits g c goal past moment may =
-    fits_at goal past c.adopt.new.core c.args.happening.now (event.NewTable c.in-NewTable.table) c.in-NewTable.is (c.in_ok-adopt-in-NewTable.ensures.fits goal past (run_sound goal past moment.runs) moment.fits)
+    fits_at goal past c.adopt.new.core c.args.happening.now (event.NewTable c.in-NewTable.table) c.in-NewTable.is (all_on c.args.core.now c.adopt.new.core goal past (event.NewTable c.in-NewTable.table ∷ past) (c.in_ok-adopt-in-NewTable.ensures.fits goal past (run_sound goal past moment.runs) moment.fits.0) moment.fits)
 
 pub returns-in_ok-adopt-in-NewTable-clause-lasts : goal.returns-in_ok-adopt-in-NewTable-clause-lasts
 returns-in_ok-adopt-in-NewTable-clause-lasts g c goal past moment may =
@@ -18,7 +19,7 @@ returns-in_ok-adopt-in-NewTable-clause-lasts g c goal past moment may =
 
 pub returns-in-NotRead-clause-fits : goal.returns-in-NotRead-clause-fits
 returns-in-NotRead-clause-fits g c goal past moment may =
-    fits_at goal past c.not_read.new.self c.args.happening.now event.NotRead c.in-NotRead.is (c.not_read.ensures.fits goal past (run_sound goal past moment.runs) moment.fits)
+    fits_at goal past c.not_read.new.self c.args.happening.now event.NotRead c.in-NotRead.is (all_on c.args.core.now c.not_read.new.self goal past (event.NotRead ∷ past) (c.not_read.ensures.fits goal past (run_sound goal past moment.runs) moment.fits.0) moment.fits)
 
 pub returns-in-NotRead-clause-lasts : goal.returns-in-NotRead-clause-lasts
 returns-in-NotRead-clause-lasts g c goal past moment may =
@@ -26,8 +27,7 @@ returns-in-NotRead-clause-lasts g c goal past moment may =
 
 pub returns-in-Some-clause-fits : goal.returns-in-Some-clause-fits
 returns-in-Some-clause-fits g c goal past moment may =
-    fits_at goal past c.answer-in-Some.new.self c.args.happening.now (event.Told c.in-Told.id) c.in-Told.is
-    (c.answer-in-Some.ensures.fits goal past (run_sound goal past moment.runs) moment.fits (sym (c.answer.ensures past moment.follows) ∙ c.in-Some.is))
+    fits_at goal past c.answer-in-Some.new.self c.args.happening.now (event.Told c.in-Told.id) c.in-Told.is (all_on c.args.core.now c.answer-in-Some.new.self goal past (event.Told c.in-Told.id ∷ past) (c.answer-in-Some.ensures.fits goal past (run_sound goal past moment.runs) moment.fits.0 (sym (c.answer.ensures past moment.follows) ∙ c.in-Some.is)) moment.fits)
 
 pub returns-in-Some-clause-lasts : goal.returns-in-Some-clause-lasts
 returns-in-Some-clause-lasts g c goal past moment may =
@@ -46,7 +46,7 @@ returns-in_default-answer-clause-lasts g c goal past moment may =
 
 pub returns-in-Clock-clause-fits : goal.returns-in-Clock-clause-fits
 returns-in-Clock-clause-fits g c goal past moment may =
-    fits_at goal past c.clock.new.self c.args.happening.now (event.Clock c.in-Clock.reading) c.in-Clock.is (c.clock.ensures.fits goal past (run_sound goal past moment.runs) moment.fits)
+    fits_at goal past c.clock.new.self c.args.happening.now (event.Clock c.in-Clock.reading) c.in-Clock.is (all_on c.args.core.now c.clock.new.self goal past (event.Clock c.in-Clock.reading ∷ past) (c.clock.ensures.fits goal past (run_sound goal past moment.runs) moment.fits.0) moment.fits)
 
 pub returns-in-Clock-clause-lasts : goal.returns-in-Clock-clause-lasts
 returns-in-Clock-clause-lasts g c goal past moment may =
@@ -55,7 +55,7 @@ returns-in-Clock-clause-lasts g c goal past moment may =
 
 pub returns-in-Nudge-clause-fits : goal.returns-in-Nudge-clause-fits
 returns-in-Nudge-clause-fits g c goal past moment may =
-    fits_at goal past c.nudge.new.self c.args.happening.now event.Nudge c.in-Nudge.is (c.nudge.ensures.fits goal past (run_sound goal past moment.runs) moment.fits)
+    fits_at goal past c.nudge.new.self c.args.happening.now event.Nudge c.in-Nudge.is (all_on c.args.core.now c.nudge.new.self goal past (event.Nudge ∷ past) (c.nudge.ensures.fits goal past (run_sound goal past moment.runs) moment.fits.0) moment.fits)
 
 pub returns-in-Nudge-clause-lasts : goal.returns-in-Nudge-clause-lasts
 returns-in-Nudge-clause-lasts g c goal past moment may =
@@ -63,7 +63,7 @@ returns-in-Nudge-clause-lasts g c goal past moment may =
 
 pub returns-in-Got-clause-fits : goal.returns-in-Got-clause-fits
 returns-in-Got-clause-fits g c goal past moment may =
-    fits_at goal past c.got.new.self c.args.happening.now (event.Got c.in-Got.request) c.in-Got.is (c.got.ensures.fits goal past (run_sound goal past moment.runs) moment.fits)
+    fits_at goal past c.got.new.self c.args.happening.now (event.Got c.in-Got.request) c.in-Got.is (all_on c.args.core.now c.got.new.self goal past (event.Got c.in-Got.request ∷ past) (c.got.ensures.fits goal past (run_sound goal past moment.runs) moment.fits.0) moment.fits)
 
 pub returns-in-Got-clause-lasts : goal.returns-in-Got-clause-lasts
 returns-in-Got-clause-lasts g c goal past moment may =
@@ -72,7 +72,7 @@ returns-in-Got-clause-lasts g c goal past moment may =
 
 pub returns-in_ok-hand-in-Handed-clause-fits : goal.returns-in_ok-hand-in-Handed-clause-fits
 returns-in_ok-hand-in-Handed-clause-fits g c goal past moment may =
-    fits_at goal past c.hand.new.core c.args.happening.now (event.Handed c.in-Handed.how) c.in-Handed.is (c.in_ok-hand-in-Handed.ensures.fits goal past (run_sound goal past moment.runs) moment.fits)
+    fits_at goal past c.hand.new.core c.args.happening.now (event.Handed c.in-Handed.how) c.in-Handed.is (all_on c.args.core.now c.hand.new.core goal past (event.Handed c.in-Handed.how ∷ past) (c.in_ok-hand-in-Handed.ensures.fits goal past (run_sound goal past moment.runs) moment.fits.0) moment.fits)
 
 pub returns-in_ok-hand-in-Handed-clause-lasts : goal.returns-in_ok-hand-in-Handed-clause-lasts
 returns-in_ok-hand-in-Handed-clause-lasts g c goal past moment may =

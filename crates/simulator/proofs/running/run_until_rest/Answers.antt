@@ -2,6 +2,8 @@ use Rattle.std.proofs.Common.{rules, ◌≡◌, Err, ◌++◌, ◌∷◌, ap, �
 use Rattle.std.proofs.KnownBytes.{Appends-trans}
 use Rattle.trace_text.specs.Lines.{event_text}
 use Rattle.trace_laws.proofs.Runs.{run_sound}
+use Rattle.core_model.specs.Fit.{with_step}
+use Rattle.core_model.proofs.Fitted.{all_on}
 use Rattle.simulator.specs.declared.running.SimFault.TheVariants as fault
 use Rattle.init_words.proofs.Tests.{err_is}
 use Rattle.core_model.specs.State.{CoreState}
@@ -17,7 +19,7 @@ returns-in_default-clause-ok g c goal past before =
       next,
       more,
       at_rest goal next c.next-step.result c.is_reread-rereads.result c.steps.core c.next-step.new.self c.steps.side moment
-          (c.next-step.ensures.due goal next sound moment.fits) c.in_default.ensures.none c.is_reread-rereads.ensures (c.next-step.ensures.fits goal next sound moment.fits)
+          (c.next-step.ensures.due goal next sound moment.fits.0) c.in_default.ensures.none c.is_reread-rereads.ensures (all_on c.steps.core c.next-step.new.self goal next (with_step c.next-step.result next) (c.next-step.ensures.fits goal next sound moment.fits.0) moment.fits)
           (lasts_step c.steps.core c.next-step.new.self c.next-step.result c.next-step.ensures.step c.next-step.ensures.state goal next moment.fits moment.lasts),
       goes,
       written,
@@ -30,7 +32,7 @@ returns-in_err-write_happening-clause-err g c =
     let is : c.from_residual.result ≡ Err f = search rules in
     err_is c.from_residual.result f _ is (λ goal past before.
     let (next, more, moment, goes, written) = c.steps.invariant.all goal past before in
-    let due_now = c.next-step.ensures.due goal next (run_sound goal next moment.runs) moment.fits in (
+    let due_now = c.next-step.ensures.due goal next (run_sound goal next moment.runs) moment.fits.0 in (
       c.in-Some.happening ∷ next,
       more ++ event_text c.in-Some.happening,
       more_run goal next c.in-Some.happening c.next-step.result due_now (c.in-Some.ensures.some.1 next) moment.runs,
@@ -45,7 +47,7 @@ returns-in_err-take-clause-err g c =
     let is : c.from_residual-in_err-take.result ≡ Err fault.Memory = search rules in
     err_is c.from_residual-in_err-take.result fault.Memory _ is (λ goal past before.
     let (next, more, moment, goes, written) = c.steps.invariant.all goal past before in
-    let due_now = c.next-step.ensures.due goal next (run_sound goal next moment.runs) moment.fits in (
+    let due_now = c.next-step.ensures.due goal next (run_sound goal next moment.runs) moment.fits.0 in (
       c.in-Some.happening ∷ next,
       more ++ event_text c.in-Some.happening,
       more_run goal next c.in-Some.happening c.next-step.result due_now (c.in-Some.ensures.some.1 next) moment.runs,
@@ -64,7 +66,7 @@ steps-preserved g c =
     let moved = moment_step c.steps.core c.next-step.new.self c.steps.side c.take.new.self c.next-step.result c.in-Some.happening c.next-step.ensures.due c.next-step.ensures.fits c.in-Some.ensures.some.1 c.in_ok-take.ensures.ok
     (lasts_step c.steps.core c.next-step.new.self c.next-step.result c.next-step.ensures.step c.next-step.ensures.state) in
     record {
-      generation = ap (λ (core : CoreState). core.generation) c.next-step.ensures.state ∙ same_generation c.next-step.result c.steps.core ∙ c.steps.invariant.generation;
+      generation = ap (λ (core : CoreState). core.heads.generation) c.next-step.ensures.state ∙ same_generation c.next-step.result c.steps.core ∙ c.steps.invariant.generation;
       some = let (goal, past, moment) = c.steps.invariant.some in (goal, c.in-Some.happening ∷ past, moved goal past moment);
       all = λ goal past before. went_step c.steps.core c.next-step.new.self c.steps.side c.take.new.self c.next-step.result c.in-Some.happening c.next-step.ensures.due c.next-step.ensures.fits c.in-Some.ensures.some.1 c.in_ok-take.ensures.ok
           (lasts_step c.steps.core c.next-step.new.self c.next-step.result c.next-step.ensures.step c.next-step.ensures.state)
@@ -76,7 +78,7 @@ steps-preserved-in_ok-take g c =
     let moved = moment_step c.steps.core c.next-step.new.self c.steps.side c.take.new.self c.next-step.result c.in-Some.happening c.next-step.ensures.due c.next-step.ensures.fits c.in-Some.ensures.some.1 c.in_ok-take.ensures.ok
     (lasts_step c.steps.core c.next-step.new.self c.next-step.result c.next-step.ensures.step c.next-step.ensures.state) in
     record {
-      generation = ap (λ (core : CoreState). core.generation) c.next-step.ensures.state ∙ same_generation c.next-step.result c.steps.core ∙ c.steps.invariant.generation;
+      generation = ap (λ (core : CoreState). core.heads.generation) c.next-step.ensures.state ∙ same_generation c.next-step.result c.steps.core ∙ c.steps.invariant.generation;
       some = let (goal, past, moment) = c.steps.invariant.some in (goal, c.in-Some.happening ∷ past, moved goal past moment);
       all = λ goal past before. went_step c.steps.core c.next-step.new.self c.steps.side c.take.new.self c.next-step.result c.in-Some.happening c.next-step.ensures.due c.next-step.ensures.fits c.in-Some.ensures.some.1 c.in_ok-take.ensures.ok
           (lasts_step c.steps.core c.next-step.new.self c.next-step.result c.next-step.ensures.step c.next-step.ensures.state)

@@ -8,7 +8,7 @@ use Rattle.simulator.proofs.running.run_until_rest.Given as goal
 abbrev pub invariant-steps : goal.invariant-steps
 invariant-steps g l = record {
   some : SomeMoment l.core l.side;
-  generation : l.core.generation ≡ l.fn.core.generation;
+  generation : l.core.heads.generation ≡ l.fn.core.heads.generation;
   all : FromMoment l.fn.core l.fn.side (λ goal past. WentOn goal past l.core l.side (g.W.Write.contents l.fn.out) (g.W.Write.contents l.out));
 }
 

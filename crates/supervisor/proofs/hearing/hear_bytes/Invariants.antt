@@ -6,6 +6,7 @@ use Rattle.supervisor.proofs.hearing.hear_bytes.Given as goal
 -- what stands before the rest was heard
 abbrev pub invariant-loop-rest : goal.invariant-loop-rest
 invariant-loop-rest g l = (part : List ℕ) × (part ++ l.rest ≡ l.bytes)
+    × (g.H.Host.told l.host ≡ g.H.Host.told l.fn.host)
     × ((room : ℕ) → Leads (At l.fn.core l.fn.blocks) (At l.core l.blocks) (g.L.Log.state l.fn.log) (g.L.Log.state l.log) (TakeBytes room (Ok part) ∷ []))
 
 abbrev pub decreases-loop-rest : goal.decreases-loop-rest

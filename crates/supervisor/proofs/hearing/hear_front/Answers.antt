@@ -19,7 +19,7 @@ returns-in-Some-clause-leads g c room =
     Leads-fed c.args.core.now c.hear_request.new.core c.args.blocks.now c.feed-count.new.self (g.L.Log.state c.args.log.now) (g.L.Log.state c.hear_request.new.log) room (take c.feed-count.result.0 c.args.bytes.now) request
     (some_left c.args.blocks.now.count (length c.args.bytes.now) c.feed-count.result.0 c.feed-count.ensures.taken (c.feed-count.ensures.progress c.requires))
     c.feed-count.ensures.stands c.feed-count.ensures.got
-    (subst (λ given. list_all is_request (option_to_list given) ≡ true → Hears (Tracks c.args.core.now) (Tracks c.hear_request.new.core) (g.L.Log.state c.args.log.now) (g.L.Log.state c.hear_request.new.log) (requested (option_to_list given))) (sym is) (λ short. c.hear_request.ensures (and_parts (is_request c.in-Some.request) true short).0))
+    (subst (λ given. list_all is_request (option_to_list given) ≡ true → Hears (Tracks c.args.core.now) (Tracks c.hear_request.new.core) (g.L.Log.state c.args.log.now) (g.L.Log.state c.hear_request.new.log) (requested (option_to_list given))) (sym is) (λ short. c.hear_request.ensures.hears (and_parts (is_request c.in-Some.request) true short).0))
 
 pub returns-in_default-clause-leads : goal.returns-in_default-clause-leads
 returns-in_default-clause-leads g c room =

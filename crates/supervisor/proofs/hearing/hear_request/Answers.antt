@@ -4,8 +4,8 @@ use Rattle.host_trace.proofs.Acting.{Hears-told, Hears-tracks}
 use Rattle.supervisor.proofs.Lasting.{request_lasts}
 use Rattle.supervisor.proofs.hearing.hear_request.Goals as goal
 
-pub returns : goal.returns
-returns g c asks =
+pub returns-clause-hears : goal.returns-clause-hears
+returns-clause-hears g c asks =
     let core = c.args.core.now in
     let new = c.got.new.self in
     let old = g.L.Log.state c.args.log.now in

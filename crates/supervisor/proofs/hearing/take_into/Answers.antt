@@ -1,7 +1,7 @@
 use Rattle.std.proofs.Common.{rules, ◌≡◌, ◌∙◌, refl, sym, ap, subst, length, take, ◌∷◌, [], Ok, Err, arith}
 use Rattle.std.proofs.lemmas.Grind.{common_steps}
 use Rattle.child_host.specs.declared.calls.Call.TheVariants.{TakeBytes}
-use Rattle.child_host.specs.Calls.{front_read}
+use Rattle.child_host.specs.Calls.{Adds, front_read}
 use Rattle.host_trace.specs.Leads.{At, Leads}
 use Rattle.host_trace.specs.Turns.{bytes_in}
 use Rattle.host_trace.proofs.Leading.{Leads-still}
@@ -32,5 +32,6 @@ returns-clause-takes g c =
     let whole : length (take c.in-Ok.count buffer) ≡ c.in-Ok.count = grind (arith, common_steps) in
     let before = At c.args.core.now c.args.blocks.now in
     let behind = At c.hear_bytes.new.core c.hear_bytes.new.blocks in
-    Makes-one _ _ old new (TakeBytes room taken) (IsTake c.args.taken c.in-Ok.count) before behind c.take_bytes.ensures.adds (room, taken, refl, c.requires, ap bytes_in some ∙ whole)
-    (subst (λ t. Leads before behind old new (TakeBytes room t ∷ [])) (sym some) (c.hear_bytes.ensures room))
+    Makes-one _ _ old new (TakeBytes room taken) (IsTake c.args.taken c.in-Ok.count) before behind
+    (subst (λ told. Adds (g.H.Host.told c.args.host.now) told (TakeBytes room taken)) (sym c.hear_bytes.ensures.told) c.take_bytes.ensures.adds) (room, taken, refl, c.requires, ap bytes_in some ∙ whole)
+    (subst (λ t. Leads before behind old new (TakeBytes room t ∷ [])) (sym some) (c.hear_bytes.ensures.leads room))

@@ -1,7 +1,7 @@
 use Rattle.std.proofs.Common.{rules, ◌≡◌, refl, subst, ◌∷◌, false}
 use Rattle.init_trace.specs.declared.happenings.Happening.TheVariants as past
 use Rattle.init_trace.specs.declared.steps.Step.TheVariants as step
-use Rattle.core_model.specs.Fit.{Fits}
+use Rattle.core_model.specs.Fit.{StillFits}
 use Rattle.child_host.specs.declared.calls.Call.TheVariants.{Announce, ReadTables}
 use Rattle.core_model.specs.Fit.{OnEachTrace}
 use Rattle.host_trace.specs.Leads.{Gave, Lasts, Logs, Tracks}
@@ -22,6 +22,6 @@ returns g c =
     Makes-two (g.H.Host.told c.args.host.now) (g.H.Host.told c.use_table.new.host) (g.H.Host.told c.announce.new.self) log now_log (ReadTables read.0) (Announce past.NotRead) IsStep (Gave (Tracks core) step.Reread) (Tracks new)
     read.1 c.announce.ensures.adds refl
     (Leads-not_read core new log now_log read.0
-    (subst (λ s. OnEachTrace s (λ goal so_far. Fits new goal (past.NotRead ∷ so_far))) (c.use_table.ensures.core failed) c.not_read.ensures.fits)
+    (subst (λ s. OnEachTrace s (λ goal so_far. StillFits s new goal so_far (past.NotRead ∷ so_far))) (c.use_table.ensures.core failed) c.not_read.ensures.fits)
     (subst (λ s. Lasts s new) (c.use_table.ensures.core failed) (unread_lasts c.use_table.new.core new c.not_read.ensures.state))
     (subst (λ l. (so_far : _) → Logs l now_log so_far (past.NotRead ∷ so_far)) (c.use_table.ensures.log failed) c.write.ensures))

@@ -6,7 +6,7 @@ use Rattle.inittab_text.proofs.PartLemmas.{was_readable}
 use Rattle.init_trace.specs.declared.happenings.Happening.TheVariants.{NewTable}
 use Rattle.init_trace.specs.Event.{Event}
 use Rattle.child_table.specs.Lists.{is_quiet}
-use Rattle.core_model.specs.Fit.{Fits, OnEachTrace}
+use Rattle.core_model.specs.Fit.{StillFits, OnEachTrace}
 use Rattle.host_trace.specs.Leads.{Logs}
 use Rattle.supervisor.proofs.Lasting.{adopt_lasts}
 use Rattle.supervisor.proofs.rereading.use_parts.Goals as goal
@@ -19,7 +19,7 @@ pub returns-clause-fits : goal.returns-clause-fits
 returns-clause-fits g c taken =
     let works : is_err c.adopt.result ≡ false = search rules in
     let read : c.in-Ok.table ≡ table_of_texts (texts_of c.args.parts.now) = search rules in
-    subst (λ table. OnEachTrace c.args.core.now (λ goal past. Fits c.adopt.new.self goal (NewTable table ∷ past))) read (was_ok c.adopt.result _ works c.adopt.ensures.fits)
+    subst (λ table. OnEachTrace c.args.core.now (λ goal past. StillFits c.args.core.now c.adopt.new.self goal past (NewTable table ∷ past))) read (was_ok c.adopt.result _ works c.adopt.ensures.fits)
 
 pub returns-clause-lasts : goal.returns-clause-lasts
 returns-clause-lasts g c taken =
@@ -28,7 +28,8 @@ returns-clause-lasts g c taken =
 
 pub returns-clause-readable : goal.returns-clause-readable
 returns-clause-readable g c taken =
-    was_readable (Ok (c.in-Ok.table, c.in-Ok.field-0-1)) _ (texts_of c.args.parts.now) refl c.in-Ok.ensures.parts c.in-Ok.ensures.too_long
+    let is : c.read_parts-reading.result ≡ Ok (c.in-Ok.table, c.in-Ok._faults) = search rules in
+    was_readable c.read_parts-reading.result (c.in-Ok.table, c.in-Ok._faults) (texts_of c.args.parts.now) is c.read_parts-reading.ensures.parts c.read_parts-reading.ensures.too_long
 
 was_quiet : {E : Type 0} (quiet : Bool) (result : Result (Unit {0}) E) (why : E) → (quiet ≡ false → result ≡ Err why) → is_err result ≡ false → quiet ≡ true
 was_quiet true result why busy works = refl

@@ -1,7 +1,7 @@
 use Rattle.std.proofs.Common.{rules, ◌≡◌, refl, sym, subst, ◌∷◌, [], Ok}
 use Rattle.init_trace.specs.declared.steps.Step.TheVariants as step
 use Rattle.child_host.specs.declared.calls.Call.TheVariants.{ReadTables}
-use Rattle.child_host.specs.Calls.{parts_read}
+use Rattle.child_host.specs.Calls.{Adds, parts_read}
 use Rattle.host_trace.specs.Leads.{Gave, Leads, Tracks}
 use Rattle.host_trace.proofs.Calling.{Leads-used}
 use Rattle.supervisor.specs.Parts.{IsStep}
@@ -17,7 +17,7 @@ returns-clause-used g c took =
     let parts = parts_read (λ held. held.items) c.read_tables.result in
     let is : parts ≡ Ok c.deref.result.now = search rules in
     let before = Gave (Tracks core) step.Reread in
-    Makes-one (g.H.Host.told c.args.host.now) (g.H.Host.told c.read_tables.new.self) log now_log (ReadTables parts) IsStep before (Tracks new)
-    c.read_tables.ensures.adds refl
+    Makes-one (g.H.Host.told c.args.host.now) (g.H.Host.told c.use_parts.new.host) log now_log (ReadTables parts) IsStep before (Tracks new)
+    (subst (λ told. Adds (g.H.Host.told c.args.host.now) told (ReadTables parts)) (sym c.use_parts.ensures.told) c.read_tables.ensures.adds) refl
     (subst (λ t. Leads before (Tracks new) log now_log (ReadTables t ∷ [])) (sym is)
     (Leads-used core new log now_log c.deref.result.now (c.use_parts.ensures.readable took) (c.use_parts.ensures.quiet took) (c.use_parts.ensures.fits took) (c.use_parts.ensures.lasts took) (c.use_parts.ensures.took took)))

@@ -2,7 +2,7 @@ use Rattle.std.proofs.Common.{rules, ◌≡◌, refl}
 use Rattle.init_trace.specs.declared.happenings.Happening.TheVariants as past
 use Rattle.init_trace.specs.declared.steps.Step.TheVariants as step
 use Rattle.host_trace.proofs.Calling.{first_is}
-use Rattle.supervisor.proofs.Carried.{Makes-idle, Makes-said}
+use Rattle.supervisor.proofs.Carried.{Makes-idle, Makes-said, Makes-unless}
 use Rattle.supervisor.proofs.stepping.carry_out.Goals as goal
 
 pub returns-in-Enter : goal.returns-in-Enter
@@ -39,3 +39,21 @@ pub returns-in-Idle : goal.returns-in-Idle
 returns-in-Idle g c =
     let is : c.args.step.now ≡ step.Idle = search rules in
     Makes-idle (g.H.Host.told c.args.host.now) (g.L.Log.state c.args.log.now) c.args.core.now c.args.step.now is
+
+pub returns-in-Order : goal.returns-in-Order
+returns-in-Order g c =
+    let is : c.args.step.now ≡ step.Order c.in-Order.id c.in-Order.ask = search rules in
+    Makes-unless (g.H.Host.told c.args.host.now) (g.H.Host.told c.order.new.host) (g.L.Log.state c.args.log.now) (g.L.Log.state c.order.new.log) c.args.core.now c.order.new.core c.args.step.now (step.Order c.in-Order.id c.in-Order.ask)
+    is refl c.order.ensures
+
+pub returns-in-Reread : goal.returns-in-Reread
+returns-in-Reread g c =
+    let is : c.args.step.now ≡ step.Reread = search rules in
+    Makes-unless (g.H.Host.told c.args.host.now) (g.H.Host.told c.reread.new.host) (g.L.Log.state c.args.log.now) (g.L.Log.state c.reread.new.log) c.args.core.now c.reread.new.core c.args.step.now step.Reread
+    is refl c.reread.ensures
+
+pub returns-in-Reexec : goal.returns-in-Reexec
+returns-in-Reexec g c =
+    let is : c.args.step.now ≡ step.Reexec = search rules in
+    Makes-unless (g.H.Host.told c.args.host.now) (g.H.Host.told c.reexec.new.host) (g.L.Log.state c.args.log.now) (g.L.Log.state c.reexec.new.log) c.args.core.now c.reexec.new.core c.args.step.now step.Reexec
+    is refl c.reexec.ensures

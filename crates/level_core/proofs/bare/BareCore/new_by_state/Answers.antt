@@ -9,7 +9,7 @@ use Rattle.level_core.proofs.Kept.{timely_opening}
 use Rattle.level_core.proofs.bare.BareCore.new_by_state.Goals as goal
 
 pub invariant_of-result : goal.invariant_of-result
-invariant_of-result g c = (omega arith, rw c.in_ok-slots.ensures.records (timely_opening 0 c.args.table), rw c.in_ok-slots.ensures.records (order_new c.args.table), refl, refl)
+invariant_of-result g c = rw (c.opening.ensures, c.in_ok-slots.ensures.records) (omega arith, timely_opening 0 c.args.table, order_new c.args.table, refl, refl)
 
 level_is : (given default : Option Level) → unwrap_or (option_or given default) S ≡ opening_level given default
 level_is (Some level) default = refl
@@ -17,4 +17,4 @@ level_is None (Some level) = refl
 level_is None None = refl
 
 pub returns-clause-state : goal.returns-clause-state
-returns-clause-state g c = rw (c.in_ok-slots.ensures.records, c.new-2.ensures, c.unwrap_or-level.ensures, c.or.ensures, c.default_level.ensures, level_is c.args.level (default_level_of c.args.table)) refl
+returns-clause-state g c = rw (c.in_ok-slots.ensures.records, c.opening.ensures, c.unwrap_or-level.ensures, c.or.ensures, c.default_level.ensures, level_is c.args.level (default_level_of c.args.table)) refl

@@ -11,8 +11,8 @@ use Rattle.level_core.proofs.bare.BareCore.order.Goals as goal
 pub invariant_of-self : goal.invariant_of-self
 invariant_of-self g c = (
   c.self.invariant.0,
-  rw c.ask.ensures (timely_changed c.self.inside.time c.args.id (after_order c.args.ask c.self.inside.time) (λ slot h. timely_order c.args.ask c.self.inside.time c.self.inside.time (omega arith) slot h) c.self.inside.slots c.self.invariant.1),
-  rw c.ask.ensures (order_changed c.args.id (after_order c.args.ask c.self.inside.time) (id-after_order c.args.ask c.self.inside.time) (act-after_order c.args.ask c.self.inside.time) c.self.inside.table c.self.inside.slots c.self.invariant.2),
-  rw c.ask.ensures (seen_ordered c.args.id c.args.ask c.self.inside.time c.self.inside.slots c.self.inside.looks_from c.self.invariant.3),
-  rw (c.place_if-self-inside.ensures, c.ask.ensures) (passed_ordered c.self.inside.stage c.args.id c.args.ask c.self.inside.time c.self.inside.table c.self.inside.slots c.self.inside.starts_from c.leaves_passed-kept.result c.leaves_passed-kept.ensures (ap (λ (x : CoreState). are_distinct x.slots) c.self.view_is ∙ c.requires.distinct) (ap (λ (x : CoreState). can_ask c.args.id c.args.ask x.time x.slots) c.self.view_is ∙ c.requires.allowed) c.self.invariant.4),
+  rw c.ask.ensures (timely_changed c.self.inside.heads.time c.args.id (after_order c.args.ask c.self.inside.heads.time) (λ slot h. timely_order c.args.ask c.self.inside.heads.time c.self.inside.heads.time (omega arith) slot h) c.self.inside.slots c.self.invariant.1),
+  rw c.ask.ensures (order_changed c.args.id (after_order c.args.ask c.self.inside.heads.time) (id-after_order c.args.ask c.self.inside.heads.time) (act-after_order c.args.ask c.self.inside.heads.time) c.self.inside.table c.self.inside.slots c.self.invariant.2),
+  rw c.ask.ensures (seen_ordered c.args.id c.args.ask c.self.inside.heads.time c.self.inside.slots c.self.inside.looks_from c.self.invariant.3),
+  rw (c.place_if-self-inside.ensures, c.ask.ensures) (passed_ordered c.self.inside.heads.stage c.args.id c.args.ask c.self.inside.heads.time c.self.inside.table c.self.inside.slots c.self.inside.starts_from c.leaves_passed-kept.result c.leaves_passed-kept.ensures (ap (λ (x : CoreState). are_distinct x.slots) c.self.view_is ∙ c.requires.distinct) (ap (λ (x : CoreState). can_ask c.args.id c.args.ask x.heads.time x.slots) c.self.view_is ∙ c.requires.allowed) c.self.invariant.4),
 )

@@ -11,5 +11,5 @@ pub returns : goal.returns
 returns g c =
     let first = subst (λ (x : CoreState). IsFirstTermed x.slots c.first_termed.result) c.self.view_is c.first_termed.ensures in
     let due = ap (λ (x : CoreState). list_any (λ (slot : SlotState). is_due slot.stop) x.slots) (sym c.self.view_is) ∙ sym c.has_due.ensures ∙ c.if-has_due.false in
-    let past = ap (λ (x : CoreState). is_past x.grace x.time c.first_termed.result) (sym c.self.view_is) ∙ sym c.is_past.ensures ∙ c.if-is_past.false in
-    sym (none_near c.args.self.now.grace c.args.self.now.time c.args.self.now.slots c.first_termed.result first due past)
+    let past = ap (λ (x : CoreState). is_past x.heads.grace x.heads.time c.first_termed.result) (sym c.self.view_is) ∙ sym c.is_past.ensures ∙ c.if-is_past.false in
+    sym (none_near c.args.self.now.heads.grace c.args.self.now.heads.time c.args.self.now.slots c.first_termed.result first due past)

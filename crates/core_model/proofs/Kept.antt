@@ -1,0 +1,130 @@
+-- The rules that a fit core keeps, one by one.
+use Rattle.std.proofs.Common.{◌≡◌, ◌≤◌, ℕ, Bool, true, not, ◌&&◌, ◌||◌, List, [], ◌∷◌, nat_le, Option, refl}
+use Rattle.std.specs.List.{list_all}
+use Rattle.std.proofs.lemmas.Bool.{and_parts, and_from, leb-true, le-leb}
+use Rattle.init_words.specs.declared.entries.Entry.{Entry}
+use Rattle.init_words.specs.declared.stages.Stage.{Stage}
+use Rattle.respawn_limit.specs.declared.TheConstants.{CLOCK_LIMIT}
+use Rattle.init_trace.specs.Wishes.{in_run}
+use Rattle.child_table.specs.State.{SlotState}
+use Rattle.child_table.specs.Lists.{are_distinct}
+use Rattle.child_table.specs.Order.{IsInOrder}
+use Rattle.child_table.specs.Times.{is_timely, are_timely}
+use Rattle.core_model.specs.Rules.{IsFit, has_cause, is_birth_known, is_order_allowed, is_stop_judged, are_marks_due, is_limiter_kept, are_starts_in, are_starts_free, is_other_level, is_goal_reached, are_heads_kept, is_slot_kept, are_slots_kept}
+use Rattle.core_model.specs.State.{CoreState}
+
+-- tests of all records, one by one and together
+all_parts : (p q : SlotState → Bool) (slots : List SlotState) → list_all (λ (s : SlotState). p s && q s) slots ≡ true → (list_all p slots ≡ true) × (list_all q slots ≡ true)
+all_parts p q [] h = (refl, refl)
+all_parts p q (slot ∷ slots) h =
+    let both = and_parts (p slot && q slot) (list_all (λ (s : SlotState). p s && q s) slots) h in
+    let first = and_parts (p slot) (q slot) both.0 in
+    let later = all_parts p q slots both.1 in
+    (and_from (p slot) (list_all p slots) first.0 later.0, and_from (q slot) (list_all q slots) first.1 later.1)
+
+all_from : (p q : SlotState → Bool) (slots : List SlotState) → list_all p slots ≡ true → list_all q slots ≡ true → list_all (λ (s : SlotState). p s && q s) slots ≡ true
+all_from p q [] h k = refl
+all_from p q (slot ∷ slots) h k =
+    let first = and_parts (p slot) (list_all p slots) h in
+    let second = and_parts (q slot) (list_all q slots) k in
+    and_from (p slot && q slot) (list_all (λ (s : SlotState). p s && q s) slots) (and_from (p slot) (q slot) first.0 second.0) (all_from p q slots first.1 second.1)
+
+module _ (stage : Option Stage) (table : List Entry) (now : ℕ) where
+  abbrev to_stop : SlotState → Bool
+  to_stop slot = has_cause slot && is_birth_known slot.child && is_order_allowed slot && is_stop_judged stage table slot
+
+  abbrev to_marks : SlotState → Bool
+  to_marks slot = to_stop slot && are_marks_due slot
+
+  abbrev to_limiter : SlotState → Bool
+  to_limiter slot = to_marks slot && is_limiter_kept now slot
+
+  -- each of the rules that a record is held to alone
+  record EachKept (slots : List SlotState) : Type 0 where
+    caused : list_all has_cause slots ≡ true
+    births : list_all (λ (s : SlotState). is_birth_known s.child) slots ≡ true
+    orders : list_all is_order_allowed slots ≡ true
+    stops : list_all (is_stop_judged stage table) slots ≡ true
+    marks : list_all are_marks_due slots ≡ true
+    limiters : list_all (is_limiter_kept now) slots ≡ true
+    timely : are_timely now slots ≡ true
+
+  each_kept : (slots : List SlotState) → list_all (is_slot_kept stage table now) slots ≡ true → EachKept slots
+  each_kept slots h =
+      let fifth = all_parts to_limiter (is_timely now) slots h in
+      let fourth = all_parts to_marks (is_limiter_kept now) slots fifth.0 in
+      let third = all_parts to_stop are_marks_due slots fourth.0 in
+      let second = all_parts (λ (s : SlotState). has_cause s && is_birth_known s.child && is_order_allowed s) (is_stop_judged stage table) slots third.0 in
+      let first = all_parts (λ (s : SlotState). has_cause s && is_birth_known s.child) is_order_allowed slots second.0 in
+      let own = all_parts has_cause (λ (s : SlotState). is_birth_known s.child) slots first.0 in
+      record { caused = own.0; births = own.1; orders = first.1; stops = second.1; marks = third.1; limiters = fourth.1; timely = fifth.1 }
+
+  all_kept : (slots : List SlotState) → EachKept slots → list_all (is_slot_kept stage table now) slots ≡ true
+  all_kept slots each =
+      all_from to_limiter (is_timely now) slots
+      (all_from to_marks (is_limiter_kept now) slots
+      (all_from to_stop are_marks_due slots
+      (all_from (λ (s : SlotState). has_cause s && is_birth_known s.child && is_order_allowed s) (is_stop_judged stage table) slots
+      (all_from (λ (s : SlotState). has_cause s && is_birth_known s.child) is_order_allowed slots (all_from has_cause (λ (s : SlotState). is_birth_known s.child) slots each.caused each.births) each.orders) each.stops)
+      each.marks)
+      each.limiters)
+      each.timely
+
+pub record Rules (c : CoreState) : Type 0 where
+  pub distinct : are_distinct c.slots ≡ true
+  pub caused : list_all has_cause c.slots ≡ true
+  pub births : list_all (λ (slot : SlotState). is_birth_known slot.child) c.slots ≡ true
+  pub orders : list_all is_order_allowed c.slots ≡ true
+  pub starts : are_starts_in c.heads.stage c.table c.slots ≡ true
+  pub free : are_starts_free c.slots ≡ true
+  pub stops : list_all (is_stop_judged c.heads.stage c.table) c.slots ≡ true
+  pub marks : list_all are_marks_due c.slots ≡ true
+  pub limiters : list_all (is_limiter_kept c.heads.time) c.slots ≡ true
+  pub timely : are_timely c.heads.time c.slots ≡ true
+  pub clock : c.heads.time ≤ CLOCK_LIMIT
+  pub wish : is_other_level c.heads.stage c.heads.level_wish ≡ true
+  pub announced : (not c.heads.announced || in_run c.heads.stage) ≡ true
+  pub reached : is_goal_reached c.heads.stage c.heads.goal c.heads.booted ≡ true
+
+pub rules_of : (c : CoreState) → IsFit c → Rules c
+rules_of c fit =
+    let both = and_parts (are_heads_kept c.heads) (are_slots_kept c.heads.stage c.table c.heads.time c.slots) fit.kept in
+    let third = and_parts (nat_le c.heads.time CLOCK_LIMIT && is_other_level c.heads.stage c.heads.level_wish && (not c.heads.announced || in_run c.heads.stage)) (is_goal_reached c.heads.stage c.heads.goal c.heads.booted) both.0 in
+    let second = and_parts (nat_le c.heads.time CLOCK_LIMIT && is_other_level c.heads.stage c.heads.level_wish) (not c.heads.announced || in_run c.heads.stage) third.0 in
+    let first = and_parts (nat_le c.heads.time CLOCK_LIMIT) (is_other_level c.heads.stage c.heads.level_wish) second.0 in
+    let all = and_parts (are_distinct c.slots && are_starts_in c.heads.stage c.table c.slots && are_starts_free c.slots) (list_all (is_slot_kept c.heads.stage c.table c.heads.time) c.slots) both.1 in
+    let some = and_parts (are_distinct c.slots && are_starts_in c.heads.stage c.table c.slots) (are_starts_free c.slots) all.0 in
+    let few = and_parts (are_distinct c.slots) (are_starts_in c.heads.stage c.table c.slots) some.0 in
+    let each = each_kept c.heads.stage c.table c.heads.time c.slots all.1 in
+    record {
+      distinct = few.0;
+      caused = each.caused;
+      births = each.births;
+      orders = each.orders;
+      starts = few.1;
+      free = some.1;
+      stops = each.stops;
+      marks = each.marks;
+      limiters = each.limiters;
+      timely = each.timely;
+      clock = leb-true c.heads.time CLOCK_LIMIT first.0;
+      wish = first.1;
+      announced = second.1;
+      reached = third.1;
+    }
+
+pub fit_of : (c : CoreState) → IsInOrder c.table c.slots → Rules c → IsFit c
+fit_of c order rules = record {
+  in_order = order;
+  kept = and_from (are_heads_kept c.heads) (are_slots_kept c.heads.stage c.table c.heads.time c.slots)
+      (and_from (nat_le c.heads.time CLOCK_LIMIT && is_other_level c.heads.stage c.heads.level_wish && (not c.heads.announced || in_run c.heads.stage)) (is_goal_reached c.heads.stage c.heads.goal c.heads.booted)
+      (and_from (nat_le c.heads.time CLOCK_LIMIT && is_other_level c.heads.stage c.heads.level_wish) (not c.heads.announced || in_run c.heads.stage)
+      (and_from (nat_le c.heads.time CLOCK_LIMIT) (is_other_level c.heads.stage c.heads.level_wish) (le-leb c.heads.time CLOCK_LIMIT rules.clock) rules.wish)
+      rules.announced)
+      rules.reached)
+      (and_from (are_distinct c.slots && are_starts_in c.heads.stage c.table c.slots && are_starts_free c.slots) (list_all (is_slot_kept c.heads.stage c.table c.heads.time) c.slots)
+      (and_from (are_distinct c.slots && are_starts_in c.heads.stage c.table c.slots) (are_starts_free c.slots)
+      (and_from (are_distinct c.slots) (are_starts_in c.heads.stage c.table c.slots) rules.distinct rules.starts)
+      rules.free)
+      (all_kept c.heads.stage c.table c.heads.time c.slots (record { caused = rules.caused; births = rules.births; orders = rules.orders; stops = rules.stops; marks = rules.marks; limiters = rules.limiters; timely = rules.timely })));
+}
