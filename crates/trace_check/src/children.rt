@@ -1,13 +1,14 @@
 //! The unreaped children, as the judge keeps them.
 
-ghost use Rattle.std.specs.Prelude.{◌≡◌, ℕ, List, option_copied, OnOk};
+ghost use Rattle.std.specs.Prelude.{◌≡◌, ◌<◌, ℕ, List, option_copied};
+ghost use Rattle.indexmap.specs.IndexMap.{spare};
 ghost use Rattle.trace_check.specs.State.{at};
 ghost use Rattle.trace_check.specs.After.{is_numbered, child_after};
 
-use crate::maps::ById;
+use crate::maps::{ById, put};
 use crate::tables::act;
 use init_trace::{Happening, HappeningIn};
-use init_words::{Act, ChildNo, Memory};
+use init_words::{Act, ChildNo};
 use inittab_text::Table;
 use std::alloc::Allocator;
 
@@ -18,14 +19,15 @@ pub(crate) struct UnreapedChild {
     pub(crate) act: Option<Act>,
 }
 
-/// The unreaped child of each id.
+/// The unreaped child of each id, where there is room for one more.
 pub(crate) fn take_child<A: Allocator, B: Allocator>(
     children: &mut ById<UnreapedChild, A>,
     table: &Table<A>,
     happening: &HappeningIn<B>,
-) -> Result<(), Memory>
-    ensures { OnOk result ((id : List ℕ) → at id children.new.entries
-        ≡ child_after table.now (λ i. at i children.old.entries) happening.now id) }
+)
+    requires { 0 < spare children.old }
+    ensures { (id : List ℕ) → at id children.new.entries
+        ≡ child_after table.now (λ i. at i children.old.entries) happening.now id }
 {
     match happening {
         Happening::Birth(id, number) => {
@@ -33,16 +35,14 @@ pub(crate) fn take_child<A: Allocator, B: Allocator>(
                 number: *number,
                 act: act(table, id),
             };
-            children.insert(*id, living)?;
-            Ok(())
+            put(children, *id, living);
         }
         Happening::Reaped(id, number, _) => {
             if is_numbered(children.get(id), *number) {
                 children.swap_remove(id);
             }
-            Ok(())
         }
-        _ => Ok(()),
+        _ => {}
     }
 }
 

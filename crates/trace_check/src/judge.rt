@@ -1,10 +1,10 @@
 //! What the judge keeps between two happenings.
 
-ghost use Rattle.std.specs.Prelude.{◌≡◌, OnOk};
+ghost use Rattle.std.specs.Prelude.{◌≡◌, OnOk, OnErr};
 
 use crate::children::{UnreapedChild, take_child};
 use crate::limits::{Starts, take_hold, take_start};
-use crate::maps::{ById, Ids, no_ids, nothing};
+use crate::maps::{ById, Ids, no_ids, nothing, room_for, room_for_one};
 use crate::parts::{
     grace_after, stage_after, take_asked, take_called, take_kept, take_order, take_sent, time_after,
 };
@@ -77,16 +77,26 @@ impl<A: Allocator + Copy> Judge<A> {
         }
     }
 
-    /// Takes the happening in, where `table` was in force before it.
+    /// Takes the happening in, where `table` was in force before it. Where memory runs out nothing is taken.
     pub(crate) fn take<B: Allocator>(
         &mut self,
         table: &Table<A>,
         happening: &HappeningIn<B>,
     ) -> Result<(), Memory>
-        ensures { OnOk result (TakesIn table.now self.old self.new happening.now) }
+        ensures ok { OnOk result (TakesIn table.now self.old self.new happening.now) }
+        ensures err { OnErr result (self.new ≡ self.old) }
     {
+        room_for_one(&mut self.orders)?;
+        room_for(&mut self.kept, 1)?;
+        room_for(&mut self.asked, 1)?;
+        room_for(&mut self.sent, 1)?;
+        room_for_one(&mut self.starts)?;
+        room_for_one(&mut self.holds)?;
+        room_for_one(&mut self.children)?;
+        room_for_one(&mut self.termed)?;
         let stage = self.stage;
         let time = self.time;
+        take_called(&mut self.called, table, stage, happening)?;
         take_term(
             &mut self.termed,
             &self.children,
@@ -95,15 +105,14 @@ impl<A: Allocator + Copy> Judge<A> {
             stage,
             time,
             happening,
-        )?;
-        take_sent(&mut self.sent, &self.orders, happening)?;
-        take_kept(&mut self.kept, &self.children, happening)?;
-        take_child(&mut self.children, table, happening)?;
-        take_order(&mut self.orders, happening)?;
-        take_asked(&mut self.asked, table, happening)?;
-        take_called(&mut self.called, table, stage, happening)?;
-        take_start(&mut self.starts, time, happening)?;
-        take_hold(&mut self.holds, time, happening)?;
+        );
+        take_sent(&mut self.sent, &self.orders, happening);
+        take_kept(&mut self.kept, &self.children, happening);
+        take_child(&mut self.children, table, happening);
+        take_order(&mut self.orders, happening);
+        take_asked(&mut self.asked, table, happening);
+        take_start(&mut self.starts, time, happening);
+        take_hold(&mut self.holds, time, happening);
         self.stage = stage_after(happening, stage);
         self.grace = grace_after(happening, self.grace);
         self.time = time_after(happening, time);

@@ -1,16 +1,17 @@
 //! The starts and holds of an id, for the respawn limit.
 
-ghost use Rattle.std.specs.Prelude.{◌≡◌, ℕ, ◌-◌, if◌then◌else◌, List, ◌∷◌, [], take, slice_get, nat_lt, false, OnOk};
+ghost use Rattle.std.specs.Prelude.{◌≡◌, ℕ, ◌-◌, if◌then◌else◌, List, ◌∷◌, [], take, slice_get, nat_lt, false, ◌<◌};
 ghost use Rattle.std.specs.Option.{option_map_or};
 ghost use Rattle.respawn_limit.specs.declared.TheConstants.{STARTS, WINDOW};
+ghost use Rattle.indexmap.specs.IndexMap.{spare};
 ghost use Rattle.init_words.specs.Ids.{same_id};
 ghost use Rattle.trace_check.specs.State.{at, times_at};
 ghost use Rattle.trace_check.specs.After.{starts_after, hold_after};
 
-use crate::maps::{ById, forget_all};
+use crate::maps::{ById, forget_all, put};
 use arrayvec::ArrayVec;
 use init_trace::{Happening, HappeningIn};
-use init_words::{Ask, Id, Memory};
+use init_words::{Ask, Id};
 use respawn_limit::{STARTS, WINDOW};
 use std::alloc::Allocator;
 use std::marker::Model;
@@ -59,56 +60,49 @@ impl Starts {
     }
 }
 
-/// The last starts of each id.
+/// The last starts of each id, where there is room for one more.
 pub(crate) fn take_start<A: Allocator + Copy, B: Allocator>(
     starts: &mut ById<Starts, A>,
     time: u64,
     happening: &HappeningIn<B>,
-) -> Result<(), Memory>
-    ensures { OnOk result ((id : List ℕ) → times_at id starts.new.entries
-        ≡ starts_after time happening.now id (times_at id starts.old.entries)) }
+)
+    requires { 0 < spare starts.old }
+    ensures { (id : List ℕ) → times_at id starts.new.entries
+        ≡ starts_after time happening.now id (times_at id starts.old.entries) }
 {
     match happening {
-        Happening::Enter(..) | Happening::NewTable(_) => {
-            forget_all(starts);
-            Ok(())
-        }
+        Happening::Enter(..) | Happening::NewTable(_) => forget_all(starts),
         Happening::Asked(id, Ask::Start) => note_start(starts, *id, time),
-        _ => Ok(()),
+        _ => {}
     }
 }
 
-fn note_start<A: Allocator>(starts: &mut ById<Starts, A>, id: Id, time: u64) -> Result<(), Memory>
-    ensures { OnOk result ((other : List ℕ) → times_at other starts.new.entries
+fn note_start<A: Allocator>(starts: &mut ById<Starts, A>, id: Id, time: u64)
+    requires { 0 < spare starts.old }
+    ensures { (other : List ℕ) → times_at other starts.new.entries
         ≡ (if same_id other id then time ∷ take (STARTS - 1) (times_at other starts.old.entries)
-        else times_at other starts.old.entries)) }
+        else times_at other starts.old.entries) }
 {
     if let Some(times) = starts.get_mut(&id) {
         times.note(time);
-        return Ok(());
+        return;
     }
-    starts.insert(id, Starts::first(time))?;
-    Ok(())
+    put(starts, id, Starts::first(time));
 }
 
-/// The last hold of each id.
+/// The last hold of each id, where there is room for one more.
 pub(crate) fn take_hold<A: Allocator + Copy, B: Allocator>(
     holds: &mut ById<u64, A>,
     time: u64,
     happening: &HappeningIn<B>,
-) -> Result<(), Memory>
-    ensures { OnOk result ((id : List ℕ) → at id holds.new.entries
-        ≡ hold_after time happening.now id (at id holds.old.entries)) }
+)
+    requires { 0 < spare holds.old }
+    ensures { (id : List ℕ) → at id holds.new.entries
+        ≡ hold_after time happening.now id (at id holds.old.entries) }
 {
     match happening {
-        Happening::Enter(..) | Happening::NewTable(_) => {
-            forget_all(holds);
-            Ok(())
-        }
-        Happening::Hold(id) => {
-            holds.insert(*id, time)?;
-            Ok(())
-        }
-        _ => Ok(()),
+        Happening::Enter(..) | Happening::NewTable(_) => forget_all(holds),
+        Happening::Hold(id) => put(holds, *id, time),
+        _ => {}
     }
 }

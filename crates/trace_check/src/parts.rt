@@ -1,6 +1,8 @@
 //! What each single value that the judge keeps becomes by a happening.
 
-ghost use Rattle.std.specs.Prelude.{◌≡◌, ℕ, not, ◌&&◌, ◌||◌, List, is_some, OnOk};
+ghost use Rattle.std.specs.Prelude.{◌≡◌, ℕ, not, ◌&&◌, ◌||◌, List, is_some, ◌<◌, ◌≤◌, length, OnOk, OnErr};
+ghost use Rattle.indexmap.specs.IndexMap.{spare};
+ghost use Rattle.indexmap.specs.IndexSet.{spare as set_spare};
 ghost use Rattle.inittab_text.specs.Tables.{has_id};
 ghost use Rattle.std.specs.List.{list_any};
 ghost use Rattle.init_trace.specs.Wanted.{is_order, starts_in};
@@ -8,7 +10,7 @@ ghost use Rattle.trace_check.specs.State.{at, among};
 ghost use Rattle.trace_check.specs.After.{stage_after, grace_after, time_after, order_after, kept_after, is_changed, asked_after, is_named, is_named_at, stays_called_in, called_after, sent_after};
 
 use crate::children::UnreapedChild;
-use crate::maps::{ById, Ids, add_if, drop_if, forget_ids, set_if};
+use crate::maps::{ById, Ids, add, add_if, drop_if, forget_ids, put, room_for, set_if};
 use crate::tables::{act, entry_at, is_changed, starts_in};
 use init_trace::{Happening, HappeningIn};
 use init_words::{Ask, Entry, Id, Mark, Memory, Stage, names};
@@ -46,70 +48,57 @@ pub(crate) fn time_after<B: Allocator>(happening: &HappeningIn<B>, time: u64) ->
     }
 }
 
-/// The open orders.
+/// The open orders, where there is room for one more.
 pub(crate) fn take_order<A: Allocator, B: Allocator>(
     orders: &mut ById<Ask, A>,
     happening: &HappeningIn<B>,
-) -> Result<(), Memory>
-    ensures { OnOk result ((id : List ℕ)
-        → at id orders.new.entries ≡ order_after happening.now id (at id orders.old.entries)) }
+)
+    requires { 0 < spare orders.old }
+    ensures { (id : List ℕ)
+        → at id orders.new.entries ≡ order_after happening.now id (at id orders.old.entries) }
 {
     match happening {
-        Happening::Asked(id, ask) => {
-            orders.insert(*id, *ask)?;
-            Ok(())
-        }
+        Happening::Asked(id, ask) => put(orders, *id, *ask),
         Happening::Told(id) => {
             orders.swap_remove(id);
-            Ok(())
         }
-        _ => Ok(()),
+        _ => {}
     }
 }
 
-/// The ids with a kept child.
+/// The ids with a kept child, where there is room for one more.
 pub(crate) fn take_kept<A: Allocator, B: Allocator>(
     kept: &mut Ids<A>,
     children: &ById<UnreapedChild, A>,
     happening: &HappeningIn<B>,
-) -> Result<(), Memory>
-    ensures { OnOk result ((id : List ℕ) → among id kept.new.keys
+)
+    requires { 0 < set_spare kept.old }
+    ensures { (id : List ℕ) → among id kept.new.keys
         ≡ kept_after (λ i. is_some (at i children.now.entries)) happening.now id
-        (among id kept.old.keys)) }
+        (among id kept.old.keys) }
 {
     match happening {
-        Happening::Birth(id, _) => {
-            kept.insert(*id)?;
-            Ok(())
-        }
+        Happening::Birth(id, _) => add(kept, *id),
         Happening::Told(id) => set_if(kept, id, children.contains_key(id)),
-        _ => Ok(()),
+        _ => {}
     }
 }
 
-/// The ids of which a start was asked.
+/// The ids of which a start was asked, where there is room for one more.
 pub(crate) fn take_asked<A: Allocator + Copy, B: Allocator>(
     asked: &mut Ids<A>,
     table: &Table<A>,
     happening: &HappeningIn<B>,
-) -> Result<(), Memory>
-    ensures { OnOk result ((id : List ℕ) → among id asked.new.keys
-        ≡ asked_after table.now happening.now id (among id asked.old.keys)) }
+)
+    requires { 0 < set_spare asked.old }
+    ensures { (id : List ℕ) → among id asked.new.keys
+        ≡ asked_after table.now happening.now id (among id asked.old.keys) }
 {
     match happening {
-        Happening::Enter(..) => {
-            forget_ids(asked);
-            Ok(())
-        }
-        Happening::NewTable(next) => {
-            drop_brought(asked, table, next);
-            Ok(())
-        }
-        Happening::Asked(id, Ask::Start) => {
-            asked.insert(*id)?;
-            Ok(())
-        }
-        _ => Ok(()),
+        Happening::Enter(..) => forget_ids(asked),
+        Happening::NewTable(next) => drop_brought(asked, table, next),
+        Happening::Asked(id, Ask::Start) => add(asked, *id),
+        _ => {}
     }
 }
 
@@ -155,15 +144,16 @@ fn stays_called<B: Allocator>(table: &Table<B>, id: &Id) -> bool
     }
 }
 
-/// The entries that are called.
+/// The entries that are called. Where memory runs out they are as they were.
 pub(crate) fn take_called<A: Allocator + Copy, B: Allocator>(
     called: &mut Ids<A>,
     table: &Table<A>,
     stage: Option<Stage>,
     happening: &HappeningIn<B>,
 ) -> Result<(), Memory>
-    ensures { OnOk result ((id : List ℕ) → among id called.new.keys
+    ensures ok { OnOk result ((id : List ℕ) → among id called.new.keys
         ≡ called_after table.now stage happening.now id (among id called.old.keys)) }
+    ensures err { OnErr result (called.new.keys ≡ called.old.keys) }
 {
     match happening {
         Happening::Enter(..) | Happening::NewTable(_) => {
@@ -185,32 +175,34 @@ fn add_named<A: Allocator, B: Allocator>(
     stage: Option<Stage>,
     happening: &HappeningIn<B>,
 ) -> Result<(), Memory>
-    ensures { OnOk result ((id : List ℕ) → among id called.new.keys
+    ensures ok { OnOk result ((id : List ℕ) → among id called.new.keys
         ≡ (is_named_at table.now stage happening.now id || among id called.old.keys)) }
+    ensures err { OnErr result (called.new.keys ≡ called.old.keys) }
 {
+    room_for(called, table.len())?;
     for place in 0..table.len() {
         let entry = entry_at(table, place);
-        add_if(called, &entry.id, is_called(happening, stage, entry))?;
+        add_if(called, &entry.id, is_called(happening, stage, entry));
     }
     Ok(())
 }
 
-/// The ids of which a sent TERM is not told.
+/// The ids of which a sent TERM is not told, where there is room for one more.
 pub(crate) fn take_sent<A: Allocator, B: Allocator>(
     sent: &mut Ids<A>,
     orders: &ById<Ask, A>,
     happening: &HappeningIn<B>,
-) -> Result<(), Memory>
-    ensures { OnOk result ((id : List ℕ) → among id sent.new.keys
-        ≡ sent_after (λ i. at i orders.now.entries) happening.now id (among id sent.old.keys)) }
+)
+    requires { 0 < set_spare sent.old }
+    ensures { (id : List ℕ) → among id sent.new.keys
+        ≡ sent_after (λ i. at i orders.now.entries) happening.now id (among id sent.old.keys) }
 {
     match happening {
         Happening::Birth(id, _) | Happening::Told(id) => {
             sent.swap_remove(id);
-            Ok(())
         }
         Happening::Hit(id) => add_if(sent, id, is_open(orders, id, Ask::Term)),
-        _ => Ok(()),
+        _ => {}
     }
 }
 

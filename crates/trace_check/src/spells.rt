@@ -1,15 +1,16 @@
 //! The signals to children that are being stopped, as the judge keeps them.
 
-ghost use Rattle.std.specs.Prelude.{◌≡◌, ℕ, if◌then◌else◌, List, OnOk};
+ghost use Rattle.std.specs.Prelude.{◌≡◌, ℕ, ◌<◌, if◌then◌else◌, List};
+ghost use Rattle.indexmap.specs.IndexMap.{spare};
 ghost use Rattle.init_words.specs.Ids.{same_id};
 ghost use Rattle.trace_check.specs.State.{at, among};
 ghost use Rattle.trace_check.specs.After.{spares, excludes, earliest, term_after};
 
 use crate::children::{UnreapedChild, is_numbered};
-use crate::maps::{ById, Ids};
+use crate::maps::{ById, Ids, put};
 use crate::tables::may_live;
 use init_trace::{Happening, HappeningIn};
-use init_words::{Id, Memory, Stage};
+use init_words::{Id, Stage};
 use inittab_text::Table;
 use std::alloc::Allocator;
 
@@ -43,7 +44,8 @@ pub(crate) fn excludes<A: Allocator, B: Allocator>(
     }
 }
 
-/// When the first TERM was told in the spell of each id's child, the stretch of time in which it is excluded.
+/// When the first TERM was told in the spell of each id's child, the stretch of time in which it is excluded, where there
+/// is room for one more.
 pub(crate) fn take_term<A: Allocator + Copy, B: Allocator>(
     termed: &mut ById<u64, A>,
     children: &ById<UnreapedChild, A>,
@@ -52,51 +54,43 @@ pub(crate) fn take_term<A: Allocator + Copy, B: Allocator>(
     stage: Option<Stage>,
     time: u64,
     happening: &HappeningIn<B>,
-) -> Result<(), Memory>
-    ensures { OnOk result ((id : List ℕ) → at id termed.new.entries
+)
+    requires { 0 < spare termed.old }
+    ensures { (id : List ℕ) → at id termed.new.entries
         ≡ term_after table.now stage time (λ i. at i children.now.entries)
-        (λ i. among i sent.now.keys) (λ i. at i termed.old.entries) happening.now id) }
+        (λ i. among i sent.now.keys) (λ i. at i termed.old.entries) happening.now id }
 {
     match happening {
         Happening::Birth(id, _) => {
             termed.swap_remove(id);
-            Ok(())
         }
         Happening::Reaped(id, number, _) => {
             if is_numbered(children.get(id), *number) {
                 termed.swap_remove(id);
             }
-            Ok(())
         }
         Happening::Told(id) => {
             if sent.contains(id) && excludes(table, stage, children, id) {
-                note_term(termed, *id, time)?;
+                note_term(termed, *id, time);
             }
-            Ok(())
         }
-        Happening::NewTable(next) => {
-            end_spells(termed, children, next, stage);
-            Ok(())
-        }
-        Happening::Enter(next, _) => {
-            end_spells(termed, children, table, Some(*next));
-            Ok(())
-        }
-        _ => Ok(()),
+        Happening::NewTable(next) => end_spells(termed, children, next, stage),
+        Happening::Enter(next, _) => end_spells(termed, children, table, Some(*next)),
+        _ => {}
     }
 }
 
-fn note_term<A: Allocator>(termed: &mut ById<u64, A>, id: Id, time: u64) -> Result<(), Memory>
-    ensures { OnOk result ((other : List ℕ) → at other termed.new.entries
+fn note_term<A: Allocator>(termed: &mut ById<u64, A>, id: Id, time: u64)
+    requires { 0 < spare termed.old }
+    ensures { (other : List ℕ) → at other termed.new.entries
         ≡ (if same_id other id then Some (earliest time (at id termed.old.entries))
-        else at other termed.old.entries)) }
+        else at other termed.old.entries) }
 {
     let first = match termed.get(&id) {
         Some(other) => time.min(*other),
         None => time,
     };
-    termed.insert(id, first)?;
-    Ok(())
+    put(termed, id, first);
 }
 
 /// The spells of the children that are no longer excluded end.

@@ -1,6 +1,8 @@
 //! What the judge asks of the table in force.
 
-ghost use Rattle.std.specs.Prelude.{◌≡◌, ◌<◌, length, slice_get, option_copied, Some, OnOk};
+ghost use Rattle.std.specs.Prelude.{◌≡◌, ◌<◌, length, slice_get, option_copied, Some, List, IfOk};
+ghost use Rattle.std.specs.Option.{option_map_or};
+ghost use Rattle.init_words.specs.declared.entries.Entry.{Entry};
 ghost use Rattle.inittab_text.specs.Tables.{act_of};
 ghost use Rattle.init_trace.specs.Wanted.{same_acts, starts_in, may_live};
 ghost use Rattle.trace_check.specs.After.{table_after, is_changed};
@@ -40,18 +42,27 @@ pub(crate) fn is_changed<B: Allocator, C: Allocator>(
     !same_acts(act(table, id), act(other, id))
 }
 
-/// The table in force after the happening, where this one was before.
-pub(crate) fn take_table<A: Allocator + Copy, B: Allocator>(
-    table: &mut Table<A>,
+/// A copy of the table that the happening brings, if it brings one.
+pub(crate) fn table_brought<A: Allocator + Copy, B: Allocator>(
     alloc: A,
     happening: &HappeningIn<B>,
-) -> Result<(), Memory>
-    ensures { OnOk result (table.new ≡ table_after happening.now table.old) }
+) -> Result<Option<Table<A>>, Memory>
+    ensures { IfOk result (λ brought. (table : List Entry)
+        → option_map_or (λ next. next) brought table ≡ table_after happening.now table) }
 {
-    if let Happening::NewTable(next) = happening {
-        *table = next.copy(alloc)?;
+    match happening {
+        Happening::NewTable(next) => Ok(Some(next.copy(alloc)?)),
+        _ => Ok(None),
     }
-    Ok(())
+}
+
+/// Puts the table in force that a happening brought, if it brought one.
+pub(crate) fn put_brought<A: Allocator>(table: &mut Table<A>, brought: Option<Table<A>>)
+    ensures { table.new ≡ option_map_or (λ next. next) brought table.old }
+{
+    if let Some(next) = brought {
+        *table = next;
+    }
 }
 
 /// The two actions are one, where there are two.

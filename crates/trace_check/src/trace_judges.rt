@@ -1,6 +1,6 @@
 //! The judge of a trace that comes one happening after another.
 
-ghost use Rattle.std.specs.Prelude.{◌≡◌, List, option_map, IfOk};
+ghost use Rattle.std.specs.Prelude.{◌≡◌, List, option_map, IfOk, OnErr};
 ghost use Rattle.init_trace.specs.Event.{Event};
 ghost use Rattle.init_trace.specs.Lawful.{broken};
 ghost use Rattle.trace_check.specs.Laws.{law_number};
@@ -8,7 +8,7 @@ ghost use Rattle.trace_check.specs.Judging.{unjudged, Judged, TakesNext};
 
 use crate::judge::Judge;
 use crate::laws::Law;
-use crate::tables::take_table;
+use crate::tables::{put_brought, table_brought};
 use init_trace::HappeningIn;
 use init_words::Memory;
 use inittab_text::Table;
@@ -50,19 +50,21 @@ impl<A: Allocator + Copy> TraceJudge<A> {
     }
 
     /// Takes the next happening, and gives the least law that it breaks. One that breaks a law isn't taken: the judge
-    /// stays as it was. Where memory runs out a part of the happening may be taken, and the judge is of no more use.
+    /// stays as it was, as it does where memory runs out.
     pub fn take<B: Allocator>(&mut self, happening: &HappeningIn<B>) -> Result<Option<Law>, Memory>
         ensures law { IfOk result (λ law. (past : List Event) → Judged self.old past
             → option_map law_number law ≡ broken happening.now past) }
         ensures next { IfOk result (λ law. TakesNext law self.old self.new happening.now) }
+        ensures err { OnErr result (self.new ≡ self.old) }
     {
         // It says that no id stands twice.
         let _len = self.table.len();
         if let Some(law) = self.judge.flaw(&self.table, happening) {
             return Ok(Some(law));
         }
+        let brought = table_brought(self.alloc, happening)?;
         self.judge.take(&self.table, happening)?;
-        take_table(&mut self.table, self.alloc, happening)?;
+        put_brought(&mut self.table, brought);
         Ok(None)
     }
 }

@@ -1,12 +1,12 @@
 -- What stays so when more of a text comes.
-use Rattle.std.proofs.Common.{◌≡◌, ℕ, zero, suc, ◌+◌, ◌-◌, ◌≤◌, true, false, nat_lt, List, [], ◌∷◌, ◌++◌, length, take, drop, Option, Some, None, option_and_then, append-nil, refl, sym, ap, ◌∙◌, subst, arith, length-append}
+use Rattle.std.proofs.Common.{◌≡◌, ℕ, ◌+◌, ◌-◌, ◌≤◌, true, false, nat_lt, List, [], ◌∷◌, ◌++◌, length, take, drop, Option, Some, None, option_and_then, append-nil, refl, sym, ap, ◌∙◌, subst, arith, length-append}
 use Rattle.std.specs.Option.{option_map, option_map_or}
 use Rattle.std.proofs.lemmas.Bool.Decides.{nat_tests}
 use Rattle.std.proofs.lemmas.List.{append_assoc, take-append-drop}
 use Rattle.std.proofs.lemmas.Option.{none-some}
 use Rattle.init_words.specs.declared.entries.Entry.{Entry}
 use Rattle.text_lines.specs.Lines.{cut, newlines, after_lines}
-use Rattle.text_lines.proofs.PieceLemmas.{newlines-append, newlines-none, Front, after_lines-front, take-front}
+use Rattle.text_lines.proofs.PieceLemmas.{newlines-append, Front, after_lines-front, take-front}
 use Rattle.inittab_text.specs.Written.{table_written, table_begun}
 use Rattle.init_trace.specs.declared.happenings.Happening.TheVariants.{NewTable, Nudge}
 use Rattle.init_trace.specs.Event.{Event}
@@ -178,6 +178,9 @@ left_over bytes more at happening begins =
     let whole : bytes ≡ (take at bytes ++ event_text happening) ++ more =
     sym (take-append-drop at bytes) ∙ ap (λ t. take at bytes ++ t) (sym begins) ∙ sym (append_assoc (take at bytes) (event_text happening) more) in
     ap (λ t. drop (length t - length more) t) whole ∙ drop_front (take at bytes ++ event_text happening) more
+
+pub left_of_text : (text more : List ℕ) (happening : Event) → event_text happening ++ more ≡ text → event_text happening ++ drop (length text - length more) text ≡ text
+left_of_text text more happening begins = ap (λ t. event_text happening ++ t) (left_over text more 0 happening begins) ∙ begins
 
 -- the newlines of a happening, and those behind it
 pub lines_off : (text more : List ℕ) (happening : Event) → is_in_range happening ≡ true → event_text happening ++ more ≡ text → newlines text ≡ line_count happening + newlines more

@@ -1,5 +1,5 @@
 -- One happening more, and a piece more.
-use Rattle.std.proofs.Common.{◌≡◌, ℕ, zero, suc, ◌+◌, ◌^◌, ◌<◌, ◌≤◌, true, false, List, [], ◌∷◌, ◌++◌, length, reverse, slice_get, Option, Some, refl, sym, ap, ◌∙◌, subst, arith, lit≤, length-append}
+use Rattle.std.proofs.Common.{◌≡◌, ℕ, zero, suc, ◌+◌, ◌^◌, ◌<◌, ◌≤◌, true, List, [], ◌∷◌, ◌++◌, length, reverse, slice_get, Option, Some, refl, sym, ap, ◌∙◌, subst, arith, lit≤, length-append}
 use Rattle.std.specs.Option.{option_map, option_map_or}
 use Rattle.std.proofs.lemmas.Bool.{and_parts}
 use Rattle.std.proofs.lemmas.List.{append_assoc, reverse-append, length-reverse, take-append-le}
@@ -106,10 +106,16 @@ torn_more text piece number torn = record {
   none = never_more torn.rest piece torn.none;
 }
 
-pub still_torn : (finding : Finding Named) (state : TextState) (text piece : List ℕ) (number : ℕ) → finding ≡ Torn number → TakenBy finding state text → AtBy finding state (text ++ piece)
+pub still_torn : (finding : Finding Named) (state : TextState) (text piece : List ℕ) (number : ℕ) → finding ≡ Torn number → AtBy finding state text → AtBy finding state (text ++ piece)
 still_torn (Torn n) state text piece number is taken = torn_more text piece n taken
 still_torn Lawful state text piece number is taken = absurd (cc)
 still_torn (Breach breach) state text piece number is taken = absurd (cc)
+
+-- what it has taken it is at work on
+pub taken_at : (finding : Finding Named) (state : TextState) (text : List ℕ) → TakenBy finding state text → AtBy finding state text
+taken_at Lawful state text taken = (taken.0, taken.1)
+taken_at (Breach breach) state text taken = (taken.0, taken.1)
+taken_at (Torn number) state text taken = taken
 
 -- a happening more
 pub read_next : (old new : TextState) (trace : List Event) (text : List ℕ) (h : Event) → length text < 2 ^ 64 → HasRead old trace text → ReadsNext old.reading new.reading (Some h) → new.place ≡ capped (old.place + 1) → IsFound new.finding new.judging (trace ++ h ∷ []) → HasRead new (trace ++ h ∷ []) text

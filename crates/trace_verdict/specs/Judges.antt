@@ -1,5 +1,5 @@
 -- A judge of a text that comes in pieces, and the texts that it has taken.
-use Rattle.std.specs.Prelude.{◌≡◌, ℕ, Bool, true, false, List, ◌++◌, length, reverse, Option, None}
+use Rattle.std.specs.Prelude.{◌≡◌, ◌⊎◌, ◌<◌, ◌^◌, ℕ, Bool, true, false, List, ◌++◌, length, reverse, Option, None}
 use Rattle.text_lines.specs.Lines.{newlines}
 use Rattle.init_trace.specs.Event.{Event}
 use Rattle.trace_text.specs.Lines.{trace_text}
@@ -54,6 +54,12 @@ HasTaken state text = TakenBy state.finding state text
 abbrev pub GoesOn : Bool → TextState → TextState → List ℕ → Type 0
 GoesOn true old new text = IsAt old text → IsAt new text
 GoesOn false old new text = IsAt old text → HasTaken new text
+
+-- after lack of memory: nothing of the piece is taken, and nothing is changed; or all of it is, and what is not judged
+-- is kept for the next piece
+abbrev pub Holds : TextState → TextState → List ℕ → Type 0
+Holds old new piece =
+    (new ≡ old) ⊎ ((text : List ℕ) → length (text ++ piece) < 2 ^ 64 → IsAt old text → IsAt new (text ++ piece))
 
 -- the line at which it holds a happening that isn't finished
 abbrev pub left_of : Finding Named → Option ℕ → Option ℕ

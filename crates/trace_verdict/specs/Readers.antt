@@ -1,5 +1,5 @@
 -- A reader of a text that comes in pieces.
-use Rattle.std.specs.Prelude.{◌≡◌, ℕ, ◌+◌, ◌-◌, ◌^◌, min, true, List, ◌++◌, Option, Some, None}
+use Rattle.std.specs.Prelude.{◌≡◌, ℕ, ◌+◌, ◌-◌, ◌^◌, ◌≤◌, min, true, List, ◌++◌, drop, length, Option, Some, None}
 use Rattle.trace_text.specs.declared.reading.ReadFault.{ReadFault}
 use Rattle.trace_text.specs.declared.reading.ReadFault.TheVariants as fault
 use Rattle.init_trace.specs.Event.{Event}
@@ -17,6 +17,13 @@ pub record Reading : Type 0 where
 -- a sum as far as numbers go
 abbrev pub capped : ℕ → ℕ
 capped sum = min sum (2 ^ 64 - 1)
+
+-- the next happening stands there, with a text of this length; none is whole, and one may be yet
+abbrev pub IsNext : Reading → Option (Event × ℕ) → Type 0
+IsNext reading None = IsLeft reading.over
+IsNext reading (Some found) =
+    (is_in_range found.0 ≡ true) × (event_text found.0 ++ drop found.1 reading.over ≡ reading.over)
+    × (found.1 ≤ length reading.over)
 
 -- the next happening is read off; none is whole, and one may be yet; no happening begins there, whatever comes behind
 abbrev pub ReadsNext : Reading → Reading → Option Event → Type 0

@@ -1,8 +1,8 @@
 //! A reader of happenings over a text that comes in pieces.
 
-ghost use Rattle.std.specs.Prelude.{◌≡◌, ◌≤◌, drop, length, ◌++◌, [], true, OnOk, OnErr, IfOk, IfErr, option_map};
-ghost use Rattle.trace_verdict.specs.Fronts.{is_unfinished, line_left};
-ghost use Rattle.trace_verdict.specs.Readers.{capped, ReadsNext, ReadsNone};
+ghost use Rattle.std.specs.Prelude.{◌≡◌, ◌≤◌, drop, length, ◌++◌, [], Some, true, OnOk, OnErr, IfOk, IfErr, option_map};
+ghost use Rattle.trace_verdict.specs.Fronts.{is_unfinished, line_left, IsLeft};
+ghost use Rattle.trace_verdict.specs.Readers.{capped, IsNext, ReadsNext, ReadsNone};
 
 use crate::lines::lines_due;
 use init_trace::HappeningIn;
@@ -117,16 +117,52 @@ impl<A: Allocator + Copy> TextReader<A> {
         Ok(())
     }
 
-    /// None of a happening that isn't whole. Where nothing that comes makes it one, it is a line that begins none.
-    fn wait(&self) -> Result<Option<HappeningIn<A>>, ReadFault>
+    /// A happening that isn't whole is waited for. Where nothing that comes makes it one, it is a line that begins none.
+    fn wait(&self) -> Result<(), ReadFault>
         requires { is_unfinished self.now.over ≡ true }
-        ensures next { IfOk result (λ found. ReadsNext self.now self.now found) }
+        ensures left { OnOk result (IsLeft self.now.over) }
         ensures none { IfErr result (λ fault. ReadsNone self.now fault) }
     {
         if is_front(self.alloc, rest_of(&self.bytes, self.at))? {
+            return Ok(());
+        }
+        Err(ReadFault::Line(self.lines.saturating_add(1)))
+    }
+
+    /// The next happening, with the length of its text in bytes; None where none is whole, and what is there may become
+    /// one. Nothing is read off.
+    pub(crate) fn peek(&mut self) -> Result<Option<(HappeningIn<A>, usize)>, ReadFault>
+        ensures same { self.new ≡ self.old }
+        ensures next { IfOk result (λ found. IsNext self.old found) }
+        ensures none { IfErr result (λ fault. ReadsNone self.old fault) }
+    {
+        if self.whole < self.due {
+            self.wait()?;
+            return Ok(None);
+        }
+        let rest = rest_of(&self.bytes, self.at);
+        if let Some((happening, more)) = first_happening(self.alloc, rest)? {
+            let size = rest.len() - more.len();
+            return Ok(Some((happening, size)));
+        }
+        self.due = lines_due(rest);
+        if self.whole < self.due {
+            self.wait()?;
             return Ok(None);
         }
         Err(ReadFault::Line(self.lines.saturating_add(1)))
+    }
+
+    /// Reads off the next happening, with the length of its text.
+    pub(crate) fn skip(&mut self, happening: &HappeningIn<A>, size: usize)
+        requires { IsNext self.old (Some (happening.now, size)) }
+        ensures { ReadsNext self.old self.new (Some happening.now) }
+    {
+        let lines = line_count(happening);
+        self.at += size;
+        self.whole -= lines as usize;
+        self.due = 1;
+        self.lines = self.lines.saturating_add(lines);
     }
 
     /// Reads the next happening off; None where none is whole, and what is there may become one. Where it begins none,
@@ -136,22 +172,10 @@ impl<A: Allocator + Copy> TextReader<A> {
         ensures none { IfErr result (λ fault.
             (self.new ≡ self.old) × ReadsNone self.old fault) }
     {
-        if self.whole < self.due {
-            return self.wait();
-        }
-        let rest = rest_of(&self.bytes, self.at);
-        if let Some((happening, more)) = first_happening(self.alloc, rest)? {
-            let lines = line_count(&happening);
-            self.at = self.bytes.len() - more.len();
-            self.whole -= lines as usize;
-            self.due = 1;
-            self.lines = self.lines.saturating_add(lines);
-            return Ok(Some(happening));
-        }
-        self.due = lines_due(rest);
-        if self.whole < self.due {
-            return self.wait();
-        }
-        Err(ReadFault::Line(self.lines.saturating_add(1)))
+        let Some((happening, size)) = self.peek()? else {
+            return Ok(None);
+        };
+        self.skip(&happening, size);
+        Ok(Some(happening))
     }
 }

@@ -1,13 +1,13 @@
 //! The judge of the text of a trace that comes in pieces.
 
-ghost use Rattle.std.specs.Prelude.{◌≡◌, ◌^◌, ◌<◌, ◌+◌, List, ℕ, ◌++◌, [], ◌∷◌, length, true, option_map, IfOk, OnOk};
+ghost use Rattle.std.specs.Prelude.{◌≡◌, ◌^◌, ◌<◌, ◌+◌, List, ℕ, ◌++◌, [], ◌∷◌, length, true, option_map, IfOk, OnOk, OnErr};
 ghost use Rattle.text_lines.specs.Lines.{newlines};
 ghost use Rattle.init_trace.specs.Event.{Event};
 ghost use Rattle.trace_text.specs.Lines.{trace_text};
 ghost use Rattle.trace_verdict.specs.Fronts.{line_left};
 ghost use Rattle.trace_verdict.specs.Readers.{capped};
 ghost use Rattle.trace_verdict.specs.Answers.{Answers};
-ghost use Rattle.trace_verdict.specs.Judges.{GoesOn, HasTaken, IsAt, IsFound, left_of};
+ghost use Rattle.trace_verdict.specs.Judges.{GoesOn, HasTaken, Holds, IsAt, IsFound, left_of};
 
 use crate::findings::{Breach, Finding};
 use crate::readers::TextReader;
@@ -43,7 +43,7 @@ impl<A: Allocator> Model for TextJudge<A> {
     } };
 }
 
-/// Judges the next happening, as long as none broke a law.
+/// Judges the next happening, as long as none broke a law. Where memory runs out nothing is changed.
 fn judge_next<A: Allocator + Copy>(
     alloc: A,
     judge: &mut TraceJudge<A>,
@@ -52,9 +52,10 @@ fn judge_next<A: Allocator + Copy>(
     line: u64,
     happening: &HappeningIn<A>,
 ) -> Result<(), Memory>
-    ensures { OnOk result ((trace : List Event) → IsFound finding.old judge.old trace
+    ensures ok { OnOk result ((trace : List Event) → IsFound finding.old judge.old trace
         → place ≡ length trace → line ≡ newlines (trace_text trace) + 1
         → IsFound finding.new judge.new (trace ++ happening.now ∷ [])) }
+    ensures err { OnErr result ((finding.new ≡ finding.old) × (judge.new ≡ judge.old)) }
 {
     match finding {
         Finding::Lawful => {}
@@ -81,9 +82,11 @@ impl<A: Allocator + Copy> TextJudge<A> {
         }
     }
 
-    fn feed(&mut self, piece: &[u8]) -> Result<(), Memory>
-        ensures { OnOk result ((text : List ℕ) → HasTaken self.old text
+    /// Takes the next piece of the text in, and judges nothing of it yet. Where memory runs out nothing is changed.
+    pub fn feed(&mut self, piece: &[u8]) -> Result<(), Memory>
+        ensures ok { OnOk result ((text : List ℕ) → IsAt self.old text
             → IsAt self.new (text ++ piece.now)) }
+        ensures err { OnErr result (self.new ≡ self.old) }
     {
         if let Finding::Torn(_) = self.finding {
             return Ok(());
@@ -92,19 +95,20 @@ impl<A: Allocator + Copy> TextJudge<A> {
         Ok(())
     }
 
-    /// Takes the next happening, if one is whole.
+    /// Takes the next happening, if one is whole. Where memory runs out nothing is changed.
     fn take_next(&mut self) -> Result<bool, Memory>
         ensures goes { IfOk result (λ more. (text : List ℕ) → length text < 2 ^ 64
             → GoesOn more self.old self.new text) }
         ensures shorter { IfOk result (λ more. more ≡ true
             → length self.new.reading.over < length self.old.reading.over) }
+        ensures err { OnErr result (self.new ≡ self.old) }
     {
         if let Finding::Torn(_) = self.finding {
             return Ok(false);
         }
         let line = self.reader.lines().saturating_add(1);
-        match self.reader.next() {
-            Ok(Some(happening)) => {
+        match self.reader.peek() {
+            Ok(Some((happening, size))) => {
                 judge_next(
                     self.alloc,
                     &mut self.judge,
@@ -113,6 +117,7 @@ impl<A: Allocator + Copy> TextJudge<A> {
                     line,
                     &happening,
                 )?;
+                self.reader.skip(&happening, size);
                 self.place = self.place.saturating_add(1);
                 Ok(true)
             }
@@ -125,14 +130,26 @@ impl<A: Allocator + Copy> TextJudge<A> {
         }
     }
 
-    /// Takes the next piece of the text. Where memory runs out a part of it may be taken, and the judge is of no more
-    /// use.
+    /// Judges the happenings that are whole. Where memory runs out what isn't judged is kept for the next call.
+    pub fn judge(&mut self) -> Result<(), Memory>
+        ensures ok { OnOk result ((text : List ℕ) → length text < 2 ^ 64
+            → IsAt self.old text → HasTaken self.new text) }
+        ensures err { OnErr result ((text : List ℕ) → length text < 2 ^ 64
+            → IsAt self.old text → IsAt self.new text) }
+    {
+        while self.take_next()? {}
+        Ok(())
+    }
+
+    /// Takes the next piece of the text and judges what is whole. Where memory runs out either nothing is taken, as by
+    /// `feed`, or all of the piece is, as by `judge`.
     pub fn take(&mut self, piece: &[u8]) -> Result<(), Memory>
-        ensures { OnOk result ((text : List ℕ) → length (text ++ piece.now) < 2 ^ 64
+        ensures ok { OnOk result ((text : List ℕ) → length (text ++ piece.now) < 2 ^ 64
             → HasTaken self.old text → HasTaken self.new (text ++ piece.now)) }
+        ensures err { OnErr result (Holds self.old self.new piece.now) }
     {
         self.feed(piece)?;
-        while self.take_next()? {}
+        self.judge()?;
         Ok(())
     }
 

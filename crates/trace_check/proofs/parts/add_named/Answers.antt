@@ -1,4 +1,4 @@
-use Rattle.std.proofs.Common.{◌&&◌}
+use Rattle.std.proofs.Common.{◌&&◌, arith}
 use Rattle.init_words.specs.declared.entries.Entry.{Entry}
 use Rattle.inittab_text.specs.Tables.{has_id}
 use Rattle.init_trace.specs.Wanted.{starts_in}
@@ -8,6 +8,8 @@ use Rattle.trace_check.proofs.Walks.{one_added}
 use Rattle.trace_check.proofs.parts.add_named.Goals as goal
 
 pub loop-place-preserved : goal.loop-place-preserved
-loop-place-preserved g c id =
-    one_added (has_id id) (λ (e : Entry). is_named c.args.happening.now e && starts_in e c.args.stage) c.args.table.now c.loop-place.place c.entry_at-entry.result.now c.is_called.result
-    (among id c.loop-place.called.keys) (among id c.add_if.new.ids.keys) (among id c.args.called.now.keys) c.entry_at-entry.ensures c.is_called.ensures (c.in_ok-add_if.ensures id) (c.loop-place.invariant id)
+loop-place-preserved g c = (
+  λ id. one_added (has_id id) (λ (e : Entry). is_named c.args.happening.now e && starts_in e c.args.stage) c.args.table.now c.loop-place.place c.entry_at-entry.result.now c.is_called.result
+      (among id c.loop-place.called.keys) (among id c.add_if.new.ids.keys) (among id c.args.called.now.keys) c.entry_at-entry.ensures c.is_called.ensures (c.add_if.ensures.added id) (c.loop-place.invariant.0 id),
+  omega (arith, c.add_if.ensures.room, c.loop-place.invariant.1),
+)

@@ -9,11 +9,11 @@ use Rattle.trace_verdict.specs.Judges.{IsFound}
 use Rattle.trace_verdict.proofs.Judging.{found_kept, found_breach}
 use Rattle.trace_verdict.proofs.text_judges.judge_next.Goals as goal
 
-pub returns-in_default : goal.returns-in_default
-returns-in_default g c = λ trace found place line. found_kept c.args.finding.now c.args.judge.now trace c.args.happening.now c.in_default.not-Lawful found
+pub returns-in_default-clause-ok : goal.returns-in_default-clause-ok
+returns-in_default-clause-ok g c = λ trace found place line. found_kept c.args.finding.now c.args.judge.now trace c.args.happening.now c.in_default.not-Lawful found
 
-pub returns-in_ok-text : goal.returns-in_ok-text
-returns-in_ok-text g c = λ trace found place line.
+pub returns-in_ok-text-clause-ok : goal.returns-in_ok-text-clause-ok
+returns-in_ok-text-clause-ok g c = λ trace found place line.
     let judged : Judged c.args.judge.now (reverse trace) = subst (λ f. IsFound f c.args.judge.now trace) c.in-Lawful.is found in
     let broke : Some (law_number c.in-Some.law) ≡ broken c.args.happening.now (reverse trace) =
     ap (option_map law_number) (sym c.in-Some.is) ∙ c.in_ok-law.ensures.law (reverse trace) judged in

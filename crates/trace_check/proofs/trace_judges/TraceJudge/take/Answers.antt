@@ -17,5 +17,5 @@ returns-clause-law g c = λ past judged.
 pub returns-clause-next : goal.returns-clause-next
 returns-clause-next g c = λ past judged.
     let old : Judging = record { table = c.self.inside.table; state = c.self.inside.judge } in
-    let new : Judging = record { table = c.take_table.new.table; state = c.take.new.self } in
-    judged_more c.args.happening.now old new c.len-len.ensures.distinct (sym c.in_default.ensures) c.in_ok-take.ensures c.in_ok-take_table.ensures past (subst (λ j. Judged j past) (sym c.self.view_is) judged)
+    let new : Judging = record { table = c.put_brought.new.table; state = c.take.new.self } in
+    judged_more c.args.happening.now old new c.len-len.ensures.distinct (sym c.in_default.ensures) c.in_ok-take.ensures.ok (c.put_brought.ensures ∙ c.in_ok-brought.ensures old.table) past (subst (λ j. Judged j past) (sym c.self.view_is) judged)
