@@ -14,6 +14,9 @@ use std::os::unix::fs::{MetadataExt, OpenOptionsExt};
 use std::rt::Files;
 use std::{fs, io};
 
+/// The bytes of a request in the channel (initreq.h).
+pub const REQUEST: usize = 384;
+
 /// The mode of a channel that is made: its owner reads and writes.
 const MODE: u32 = 0o600;
 

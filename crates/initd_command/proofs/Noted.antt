@@ -16,7 +16,7 @@ use Rattle.run_notes.proofs.Noted.{births_noted, last_by_told, told_noted}
 use Rattle.supervisor.specs.declared.serving.Served.{Served}
 use Rattle.init_trace.specs.declared.steps.Goal.{Goal}
 use Rattle.core_model.specs.State.{CoreState, opening_goal}
-use Rattle.core_model.specs.Fit.{Fits}
+use Rattle.core_model.specs.Fit.{FitsAll}
 use Rattle.waiting_lines.specs.Lines.{waiting_text}
 use Rattle.supervisor.specs.Opening.{Opens, opening_point}
 use Rattle.initd_options.specs.Options.{RunSaid}
@@ -60,7 +60,7 @@ judged_for service found = by service.judge
 
 -- the lines are those of what is kept of the trace
 abbrev IsWaiting : List ℕ → List Event → Type 0
-IsWaiting waiting past = (goal : Goal) × (core : CoreState) × Fits core goal past × (waiting ≡ waiting_text core)
+IsWaiting waiting past = (goal : Goal) × (core : CoreState) × FitsAll core goal past × (waiting ≡ waiting_text core)
 
 -- notes of a log that told this trace are notes of it
 noted_of_trace : {L : Type 0} (notes : Notes L) (waiting : List ℕ) (judgement : Option Judgement) (told : Option (List Event)) (past : List Event)

@@ -9,17 +9,24 @@ use Rattle.simulator.specs.Faults.{fault_text}
 use Rattle.simulated_system.specs.declared.objections.Objection.{Objection}
 use Rattle.simulated_system.specs.Objections.{objection_text}
 use Rattle.initd_command.specs.Lines.{line_at, line_told}
-use Rattle.initd_command.specs.declared.check.TheConstants.{UNWRITTEN}
+use Rattle.initd_command.specs.declared.check.TheConstants.{UNWRITTEN, WITHIN}
 use Rattle.initd_command.specs.declared.reports.TheConstants.{FLAWED, NO_MEMORY, TOO_MANY}
 use Rattle.initd_command.specs.declared.command.TheConstants.{UNVERSIONED, USAGE}
 use Rattle.initd_command.specs.declared.run.TheConstants.{UNLED, UNTOLD}
 use Rattle.initd_command.specs.Turned.{End, ReportsEnd, ReportsText, end_status}
 use Rattle.command_words.specs.Faults.{usage_report}
 
+-- of a trace that was judged: the line at which its last happening isn't finished, if at any, how many are, and whether
+-- it begins within a run
+pub record Judged : Type 0 where
+  pub left : Option ℕ
+  pub count : ℕ
+  pub within : Bool
+
 -- done; the words are no command line, and why, or memory ran out; the file of a path was not read, and why; the inittab
 -- has too many files, or faults that these lines tell, or no entry of this id; the run over this script ended before its
--- end; the writer could not be flushed; a trace is lawful, or unlawful, of which this is told, its last happening isn't
--- finished at this line, if at any, and it has so many that are; its line of this number is none; the verdict could not
+-- end; the writer could not be flushed; a trace is lawful, or unlawful, of which this is told, so far as it was judged; its
+-- line of this number is none; the verdict could not
 -- be written; the channel of a run over the operating system is in use, by whom where that is known, or two of its files
 -- are one, or the channel was not locked, and why; its turns ended so, where nothing names its level or something does;
 -- the file of its trace was not created, and why; the faults of its inittab could not be written; the version could not be
@@ -34,8 +41,8 @@ pub data Ending : Type 0 where
   unlisted : List ℕ → Ending
   stopped : List ℕ → SimFault → Ending
   unflushed : Ending
-  lawful : Option ℕ × ℕ → Ending
-  unlawful : List ℕ → Option ℕ × ℕ → Ending
+  lawful : Judged → Ending
+  unlawful : List ℕ → Judged → Ending
   torn : ℕ → Ending
   unwritten : Ending
   busy : List ℕ → Option ℕ → Ending
@@ -135,10 +142,17 @@ ReportsLeft (Some line) old new = ReportsText (unfinished_message line) old new
 abbrev pub count_message : ℕ → List ℕ
 count_message count = codes "initd: " ++ decimal count ++ codes " happenings\n"
 
--- what is told of a trace that was judged: how many happenings it has, and what isn't finished
-abbrev pub ReportsJudged : Option ℕ × ℕ → Option (List ℕ) → Option (List ℕ) → Type 0
+-- what is told of a trace that begins within a run
+abbrev pub ReportsWithin : Bool → Option (List ℕ) → Option (List ℕ) → Type 0
+ReportsWithin false old new = Keeps old new
+ReportsWithin true old new = AppendsPrefix old new WITHIN.now
+
+-- what is told of a trace that was judged: how many happenings it has, what isn't finished, and that it begins within a
+-- run
+abbrev pub ReportsJudged : Judged → Option (List ℕ) → Option (List ℕ) → Type 0
 ReportsJudged judged old new =
-    (mid : Option (List ℕ)) × ReportsText (count_message judged.1) old mid × ReportsLeft judged.0 mid new
+    (mid : Option (List ℕ)) × ReportsText (count_message judged.count) old mid
+    × (behind : Option (List ℕ)) × ReportsLeft judged.left mid behind × ReportsWithin judged.within behind new
 
 -- what is reported of an ending
 abbrev pub Reports : Ending → Option (List ℕ) → Option (List ℕ) → Type 0

@@ -20,7 +20,7 @@ use Rattle.simulator.specs.declared.running.SimFault.TheVariants as fault
 use Rattle.init_trace.specs.Event.{Event}
 use Rattle.init_trace.specs.declared.steps.Goal.{Goal}
 use Rattle.core_model.specs.State.{CoreState, opening_goal}
-use Rattle.core_model.specs.Fit.{Fits}
+use Rattle.core_model.specs.Fit.{FitsAll}
 use Rattle.waiting_lines.specs.Lines.{waiting_text}
 use Rattle.child_host.specs.Calls.{HostCall}
 use Rattle.host_trace.specs.Leads.{are_carried, is_allowed}
@@ -114,7 +114,7 @@ Turns service status old new =
 pub record IsNoted (noted : Noted) (past : List Event) : Type 0 where
   pub births : noted.births ≡ min (births past) BIRTHS_LIMIT
   pub last : (id : List ℕ) → (noted.last id ≡ Unnoted) ⊎ (noted.last id ≡ last_of (last_end id past))
-  pub waiting : (goal : Goal) × (core : CoreState) × Fits core goal past × (noted.waiting ≡ waiting_text core)
+  pub waiting : (goal : Goal) × (core : CoreState) × FitsAll core goal past × (noted.waiting ≡ waiting_text core)
   pub judgement : IfSome noted.judgement (λ judgement. Finds judgement past)
 
 -- the same of turns that made this trace: where it was taken whole, what is noted is noted of it

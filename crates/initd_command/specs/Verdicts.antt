@@ -1,5 +1,5 @@
 -- How a trace is judged: the verdict that is written, and what is told of a breach.
-use Rattle.std.specs.Prelude.{◌≡◌, ℕ, List, ◌++◌, codes, decimal, Option}
+use Rattle.std.specs.Prelude.{◌≡◌, ◌==◌, not, ℕ, Bool, false, List, [], ◌∷◌, ◌++◌, codes, decimal, Option, Some, None}
 use Rattle.std.specs.Io.KnownBytes.{Appends, Keeps}
 use Rattle.program_io.specs.Writing.{AppendsPrefix}
 use Rattle.path_texts.specs.Known.{IsTextAt, KnownTexts}
@@ -7,8 +7,9 @@ use Rattle.trace_check.specs.Laws.{law_number, law_words}
 use Rattle.trace_verdict.specs.declared.findings.Finding.{Finding}
 use Rattle.trace_verdict.specs.declared.findings.Finding.TheVariants.{Lawful, Breach, Torn}
 use Rattle.trace_verdict.specs.Answers.{Named, Answers}
+use Rattle.trace_verdict.specs.Judges.{HasTaken, TextState}
 use Rattle.initd_command.specs.Lines.{front_line}
-use Rattle.initd_command.specs.Endings.{Ending, no_memory, unread, lawful, unlawful, torn, unwritten}
+use Rattle.initd_command.specs.Endings.{Ending, Judged, no_memory, unread, lawful, unlawful, torn, unwritten}
 
 -- the verdicts
 abbrev pub lawful_text : List ℕ
@@ -30,14 +31,26 @@ message_of number line why =
 abbrev pub breach_message : Named → List ℕ
 breach_message breach = message_of breach.line (front_line breach.text) (law_words breach.law)
 
--- how a lawful trace ends, and one with this breach, where its last happening isn't finished at this line, and it has so
--- many that are
-abbrev pub EndsLawful : Option ℕ × ℕ → Ending → Option (List ℕ) → Option (List ℕ) → Type 0
+abbrev pub first_byte : List ℕ → Option ℕ
+first_byte [] = None
+first_byte (byte ∷ text) = Some byte
+
+-- a text with this first byte begins within a run: a run begins with `use`, and no other happening's text with a `u`
+abbrev pub is_within : Option ℕ → Bool
+is_within None = false
+is_within (Some byte) = not (byte == 117)
+
+-- a judge has taken the text, and this is its first byte
+abbrev pub IsJudge : TextState → Option ℕ → List ℕ → Type 0
+IsJudge judge first text = HasTaken judge text × (first ≡ first_byte text)
+
+-- how a lawful trace ends, and one with this breach, so far as it was judged
+abbrev pub EndsLawful : Judged → Ending → Option (List ℕ) → Option (List ℕ) → Type 0
 EndsLawful judged (lawful told) old new = (told ≡ judged) × Appends old new lawful_text
 EndsLawful judged unwritten old new = AppendsPrefix old new lawful_text
 EndsLawful judged _ old new = ⊥
 
-abbrev pub EndsBreach : Named → Option ℕ × ℕ → Ending → Option (List ℕ) → Option (List ℕ) → Type 0
+abbrev pub EndsBreach : Named → Judged → Ending → Option (List ℕ) → Option (List ℕ) → Type 0
 EndsBreach breach judged (unlawful message told) old new =
     (message ≡ breach_message breach) × (told ≡ judged) × Appends old new (unlawful_text breach)
 EndsBreach breach judged unwritten old new = AppendsPrefix old new (unlawful_text breach)
@@ -50,7 +63,7 @@ EndsTorn number (torn told) old new = (told ≡ number) × Keeps old new
 EndsTorn number _ old new = ⊥
 
 -- how a text ends of which this is found
-abbrev pub EndsFound : Finding Named → Option ℕ × ℕ → Ending → Option (List ℕ) → Option (List ℕ) → Type 0
+abbrev pub EndsFound : Finding Named → Judged → Ending → Option (List ℕ) → Option (List ℕ) → Type 0
 EndsFound Lawful judged ending old new = EndsLawful judged ending old new
 EndsFound (Breach breach) judged ending old new = EndsBreach breach judged ending old new
 EndsFound (Torn number) judged ending old new = EndsTorn number ending old new
@@ -58,7 +71,8 @@ EndsFound (Torn number) judged ending old new = EndsTorn number ending old new
 -- how a text ends: by the answer on it
 abbrev pub EndsTrace : List ℕ → Ending → Option (List ℕ) → Option (List ℕ) → Type 0
 EndsTrace text ending old new = (finding : Finding Named) × (left : Option ℕ) × (count : ℕ)
-    × Answers text finding left count × EndsFound finding (left, count) ending old new
+    × Answers text finding left count
+    × EndsFound finding (record { left = left; count = count; within = is_within (first_byte text) }) ending old new
 
 -- how the text at a path ends: it is not read, or it ends so
 abbrev pub EndsCheck : KnownTexts → List ℕ → Ending → Option (List ℕ) → Option (List ℕ) → Type 0

@@ -1,12 +1,11 @@
 //! `initd check`: a trace file, judged.
 
-ghost use Rattle.std.specs.Prelude.{◌≡◌, ℕ, List, Some, [], string_bytes, codes, IfOk};
+ghost use Rattle.std.specs.Prelude.{◌≡◌, ◌++◌, ℕ, List, Some, [], string_bytes, codes, IfOk};
 ghost use Rattle.std.specs.Io.KnownBytes.{Appends};
 ghost use Rattle.program_io.specs.Writing.{AppendsPrefix};
-ghost use Rattle.trace_verdict.specs.Judges.{HasTaken};
-ghost use Rattle.initd_command.specs.Endings.{Ending, Reports, ReportsJudged, ReportsLeft, count_message, status_of, torn_message, unfinished_message};
+ghost use Rattle.initd_command.specs.Endings.{Ending, Reports, ReportsJudged, ReportsLeft, ReportsWithin, count_message, status_of, torn_message, unfinished_message};
 ghost use Rattle.initd_command.specs.Turned.{ReportsText};
-ghost use Rattle.initd_command.specs.Verdicts.{EndsBreach, EndsCheck, EndsFound, EndsLawful, breach_message, message_of, unlawful_text, verdict_text};
+ghost use Rattle.initd_command.specs.Verdicts.{EndsBreach, EndsCheck, EndsFound, EndsLawful, IsJudge, breach_message, first_byte, is_within, message_of, unlawful_text, verdict_text};
 
 use crate::lines::front_line;
 use crate::reports::{report, report_bytes, report_cannot, report_made, report_memory, tell};
@@ -18,18 +17,39 @@ use std::alloc::{AllocError, Global};
 use std::io::Write;
 use trace_verdict::{Breach, Finding, TextJudge};
 
-/// The judge of a trace whose text is read in pieces.
+/// The judge of a trace whose text is read in pieces, and the text's first byte.
 #[derive(Drop)]
 struct FileJudge {
     judge: TextJudge,
+    first: Option<u8>,
+}
+
+/// The first byte of a text, which was this one without the text's last piece.
+fn first_with(first: Option<u8>, piece: &[u8]) -> Option<u8>
+    ensures { (text : List ℕ) → first ≡ first_byte text → result ≡ first_byte (text ++ piece.now) }
+{
+    match first {
+        Some(byte) => Some(byte),
+        None => first_byte(piece),
+    }
+}
+
+fn first_byte(text: &[u8]) -> Option<u8>
+    ensures { result ≡ first_byte text.now }
+{
+    match text {
+        [] => None,
+        [first, ..] => Some(*first),
+    }
 }
 
 impl PieceTaker for FileJudge {
-    ghost use Rattle.trace_verdict.specs.Judges.{HasTaken};
+    ghost use Rattle.initd_command.specs.Verdicts.{IsJudge};
 
-    ghost has_taken = { λ file text. HasTaken file.judge text };
+    ghost has_taken = { λ file text. IsJudge file.judge file.first text };
 
     fn take_piece(&mut self, piece: &[u8]) -> Result<(), AllocError> {
+        self.first = first_with(self.first, piece);
         match self.judge.take(piece) {
             Ok(()) => Ok(()),
             Err(Memory) => Err(AllocError),
@@ -51,6 +71,7 @@ pub(crate) fn check_file<T: Texts, W: Write, E: Write>(
 {
     let mut file = FileJudge {
         judge: TextJudge::new(alloc),
+        first: None,
     };
     judge_text(texts, alloc, path, &mut file, out, err)
 }
@@ -64,7 +85,7 @@ fn judge_text<T: Texts, W: Write, E: Write>(
     out: &mut W,
     err: &mut E,
 ) -> u8
-    requires { HasTaken file.old.judge [] }
+    requires { IsJudge file.old.judge file.old.first [] }
     ensures { (ending : Ending) × (result ≡ status_of ending)
         × EndsCheck (T.text_at texts.now) path.now ending (W.contents out.old) (W.contents out.new)
         × Reports ending (E.contents err.old) (E.contents err.new) }
@@ -72,31 +93,41 @@ fn judge_text<T: Texts, W: Write, E: Write>(
     match texts.read_pieces(path, file) {
         Ok(()) => {
             let (finding, left, count) = file.judge.answer();
-            tell_finding(alloc, finding, left, count, out, err)
+            tell_finding(alloc, finding, left, count, file.first, out, err)
         }
         Err(error) => report_cannot(alloc, "read", path, &error, err),
     }
 }
 
-/// Tells what is found of a text, how many happenings it has, and the line at which its last one isn't finished.
+/// Tells what is found of a text with this first byte, how many happenings it has, and the line at which its last one
+/// isn't finished.
 fn tell_finding<W: Write, E: Write>(
     alloc: Global,
     finding: &Finding,
     left: Option<u64>,
     count: u64,
+    first: Option<u8>,
     out: &mut W,
     err: &mut E,
 ) -> u8
     ensures { (ending : Ending) × (result ≡ status_of ending)
-        × EndsFound finding.now (left, count) ending (W.contents out.old) (W.contents out.new)
+        × EndsFound finding.now (record {
+          left = left;
+          count = count;
+          within = is_within first;
+        }) ending (W.contents out.old) (W.contents out.new)
         × Reports ending (E.contents err.old) (E.contents err.new) }
 {
     match finding {
-        Finding::Lawful => tell_lawful(alloc, left, count, out, err),
-        Finding::Breach(breach) => tell_breach(alloc, breach, left, count, out, err),
+        Finding::Lawful => tell_lawful(alloc, left, count, first, out, err),
+        Finding::Breach(breach) => tell_breach(alloc, breach, left, count, first, out, err),
         Finding::Torn(number) => report_torn(alloc, *number, err),
     }
 }
+
+/// What is reported of a trace that begins within a run.
+const WITHIN: &str =
+    "initd: the trace begins within a run, its first line is no `use`: judge it behind the piece before it\n";
 
 /// What is reported where the verdict could not be written.
 const UNWRITTEN: &str = "initd: the verdict could not be written\n";
@@ -106,18 +137,23 @@ fn tell_lawful<W: Write, E: Write>(
     alloc: Global,
     left: Option<u64>,
     count: u64,
+    first: Option<u8>,
     out: &mut W,
     err: &mut E,
 ) -> u8
     ensures { (ending : Ending) × (result ≡ status_of ending)
-        × EndsLawful (left, count) ending (W.contents out.old) (W.contents out.new)
+        × EndsLawful (record {
+          left = left;
+          count = count;
+          within = is_within first;
+        }) ending (W.contents out.old) (W.contents out.new)
         × Reports ending (E.contents err.old) (E.contents err.new) }
 {
     if !tell(b"lawful\n", out) {
         report(UNWRITTEN, err);
         return DEVICE_FAULT;
     }
-    report_judged(alloc, left, count, err);
+    report_judged(alloc, left, count, first, err);
     DONE
 }
 
@@ -127,11 +163,16 @@ fn tell_breach<W: Write, E: Write>(
     breach: &Breach,
     left: Option<u64>,
     count: u64,
+    first: Option<u8>,
     out: &mut W,
     err: &mut E,
 ) -> u8
     ensures { (ending : Ending) × (result ≡ status_of ending)
-        × EndsBreach breach.now (left, count) ending (W.contents out.old) (W.contents out.new)
+        × EndsBreach breach.now (record {
+          left = left;
+          count = count;
+          within = is_within first;
+        }) ending (W.contents out.old) (W.contents out.new)
         × Reports ending (E.contents err.old) (E.contents err.new) }
 {
     let Ok(verdict) = verdict_line(alloc, breach) else {
@@ -145,7 +186,7 @@ fn tell_breach<W: Write, E: Write>(
         return DEVICE_FAULT;
     }
     report_bytes(&message, err);
-    report_judged(alloc, left, count, err);
+    report_judged(alloc, left, count, first, err);
     UNLAWFUL
 }
 
@@ -184,12 +225,35 @@ fn message_of(alloc: Global, number: u64, line: &[u8], why: &[u8]) -> Result<Vec
     Ok(text)
 }
 
-/// Tells how many happenings of a trace were judged, and the line at which the last one isn't finished.
-fn report_judged<E: Write>(alloc: Global, left: Option<u64>, count: u64, err: &mut E)
-    ensures { ReportsJudged (left, count) (E.contents err.old) (E.contents err.new) }
+/// Tells how many happenings of a trace were judged, the line at which the last one isn't finished, and that it begins
+/// within a run.
+fn report_judged<E: Write>(
+    alloc: Global,
+    left: Option<u64>,
+    count: u64,
+    first: Option<u8>,
+    err: &mut E,
+)
+    ensures { ReportsJudged (record {
+      left = left;
+      count = count;
+      within = is_within first;
+    }) (E.contents err.old) (E.contents err.new) }
 {
     report_made(count_text(alloc, count), err);
     report_left(alloc, left, err);
+    report_within(first, err);
+}
+
+/// Tells that a trace with this first byte begins within a run, where it does.
+fn report_within<E: Write>(first: Option<u8>, err: &mut E)
+    ensures { ReportsWithin (is_within first) (E.contents err.old) (E.contents err.new) }
+{
+    if let Some(byte) = first
+        && byte != b'u'
+    {
+        report(WITHIN, err);
+    }
 }
 
 fn count_text(alloc: Global, count: u64) -> Result<String, AllocError>

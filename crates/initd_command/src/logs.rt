@@ -3,6 +3,7 @@
 ghost use Rattle.std.specs.Prelude.{◌≡◌, false};
 
 use init_trace::{Handed, Happening, HappeningIn};
+use program_io::write_text;
 use std::alloc::{Allocator, Global};
 use std::fs::{File, OpenOptions};
 use std::io;
@@ -30,29 +31,21 @@ impl Log for NoLog {
     }
 }
 
-/// The file of a trace, and why it could not be written last. A contract sees none of its bytes.
+/// How many bytes of a trace are kept while its file can't be written.
+const KEPT_LIMIT: usize = 1_048_576;
+
+/// A file, and how many bytes it took.
 #[derive(Drop)]
-struct TraceFile<F: Write + Drop> {
+struct Counted<F: Write + Drop> {
     file: F,
-    fault: Option<io::Error>,
+    count: usize,
 }
 
-impl<F: Write + Drop> TraceFile<F> {
-    fn new(file: F) -> TraceFile<F> {
-        TraceFile { file, fault: None }
-    }
-}
-
-impl<F: Write + Drop> Write for TraceFile<F> {
+impl<F: Write + Drop> Write for Counted<F> {
     fn write(&mut self, buf: &[u8]) -> io::Result<usize> {
-        match self.file.write(buf) {
-            Ok(count) => Ok(count),
-            Err(error) => {
-                let kind = error.kind();
-                self.fault = Some(error);
-                Err(io::Error::from(kind))
-            }
-        }
+        let count = self.file.write(buf)?;
+        self.count = self.count.saturating_add(count);
+        Ok(count)
     }
 
     fn flush(&mut self) -> io::Result<()> {
@@ -60,17 +53,88 @@ impl<F: Write + Drop> Write for TraceFile<F> {
     }
 }
 
+/// The file of a trace. Bytes that it doesn't take are kept, and written in front of the next ones. A contract sees none
+/// of them.
+#[derive(Drop)]
+struct TraceFile<F: Write + Drop> {
+    /// The file, and how many of the kept bytes it took.
+    file: Counted<F>,
+    kept: Vec<u8>,
+    /// Why it could not be written last.
+    fault: Option<io::Error>,
+}
+
+impl<F: Write + Drop> TraceFile<F> {
+    /// A file, and bytes that are to stand there first.
+    fn new(file: F, kept: Vec<u8>) -> TraceFile<F> {
+        TraceFile {
+            file: Counted { file, count: 0 },
+            kept,
+            fault: None,
+        }
+    }
+
+    /// The bytes that the file has not taken.
+    fn rest(&self) -> &[u8] {
+        rest_of(&self.kept, self.file.count)
+    }
+
+    /// Writes what is kept, as far as the file takes it.
+    fn catch_up(&mut self) {
+        let count = self.file.count;
+        match write_rest(&mut self.file, &self.kept, count) {
+            Ok(()) => {
+                self.file.count = 0;
+                self.kept.clear();
+                self.fault = None;
+            }
+            Err(error) => self.fault = Some(error),
+        }
+    }
+}
+
+/// The bytes behind so many.
+fn rest_of(kept: &[u8], count: usize) -> &[u8] {
+    kept.get(count..).unwrap_or(&[])
+}
+
+/// Writes the bytes behind so many.
+fn write_rest<F: Write>(file: &mut F, kept: &[u8], count: usize) -> io::Result<()> {
+    write_text(file, rest_of(kept, count))
+}
+
+impl<F: Write + Drop> Write for TraceFile<F> {
+    /// Takes all bytes. An error is that too many are kept.
+    fn write(&mut self, buf: &[u8]) -> io::Result<usize> {
+        let length = self.kept.len().saturating_add(buf.len());
+        if self.fault.is_some() && length > KEPT_LIMIT {
+            return Err(io::Error::from(ErrorKind::StorageFull));
+        }
+        self.kept.extend_from_slice(buf)?;
+        self.catch_up();
+        Ok(buf.len())
+    }
+
+    fn flush(&mut self) -> io::Result<()> {
+        Ok(())
+    }
+}
+
 /// The log of a trace in a file. Where the file is gone from its path when init has re-executed itself, the trace goes
 /// on in a new one there: so a trace is renamed away, piece by piece, and the pieces one behind the other are the trace.
 ///
-/// Where the file can't be written, that is told on standard error and init goes on without it, until a new one is made
-/// so. Then a part of the trace stands in no piece, and the log fails at its end.
+/// Where the file can't be written, that is told on standard error, and what it doesn't take is kept in memory until it
+/// does: then nothing of the trace is missing, and that is told. Of more than a mebibyte init goes on without it, until a
+/// new file is made so. Then a part of the trace stands in no piece, and the log fails at its end, as it does where the
+/// file has not taken all by then.
 #[derive(Drop)]
 pub(crate) struct FileLog<'a, R> {
     rt: &'a R,
     alloc: Global,
     path: &'a str,
     log: StreamLog<TraceFile<File>>,
+    /// It was told that bytes are kept.
+    is_waiting: bool,
     /// A part of the trace stands in no piece.
     is_torn: bool,
     /// The trace was ended, and is torn.
@@ -86,7 +150,8 @@ impl<'a, R: Files<File = File> + Eprint> FileLog<'a, R> {
             rt,
             alloc,
             path,
-            log: StreamLog::new(alloc, TraceFile::new(file)),
+            log: StreamLog::new(alloc, TraceFile::new(file, Vec::new(alloc))),
+            is_waiting: false,
             is_torn: false,
             failed: false,
         }
@@ -99,9 +164,35 @@ impl<'a, R: Files<File = File> + Eprint> FileLog<'a, R> {
         if self.log.failed() {
             return;
         }
-        if let Err(fault) = self.log.take(happening) {
-            self.is_torn = true;
-            self.say_torn(fault);
+        match self.log.take(happening) {
+            Ok(()) => self.tell_waiting(),
+            Err(fault) => {
+                self.is_torn = true;
+                self.is_waiting = false;
+                self.say_torn(fault);
+            }
+        }
+    }
+
+    /// Tells that bytes are kept since the file can't be written, and that it was.
+    fn tell_waiting(&mut self)
+        ensures { self.new.failed ≡ self.old.failed }
+    {
+        let path = self.path;
+        match &self.log.writer().fault {
+            Some(error) if !self.is_waiting => {
+                self.is_waiting = true;
+                let _ = eprintln!(self.rt;
+                    "initd: cannot write the trace {path}: {error}: up to 1048576 bytes of it are kept until there is room"
+                );
+            }
+            None if self.is_waiting => {
+                self.is_waiting = false;
+                let _ = eprintln!(self.rt;
+                    "initd: the trace {path} is written again, and nothing of it is missing"
+                );
+            }
+            _ => {}
         }
     }
 
@@ -118,31 +209,51 @@ impl<'a, R: Files<File = File> + Eprint> FileLog<'a, R> {
         };
     }
 
-    /// Goes on in a new file, where there is none at the path.
+    /// Goes on in a new file, where there is none at the path. What the file before didn't take stands there first.
     fn begin_anew(&mut self)
         ensures { self.new.failed ≡ self.old.failed }
     {
         let path = self.path;
-        let is_off = self.log.failed();
+        let is_torn = self.log.failed();
+        let is_off = is_torn || self.is_waiting;
         let created = OpenOptions::new()
             .write(true)
             .create_new(true)
             .open(self.rt, path);
         let _ = match created {
             Ok(file) => {
-                self.log = StreamLog::new(self.alloc, TraceFile::new(file));
-                say_resumed(self.rt, path, is_off)
+                self.go_on_in(file, is_torn);
+                say_resumed(self.rt, path, is_torn)
             }
             Err(error) if error.kind() == ErrorKind::AlreadyExists => {
                 say_occupied(self.rt, path, is_off)
             }
-            Err(error) if is_off => eprintln!(self.rt;
+            Err(error) if is_torn => eprintln!(self.rt;
                 "initd: cannot create the trace {path}: {error}: init goes on without it"
             ),
             Err(error) => eprintln!(self.rt;
                 "initd: trace {path}: {error}: it goes on in the file that was there before"
             ),
         };
+    }
+
+    /// Goes on in this file, first with what the file before didn't take, where the trace isn't torn.
+    fn go_on_in(&mut self, file: File, is_torn: bool)
+        ensures { self.new.failed ≡ self.old.failed }
+    {
+        let rest = if is_torn {
+            &[]
+        } else {
+            self.log.writer().rest()
+        };
+        let kept = match Vec::from_slice(self.alloc, rest) {
+            Ok(kept) => kept,
+            Err(_) => {
+                self.is_torn = true;
+                Vec::new(self.alloc)
+            }
+        };
+        self.log = StreamLog::new(self.alloc, TraceFile::new(file, kept));
     }
 }
 
@@ -182,7 +293,7 @@ impl<R: Files<File = File> + Eprint> Log for FileLog<'_, R> {
     }
 
     fn end(&mut self) -> Result<(), LogFault> {
-        self.failed = self.is_torn;
+        self.failed = self.is_torn || self.log.writer().fault.is_some();
         if self.failed {
             return Err(LogFault::Device);
         }

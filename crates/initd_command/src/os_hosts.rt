@@ -1,6 +1,8 @@
 //! The hosts over the operating system.
 
-ghost use Rattle.std.specs.Prelude.{◌≡◌, []};
+ghost use Rattle.std.specs.Prelude.{◌≡◌, [], IfOk};
+ghost use Rattle.initd_options.specs.Options.{run_of};
+ghost use Rattle.initd_command.specs.Hosts.{host_said};
 
 use crate::hosts::Hosts;
 use crate::run::folder_of;
@@ -48,7 +50,9 @@ impl<R: Processes + Files<File = File> + Clock + Print + Eprint + Clone + Drop> 
 impl<R: Processes + Files<File = File> + Clock + Print + Eprint + Clone + Drop> Hosts<
     Telling<OsHost<R>>,
 > for OsHosts<R> {
-    ghost use Rattle.std.specs.Prelude.{Some};
+    ghost use Rattle.std.specs.Prelude.{◌≡◌, Some, IfOk};
+    ghost use Rattle.initd_options.specs.Options.{run_of};
+    ghost use Rattle.initd_command.specs.Hosts.{host_said};
 
     ghost told = { λ hosts. Some hosts };
 
@@ -57,7 +61,11 @@ impl<R: Processes + Files<File = File> + Clock + Print + Eprint + Clone + Drop> 
         alloc: Global,
         said: &RunWords,
         lock: ChannelLock,
-    ) -> Result<Telling<OsHost<R>>, Memory> {
+    ) -> Result<Telling<OsHost<R>>, Memory>
+        ensures told { IfOk result (λ host. Some host.calls ≡ Some self.old) }
+        ensures err { self.new ≡ self.old }
+        ensures words { IfOk result (λ host. host.host ≡ host_said (run_of said.now)) }
+    {
         let host = host_of(&self.rt, alloc, said)?.holding(lock);
         Ok(Telling::after(&self.calls, host))
     }
@@ -71,6 +79,7 @@ impl<R: Processes + Files<File = File> + Clock + Print + Eprint + Clone + Drop> 
 fn host_of<R>(rt: &R, alloc: Global, said: &RunWords) -> Result<OsHost<R>, Memory>
 where
     R: Processes + Files<File = File> + Clock + Print + Eprint + Clone + Drop,
+    ensures { IfOk result (λ host. host ≡ host_said (run_of said.now)) }
 {
     let inittab = said.inittab.as_str();
     let initctl = said.initctl.as_str();

@@ -1,14 +1,13 @@
 //! The channel of requests, as a file.
 
 ghost use Rattle.std.specs.Prelude.{◌≡◌, ◌≤◌, ◌-◌, ◌%◌, length, IfOk};
-ghost use Rattle.initctl_frame.specs.declared.frames.TheConstants.{BLOCK};
+ghost use Rattle.channel_files.specs.declared.TheConstants.{REQUEST};
 
 use crate::old_requests::OldRequests;
 use crate::passed_over::PassedOver;
 use crate::troubles::Trouble;
-use channel_files::{ChannelLock, lock_channel};
+use channel_files::{ChannelLock, REQUEST, lock_channel};
 use init_words::Memory;
-use initctl_frame::BLOCK;
 use std::alloc::Allocator;
 use std::fs::{File, Metadata};
 use std::io::{Error, ErrorKind, Read, Seek, SeekFrom};
@@ -33,7 +32,7 @@ pub(crate) struct Channel<A: Allocator> {
     /// How many of its bytes were read: those of whole requests.
     heard: u64,
     /// The request that was read last, and how many of its bytes were handed on.
-    request: [u8; BLOCK],
+    request: [u8; REQUEST],
     handed: usize,
     hearing: Trouble,
     passed_over: PassedOver,
@@ -53,8 +52,8 @@ impl<A: Allocator> Channel<A> {
             file: None,
             missing: false,
             heard: 0,
-            request: [0; BLOCK],
-            handed: BLOCK,
+            request: [0; REQUEST],
+            handed: REQUEST,
             hearing: Trouble::new(program, "read", "read"),
             passed_over: PassedOver::new(),
             torn: 0,
@@ -104,7 +103,7 @@ impl<A: Allocator> Channel<A> {
     ) -> io::Result<usize>
         ensures { IfOk result (λ count. count ≤ length buffer.old) }
     {
-        if self.handed >= BLOCK {
+        if self.handed >= REQUEST {
             if !self.has_request(rt)? {
                 return Ok(0);
             }
@@ -121,11 +120,15 @@ impl<A: Allocator> Channel<A> {
         let mut channel = File::open(rt, self.path.as_str())?;
         channel.seek(SeekFrom::Start(self.heard))?;
         channel.read_exact(&mut self.request)?;
-        self.heard = self.heard.saturating_add(BLOCK as u64);
+        self.heard = self.heard.saturating_add(REQUEST as u64);
         self.handed = 0;
-        self.passed_over
-            .watch(rt, self.path.as_str(), &self.request);
         Ok(())
+    }
+
+    /// Tells why init passes over the request that was read last.
+    pub(crate) fn pass_over(&mut self, rt: &impl Eprint, why: &str) {
+        let number = self.heard / REQUEST as u64;
+        self.passed_over.tell(rt, self.path.as_str(), number, why);
     }
 
     /// The channel has a whole request that was not read.
@@ -168,7 +171,7 @@ impl<A: Allocator> Channel<A> {
 
     /// A file that was found has a whole request that was not read.
     fn is_whole(&self, found: &Metadata) -> bool {
-        found.len().saturating_sub(self.heard) >= BLOCK as u64
+        found.len().saturating_sub(self.heard) >= REQUEST as u64
     }
 
     /// Another file stands at the path than before, or one that is shorter than what was read.
@@ -196,7 +199,6 @@ impl<A: Allocator> Channel<A> {
     fn go_to(&mut self, place: u64) {
         if self.heard != place {
             self.heard = place;
-            self.passed_over.go_to(place);
             self.torn = 0;
             self.told_torn = false;
         }
@@ -205,7 +207,7 @@ impl<A: Allocator> Channel<A> {
     /// Tells, of a channel that was read to its end, that the end is none of a request: where it was so the last time
     /// too, since a writer may be in the middle, and once until it is over.
     fn tell_torn(&mut self, rt: &impl Eprint, length: u64) {
-        let over = length % BLOCK as u64;
+        let over = length % REQUEST as u64;
         if over == 0 {
             self.told_torn = false;
             self.torn = 0;
@@ -221,9 +223,9 @@ impl<A: Allocator> Channel<A> {
 
 /// How many of so many bytes are those of whole requests.
 fn whole_requests(length: u64) -> u64
-    ensures { result ≡ length - length % BLOCK }
+    ensures { result ≡ length - length % REQUEST }
 {
-    length - length % BLOCK as u64
+    length - length % REQUEST as u64
 }
 
 /// The device and the number of a file.

@@ -1,5 +1,8 @@
 //! The children of a host: started, looked at, signalled.
 
+ghost use Rattle.std.specs.Prelude.{IsTrue};
+ghost use Rattle.os_host.specs.Hosts.{is_look_answer, is_signal_answer};
+
 use crate::commands::{command_of, needs_shell, shown};
 use crate::costs::Line;
 use crate::logs::Logs;
@@ -168,6 +171,7 @@ impl<R: Processes, A: Allocator + Copy> Children<R, A> {
     pub(crate) fn look(&mut self, rt: &R, id: &Id) -> Answer
     where
         R: Eprint,
+        ensures { IsTrue (is_look_answer result) }
     {
         let Some(held) = self.handles.get_mut(id) else {
             return Answer::NoLook;
@@ -234,6 +238,7 @@ impl<R: Processes, A: Allocator + Copy> Children<R, A> {
     pub(crate) fn signal(&mut self, rt: &R, id: &Id, signal: Sig) -> Answer
     where
         R: Eprint,
+        ensures { IsTrue (is_signal_answer result) }
     {
         let sent = match signal {
             Sig::Term => self.term(rt, id),

@@ -1,10 +1,10 @@
 //! What is said of requests that stood in the channel before the run.
 
 ghost use Rattle.std.specs.Prelude.{◌≡◌, ◌/◌, ◌%◌};
-ghost use Rattle.initctl_frame.specs.declared.frames.TheConstants.{BLOCK};
+ghost use Rattle.channel_files.specs.declared.TheConstants.{REQUEST};
 ghost use Rattle.os_host.specs.OldRequests.{fate_text, plural, subject};
 
-use initctl_frame::BLOCK;
+use channel_files::REQUEST;
 use std::fmt;
 
 /// What stands in a channel before its first reading.
@@ -21,13 +21,13 @@ pub(crate) struct OldRequests {
 impl OldRequests {
     /// Those of a channel of this many bytes.
     pub(crate) fn of(length: u64, fresh: bool) -> OldRequests
-        ensures requests { result.requests ≡ length / BLOCK }
-        ensures over { result.over ≡ length % BLOCK }
+        ensures requests { result.requests ≡ length / REQUEST }
+        ensures over { result.over ≡ length % REQUEST }
         ensures fresh { result.fresh ≡ fresh }
     {
         OldRequests {
-            requests: length / BLOCK as u64,
-            over: length % BLOCK as u64,
+            requests: length / REQUEST as u64,
+            over: length % REQUEST as u64,
             fresh,
         }
     }

@@ -1,6 +1,9 @@
 //! The host over the operating system.
 
-ghost use Rattle.std.specs.Prelude.{◌≡◌, IfOk, OnErr, IsErr};
+ghost use Rattle.std.specs.Prelude.{◌≡◌, List, Ok, IfOk, OnErr, IsErr, true, false};
+ghost use Rattle.inittab_text.specs.declared.faults.PartFault.{PartFault};
+ghost use Rattle.child_host.specs.Calls.{HasCause};
+ghost use Rattle.os_host.specs.Hosts.{is_taken};
 
 use crate::announcements::announcement_text;
 use crate::channels::Channel;
@@ -11,10 +14,10 @@ use crate::pauses::{LOOK, Pauses, has_stirred};
 use crate::steady_clocks::SteadyClock;
 use crate::troubles::Trouble;
 use channel_files::ChannelLock;
-use child_host::{Host, HostFault, Reply, counted, is_failed_reply};
+use child_host::{Host, HostFault, Reading, Reply, counted, is_failed_reply};
 use init_trace::{Happening, HappeningIn};
 use init_words::{Answer, ChildNo, Id, Memory, Part, Sig};
-use inittab_text::{PartFault, Table, TableFault, read_parts};
+use inittab_text::{PartFault, Table, TableFault};
 use std::alloc::{Allocator, Global};
 use std::fs::File;
 use std::io::ErrorKind;
@@ -34,8 +37,8 @@ use std::{io, thread};
 /// read, or another file stands at its path. The clock gives
 /// the seconds since the beginning of 1970 at its first reading, and goes on from there by the monotonic clock. What
 /// fails is told on standard error once when it begins and once when it is over; told too are requests that stand in
-/// the channel before its first reading, those that init passes over, and that it ends within a request. The faults of
-/// the lines of an inittab's files are printed, where they are not those that were printed last. Of a child that is
+/// the channel before its first reading, those that it is told init passes over, and that it ends within a request. The
+/// faults of the lines of an inittab's files that it is told are printed, where they are not those that were printed last. Of a child that is
 /// stopped since an inittab that was read again has no line of it, or one that is off, does not run in the level or has
 /// another action, that is told on standard error.
 #[derive(Drop)]
@@ -50,6 +53,8 @@ pub struct OsHost<
     paths: Paths<A>,
     line_faults: LineFaults<A>,
     strict: bool,
+    verbose: bool,
+    fresh: bool,
     pauses: Pauses,
     clock: SteadyClock,
     saying: Trouble,
@@ -58,11 +63,16 @@ pub struct OsHost<
 
 impl<R: Processes + Files<File = File> + Clock + Print + Eprint + Drop, A: Allocator> Model
     for OsHost<R, A> {
-    ghost use Rattle.child_host.specs.Calls.{FaultCount};
+    ghost use Rattle.os_host.specs.Hosts.{HostState};
 
-    ghost Value = { FaultCount };
+    ghost Value = { HostState };
 
-    ghost view = { λ host. record { faults = host.faults } };
+    ghost view = { λ host. record {
+      faults = host.faults;
+      strict = host.strict;
+      verbose = host.verbose;
+      fresh = host.fresh;
+    } };
 }
 
 impl<R: Processes + Files<File = File> + Clock + Print + Eprint + Drop, A: Allocator + Copy> OsHost<
@@ -82,7 +92,12 @@ impl<R: Processes + Files<File = File> + Clock + Print + Eprint + Drop, A: Alloc
         state: &str,
         folder: Option<&str>,
     ) -> Result<OsHost<R, A>, Memory>
-        ensures { IfOk result (λ host. host.faults ≡ 0) }
+        ensures { IfOk result (λ host. host ≡ record {
+          faults = 0;
+          strict = false;
+          verbose = false;
+          fresh = false;
+        }) }
     {
         Ok(OsHost {
             rt,
@@ -92,6 +107,8 @@ impl<R: Processes + Files<File = File> + Clock + Print + Eprint + Drop, A: Alloc
             paths: Paths::new(alloc, program, inittab, folder, state)?,
             line_faults: LineFaults::new(alloc),
             strict: false,
+            verbose: false,
+            fresh: false,
             pauses: Pauses::of_a_second(),
             clock: SteadyClock::new(program),
             saying: Trouble::new(program, "write", "written"),
@@ -104,7 +121,7 @@ impl<R: Processes + Files<File = File> + Clock + Print + Eprint + Drop, A: Alloc
     /// signal sent or bytes taken: then the next one lasts a thousandth of the length, and else twice as long as the
     /// last, but no longer than the length.
     pub fn with_pause(mut self, length: &str) -> Result<OsHost<R, A>, Memory>
-        ensures { IfOk result (λ host. host.faults ≡ self.faults) }
+        ensures { IfOk result (λ host. host ≡ self) }
     {
         self.pauses.grow_to(length);
         Ok(self)
@@ -113,15 +130,16 @@ impl<R: Processes + Files<File = File> + Clock + Print + Eprint + Drop, A: Alloc
     /// The host that tells on standard error of each birth, each end and each signal of a child, and once of each file
     /// that comes to stand in the inittab's folder and is passed over; those that stand there now are taken for told.
     pub fn verbose(mut self) -> OsHost<R, A>
-        ensures { result.faults ≡ self.faults }
+        ensures { result ≡ record self { verbose = true } }
     {
         self.tell_all();
+        self.verbose = true;
         self
     }
 
     /// The host that doesn't give an inittab of which a line is faulty, whose faults are printed each time.
     pub fn strict(mut self) -> OsHost<R, A>
-        ensures { result.faults ≡ self.faults }
+        ensures { result ≡ record self { strict = true } }
     {
         self.strict = true;
         self
@@ -130,16 +148,17 @@ impl<R: Processes + Files<File = File> + Clock + Print + Eprint + Drop, A: Alloc
     /// The host that passes over the requests that stand in the channel at its first reading: that begins at the end
     /// of the last whole one. A channel that isn't there then has none.
     pub fn fresh(mut self) -> OsHost<R, A>
-        ensures { result.faults ≡ self.faults }
+        ensures { result ≡ record self { fresh = true } }
     {
         self.channel.pass_over_old();
+        self.fresh = true;
         self
     }
 
     /// The host that holds this lock of its channel, and takes that of each other file that comes to stand at the
     /// channel's path. Where another init has that one, it is told, and nothing is read.
     pub fn holding(mut self, lock: ChannelLock) -> OsHost<R, A>
-        ensures { result.faults ≡ self.faults }
+        ensures { result ≡ self }
     {
         self.channel.hold(lock);
         self
@@ -150,7 +169,7 @@ impl<R: Processes + Files<File = File> + Clock + Print + Eprint + Drop, A: Alloc
     /// process, or says in the log that there is none and ends with a status. Where a log can't be opened that is told,
     /// and the child is started as without logs.
     pub fn with_logs(mut self, folder: &str) -> Result<OsHost<R, A>, Memory>
-        ensures { IfOk result (λ host. host.faults ≡ self.faults) }
+        ensures { IfOk result (λ host. host ≡ self) }
     {
         self.children.log_to(folder)?;
         Ok(self)
@@ -162,57 +181,47 @@ impl<R: Processes + Files<File = File> + Clock + Print + Eprint + Drop, A: Alloc
     A,
 > {
     fn tell_all(&mut self)
-        ensures { self.new.faults ≡ self.old.faults }
+        ensures { self.new ≡ self.old }
     {
         self.children.tell_all();
         self.paths.tell_all(&self.rt);
     }
 
-    /// Prints the faults of the lines of an inittab's parts that were read again, and notes which children they cost.
-    /// An error is that they could not be printed, or that they are no inittab for a host that is strict. What fails is
-    /// told.
-    fn hear_parts<B: Allocator>(&mut self, parts: &[Part<B>]) -> Result<(), HostFault>
-        ensures { self.new.faults ≡ self.old.faults }
-    {
-        match read_parts(self.alloc, parts) {
-            Ok((table, faults)) => self.hear_table(parts, &table, &faults),
-            Err(TableFault::TooLong) => {
-                say_too_long(&self.rt, self.paths.inittab());
-                Ok(())
-            }
-            Err(TableFault::Parts) => {
-                say_too_many(&self.rt, self.paths.inittab());
-                Ok(())
-            }
-            Err(TableFault::Memory) => {
-                let none: io::Result<usize> = Err(io::Error::from(ErrorKind::OutOfMemory));
-                self.saying.tell(&self.rt, "standard output", &none);
-                Err(HostFault::Memory)
-            }
-        }
-    }
-
-    /// The same of parts that were read as this table, with these faults.
-    fn hear_table<B: Allocator>(
+    /// Prints the faults of the lines of an inittab's parts that were read as this table, and notes which children it
+    /// costs, where the host takes it. Gives whether it does.
+    fn takes_table<B: Allocator>(
         &mut self,
         parts: &[Part<B>],
-        table: &Table<A>,
+        table: &Table<B>,
         faults: &[PartFault],
-    ) -> Result<(), HostFault>
-        ensures { self.new.faults ≡ self.old.faults }
+    ) -> bool
+        ensures taken { result ≡ is_taken (λ (all : List PartFault). all) self.old.strict (Ok (table.now, faults.now)) }
+        ensures cause { HasCause self.old.faults self.new.faults false }
+        ensures kept { self.new ≡ record self.old { faults = self.new.faults } }
     {
         let told = self.line_faults.print(&self.rt, parts, faults);
         if !matches!(told, Ok(0)) {
             self.saying.tell(&self.rt, "standard output", &told);
         }
+        self.faults = counted(self.faults, told.is_err());
         if self.strict && !faults.is_empty() {
             self.line_faults.forget();
             say_refused(&self.rt, self.paths.inittab());
-            return Err(HostFault::Device);
+            return false;
         }
         self.children.note_lines(table);
-        host_result(told)?;
-        Ok(())
+        true
+    }
+
+    /// Says why the parts of an inittab have no table.
+    fn say_no_table(&mut self, fault: TableFault)
+        ensures { self.new ≡ self.old }
+    {
+        match fault {
+            TableFault::TooLong => say_too_long(&self.rt, self.paths.inittab()),
+            TableFault::Parts => say_too_many(&self.rt, self.paths.inittab()),
+            TableFault::Memory => self.paths.say_no_room(&self.rt),
+        }
     }
 }
 
@@ -261,14 +270,20 @@ fn host_result<T>(outcome: io::Result<T>) -> Result<T, HostFault>
 
 impl<R: Processes + Files<File = File> + Clock + Print + Eprint + Drop, A: Allocator + Copy> Host
     for OsHost<R, A> {
-    ghost use Rattle.std.specs.Prelude.{None};
-    ghost use Rattle.child_host.specs.Calls.{FaultCount};
+    ghost use Rattle.std.specs.Prelude.{◌≡◌, None, false, IsTrue};
+    ghost use Rattle.child_host.specs.Calls.{HasCause};
+    ghost use Rattle.child_host.specs.Calls.{is_failed_reply};
+    ghost use Rattle.os_host.specs.Hosts.{HostState, is_taken, is_start_answer, is_look_answer, is_signal_answer, answers_by};
 
     ghost told = { λ _. None };
 
-    ghost failures = { λ (host : FaultCount). host.faults };
+    ghost failures = { λ (host : HostState). host.faults };
 
-    fn start<B: Allocator + Copy>(&mut self, alloc: B, id: Id, command: &[u8]) -> Reply {
+    fn start<B: Allocator + Copy>(&mut self, alloc: B, id: Id, command: &[u8]) -> Reply
+        ensures cause { HasCause self.old.faults self.new.faults (is_failed_reply result) }
+        ensures kind { IsTrue (answers_by is_start_answer result) }
+        ensures kept { self.new ≡ record self.old { faults = self.new.faults } }
+    {
         let reply = match self.children.start(&self.rt, alloc, id, command) {
             Ok(number) => Reply::Now(Answer::Born(ChildNo(number))),
             Err(error) => {
@@ -281,21 +296,33 @@ impl<R: Processes + Files<File = File> + Clock + Print + Eprint + Drop, A: Alloc
         reply
     }
 
-    fn look(&mut self, id: Id) -> Reply {
+    fn look(&mut self, id: Id) -> Reply
+        ensures cause { HasCause self.old.faults self.new.faults (is_failed_reply result) }
+        ensures kind { IsTrue (answers_by is_look_answer result) }
+        ensures kept { self.new ≡ record self.old { faults = self.new.faults } }
+    {
         let reply = Reply::Now(self.children.look(&self.rt, &id));
         self.pauses.note(has_stirred(&reply));
         self.faults = counted(self.faults, is_failed_reply(&reply));
         reply
     }
 
-    fn signal(&mut self, id: Id, signal: Sig) -> Reply {
+    fn signal(&mut self, id: Id, signal: Sig) -> Reply
+        ensures cause { HasCause self.old.faults self.new.faults (is_failed_reply result) }
+        ensures kind { IsTrue (answers_by is_signal_answer result) }
+        ensures kept { self.new ≡ record self.old { faults = self.new.faults } }
+    {
         let reply = Reply::Now(self.children.signal(&self.rt, &id, signal));
         self.pauses.note(has_stirred(&reply));
         self.faults = counted(self.faults, is_failed_reply(&reply));
         reply
     }
 
-    fn late(&mut self) -> Option<(Id, Answer)> {
+    /// Nothing ever comes later.
+    fn late(&mut self) -> Option<(Id, Answer)>
+        ensures never { result ≡ None }
+        ensures unchanged { self.new ≡ self.old }
+    {
         None
     }
 
@@ -314,15 +341,27 @@ impl<R: Processes + Files<File = File> + Clock + Print + Eprint + Drop, A: Alloc
 
     fn read_tables<B: Allocator + Copy>(&mut self, alloc: B) -> Result<Vec<Part<B>, B>, HostFault> {
         let parts = host_result(self.paths.read_tables(&self.rt, alloc));
-        let heard = match &parts {
-            Ok(parts) => self.hear_parts(parts),
-            Err(fault) => Err(*fault),
-        };
-        self.faults = counted(self.faults, heard.is_err());
-        match heard {
-            Err(fault) if self.strict => Err(fault),
-            _ => parts,
+        self.faults = counted(self.faults, parts.is_err());
+        parts
+    }
+
+    /// Prints the faults of the lines, where they are not those that were printed last, and says why there is no table.
+    fn takes<B: Allocator>(&mut self, parts: &[Part<B>], reading: &Reading<B>) -> bool
+        ensures cause { HasCause self.old.faults self.new.faults false }
+        ensures taken { result ≡ is_taken (λ all. all.items) self.old.strict reading.now }
+        ensures kept { self.new ≡ record self.old { faults = self.new.faults } }
+    {
+        match reading {
+            Ok((table, faults)) => self.takes_table(parts, table, faults),
+            Err(fault) => {
+                self.say_no_table(*fault);
+                true
+            }
         }
+    }
+
+    fn pass_over(&mut self, why: &str) {
+        self.channel.pass_over(&self.rt, why);
     }
 
     fn carry<B: Allocator + Copy>(

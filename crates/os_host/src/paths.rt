@@ -72,6 +72,12 @@ impl<A: Allocator + Copy> Paths<A> {
         self.with_folder(rt, alloc, Part { name, bytes: text? })
     }
 
+    /// Says that there was no memory for the table of the inittab.
+    pub(crate) fn say_no_room(&mut self, rt: &impl Eprint) {
+        let error = io::Error::from(ErrorKind::OutOfMemory);
+        self.reading.tell_begun(rt, self.inittab.as_str(), &error);
+    }
+
     /// The part, and those of the folder.
     fn with_folder<R: Files + Eprint, B: Allocator + Copy>(
         &mut self,

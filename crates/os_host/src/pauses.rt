@@ -11,7 +11,7 @@ const PAUSE_LIMIT: u64 = 6_000;
 const HUNDREDTH: u64 = 10_000;
 
 /// After how many microseconds of a pause the channel is looked at.
-pub(crate) const LOOK: u64 = 20_000;
+pub(crate) const LOOK: u64 = 40_000;
 
 /// The microseconds of a second.
 const SECOND: u64 = 1_000_000;

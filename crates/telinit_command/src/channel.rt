@@ -6,6 +6,7 @@ ghost use Rattle.telinit_command.specs.Channels.{AreSame, HasGained, HasGainedFr
 ghost use Rattle.telinit_command.specs.Notes.{IsTold, Reading, made_note, reading_note, unknown_note};
 
 use crate::channels::Channels;
+use channel_files::REQUEST;
 use initctl_frame::BLOCK;
 use program_io::write_text;
 use std::alloc::{AllocError, Global};
@@ -50,7 +51,7 @@ pub fn append_block<C: Channels, E: Write>(
         ⊎ HasGainedFront path.now block.now (C.bytes_at channels.old) (C.bytes_at channels.new)) }
 {
     let found = channels.open(path)?;
-    if found.length % BLOCK as u64 != 0 {
+    if found.length % REQUEST as u64 != 0 {
         return Err(ChannelFault::Torn(found.length));
     }
     let made = made_note(alloc, path, found.was_made)?;

@@ -96,7 +96,8 @@ const OVER_KEPT: &[(&[u8], &[u8], &str, u8, (&str, &str))] = &[
         2,
         (
             "unlawful: happening 0, law 5\n",
-            "line 1: settle 3: the level is not settled\ninitd: 1 happenings\n",
+            "line 1: settle 3: the level is not settled\ninitd: 1 happenings\n\
+             initd: the trace begins within a run, its first line is no `use`: judge it behind the piece before it\n",
         ),
     ),
     (
@@ -106,7 +107,8 @@ const OVER_KEPT: &[(&[u8], &[u8], &str, u8, (&str, &str))] = &[
         0,
         (
             "lawful\n",
-            "initd: 1 happenings\ninitd: the happening at trace line 2 is not finished: judged up to the line before it\n",
+            "initd: 1 happenings\ninitd: the happening at trace line 2 is not finished: judged up to the line before it\n\
+             initd: the trace begins within a run, its first line is no `use`: judge it behind the piece before it\n",
         ),
     ),
     (

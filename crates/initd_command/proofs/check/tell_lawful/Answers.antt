@@ -6,4 +6,4 @@ pub returns-then-not-tell : goal.returns-then-not-tell
 returns-then-not-tell g c = (unwritten, refl, c.tell.ensures.part, c.report.ensures)
 
 pub returns : goal.returns
-returns g c = (lawful (c.args.left, c.args.count), refl, (refl, c.tell.ensures.whole (search rules)), c.report_judged.ensures)
+returns g c = (lawful _, refl, (refl, c.tell.ensures.whole (search rules)), c.report_judged.ensures)

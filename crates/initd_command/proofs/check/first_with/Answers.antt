@@ -1,0 +1,11 @@
+use Rattle.std.proofs.Common.{◌≡◌, refl, ℕ, List, [], ◌∷◌, ◌++◌, Option, Some, None}
+use Rattle.initd_command.specs.Verdicts.{first_byte}
+use Rattle.initd_command.proofs.check.first_with.Goals as goal
+
+some_first : (byte : ℕ) (text piece : List ℕ) → Some byte ≡ first_byte text → Some byte ≡ first_byte (text ++ piece)
+some_first byte [] piece is = cc
+some_first byte (b ∷ text) piece is = is
+
+none_first : (text piece : List ℕ) → None ≡ first_byte text → first_byte piece ≡ first_byte (text ++ piece)
+none_first [] piece is = refl
+none_first (b ∷ text) piece is = cc

@@ -1,0 +1,13 @@
+-- Which host the words of a run name.
+use Rattle.os_host.specs.Hosts.{HostState}
+use Rattle.initd_options.specs.Options.{RunSaid}
+
+-- one that is strict, tells of its children and passes over the requests from before where the words say so; none of its
+-- calls failed
+abbrev pub host_said : RunSaid → HostState
+host_said service = record {
+  faults = 0;
+  strict = service.strict;
+  verbose = service.verbose;
+  fresh = service.fresh;
+}
