@@ -11,6 +11,7 @@ use Rattle.trace_view.specs.Rows.{row_of}
 use Rattle.text_view.specs.declared.text_views.Stop.{Stop}
 use Rattle.text_view.specs.declared.text_views.Stop.TheVariants.{Breach, Torn}
 use Rattle.text_view.specs.Shown.{IsShown}
+use Rattle.view_lines.specs.Json.{status_json_text}
 use Rattle.view_lines.specs.Left.{left_text}
 use Rattle.view_lines.specs.Reasons.{why_text}
 use Rattle.view_lines.specs.Status.{row_of_text, status_text}
@@ -21,6 +22,7 @@ use Rattle.initview_command.specs.declared.asking.Question.TheVariants as questi
 abbrev pub said : Question → List Event → List ℕ
 said (question.Why id) past = why_text id past
 said question.Status past = status_text past
+said question.Json past = status_json_text past
 said (question.Row id) past = row_of_text id past
 said question.Left past = left_text past
 

@@ -1,9 +1,9 @@
-//! What the words of a command line ask of a trace.
+//! What the words of a command line ask of a trace, or of inittabs.
 
 ghost use Rattle.std.specs.Prelude.{◌≡◌, map, string_bytes};
-ghost use Rattle.initview_command.specs.Asking.{of_three, of_two, path_of, path_of_three, question_of};
+ghost use Rattle.initview_command.specs.Asking.{asked_by, behind_level, behind_verb, has_level, level_in, level_named, of_three, of_two, path_of, path_of_three, paths_of, question_of, table_question_of, verb_of};
 
-use init_words::Id;
+use init_words::{Id, Level};
 
 /// What is asked of a trace.
 #[derive(Clone, Copy)]
@@ -12,6 +12,8 @@ pub enum Question {
     Why(Id),
     /// How init and all entries stand.
     Status,
+    /// The same as lines of JSON.
+    Json,
     /// How this id stands.
     Row(Id),
     /// Which children are left.
@@ -37,6 +39,8 @@ fn of_three(verb: &str, second: &str, third: &str) -> Option<Question>
 {
     if verb == "why" {
         Some(Question::Why(Id::read(second.as_bytes())?))
+    } else if verb == "status" && second == "--json" {
+        Some(Question::Json)
     } else if verb == "status" {
         Some(Question::Row(Id::read(third.as_bytes())?))
     } else {
@@ -61,7 +65,11 @@ pub(crate) fn question_of(words: &[String]) -> Option<Question>
 fn path_of_three<'a>(verb: &str, second: &'a str, third: &'a str) -> &'a str
     ensures { result.now ≡ path_of_three verb.now second.now third.now }
 {
-    if verb == "why" { third } else { second }
+    if verb == "why" || second == "--json" {
+        third
+    } else {
+        second
+    }
 }
 
 /// The path of the trace that the words name.
@@ -77,6 +85,117 @@ pub(crate) fn path_of(words: &[String]) -> &str
     }
 }
 
+/// What is asked of inittabs.
+#[derive(Clone, Copy)]
+pub enum TableQuestion {
+    /// The faults and warnings of one.
+    Lint,
+    /// What becomes of the entries of the first in a level, where the second is read in its place.
+    Diff(Option<Level>),
+    /// What one starts on the way to a level.
+    Plan(Option<Level>),
+}
+
+/// What a command, with a level or without, asks of so many files.
+fn asked_by(verb: &str, level: Option<Level>, count: usize) -> Option<TableQuestion>
+    ensures { result ≡ asked_by verb.now level count }
+{
+    if verb == "lint" && level.is_none() && count > 0 {
+        Some(TableQuestion::Lint)
+    } else if verb == "diff" && count == 2 {
+        Some(TableQuestion::Diff(level))
+    } else if verb == "plan" && count > 0 {
+        Some(TableQuestion::Plan(level))
+    } else {
+        None
+    }
+}
+
+/// The words behind the command name a level.
+fn has_level(words: &[String]) -> bool
+    ensures { result ≡ has_level (map string_bytes words.now) }
+{
+    match words {
+        [] => false,
+        [option, ..] => option.as_str() == "--level",
+    }
+}
+
+/// The level of a word.
+fn level_in(word: &[u8]) -> Option<Level>
+    ensures { result ≡ level_in word.now }
+{
+    match word {
+        [code] => Level::read(*code),
+        _ => None,
+    }
+}
+
+/// The level that the words behind the command name.
+fn level_named(words: &[String]) -> Option<Level>
+    ensures { result ≡ level_named (map string_bytes words.now) }
+{
+    match words {
+        [_, level, ..] => level_in(level.as_bytes()),
+        _ => None,
+    }
+}
+
+/// The words behind a level.
+fn behind_level(words: &[String]) -> &[String]
+    ensures { map string_bytes result.now ≡ behind_level (map string_bytes words.now) }
+{
+    match words {
+        [_, _, paths @ ..] => paths,
+        _ => &[],
+    }
+}
+
+/// The words behind the command.
+fn behind_verb(words: &[String]) -> &[String]
+    ensures { map string_bytes result.now ≡ behind_verb (map string_bytes words.now) }
+{
+    match words {
+        [] => words,
+        [_, rest @ ..] => rest,
+    }
+}
+
+/// The paths of the files that the words name.
+pub(crate) fn paths_of(words: &[String]) -> &[String]
+    ensures { map string_bytes result.now ≡ paths_of (map string_bytes words.now) }
+{
+    let rest = behind_verb(words);
+    if has_level(rest) {
+        behind_level(rest)
+    } else {
+        rest
+    }
+}
+
+/// The command.
+fn verb_of(words: &[String]) -> &str
+    ensures { result.now ≡ verb_of (map string_bytes words.now) }
+{
+    match words {
+        [] => "",
+        [verb, ..] => verb.as_str(),
+    }
+}
+
+/// What the words ask of inittabs, where they are a command line for some.
+pub(crate) fn table_question_of(words: &[String]) -> Option<TableQuestion>
+    ensures { result ≡ table_question_of (map string_bytes words.now) }
+{
+    let rest = behind_verb(words);
+    let count = paths_of(words).len();
+    if has_level(rest) {
+        let level = level_named(rest)?;
+        return asked_by(verb_of(words), Some(level), count);
+    }
+    asked_by(verb_of(words), None, count)
+}
+
 /// Why words are no command line; nothing where help is asked for.
 pub(crate) fn reason_of(words: &[String]) -> &'static str {
     match words {
@@ -87,6 +206,15 @@ pub(crate) fn reason_of(words: &[String]) -> &'static str {
         }
         [verb, ..]
             if verb.as_str() == "why" || verb.as_str() == "status" || verb.as_str() == "left" => {
+            "a word is missing, or one is too many"
+        }
+        [verb] if verb.as_str() == "lint" || verb.as_str() == "plan" => "a TABLE is missing",
+        [_, option, level, ..]
+            if option.as_str() == "--level" && level_in(level.as_bytes()).is_none() => {
+            "a LEVEL is one of 0 to 9 and S"
+        }
+        [verb, ..]
+            if verb.as_str() == "lint" || verb.as_str() == "diff" || verb.as_str() == "plan" => {
             "a word is missing, or one is too many"
         }
         _ => "no such command",

@@ -4,11 +4,14 @@ ghost use Rattle.std.specs.Prelude.{◌≡◌, true, false, None, Some, codes, m
 ghost use Rattle.program_version.specs.VersionLine.{PrintsVersion};
 ghost use Rattle.command_words.specs.CommandLines.{asks_version};
 ghost use Rattle.initview_command.specs.declared.asking.Question.{Question};
-ghost use Rattle.initview_command.specs.Asking.{path_of, question_of};
+ghost use Rattle.initview_command.specs.declared.asking.TableQuestion.{TableQuestion};
+ghost use Rattle.initview_command.specs.Asking.{path_of, paths_of, question_of, table_question_of};
 ghost use Rattle.initview_command.specs.Showing.{Shows};
+ghost use Rattle.initview_command.specs.Tables.{Answers};
 
-use crate::asking::{path_of, question_of, reason_of};
+use crate::asking::{path_of, paths_of, question_of, reason_of, table_question_of};
 use crate::showing::show_file;
+use crate::tables::show_files;
 use command_words::{is_version, report_refused_words};
 use path_texts::Texts;
 use program_io::REFUSED;
@@ -19,20 +22,31 @@ use std::io::Write;
 /// What is told of words that are no command line, behind a line that says why, and where help is asked for.
 pub const USAGE: &str = "usage: initview why ID TRACE
        initview status TRACE [ID]
+       initview status --json TRACE
        initview left TRACE
+       initview lint TABLE [FILE..]
+       initview diff [--level LEVEL] OLD NEW
+       initview plan [--level LEVEL] TABLE [FILE..]
        initview --version
   why     say why the entry ID isn't started next, and what to do
   status  say how init and its entries stand, or the entry ID alone; with ID the exit status is 0
-          where it runs, 3 where it doesn't, 4 where it is unknown
+          where it runs, 3 where it doesn't, 4 where it is unknown; with --json a line of JSON each
   left    list the children that were born and not reaped, and their numbers
+  lint    list the faults of an inittab's lines, with what was probably meant, and warnings; the
+          exit status is 1 with faults, 2 with warnings alone
+  diff    list what becomes of each entry in a level where the inittab NEW is read in OLD's place
+  plan    list what init starts on the way to a level, in its order, and what it waits for
   ID      an id of the inittab, 1 to 8 characters
-  TRACE   a trace of init, also one that is still being written
+  TRACE   a trace of init, also one that is still being written; - is standard input
+  TABLE   an inittab; FILEs go on where it ends
+  LEVEL   0 to 9 or S; without it the default level of the inittab that is new
 ";
 
 /// Runs initview on its words, and gives the exit status: 0 where the trace was read to its end and the answer written
 /// on `out`, 1 where the words are refused or a line of the trace is none, 2 where a happening breaks a law, 4 where the
 /// trace can't be read, the output fails or memory runs out; of `status TRACE ID` 0, 3 or 4, as the LSB has them. What
-/// stands before a line that is none, or that breaks a law, is shown. Faults are told on `err`.
+/// stands before a line that is none, or that breaks a law, is shown. Of an inittab the status is 1 where it isn't read
+/// for its size, of `lint` also where it has faults, and 2 where it has warnings alone. Faults of files are told on `err`.
 pub fn run_words<T: Texts, W: Write, E: Write>(
     texts: &T,
     alloc: Global,
@@ -46,15 +60,24 @@ pub fn run_words<T: Texts, W: Write, E: Write>(
         → question_of (map string_bytes words.now) ≡ Some question
         → Shows (T.text_at texts.now) (path_of (map string_bytes words.now)) question result
         (W.contents out.old) (W.contents out.new) }
+    ensures answered { (question : TableQuestion) → asks_version (map string_bytes words.now) ≡ false
+        → question_of (map string_bytes words.now) ≡ None
+        → table_question_of (map string_bytes words.now) ≡ Some question
+        → Answers (T.text_at texts.now) (paths_of (map string_bytes words.now)) question result
+        (W.contents out.old) (W.contents out.new) }
     ensures refused { asks_version (map string_bytes words.now) ≡ false
         → question_of (map string_bytes words.now) ≡ None
+        → table_question_of (map string_bytes words.now) ≡ None
         → (result ≡ REFUSED) × (out.new ≡ out.old) }
 {
     if is_version(words) {
         return print_version("initview", out, err);
     }
-    match question_of(words) {
-        Some(question) => show_file(texts, alloc, path_of(words), &question, out, err),
+    if let Some(question) = question_of(words) {
+        return show_file(texts, alloc, path_of(words), &question, out, err);
+    }
+    match table_question_of(words) {
+        Some(question) => show_files(texts, alloc, paths_of(words), question, out, err),
         None => report_refused_words("initview", reason_of(words), USAGE, err),
     }
 }

@@ -1,9 +1,11 @@
-//! `initview`: what a trace of init says of its entries, on a command line.
+//! `initview`: what a trace of init says of its entries, and what is to be told of inittabs, on a command line.
 #![tactic(auto)]
 
 mod asking;
 mod command;
 mod showing;
+mod tables;
+mod telling;
 
-pub use asking::Question;
+pub use asking::{Question, TableQuestion};
 pub use command::{USAGE, run_words};

@@ -1,23 +1,21 @@
 //! What a trace says, written.
 
-ghost use Rattle.std.specs.Prelude.{◌≡◌, true, List, [], IfOk};
-ghost use Rattle.std.specs.Io.KnownBytes.{Appends};
-ghost use Rattle.program_io.specs.Writing.{AppendsPrefix};
+ghost use Rattle.std.specs.Prelude.{◌≡◌, List, [], IfOk};
 ghost use Rattle.init_trace.specs.Event.{Event};
 ghost use Rattle.trace_view.specs.Viewing.{Viewed};
 ghost use Rattle.text_view.specs.Views.{HasTaken};
 ghost use Rattle.initview_command.specs.Showing.{Shows, ShowsOf, lsb_status, row_status, said, status_by, stop_status};
 
 use crate::asking::Question;
+use crate::telling::{report_memory, report_unread, report_unwritten, tell};
 use init_words::{Id, Memory};
 use path_texts::{PieceTaker, Texts};
-use program_io::{DEVICE_FAULT, DONE, REFUSED, UNLAWFUL, write_text};
+use program_io::{DEVICE_FAULT, DONE, REFUSED, UNLAWFUL};
 use std::alloc::{AllocError, Global};
-use std::io;
 use std::io::Write;
 use text_view::{Stop, TextView};
 use trace_view::{Row, TraceView};
-use view_lines::{left_lines, row_line, status_lines, why_lines};
+use view_lines::{json_lines, left_lines, row_line, status_lines, why_lines};
 
 /// The view of a trace whose text is read in pieces.
 #[derive(Drop)]
@@ -72,6 +70,7 @@ fn status_of(view: &TraceView, question: &Question, stop: Option<Stop>) -> u8
         Question::Row(id) => row_status(view, id, stop),
         Question::Why(_) => stop_status(stop),
         Question::Status => stop_status(stop),
+        Question::Json => stop_status(stop),
         Question::Left => stop_status(stop),
     }
 }
@@ -95,6 +94,7 @@ fn answer(alloc: Global, view: &TraceView, question: &Question) -> Result<Vec<u8
     match question {
         Question::Why(id) => why_lines(alloc, view, id),
         Question::Status => status_lines(alloc, view),
+        Question::Json => json_lines(alloc, view),
         Question::Row(id) => row_line(alloc, view, id),
         Question::Left => left_lines(alloc, view),
     }
@@ -161,35 +161,6 @@ fn show_view<W: Write, E: Write>(
         return report_unwritten(err);
     }
     status_of(view, question, stop)
-}
-
-/// Writes a text, and sees that it is out.
-fn tell<W: Write>(text: &[u8], out: &mut W) -> bool
-    ensures whole { result ≡ true → Appends (W.contents out.old) (W.contents out.new) text.now }
-    ensures part { AppendsPrefix (W.contents out.old) (W.contents out.new) text.now }
-{
-    write_text(out, text).is_ok() && out.flush().is_ok()
-}
-
-fn report_memory<E: Write>(err: &mut E) -> u8
-    ensures { result ≡ DEVICE_FAULT }
-{
-    let _ = write_text(err, b"initview: out of memory\n");
-    DEVICE_FAULT
-}
-
-fn report_unwritten<E: Write>(err: &mut E) -> u8
-    ensures { result ≡ DEVICE_FAULT }
-{
-    let _ = write_text(err, b"initview: cannot write\n");
-    DEVICE_FAULT
-}
-
-fn report_unread<E: Write>(path: &str, error: &io::Error, err: &mut E) -> u8
-    ensures { result ≡ DEVICE_FAULT }
-{
-    let _ = writeln!(err, "initview: cannot read {path}: {error}");
-    DEVICE_FAULT
 }
 
 /// Tells up to which line a trace is shown, where that isn't all of it.

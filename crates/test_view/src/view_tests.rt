@@ -1,5 +1,5 @@
-//! What initview says of traces, worked out from the definitions: rows of the parts of a trace, which is kept at the path
-//! `t`, the words, the exit status, what is written, and how what is told begins.
+//! What initview says of traces and of inittabs, worked out from the definitions: rows of the parts of a text, which is
+//! kept at the path `t`, the words, the exit status, what is written, and how what is told begins.
 
 use initview_command::run_words;
 use path_texts::KeptTexts;
@@ -42,7 +42,7 @@ const FAILS: &str =
 const UP: &str =
     "use 9\nid:3:initdefault:\ns::sysinit:x\nw:3:wait:x\nv:3:wait:x\nr:3:respawn:x\no:3:once:x\nd:A:ondemand:x\nf:4:respawn:x\nx:3:off:\nclock 1000\nenter sysinit 5\nask s start\nbirth s 10\ntold s\nnudge\nask s look\ndeath 10\nreaped s 10 exit 0\ntold s\nenter boot 5\nenter 3 5\nask w start\nbirth w 11\ntold w\nnudge\nask w look\ndeath 11\nreaped w 11 exit 3\ntold w\nask v start\nbirth v 12\ntold v\nnudge\nask v look\ndeath 12\nreaped v 12 killed\ntold v\n";
 
-/// The parts of a trace, the words, the status, what is written, and how what is told begins.
+/// The parts of a trace or of an inittab, the words, the status, what is written, and how what is told begins.
 type Row = (
     &'static [&'static str],
     &'static str,
@@ -51,7 +51,7 @@ type Row = (
     &'static str,
 );
 
-const ROWS: &[Row] = &[
+const TRACE_ROWS: &[Row] = &[
     // An id that the table doesn't have.
     (
         &[TABLE],
@@ -383,6 +383,175 @@ const ROWS: &[Row] = &[
     (&[], "--help", 1, "", "usage: initview why ID TRACE\n"),
 ];
 
+const JSON_ROWS: &[Row] = &[
+    // The same as JSON.
+    (
+        &["use 0\ngot reexec\n"],
+        "status --json t",
+        0,
+        "{\"stage\":\"the opening\",\"settled\":false,\"clock\":0,\"grace\":0,\"wish\":\"execute init anew\"}\n",
+        "",
+    ),
+    (
+        &[
+            "use 3\nw:3:wait:x\n\"\\:3:once:x\nid:3:initdefault:\nclock 1000\nenter sysinit 5\nenter boot 5\nenter 3 5\n",
+            "ask w start\nbirth w 11\ntold w\nclock 1007\n",
+        ],
+        "status --json t",
+        0,
+        "{\"stage\":\"level 3\",\"settled\":false,\"clock\":1007,\"grace\":5,\"wish\":null}\n{\"id\":\"w\",\"action\":\"wait\",\"state\":\"running\",\"pid\":11,\"born\":1000,\"births\":1,\"term\":null,\"for\":null,\"held\":null,\"status\":null,\"ended\":null}\n{\"id\":\"\\\"\\\\\",\"action\":\"once\",\"state\":\"waiting\",\"pid\":null,\"born\":null,\"births\":null,\"term\":null,\"for\":\"w\",\"held\":null,\"status\":null,\"ended\":null}\n{\"id\":\"id\",\"action\":\"initdefault\",\"state\":\"never\",\"pid\":null,\"born\":null,\"births\":null,\"term\":null,\"for\":null,\"held\":null,\"status\":null,\"ended\":null}\n",
+        "",
+    ),
+    (
+        &[
+            "use 1\nr:3:respawn:x\nclock 1000\nenter sysinit 5\nenter boot 5\nenter 3 5\n",
+            FAILS,
+            "hold r\nsettle 3\nclock 1040\n",
+        ],
+        "status --json t",
+        0,
+        "{\"stage\":\"level 3\",\"settled\":true,\"clock\":1040,\"grace\":5,\"wish\":null}\n{\"id\":\"r\",\"action\":\"respawn\",\"state\":\"held\",\"pid\":null,\"born\":null,\"births\":null,\"term\":null,\"for\":null,\"held\":260,\"status\":\"its start failed\",\"ended\":1000}\n",
+        "",
+    ),
+    (
+        &[
+            "use 1\nr:3:respawn:x\nclock 1000\nenter sysinit 5\nenter boot 5\nenter 3 5\nask r start\nbirth r 9\ntold r\nsettle 3\n",
+            "got level 4 5\nclock 1003\nenter 4 5\nask r term\nhit r\ntold r\n",
+        ],
+        "status --json t",
+        0,
+        "{\"stage\":\"level 4\",\"settled\":false,\"clock\":1003,\"grace\":5,\"wish\":\"read inittab again\"}\n{\"id\":\"r\",\"action\":\"respawn\",\"state\":\"stopping\",\"pid\":9,\"born\":1000,\"births\":1,\"term\":1003,\"for\":null,\"held\":null,\"status\":null,\"ended\":null}\n",
+        "",
+    ),
+];
+
+const TABLE_ROWS: &[Row] = &[
+    // An inittab that has nothing wrong; in quotes and with levels that are ignored nothing counts.
+    (
+        &[
+            "id:3:initdefault:\nk:3:once:sh -c 'a; b | c &' >>log 2>&1\nl:A:ondemand:/srv/l\n",
+            "n:3:off:cd / && x\n#o:x:bogus:\n\n",
+        ],
+        "lint t",
+        0,
+        "",
+        "",
+    ),
+    // The faults, with what was meant or is allowed.
+    (
+        &[
+            "id:3:initdefault:\nweb:3:respwan:/srv/web\na:3\nlongid_ab:3:once:x\n",
+            "db:0123456789SS:once:x\nm:3:wait: \nweb:3:RESPAWN:x\nid:3:once:x\nn:3:bogus:x\n",
+            "o:3:onc:x\np:3:oncee:x\nq:3:onxe:x\nr:3:onxx:x\ns:3:once:a\x00b\n",
+        ],
+        "lint t",
+        1,
+        "t:2: unknown action respwan: respawn?\nt:3: too few fields: a line is id:runlevels:action:process\nt:4: bad id longid_ab: 1 to 8 characters, the first no #\nt:5: runlevels too long: at most 11 characters\nt:6: no process\nt:7: unknown action RESPAWN: respawn?\nt:8: duplicate id id: the first line of it counts\nt:9: unknown action bogus\nt:10: unknown action onc: once?\nt:11: unknown action oncee: once?\nt:12: unknown action onxe: once?\nt:13: unknown action onxx\nt:14: bad text: it is not UTF-8, or has a NUL\n",
+        "",
+    ),
+    // The warnings.
+    (
+        &[
+            "id:3:initdefault:\na:2-5:once:/srv/a\nb:x:once:/srv/b\nc:3:ondemand:/srv/c\nd::boot:/srv/d\n",
+            "e:3:once:/srv/e\r\nf:3:once:@/srv/f\nm:3:bootwait:/srv/m\n",
+        ],
+        "lint t",
+        2,
+        "t:2: warning: a character of the runlevels counts for nothing: name each level (2345)\nt:3: warning: a character of the runlevels counts for nothing: name each level (2345)\nt:3: warning: nothing starts it: its runlevels name no level\nt:4: warning: a character of the runlevels counts for nothing: name each level (2345)\nt:4: warning: nothing starts it: its runlevels have no letter A, B or C\nt:5: warning: its child lives on in every level: name its levels and write once\nt:6: warning: the line ends with a carriage return, which its last word has: take it out\nt:7: warning: @ is taken for a part of the program's name: take it out\nt:8: warning: a character of the runlevels counts for nothing: name each level (2345)\n",
+        "",
+    ),
+    (
+        &[
+            "g:3:once:cd /srv && ./g\nh:3:once:+A=1 /srv/h\ni:3:once:/srv/i | logger\nj:3:once:/srv/j &\n",
+            "k:3:once:/srv/k; x\nl:3:once:(a; b)\nm:3:once:/srv/m \"a;b\" 2>&1 || x\nn:3:once:a \\& b >|c\n",
+        ],
+        "lint t",
+        2,
+        "t:1: warning: it begins with a word of the shell, which is no program: write a script\nt:1: warning: what stands behind ; or && or || is never run: write a script\nt:2: warning: it begins with an assignment, which is no program: write env before it\nt:3: warning: no signal reaches the programs of a pipe: write a script\nt:4: warning: & ends the shell at once, and init takes its child for ended: take it out\nt:5: warning: what stands behind ; or && or || is never run: write a script\nt:6: warning: it begins with a word of the shell, which is no program: write a script\nt:7: warning: what stands behind ; or && or || is never run: write a script\nt: warning: no initdefault names a level: init goes to S\n",
+        "",
+    ),
+    // Several files are one table.
+    (
+        &["id:3:initdefault:\n"],
+        "lint t t",
+        1,
+        "t:1: duplicate id id: the first line of it counts\n",
+        "",
+    ),
+    (
+        &["id:3:initdefault:\n"],
+        "lint t u",
+        4,
+        "",
+        "initview: cannot read u: entity not found\n",
+    ),
+    // The same inittab in its own place, at its default level, another one, and where it has none.
+    (
+        &[
+            "id:3:initdefault:\nw:3:wait:x\nr:34:respawn:x\no:4:once:x\nb::boot:x\nx:3:off:\nd:A:ondemand:x\np:3:powerfail:x\n",
+        ],
+        "diff t t",
+        0,
+        "level 3\nid       initdefault   not here\nw        wait          keep\nr        respawn       keep\no        once          not here\nb        boot          keep\nx        off           not here\nd        ondemand      keep\np        powerfail     keep\n",
+        "",
+    ),
+    (
+        &["id:3:initdefault:\nw:3:wait:x\no:4:once:x\n"],
+        "diff --level 4 t t",
+        0,
+        "level 4\nid       initdefault   not here\nw        wait          not here\no        once          keep\n",
+        "",
+    ),
+    (
+        &["r:S:respawn:x\nbad\n"],
+        "diff t t",
+        0,
+        "level S\nr        respawn       keep\n",
+        "initview: t: lines that are left out: 1: initview lint says which\n",
+    ),
+    (
+        &[],
+        "diff t",
+        1,
+        "",
+        "initview: a word is missing, or one is too many\nusage: ",
+    ),
+    (
+        &[],
+        "diff --level x t t",
+        1,
+        "",
+        "initview: a LEVEL is one of 0 to 9 and S\nusage: ",
+    ),
+    // What a level starts by itself, in its order; no boot on the way to S.
+    (
+        &[
+            "id:3:initdefault:\nr:S3:respawn:x\nw:3:wait:x\nb::bootwait:x\nc::boot:x\ns::sysinit:x\n",
+            "d:A:ondemand:x\no:34:once:x\np:3:powerfail:x\nx:3:off:\n",
+        ],
+        "plan t",
+        0,
+        "stage sysinit\ns        sysinit       init waits for its end\nstage boot\nb        bootwait      init waits for its end\nc        boot          init goes on\nlevel 3\nr        respawn       init goes on\nw        wait          init waits for its end\no        once          init goes on\n",
+        "",
+    ),
+    (
+        &["id:3:initdefault:\nr:S3:respawn:x\nb::boot:x\ns::sysinit:x\n"],
+        "plan --level S t",
+        0,
+        "stage sysinit\ns        sysinit       init waits for its end\nlevel S\nr        respawn       init goes on\n",
+        "",
+    ),
+    (&[], "plan", 1, "", "initview: a TABLE is missing\nusage: "),
+    (
+        &[],
+        "plan u",
+        4,
+        "",
+        "initview: cannot read u: entity not found\n",
+    ),
+    (&[], "lint", 1, "", "initview: a TABLE is missing\nusage: "),
+];
+
 /// Keeps the text of the parts at the path `t`.
 fn kept_of(alloc: Global, parts: &[&str]) -> Result<KeptTexts, AllocError> {
     let mut text = Vec::new(alloc);
@@ -411,7 +580,23 @@ fn is_said(alloc: Global, row: &Row) -> Result<bool, AllocError> {
 
 #[test]
 fn what_is_said_of_traces(rt: HostRuntime) -> Result<(), Fail> {
-    for row in ROWS {
+    for row in TRACE_ROWS {
+        assert!(rt; is_said(rt.alloc(), row)?, "{}", row.1);
+    }
+    Ok(())
+}
+
+#[test]
+fn what_is_said_to_programs(rt: HostRuntime) -> Result<(), Fail> {
+    for row in JSON_ROWS {
+        assert!(rt; is_said(rt.alloc(), row)?, "{}", row.1);
+    }
+    Ok(())
+}
+
+#[test]
+fn what_is_said_of_inittabs(rt: HostRuntime) -> Result<(), Fail> {
+    for row in TABLE_ROWS {
         assert!(rt; is_said(rt.alloc(), row)?, "{}", row.1);
     }
     Ok(())

@@ -10,6 +10,7 @@ use Rattle.trace_view.specs.Rows.{row_of, is_settled_now}
 use Rattle.trace_view.specs.Wishes.{first_wish}
 use Rattle.view_lines.specs.Status.{head_words, head_text, row_text, row_of_text, wish_line}
 use Rattle.view_lines.specs.Reasons.{reason_text, why_text}
+use Rattle.view_lines.specs.Json.{head_by, head_json, row_json, row_of_json}
 
 pub one_more : (text new line rest all : List ℕ) → new ≡ text ++ line → text ++ (line ++ rest) ≡ all → new ++ rest ≡ all
 one_more text new line rest all is so = ap (λ t. t ++ rest) is ∙ append_assoc text line rest ∙ so
@@ -36,3 +37,9 @@ head_is stage settled now grace wish past e1 e2 e3 e4 e5 = rw (e1, e2, e3, e4, e
 
 pub why_is : (stage : Option Stage) (now : ℕ) (row : Row) (id : List ℕ) (past : List Event) → stage ≡ stage_of past → now ≡ time_of past → row ≡ row_of id past → reason_text stage now id row ≡ why_text id past
 why_is stage now row id past e1 e2 e3 = rw (e1, e2, e3) refl
+
+pub json_row_is : (now : ℕ) (row : Row) (id : List ℕ) (past : List Event) → now ≡ time_of past → row ≡ row_of id past → row_json now id row ≡ row_of_json id past
+json_row_is now row id past e1 e2 = rw (e1, e2) refl
+
+pub json_head_is : (stage : Option Stage) (settled : Bool) (now grace : ℕ) (wish : Option Wish) (past : List Event) → stage ≡ stage_of past → settled ≡ is_settled_now past → now ≡ time_of past → grace ≡ grace_of past → wish ≡ first_wish past → head_by stage settled now grace wish ≡ head_json past
+json_head_is stage settled now grace wish past e1 e2 e3 e4 e5 = rw (e1, e2, e3, e4, e5) refl

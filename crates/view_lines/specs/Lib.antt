@@ -1,4 +1,7 @@
-pub mod Words
-pub mod Status
-pub mod Reasons
+pub mod Changes
+pub mod Json
 pub mod Left
+pub mod Plans
+pub mod Reasons
+pub mod Status
+pub mod Words

@@ -1,12 +1,18 @@
 //! What a view of a trace says, as lines for people to read: how the entries stand, why one isn't started next, and
-//! which children are left.
+//! which children are left; and what init makes of inittabs: what changes by another one, and what a level starts.
 #![tactic(auto)]
 
+mod changes;
+mod json;
 mod left;
+mod plans;
 mod reasons;
 mod status;
 mod words;
 
+pub use changes::{Change, change_lines};
+pub use json::json_lines;
 pub use left::left_lines;
+pub use plans::plan_lines;
 pub use reasons::why_lines;
 pub use status::{row_line, status_lines};

@@ -106,7 +106,7 @@ fn add_state(text: &mut Vec<u8>, grace: u64, now: u64, row: &Row) -> Result<(), 
     }
 }
 
-fn child_state(excluded: bool) -> &'static [u8]
+pub(crate) fn child_state(excluded: bool) -> &'static [u8]
     ensures { result.now ≡ child_state excluded }
 {
     if excluded { b"stopping" } else { b"running" }
@@ -191,7 +191,7 @@ fn asked_word(ask: Ask) -> &'static [u8]
 }
 
 /// The state of an id that has no child, in a word or two.
-fn state_word(why: Why) -> &'static [u8]
+pub(crate) fn state_word(why: Why) -> &'static [u8]
     ensures { result.now ≡ state_word why }
 {
     match why {

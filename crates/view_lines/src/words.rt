@@ -108,7 +108,7 @@ pub(crate) fn held_left(now: u64, since: u64) -> u64
     HOLD.saturating_sub(now.saturating_sub(since))
 }
 
-fn add_status(text: &mut Vec<u8>, status: Option<Status>) -> Result<(), AllocError>
+pub(crate) fn add_status(text: &mut Vec<u8>, status: Option<Status>) -> Result<(), AllocError>
     ensures { OnOk result (text.new.items ≡ text.old.items ++ status_words status) }
 {
     match status {

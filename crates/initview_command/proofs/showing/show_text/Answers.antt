@@ -1,6 +1,6 @@
 use Rattle.std.proofs.Common.{inr}
 use Rattle.std.proofs.KnownBytes.{Keeps-refl}
-use Rattle.initview_command.proofs.Telling.{shows}
+use Rattle.initview_command.proofs.Written.{shows}
 use Rattle.initview_command.proofs.showing.show_text.Goals as goal
 
 pub returns-in-Ok : goal.returns-in-Ok

@@ -1,5 +1,5 @@
 use Rattle.std.proofs.Common.{rules}
-use Rattle.initview_command.proofs.Telling.{none_written, part_written, all_written}
+use Rattle.initview_command.proofs.Written.{none_written, part_written, all_written}
 use Rattle.initview_command.proofs.showing.show_view.Goals as goal
 
 pub returns-in_default : goal.returns-in_default

@@ -1,0 +1,15 @@
+use Rattle.std.proofs.Common.{◌≡◌, ◌++◌, ◌+◌, ◌≤◌, length}
+use Rattle.text_lines.specs.Lines.{lines_of}
+use Rattle.inittab_lint.specs.Warnings.{warnings_of_lines}
+use Rattle.inittab_lint.proofs.linting.add_text.Given as goal
+
+-- the warnings so far, and behind them those of the lines that are left, are those of all
+abbrev pub invariant-loop-rest : goal.invariant-loop-rest
+invariant-loop-rest g l = record {
+  counted : l.number + length l.rest ≤ length l.text;
+  found : l.found.items ++ warnings_of_lines l.part (l.number + 1) (lines_of l.rest)
+      ≡ l.fn.found.items ++ warnings_of_lines l.part 1 (lines_of l.text);
+}
+
+abbrev pub decreases-loop-rest : goal.decreases-loop-rest
+decreases-loop-rest g l = length l.rest

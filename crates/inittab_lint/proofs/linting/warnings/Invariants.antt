@@ -1,0 +1,14 @@
+use Rattle.std.proofs.Common.{◌≡◌, ◌++◌, ◌+◌, ◌≤◌, length}
+use Rattle.init_words.specs.Parts.{texts_of}
+use Rattle.inittab_lint.specs.Warnings.{warnings_of, warnings_of_texts}
+use Rattle.inittab_lint.proofs.linting.warnings.Given as goal
+
+-- the warnings so far, and behind them those of the files that are left, are those of all
+abbrev pub invariant-loop-part : goal.invariant-loop-part
+invariant-loop-part g l = record {
+  counted : l.number + length l.rest ≤ length l.parts;
+  found : l.found.items ++ warnings_of_texts l.number (texts_of l.rest) ≡ warnings_of (texts_of l.parts);
+}
+
+abbrev pub decreases-loop-part : goal.decreases-loop-part
+decreases-loop-part g l = length l.rest

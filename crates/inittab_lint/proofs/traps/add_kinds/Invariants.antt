@@ -1,0 +1,12 @@
+use Rattle.std.proofs.Common.{◌≡◌, ◌++◌, map, filter, length}
+use Rattle.inittab_lint.specs.Warnings.{at_line, fields_at, holds, warnings_by}
+use Rattle.inittab_lint.proofs.traps.add_kinds.Given as goal
+
+-- what was found so far, and behind it what holds of those that are left, is what was found before and all that holds
+abbrev pub invariant-loop-kind : goal.invariant-loop-kind
+invariant-loop-kind g l =
+    l.found.items ++ map (at_line l.part l.line) (filter (holds l.act l.fields.levels.now l.fields.process.now) l.rest)
+    ≡ l.fn.found.items ++ map (at_line l.part l.line) (warnings_by l.act (fields_at l.fields))
+
+abbrev pub decreases-loop-kind : goal.decreases-loop-kind
+decreases-loop-kind g l = length l.rest

@@ -1,0 +1,4 @@
+pub mod Linting
+pub mod Meant
+pub mod Shell
+pub mod Warnings

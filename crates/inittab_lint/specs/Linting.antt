@@ -1,0 +1,116 @@
+-- All that is told of the files of an inittab, a line each.
+use Rattle.std.specs.Prelude.{ℕ, ◌-◌, List, [], ◌∷◌, ◌++◌, codes, decimal, slice_get, Option, Some, None}
+use Rattle.text_lines.specs.Lines.{after_lines, cut, skip_blanks}
+use Rattle.init_words.specs.declared.actions.Act.{Act}
+use Rattle.init_words.specs.declared.levels.Level.{Level}
+use Rattle.init_words.specs.Actions.{word_of}
+use Rattle.init_words.specs.Parts.{NamedText, texts_of}
+use Rattle.inittab_text.specs.declared.faults.LineKind.{LineKind}
+use Rattle.inittab_text.specs.declared.faults.LineKind.TheVariants as kind
+use Rattle.inittab_text.specs.declared.faults.PartFault.{PartFault}
+use Rattle.inittab_text.specs.Faults.{kind_text}
+use Rattle.inittab_text.specs.Lines.{FieldBytes, fields_of}
+use Rattle.inittab_text.specs.Parts.{faults_of_parts, table_of_texts}
+use Rattle.inittab_text.specs.Tables.{default_level_of}
+use Rattle.inittab_lint.specs.declared.linting.Found.{Found}
+use Rattle.inittab_lint.specs.declared.linting.Found.TheVariants as found
+use Rattle.inittab_lint.specs.declared.traps.LineWarning.{LineWarning}
+use Rattle.inittab_lint.specs.Meant.{meant}
+use Rattle.inittab_lint.specs.Warnings.{warning_words, warnings_of}
+
+-- the name of the file of a number
+abbrev pub name_of : Option NamedText → List ℕ
+name_of None = []
+name_of (Some part) = part.name
+
+-- the text of the file of a number
+abbrev pub text_of : Option NamedText → List ℕ
+text_of None = []
+text_of (Some part) = part.bytes
+
+-- NAME:LINE:
+abbrev pub place_words : List ℕ → ℕ → List ℕ
+place_words name line = name ++ (codes ":" ++ (decimal line ++ codes ": "))
+
+-- a text up to its newline
+abbrev pub up_to : Option (List ℕ × List ℕ) → List ℕ → List ℕ
+up_to None text = text
+up_to (Some parts) text = parts.0
+
+abbrev pub line_begun : Option (List ℕ) → List ℕ
+line_begun None = []
+line_begun (Some text) = up_to (cut 10 text) text
+
+-- the line of a number, counted from 1
+abbrev pub line_at : ℕ → List ℕ → List ℕ
+line_at number text = line_begun (after_lines (number - 1) text)
+
+-- a word, and what was probably meant
+abbrev pub meant_words : Option Act → List ℕ
+meant_words None = []
+meant_words (Some action) = codes ": " ++ (word_of action ++ codes "?")
+
+abbrev pub action_words : Option FieldBytes → List ℕ
+action_words None = []
+action_words (Some f) = codes " " ++ (f.action ++ meant_words (meant f.action))
+
+abbrev pub id_words : Option FieldBytes → List ℕ
+id_words None = []
+id_words (Some f) = codes " " ++ f.id
+
+-- what is told behind the check that a line fails
+abbrev pub hint_words : LineKind → List ℕ → List ℕ
+hint_words kind.Fields line = codes ": a line is id:runlevels:action:process"
+hint_words kind.Id line = id_words (fields_of (skip_blanks line)) ++ codes ": 1 to 8 characters, the first no #"
+hint_words kind.Levels line = codes ": at most 11 characters"
+hint_words kind.Action line = action_words (fields_of (skip_blanks line))
+hint_words kind.Length line = codes ": at most 127 bytes: write a script"
+hint_words kind.Empty line = []
+hint_words kind.Text line = codes ": it is not UTF-8, or has a NUL"
+hint_words kind.Twice line = id_words (fields_of (skip_blanks line)) ++ codes ": the first line of it counts"
+hint_words kind.Many line = codes ": at most 4096"
+
+-- a line that is left out: the first check that it fails, and what was meant or is allowed
+abbrev pub fault_line : Option NamedText → PartFault → List ℕ
+fault_line part fault =
+    place_words (name_of part) fault.line
+    ++ (kind_text fault.kind ++ (hint_words fault.kind (line_at fault.line (text_of part)) ++ codes "\n"))
+
+abbrev pub fault_lines : List NamedText → List PartFault → List ℕ
+fault_lines parts [] = []
+fault_lines parts (fault ∷ faults) = fault_line (slice_get parts fault.part) fault ++ fault_lines parts faults
+
+abbrev pub warning_line : Option NamedText → LineWarning → List ℕ
+warning_line part found =
+    place_words (name_of part) found.line ++ (codes "warning: " ++ (warning_words found.kind ++ codes "\n"))
+
+abbrev pub warning_lines : List NamedText → List LineWarning → List ℕ
+warning_lines parts [] = []
+warning_lines parts (found ∷ others) = warning_line (slice_get parts found.part) found ++ warning_lines parts others
+
+-- that no initdefault names a level
+abbrev pub default_line : Option NamedText → Option Level → List ℕ
+default_line part (Some level) = []
+default_line part None =
+    name_of part ++ codes ": warning: no initdefault names a level: init goes to S\n"
+
+abbrev pub lint_text : List NamedText → List PartFault → List LineWarning → Option Level → List ℕ
+lint_text parts faults warnings level =
+    fault_lines parts faults ++ (warning_lines parts warnings ++ default_line (slice_get parts 0) level)
+
+-- a fault counts before any warning
+abbrev pub found_by : List PartFault → List LineWarning → Option Level → Found
+found_by (fault ∷ faults) warnings level = found.Faults
+found_by [] (warning ∷ warnings) level = found.Warnings
+found_by [] [] None = found.Warnings
+found_by [] [] (Some level) = found.Nothing
+
+-- what is told and what was found
+abbrev pub lint_by : List NamedText → List PartFault → List LineWarning → Option Level → List ℕ × Found
+lint_by parts faults warnings level = (lint_text parts faults warnings level, found_by faults warnings level)
+
+-- of files: the faults of the reader, the warnings that hold, and the default level of their table
+abbrev pub lint_in : List NamedText → List ℕ × Found
+lint_in parts =
+    lint_by parts (faults_of_parts (texts_of parts)) (warnings_of (texts_of parts))
+    (default_level_of (table_of_texts (texts_of parts)))

@@ -1,0 +1,132 @@
+-- What a line that is kept does otherwise than it seems to (inittab(5)).
+use Rattle.std.specs.Prelude.{ℕ, Bool, true, false, not, ◌&&◌, ◌||◌, ◌==◌, ◌-◌, ◌+◌, if◌then◌else◌, List, [], ◌∷◌, ◌++◌, map, filter, length, slice_get, codes, Option, Some, None, is_some}
+use Rattle.std.specs.List.{list_any}
+use Rattle.text_lines.specs.Lines.{lines_of, skip_blanks}
+use Rattle.init_words.specs.declared.actions.Act.{Act}
+use Rattle.init_words.specs.declared.actions.Act.TheVariants as act
+use Rattle.init_words.specs.Actions.{act_read, ignores_levels, is_ondemand, needs_process, same_act}
+use Rattle.init_words.specs.Entries.{without_plus}
+use Rattle.init_words.specs.Levels.{letter_read, level_read}
+use Rattle.inittab_text.specs.Kept.{levels_meant}
+use Rattle.inittab_text.specs.Lines.{FieldBytes, fields_of, is_ignored}
+use Rattle.inittab_lint.specs.declared.shell.Operator.{Operator}
+use Rattle.inittab_lint.specs.declared.shell.Operator.TheVariants as operator
+use Rattle.inittab_lint.specs.declared.traps.Fields.{Fields}
+use Rattle.inittab_lint.specs.declared.traps.LineWarning.{LineWarning}
+use Rattle.inittab_lint.specs.declared.traps.Warning.{Warning}
+use Rattle.inittab_lint.specs.declared.traps.Warning.TheVariants as warning
+use Rattle.inittab_lint.specs.Shell.{begins_with, first_word, is_assigned, is_shell_word, operator_in}
+
+-- the fields as they stand in the text
+abbrev pub fields_at : Fields → FieldBytes
+fields_at f = record { id = f.id.now; levels = f.levels.now; action = f.action.now; process = f.process.now }
+
+-- a character of the runlevels counts: a letter of ondemand entries, none of sysinit, boot and bootwait, else a level
+abbrev pub counts : Act → ℕ → Bool
+counts action b =
+    if ignores_levels action then false
+    else if is_ondemand action then is_some (letter_read b)
+    else is_some (level_read b)
+
+-- one counts for nothing
+abbrev pub has_idle : Act → List ℕ → Bool
+has_idle action levels = list_any (λ b. not (counts action b)) levels
+
+-- none counts
+abbrev pub counts_none : Act → List ℕ → Bool
+counts_none action levels = not (list_any (counts action) (levels_meant action levels))
+
+-- the process of an entry that starts one
+abbrev pub run_by : Act → List ℕ → List ℕ
+run_by action process = if needs_process action then without_plus process else []
+
+abbrev pub is_byte : ℕ → Option ℕ → Bool
+is_byte mark None = false
+is_byte mark (Some b) = b == mark
+
+abbrev pub ends_with : ℕ → List ℕ → Bool
+ends_with mark text = is_byte mark (slice_get text (length text - 1))
+
+abbrev pub is_operator : Operator → Option Operator → Bool
+is_operator operator.Chain (Some operator.Chain) = true
+is_operator operator.Pipe (Some operator.Pipe) = true
+is_operator operator.Background (Some operator.Background) = true
+is_operator _ _ = false
+
+-- the warnings about a process
+abbrev pub holds_of : Warning → List ℕ → Bool
+holds_of warning.Return process = ends_with 13 process
+holds_of warning.At process = begins_with 64 (first_word process)
+holds_of warning.ShellWord process = is_shell_word (first_word process)
+holds_of warning.Assignment process = is_assigned (first_word process)
+holds_of warning.Chain process = is_operator operator.Chain (operator_in None process)
+holds_of warning.Pipe process = is_operator operator.Pipe (operator_in None process)
+holds_of warning.Background process = is_operator operator.Background (operator_in None process)
+holds_of _ process = false
+
+-- the warnings about an action, its runlevels and its process
+abbrev pub holds : Act → List ℕ → List ℕ → Warning → Bool
+holds action levels process warning.Runlevel =
+    (needs_process action || same_act action act.Initdefault) && has_idle action levels
+holds action levels process warning.NoLevel =
+    needs_process action && (not (ignores_levels action) && (not (is_ondemand action) && counts_none action levels))
+holds action levels process warning.NoLetter = is_ondemand action && counts_none action levels
+holds action levels process warning.Boot = same_act action act.Boot
+holds action levels process kind = holds_of kind (run_by action process)
+
+-- all warnings, in the order in which they are told
+abbrev pub all_warnings : List Warning
+all_warnings =
+    warning.Runlevel ∷ warning.NoLevel ∷ warning.NoLetter ∷ warning.Boot ∷ warning.Return ∷ warning.At
+    ∷ warning.ShellWord ∷ warning.Assignment ∷ warning.Chain ∷ warning.Pipe ∷ warning.Background ∷ []
+
+-- those that hold
+abbrev pub warnings_by : Act → FieldBytes → List Warning
+warnings_by action f = filter (holds action f.levels f.process) all_warnings
+
+-- of a line that has the fields of an entry and a known action; of any other none
+abbrev pub warnings_with : Option Act → FieldBytes → List Warning
+warnings_with None f = []
+warnings_with (Some action) f = warnings_by action f
+
+abbrev pub warnings_at : Option FieldBytes → List Warning
+warnings_at None = []
+warnings_at (Some f) = warnings_with (act_read f.action) f
+
+abbrev pub warnings_of_line : List ℕ → List Warning
+warnings_of_line line =
+    let text = skip_blanks line in
+    if is_ignored text then [] else warnings_at (fields_of text)
+
+-- a warning about the line of a number, in the file of a number
+abbrev pub at_line : ℕ → ℕ → Warning → LineWarning
+at_line part line kind = record { part = part; line = line; kind = kind }
+
+-- those of lines from a number on, and of all texts from a number on: lines count from 1, texts from 0
+abbrev pub warnings_of_lines : ℕ → ℕ → List (List ℕ) → List LineWarning
+warnings_of_lines part number [] = []
+warnings_of_lines part number (line ∷ lines) =
+    map (at_line part number) (warnings_of_line line) ++ warnings_of_lines part (number + 1) lines
+
+abbrev pub warnings_of_texts : ℕ → List (List ℕ) → List LineWarning
+warnings_of_texts part [] = []
+warnings_of_texts part (text ∷ texts) =
+    warnings_of_lines part 1 (lines_of text) ++ warnings_of_texts (part + 1) texts
+
+abbrev pub warnings_of : List (List ℕ) → List LineWarning
+warnings_of texts = warnings_of_texts 0 texts
+
+-- what is told of each, and what to do
+abbrev pub warning_words : Warning → List ℕ
+warning_words warning.Runlevel =
+    codes "a character of the runlevels counts for nothing: name each level (2345)"
+warning_words warning.NoLevel = codes "nothing starts it: its runlevels name no level"
+warning_words warning.NoLetter = codes "nothing starts it: its runlevels have no letter A, B or C"
+warning_words warning.Boot = codes "its child lives on in every level: name its levels and write once"
+warning_words warning.Return = codes "the line ends with a carriage return, which its last word has: take it out"
+warning_words warning.At = codes "@ is taken for a part of the program's name: take it out"
+warning_words warning.ShellWord = codes "it begins with a word of the shell, which is no program: write a script"
+warning_words warning.Assignment = codes "it begins with an assignment, which is no program: write env before it"
+warning_words warning.Chain = codes "what stands behind ; or && or || is never run: write a script"
+warning_words warning.Pipe = codes "no signal reaches the programs of a pipe: write a script"
+warning_words warning.Background = codes "& ends the shell at once, and init takes its child for ended: take it out"

@@ -1,0 +1,14 @@
+//! What a person is told of an inittab(5) that is not in force yet: the faults of its lines, with what was probably
+//! meant, and warnings about lines that are kept and don't do what they seem to.
+#![tactic(auto)]
+
+mod linting;
+mod printing;
+mod shell;
+mod slips;
+mod traps;
+
+pub use linting::{Found, Lint, lint_parts, warnings};
+pub use shell::{Operator, operator_of};
+pub use slips::meant;
+pub use traps::{LineWarning, Warning};

@@ -1,0 +1,124 @@
+//! All that is told of the files of an inittab.
+
+ghost use Rattle.std.specs.Prelude.{◌≡◌, ◌++◌, ◌↔◌, IfOk, OnOk, IsErrOf};
+ghost use Rattle.text_lines.specs.Lines.{lines_of};
+ghost use Rattle.init_words.specs.Parts.{texts_of};
+ghost use Rattle.inittab_text.specs.Parts.{AreTooLong, AreTooMany};
+ghost use Rattle.inittab_lint.specs.Linting.{found_by, lint_by, lint_in};
+ghost use Rattle.inittab_lint.specs.Warnings.{warnings_of, warnings_of_lines};
+
+use crate::printing::lint_lines;
+use crate::traps::{LineWarning, add_line};
+use init_words::{Level, Part};
+use inittab_text::{PartFault, TableFault, read_parts};
+use std::alloc::{AllocError, Allocator, Global};
+use std::marker::Model;
+use text_lines::first_line;
+
+/// What was found in the files of an inittab.
+#[derive(Clone, Copy, PartialEq, Eq)]
+pub enum Found {
+    Nothing,
+    /// Warnings, and no line that is left out.
+    Warnings,
+    /// A line that is left out.
+    Faults,
+}
+
+/// What is told of the files of an inittab.
+#[derive(Drop)]
+pub struct Lint<A: Allocator = Global> {
+    /// A line each for its faults and then for its warnings.
+    pub text: Vec<u8, A>,
+    pub found: Found,
+}
+
+impl<A: Allocator> Model for Lint<A> {
+    ghost use Rattle.std.specs.Prelude.{ℕ, List};
+    ghost use Rattle.inittab_lint.specs.declared.linting.Found.{Found};
+
+    ghost Value = { List ℕ × Found };
+
+    ghost view = { λ lint. (lint.text.items, lint.found) };
+}
+
+/// Adds the warnings about the lines of a text.
+fn add_text<A: Allocator>(
+    found: &mut Vec<LineWarning, A>,
+    part: usize,
+    text: &[u8],
+) -> Result<(), AllocError>
+    ensures { OnOk result (found.new.items
+        ≡ found.old.items ++ warnings_of_lines part 1 (lines_of text.now)) }
+{
+    let mut rest = text;
+    let mut number = 0;
+    while !rest.is_empty() {
+        let (line, more) = first_line(rest);
+        number += 1;
+        add_line(found, part, number, line)?;
+        rest = more;
+    }
+    Ok(())
+}
+
+/// The warnings about the lines of an inittab's files, in their order: those that hold of the line's fields, whether the
+/// line is kept or left out.
+pub fn warnings<A: Allocator>(alloc: A, parts: &[Part]) -> Result<Vec<LineWarning, A>, AllocError>
+    ensures { IfOk result (λ found. found.items ≡ warnings_of (texts_of parts.now)) }
+{
+    let mut found = Vec::new(alloc);
+    let mut rest = parts;
+    let mut number = 0;
+    while let Some((part, others)) = rest.split_first() {
+        add_text(&mut found, number, &part.bytes)?;
+        number += 1;
+        rest = others;
+    }
+    Ok(found)
+}
+
+/// What was found, by what is told.
+fn found_by(faults: &[PartFault], warnings: &[LineWarning], level: Option<Level>) -> Found
+    ensures { result ≡ found_by faults.now warnings.now level }
+{
+    if !faults.is_empty() {
+        Found::Faults
+    } else if !warnings.is_empty() || level.is_none() {
+        Found::Warnings
+    } else {
+        Found::Nothing
+    }
+}
+
+/// The lines that tell of the files of an inittab, as one table reads them, and what was found.
+fn lint_table<A: Allocator + Copy>(
+    alloc: A,
+    parts: &[Part],
+    faults: &[PartFault],
+    level: Option<Level>,
+) -> Result<Lint<A>, AllocError>
+    ensures { IfOk result (λ lint. lint
+        ≡ lint_by parts.now faults.now (warnings_of (texts_of parts.now)) level) }
+{
+    let warnings = warnings(alloc, parts)?;
+    Ok(Lint {
+        text: lint_lines(alloc, parts, faults, &warnings, level)?,
+        found: found_by(faults, &warnings, level),
+    })
+}
+
+/// Reads an inittab(5) of several files, as `read_parts` does, and tells of it: a line for each of the reader's faults,
+/// `NAME:LINE: REASON`, then one for each warning, `NAME:LINE: warning: REASON`, and one where no initdefault names a
+/// level. Over 256 files are refused, and files of over 1,048,576 bytes together.
+pub fn lint_parts<A: Allocator + Copy>(alloc: A, parts: &[Part]) -> Result<Lint<A>, TableFault>
+    ensures told { IfOk result (λ lint. lint ≡ lint_in parts.now) }
+    ensures parts { IsErrOf result TableFault.Parts ↔ AreTooMany (texts_of parts.now) }
+    ensures too_long { IsErrOf result TableFault.TooLong ↔ AreTooLong (texts_of parts.now) }
+{
+    let (table, faults) = read_parts(alloc, parts)?;
+    match lint_table(alloc, parts, &faults, table.default_level()) {
+        Ok(lint) => Ok(lint),
+        Err(_) => Err(TableFault::Memory),
+    }
+}

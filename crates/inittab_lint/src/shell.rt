@@ -1,0 +1,163 @@
+//! What of a process the shell does otherwise than it seems, since init has it execute the process (inittab(5)).
+
+ghost use Rattle.std.specs.Prelude.{◌≡◌, None};
+ghost use Rattle.std.specs.List.{list_all};
+ghost use Rattle.std.specs.Str.{bytes_eq};
+ghost use Rattle.inittab_lint.specs.Shell.{begins_with, closing, first_word, is_assigned, is_name, is_name_byte, is_plain_pair, is_shell_word, operator_at, operator_in};
+
+use text_lines::{cut, next_word};
+
+/// An operator of the shell, which `exec` before the process has do something else.
+#[derive(Clone, Copy, PartialEq, Eq)]
+pub enum Operator {
+    /// `;`, `&&` or `||`: the shell has become what stands before it.
+    Chain,
+    /// `|`: the child is the shell, and no signal reaches what it runs.
+    Pipe,
+    /// `&`: the shell ends at once.
+    Background,
+}
+
+/// What ends a part that the shell takes as one.
+fn closing(byte: u8) -> Option<u8>
+    ensures { result ≡ closing byte }
+{
+    match byte {
+        b'\'' | b'"' | b'`' => Some(byte),
+        b'(' => Some(b')'),
+        _ => None,
+    }
+}
+
+/// Two bytes of which none begins an operator.
+fn is_plain_pair(byte: u8, next: u8) -> bool
+    ensures { result ≡ is_plain_pair byte next }
+{
+    match byte {
+        b'\\' => true,
+        b'<' => next == b'&',
+        b'>' => next == b'&' || next == b'|',
+        _ => false,
+    }
+}
+
+/// The operator that begins here.
+fn operator_at(byte: u8, next: u8) -> Option<Operator>
+    ensures { result ≡ operator_at byte next }
+{
+    match byte {
+        b';' => Some(Operator::Chain),
+        b'&' if next == b'&' => Some(Operator::Chain),
+        b'&' => Some(Operator::Background),
+        b'|' if next == b'|' => Some(Operator::Chain),
+        b'|' => Some(Operator::Pipe),
+        _ => None,
+    }
+}
+
+/// The first operator of a process that stands outside quotes and parentheses.
+pub fn operator_of(process: &[u8]) -> Option<Operator>
+    ensures { result ≡ operator_in None process.now }
+{
+    let mut open = None;
+    let mut rest = process;
+    while let Some((byte, after)) = rest.split_first() {
+        if let Some(end) = open {
+            if *byte == end {
+                open = None;
+            }
+            rest = after;
+            continue;
+        }
+        let Some((next, more)) = after.split_first() else {
+            return operator_at(*byte, 0);
+        };
+        if is_plain_pair(*byte, *next) {
+            rest = more;
+            continue;
+        }
+        let found = operator_at(*byte, *next);
+        if found.is_some() {
+            return found;
+        }
+        open = closing(*byte);
+        rest = after;
+    }
+    None
+}
+
+/// The first word of a process, up to a blank.
+pub(crate) fn first_word(process: &[u8]) -> &[u8]
+    ensures { result.now ≡ first_word process.now }
+{
+    match next_word(process) {
+        Some((word, _)) => word,
+        None => b"",
+    }
+}
+
+fn is(word: &[u8], known: &[u8]) -> bool
+    ensures { result ≡ bytes_eq word.now known.now }
+{
+    word == known
+}
+
+/// A word that the shell knows and that is no program.
+pub(crate) fn is_shell_word(word: &[u8]) -> bool
+    ensures { result ≡ is_shell_word word.now }
+{
+    begins_with(b'(', word)
+        || is(word, b"cd")
+        || is(word, b"exec")
+        || is(word, b"export")
+        || is(word, b"set")
+        || is(word, b"ulimit")
+        || is(word, b"umask")
+        || is(word, b"trap")
+        || is(word, b".")
+        || is(word, b"source")
+        || is(word, b"if")
+        || is(word, b"for")
+        || is(word, b"while")
+        || is(word, b"until")
+        || is(word, b"case")
+        || is(word, b"{")
+        || is(word, b"!")
+}
+
+pub(crate) fn begins_with(mark: u8, text: &[u8]) -> bool
+    ensures { result ≡ begins_with mark text.now }
+{
+    match text {
+        [] => false,
+        [byte, ..] => *byte == mark,
+    }
+}
+
+fn is_name_byte(byte: u8) -> bool
+    ensures { result ≡ is_name_byte byte }
+{
+    byte.is_ascii_alphanumeric() || byte == b'_'
+}
+
+fn are_name_bytes(text: &[u8]) -> bool
+    ensures { result ≡ list_all is_name_byte text.now }
+{
+    text.iter().all(|byte| is_name_byte(*byte))
+}
+
+fn is_name(text: &[u8]) -> bool
+    ensures { result ≡ is_name text.now }
+{
+    !text.is_empty() && are_name_bytes(text)
+}
+
+/// It begins with a name and `=`.
+pub(crate) fn is_assigned(word: &[u8]) -> bool
+    ensures { result ≡ is_assigned word.now }
+{
+    match cut(b'=', word) {
+        Some((name, _)) => is_name(name),
+        None => false,
+    }
+}

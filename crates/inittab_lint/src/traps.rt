@@ -1,0 +1,279 @@
+//! What is said of a line that is kept and doesn't do what it seems to.
+
+ghost use Rattle.std.specs.Prelude.{◌≡◌, ◌++◌, map, OnOk};
+ghost use Rattle.std.specs.List.{list_any};
+ghost use Rattle.std.specs.Option.{option_map};
+ghost use Rattle.inittab_text.specs.Kept.{levels_meant};
+ghost use Rattle.inittab_text.specs.Lines.{fields_of, is_ignored};
+ghost use Rattle.inittab_lint.specs.Warnings.{at_line, counts, counts_none, ends_with, fields_at, has_idle, holds, holds_of, run_by, warning_words, warnings_by, warnings_of_line};
+
+use crate::shell::{Operator, begins_with, first_word, is_assigned, is_shell_word, operator_of};
+use init_words::{Act, Letter, Level, without_plus};
+use std::alloc::{AllocError, Allocator};
+use text_lines::{cut, without_blanks};
+
+/// What a line that is kept does otherwise than it seems to (inittab(5)).
+#[derive(Clone, Copy, PartialEq, Eq)]
+pub enum Warning {
+    /// A character of the runlevels counts for nothing.
+    Runlevel,
+    /// No character of the runlevels names a level.
+    NoLevel,
+    /// No character of an ondemand entry's runlevels is a letter.
+    NoLetter,
+    /// The child of a boot entry lives on in every level.
+    Boot,
+    /// The line ends with a carriage return.
+    Return,
+    /// The process begins with `@`.
+    At,
+    /// The process begins with a word of the shell.
+    ShellWord,
+    /// The process begins with an assignment.
+    Assignment,
+    /// The process has `;`, `&&` or `||`.
+    Chain,
+    /// The process has `|`.
+    Pipe,
+    /// The process has `&`.
+    Background,
+}
+
+/// A warning about a line of one of several files.
+#[derive(Clone, Copy, PartialEq, Eq)]
+pub struct LineWarning {
+    /// The file's number, from 0.
+    pub part: usize,
+    /// The line's number in its file, from 1.
+    pub line: usize,
+    pub kind: Warning,
+}
+
+/// All warnings, in the order in which they are told.
+const WARNINGS: [Warning; 11] = [
+    Warning::Runlevel,
+    Warning::NoLevel,
+    Warning::NoLetter,
+    Warning::Boot,
+    Warning::Return,
+    Warning::At,
+    Warning::ShellWord,
+    Warning::Assignment,
+    Warning::Chain,
+    Warning::Pipe,
+    Warning::Background,
+];
+
+/// The four fields of a line.
+#[derive(Clone, Copy)]
+pub(crate) struct Fields<'a> {
+    pub(crate) id: &'a [u8],
+    pub(crate) levels: &'a [u8],
+    pub(crate) action: &'a [u8],
+    pub(crate) process: &'a [u8],
+}
+
+impl<'a> Fields<'a> {
+    /// The fields of a line, split at its first three colons; the process is the rest.
+    pub(crate) fn of(line: &'a [u8]) -> Option<Fields<'a>>
+        ensures { option_map fields_at result ≡ fields_of line.now }
+    {
+        let (id, rest) = cut(b':', line)?;
+        let (levels, rest) = cut(b':', rest)?;
+        let (action, process) = cut(b':', rest)?;
+        Some(Fields {
+            id,
+            levels,
+            action,
+            process,
+        })
+    }
+}
+
+/// A character of the runlevels counts for something in an entry of the action.
+fn counts(act: Act, byte: u8) -> bool
+    ensures { result ≡ counts act byte }
+{
+    if act.ignores_levels() {
+        return false;
+    }
+    if act.is_ondemand() {
+        return Letter::read(byte).is_some();
+    }
+    Level::read(byte).is_some()
+}
+
+/// What a runlevels field means: itself, or what an empty one does.
+fn levels_meant(act: Act, levels: &[u8]) -> &[u8]
+    ensures { result.now ≡ levels_meant act levels.now }
+{
+    match levels {
+        [] => act.default_levels(),
+        _ => levels,
+    }
+}
+
+fn counts_any(act: Act, levels: &[u8]) -> bool
+    ensures { result ≡ list_any (counts act) levels.now }
+{
+    levels.iter().any(|byte| counts(act, *byte))
+}
+
+/// No character of the runlevels counts.
+fn counts_none(act: Act, levels: &[u8]) -> bool
+    ensures { result ≡ counts_none act levels.now }
+{
+    !counts_any(act, levels_meant(act, levels))
+}
+
+/// A character of the runlevels counts for nothing.
+fn has_idle(act: Act, levels: &[u8]) -> bool
+    ensures { result ≡ has_idle act levels.now }
+{
+    levels.iter().any(|byte| !counts(act, *byte))
+}
+
+/// The process of an entry that starts it.
+fn run_by(act: Act, process: &[u8]) -> &[u8]
+    ensures { result.now ≡ run_by act process.now }
+{
+    if act.needs_process() {
+        without_plus(process)
+    } else {
+        b""
+    }
+}
+
+fn ends_with(mark: u8, text: &[u8]) -> bool
+    ensures { result ≡ ends_with mark text.now }
+{
+    match text.last() {
+        Some(byte) => *byte == mark,
+        None => false,
+    }
+}
+
+/// A warning about a process holds.
+fn holds_of(kind: Warning, process: &[u8]) -> bool
+    ensures { result ≡ holds_of kind process.now }
+{
+    match kind {
+        Warning::Return => ends_with(b'\r', process),
+        Warning::At => begins_with(b'@', first_word(process)),
+        Warning::ShellWord => is_shell_word(first_word(process)),
+        Warning::Assignment => is_assigned(first_word(process)),
+        Warning::Chain => operator_of(process) == Some(Operator::Chain),
+        Warning::Pipe => operator_of(process) == Some(Operator::Pipe),
+        Warning::Background => operator_of(process) == Some(Operator::Background),
+        _ => false,
+    }
+}
+
+/// A warning about a line of these fields holds.
+fn holds(act: Act, levels: &[u8], process: &[u8], kind: Warning) -> bool
+    ensures { result ≡ holds act levels.now process.now kind }
+{
+    match kind {
+        Warning::Runlevel => {
+            (act.needs_process() || act == Act::Initdefault) && has_idle(act, levels)
+        }
+        Warning::NoLevel => {
+            act.needs_process()
+                && !act.ignores_levels()
+                && !act.is_ondemand()
+                && counts_none(act, levels)
+        }
+        Warning::NoLetter => act.is_ondemand() && counts_none(act, levels),
+        Warning::Boot => act == Act::Boot,
+        _ => holds_of(kind, run_by(act, process)),
+    }
+}
+
+/// Adds the warnings about a line of a file that is an entry's.
+pub(crate) fn add_line<A: Allocator>(
+    found: &mut Vec<LineWarning, A>,
+    part: usize,
+    line: usize,
+    text: &[u8],
+) -> Result<(), AllocError>
+    ensures { OnOk result (found.new.items
+        ≡ found.old.items ++ map (at_line part line) (warnings_of_line text.now)) }
+{
+    let text = without_blanks(text);
+    if is_ignored(text) {
+        return Ok(());
+    }
+    let Some(fields) = Fields::of(text) else {
+        return Ok(());
+    };
+    let Some(act) = Act::read(fields.action) else {
+        return Ok(());
+    };
+    add_kinds(found, part, line, act, &fields)
+}
+
+/// Adds those of all warnings that hold.
+fn add_kinds<A: Allocator>(
+    found: &mut Vec<LineWarning, A>,
+    part: usize,
+    line: usize,
+    act: Act,
+    fields: &Fields,
+) -> Result<(), AllocError>
+    ensures { OnOk result (found.new.items
+        ≡ found.old.items ++ map (at_line part line) (warnings_by act (fields_at fields.now))) }
+{
+    let mut rest: &[Warning] = &WARNINGS;
+    while let Some((kind, others)) = rest.split_first() {
+        if holds(act, fields.levels, fields.process, *kind) {
+            found.push(LineWarning {
+                part,
+                line,
+                kind: *kind,
+            })?;
+        }
+        rest = others;
+    }
+    Ok(())
+}
+
+/// Nothing, or a comment.
+fn is_ignored(line: &[u8]) -> bool
+    ensures { result ≡ is_ignored line.now }
+{
+    match line {
+        [] => true,
+        [first, ..] => *first == b'#',
+    }
+}
+
+impl Warning {
+    /// What is told, and what to do.
+    pub fn words(self) -> &'static [u8]
+        ensures { result.now ≡ warning_words self }
+    {
+        match self {
+            Warning::Runlevel => {
+                b"a character of the runlevels counts for nothing: name each level (2345)"
+            }
+            Warning::NoLevel => b"nothing starts it: its runlevels name no level",
+            Warning::NoLetter => b"nothing starts it: its runlevels have no letter A, B or C",
+            Warning::Boot => b"its child lives on in every level: name its levels and write once",
+            Warning::Return => {
+                b"the line ends with a carriage return, which its last word has: take it out"
+            }
+            Warning::At => b"@ is taken for a part of the program's name: take it out",
+            Warning::ShellWord => {
+                b"it begins with a word of the shell, which is no program: write a script"
+            }
+            Warning::Assignment => {
+                b"it begins with an assignment, which is no program: write env before it"
+            }
+            Warning::Chain => b"what stands behind ; or && or || is never run: write a script",
+            Warning::Pipe => b"no signal reaches the programs of a pipe: write a script",
+            Warning::Background => {
+                b"& ends the shell at once, and init takes its child for ended: take it out"
+            }
+        }
+    }
+}

@@ -1,0 +1,88 @@
+-- What is written of inittabs, and the exit status.
+use Rattle.std.specs.Prelude.{◌≡◌, ◌⊎◌, ℕ, List, [], ◌∷◌, take, drop, Option, Some, None, unwrap_or}
+use Rattle.std.specs.Io.KnownBytes.{Appends, Keeps}
+use Rattle.program_io.specs.Writing.{AppendsPrefix}
+use Rattle.program_io.specs.declared.statuses.TheConstants.{DONE, REFUSED, DEVICE_FAULT}
+use Rattle.path_texts.specs.Known.{IsTextAt, KnownTexts}
+use Rattle.init_words.specs.declared.entries.Entry.{Entry}
+use Rattle.init_words.specs.declared.levels.Level.{Level}
+use Rattle.init_words.specs.declared.levels.Level.TheVariants.{S}
+use Rattle.init_words.specs.Parts.{NamedText, texts_of}
+use Rattle.inittab_text.specs.declared.faults.TableFault.{TableFault}
+use Rattle.inittab_text.specs.declared.faults.TableFault.TheVariants as fault
+use Rattle.inittab_text.specs.Parts.{AreTooLong, AreTooMany, table_of_texts}
+use Rattle.inittab_text.specs.Tables.{default_level_of}
+use Rattle.inittab_lint.specs.declared.linting.Found.{Found}
+use Rattle.inittab_lint.specs.declared.linting.Found.TheVariants as found
+use Rattle.inittab_lint.specs.Linting.{lint_in}
+use Rattle.view_lines.specs.Changes.{changes_text}
+use Rattle.view_lines.specs.Plans.{plan_text}
+use Rattle.initview_command.specs.declared.asking.TableQuestion.{TableQuestion}
+use Rattle.initview_command.specs.declared.asking.TableQuestion.TheVariants as table
+
+-- the files of the paths, in their order: each has its path for a name, and the text that stands there
+abbrev pub AreFilesAt : KnownTexts → List (List ℕ) → List NamedText → Type 0
+AreFilesAt text_at [] parts = parts ≡ []
+AreFilesAt text_at (path ∷ paths) parts =
+    (text : List ℕ) × (others : List NamedText) × (parts ≡ record { name = path; bytes = text } ∷ others)
+    × IsTextAt text_at path text × AreFilesAt text_at paths others
+
+-- 1 with faults, 2 with warnings alone
+abbrev pub found_status : Found → ℕ
+found_status found.Nothing = DONE
+found_status found.Faults = REFUSED
+found_status found.Warnings = 2
+
+-- the table of files
+abbrev pub table_in : List NamedText → List Entry
+table_in parts = table_of_texts (texts_of parts)
+
+-- the level that is asked about: the one that is named, else the table's default, else S, as init has it
+abbrev pub level_asked : Option Level → List Entry → Level
+level_asked (Some level) table = level
+level_asked None table = unwrap_or (default_level_of table) S
+
+abbrev pub changes_by : Option Level → List Entry → List Entry → List ℕ
+changes_by level old new = changes_text (level_asked level new) old new
+
+abbrev pub plan_by : Option Level → List Entry → List ℕ
+plan_by level entries = plan_text (level_asked level entries) entries
+
+-- what is written of files, and the exit status: of a diff the first is the old inittab, the others the new one
+abbrev pub answer_of : TableQuestion → List NamedText → List ℕ × ℕ
+answer_of table.Lint parts = ((lint_in parts).0, found_status (lint_in parts).1)
+answer_of (table.Diff level) parts = (changes_by level (table_in (take 1 parts)) (table_in (drop 1 parts)), DONE)
+answer_of (table.Plan level) parts = (plan_by level (table_in parts), DONE)
+
+-- a text and an exit status are the answer
+abbrev pub IsAnswer : TableQuestion → List NamedText → List ℕ → ℕ → Type 0
+IsAnswer asked parts text status = (text ≡ (answer_of asked parts).0) × (status ≡ (answer_of asked parts).1)
+
+-- files that are no table: too many, or too long
+abbrev pub AreNone : List NamedText → Type 0
+AreNone parts = AreTooMany (texts_of parts) ⊎ AreTooLong (texts_of parts)
+
+abbrev pub IsRefused : TableQuestion → List NamedText → Type 0
+IsRefused table.Lint parts = AreNone parts
+IsRefused (table.Diff level) parts = AreNone (take 1 parts) ⊎ AreNone (drop 1 parts)
+IsRefused (table.Plan level) parts = AreNone parts
+
+-- why there is no answer: memory ran out, or the files are refused
+abbrev pub FailsBy : Type 0 → TableFault → Type 0
+FailsBy refused fault.Memory = Unit {0}
+FailsBy refused fault.TooLong = refused
+FailsBy refused fault.Parts = refused
+
+-- the answer was written, with its exit status; or there are too many files, or too long ones, and nothing was written;
+-- or the output failed or memory ran out, and a part of it was written
+abbrev pub AnswersOf : TableQuestion → List NamedText → ℕ → Option (List ℕ) → Option (List ℕ) → Type 0
+AnswersOf asked parts status old new =
+    ((status ≡ (answer_of asked parts).1) × Appends old new (answer_of asked parts).0)
+    ⊎ ((status ≡ REFUSED) × IsRefused asked parts × Keeps old new)
+    ⊎ ((status ≡ DEVICE_FAULT) × AppendsPrefix old new (answer_of asked parts).0)
+
+-- so of the files at the paths; or one was not read, and nothing was written
+abbrev pub Answers : KnownTexts → List (List ℕ) → TableQuestion → ℕ → Option (List ℕ) → Option (List ℕ) → Type 0
+Answers text_at paths asked status old new =
+    ((parts : List NamedText) × AreFilesAt text_at paths parts × AnswersOf asked parts status old new)
+    ⊎ ((status ≡ DEVICE_FAULT) × Keeps old new)
