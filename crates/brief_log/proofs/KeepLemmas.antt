@@ -45,10 +45,6 @@ end_past old new held trace adds told =
           let whole = kept_part held told.written gained.0 trace told.holds gained.2 in
           record { written = gained.0; is = gained.1; later = whole.0; past = whole.1 }
 
-pub end_err : {T E : Type 0} (r : Result T E) (old new : Option (List Event)) (held : Held) → OnErr r (AddsFront old new (held_first held)) → OnErr r ((trace : List Event) → Writes old held trace → WritesPast new trace)
-end_err (Ok x) old new held adds = tt
-end_err (Err e) old new held adds = λ trace told. end_past old new held trace adds told
-
 -- a log that refused a part of what is held
 pub end_part : (old new : Option (List Event)) (held : Held) → AddsFront old new (held_first held) → (trace : List Event) → Writes old held trace → WritesPast new trace
 end_part old new held adds trace told = end_past old new held trace adds told

@@ -1,5 +1,5 @@
 -- Records in record order: each change keeps it, and an adoption makes it.
-use Rattle.std.proofs.Common.{◌≡◌, refl, sym, ◌∙◌, ap, subst, cond, Bool, true, false, not, ℕ, zero, suc, List, [], ◌∷◌, ◌++◌, map, filter, slice_get, Option, Some, None, is_none}
+use Rattle.std.proofs.Common.{◌≡◌, refl, sym, ◌∙◌, ap, subst, cond, Bool, true, false, not, ℕ, List, [], ◌∷◌, ◌++◌, map, filter, Option, Some, None, is_none}
 use Rattle.std.specs.List.{list_all}
 use Rattle.std.proofs.lemmas.Bool.{and_parts, and_from}
 use Rattle.init_words.specs.declared.entries.Entry.{Entry}
@@ -135,12 +135,3 @@ pub order_new : (table : List Entry) → IsInOrder table (map new_slot table)
 order_new [] = refl
 order_new (e ∷ table) = (refl, refl, order_new table)
 
--- the record at the place of an entry is its own
-pub order_at : (table : List Entry) (slots : List SlotState) (place : ℕ) (e : Entry) (slot : SlotState) → IsInOrder table slots → slice_get table place ≡ Some e → slice_get slots place ≡ Some slot → (slot.id ≡ e.id) × (slot.table_act ≡ Some e.act)
-order_at [] slots place e slot h at_e at_slot = absurd (cc)
-order_at (first ∷ table) [] place e slot h at_e at_slot = absurd h
-order_at (first ∷ table) (head ∷ slots) zero e slot h at_e at_slot =
-    let same_e : first ≡ e = cc in
-    let same_slot : head ≡ slot = cc in
-    (ap (λ (s : SlotState). s.id) (sym same_slot) ∙ h.0 ∙ ap (λ (x : Entry). x.id) same_e, ap (λ (s : SlotState). s.table_act) (sym same_slot) ∙ h.1 ∙ ap (λ (x : Entry). Some x.act) same_e)
-order_at (first ∷ table) (head ∷ slots) (suc place) e slot h at_e at_slot = order_at table slots place e slot h.2 at_e at_slot

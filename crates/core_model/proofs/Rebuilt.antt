@@ -30,11 +30,6 @@ paired_is None (Some act) h = absurd (false≢true h)
 paired_is (Some number) None h = absurd (false≢true h)
 paired_is (Some number) (Some act) h = (refl, refl)
 
-paired_known : (number : Option ℕ) (act : Option Act) → are_paired number act ≡ true → is_birth_known (living_of number act) ≡ true
-paired_known None act h = refl
-paired_known (Some number) None h = absurd (false≢true h)
-paired_known (Some number) (Some act) h = refl
-
 known_paired : (child : Option KnownChild) → is_birth_known child ≡ true → are_paired (option_map (λ (c : KnownChild). c.number) child) (act_born_with child) ≡ true
 known_paired None h = refl
 known_paired (Some child) h = at child.act h

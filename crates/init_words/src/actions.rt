@@ -28,7 +28,7 @@ pub enum Act {
 }
 
 /// The fifteen actions of inittab(5).
-const ACTS: [Act; 15] = [
+pub const ACTS: [Act; 15] = [
     Act::Sysinit,
     Act::Boot,
     Act::Bootwait,

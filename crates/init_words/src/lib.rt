@@ -13,7 +13,7 @@ mod parts;
 mod refusals;
 mod stages;
 
-pub use actions::Act;
+pub use actions::{ACTS, Act};
 pub use children::{ChildNo, Status};
 pub use entries::{Entry, MARK_LIMIT, PROCESS_LIMIT, lives, starts, waited, without_plus};
 pub use ids::{ID_LIMIT, Id};

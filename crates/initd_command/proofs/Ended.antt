@@ -3,9 +3,6 @@ use Rattle.std.proofs.Common.{◌≡◌, refl, sym, ap, subst, Result, Ok, Err, 
 use Rattle.std.specs.Result.{IsErrAnd}
 use Rattle.std.specs.declared.io.Error.{Error}
 use Rattle.std.specs.Io.KnownBytes.{Appends, Keeps}
-use Rattle.program_io.specs.Writing.{AppendsPrefix}
-use Rattle.program_io.specs.declared.statuses.TheConstants.{DEVICE_FAULT}
-use Rattle.initd_command.specs.declared.run.TheConstants.{UNTOLD}
 use Rattle.std.proofs.KnownBytes.{Appends-kept, Keeps-trans}
 use Rattle.simulator.specs.declared.running.SimFault.{SimFault}
 use Rattle.simulator.specs.declared.running.SimFault.TheVariants as fault
@@ -15,11 +12,11 @@ use Rattle.initd_command.specs.declared.run.RunFault.{RunFault}
 use Rattle.initd_command.specs.declared.run.RunFault.TheVariants as why
 use Rattle.init_words.specs.Parts.{NamedText, texts_of}
 use Rattle.inittab_text.specs.Parts.{are_readable, faults_of_parts, table_of_texts}
-use Rattle.initd_command.specs.Endings.{Ending, Reports, ReportsUnled, status_of, busy, done, flawed, lawful, no_memory, shared, stopped, too_many, torn, turned, uncreated, unflushed, unlawful, unlisted, unlocked, unread, untold, unversioned, unwritten, usage}
+use Rattle.initd_command.specs.Endings.{Ending, busy, done, flawed, lawful, no_memory, shared, stopped, too_many, torn, turned, uncreated, unflushed, unlawful, unlisted, unlocked, unread, untold, unversioned, unwritten, usage}
 use Rattle.initd_command.specs.Turned.{End}
 use Rattle.os_host.specs.LineFaults.{faults_text}
 use Rattle.initd_options.specs.Options.{RunSaid}
-use Rattle.initd_command.specs.Services.{AreFiles, EndsRun, EndsServed, EndsTold, HasInittab, IsOfFault, Turns, is_taken, is_unled}
+use Rattle.initd_command.specs.Services.{AreFiles, EndsRun, EndsServed, EndsTold, HasInittab, IsOfFault, is_taken, is_unled}
 
 pub done_kept : (s : Scenario) (old mid new : Option (List ℕ)) → Done s old mid → Keeps mid new → Done s old new
 done_kept s old mid new (past, rested, written) kept = (past, rested, Appends-kept old mid new (past_text past) written kept)
@@ -119,21 +116,6 @@ of_trace service fault error path reason is at =
 pub of_memory : (service : RunSaid) (fault : RunFault) → fault ≡ why.Memory → IsOfFault service fault no_memory
 of_memory service fault is = subst (λ f. IsOfFault service f no_memory) (sym is) refl
 
--- a run of whose inittab not all was told
-pub untold_run : (service : RunSaid) (unled : Bool) (told lines : List ℕ) (old new err now_err : Option (List ℕ)) → lines ≡ told
-    → AppendsPrefix old new lines → AppendsPrefix err now_err UNTOLD.now
-    → (ending : Ending) × (DEVICE_FAULT ≡ status_of ending) × EndsTold service unled told ending old new × Reports ending err now_err
-untold_run service unled told lines old new err now_err is part reported = (untold, refl, subst (AppendsPrefix old new) is part, reported)
-
--- a run whose turns were made, with what was told and reported before them
-pub turned_run : (service : RunSaid) (unled : Bool) (told lines : List ℕ) (status : ℕ) (old new err mid now_err : Option (List ℕ)) → lines ≡ told
-    → Appends old new lines → ReportsUnled unled err mid → Turns service status mid now_err
-    → (ending : Ending) × (status ≡ status_of ending) × EndsTold service unled told ending old new × Reports ending err now_err
-turned_run service unled told lines status old new err mid now_err is appends led (end, now, served, reported) = (
-  turned unled end,
-  now,
-  told_ends service unled told old new end served (subst (Appends old new) is appends),
-  (mid, led, reported),
 )
 
 -- what is so of a fault is so of it handed on

@@ -11,15 +11,10 @@ use Rattle.inittab_text.specs.Kept.{levels_meant}
 use Rattle.inittab_text.specs.Lines.{FieldBytes, fields_of, is_ignored}
 use Rattle.inittab_lint.specs.declared.shell.Operator.{Operator}
 use Rattle.inittab_lint.specs.declared.shell.Operator.TheVariants as operator
-use Rattle.inittab_lint.specs.declared.traps.Fields.{Fields}
 use Rattle.inittab_lint.specs.declared.traps.LineWarning.{LineWarning}
 use Rattle.inittab_lint.specs.declared.traps.Warning.{Warning}
 use Rattle.inittab_lint.specs.declared.traps.Warning.TheVariants as warning
 use Rattle.inittab_lint.specs.Shell.{begins_with, first_word, is_assigned, is_shell_word, operator_in}
-
--- the fields as they stand in the text
-abbrev pub fields_at : Fields → FieldBytes
-fields_at f = record { id = f.id.now; levels = f.levels.now; action = f.action.now; process = f.process.now }
 
 -- a character of the runlevels counts: a letter of ondemand entries, none of sysinit, boot and bootwait, else a level
 abbrev pub counts : Act → ℕ → Bool

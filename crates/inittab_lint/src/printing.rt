@@ -7,9 +7,9 @@ ghost use Rattle.inittab_text.specs.Lines.{fields_of};
 ghost use Rattle.text_lines.specs.Lines.{skip_blanks};
 
 use crate::slips::meant;
-use crate::traps::{Fields, LineWarning};
+use crate::traps::LineWarning;
 use init_words::{Act, Level, Part};
-use inittab_text::{LineKind, PartFault};
+use inittab_text::{Fields, LineKind, PartFault};
 use itoa::Buffer;
 use std::alloc::{AllocError, Allocator};
 use text_lines::{after_lines, cut, without_blanks};

@@ -3,26 +3,7 @@
 ghost use Rattle.std.specs.Prelude.{◌≡◌};
 ghost use Rattle.inittab_lint.specs.Meant.{is_slip, is_slip_here, is_swapped, meant, same_but_case};
 
-use init_words::Act;
-
-/// The fifteen actions of inittab(5).
-const ACTS: [Act; 15] = [
-    Act::Sysinit,
-    Act::Boot,
-    Act::Bootwait,
-    Act::Wait,
-    Act::Once,
-    Act::Respawn,
-    Act::Ondemand,
-    Act::Powerwait,
-    Act::Powerfail,
-    Act::Powerokwait,
-    Act::Powerfailnow,
-    Act::Off,
-    Act::Initdefault,
-    Act::Ctrlaltdel,
-    Act::Kbrequest,
-];
+use init_words::{ACTS, Act};
 
 /// The two are one but for capitals.
 fn same_but_case(word: &[u8], meant: &[u8]) -> bool

@@ -2,15 +2,15 @@
 
 ghost use Rattle.std.specs.Prelude.{◌≡◌, ◌++◌, map, OnOk};
 ghost use Rattle.std.specs.List.{list_any};
-ghost use Rattle.std.specs.Option.{option_map};
 ghost use Rattle.inittab_text.specs.Kept.{levels_meant};
-ghost use Rattle.inittab_text.specs.Lines.{fields_of, is_ignored};
-ghost use Rattle.inittab_lint.specs.Warnings.{at_line, counts, counts_none, ends_with, fields_at, has_idle, holds, holds_of, run_by, warning_words, warnings_by, warnings_of_line};
+ghost use Rattle.inittab_text.specs.Lines.{fields_at, fields_of, is_ignored};
+ghost use Rattle.inittab_lint.specs.Warnings.{at_line, counts, counts_none, ends_with, has_idle, holds, holds_of, run_by, warning_words, warnings_by, warnings_of_line};
 
 use crate::shell::{Operator, begins_with, first_word, is_assigned, is_shell_word, operator_of};
 use init_words::{Act, Letter, Level, without_plus};
+use inittab_text::Fields;
 use std::alloc::{AllocError, Allocator};
-use text_lines::{cut, without_blanks};
+use text_lines::without_blanks;
 
 /// What a line that is kept does otherwise than it seems to (inittab(5)).
 #[derive(Clone, Copy, PartialEq, Eq)]
@@ -63,32 +63,6 @@ const WARNINGS: [Warning; 11] = [
     Warning::Pipe,
     Warning::Background,
 ];
-
-/// The four fields of a line.
-#[derive(Clone, Copy)]
-pub(crate) struct Fields<'a> {
-    pub(crate) id: &'a [u8],
-    pub(crate) levels: &'a [u8],
-    pub(crate) action: &'a [u8],
-    pub(crate) process: &'a [u8],
-}
-
-impl<'a> Fields<'a> {
-    /// The fields of a line, split at its first three colons; the process is the rest.
-    pub(crate) fn of(line: &'a [u8]) -> Option<Fields<'a>>
-        ensures { option_map fields_at result ≡ fields_of line.now }
-    {
-        let (id, rest) = cut(b':', line)?;
-        let (levels, rest) = cut(b':', rest)?;
-        let (action, process) = cut(b':', rest)?;
-        Some(Fields {
-            id,
-            levels,
-            action,
-            process,
-        })
-    }
-}
 
 /// A character of the runlevels counts for something in an entry of the action.
 fn counts(act: Act, byte: u8) -> bool

@@ -7,18 +7,22 @@ use text_lines::cut;
 
 /// The four fields of a line, `id:runlevels:action:process` (inittab(5)).
 #[derive(Clone, Copy)]
-pub(crate) struct Fields<'a> {
-    pub(crate) id: &'a [u8],
-    pub(crate) levels: &'a [u8],
-    pub(crate) action: &'a [u8],
-    pub(crate) process: &'a [u8],
+pub struct Fields<'a> {
+    /// The id, as the line has it.
+    pub id: &'a [u8],
+    /// The characters of the runlevels.
+    pub levels: &'a [u8],
+    /// The word of the action.
+    pub action: &'a [u8],
+    /// All behind the third colon.
+    pub process: &'a [u8],
 }
 
 impl<'a> Fields<'a> {
     ghost use Rattle.inittab_text.specs.Lines.{fields_of, fields_at};
 
     /// The fields of a line, split at its first three colons; the process is the rest.
-    pub(crate) fn of(line: &'a [u8]) -> Option<Fields<'a>>
+    pub fn of(line: &'a [u8]) -> Option<Fields<'a>>
         ensures { option_map fields_at result ≡ fields_of line.now }
     {
         let (id, rest) = cut(b':', line)?;

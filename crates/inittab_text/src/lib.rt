@@ -14,6 +14,7 @@ mod writing;
 mod written;
 
 pub use faults::{LineFault, LineKind, PartFault, TableFault};
+pub use fields::Fields;
 pub use parts::{PART_LIMIT, read_parts};
 pub use reading::{TEXT_LIMIT, read};
 pub use tables::{ENTRY_LIMIT, Table};

@@ -1,6 +1,5 @@
 -- The passes that give numbers: what a height says of the needs, and how many places are left.
 use Rattle.std.proofs.Common.{◌≡◌, ◌⊎◌, ℕ, zero, suc, ◌+◌, ◌-◌, ◌<◌, ◌≤◌, Bool, true, false, cond, ◌==◌, ◌||◌, max, List, [], ◌∷◌, length, get_or, drop, set, replicate, refl, sym, ap, ◌∙◌, subst, arith, inl, inr}
-use Rattle.std.specs.List.{list_any}
 use Rattle.std.specs.Str.{bytes_eq}
 use Rattle.std.proofs.lemmas.Slice.Eq.{bytes_eq-Decides}
 use Rattle.std.proofs.lemmas.Bool.{false_from_ne_true, true≢false, eqb-true, eq-eqb}
@@ -284,15 +283,6 @@ settled-drop (x ∷ numbers) (h ∷ heights) zero within same = refl
 settled-drop (x ∷ numbers) (h ∷ heights) (suc k) within same =
     let more : suc k + 1 ≡ suc (k + 1) = omega arith in
     rw more (settled-drop numbers heights k (omega arith) (omega arith))
-
-zeros_some_by : (x : ℕ) (numbers : List ℕ) (y : Bool) → (x == 0) ≡ y → (y || list_any (λ z. z == 0) numbers) ≡ true → (list_any (λ z. z == 0) numbers ≡ true → 0 < zeros numbers) → 0 < cond y 1 0 + zeros numbers
-zeros_some_by x numbers true at is rest = omega arith
-zeros_some_by x numbers false at is rest = let more : 0 < zeros numbers = rest is in omega arith
-
--- some place has no number
-pub zeros-some : (numbers : List ℕ) → list_any (λ x. x == 0) numbers ≡ true → 0 < zeros numbers
-zeros-some [] is = absurd (true≢false (sym is))
-zeros-some (x ∷ numbers) is = zeros_some_by x numbers (x == 0) refl is (zeros-some numbers)
 
 -- lists that are told to be one
 pub same_lists : (xs ys : List ℕ) → bytes_eq xs ys ≡ true → xs ≡ ys

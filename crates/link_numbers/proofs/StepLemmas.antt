@@ -49,9 +49,6 @@ none_there zero a = refl
 none_there (suc n) zero = refl
 none_there (suc n) (suc a) = none_there n a
 
-pub AreSteps-start : (edges : List (ℕ × ℕ)) (n : ℕ) → AreSteps edges (replicate n None)
-AreSteps-start edges n a b is = absurd (let e = none_there n a in cc)
-
 set_here : (steps : List (Option ℕ)) (a b : ℕ) → a < length steps → get_or (set steps a (Some b)) a None ≡ Some b
 set_here [] a b within = absurd (omega arith)
 set_here (x ∷ steps) zero b within = refl

@@ -36,10 +36,10 @@ order = ranks_by nat_list_cmp_total (λ text. text)
 not_before_itself : (x : List ℕ) → is_before x x ≡ false
 not_before_itself x = false_from_ne_true (is_before x x) (λ is. true≢false (sym is ∙ order.one_way x x is))
 
-same_bytes : (x y : List ℕ) → bytes_eq x y ≡ true → x ≡ y
+pub same_bytes : (x y : List ℕ) → bytes_eq x y ≡ true → x ≡ y
 same_bytes x y is = (bytes_eq-Decides x y).0 is
 
-same_itself : (x : List ℕ) → bytes_eq x x ≡ true
+pub same_itself : (x : List ℕ) → bytes_eq x x ≡ true
 same_itself x = (bytes_eq-Decides x x).1 refl
 
 -- texts of which none stands before the other are one

@@ -1,16 +1,16 @@
 -- Plans: their fields, their names, and the faults that a step gives on.
-use Rattle.std.proofs.Common.{Some, Result, Ok, Err, IfOk, string_bytes, ◌≡◌, ℕ, zero, suc, ◌+◌, ◌<◌, List, [], ◌∷◌, ◌++◌, length, map, get_or, drop, None, refl, sym, ap, ◌∙◌, subst, arith, inl, inr}
+use Rattle.std.proofs.Common.{Result, Ok, Err, IfOk, string_bytes, ◌≡◌, ℕ, zero, suc, ◌+◌, ◌<◌, List, [], ◌∷◌, ◌++◌, length, map, get_or, drop, refl, sym, ap, ◌∙◌, subst, arith, inl, inr}
 use Rattle.std.specs.List.{AllByRecursion}
 use Rattle.rc_links.specs.declared.needs.Phase.{Phase}
 use Rattle.rc_links.specs.declared.needs.Phase.TheVariants as phase
 use Rattle.rc_links.specs.declared.faults.PlanFault.{PlanFault}
 use Rattle.rc_links.specs.declared.faults.PlanFault.TheVariants as fault
-use Rattle.rc_links.specs.Faults.{Wrong, Double, Missing, Round, IsAnyDeep, IsDouble, IsMissing, IsRound, IsTooDeep, Says}
+use Rattle.rc_links.specs.Faults.{Wrong, Missing, Round, IsAnyDeep, IsRound, IsTooDeep, Says}
 use Rattle.link_numbers.specs.Numbering.{HasNoNumbering, IsCycle, IsLeast}
 use Rattle.rc_links.specs.ScriptText.{ScriptText}
 use Rattle.rc_links.specs.PlannedText.{PlannedText}
 use Rattle.rc_links.specs.Plans.{AreLeast, IsCycleOf, IsPlan, IsProvided, IsRefused, IsShort, names_at, planned, planned_all}
-use Rattle.rc_links.specs.Scripts.{double_from, missing_from, needs_of}
+use Rattle.rc_links.specs.Scripts.{needs_of}
 use Rattle.rc_links.proofs.NeedLemmas.{append_assoc}
 
 -- the name at a place
@@ -37,10 +37,6 @@ pub cut_number : (xs : List ℕ) (n : ℕ) → n < length xs → drop n xs ≡ g
 cut_number [] n within = absurd (omega arith)
 cut_number (x ∷ xs) zero within = refl
 cut_number (x ∷ xs) (suc n) within = let e : suc n + 1 ≡ suc (n + 1) = omega arith in rw e (cut_number xs n (omega arith))
-
-pub map-last : {X Y : Type 0} (f : X → Y) (xs : List X) (x : X) → map f (xs ++ x ∷ []) ≡ map f xs ++ f x ∷ []
-map-last f [] x = refl
-map-last f (y ∷ xs) x = ap (λ ys. f y ∷ ys) (map-last f xs x)
 
 -- what is said of one thing is said of another
 pub Says-weaker : {A : Type 0} {P Q : Wrong → Type 0} (f : PlanFault A) → ((wrong : Wrong) → P wrong → Q wrong) → Says P f → Says Q f
@@ -107,12 +103,6 @@ pub round : (turn : Phase) (scripts : List ScriptText) (places : List ℕ) (wron
 round turn scripts places wrong cycle none is =
     (names_at scripts places, is, record { places = places; named = refl; cycle = cycle; none = none })
 
-same_double : (x y : List ℕ) → Double x ≡ Double y → x ≡ y
-same_double x y e = cc
-
-same_missing : (x y : List ℕ) → Missing x ≡ Missing y → x ≡ y
-same_missing x y e = cc
-
 same_round : (x y : List (List ℕ)) → Round x ≡ Round y → x ≡ y
 same_round x y e = cc
 
@@ -121,21 +111,6 @@ pub AreLeast-order : {X Y E : Type 0} (items : X → List ℕ) (turn : Phase) (s
 AreLeast-order items turn scripts (Ok (Ok ns)) size least = record { size = size; least = least }
 AreLeast-order items turn scripts (Ok (Err cycle)) size least = tt
 AreLeast-order items turn scripts (Err e) size least = tt
-
--- why there is no plan, step by step
-pub refused-double : {A : Type 0} (scripts : List ScriptText) (f : PlanFault A) → Says (IsDouble (double_from [] scripts)) f → IsRefused scripts f
-refused-double scripts (fault.DoubleProvide name) is = is.1 ∙ ap (λ x. Some x) (sym (same_double (string_bytes name) is.0 is.2))
-refused-double scripts (fault.Missing name) is = absurd (let e = is.2 in cc)
-refused-double scripts (fault.Cycle names) is = absurd (let e = is.2 in cc)
-refused-double scripts fault.TooDeep is = absurd (let e = is.2 in cc)
-refused-double scripts fault.Memory is = tt
-
-pub refused-missing : {A : Type 0} (scripts : List ScriptText) (f : PlanFault A) → double_from [] scripts ≡ None → Says (IsMissing (missing_from scripts scripts)) f → IsRefused scripts f
-refused-missing scripts (fault.DoubleProvide name) single is = absurd (let e = is.2 in cc)
-refused-missing scripts (fault.Missing name) single is = (single, is.1 ∙ ap (λ x. Some x) (sym (same_missing (string_bytes name) is.0 is.2)))
-refused-missing scripts (fault.Cycle names) single is = absurd (let e = is.2 in cc)
-refused-missing scripts fault.TooDeep single is = absurd (let e = is.2 in cc)
-refused-missing scripts fault.Memory single is = tt
 
 pub refused-start : {A : Type 0} (scripts : List ScriptText) (f : PlanFault A) → IsProvided scripts → Says (IsRound phase.Start scripts) f → IsRefused scripts f
 refused-start scripts (fault.DoubleProvide name) provided is = absurd (let e = is.1 in cc)

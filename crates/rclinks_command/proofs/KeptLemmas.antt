@@ -2,7 +2,7 @@
 use Rattle.std.proofs.Common.{◌≡◌, ℕ, Bool, true, false, not, ◌&&◌, cond, List, [], ◌∷◌, ◌++◌, map, Some, unwrap_or, refl, sym, ap, ◌∙◌}
 use Rattle.std.specs.List.{filter}
 use Rattle.std.specs.Str.{bytes_eq}
-use Rattle.std.proofs.lemmas.Bool.{true≢false}
+use Rattle.std.proofs.lemmas.Bool.{true≢false, and_parts, false_from_ne_true}
 use Rattle.std.proofs.lemmas.Slice.Eq.{bytes_eq-Decides}
 use Rattle.init_words.specs.declared.levels.Level.{Level}
 use Rattle.init_words.specs.Levels.{same_level}
@@ -66,27 +66,19 @@ removed_step x kept all fewer false false false s same other is = is
 removed_step x kept all fewer true false false true same other is = is
 removed_step x kept all fewer true false false false same other is = is
 
-both_true : (a b : Bool) → (a && b) ≡ true → (a ≡ true) × (b ≡ true)
-both_true true b is = (refl, is)
-both_true false b is = absurd (true≢false (sym is))
-
 -- one folder has one place
 same_place : (dir other : List ℕ) (from level : Level) (k : KeptText) → (bytes_eq dir other && same_level from level) ≡ true → is_kept_at dir from k ≡ is_kept_at other level k
 same_place dir other from level k both =
-    let two = both_true (bytes_eq dir other) (same_level from level) both in
+    let two = and_parts (bytes_eq dir other) (same_level from level) both in
     ap (λ d. is_kept_at d from k) ((bytes_eq-Decides dir other).0 two.0) ∙ ap (λ l. is_kept_at other l k) (same_level-is from level two.1)
 
 not_both : (b : Bool) → b ≡ false → b ≡ true → ⊥
 not_both b differs holds = true≢false (sym holds ∙ differs)
 
-from_no : (b : Bool) → (b ≡ true → ⊥) → b ≡ false
-from_no true differs = absurd (differs refl)
-from_no false differs = refl
-
 other_place : (dir other : List ℕ) (from level : Level) (k : KeptText) → (bytes_eq dir other && same_level from level) ≡ false → is_kept_at other level k ≡ true → is_kept_at dir from k ≡ false
-other_place dir other from level k apart here = from_no (is_kept_at dir from k) (λ at.
-    let there = both_true (bytes_eq k.dir dir) (same_level k.level from) at in
-    let two = both_true (bytes_eq k.dir other) (same_level k.level level) here in
+other_place dir other from level k apart here = false_from_ne_true (is_kept_at dir from k) (λ at.
+    let there = and_parts (bytes_eq k.dir dir) (same_level k.level from) at in
+    let two = and_parts (bytes_eq k.dir other) (same_level k.level level) here in
     let dirs : dir ≡ other = sym ((bytes_eq-Decides k.dir dir).0 there.0) ∙ (bytes_eq-Decides k.dir other).0 two.0 in
     let levels : from ≡ level = sym (same_level-is k.level from there.1) ∙ same_level-is k.level level two.1 in
     let near : (bytes_eq dir other && same_level from level) ≡ true =

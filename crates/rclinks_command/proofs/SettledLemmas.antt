@@ -2,9 +2,8 @@
 use Rattle.std.proofs.Common.{◌≡◌, ℕ, Bool, true, false, not, ◌&&◌, ◌||◌, cond, List, [], ◌∷◌, ◌++◌, map, flat_map, Some, refl, sym, ap, ◌∙◌, subst, append_assoc}
 use Rattle.std.specs.List.{AllByRecursion, filter, list_any}
 use Rattle.std.specs.Str.{bytes_eq}
-use Rattle.std.proofs.lemmas.Bool.{true≢false}
+use Rattle.std.proofs.lemmas.Bool.{true≢false, and_parts, or_left, or_right}
 use Rattle.std.proofs.lemmas.List.{append-nil}
-use Rattle.std.proofs.lemmas.Slice.Eq.{bytes_eq-Decides}
 use Rattle.init_words.specs.declared.levels.Level.{Level}
 use Rattle.init_words.specs.declared.levels.Level.TheVariants.{L0, L1, L2, L3, L4, L5, L6, L7, L8, L9, S}
 use Rattle.init_words.specs.Levels.{same_level}
@@ -20,6 +19,7 @@ use Rattle.link_changes.specs.declared.folders.Act.TheVariants.{Make, Remove}
 use Rattle.rc_links.specs.PlannedText.{PlannedText}
 use Rattle.rclinks_command.specs.Folders.{KnownFolders, changed, changed_by, changed_in}
 use Rattle.rclinks_command.specs.Writing.{AreFolders, IsFolder, all_levels, changes_in, planned_at, settled_in, targets_in}
+use Rattle.rc_links.proofs.LinkLemmas.{same_bytes, same_itself}
 
 -- changes, and then others
 pub changed_by-append : (dir : List ℕ) (a b : List ChangeText) (other : List ℕ) (level : Level) (es : List EntryText)
@@ -71,19 +71,9 @@ removed dir other level k (x ∷ xs) es at =
     ∙ filter_twice (λ e. not (list_any (λ y. same_entry y e) xs)) (λ e. not (same_entry x e)) (λ e. not (same_entry x e || list_any (λ y. same_entry y e) xs)) es
     (λ e. nor (same_entry x e) (list_any (λ y. same_entry y e) xs))
 
-same_bytes : (x y : List ℕ) → bytes_eq x y ≡ true → x ≡ y
-same_bytes x y is = (bytes_eq-Decides x y).0 is
-
-same_itself : (x : List ℕ) → bytes_eq x x ≡ true
-same_itself x = (bytes_eq-Decides x x).1 refl
-
-both_true : (a b : Bool) → (a && b) ≡ true → (a ≡ true) × (b ≡ true)
-both_true true b is = (refl, is)
-both_true false b is = absurd (true≢false (sym is))
-
 one_entry : (a b : EntryText) → same_entry a b ≡ true → a ≡ b
 one_entry a b is =
-    let both = both_true (bytes_eq a.name b.name) (bytes_eq a.leads b.leads) is in
+    let both = and_parts (bytes_eq a.name b.name) (bytes_eq a.leads b.leads) is in
     let names : a.name ≡ b.name = same_bytes a.name b.name both.0 in
     let places : a.leads ≡ b.leads = same_bytes a.leads b.leads both.1 in
     λ i. record { name = names i; leads = places i }
@@ -123,13 +113,6 @@ with_true false c is = refl
 
 filter_next : {X : Type 0} (x : X) (xs ys : List X) (b c : Bool) → b ≡ c → xs ≡ ys → cond b (x ∷ xs) xs ≡ cond c (x ∷ ys) ys
 filter_next x xs ys b c same rest = ap (λ d. cond d (x ∷ xs) xs) same ∙ ap (λ zs. cond c (x ∷ zs) zs) rest
-
-or_right : (a b : Bool) → b ≡ true → (a || b) ≡ true
-or_right true b is = refl
-or_right false b is = is
-
-or_left : (a b : Bool) → a ≡ true → (a || b) ≡ true
-or_left a b is = ap (λ c. c || b) is
 
 -- of entries that are among others, those that fail the test or aren't among them are those that fail it
 fails : (p : EntryText → Bool) (es all : List EntryText)

@@ -1,2 +1,3 @@
+pub mod Generations
 mod Handed
 pub mod Lasting

@@ -1,12 +1,12 @@
 -- Why ten starts are enough: the window is full by the last ten of the times noted where it is full by all of them.
-use Rattle.std.proofs.Common.{◌≡◌, ℕ, ◌+◌, ◌-◌, ◌<◌, ◌≤◌, Bool, true, false, cond, inl, inr, List, [], ◌∷◌, ◌++◌, length, get_or, take, drop, refl, sym, ◌∙◌, ap, arith, length-append, length-drop, nat_le, Option, Some, None}
+use Rattle.std.proofs.Common.{◌≡◌, ℕ, ◌+◌, ◌-◌, ◌<◌, ◌≤◌, Bool, true, false, cond, inl, inr, List, [], ◌∷◌, ◌++◌, length, get_or, take, drop, refl, ◌∙◌, ap, arith, length-append, length-drop, nat_le, Option, Some, None}
 use Rattle.std.specs.Prelude.{All, count_by}
 use Rattle.std.specs.List.{AllPass}
 use Rattle.std.specs.List.Sorted.{IsNonDecreasing}
 use Rattle.std.proofs.lemmas.Bool.{cases_Bool, cases_lt}
 use Rattle.std.proofs.lemmas.Bool.Decides.{nat_tests}
 use Rattle.std.proofs.lemmas.List.{get_or-drop, get_or-take, length-take-le, drop-append-le, drop-drop}
-use Rattle.std.proofs.lemmas.List.Elements.{All-head, All-tail, All-from_get_or, All-drop, All-push}
+use Rattle.std.proofs.lemmas.List.Elements.{All-head, All-tail, All-from_get_or}
 use Rattle.std.proofs.lemmas.List.Sums.{sum_by-cons, sum_by-take-drop, count_by-le-length}
 use Rattle.std.proofs.lemmas.List.Sorted.{IsNonDecreasingBy-push, IsNonDecreasingBy-drop}
 use Rattle.respawn_limit.specs.declared.TheConstants.{STARTS}
@@ -123,10 +123,6 @@ drop_last_push k noted y =
     rw (← joined) (drop-drop (length (drop n (noted ++ y ∷ [])) - k) n (noted ++ y ∷ [])
     ∙ ap (λ m. drop m (noted ++ y ∷ [])) (omega (arith, length-drop n (noted ++ y ∷ []), length-append noted (y ∷ []))))
 
--- ten or fewer are the last ten
-pub last_starts-few : (times : List ℕ) → length times ≤ STARTS → last_starts times ≡ times
-last_starts-few times few = let none : length times - STARTS ≡ 0 = omega arith in rw none refl
-
 -- there are ten at most
 pub length-last_starts : (times : List ℕ) → length (last_starts times) ≤ STARTS
 length-last_starts times = omega (arith, length-drop (length times - STARTS) times)
@@ -149,15 +145,6 @@ pub IsNonDecreasing-push : (starts : List ℕ) (now : ℕ) → IsNonDecreasing s
     → IsNonDecreasing (starts ++ now ∷ [])
 IsNonDecreasing-push starts now ordered late =
     IsNonDecreasingBy-push (λ x. x) starts now ordered (λ d some. late (length starts - 1) d (omega arith))
-
--- ten times in order are remembered whole
-pub Remembers-few : (starts : List ℕ) → length starts ≤ STARTS → IsNonDecreasing starts → Remembers starts starts
-Remembers-few starts few ordered = record { last = sym (last_starts-few starts few); ordered = ordered }
-
--- what holds of the starts that are kept and of one more holds of those that are kept then
-pub All-last_ten_push : (P : ℕ → Type 0) (starts : List ℕ) (now : ℕ) → All P starts → P now → All P (last_starts (starts ++ now ∷ []))
-All-last_ten_push P starts now each here =
-    All-drop P (length (starts ++ now ∷ []) - STARTS) (starts ++ now ∷ []) (All-push P starts now each here)
 
 -- one more start, no earlier than those that are kept
 pub Remembers-push : (starts noted : List ℕ) (now : ℕ) → Remembers starts noted → All (λ start. start ≤ now) starts

@@ -30,6 +30,7 @@ use Rattle.reexec_state.proofs.Lasting.{step_lasts, request_lasts}
 use Rattle.simulator.specs.Handing.{made_in, kept_goal, kept_at, after_hand}
 use Rattle.simulator.specs.Moments.{LastsTo}
 use Rattle.simulator.specs.Said.{is_scripted}
+use Rattle.reexec_state.proofs.Generations.{request_same}
 
 -- what init keeps is what the trace says of it
 pub kept_is : (core : CoreState) (goal : Goal) (past : List Event) → FitsAll core goal past → LastsTo core goal past → core ≡ kept_at goal past
@@ -72,17 +73,6 @@ lasts_step core new s decides is goal past fits lasts = lasts_as new (after_step
     (step_made s core past lasts.made)
     (step_goal s core goal past (ap (λ (x : CoreState). x.heads.level_wish) fits.0.kept) lasts.goal)
 
-pub same_generation : (s : Step) (core : CoreState) → (after_step s core).heads.generation ≡ core.heads.generation
-same_generation (Enter now grace) core = refl
-same_generation (Call letter) core = refl
-same_generation (Power kind) core = refl
-same_generation (Order id ask) core = refl
-same_generation (Hold id) core = refl
-same_generation (Settle level) core = refl
-same_generation Reread core = refl
-same_generation Reexec core = refl
-same_generation Idle core = refl
-
 -- ---- behind what is heard
 
 heard_goal : (now : Option Stage) (wish : Goal) (heads : Heads) → (heard_in now wish heads).goal ≡ cond (in_run now) heads.goal wish
@@ -94,24 +84,6 @@ heard_goal (Some (stage.Run level)) wish heads = at (same_level wish.level level
     at : (b : Bool) → (cond b (record heads { level_wish = None }) (record heads { level_wish = Some wish; reread = true })).goal ≡ heads.goal
     at true = refl
     at false = refl
-
-heard_generation : (now : Option Stage) (wish : Goal) (heads : Heads) → (heard_in now wish heads).generation ≡ heads.generation
-heard_generation None wish heads = refl
-heard_generation (Some stage.Sysinit) wish heads = refl
-heard_generation (Some stage.Boot) wish heads = refl
-heard_generation (Some (stage.Run level)) wish heads = at (same_level wish.level level)
-  where
-    at : (b : Bool) → (cond b (record heads { level_wish = None }) (record heads { level_wish = Some wish; reread = true })).generation ≡ heads.generation
-    at true = refl
-    at false = refl
-
-got_made : (request : Request) (core : CoreState) → (after_got request core).heads.generation ≡ core.heads.generation
-got_made (got.Level level grace) core = heard_generation core.heads.stage (record { level = level; grace = grace }) core.heads
-got_made (got.Call letter) core = refl
-got_made got.Reload core = refl
-got_made got.Reexec core = refl
-got_made (got.Power kind) core = refl
-got_made (got.Nothing cause) core = refl
 
 got_goal : (request : Request) (core : CoreState) (goal : Goal) (past : List Event) → core.heads.stage ≡ stage_of past → core.heads.goal ≡ kept_goal goal past → (after_got request core).heads.goal ≡ kept_goal goal (event.Got request ∷ past)
 got_goal (got.Level level grace) core goal past now kept = heard_goal core.heads.stage (record { level = level; grace = grace }) core.heads
@@ -143,7 +115,7 @@ module _ (core new : CoreState) (goal : Goal) (past : List Event) (lasts : Lasts
   pub lasts_got : (request : Request) → FitsAll core goal past → is_request request ≡ true → new ≡ after_got request core → LastsTo new goal (event.Got request ∷ past)
   lasts_got request fits asks is = lasts_as new (after_got request core) goal (event.Got request ∷ past) is
       (request_lasts request core asks lasts.short)
-      (got_made request core ∙ lasts.made)
+      (request_same request core ∙ lasts.made)
       (got_goal request core goal past (ap (λ (x : CoreState). x.heads.stage) fits.0.kept) lasts.goal)
 
   pub lasts_hand : (how : HandOver) → new ≡ after_hand how core → LastsTo new goal (event.Handed how ∷ past)

@@ -3,7 +3,7 @@ use Rattle.std.proofs.Common.{◌≡◌, ◌⊎◌, inl, inr, ℕ, zero, suc, �
 use Rattle.std.specs.Option.{is_some, option_map}
 use Rattle.std.specs.Prelude.{option_and_then}
 use Rattle.std.specs.List.{list_any, flat_map}
-use Rattle.std.proofs.lemmas.Bool.{and_parts, and_from, ltb-true, lt-ltb}
+use Rattle.std.proofs.lemmas.Bool.{and_parts, and_from, ltb-true, lt-ltb, or_left, or_right}
 use Rattle.std.proofs.lemmas.List.{append_assoc}
 use Rattle.std.proofs.lemmas.Fmt.{decimal_digit}
 use Rattle.text_lines.specs.Lines.{cut, has_byte}
@@ -38,7 +38,7 @@ use Rattle.init_trace.specs.Range.{is_in_range, is_number, is_status, is_request
 use Rattle.inittab_text.specs.Written.{is_table}
 use Rattle.trace_text.specs.Lines.{words_of, words_behind, level_word, letter_word}
 use Rattle.trace_text.specs.Reading.{both, all_three, stage_of_word, code_of_word, level_wanted, words_read, entries_brought, words_in, level_of_word, letter_of_word, child_of_word, seconds_of_word}
-use Rattle.trace_text.proofs.LineTexts.{level_back}
+use Rattle.trace_text.proofs.LineTexts.{level_back, no_use}
 use Rattle.trace_text.proofs.LineWords.{words_read-of}
 use Rattle.init_words.specs.declared.levels.Level.{Level}
 use Rattle.inittab_text.specs.Written.{table_begun}
@@ -215,13 +215,6 @@ fits-ends (p ∷ form) f is = by (cut 32 f) refl (λ rest fit. fits-ends form re
 
 -- EVERY LINE HAS THE PARTS OF A FORM
 
-no_use : (given : List ℕ) → words_read (codes "use" ∷ given ∷ []) ≡ None
-no_use given = by (is_id given)
-  where
-    by : (b : Bool) → option_and_then {U = Event} (λ id. None) (cond b (Some given) None) ≡ None
-    by true = refl
-    by false = refl
-
 abbrev pub Formed : List (List ℕ) → Type 0
 Formed words = (i : ℕ) × (form : List Part) × (slice_get FORMS i ≡ Some form) × Spells form words
 
@@ -340,14 +333,6 @@ use-formed words count is = formed_use words count is
 abbrev pub is_read : List (List ℕ) → Bool
 is_read words = is_some (words_read words) || is_some (entries_brought words)
 
-left : (a b : Bool) → a ≡ true → (a || b) ≡ true
-left true b is = refl
-left false b is = absurd (cc)
-
-right : (a b : Bool) → b ≡ true → (a || b) ≡ true
-right true b is = refl
-right false b is = is
-
 mapped : {X Y : Type 0} (f : X → Y) (o : Option X) → is_some o ≡ true → is_some (option_map f o) ≡ true
 mapped f None is = absurd (cc)
 mapped f (Some x) is = refl
@@ -439,29 +424,29 @@ are_read = (
   (
     one name.NotRead refl,
     (
-      two name.Told part.Id (λ w is. left _ _ (then_some Told (id_read w) is)),
+      two name.Told part.Id (λ w is. or_left _ _ (then_some Told (id_read w) is)),
       (
-        two name.Still part.Id (λ w is. left _ _ (then_some Still (id_read w) is)),
+        two name.Still part.Id (λ w is. or_left _ _ (then_some Still (id_read w) is)),
         (
-          two name.Hold part.Id (λ w is. left _ _ (then_some Hold (id_read w) is)),
+          two name.Hold part.Id (λ w is. or_left _ _ (then_some Hold (id_read w) is)),
           (
-            two name.NoBirth part.Id (λ w is. left _ _ (then_some NoBirth (id_read w) is)),
+            two name.NoBirth part.Id (λ w is. or_left _ _ (then_some NoBirth (id_read w) is)),
             (
-              two name.NoLook part.Id (λ w is. left _ _ (then_some NoLook (id_read w) is)),
+              two name.NoLook part.Id (λ w is. or_left _ _ (then_some NoLook (id_read w) is)),
               (
-                two name.Hit part.Id (λ w is. left _ _ (then_some Hit (id_read w) is)),
+                two name.Hit part.Id (λ w is. or_left _ _ (then_some Hit (id_read w) is)),
                 (
-                  two name.Miss part.Id (λ w is. left _ _ (then_some Miss (id_read w) is)),
+                  two name.Miss part.Id (λ w is. or_left _ _ (then_some Miss (id_read w) is)),
                   (
-                    two name.Use part.Entries (λ w is. right _ _ is),
+                    two name.Use part.Entries (λ w is. or_right _ _ is),
                     (
-                      two name.Clock part.Count (λ w is. left _ _ (mapped Clock (number_read (2 ^ 64) w) is)),
+                      two name.Clock part.Count (λ w is. or_left _ _ (mapped Clock (number_read (2 ^ 64) w) is)),
                       (
-                        two name.Death part.Child (λ w is. left _ _ (mapped Death (child_of_word w) is)),
+                        two name.Death part.Child (λ w is. or_left _ _ (mapped Death (child_of_word w) is)),
                         (
-                          two name.Settle part.Level (λ w is. left _ _ (mapped Settle (level_of_word w) is)),
+                          two name.Settle part.Level (λ w is. or_left _ _ (mapped Settle (level_of_word w) is)),
                           (
-                            two name.Call part.Letter (λ w is. left _ _ (mapped Call (letter_of_word w) is)),
+                            two name.Call part.Letter (λ w is. or_left _ _ (mapped Call (letter_of_word w) is)),
                             (
                               names name.Power name.Fail refl,
                               (
@@ -477,23 +462,23 @@ are_read = (
                                         (
                                           names name.Handed name.None refl,
                                           (
-                                            third name.Ask name.Start part.Id (λ w is. left _ _ (both_some Asked (id_read w) (Some ask.Start) is refl)),
+                                            third name.Ask name.Start part.Id (λ w is. or_left _ _ (both_some Asked (id_read w) (Some ask.Start) is refl)),
                                             (
-                                              third name.Ask name.Look part.Id (λ w is. left _ _ (both_some Asked (id_read w) (Some ask.Look) is refl)),
+                                              third name.Ask name.Look part.Id (λ w is. or_left _ _ (both_some Asked (id_read w) (Some ask.Look) is refl)),
                                               (
-                                                third name.Ask name.Term part.Id (λ w is. left _ _ (both_some Asked (id_read w) (Some ask.Term) is refl)),
+                                                third name.Ask name.Term part.Id (λ w is. or_left _ _ (both_some Asked (id_read w) (Some ask.Term) is refl)),
                                                 (
-                                                  third name.Ask name.Kill part.Id (λ w is. left _ _ (both_some Asked (id_read w) (Some ask.Kill) is refl)),
+                                                  third name.Ask name.Kill part.Id (λ w is. or_left _ _ (both_some Asked (id_read w) (Some ask.Kill) is refl)),
                                                   (
-                                                    three name.Birth part.Id part.Child (λ w v is at. left _ _ (both_some Birth (id_read w) (child_of_word v) is at)),
+                                                    three name.Birth part.Id part.Child (λ w v is at. or_left _ _ (both_some Birth (id_read w) (child_of_word v) is at)),
                                                     (
-                                                      second name.Enter name.Sysinit part.Seconds (λ v at. left _ _ (both_some Enter (Some stage.Sysinit) (seconds_of_word v) refl at)),
+                                                      second name.Enter name.Sysinit part.Seconds (λ v at. or_left _ _ (both_some Enter (Some stage.Sysinit) (seconds_of_word v) refl at)),
                                                       (
-                                                        second name.Enter name.Boot part.Seconds (λ v at. left _ _ (both_some Enter (Some stage.Boot) (seconds_of_word v) refl at)),
+                                                        second name.Enter name.Boot part.Seconds (λ v at. or_left _ _ (both_some Enter (Some stage.Boot) (seconds_of_word v) refl at)),
                                                         (
-                                                          three name.Enter part.Level part.Seconds (λ w v is at. left _ _ (both_some Enter (stage_of_word w) (seconds_of_word v) (level_stage w is) at)),
+                                                          three name.Enter part.Level part.Seconds (λ w v is at. or_left _ _ (both_some Enter (stage_of_word w) (seconds_of_word v) (level_stage w is) at)),
                                                           (
-                                                            second name.Got name.Call part.Letter (λ v at. left _ _ (mapped Got (option_map got.Call (letter_of_word v)) (mapped got.Call (letter_of_word v) at))),
+                                                            second name.Got name.Call part.Letter (λ v at. or_left _ _ (mapped Got (option_map got.Call (letter_of_word v)) (mapped got.Call (letter_of_word v) at))),
                                                             (
                                                               three_names name.Got name.Power name.Fail refl,
                                                               (
@@ -509,15 +494,15 @@ are_read = (
                                                                         (
                                                                           three_names name.Got name.Nothing name.Character refl,
                                                                           (
-                                                                            second name.Handed name.Cut part.Count (λ v at. left _ _ (mapped Handed (option_map handed.Cut (number_read (2 ^ 64) v)) (mapped handed.Cut (number_read (2 ^ 64) v) at))),
+                                                                            second name.Handed name.Cut part.Count (λ v at. or_left _ _ (mapped Handed (option_map handed.Cut (number_read (2 ^ 64) v)) (mapped handed.Cut (number_read (2 ^ 64) v) at))),
                                                                             (
-                                                                              second name.Handed name.Older part.Count (λ v at. left _ _ (mapped Handed (option_map handed.Older (number_read (2 ^ 64) v)) (mapped handed.Older (number_read (2 ^ 64) v) at))),
+                                                                              second name.Handed name.Older part.Count (λ v at. or_left _ _ (mapped Handed (option_map handed.Older (number_read (2 ^ 64) v)) (mapped handed.Older (number_read (2 ^ 64) v) at))),
                                                                               (
-                                                                                four name.Got (part.Word name.Level) part.Level part.Seconds (λ w v u is at on. ap (λ t. is_read (codes "got" ∷ t ∷ v ∷ u ∷ [])) (same_id-is w (codes "level") is) ∙ left _ _ (both_some level_wanted (level_of_word v) (seconds_of_word u) at on)),
+                                                                                four name.Got (part.Word name.Level) part.Level part.Seconds (λ w v u is at on. ap (λ t. is_read (codes "got" ∷ t ∷ v ∷ u ∷ [])) (same_id-is w (codes "level") is) ∙ or_left _ _ (both_some level_wanted (level_of_word v) (seconds_of_word u) at on)),
                                                                                 (
-                                                                                  four name.Reaped part.Id part.Child (part.Word name.Killed) (λ w v u is at on. ap (λ t. is_read (codes "reaped" ∷ w ∷ v ∷ t ∷ [])) (same_id-is u (codes "killed") on) ∙ left _ _ (three_some Reaped (id_read w) (child_of_word v) (Some Killed) is at refl)),
+                                                                                  four name.Reaped part.Id part.Child (part.Word name.Killed) (λ w v u is at on. ap (λ t. is_read (codes "reaped" ∷ w ∷ v ∷ t ∷ [])) (same_id-is u (codes "killed") on) ∙ or_left _ _ (three_some Reaped (id_read w) (child_of_word v) (Some Killed) is at refl)),
                                                                                   (
-                                                                                    five name.Reaped part.Id part.Child (part.Word name.Exit) part.Code (λ w v u x is at on so. ap (λ t. is_read (codes "reaped" ∷ w ∷ v ∷ t ∷ x ∷ [])) (same_id-is u (codes "exit") on) ∙ left _ _ (three_some Reaped (id_read w) (child_of_word v) (code_of_word x) is at (mapped Exit (number_read 256 x) so))),
+                                                                                    five name.Reaped part.Id part.Child (part.Word name.Exit) part.Code (λ w v u x is at on so. ap (λ t. is_read (codes "reaped" ∷ w ∷ v ∷ t ∷ x ∷ [])) (same_id-is u (codes "exit") on) ∙ or_left _ _ (three_some Reaped (id_read w) (child_of_word v) (code_of_word x) is at (mapped Exit (number_read 256 x) so))),
                                                                                     tt,
                                                                                   ),
                                                                                 ),

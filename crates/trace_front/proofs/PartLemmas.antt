@@ -26,13 +26,10 @@ use Rattle.init_words.specs.Ids.{is_id, is_id_byte, id_read, same_id}
 use Rattle.init_words.proofs.Same.{same_id-is, same_id-self}
 use Rattle.inittab_text.specs.declared.tables.TheConstants.{ENTRY_LIMIT}
 use Rattle.trace_text.specs.Lines.{level_word, letter_word, words_behind}
-use Rattle.trace_text.specs.Reading.{level_of_word, letter_of_word, own_letter, words_in}
-use Rattle.trace_text.proofs.LineWords.{choice, nothing, id_own, level_own}
+use Rattle.trace_text.specs.Reading.{level_of_word, letter_of_word, words_in}
+use Rattle.trace_text.proofs.LineWords.{id_own, level_own, letter_own}
 use Rattle.trace_text.proofs.LineTexts.{lacks_low}
-use Rattle.init_words.specs.Levels.{letter_code, letter_read}
-use Rattle.std.proofs.lemmas.Option.{same_Some}
 use Rattle.std.proofs.Math.Seq.{drop-cons}
-use Rattle.std.proofs.lemmas.Bool.{eqb-true}
 use Rattle.trace_front.specs.declared.forms.Name.{Name}
 use Rattle.trace_front.specs.declared.forms.Name.TheVariants as name
 use Rattle.trace_front.specs.declared.forms.Part.{Part}
@@ -213,15 +210,6 @@ letter-clean : (letter : Letter) → Clean (letter_word letter)
 letter-clean A = (refl, refl)
 letter-clean B = (refl, refl)
 letter-clean C = (refl, refl)
-
-own_letter_is : (code : ℕ) (o : Option Letter) (letter : Letter) → own_letter code o ≡ Some letter → letter_code letter ≡ code
-own_letter_is code None letter is = nothing letter is
-own_letter_is code (Some k) letter is = choice (letter_code k == code) (Some k) None letter is (λ holds at. let same : k ≡ letter = same_Some k letter at in subst (λ l. letter_code l ≡ code) same (eqb-true (letter_code k) code holds)) (nothing letter)
-
-letter_own : (word : List ℕ) (letter : Letter) → letter_of_word word ≡ Some letter → letter_word letter ≡ word
-letter_own [] letter is = nothing letter is
-letter_own (code ∷ []) letter is = ap (λ c. c ∷ []) (own_letter_is code (letter_read code) letter is)
-letter_own (code ∷ b ∷ word) letter is = nothing letter is
 
 number-clean : (limit : ℕ) (word : List ℕ) → limit ≤ 2 ^ 64 → is_some (number_read limit word) ≡ true → Clean word
 number-clean limit word low is =

@@ -3,10 +3,8 @@
 use Rattle.std.proofs.Common.{◌≡◌, ◌≤◌, refl, sym, ◌∙◌, ap, inl, inr, ℕ, Bool, true, false, not, ◌&&◌, ◌||◌, cond, List, [], ◌∷◌, ◌++◌, map, filter, find, length, Option, Some, None, is_some}
 use Rattle.std.specs.List.{list_any}
 use Rattle.std.specs.Option.{option_map, option_map_or}
-use Rattle.std.proofs.lemmas.Bool.{false≢true, and_parts, and_from, and_right, or_left, or_right, or_from, not_from_true, not_from_false, not-true}
-use Rattle.std.proofs.lemmas.List.Folds.{list_any-append}
+use Rattle.std.proofs.lemmas.Bool.{false≢true, and_parts, and_from, and_right, not_from_true, not_from_false, not-true}
 use Rattle.std.proofs.lemmas.Option.{none-some, same_Some}
-use Rattle.init_words.specs.declared.entries.Entry.{Entry}
 use Rattle.init_words.specs.declared.orders.Ask.{Ask}
 use Rattle.init_words.specs.declared.orders.Ask.TheVariants.{Start, Look, Term, Kill}
 use Rattle.init_words.specs.declared.orders.Answer.{Answer}
@@ -25,8 +23,8 @@ use Rattle.init_trace.specs.Spells.{Signal, untold_hits, told_at, is_ripe, stop_
 use Rattle.init_trace.specs.Lawful.{is_placed}
 use Rattle.init_trace.specs.Due.{is_due, left_ids, wants_look}
 use Rattle.init_trace.specs.Sound.{may_come, is_sound}
-use Rattle.init_words.proofs.Same.{same_id-is, same_id-self}
-use Rattle.init_words.proofs.Tests.{both_ways, falsely, or_either, not_from, any_less, any_filtered, any_without, found_any}
+use Rattle.init_words.proofs.Same.{same_id-is}
+use Rattle.init_words.proofs.Tests.{both_ways, falsely, or_either, any_less, any_without, found_any}
 use Rattle.trace_laws.proofs.Tests.{is_order-is}
 use Rattle.trace_laws.proofs.Orders.{cleared, undone_is_open, quiet_looks, told_other, known_kept, same_has}
 use Rattle.trace_laws.proofs.Lone.{only_one}
@@ -34,7 +32,7 @@ use Rattle.trace_laws.proofs.Dues.{is_signal, MayStop, due_facts}
 use Rattle.trace_laws.proofs.Keeps.{start_undone, sound_holds, sound_ind, placed_spared, not_placed, run_placed, start_stays, stop_excluded}
 use Rattle.trace_laws.proofs.Told.{answered_untold, answers_open, same_find, told_child}
 use Rattle.trace_laws.proofs.Known.{known_single}
-use Rattle.trace_laws.proofs.Records.{order_known, ids_listed}
+use Rattle.trace_laws.proofs.Records.{order_known}
 use Rattle.trace_laws.proofs.Signals.{OneRipe, kill_ripe}
 use Rattle.trace_laws.proofs.Spells.{spell_none, missed_still, missed_told, spell_still, spell_nudge, spell_enter, spell_table, spell_birth, spell_told, answered_tells}
 
@@ -77,14 +75,14 @@ quiet_signal id ask past quiet is signal = read ask (quiet_looks id ask past qui
 found_has : (id : List ℕ) (xs : List Child) (child : Child) → find (is_of id) xs ≡ Some child → has_child id xs ≡ true
 found_has id xs child there = sym (found_any (λ (x : Child). x) (is_of id) xs) ∙ ap (λ o. is_some (option_map (λ (x : Child). x) o)) there
 
-found_own : (id : List ℕ) (xs : List Child) (child : Child) → find (is_of id) xs ≡ Some child → id ≡ child.id
+pub found_own : (id : List ℕ) (xs : List Child) (child : Child) → find (is_of id) xs ≡ Some child → id ≡ child.id
 found_own id [] child there = absurd (none-some child there)
 found_own id (x ∷ xs) child there = split (same_id id x.id) refl there (found_own id xs child) where
   split : (b : Bool) → same_id id x.id ≡ b → cond b (Some x) (find (is_of id) xs) ≡ Some child → (find (is_of id) xs ≡ Some child → id ≡ child.id) → id ≡ child.id
   split true same there rest = same_id-is id x.id same ∙ ap (λ (y : Child). y.id) (same_Some x child there)
   split false differ there rest = rest there
 
-found_holds : (p q : Child → Bool) (xs : List Child) (child : Child) → length (filter p xs) ≤ 1 → find p xs ≡ Some child → list_any (λ x. p x && q x) xs ≡ true → q child ≡ true
+pub found_holds : (p q : Child → Bool) (xs : List Child) (child : Child) → length (filter p xs) ≤ 1 → find p xs ≡ Some child → list_any (λ x. p x && q x) xs ≡ true → q child ≡ true
 found_holds p q [] child one there any = absurd (none-some child there)
 found_holds p q (x ∷ xs) child one there any = split (p x) one there any (found_holds p q xs child) where
   split : (b : Bool) → length (cond b (x ∷ filter p xs) (filter p xs)) ≤ 1 → cond b (Some x) (find p xs) ≡ Some child → (b && q x || list_any (λ y. p y && q y) xs) ≡ true → (length (filter p xs) ≤ 1 → find p xs ≡ Some child → list_any (λ y. p y && q y) xs ≡ true → q child ≡ true) → q child ≡ true
@@ -214,28 +212,6 @@ left_apart goal past sound id there = apart past there where
 abbrev pub are_apart : List (List ℕ) → Bool
 are_apart [] = true
 are_apart (id ∷ ids) = not (list_any (same_id id) ids) && are_apart ids
-
-apart_append : (xs ys : List (List ℕ)) → are_apart xs ≡ true → are_apart ys ≡ true → ((id : List ℕ) → list_any (same_id id) xs ≡ true → list_any (same_id id) ys ≡ false) → are_apart (xs ++ ys) ≡ true
-apart_append [] ys first second other = second
-apart_append (x ∷ xs) ys first second other =
-    let parts = and_parts (not (list_any (same_id x) xs)) (are_apart xs) first in
-    and_from (not (list_any (same_id x) (xs ++ ys))) (are_apart (xs ++ ys)) (not_from (list_any (same_id x) (xs ++ ys)) (list_any-append (same_id x) xs ys ∙ or_from (list_any (same_id x) xs) (list_any (same_id x) ys) (not-true (list_any (same_id x) xs) parts.0) (other x (or_left (same_id x x) (list_any (same_id x) xs) (same_id-self x))))) (apart_append xs ys parts.1 second (λ id there. other id (or_right (same_id id x) (list_any (same_id id) xs) there)))
-
-apart_filter : (p : List ℕ → Bool) (xs : List (List ℕ)) → are_apart xs ≡ true → are_apart (filter p xs) ≡ true
-apart_filter p [] h = refl
-apart_filter p (x ∷ xs) h = split (p x) (apart_filter p xs parts.1) where
-  parts : (not (list_any (same_id x) xs) ≡ true) × (are_apart xs ≡ true)
-  parts = and_parts (not (list_any (same_id x) xs)) (are_apart xs) h
-
-  split : (b : Bool) → are_apart (filter p xs) ≡ true → are_apart (cond b (x ∷ filter p xs) (filter p xs)) ≡ true
-  split true rest = and_from (not (list_any (same_id x) (filter p xs))) (are_apart (filter p xs)) (not_from (list_any (same_id x) (filter p xs)) (falsely (list_any (same_id x) (filter p xs)) (list_any (same_id x) xs) (any_filtered (same_id x) p xs) (not-true (list_any (same_id x) xs) parts.0))) rest
-  split false rest = rest
-
-table_apart : (es : List Entry) → is_distinct es ≡ true → are_apart (ids_of es) ≡ true
-table_apart [] h = refl
-table_apart (e ∷ es) h =
-    let parts = and_parts (not (list_any (has_id e.id) es)) (is_distinct es) h in
-    and_from (not (list_any (same_id e.id) (ids_of es))) (are_apart (ids_of es)) (ap not (ids_listed e.id es) ∙ parts.0) (table_apart es parts.1)
 
 -- whether an id has a known child after an answer, by whether it had one before
 abbrev pub has_after : Answer → Bool → Bool

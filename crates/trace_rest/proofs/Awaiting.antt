@@ -3,7 +3,6 @@ use Rattle.std.proofs.Common.{◌≡◌, ◌≤◌, refl, sym, ◌∙◌, ap, su
 use Rattle.std.specs.List.{list_any, cons_option}
 use Rattle.std.specs.Option.{option_map, option_map_or}
 use Rattle.std.proofs.lemmas.Bool.{false≢true, and_parts, and_from}
-use Rattle.std.proofs.lemmas.Option.{none-some, same_Some}
 use Rattle.std.proofs.lemmas.List.Elements.{filter_agree}
 use Rattle.init_words.specs.declared.entries.Entry.{Entry}
 use Rattle.init_words.specs.declared.stages.Stage.{Stage}
@@ -37,6 +36,7 @@ use Rattle.trace_rest.specs.declared.Why.TheVariants.{Excluded, WaitedFor, InThe
 use Rattle.trace_rest.specs.Rest.{why_of_entry, why_awaited, is_awaited, awaited_children}
 use Rattle.trace_rest.specs.Awaiting.{with_why, in_record_order, awaited_known, is_wanted_in, why_by_entry, why_of_record, awaited_of_record, awaited_by}
 use Rattle.trace_rest.proofs.Settled.{found_id}
+use Rattle.trace_laws.proofs.Stopping.{found_own}
 
 -- lists
 same_filter_map : {X Y : Type 0} (f g : X → Option Y) → ((x : X) → f x ≡ g x) → (xs : List X) → filter_map f xs ≡ filter_map g xs
@@ -112,14 +112,6 @@ unsaid past child h = by (why_awaited past child) h where
   by : (o : Option Why) → is_some o ≡ false → option_map {U = Awaited} (λ why. record { id = child.id; number = child.number; why = why }) o ≡ None
   by None h = refl
   by (Some why) h = absurd (false≢true (sym h))
-
--- the known child of an id
-found_own : (id : List ℕ) (xs : List Child) (child : Child) → find (is_of id) xs ≡ Some child → id ≡ child.id
-found_own id [] child there = absurd (none-some child there)
-found_own id (x ∷ xs) child there = by (same_id id x.id) refl there (found_own id xs child) where
-  by : (b : Bool) → same_id id x.id ≡ b → cond b (Some x) (find (is_of id) xs) ≡ Some child → (find (is_of id) xs ≡ Some child → id ≡ child.id) → id ≡ child.id
-  by true same there rest = same_id-is id x.id same ∙ ap (λ (y : Child). y.id) (same_Some x child there)
-  by false differ there rest = rest there
 
 module _ (goal : Goal) (past : List Event) (sound : is_sound goal past ≡ true) where
   known_found : (id : List ℕ) → option_and_then (with_why past) (find (is_of id) (awaited_known past)) ≡ option_and_then (with_why past) (child_known id past)

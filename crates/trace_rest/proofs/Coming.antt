@@ -2,7 +2,7 @@
 use Rattle.std.proofs.Common.{◌≡◌, ◌≤◌, ◌<◌, refl, sym, ◌∙◌, ap, subst, ℕ, Bool, zero, suc, true, false, ◌||◌, cond, List, [], ◌∷◌, ◌++◌, map, filter, None, is_none, arith}
 use Rattle.std.specs.List.{list_any, list_all}
 use Rattle.std.specs.Option.{option_map}
-use Rattle.std.proofs.lemmas.Bool.{false≢true, and_from, or_parts}
+use Rattle.std.proofs.lemmas.Bool.{false≢true, and_from, or_parts, false_from_ne_true}
 use Rattle.init_words.specs.declared.entries.Entry.{Entry}
 use Rattle.init_words.specs.Ids.{same_id}
 use Rattle.init_words.proofs.Same.{same_id-self}
@@ -36,10 +36,6 @@ use Rattle.trace_rest.specs.Coming.{with_own_steps, after_own_steps}
 use Rattle.trace_rest.proofs.Idle.{rest_unwished}
 
 -- under a fit the records stand in the order of the table
-not_true : (b : Bool) → (b ≡ true → ⊥) → b ≡ false
-not_true true h = absurd (h refl)
-not_true false h = refl
-
 unlisted : (lasts : LastStatuses) (past : List Event) (ids : List (List ℕ)) → ((id : List ℕ) → list_any (same_id id) ids ≡ true → act_of id (table_of past) ≡ None) → list_all (λ (slot : SlotState). is_none slot.table_act) (map (record_of lasts past) ids) ≡ true
 unlisted lasts past [] none = refl
 unlisted lasts past (id ∷ ids) none = and_from (is_none (act_of id (table_of past))) (list_all (λ (slot : SlotState). is_none slot.table_act) (map (record_of lasts past) ids)) (ap is_none (none id (ap (λ b. b || list_any (same_id id) ids) (same_id-self id)))) (unlisted lasts past ids (λ x there. none x (later (same_id x id) (list_any (same_id x) ids) there))) where
@@ -57,7 +53,7 @@ records_in_order lasts goal past sound = in_order_along lasts past (table_of pas
   kept id = has_child id (known_children past)
 
   none : (id : List ℕ) → list_any (same_id id) (left_ids past) ≡ true → act_of id (table_of past) ≡ None
-  none id there = ap (option_map (λ (x : Entry). x.act)) (find_none (has_id id) (table_of past) (not_true (list_any (has_id id) (table_of past)) (λ listed. false≢true (sym (left_apart goal past sound id listed) ∙ there))))
+  none id there = ap (option_map (λ (x : Entry). x.act)) (find_none (has_id id) (table_of past) (false_from_ne_true (list_any (has_id id) (table_of past)) (λ listed. false≢true (sym (left_apart goal past sound id listed) ∙ there))))
 
 module _ (goal : Goal) (past : List Event) (c : CoreState) (sound : is_sound goal past ≡ true) (fits : Fits c goal past) where
   due_now : decide c ≡ first (due goal past)

@@ -21,7 +21,7 @@ use Rattle.init_trace.specs.Sound.{is_sound}
 use Rattle.trace_rest.specs.declared.Why.{Why}
 use Rattle.trace_rest.specs.declared.Why.TheVariants.{Excluded, WaitedFor, InTheWay}
 use Rattle.trace_rest.specs.Rest.{why_awaited, awaited_children, is_level_announced, is_empty, is_stopping, is_looked_at}
-use Rattle.trace_rest.proofs.Rows.{entry, opening, started, goes_to, entered, stopped, waited_for, in_its_way}
+use Rattle.trace_rest.proofs.Rows.{entry, opening, started, goes_to, entered, stopped, waited_for}
 
 -- the ten ranks, and what is due of all of them but the one of this number
 abbrev ranks : Goal → List Event → List (List Step)
@@ -46,9 +46,6 @@ without (suc n) (steps ∷ more) = steps ∷ without n more
 abbrev due_without : ℕ → Goal → List Event → List Step
 due_without rank goal past = all_of (without rank (ranks goal past))
 
-all_ranks : (goal : Goal) (past : List Event) → all_of (ranks goal past) ≡ due goal past
-all_ranks goal past = refl
-
 -- what the clauses ask of a trace at whose end no step is due and no order is open
 abbrev is_accounted_for : List Event → Bool
 is_accounted_for past = not (is_idle past) || is_level_announced past || not (is_empty (awaited_children past))
@@ -64,9 +61,6 @@ respawns = (entry (codes "r") (At level.L3 ∷ []) act.Respawn) ∷ []
 
 abbrev settled : List Event
 settled = Settle level.L3 ∷ started (codes "r") 7 ++ entered level.L3 respawns
-
-first_stage : Breaks 1 (opening level.L3) (NewTable [] ∷ []) (is_accounted_for (NewTable [] ∷ []))
-first_stage = record { sound = refl; rests = refl; idle = refl; broken = refl }
 
 reexec : Breaks 2 (opening level.L3) (Got got.Reexec ∷ settled) (not (wish_stands (Got got.Reexec ∷ settled)))
 reexec = record { sound = refl; rests = refl; idle = refl; broken = refl }
@@ -128,5 +122,3 @@ excluded = record { sound = refl; rests = refl; broken = refl }
 waited : Needs WaitedFor (opening level.L3) waited_for
 waited = record { sound = refl; rests = refl; broken = refl }
 
-in_the_way : Needs InTheWay (opening level.L3) in_its_way
-in_the_way = record { sound = refl; rests = refl; broken = refl }

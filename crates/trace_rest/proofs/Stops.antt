@@ -1,5 +1,5 @@
 -- What came of the children at a rest: no signal and no look is due to one.
-use Rattle.std.proofs.Common.{◌≡◌, ◌≤◌, refl, sym, ◌∙◌, ap, ℕ, Bool, true, false, not, ◌&&◌, ◌||◌, cond, List, [], ◌∷◌, ◌++◌, Option, Some, None, is_none, is_some, filter, find, length}
+use Rattle.std.proofs.Common.{◌≡◌, refl, sym, ◌∙◌, ap, ℕ, Bool, true, false, not, ◌&&◌, ◌||◌, cond, List, [], ◌∷◌, ◌++◌, Option, Some, None, is_none, is_some, find}
 use Rattle.std.specs.List.{list_any, list_all}
 use Rattle.std.proofs.lemmas.Bool.{false≢true, false_from_ne_true, and_parts, and_from, or_left, or_right, or_parts, or_from, not-true}
 use Rattle.std.proofs.lemmas.Option.{none-some, same_Some}
@@ -7,7 +7,7 @@ use Rattle.init_words.specs.declared.orders.Ask.{Ask}
 use Rattle.init_words.specs.declared.orders.Ask.TheVariants.{Look, Term, Kill}
 use Rattle.init_words.specs.Ids.{same_id}
 use Rattle.init_words.proofs.Same.{same_id-is, same_id-self}
-use Rattle.init_words.proofs.Tests.{both_ways, falsely, not_from, or_either, any_less, Passing, passing}
+use Rattle.init_words.proofs.Tests.{both_ways, falsely, not_from, or_either, Passing, passing}
 use Rattle.init_trace.specs.declared.steps.Step.TheVariants.{Order}
 use Rattle.init_trace.specs.declared.steps.Goal.{Goal}
 use Rattle.init_trace.specs.Event.{Event}
@@ -17,12 +17,11 @@ use Rattle.init_trace.specs.Spells.{Signal, is_ripe, stop_by, stop_due, is_misse
 use Rattle.init_trace.specs.Wishes.{wish_stands}
 use Rattle.init_trace.specs.Due.{step_if, steps_if, record_ids, stop_step, stops_of, stops_among, wants_look, can_look, looks_among}
 use Rattle.init_trace.specs.Sound.{is_sound}
-use Rattle.trace_laws.proofs.Lone.{only_one}
 use Rattle.trace_laws.proofs.Orders.{idle_none}
 use Rattle.trace_laws.proofs.Settling.{same_any}
 use Rattle.trace_laws.proofs.Births.{at_moment}
 use Rattle.trace_laws.proofs.Known.{quiet_known, known_single}
-use Rattle.trace_laws.proofs.Stopping.{hits_are, hits_shape}
+use Rattle.trace_laws.proofs.Stopping.{hits_are, hits_shape, found_holds}
 use Rattle.trace_laws.proofs.Records.{child_in_records}
 use Rattle.trace_rest.specs.Rest.{AtRest, are_in_force, is_stopping, is_looked_at}
 use Rattle.trace_rest.proofs.Rest.{Rest, at_rest, nil_parts, none_if, none_of, no_wish, idle_quiet, not_first}
@@ -93,13 +92,6 @@ under_way child past are h = by (is_excluded past child) (is_missed child past) 
   by true false h = force h
 
 -- the child that an id's search finds
-found_holds : (p q : Child → Bool) (xs : List Child) (child : Child) → length (filter p xs) ≤ 1 → find p xs ≡ Some child → list_any (λ x. p x && q x) xs ≡ true → q child ≡ true
-found_holds p q [] child one there any = absurd (none-some child there)
-found_holds p q (x ∷ xs) child one there any = split (p x) one there any (found_holds p q xs child) where
-  split : (b : Bool) → length (cond b (x ∷ filter p xs) (filter p xs)) ≤ 1 → cond b (Some x) (find p xs) ≡ Some child → (b && q x || list_any (λ y. p y && q y) xs) ≡ true → (length (filter p xs) ≤ 1 → find p xs ≡ Some child → list_any (λ y. p y && q y) xs ≡ true → q child ≡ true) → q child ≡ true
-  split true one there any rest = ap q (sym (same_Some x child there)) ∙ or_either (q x) (list_any (λ y. p y && q y) xs) any (λ here. here) (λ more. both_ways (list_any p xs) (any_less (λ y. p y && q y) p (λ y both. (and_parts (p y) (q y) both).0) xs more) (only_one p x xs one))
-  split false one there any rest = rest one there any
-
 found_some : (p : Child → Bool) (xs : List Child) → list_any p xs ≡ true → (child : Child) × (find p xs ≡ Some child)
 found_some p [] h = absurd (false≢true h)
 found_some p (x ∷ xs) h = split (p x) h (found_some p xs) where

@@ -415,7 +415,7 @@ begun-text h more is = rw (first_line h more is) (found_by h more is (said h is)
 -- AND WHAT IS FOUND BEGINS THE TEXT
 
 -- no table is read from words
-no_use : (given : List ℕ) → words_read (codes "use" ∷ given ∷ []) ≡ None
+pub no_use : (given : List ℕ) → words_read (codes "use" ∷ given ∷ []) ≡ None
 no_use given = by (is_id given)
   where
     by : (b : Bool) → option_and_then {U = Event} (λ id. None) (cond b (Some given) None) ≡ None

@@ -76,7 +76,7 @@ own_letter_is : (code : ℕ) (o : Option Letter) (letter : Letter) → own_lette
 own_letter_is code None letter is = nothing letter is
 own_letter_is code (Some k) letter is = choice (letter_code k == code) (Some k) None letter is (λ holds at. let same : k ≡ letter = same_Some k letter at in subst (λ l. letter_code l ≡ code) same (eqb-true (letter_code k) code holds)) (nothing letter)
 
-letter_own : (word : List ℕ) (letter : Letter) → letter_of_word word ≡ Some letter → letter_word letter ≡ word
+pub letter_own : (word : List ℕ) (letter : Letter) → letter_of_word word ≡ Some letter → letter_word letter ≡ word
 letter_own [] letter is = nothing letter is
 letter_own (code ∷ []) letter is = ap (λ c. c ∷ []) (own_letter_is code (letter_read code) letter is)
 letter_own (code ∷ b ∷ word) letter is = nothing letter is

@@ -58,12 +58,6 @@ lt-false n d is = grind (arith, nat_tests)
 false-lt : (n d : ℕ) → d ≤ n → nat_lt n d ≡ false
 false-lt n d is = grind (arith, nat_tests)
 
-pub finished_more : (text more : List ℕ) → is_unfinished text ≡ false → is_unfinished (text ++ more) ≡ false
-finished_more text more finished =
-    let at = finished_cut text finished in
-    false-lt (newlines (text ++ more)) (lines_due (text ++ more))
-    (omega (arith, lt-false (newlines text) (lines_due text) finished, newlines-append text more, due_cut text at.0.0 at.0.1 at.1, due_cut (text ++ more) at.0.0 (at.0.1 ++ more) (cut-more text more at.0.0 at.0.1 at.1)))
-
 -- the table of so many lines that are there is that of a longer text
 table_more : (n : ℕ) (text more : List ℕ) → n ≤ newlines text → table_begun n text ≡ None → table_begun n (text ++ more) ≡ None
 table_more n text more enough none = sym whole where
@@ -178,9 +172,6 @@ left_over bytes more at happening begins =
     let whole : bytes ≡ (take at bytes ++ event_text happening) ++ more =
     sym (take-append-drop at bytes) ∙ ap (λ t. take at bytes ++ t) (sym begins) ∙ sym (append_assoc (take at bytes) (event_text happening) more) in
     ap (λ t. drop (length t - length more) t) whole ∙ drop_front (take at bytes ++ event_text happening) more
-
-pub left_of_text : (text more : List ℕ) (happening : Event) → event_text happening ++ more ≡ text → event_text happening ++ drop (length text - length more) text ≡ text
-left_of_text text more happening begins = ap (λ t. event_text happening ++ t) (left_over text more 0 happening begins) ∙ begins
 
 -- the newlines of a happening, and those behind it
 pub lines_off : (text more : List ℕ) (happening : Event) → is_in_range happening ≡ true → event_text happening ++ more ≡ text → newlines text ≡ line_count happening + newlines more

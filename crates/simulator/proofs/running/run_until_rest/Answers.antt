@@ -7,9 +7,10 @@ use Rattle.core_model.proofs.Fitted.{all_on}
 use Rattle.simulator.specs.declared.running.SimFault.TheVariants as fault
 use Rattle.init_words.proofs.Tests.{err_is}
 use Rattle.core_model.specs.State.{CoreState}
-use Rattle.simulator.proofs.Keeping.{lasts_step, same_generation}
+use Rattle.simulator.proofs.Keeping.{lasts_step}
 use Rattle.simulator.proofs.Moves.{at_rest, moment_step, went_step, goes_step, leaves_behind, memory_after, more_run}
 use Rattle.simulator.proofs.running.run_until_rest.Goals as goal
+use Rattle.reexec_state.proofs.Generations.{step_same}
 
 -- init rests
 pub returns-in_default-clause-ok : goal.returns-in_default-clause-ok
@@ -66,7 +67,7 @@ steps-preserved g c =
     let moved = moment_step c.steps.core c.next-step.new.self c.steps.side c.take.new.self c.next-step.result c.in-Some.happening c.next-step.ensures.due c.next-step.ensures.fits c.in-Some.ensures.some.1 c.in_ok-take.ensures.ok
     (lasts_step c.steps.core c.next-step.new.self c.next-step.result c.next-step.ensures.step c.next-step.ensures.state) in
     record {
-      generation = ap (λ (core : CoreState). core.heads.generation) c.next-step.ensures.state ∙ same_generation c.next-step.result c.steps.core ∙ c.steps.invariant.generation;
+      generation = ap (λ (core : CoreState). core.heads.generation) c.next-step.ensures.state ∙ step_same c.next-step.result c.steps.core ∙ c.steps.invariant.generation;
       some = let (goal, past, moment) = c.steps.invariant.some in (goal, c.in-Some.happening ∷ past, moved goal past moment);
       all = λ goal past before. went_step c.steps.core c.next-step.new.self c.steps.side c.take.new.self c.next-step.result c.in-Some.happening c.next-step.ensures.due c.next-step.ensures.fits c.in-Some.ensures.some.1 c.in_ok-take.ensures.ok
           (lasts_step c.steps.core c.next-step.new.self c.next-step.result c.next-step.ensures.step c.next-step.ensures.state)
@@ -78,7 +79,7 @@ steps-preserved-in_ok-take g c =
     let moved = moment_step c.steps.core c.next-step.new.self c.steps.side c.take.new.self c.next-step.result c.in-Some.happening c.next-step.ensures.due c.next-step.ensures.fits c.in-Some.ensures.some.1 c.in_ok-take.ensures.ok
     (lasts_step c.steps.core c.next-step.new.self c.next-step.result c.next-step.ensures.step c.next-step.ensures.state) in
     record {
-      generation = ap (λ (core : CoreState). core.heads.generation) c.next-step.ensures.state ∙ same_generation c.next-step.result c.steps.core ∙ c.steps.invariant.generation;
+      generation = ap (λ (core : CoreState). core.heads.generation) c.next-step.ensures.state ∙ step_same c.next-step.result c.steps.core ∙ c.steps.invariant.generation;
       some = let (goal, past, moment) = c.steps.invariant.some in (goal, c.in-Some.happening ∷ past, moved goal past moment);
       all = λ goal past before. went_step c.steps.core c.next-step.new.self c.steps.side c.take.new.self c.next-step.result c.in-Some.happening c.next-step.ensures.due c.next-step.ensures.fits c.in-Some.ensures.some.1 c.in_ok-take.ensures.ok
           (lasts_step c.steps.core c.next-step.new.self c.next-step.result c.next-step.ensures.step c.next-step.ensures.state)
