@@ -134,4 +134,3 @@ order_adopt table slots = order_joined table slots (left_slots table slots) (lef
 pub order_new : (table : List Entry) → IsInOrder table (map new_slot table)
 order_new [] = refl
 order_new (e ∷ table) = (refl, refl, order_new table)
-

@@ -121,4 +121,3 @@ excluded = record { sound = refl; rests = refl; broken = refl }
 
 waited : Needs WaitedFor (opening level.L3) waited_for
 waited = record { sound = refl; rests = refl; broken = refl }
-
