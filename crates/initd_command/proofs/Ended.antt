@@ -116,8 +116,6 @@ of_trace service fault error path reason is at =
 pub of_memory : (service : RunSaid) (fault : RunFault) → fault ≡ why.Memory → IsOfFault service fault no_memory
 of_memory service fault is = subst (λ f. IsOfFault service f no_memory) (sym is) refl
 
-)
-
 -- what is so of a fault is so of it handed on
 pub handed_on : {T : Type 0} (r : Result T RunFault) (given : RunFault) (So : RunFault → Type 0) → IsErrAnd r (λ fault. fault ≡ given) → So given → IfErr r So
 handed_on (Ok value) given So is so = tt
