@@ -22,41 +22,40 @@ use std::io::Write;
 use std::rt::Files;
 
 /// What standard error gets of words that are no command line, after a line that says why.
-pub const USAGE: &str =
-    "usage: initd run [--inittab P] [--inittab-dir DIR] [--initctl P] [--fresh] [--state P]
-                 [--trace P [--brief]] [--judge] [--level L] [--turns N | --forever] [--drain]
-                 [--pause SEC] [--result ID] [--verbose] [--logs DIR] [--strict]
+pub const USAGE: &str = "usage: initd run [OPTION]..
        initd simulate [--level L] TABLE SCRIPT
        initd check TRACE
        initd --version
-  --inittab  the inittab(5); inittab where it is left out
-  --inittab-dir
-             the folder whose files NAME.tab are read after the inittab; none where it is left out
-  --initctl  the file to which telinit appends requests; initctl where it is left out
-  --fresh    pass over the requests that the file has already
-  --state    the file that carries init's state where init re-executes itself;
-             initd.state where it is left out
-  --trace    the file that the trace of the run is written to; none where it is left out
-  --brief    leave looks that found nothing and idle rounds out of the trace
-  --judge    judge each happening while the run goes on, as check judges a trace, and tell a breach
-             at once; the run ends with 2 then, in place of 0 or 3
-  --turns    the greatest number of turns, 1 to 1000000000; 1000000 where it is left out
-  --forever  no limit of turns; not with --turns
-  --drain    end where nothing is left to do and nothing runs
-  --pause    the seconds between two turns, 0.01 to 60, with at most two digits after the point;
-             1 where it is left out
-  --result   end with the last exit status of the entry ID, in place of 0; 137 where it was killed,
-             4 where it never ended; an ID that the inittab has not is refused
-  --verbose  tell each start and each end of a child, and each file of --inittab-dir that is
-             passed over
-  --logs     the folder that the output of each entry is written to, a file an entry
-  --strict   take no inittab that has a faulty line: the run is refused at its opening, and later
-             the inittab before stays in force
-  L       the runlevel to go to, 0 to 9, S or s; the table's initdefault where it is left out
-  ID      an id of the inittab, 1 to 8 characters
-  TABLE   an inittab(5)
-  SCRIPT  what the system did, one happening a line
-  TRACE   a trace of init, which is judged
+  --inittab P      the inittab(5); inittab where it is left out
+  --inittab-dir DIR
+                   the folder whose files NAME.tab are read after the inittab; none where it is
+                   left out
+  --initctl P      the file to which telinit appends requests; initctl where it is left out
+  --fresh          pass over the requests that the file has already
+  --state P        the file that carries init's state where init re-executes itself; initd.state
+                   where it is left out
+  --trace P        the file that the trace of the run is written to; none where it is left out
+  --brief          leave looks that found nothing and idle rounds out of the trace, of which there
+                   has to be one
+  --judge          judge each happening while the run goes on, as check judges a trace, and tell a
+                   breach at once; the run ends with 2 then, in place of 0 or 3
+  --level L        the runlevel to go to, 0 to 9, S or s, of a simulated run too; the inittab's
+                   initdefault where it is left out
+  --turns N        the greatest number of turns, 1 to 1000000000; 1000000 where it is left out
+  --forever        no limit of turns; it is refused beside a limit
+  --drain          end where nothing is left to do and nothing runs
+  --pause SEC      the seconds between two turns, 0.01 to 60, with at most two digits after the
+                   point; 1 where it is left out
+  --result ID      end with the last exit status of the entry of that id, in place of 0; 137 where
+                   it was killed, 4 where it never ended; an id that the inittab has not is refused
+  --verbose        tell each start and each end of a child, and each file of the inittab's folder
+                   that is passed over
+  --logs DIR       the folder that the output of each entry is written to, a file an entry
+  --strict         take no inittab that has a faulty line: the run is refused at its opening, and
+                   later the inittab before stays in force
+  TABLE            an inittab(5)
+  SCRIPT           what the system did, one happening a line
+  TRACE            a trace of init, which is judged
 ";
 
 /// What is reported where the version could not be written.

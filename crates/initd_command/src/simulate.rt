@@ -11,7 +11,7 @@ use init_words::Level;
 use initd_options::SimulateWords;
 use path_texts::Texts;
 use program_io::DONE;
-use simulator::SimFault;
+use simulator::{SimFault, Untold, simulate};
 use std::alloc::Global;
 use std::io::Write;
 
@@ -55,7 +55,7 @@ pub fn simulate_texts<W: Write, E: Write>(
         (W.contents out.new)
         × Reports ending (E.contents err.old) (E.contents err.new) }
 {
-    let ended = simulator::simulate(alloc, inittab, level, script, out);
+    let ended = simulate::<Global, W, Untold>(alloc, inittab, level, script, out);
     if out.flush().is_err() {
         return report_fault(alloc, script, &SimFault::Write, err);
     }

@@ -1,20 +1,38 @@
--- The command line `initd run [--inittab P] [--inittab-dir DIR] [--initctl P] [--fresh] [--state P] [--trace P
--- [--brief]] [--judge] [--level L] [--turns N | --forever] [--drain] [--pause SEC] [--result ID] [--verbose]
--- [--logs DIR] [--strict]`, by clap's own words, and what it says.
-use Rattle.std.specs.Prelude.{ℕ, Bool, true, false, ◌+◌, ◌-◌, ◌*◌, ◌&&◌, if◌then◌else◌, nat_lt, nat_le, List, [], ◌∷◌, codes, Option, Some, None, option_and_then, option_map, string_bytes}
+-- The options of `initd run`, by clap's own words, and what they say.
+use Rattle.std.specs.Prelude.{◌≡◌, ℕ, Bool, true, false, ◌+◌, ◌-◌, ◌*◌, ◌&&◌, if◌then◌else◌, nat_lt, nat_le, List, [], ◌∷◌, map, codes, Option, Some, None, option_and_then, option_map, string_bytes}
+use Rattle.std.specs.Borrow.{Bor}
 use Rattle.std.specs.Char.{is_ascii_digit}
-use Rattle.clap.specs.Words.{App, Row, Text, first_of, new_app}
+use Rattle.clap.specs.declared.builder.command.Command.{Command, out-Command}
+use Rattle.clap.specs.Words.{App, Row, Rule, Text, app_of, first_of, new_app}
 use Rattle.command_words.specs.CommandLines.{default_rule, switch_rule, value_rule, with_rules}
 use Rattle.init_words.specs.declared.levels.Level.{Level}
 use Rattle.init_words.specs.Ids.{id_read}
 use Rattle.text_lines.specs.Lines.{cut}
 use Rattle.text_lines.specs.Numbers.{number_read}
 use Rattle.initd_options.specs.declared.options.RunWords.{RunWords}
+use Rattle.initd_options.specs.declared.options.Takes.{Takes}
+use Rattle.initd_options.specs.declared.options.Takes.TheVariants.{Nothing, Value, Default}
 use Rattle.initd_options.specs.declared.options.TheConstants.{FOREVER, PAUSE_LIMIT, PAUSE_SECONDS, TURNS_DEFAULT, TURNS_LIMIT}
 use Rattle.initd_options.specs.Values.{is_set, level_said, value_said}
 
-unfoldable pub run_line : App
-run_line = with_rules (new_app (codes "run")) (
+-- the argument of an option
+abbrev pub rule_of : Text → Takes → Rule
+rule_of name Nothing = switch_rule name
+rule_of name Value = value_rule name
+rule_of name (Default value) = default_rule name value.now
+
+-- the arguments of options, by their names and what they take
+abbrev pub rules_of : List (Bor Text × Takes) → List Rule
+rules_of = map (λ option. rule_of option.0.now option.1)
+
+-- `new` is `old` with these arguments after all that it has
+pub record AddsAll (old : Command) (rules : List Rule) (new : Command) : Type 0 where
+  pub whole : app_of new ≡ with_rules (app_of old) rules
+  pub local : (out-Command new).has_globals ≡ (out-Command old).has_globals
+
+-- the options of `initd run`
+abbrev pub run_rules : List Rule
+run_rules =
     default_rule (codes "inittab") (codes "inittab")
     ∷ default_rule (codes "initctl") (codes "initctl")
     ∷ switch_rule (codes "fresh")
@@ -32,7 +50,10 @@ run_line = with_rules (new_app (codes "run")) (
     ∷ switch_rule (codes "brief")
     ∷ switch_rule (codes "judge")
     ∷ switch_rule (codes "strict")
-    ∷ [])
+    ∷ []
+
+unfoldable pub run_line : App
+run_line = with_rules (new_app (codes "run")) run_rules
 
 -- a number of turns: 1 to the limit
 abbrev pub turns_read : Text → Option ℕ

@@ -2,9 +2,9 @@
 
 ghost use Rattle.std.specs.Prelude.{◌≡◌, ◌<◌, codes, option_map, string_bytes, IfErr, IfOk, IfSome, IsSome, None, Some};
 ghost use Rattle.clap.specs.Words.{first_of, found_of, rows_of};
-ghost use Rattle.command_words.specs.CommandLines.{IsLine};
+ghost use Rattle.command_words.specs.CommandLines.{Adds, IsLine};
 ghost use Rattle.command_words.specs.Faults.{reason_of};
-ghost use Rattle.initd_options.specs.Options.{brief_said, digit_read, hundredths_read, is_pause, part_read, pause_said, result_said, run_line, run_of, run_said, turns_read, turns_said};
+ghost use Rattle.initd_options.specs.Options.{AddsAll, brief_said, digit_read, hundredths_read, is_pause, part_read, pause_said, result_said, rule_of, rules_of, run_line, run_of, run_said, turns_read, turns_said};
 ghost use Rattle.initd_options.specs.Values.{is_set};
 
 use crate::values::{is_set, read_level_option, refused, word_of};
@@ -66,28 +66,74 @@ const PAUSE_SECONDS: u64 = 60;
 /// The longest pause, in hundredths of a second.
 const PAUSE_LIMIT: u64 = 6_000;
 
+/// What an option takes.
+#[derive(Clone, Copy)]
+pub(crate) enum Takes {
+    /// Nothing.
+    Nothing,
+    /// A value.
+    Value,
+    /// A value, which is this one where the option is left out.
+    Default(&'static str),
+}
+
+/// The options of `initd run`.
+const OPTIONS: &[(&str, Takes)] = &[
+    ("inittab", Takes::Default("inittab")),
+    ("initctl", Takes::Default("initctl")),
+    ("fresh", Takes::Nothing),
+    ("state", Takes::Default("initd.state")),
+    ("trace", Takes::Value),
+    ("level", Takes::Value),
+    ("turns", Takes::Value),
+    ("forever", Takes::Nothing),
+    ("drain", Takes::Nothing),
+    ("pause", Takes::Default("1")),
+    ("result", Takes::Value),
+    ("verbose", Takes::Nothing),
+    ("logs", Takes::Value),
+    ("inittab-dir", Takes::Value),
+    ("brief", Takes::Nothing),
+    ("judge", Takes::Nothing),
+    ("strict", Takes::Nothing),
+];
+
+/// A command line with an option of this name behind its other arguments.
+fn with_option<'a>(
+    alloc: Global,
+    line: Command<'a>,
+    name: &'static str,
+    takes: Takes,
+) -> Result<Command<'a>, AllocError>
+    ensures { IfOk result (Adds line.entry (rule_of name.now takes)) }
+{
+    match takes {
+        Takes::Nothing => with_switch(alloc, line, name),
+        Takes::Value => with_value(alloc, line, name),
+        Takes::Default(value) => with_default(alloc, line, name, value),
+    }
+}
+
+/// A command line with these options behind its other arguments.
+fn with_options<'a>(
+    alloc: Global,
+    line: Command<'a>,
+    options: &[(&'static str, Takes)],
+) -> Result<Command<'a>, AllocError>
+    ensures { IfOk result (AddsAll line.entry (rules_of options.now)) }
+{
+    let mut line = line;
+    for (name, takes) in options {
+        line = with_option(alloc, line, *name, *takes)?;
+    }
+    Ok(line)
+}
+
 /// The command line after `initd run`.
 pub(crate) fn run_line<'a>(alloc: Global) -> Result<Command<'a>, AllocError>
     ensures { IfOk result (IsLine run_line) }
 {
-    let line = Command::new(alloc, "run");
-    let line = with_default(alloc, line, "inittab", "inittab")?;
-    let line = with_default(alloc, line, "initctl", "initctl")?;
-    let line = with_switch(alloc, line, "fresh")?;
-    let line = with_default(alloc, line, "state", "initd.state")?;
-    let line = with_value(alloc, line, "trace")?;
-    let line = with_value(alloc, line, "level")?;
-    let line = with_value(alloc, line, "turns")?;
-    let line = with_switch(alloc, line, "forever")?;
-    let line = with_switch(alloc, line, "drain")?;
-    let line = with_default(alloc, line, "pause", "1")?;
-    let line = with_value(alloc, line, "result")?;
-    let line = with_switch(alloc, line, "verbose")?;
-    let line = with_value(alloc, line, "logs")?;
-    let line = with_value(alloc, line, "inittab-dir")?;
-    let line = with_switch(alloc, line, "brief")?;
-    let line = with_switch(alloc, line, "judge")?;
-    with_switch(alloc, line, "strict")
+    with_options(alloc, Command::new(alloc, "run"), OPTIONS)
 }
 
 /// What the words after `run` say.

@@ -16,13 +16,17 @@ use std::hash::{BuildHasherDefault, FoldHasher};
 use std::rt::Files;
 use std::{io, str};
 use text_lines::cut;
+use thiserror::Error;
 
 /// Why the files of a folder were not read.
-#[derive(Drop)]
+#[derive(Drop, Error)]
+#[derive_where(Debug)]
 pub enum FolderFault<A: Allocator = Global> {
     /// The folder of this path could not be listed, or the file of this path not be read.
+    #[error("cannot read {0}: {1}")]
     Unread(String<A>, io::Error),
     /// Out of memory.
+    #[error("out of memory")]
     Memory,
 }
 

@@ -12,38 +12,38 @@ use path_texts::Texts;
 use program_io::{DEVICE_FAULT, REFUSED};
 use rc_links::{Script, is_name};
 use std::alloc::Global;
-use std::error::Error;
 use std::io::Write;
 use std::{fmt, io};
+use thiserror::Error;
 
 /// Why a file gives no script.
-#[derive(Clone, Copy, Debug)]
+#[derive(Clone, Copy, Debug, Error)]
 pub enum FileFault {
     /// It can't be read.
+    #[error("{0}")]
     Unread(io::Error),
     /// Its name is none that a link may have.
+    #[error("the name of a script has bytes of A-Z a-z 0-9 . _ - alone")]
     Name,
     /// Its header is refused; with the number of the line that the fault is about, where the fault itself has none.
+    #[error("{line}{0}", line = LineWords(*.1))]
     Header(HeaderFault, Option<usize>),
     /// Out of memory.
+    #[error("out of memory")]
     Memory,
 }
 
-impl fmt::Display for FileFault {
+/// The number of a line, in front of what is wrong with it.
+struct LineWords(Option<usize>);
+
+impl fmt::Display for LineWords {
     fn fmt<W: fmt::Write>(&self, f: &mut fmt::Formatter<W>) -> fmt::Result {
-        match self {
-            FileFault::Unread(error) => write!(f, "{error}"),
-            FileFault::Name => {
-                f.write_str("the name of a script has bytes of A-Z a-z 0-9 . _ - alone")
-            }
-            FileFault::Header(fault, None) => write!(f, "{fault}"),
-            FileFault::Header(fault, Some(number)) => write!(f, "line {number}: {fault}"),
-            FileFault::Memory => f.write_str("out of memory"),
+        match self.0 {
+            Some(number) => write!(f, "line {number}: "),
+            None => Ok(()),
         }
     }
 }
-
-impl Error for FileFault {}
 
 impl From<Memory> for FileFault {
     ghost use Rattle.std.specs.Prelude.{◌≡◌};

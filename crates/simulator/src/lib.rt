@@ -4,6 +4,8 @@
 mod handing;
 mod laws;
 mod running;
+mod writers;
 
 pub use laws::law_of_runs;
 pub use running::{SimFault, simulate};
+pub use writers::{Untold, WritesOn};

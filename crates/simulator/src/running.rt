@@ -21,11 +21,11 @@ ghost use Rattle.simulator.specs.Said.{may_be_scripted, objection_in};
 ghost use Rattle.simulator.specs.Simulation.{Done, Ends, IsTooLong, scenario};
 
 use crate::handing::{hand, objection_handed};
+use crate::writers::WritesOn;
 use init_trace::{Happening, HappeningIn, Step};
 use init_words::{Level, Memory, Refusal};
 use inittab_text::{Table, TableFault};
 use level_core::Core;
-use program_io::write_text;
 use simulated_system::{Objection, SimulatedSystem};
 use std::alloc::{AllocError, Allocator};
 use std::error::Error;
@@ -126,7 +126,7 @@ fn is_reread(step: &Step) -> bool
 }
 
 /// Writes the text of a happening.
-fn write_happening<A: Allocator + Copy, W: Write>(
+fn write_happening<A: Allocator + Copy, W: Write, F: WritesOn<W>>(
     alloc: A,
     out: &mut W,
     happening: &HappeningIn<A>,
@@ -135,14 +135,15 @@ fn write_happening<A: Allocator + Copy, W: Write>(
         (Appends (W.contents out.old) (W.contents out.new) (event_text happening.now)) }
     ensures err { IfErr result (λ fault.
         Leaves fault (W.contents out.old) (W.contents out.new) (event_text happening.now)) }
+    ensures failed { result ≡ Err SimFault.Write → F.has_failed out.new ≡ true }
 {
     let text = trace_text::print_one(alloc, happening)?;
-    write_text(out, &text)?;
+    F::put(out, &text)?;
     Ok(())
 }
 
 /// Takes init's steps and writes them, until init rests, and says whether inittab is to be read then.
-fn run_until_rest<A: Allocator + Copy, W: Write>(
+fn run_until_rest<A: Allocator + Copy, W: Write, F: WritesOn<W>>(
     alloc: A,
     core: &mut Core<A>,
     side: &mut SimulatedSystem<A>,
@@ -155,6 +156,7 @@ fn run_until_rest<A: Allocator + Copy, W: Write>(
     ensures generation { OnOk result (core.new.heads.generation ≡ core.old.heads.generation) }
     ensures err { IfErr result (λ fault. FromMoment core.old side.old (λ goal past.
         Breaks goal past fault (W.contents out.old) (W.contents out.new))) }
+    ensures failed { result ≡ Err SimFault.Write → F.has_failed out.new ≡ true }
 {
     'steps: loop {
         let step = core.next();
@@ -162,7 +164,7 @@ fn run_until_rest<A: Allocator + Copy, W: Write>(
         let Some(happening) = happening_of(step) else {
             return Ok(rereads);
         };
-        write_happening(alloc, out, &happening)?;
+        write_happening::<A, W, F>(alloc, out, &happening)?;
         side.take(&happening)?;
     }
 }
@@ -245,7 +247,7 @@ fn pass_on<A: Allocator + Copy>(
 }
 
 /// Writes a happening that may come, and takes it in.
-fn hear<A: Allocator + Copy, W: Write>(
+fn hear<A: Allocator + Copy, W: Write, F: WritesOn<W>>(
     alloc: A,
     core: &mut Core<A>,
     made: &mut Vec<Vec<u8, A>, A>,
@@ -265,16 +267,17 @@ fn hear<A: Allocator + Copy, W: Write>(
         (HasTexts (map (λ text. text.items) made.new.items) core.new.heads.generation) }
     ensures err { IfErr result (λ fault.
         Leaves fault (W.contents out.old) (W.contents out.new) (event_text happening.now)) }
+    ensures failed { result ≡ Err SimFault.Write → F.has_failed out.new ≡ true }
 {
     pass_on(alloc, core, made, side, happening)?;
-    write_happening(alloc, out, happening)?;
+    write_happening::<A, W, F>(alloc, out, happening)?;
     side.take(happening)?;
     Ok(())
 }
 
 /// Hears a happening, whose line has the number, where nothing is objected to it, and takes init's steps until it
 /// rests. Given, and given back, is whether inittab is to be read.
-fn hear_next<A: Allocator + Copy, W: Write>(
+fn hear_next<A: Allocator + Copy, W: Write, F: WritesOn<W>>(
     alloc: A,
     core: &mut Core<A>,
     made: &mut Vec<Vec<u8, A>, A>,
@@ -294,12 +297,13 @@ fn hear_next<A: Allocator + Copy, W: Write>(
         (W.contents out.new))) }
     ensures err { IfErr result (λ fault. FromRest rereads core.old side.old (λ goal past.
         HeardEnds goal past happening.now number fault (W.contents out.old) (W.contents out.new))) }
+    ensures failed { result ≡ Err SimFault.Write → F.has_failed out.new ≡ true }
 {
     if let Some(objection) = objection_to(alloc, core, side, happening, rereads)? {
         return Err(SimFault::Forbidden(number, objection));
     }
-    hear(alloc, core, made, side, out, happening)?;
-    run_until_rest(alloc, core, side, out)
+    hear::<A, W, F>(alloc, core, made, side, out, happening)?;
+    run_until_rest::<A, W, F>(alloc, core, side, out)
 }
 
 /// The table of an inittab, whatever faults its lines have.
@@ -337,7 +341,7 @@ fn open_core<A: Allocator + Copy>(
 }
 
 /// Writes the text of a table.
-fn write_table<A: Allocator + Copy, W: Write>(
+fn write_table<A: Allocator + Copy, W: Write, F: WritesOn<W>>(
     alloc: A,
     out: &mut W,
     table: &Table<A>,
@@ -346,15 +350,16 @@ fn write_table<A: Allocator + Copy, W: Write>(
         (Appends (W.contents out.old) (W.contents out.new) (event_text (NewTable table.now))) }
     ensures err { IfErr result (λ fault. Leaves fault (W.contents out.old) (W.contents out.new)
         (event_text (NewTable table.now))) }
+    ensures failed { result ≡ Err SimFault.Write → F.has_failed out.new ≡ true }
 {
     let text = print_table(alloc, table)?;
-    write_text(out, &text)?;
+    F::put(out, &text)?;
     Ok(())
 }
 
 /// Hears the happenings of a text in turn, and takes init's steps after each until it rests. Given is whether inittab
 /// is to be read at the beginning.
-fn hear_all<A: Allocator + Copy, W: Write>(
+fn hear_all<A: Allocator + Copy, W: Write, F: WritesOn<W>>(
     alloc: A,
     core: &mut Core<A>,
     side: &mut SimulatedSystem<A>,
@@ -370,6 +375,7 @@ fn hear_all<A: Allocator + Copy, W: Write>(
     ensures ended { IfErr result (λ fault.
         FromScript text.now rereads core.old side.old (W.contents out.old)
         (λ s before. Ends s fault before (W.contents out.new))) }
+    ensures failed { result ≡ Err SimFault.Write → F.has_failed out.new ≡ true }
 {
     let mut made = Vec::new(alloc);
     let mut rest = text;
@@ -379,7 +385,7 @@ fn hear_all<A: Allocator + Copy, W: Write>(
         let Some((happening, more)) = first_happening(alloc, rest)? else {
             return Err(SimFault::Script(number));
         };
-        reads = hear_next(alloc, core, &mut made, side, out, &happening, reads, number)?;
+        reads = hear_next::<A, W, F>(alloc, core, &mut made, side, out, &happening, reads, number)?;
         number += line_count(&happening);
         rest = more;
     }
@@ -387,7 +393,7 @@ fn hear_all<A: Allocator + Copy, W: Write>(
 }
 
 /// Takes init's first steps until it rests, and hears the script.
-fn run_script<A: Allocator + Copy, W: Write>(
+fn run_script<A: Allocator + Copy, W: Write, F: WritesOn<W>>(
     alloc: A,
     core: &mut Core<A>,
     side: &mut SimulatedSystem<A>,
@@ -402,10 +408,11 @@ fn run_script<A: Allocator + Copy, W: Write>(
     ensures ended { IfErr result (λ fault.
         FromOpening script.now core.old side.old (W.contents out.old)
         (λ s before. Ends s fault before (W.contents out.new))) }
+    ensures failed { result ≡ Err SimFault.Write → F.has_failed out.new ≡ true }
 {
-    let rereads = run_until_rest(alloc, core, side, out)?;
+    let rereads = run_until_rest::<A, W, F>(alloc, core, side, out)?;
     let text = ended(alloc, script)?;
-    hear_all(alloc, core, side, out, &text, rereads)
+    hear_all::<A, W, F>(alloc, core, side, out, &text, rereads)
 }
 
 /// Runs init over an inittab(5) and a script of what the system and the edge did, a happening a line, and writes the
@@ -424,9 +431,9 @@ fn run_script<A: Allocator + Copy, W: Write>(
 ///
 /// The run ends at the end of the script, or before the first line that is no line of a trace (`Script`) or may not
 /// come (`Forbidden`, with the reason), by its number from 1; the lines of a table count, and it is named by its first.
-/// An inittab of over 1,048,576 bytes is refused (`Table`). Where the writer fails (`Write`), a prefix of the trace is
-/// written and something of it is left; where memory runs out (`Memory`), a prefix of it is written.
-pub fn simulate<A: Allocator + Copy, W: Write>(
+/// An inittab of over 1,048,576 bytes is refused (`Table`). Where the writer fails (`Write`), and only there, a prefix of
+/// the trace is written and something of it is left; where memory runs out (`Memory`), a prefix of it is written.
+pub fn simulate<A: Allocator + Copy, W: Write, F: WritesOn<W>>(
     alloc: A,
     inittab: &[u8],
     level: Option<Level>,
@@ -438,9 +445,10 @@ pub fn simulate<A: Allocator + Copy, W: Write>(
     ensures ended { IfErr result (λ fault. Ends (scenario level inittab.now script.now) fault
         (W.contents out.old) (W.contents out.new)) }
     ensures limit { IsTooLong inittab.now → result ≡ Err SimFault.Table }
+    ensures failed { result ≡ Err SimFault.Write → F.has_failed out.new ≡ true }
 {
     let mut core = open_core(alloc, inittab, level)?;
-    write_table(alloc, out, core.table())?;
+    write_table::<A, W, F>(alloc, out, core.table())?;
     let mut side = SimulatedSystem::new(alloc);
-    run_script(alloc, &mut core, &mut side, out, script)
+    run_script::<A, W, F>(alloc, &mut core, &mut side, out, script)
 }

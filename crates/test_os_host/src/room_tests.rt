@@ -1,8 +1,9 @@
-//! Hosts on heaps of more and more room, until they are made and bear a child.
+//! Hosts on heaps of more and more room, until they are made and do what they are asked for.
 
 use crate::hosts::{Paths, SystemHost, host_of, id_of};
 use child_host::{Host, Reply};
-use init_words::{Answer, Id};
+use init_trace::Happening;
+use init_words::{Answer, Id, Sig, Stage};
 use linked_list_allocator::LocalHeap;
 use std::process::Abort;
 use std::test::Fail;
@@ -59,28 +60,93 @@ fn with_logs(rt: &HostRuntime, heap: &LocalHeap) -> Made {
     }
 }
 
-/// What comes of a host on a heap, that bears a child of this id, or has logs.
-fn made_on(rt: &HostRuntime, heap: &LocalHeap, id: Id, is_child: bool) -> Made {
-    if is_child {
-        with_child(rt, heap, id)
-    } else {
-        with_logs(rt, heap)
+/// The child of the id is ended.
+fn is_killed(host: &mut SystemHost<&LocalHeap>, id: Id) -> bool {
+    if host.signal(id, Sig::Kill) != Reply::Now(Answer::Hit) {
+        return false;
+    }
+    for _ in 0..10_000usize {
+        if host.look(id) != Reply::Now(Answer::Alive) {
+            return true;
+        }
+        host.pause();
+    }
+    false
+}
+
+/// Sends the id's child TERM: where that is refused it is a fault, and the child lives on.
+fn term(host: &mut SystemHost<&LocalHeap>, id: Id) -> Made {
+    let faults = host.faults();
+    match host.signal(id, Sig::Term) {
+        Reply::Now(Answer::Hit) if host.faults() == faults => Made::All,
+        Reply::Now(Answer::Miss)
+            if host.faults() == faults.wrapping_add(1)
+                && host.look(id) == Reply::Now(Answer::Alive) => { Made::Host }
+        _ => Made::Wrong,
     }
 }
 
-fn made_in(rt: &HostRuntime, room: usize, id: Id, is_child: bool) -> Made {
+fn with_term(rt: &HostRuntime, heap: &LocalHeap, id: Id) -> Made {
+    let Ok(mut host) = host_of(rt, heap, PATHS) else {
+        return Made::Nothing;
+    };
+    let Reply::Now(Answer::Born(_)) = host.start(heap, id, b"sleep 1000") else {
+        return Made::Nothing;
+    };
+    let made = term(&mut host, id);
+    if made == Made::All || is_killed(&mut host, id) {
+        made
+    } else {
+        Made::Wrong
+    }
+}
+
+/// Announces a stage: where that is refused, it is a fault.
+fn with_announcement(rt: &HostRuntime, heap: &LocalHeap) -> Made {
+    let Ok(mut host) = host_of(rt, heap, PATHS) else {
+        return Made::Nothing;
+    };
+    let boot: Happening = Happening::Enter(Stage::Boot, 5);
+    host.announce(&boot);
+    match host.faults() {
+        0 => Made::All,
+        1 => Made::Host,
+        _ => Made::Wrong,
+    }
+}
+
+/// What a host is asked for.
+#[derive(Clone, Copy)]
+enum Asked {
+    Child,
+    Logs,
+    Term,
+    Announcement,
+}
+
+/// What comes of a host on a heap, and of its child of this id, or its logs, or what it announces.
+fn made_on(rt: &HostRuntime, heap: &LocalHeap, id: Id, asked: Asked) -> Made {
+    match asked {
+        Asked::Child => with_child(rt, heap, id),
+        Asked::Logs => with_logs(rt, heap),
+        Asked::Term => with_term(rt, heap, id),
+        Asked::Announcement => with_announcement(rt, heap),
+    }
+}
+
+fn made_in(rt: &HostRuntime, room: usize, id: Id, asked: Asked) -> Made {
     match LocalHeap::new(rt.alloc(), room) {
-        Ok(heap) => made_on(rt, &heap, id, is_child),
+        Ok(heap) => made_on(rt, &heap, id, asked),
         Err(_) => Made::Wrong,
     }
 }
 
 /// In steps of 16 bytes first no host is made, then one that refuses what it is asked for, and at last, past so many
 /// steps, one that does it.
-fn comes_of_room(rt: &HostRuntime, id: Id, is_child: bool, least: usize) -> bool {
+fn comes_of_room(rt: &HostRuntime, id: Id, asked: Asked, least: usize) -> bool {
     let mut is_host = false;
     for step in 0..1024usize {
-        match made_in(rt, 16 * step, id, is_child) {
+        match made_in(rt, 16 * step, id, asked) {
             Made::Nothing => {
                 if is_host {
                     return false;
@@ -99,10 +165,19 @@ fn comes_of_room(rt: &HostRuntime, id: Id, is_child: bool, least: usize) -> bool
     false
 }
 
+/// What hosts are asked for, and how many steps at least refuse it.
+const ROWS: &[(Asked, usize, &str)] = &[
+    (Asked::Child, 8, "a child"),
+    (Asked::Logs, 2, "logs"),
+    (Asked::Term, 8, "TERM"),
+    (Asked::Announcement, 2, "an announcement"),
+];
+
 #[test]
-fn a_host_and_its_child_need_room(rt: HostRuntime) -> Result<(), Fail> {
+fn a_host_and_what_it_does_need_room(rt: HostRuntime) -> Result<(), Fail> {
     let id = id_of(b"m")?;
-    assert!(rt; comes_of_room(&rt, id, true, 8), "a child");
-    assert!(rt; comes_of_room(&rt, id, false, 2), "logs");
+    for (asked, least, name) in ROWS {
+        assert!(rt; comes_of_room(&rt, id, *asked, *least), "{name}");
+    }
     Ok(())
 }

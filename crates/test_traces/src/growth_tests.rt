@@ -4,7 +4,7 @@
 use crate::texts::lines;
 use init_words::Memory;
 use linked_list_allocator::LocalHeap;
-use simulator::SimFault;
+use simulator::{SimFault, Untold, simulate};
 use std::alloc::Global;
 use std::process::Abort;
 use std::test::Fail;
@@ -30,7 +30,13 @@ fn is_run(rt: &impl Abort, alloc: Global, heap: &LocalHeap, trace: &[u8]) -> Res
     let inittab = lines(alloc, INITTAB)?;
     let script = lines(alloc, SCRIPT)?;
     let mut out: Vec<u8> = Vec::new(alloc);
-    match simulator::simulate(heap, inittab.as_bytes(), None, script.as_bytes(), &mut out) {
+    match simulate::<&LocalHeap, Vec<u8>, Untold>(
+        heap,
+        inittab.as_bytes(),
+        None,
+        script.as_bytes(),
+        &mut out,
+    ) {
         Ok(()) => {
             assert!(rt; out.as_slice() == trace);
             Ok(true)

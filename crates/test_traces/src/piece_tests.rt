@@ -149,6 +149,10 @@ fn a_text_is_judged_however_it_is_cut(rt: HostRuntime) -> Result<(), Fail> {
 const TRACE: &str =
     "use 2\na:3:once:x\nb:1:once:y\nenter 3 5\nask a start\nbirth a 10\ntold a\nenter 1 5\nask b start\nbirth b 11\n";
 
+/// From one heap to the next there is less more room than the least growth takes, so that each growth is refused on
+/// some heap.
+const STEP: usize = 16;
+
 /// Whether the heap had room for the judge; where it had, the answer is right.
 fn is_done(rt: &impl Abort, heap: &LocalHeap) -> bool {
     let mut judge = TextJudge::new(heap);
@@ -162,16 +166,12 @@ fn is_done(rt: &impl Abort, heap: &LocalHeap) -> bool {
 
 #[test]
 fn refused_growths_in_pieces(rt: HostRuntime) -> Result<(), Fail> {
-    let mut refused = 0usize;
-    let mut done = 0usize;
-    for step in 1..200usize {
-        let heap = LocalHeap::new(rt.alloc(), 64 * step)?;
+    for refused in 0..8192usize {
+        let heap = LocalHeap::new(rt.alloc(), STEP * refused)?;
         if is_done(&rt, &heap) {
-            done = done.wrapping_add(1);
-        } else {
-            refused = refused.wrapping_add(1);
+            assert!(rt; refused > 8, "{refused}");
+            return Ok(());
         }
     }
-    assert!(&rt; refused > 8 && done > 8, "{refused} {done}");
-    Ok(())
+    Err(Fail::from("no heap has room"))
 }
