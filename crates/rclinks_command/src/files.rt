@@ -34,6 +34,7 @@ pub enum FileFault {
 }
 
 /// The number of a line, in front of what is wrong with it.
+#[derive(Clone, Copy)]
 struct LineWords(Option<usize>);
 
 impl fmt::Display for LineWords {

@@ -2,6 +2,7 @@
 //! of memory, and what was written is a front of the trace.
 
 use crate::texts::lines;
+use init_trace::happening_copy;
 use init_words::Memory;
 use linked_list_allocator::LocalHeap;
 use simulator::{SimFault, Untold, simulate};
@@ -73,6 +74,34 @@ fn a_trace_without_room_is_not_printed(rt: HostRuntime) -> Result<(), Fail> {
             Ok(printed) => {
                 assert!(rt;
                     refused > 2 && printed.as_slice() == text.as_bytes(),
+                    "{refused}"
+                );
+                return Ok(());
+            }
+            Err(Memory) => {}
+        }
+    }
+    Err(Fail::from("no heap has room"))
+}
+
+#[test]
+fn a_happening_without_room_is_not_copied(rt: HostRuntime) -> Result<(), Fail> {
+    let text = lines(rt.alloc(), TRACE)?;
+    let Ok(trace) = trace_text::read(rt.alloc(), text.as_bytes()) else {
+        return Err(Fail::from("no trace"));
+    };
+    let [table, ..] = trace.as_slice() else {
+        return Err(Fail::from("no table"));
+    };
+    for refused in 0..4096usize {
+        let heap = LocalHeap::new(rt.alloc(), STEP * refused)?;
+        match happening_copy(&heap, table) {
+            Ok(copy) => {
+                let Ok(printed) = trace_text::print_one(rt.alloc(), &copy) else {
+                    return Err(Fail::from("no memory"));
+                };
+                assert!(rt;
+                    refused > 2 && text.as_bytes().starts_with(&printed),
                     "{refused}"
                 );
                 return Ok(());
