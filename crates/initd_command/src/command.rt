@@ -19,7 +19,7 @@ use program_version::write_version;
 use std::alloc::Global;
 use std::fs::File;
 use std::io::Write;
-use std::rt::Files;
+use std::rt::{Clock, Files};
 
 /// What standard error gets of words that are no command line, after a line that says why.
 pub const USAGE: &str = "usage: initd run [OPTION]..
@@ -53,6 +53,7 @@ pub const USAGE: &str = "usage: initd run [OPTION]..
   --logs DIR       the folder that the output of each entry is written to, a file an entry
   --strict         take no inittab that has a faulty line: the run is refused at its opening, and
                    later the inittab before stays in force
+  --stamp          put the time in front of each line that the run prints while it goes on
   TABLE            an inittab(5)
   SCRIPT           what the system did, one happening a line
   TRACE            a trace of init, which is judged
@@ -78,7 +79,7 @@ pub fn run_words<R, T, H, S, W, E>(
     err: &mut E,
 ) -> u8
 where
-    R: Files<File = File> + Eprint,
+    R: Files<File = File> + Eprint + Clock,
     T: Texts,
     H: Host + Drop,
     S: Hosts<H>,

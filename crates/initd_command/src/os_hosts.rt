@@ -11,6 +11,7 @@ use init_words::Memory;
 use initd_options::RunWords;
 use os_host::OsHost;
 use proof_values::Noted;
+use stamped_lines::StampedRuntime;
 use std::alloc::Global;
 use std::fs::File;
 use std::marker::Model;
@@ -48,7 +49,7 @@ impl<R: Processes + Files<File = File> + Clock + Print + Eprint + Clone + Drop> 
 }
 
 impl<R: Processes + Files<File = File> + Clock + Print + Eprint + Clone + Drop> Hosts<
-    Telling<OsHost<R>>,
+    Telling<OsHost<StampedRuntime<R>>>,
 > for OsHosts<R> {
     ghost use Rattle.std.specs.Prelude.{◌≡◌, Some, IfOk};
     ghost use Rattle.initd_options.specs.Options.{run_of};
@@ -61,16 +62,17 @@ impl<R: Processes + Files<File = File> + Clock + Print + Eprint + Clone + Drop> 
         alloc: Global,
         said: &RunWords,
         lock: ChannelLock,
-    ) -> Result<Telling<OsHost<R>>, Memory>
+    ) -> Result<Telling<OsHost<StampedRuntime<R>>>, Memory>
         ensures told { IfOk result (λ host. Some host.calls ≡ Some self.old) }
         ensures err { self.new ≡ self.old }
         ensures words { IfOk result (λ host. host.host ≡ host_said (run_of said.now)) }
     {
-        let host = host_of(&self.rt, alloc, said)?.holding(lock);
+        let stamped = StampedRuntime::new(self.rt.clone()?, alloc, said.stamp);
+        let host = host_of(&stamped, alloc, said)?.holding(lock);
         Ok(Telling::after(&self.calls, host))
     }
 
-    fn close(&mut self, host: Telling<OsHost<R>>) {
+    fn close(&mut self, host: Telling<OsHost<StampedRuntime<R>>>) {
         self.calls = host.calls();
     }
 }

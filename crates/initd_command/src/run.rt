@@ -34,12 +34,13 @@ use path_texts::Texts;
 use program_io::{DEVICE_FAULT, refuse_special};
 use run_notes::RunNotes;
 use simulator::SimFault;
+use stamped_lines::StampedRuntime;
 use std::alloc::{AllocError, Global};
 use std::fs::{File, metadata};
 use std::io;
 use std::io::Write;
 use std::os::unix::fs::MetadataExt;
-use std::rt::Files;
+use std::rt::{Clock, Files};
 use supervisor::{Opening, Served};
 use trace_log::Log;
 
@@ -131,7 +132,7 @@ pub(crate) fn run_files<R, T: Texts, H: Host + Drop, S: Hosts<H>, W: Write, E: W
     err: &mut E,
 ) -> u8
 where
-    R: Files<File = File> + Eprint,
+    R: Files<File = File> + Eprint + Clock,
     ensures { (ending : Ending) × (result ≡ status_of ending)
         × EndsRun (T.text_at texts.now) (run_of said.now) ending
         (W.contents out.old) (W.contents out.new)
@@ -445,7 +446,7 @@ fn make_run<R, H: Host + Drop, S: Hosts<H>, W: Write, E: Write>(
     err: &mut E,
 ) -> u8
 where
-    R: Files<File = File> + Eprint,
+    R: Files<File = File> + Eprint + Clock,
     ensures { (ending : Ending) × (result ≡ status_of ending)
         × EndsTold (run_of said.now) run.is_unled run.faults.items ending
         (W.contents out.old) (W.contents out.new)
@@ -466,7 +467,8 @@ where
         return DEVICE_FAULT;
     }
     report_unled(is_unled, err);
-    let status = make_traced(rt, alloc, said, opening, &mut host, trace, err);
+    let stamped = StampedRuntime::new(rt, alloc, said.stamp);
+    let status = make_traced(&stamped, alloc, said, opening, &mut host, trace, err);
     hosts.close(host);
     status
 }

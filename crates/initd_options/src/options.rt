@@ -49,6 +49,8 @@ pub struct RunWords {
     pub logs: Option<String>,
     /// An inittab with a faulty line is not taken.
     pub strict: bool,
+    /// Each line that the run prints has the time in front.
+    pub stamp: bool,
 }
 
 /// The greatest number of turns that may be asked for.
@@ -96,6 +98,7 @@ const OPTIONS: &[(&str, Takes)] = &[
     ("brief", Takes::Nothing),
     ("judge", Takes::Nothing),
     ("strict", Takes::Nothing),
+    ("stamp", Takes::Nothing),
 ];
 
 /// A command line with an option of this name behind its other arguments.
@@ -165,6 +168,7 @@ pub(crate) fn read_run(alloc: Global, matches: &ArgMatches) -> Result<RunWords, 
         verbose: is_set(matches, "verbose"),
         logs: read_path(alloc, matches, "logs")?,
         strict: is_set(matches, "strict"),
+        stamp: is_set(matches, "stamp"),
     })
 }
 
