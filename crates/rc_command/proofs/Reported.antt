@@ -1,6 +1,5 @@
 -- A run of all scripts reports them, and no answer to one is missing before it.
 use Rattle.std.proofs.Common.{◌≡◌, ◌≢◌, ◌⊎◌, ◌∙◌, inl, inr, refl, sym, arith, ℕ, ◌-◌, Bool, true, false, cond, ◌||◌, List, [], ◌∷◌, length, Option, ap, subst}
-use Rattle.std.specs.List.{list_any}
 use Rattle.std.specs.Io.KnownBytes.{Appends}
 use Rattle.std.proofs.lemmas.Bool.{true≢false}
 use Rattle.program_io.specs.Writing.{AppendsPrefix}
@@ -10,26 +9,27 @@ use Rattle.child_host.specs.Record.{Since}
 use Rattle.child_host.proofs.Record.{Since-map}
 use Rattle.rc_command.specs.CommandLine.{Said}
 use Rattle.rc_command.specs.declared.command.RunOptions.{RunOptions}
-use Rattle.rc_command.specs.Endings.{AreNames, IsEnded, IsWhole, Reports, ReportsFirst, ReportsNames, ReportsPart, RunsNames, RunsSaid, RunsScripts, ended_text, rc_of, status_of, written}
+use Rattle.rc_command.specs.Endings.{AreNames, IsWhole, Reports, ReportsFirst, ReportsNames, ReportsPart, RunsNames, RunsSaid, RunsScripts, ended_text, rc_of, status_of, written}
 use Rattle.rc_command.specs.Folders.{AreNamesAt, ArePrevious, KnownNames, folder_of}
-use Rattle.rc_command.specs.declared.running.TheConstants.{PAUSES_LIMIT, SCRIPT_FAILED}
+use Rattle.rc_command.specs.declared.running.TheConstants.{PAUSES_LIMIT}
 use Rattle.rc_driver.specs.declared.driving.RunEnd.{RunEnd}
 use Rattle.rc_driver.specs.declared.driving.RunEnd.TheVariants as run_end
 use Rattle.rc_driver.specs.declared.runs.RcAnswer.{RcAnswer}
 use Rattle.rc_driver.specs.declared.runs.RunWay.{RunWay}
 use Rattle.rc_driver.specs.Printing.{PrintsLinks, command_lines}
 use Rattle.rc_driver.specs.Progress.{count_pauses}
-use Rattle.rc_driver.specs.Report.{done_end, is_over, report}
-use Rattle.rc_driver.specs.Runs.{LinkRun, RcState, is_failure, rc_run}
+use Rattle.rc_driver.specs.Report.{Output, done_end, is_over, output, report}
+use Rattle.rc_driver.specs.Runs.{LinkRun, RcState, is_failure}
+use Rattle.rc_driver.specs.Sysv.{scripts_by}
 use Rattle.rc_driver.specs.Told.{EndsAt, RunsFrom, RunsLinks}
-use Rattle.rc_driver.proofs.RunLemmas.{AppendsPrefix-none, writes_ends}
+use Rattle.rc_driver.proofs.RunLemmas.{writes_ends}
 
 -- a run that none was handed out before
 done_is_not_waiting : (failed : Bool) → done_end failed ≢ run_end.Waiting
 done_is_not_waiting true = λ is. cc
 done_is_not_waiting false = λ is. cc
 
-runs_on : (way : RunWay) (dir : List ℕ) (pauses : ℕ) (failed : Bool) (scripts : List LinkRun) (before : Option (List ℕ)) (ended : RunEnd) (left : List LinkRun) (after : Option (List ℕ)) (calls : List HostCall)
+runs_on : (way : RunWay) (dir : List ℕ) (pauses : ℕ) (failed : Bool) (scripts : List LinkRun) (before : Output) (ended : RunEnd) (left : List LinkRun) (after : Output) (calls : List HostCall)
     → RunsFrom way dir pauses failed scripts before ended left after calls → ended ≢ run_end.Waiting
 runs_on way dir pauses failed [] before ended left after calls (is, none, same, no_calls) =
     λ waiting. done_is_not_waiting failed (sym is ∙ waiting)
@@ -38,19 +38,19 @@ runs_on way dir pauses failed (s ∷ scripts) before ended left after calls (inl
 runs_on way dir pauses failed (s ∷ scripts) before ended left after calls (inr (given, first, later, between, is, ran, line, rest)) =
     runs_on way dir (pauses - count_pauses first) (failed || is_failure given) scripts between ended left after later rest
 
-pub not_waiting : (old now : Option (List HostCall)) (way : RunWay) (dir : List ℕ) (pauses : ℕ) (failed : Bool) (rc new : RcState) (before after : Option (List ℕ)) (ended : RunEnd)
+pub not_waiting : (old now : Option (List HostCall)) (way : RunWay) (dir : List ℕ) (pauses : ℕ) (failed : Bool) (rc new : RcState) (before after : Output) (ended : RunEnd)
     → rc.waits ≡ false → Since old now (RunsLinks way dir pauses failed rc before ended new after) → ended ≢ run_end.Waiting
 not_waiting old now way dir pauses failed rc new before after ended ready (calls, told, runs) =
     runs_on way dir pauses failed rc.left before ended new.left after calls (runs.runs ready)
 
 -- a run, with what is reported of it
-pub runs_scripts : (options : RunOptions) (old now : Option (List HostCall)) (dir : List ℕ) (rc new : RcState) (before after told tells : Option (List ℕ)) (ended : RunEnd) (status : ℕ)
-    → status ≡ status_of options.strict ended → AppendsPrefix told tells (ended_text dir ended)
-    → Since old now (RunsLinks options.way dir PAUSES_LIMIT false rc before ended new after)
+pub runs_scripts : (options : RunOptions) (old now : Option (List HostCall)) (dir : List ℕ) (rc new : RcState) (before after told between tells : Option (List ℕ)) (ended : RunEnd) (status : ℕ)
+    → status ≡ status_of options.strict ended → AppendsPrefix between tells (ended_text dir ended)
+    → Since old now (RunsLinks options.way dir PAUSES_LIMIT false rc (output before told) ended new (output after between))
     → Since old now (RunsScripts options dir rc before told status after tells)
-runs_scripts options old now dir rc new before after told tells ended status of reports since =
-    Since-map old now (RunsLinks options.way dir PAUSES_LIMIT false rc before ended new after) (RunsScripts options dir rc before told status after tells) since
-    (λ calls runs. (ended, new, runs, of, reports))
+runs_scripts options old now dir rc new before after told between tells ended status of reports since =
+    Since-map old now (RunsLinks options.way dir PAUSES_LIMIT false rc (output before told) ended new (output after between)) (RunsScripts options dir rc before told status after tells) since
+    (λ calls runs. (ended, new, between, runs, of, reports))
 
 -- the statuses
 limit_is_not_whole : IsWhole LIMIT_REACHED → ⊥
@@ -100,25 +100,25 @@ if_false true x y is = absurd (true≢false is)
 if_false false x y is = refl
 
 -- what is written of scripts that were run
-run_text : (options : RunOptions) (path : List ℕ) (previous names : List (List ℕ)) (rc : RcState) (answers : List RcAnswer) → rc ≡ rc_of previous names
+run_text : (options : RunOptions) (path : List ℕ) (previous names : List (List ℕ)) (rc : RcState) (answers : List RcAnswer) → rc ≡ rc_of options.way.levels previous names
     → options.dry ≡ false → report options.way rc.left answers ≡ written options path previous names answers
 run_text options path previous names rc answers is wet =
     ap (λ (r : RcState). report options.way r.left answers) is
-    ∙ sym (if_false options.dry (command_lines options.way path (rc_run previous names)) (report options.way (rc_run previous names) answers) wet)
+    ∙ sym (if_false options.dry (command_lines options.way path (scripts_by options.way.levels previous names)) (report options.way (scripts_by options.way.levels previous names) answers) wet)
 
 -- what is written where they are printed
-dry_text : (options : RunOptions) (path : List ℕ) (previous names : List (List ℕ)) (rc : RcState) (answers : List RcAnswer) → rc ≡ rc_of previous names
+dry_text : (options : RunOptions) (path : List ℕ) (previous names : List (List ℕ)) (rc : RcState) (answers : List RcAnswer) → rc ≡ rc_of options.way.levels previous names
     → options.dry ≡ true → command_lines options.way path rc.left ≡ written options path previous names answers
 dry_text options path previous names rc answers is dry =
     ap (λ (r : RcState). command_lines options.way path r.left) is
-    ∙ sym (if_true options.dry (command_lines options.way path (rc_run previous names)) (report options.way (rc_run previous names) answers) dry)
+    ∙ sym (if_true options.dry (command_lines options.way path (scripts_by options.way.levels previous names)) (report options.way (scripts_by options.way.levels previous names) answers) dry)
 
 -- a run of the scripts of two folders' names
 pub run_reports : (options : RunOptions) (path : List ℕ) (previous names : List (List ℕ)) (old now : Option (List HostCall)) (rc : RcState) (before after told tells : Option (List ℕ)) (status : ℕ)
-    → rc ≡ rc_of previous names → options.dry ≡ false → Since old now (RunsScripts options path rc before told status after tells)
+    → rc ≡ rc_of options.way.levels previous names → options.dry ≡ false → Since old now (RunsScripts options path rc before told status after tells)
     → IsWhole status → ReportsNames options path previous names before status after
-run_reports options path previous names old now rc before after told tells status is wet (calls, at, (ended, new, runs, of, reports)) whole =
-    let went = writes_ends old now options.way path PAUSES_LIMIT rc new before after ended (calls, at, runs) in
+run_reports options path previous names old now rc before after told tells status is wet (calls, at, (ended, new, between, runs, of, reports)) whole =
+    let went = writes_ends old now options.way path PAUSES_LIMIT rc new (output before told) (output after between) ended (calls, at, runs) in
     let all = went.whole (over options.strict ended (subst IsWhole of whole)) in (
       went.answers,
       (
@@ -129,20 +129,20 @@ run_reports options path previous names old now rc before after told tells statu
     )
 
 pub run_part : (options : RunOptions) (path : List ℕ) (previous names : List (List ℕ)) (old now : Option (List HostCall)) (rc : RcState) (before after told tells : Option (List ℕ)) (status : ℕ)
-    → rc ≡ rc_of previous names → options.dry ≡ false → Since old now (RunsScripts options path rc before told status after tells)
+    → rc ≡ rc_of options.way.levels previous names → options.dry ≡ false → Since old now (RunsScripts options path rc before told status after tells)
     → ReportsFirst options path previous names before after
-run_part options path previous names old now rc before after told tells status is wet (calls, at, (ended, new, runs, of, reports)) =
-    let went = writes_ends old now options.way path PAUSES_LIMIT rc new before after ended (calls, at, runs) in
+run_part options path previous names old now rc before after told tells status is wet (calls, at, (ended, new, between, runs, of, reports)) =
+    let went = writes_ends old now options.way path PAUSES_LIMIT rc new (output before told) (output after between) ended (calls, at, runs) in
     (went.answers, subst (AppendsPrefix before after) (run_text options path previous names rc went.answers is wet) went.part)
 
 pub run_names : (options : RunOptions) (path : List ℕ) (previous names : List (List ℕ)) (old now : Option (List HostCall)) (rc : RcState) (before after told tells : Option (List ℕ)) (status : ℕ)
-    → rc ≡ rc_of previous names → Since old now (RunsScripts options path rc before told status after tells)
+    → rc ≡ rc_of options.way.levels previous names → Since old now (RunsScripts options path rc before told status after tells)
     → Since old now (RunsNames options path previous names before told status after tells)
 run_names options path previous names old now rc before after told tells status is since =
     subst (λ r. Since old now (RunsScripts options path r before told status after tells)) is since
 
 -- a print of them
-pub dry_reports : (options : RunOptions) (path : List ℕ) (previous names : List (List ℕ)) (rc : RcState) (before after : Option (List ℕ)) (status : ℕ) → rc ≡ rc_of previous names
+pub dry_reports : (options : RunOptions) (path : List ℕ) (previous names : List (List ℕ)) (rc : RcState) (before after : Option (List ℕ)) (status : ℕ) → rc ≡ rc_of options.way.levels previous names
     → options.dry ≡ true → (status ≡ DONE) ⊎ (status ≡ DEVICE_FAULT)
     → (status ≡ DONE → Appends before after (command_lines options.way path rc.left))
     → IsWhole status → ReportsNames options path previous names before status after
@@ -153,7 +153,7 @@ dry_reports options path previous names rc before after status is dry (inl done)
 )
 dry_reports options path previous names rc before after status is dry (inr fault) text whole = absurd (not_whole_fault status fault whole)
 
-pub dry_part : (options : RunOptions) (path : List ℕ) (previous names : List (List ℕ)) (rc : RcState) (before after : Option (List ℕ)) → rc ≡ rc_of previous names
+pub dry_part : (options : RunOptions) (path : List ℕ) (previous names : List (List ℕ)) (rc : RcState) (before after : Option (List ℕ)) → rc ≡ rc_of options.way.levels previous names
     → options.dry ≡ true → AppendsPrefix before after (command_lines options.way path rc.left)
     → ReportsFirst options path previous names before after
 dry_part options path previous names rc before after is dry part =

@@ -1,14 +1,17 @@
--- The command line `rc [-n] [-v] [--strict] [--direct] DIR PREV NEW`. What it takes is said by clap's own words; they are opaque, since a goal that
--- sees them sees the whole parser.
-use Rattle.std.specs.Prelude.{Bool, if◌then◌else◌, List, [], ◌∷◌, codes, Option, Some, None, unwrap_or, option_and_then, option_map, length, ◌==◌, ◌||◌, string_bytes}
+-- The command line `rc [-n] [-v] [--strict] [--direct] [--as-sysv] [--timeout SEC] DIR PREV NEW`. What it takes is said by
+-- clap's own words; they are opaque, since a goal that sees them sees the whole parser.
+use Rattle.std.specs.Prelude.{ℕ, ◌+◌, nat_lt, Bool, if◌then◌else◌, List, [], ◌∷◌, codes, Option, Some, None, unwrap_or, option_and_then, option_map, length, ◌==◌, ◌||◌, string_bytes}
 use Rattle.std.specs.List.{list_all}
 use Rattle.std.specs.Str.{byte, bytes_eq}
 use Rattle.clap.specs.Words.{App, Row, Text, fault_of, first_of, matches_of}
-use Rattle.command_words.specs.CommandLines.{letter_rule, program_app, switch_rule, with_rules, word_rule}
+use Rattle.command_words.specs.CommandLines.{letter_rule, program_app, switch_rule, value_rule, with_rules, word_rule}
 use Rattle.init_words.specs.declared.levels.Level.{Level}
 use Rattle.init_words.specs.Levels.{level_read}
 use Rattle.program_io.specs.Arguments.{only_byte}
 use Rattle.rc_command.specs.declared.command.RunOptions.{RunOptions}
+use Rattle.rc_command.specs.declared.command.TheConstants.{SECONDS_LIMIT}
+use Rattle.rc_driver.specs.declared.runs.Passage.{Passage}
+use Rattle.text_lines.specs.Numbers.{number_read}
 use Rattle.rc_command.specs.declared.command.Words.{Words}
 use Rattle.rc_links.specs.Names.{is_name_byte}
 
@@ -18,6 +21,8 @@ command_line = with_rules (program_app (codes "rc")) (
     ∷ letter_rule (codes "verbose") 118
     ∷ switch_rule (codes "strict")
     ∷ switch_rule (codes "direct")
+    ∷ switch_rule (codes "as-sysv")
+    ∷ value_rule (codes "timeout")
     ∷ word_rule (codes "dir")
     ∷ word_rule (codes "previous")
     ∷ word_rule (codes "new")
@@ -58,25 +63,59 @@ value_in id rows = unwrap_or (first_of id rows) []
 abbrev pub is_set : Text → List Row → Bool
 is_set id rows = bytes_eq (value_in id rows) (codes "true")
 
-abbrev pub options_said : List Row → RunOptions
-options_said rows = record {
+-- a number of seconds: 1 to the limit
+abbrev pub seconds_read : Text → Option ℕ
+seconds_read word =
+    option_and_then (λ seconds. if nat_lt 0 seconds then Some seconds else None) (number_read (SECONDS_LIMIT + 1) word)
+
+-- the seconds that are given, if they are; nothing where they are none
+abbrev pub seconds_in : Option Text → Option (Option ℕ)
+seconds_in None = Some None
+seconds_in (Some word) = option_map Some (seconds_read word)
+
+abbrev pub seconds_said : List Row → Option (Option ℕ)
+seconds_said rows = seconds_in (first_of (codes "timeout") rows)
+
+-- the options, with these seconds
+abbrev pub options_said : Option ℕ → List Row → RunOptions
+options_said seconds rows = record {
   dry = is_set (codes "dry") rows;
   strict = is_set (codes "strict") rows;
-  way = record { direct = is_set (codes "direct") rows; verbose = is_set (codes "verbose") rows };
+  way = record {
+    direct = is_set (codes "direct") rows || is_set (codes "as-sysv") rows;
+    verbose = is_set (codes "verbose") rows;
+    seconds = seconds;
+    levels = None;
+  };
 }
 
+-- the options with the change of level, where scripts are run as sysv-rc runs them
+abbrev pub entering : Bool → Passage → RunOptions → RunOptions
+entering sysv passage options =
+    if sysv then record options { way = record options.way { levels = Some passage } } else options
+
 -- what three words and the options say
-abbrev pub said_by : Text → Text → Text → RunOptions → Option Said
-said_by dir before after options =
+abbrev pub said_by : Text → Text → Text → Bool → RunOptions → Option Said
+said_by dir before after sysv options =
     if is_dir dir then
     option_and_then
-    (λ previous. option_map (λ new. record { dir = dir; previous = previous; new = new; options = options }) (level_of after))
+    (λ previous. option_map
+    (λ new. record {
+      dir = dir;
+      previous = previous;
+      new = new;
+      options = entering sysv (record { before = previous; new = new }) options;
+    })
+    (level_of after))
     (previous_of before)
     else None
 
 abbrev pub rows_said : List Row → Option Said
 rows_said rows =
-    said_by (value_in (codes "dir") rows) (value_in (codes "previous") rows) (value_in (codes "new") rows) (options_said rows)
+    option_and_then
+    (λ seconds. said_by (value_in (codes "dir") rows) (value_in (codes "previous") rows) (value_in (codes "new") rows)
+    (is_set (codes "as-sysv") rows) (options_said seconds rows))
+    (seconds_said rows)
 
 -- what words say; where the command line has a fault in them, nothing
 abbrev pub read_of : List Text → Option Said

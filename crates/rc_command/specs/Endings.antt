@@ -1,5 +1,5 @@
 -- How a run of `rc` ends, and what is written of it.
-use Rattle.std.specs.Prelude.{◌≡◌, ◌⊎◌, ℕ, Bool, true, false, if◌then◌else◌, List, [], ◌++◌, codes, length, Option, Some}
+use Rattle.std.specs.Prelude.{◌≡◌, ◌⊎◌, ℕ, Bool, true, false, if◌then◌else◌, List, [], ◌++◌, codes, length, Option, Some, None}
 use Rattle.std.specs.List.{list_any}
 use Rattle.std.specs.Io.KnownBytes.{Appends}
 use Rattle.program_io.specs.Writing.{AppendsPrefix}
@@ -9,8 +9,10 @@ use Rattle.rc_driver.specs.declared.driving.RunEnd.{RunEnd}
 use Rattle.rc_driver.specs.declared.driving.RunEnd.TheVariants as run_end
 use Rattle.rc_driver.specs.declared.runs.RcAnswer.{RcAnswer}
 use Rattle.rc_driver.specs.Printing.{command_lines}
-use Rattle.rc_driver.specs.Report.{done_end, report}
-use Rattle.rc_driver.specs.Runs.{LinkRun, RcState, is_failure, rc_run}
+use Rattle.rc_driver.specs.Report.{done_end, output, report}
+use Rattle.rc_driver.specs.Runs.{LinkRun, RcState, is_failure}
+use Rattle.rc_driver.specs.Sysv.{scripts_by}
+use Rattle.rc_driver.specs.declared.runs.Passage.{Passage}
 use Rattle.rc_driver.specs.Told.{RunsLinks}
 use Rattle.rc_command.specs.CommandLine.{Said, read_of}
 use Rattle.rc_command.specs.declared.command.RunOptions.{RunOptions}
@@ -28,9 +30,13 @@ status_of strict _ = DEVICE_FAULT
 abbrev pub IsWhole : ℕ → Type 0
 IsWhole status = (status ≡ DONE) ⊎ (status ≡ SCRIPT_FAILED)
 
--- the scripts by the names in two folders, none of them handed out
-abbrev pub rc_of : List (List ℕ) → List (List ℕ) → RcState
-rc_of previous names = record { left = rc_run previous names; waits = false }
+-- the scripts by the names in two folders, as sysv-rc has them where a change of level is given; none is handed out
+abbrev pub rc_of : Option Passage → List (List ℕ) → List (List ℕ) → RcState
+rc_of levels previous names = record { left = scripts_by levels previous names; waits = false }
+
+-- nothing is told where nothing is run, or scripts have no limit
+abbrev pub IsSilent : RunOptions → Type 0
+IsSilent options = (options.dry ≡ true) ⊎ (options.way.seconds ≡ None)
 
 -- what is reported of a script that has not ended: the link in the folder at the path
 abbrev pub limit_text : List ℕ → List ℕ → List ℕ
@@ -45,18 +51,19 @@ ended_text path run_end.Memory = codes "rc: out of memory\n"
 ended_text path _ = []
 
 -- scripts were run from the folder at the path, with these calls; the status is that of how the run ended, and so much
--- of what is reported of it was written as the other writer took
+-- of what is reported of it was written as the other writer took, behind what their times have told
 abbrev pub RunsScripts : RunOptions → List ℕ → RcState → Option (List ℕ) → Option (List ℕ) → ℕ → Option (List ℕ)
     → Option (List ℕ) → List HostCall → Type 0
 RunsScripts options path rc before told status after tells calls = (ended : RunEnd) × (new : RcState)
-    × RunsLinks options.way path PAUSES_LIMIT false rc before ended new after calls
-    × (status ≡ status_of options.strict ended) × AppendsPrefix told tells (ended_text path ended)
+    × (between : Option (List ℕ))
+    × RunsLinks options.way path PAUSES_LIMIT false rc (output before told) ended new (output after between) calls
+    × (status ≡ status_of options.strict ended) × AppendsPrefix between tells (ended_text path ended)
 
 -- those of two folders' names
 abbrev pub RunsNames : RunOptions → List ℕ → List (List ℕ) → List (List ℕ) → Option (List ℕ) → Option (List ℕ) → ℕ
     → Option (List ℕ) → Option (List ℕ) → List HostCall → Type 0
 RunsNames options path previous names before told status after tells calls =
-    RunsScripts options path (rc_of previous names) before told status after tells calls
+    RunsScripts options path (rc_of options.way.levels previous names) before told status after tells calls
 
 -- the names are those in the two folders that a command line names, where they are known
 abbrev pub AreNames : KnownNames → Said → List (List ℕ) → List (List ℕ) → Type 0
@@ -73,8 +80,8 @@ RunsSaid names_at said before told status after tells =
 -- nothing is run; else their lines
 abbrev pub written : RunOptions → List ℕ → List (List ℕ) → List (List ℕ) → List RcAnswer → List ℕ
 written options path previous names answers =
-    if options.dry then command_lines options.way path (rc_run previous names)
-    else report options.way (rc_run previous names) answers
+    if options.dry then command_lines options.way path (scripts_by options.way.levels previous names)
+    else report options.way (scripts_by options.way.levels previous names) answers
 
 -- all of them came to their ends, and the status is the one for them; where nothing is run it is 0
 abbrev pub IsEnded : RunOptions → List LinkRun → List RcAnswer → ℕ → Type 0
@@ -87,7 +94,7 @@ IsEnded options scripts answers status =
 abbrev pub ReportsNames : RunOptions → List ℕ → List (List ℕ) → List (List ℕ) → Option (List ℕ) → ℕ → Option (List ℕ)
     → Type 0
 ReportsNames options path previous names old status new = (answers : List RcAnswer)
-    × IsEnded options (rc_run previous names) answers status
+    × IsEnded options (scripts_by options.way.levels previous names) answers status
     × Appends old new (written options path previous names answers)
 
 -- a prefix of what is written of the first of them

@@ -1,6 +1,6 @@
 //! rc at work: the scripts of two runlevels' links, stopped and started over a host, or printed.
 
-ghost use Rattle.std.specs.Prelude.{◌≡◌, ◌≢◌, ◌⊎◌, true, false, codes, IsSome, List, map, string_bytes};
+ghost use Rattle.std.specs.Prelude.{◌≡◌, ◌≢◌, ◌⊎◌, true, false, codes, IfOk, IsSome, None, List, map, string_bytes};
 ghost use Rattle.child_host.specs.Calls.{HostCall};
 ghost use Rattle.child_host.specs.Record.{Since};
 ghost use Rattle.command_words.specs.CommandLines.{asks_version};
@@ -11,16 +11,17 @@ ghost use Rattle.rc_command.specs.CommandLine.{read_of, said_of};
 ghost use Rattle.rc_command.specs.Endings.{Asks, IsWhole, Reports, ReportsFirst, ReportsNames, ReportsPart};
 ghost use Rattle.std.specs.Io.KnownBytes.{Appends};
 ghost use Rattle.rc_driver.specs.Printing.{command_lines};
-ghost use Rattle.rc_command.specs.Endings.{RunsNames, RunsSaid, RunsScripts, ended_text, limit_text, status_of};
+ghost use Rattle.rc_command.specs.Endings.{IsSilent, RunsNames, RunsSaid, RunsScripts, ended_text, limit_text, rc_of, status_of};
 
 use crate::command::{RunOptions, Words, read_words};
 use crate::folders::{Folders, folder_of, previous_names};
 use child_host::Host;
 use command_words::{is_version, report_word_fault};
+use init_words::Memory;
 use os_host::OsHost;
 use program_io::{DEVICE_FAULT, DONE, LIMIT_REACHED, REFUSED, report_no_memory, write_text};
 use program_version::print_version;
-use rc_driver::{Rc, RunEnd, RunWay, print_links, run_links};
+use rc_driver::{Passage, Rc, RunEnd, RunWay, print_links, run_links};
 use std::alloc::Global;
 use std::fs::File;
 use std::io;
@@ -38,12 +39,15 @@ const PAUSE: &str = "0.1";
 pub const SCRIPT_FAILED: u8 = 2;
 
 /// What is reported of words that are no command line, behind a line that says why.
-pub const USAGE: &str = "usage: rc [-n] [-v] [--strict] [--direct] DIR PREV NEW
+pub const USAGE: &str =
+    "usage: rc [-n] [-v] [--strict] [--direct] [--as-sysv] [--timeout SEC] DIR PREV NEW
        rc --version
-  -n        print what would be run, and run nothing
-  -v        tell of each start
-  --strict  status 2 where a script fails
-  --direct  execute each script by its own first line, not by sh
+  -n             print what would be run, and run nothing
+  -v             tell of each start
+  --strict       status 2 where a script fails
+  --direct       execute each script by its own first line, not by sh
+  --as-sysv      run what sysv-rc runs, and as it does; --direct is meant too
+  --timeout SEC  send TERM to a script that runs longer than SEC seconds, 1 to 86400, and KILL 5 seconds later
   DIR   the folder that holds those of the runlevels, as rc3.d; of bytes of A-Z a-z 0-9 . _ - / alone
   PREV  the runlevel before, 0 to 9 or S, or N where there was none
   NEW   the runlevel that is entered, 0 to 9 or S
@@ -186,8 +190,8 @@ where
 /// Runs the scripts of the folder at `path` over a host, from the names in the folder of the previous level and in it,
 /// and gives the exit status: 0 where all were carried out, 2 where that is asked for and one of them failed, 3 where a
 /// script has not ended after `PAUSES_LIMIT` pauses, 4 where the output fails or memory runs out. A line for each script
-/// is written on `out` at its end, a fault is reported on `err`; the script that has not ended is named there. Where
-/// the options say so nothing is run: what would start each script is written, and nothing is asked of the host.
+/// is written on `out` at its end, a fault is reported on `err`; the script that has not ended is named there, and one
+/// that was sent a signal since its time was up. Where the options say so nothing is run: what would start each script is written, and nothing is asked of the host.
 pub fn run_names<H: Host, W: Write, E: Write>(
     alloc: Global,
     host: &mut H,
@@ -212,15 +216,31 @@ pub fn run_names<H: Host, W: Write, E: Write>(
         path.now (map string_bytes previous.now) (map string_bytes names.now)
         (W.contents out.old) (E.contents err.old) result (W.contents out.new)
         (E.contents err.new))) }
-    ensures silent { IsWhole result → err.new ≡ err.old }
+    ensures silent { IsWhole result → IsSilent options → err.new ≡ err.old }
 {
-    let Ok(mut rc) = Rc::new(alloc, previous, names) else {
+    let Ok(mut rc) = rc_of(alloc, options.way.levels, previous, names) else {
         return report_no_memory("rc", err);
     };
     if options.dry {
         print_all(alloc, &mut rc, path, options.way, out, err)
     } else {
         run_all(alloc, &mut rc, host, path, options, out, err)
+    }
+}
+
+/// The scripts by the names in two folders: as sysv-rc has them, where a change of level is given.
+fn rc_of<'n>(
+    alloc: Global,
+    levels: Option<Passage>,
+    previous: &[String],
+    names: &'n [String],
+) -> Result<Rc<'n>, Memory>
+    ensures { IfOk result (λ rc. rc
+        ≡ rc_of levels (map string_bytes previous.now) (map string_bytes names.now)) }
+{
+    match levels {
+        Some(passage) => Rc::as_sysv(alloc, passage, previous, names),
+        None => Rc::new(alloc, previous, names),
     }
 }
 
@@ -239,9 +259,9 @@ fn run_all<'n, H: Host, W: Write, E: Write>(
     ensures ran { Since (H.told host.old) (H.told host.new) (RunsScripts options path.now rc.old
         (W.contents out.old) (E.contents err.old) result (W.contents out.new)
         (E.contents err.new)) }
-    ensures silent { IsWhole result → err.new ≡ err.old }
+    ensures silent { IsWhole result → options.way.seconds ≡ None → err.new ≡ err.old }
 {
-    let ended = run_links(alloc, rc, host, options.way, path, PAUSES_LIMIT, out);
+    let ended = run_links(alloc, rc, host, options.way, path, PAUSES_LIMIT, out, err);
     report_end(path, options.strict, ended, err)
 }
 

@@ -1,50 +1,148 @@
 -- The calls of one script's run, put together.
-use Rattle.std.proofs.Common.{◌≡◌, refl, ap, ◌∙◌, subst, ℕ, ◌+◌, true, List, [], ◌∷◌, ◌++◌, length, filter, Option, arith}
+use Rattle.std.proofs.Common.{◌≡◌, refl, ap, ◌∙◌, subst, cond, nat_lt, ℕ, ◌+◌, ◌-◌, Bool, true, false, List, [], ◌∷◌, ◌++◌, length, filter, Option, Some, None, Result, Ok, Err, arith}
 use Rattle.std.proofs.lemmas.List.{length-append}
+use Rattle.std.proofs.lemmas.Option.{none-some, same_Some}
 use Rattle.std.proofs.lemmas.List.Elements.{filter-append}
+use Rattle.init_words.specs.declared.limits.TheConstants.{GRACE}
 use Rattle.init_words.specs.declared.orders.Answer.{Answer}
+use Rattle.init_words.specs.declared.orders.Sig.{Sig}
+use Rattle.init_words.specs.declared.orders.Sig.TheVariants as sig
 use Rattle.child_host.specs.Calls.{HostCall, Adds}
 use Rattle.child_host.specs.Record.{Since}
 use Rattle.child_host.specs.declared.calls.Call.TheVariants as call
+use Rattle.child_host.specs.declared.calls.HostFault.{HostFault}
 use Rattle.child_host.specs.declared.calls.Reply.{Reply}
-use Rattle.child_host.proofs.Record.{Since-one, Since-then}
+use Rattle.child_host.proofs.Record.{Since-map, Since-one, Since-then}
 use Rattle.rc_driver.specs.declared.progress.Progress.{Progress}
 use Rattle.rc_driver.specs.declared.progress.Progress.TheVariants as progress
-use Rattle.rc_driver.specs.Parts.{Begins, Goes, GoneTo}
+use Rattle.rc_driver.specs.declared.runs.RcAnswer.{RcAnswer}
+use Rattle.rc_driver.specs.declared.runs.RunWay.{RunWay}
+use Rattle.rc_driver.specs.declared.times.Timer.{Timer}
+use Rattle.rc_driver.specs.declared.times.Timer.TheVariants as timer
+use Rattle.program_io.specs.Writing.{AppendsPrefix}
+use Rattle.rc_driver.specs.Parts.{Begins, EndsEarly, Goes, GoesFurther, GoneTo, HasRun}
 use Rattle.rc_driver.specs.Progress.{RunsTo, by_late, by_look, by_reply, by_start, count_pauses, is_pause, is_waiting, script_id}
+use Rattle.rc_driver.specs.Report.{Tells}
+use Rattle.rc_driver.specs.Times.{due_by, due_signal, signal_line, time_lines, timer_at, timer_by}
 
 -- a start
-pub begins : (old new : Option (List HostCall)) (id text : List ℕ) (reply : Reply) (now : Progress) → Adds old new (call.Start id text reply) → id ≡ script_id
-    → now ≡ by_reply by_start reply → Since old new (Begins text now)
-begins old new id text reply now adds of is = Since-one old new (call.Start id text reply) (Begins text now) adds ((of, refl, refl, is), refl)
+pub begins : (old new : Option (List HostCall)) (limit : Option ℕ) (id text : List ℕ) (reply : Reply) (now : Progress) → Adds old new (call.Start id text reply) → id ≡ script_id
+    → now ≡ by_reply (by_start limit) reply → Since old new (Begins limit text now)
+begins old new limit id text reply now adds of is =
+    Since-one old new (call.Start id text reply) (Begins limit text now) adds ((of, refl, refl, is, refl), refl)
 
 -- a look
-pub goes_look : (old new : Option (List HostCall)) (id : List ℕ) (reply : Reply) (now : Progress) → Adds old new (call.Look id reply) → id ≡ script_id
-    → now ≡ by_reply by_look reply → Since old new (Goes progress.Born now 0)
-goes_look old new id reply now adds of is =
-    Since-one old new (call.Look id reply) (Goes progress.Born now 0) adds (refl, λ command earlier ran. (of, ran, is))
+pub goes_look : (old new : Option (List HostCall)) (limit : Option ℕ) (id : List ℕ) (reply : Reply) (now : Progress) → Adds old new (call.Look id reply) → id ≡ script_id
+    → now ≡ by_reply (by_look limit) reply → Since old new (GoesFurther limit progress.Born now 0)
+goes_look old new limit id reply now adds of is =
+    Since-one old new (call.Look id reply) (GoesFurther limit progress.Born now 0) adds (λ time. (refl, λ command earlier ran. (of, ran, is)))
 
 -- a pause, and what came later
-pub goes_pause : (old mid new : Option (List HostCall)) (late : Option (List ℕ × Answer)) (before now : Progress) → Adds old mid call.Pause
-    → Adds mid new (call.Late late) → is_waiting before ≡ true → now ≡ by_late before late → Since old new (Goes before now 1)
-goes_pause old mid new late before now pauses lates waiting is =
-    Since-then old mid new (λ xs. xs ≡ call.Pause ∷ []) (λ ys. ys ≡ call.Late late ∷ []) (Goes before now 1)
+pub goes_pause : (old mid new : Option (List HostCall)) (limit : Option ℕ) (late : Option (List ℕ × Answer)) (before now : Progress) → Adds old mid call.Pause
+    → Adds mid new (call.Late late) → is_waiting before ≡ true → now ≡ by_late limit before late → Since old new (GoesFurther limit before now 1)
+goes_pause old mid new limit late before now pauses lates waiting is =
+    Since-then old mid new (λ xs. xs ≡ call.Pause ∷ []) (λ ys. ys ≡ call.Late late ∷ []) (GoesFurther limit before now 1)
     (Since-one old mid call.Pause (λ xs. xs ≡ call.Pause ∷ []) pauses refl)
     (Since-one mid new (call.Late late) (λ ys. ys ≡ call.Late late ∷ []) lates refl)
-    (λ xs ys first second. rw (first, second) (refl, λ command earlier ran. (before, waiting, ran, is)))
+    (λ xs ys first second. rw (first, second) (λ time. (refl, λ command earlier ran. (before, waiting, ran, is))))
+
+-- a reading of the clock by which no signal is due
+pub goes_clock : (old new : Option (List HostCall)) (limit : Option ℕ) (reading : Result ℕ HostFault) (before now : Timer) → Adds old new (call.Clock reading)
+    → due_by limit before reading ≡ None → now ≡ timer_by before reading None
+    → Since old new (Goes limit progress.Found before progress.Living now 0)
+goes_clock old new limit reading before now adds due is =
+    Since-one old new (call.Clock reading) (Goes limit progress.Found before progress.Living now 0) adds
+    (refl, λ command earlier ran. (refl, before, ran, due, is))
+
+-- one by which a signal is due, and the signal
+pub goes_signal : (old mid new : Option (List HostCall)) (limit : Option ℕ) (reading : Result ℕ HostFault) (id : List ℕ) (signal : Sig) (reply : Reply) (before now : Timer)
+    → Adds old mid (call.Clock reading) → Adds mid new (call.Signal id signal reply) → id ≡ script_id
+    → due_by limit before reading ≡ Some signal → now ≡ timer_by before reading (Some signal)
+    → Since old new (Goes limit progress.Found before progress.Living now 0)
+goes_signal old mid new limit reading id signal reply before now clocks signals of due is =
+    Since-then old mid new (λ xs. xs ≡ call.Clock reading ∷ []) (λ ys. ys ≡ call.Signal id signal reply ∷ [])
+    (Goes limit progress.Found before progress.Living now 0)
+    (Since-one old mid (call.Clock reading) (λ xs. xs ≡ call.Clock reading ∷ []) clocks refl)
+    (Since-one mid new (call.Signal id signal reply) (λ ys. ys ≡ call.Signal id signal reply ∷ []) signals refl)
+    (λ xs ys first second. rw (first, second) (refl, λ command earlier ran. (of, refl, before, ran, due, is)))
+
+-- by a clock that can't be read none is due
+pub no_reading : (limit : Option ℕ) (before : Timer) (fault : HostFault) → due_by limit before (Err fault) ≡ None
+no_reading None before fault = refl
+no_reading (Some seconds) before fault = refl
+
+-- the signal that a choice gives
+some_of : {T : Type 0} (b : Bool) (x y : T) → cond b (Some x) None ≡ Some y → x ≡ y
+some_of true x y is = same_Some x y is
+some_of false x y is = absurd (none-some y is)
+
+-- a signal that is due is told behind those before
+tells_due : (way : RunWay) (dir link : List ℕ) (seconds now : ℕ) (time : Timer) (signal : Sig) → due_signal seconds time now ≡ Some signal
+    → time_lines way dir link (timer_at time now (Some signal)) ≡ signal_line way.seconds dir link signal ∷ time_lines way dir link time
+tells_due way dir link seconds now timer.Unread signal due = absurd (none-some signal due)
+tells_due way dir link seconds now timer.Killed signal due = absurd (none-some signal due)
+tells_due way dir link seconds now (timer.Since began) signal due =
+    subst (λ g. time_lines way dir link (timer_at (timer.Since began) now (Some g)) ≡ signal_line way.seconds dir link g ∷ [])
+    (some_of (nat_lt seconds (now - began)) sig.Term signal due) refl
+tells_due way dir link seconds now (timer.Warned sent) signal due =
+    subst (λ g. time_lines way dir link (timer_at (timer.Warned sent) now (Some g)) ≡ signal_line way.seconds dir link g ∷ signal_line way.seconds dir link sig.Term ∷ [])
+    (some_of (nat_lt GRACE (now - sent)) sig.Kill signal due) refl
+
+tells_by : (way : RunWay) (dir link : List ℕ) (limit : Option ℕ) (now : ℕ) (time : Timer) (signal : Sig) → due_by limit time (Ok now) ≡ Some signal
+    → time_lines way dir link (timer_at time now (Some signal)) ≡ signal_line way.seconds dir link signal ∷ time_lines way dir link time
+tells_by way dir link None now time signal due = absurd (none-some signal due)
+tells_by way dir link (Some seconds) now time signal due = tells_due way dir link seconds now time signal due
+
+pub tells_signal : (way : RunWay) (dir link : List ℕ) (limit : Option ℕ) (now : ℕ) (time : Timer) (signal : Sig) (before told tells : Option (List ℕ))
+    → due_by limit time (Ok now) ≡ Some signal → AppendsPrefix told tells (signal_line way.seconds dir link signal)
+    → Tells before told (time_lines way dir link time) → Tells before tells (time_lines way dir link (timer_at time now (Some signal)))
+tells_signal way dir link limit now time signal before told tells due line earlier =
+    rw (tells_by way dir link limit now time signal due) (told, earlier, line)
+
+-- a moment at which none is due tells nothing
+pub tells_none : (way : RunWay) (dir link : List ℕ) (now : ℕ) (time : Timer)
+    → time_lines way dir link (timer_at time now None) ≡ time_lines way dir link time
+tells_none way dir link now timer.Unread = refl
+tells_none way dir link now (timer.Since began) = refl
+tells_none way dir link now (timer.Warned sent) = refl
+tells_none way dir link now timer.Killed = refl
 
 count_both : (later earlier : List HostCall) → count_pauses (later ++ earlier) ≡ count_pauses later + count_pauses earlier
 count_both later earlier =
     ap length (filter-append is_pause later earlier) ∙ length-append (filter is_pause later) (filter is_pause earlier)
 
 -- a run that goes on
-pub gone_on : (old mid new : Option (List HostCall)) (command : List ℕ) (known before now : Progress) (taken pauses still left : ℕ) → known ≡ before
-    → still ≡ taken + left → Since old mid (GoneTo command known pauses still) → Since mid new (Goes before now taken)
-    → Since old new (GoneTo command now pauses left)
-gone_on old mid new command known before now taken pauses still left same fewer gone goes =
-    Since-then old mid new (GoneTo command known pauses still) (Goes before now taken) (GoneTo command now pauses left) gone goes
-    (λ earlier later was is. (is.1 command earlier (subst (λ p. RunsTo command p earlier) same was.0), counted earlier later was.1 is.0))
+pub gone_on : (old mid new : Option (List HostCall)) (limit : Option ℕ) (command : List ℕ) (known before now : Progress) (time then : Timer) (taken pauses still left : ℕ) → known ≡ before
+    → still ≡ taken + left → Since old mid (GoneTo limit command known time pauses still) → Since mid new (Goes limit before time now then taken)
+    → Since old new (GoneTo limit command now then pauses left)
+gone_on old mid new limit command known before now time then taken pauses still left same fewer gone goes =
+    Since-then old mid new (GoneTo limit command known time pauses still) (Goes limit before time now then taken) (GoneTo limit command now then pauses left) gone goes
+    (λ earlier later was is. (is.1 command earlier (subst (λ p. RunsTo limit command p time earlier) same was.0), counted earlier later was.1 is.0))
   where
     counted : (earlier later : List HostCall) → pauses ≡ count_pauses earlier + still → count_pauses later ≡ taken
         → pauses ≡ count_pauses (later ++ earlier) + left
     counted earlier later was is = rw (count_both later earlier, is) (omega (arith, was, fewer))
+
+-- the same, where its time stays as it stands
+pub gone_further : (old mid new : Option (List HostCall)) (limit : Option ℕ) (command : List ℕ) (known before now : Progress) (time : Timer) (taken pauses still left : ℕ) → known ≡ before
+    → still ≡ taken + left → Since old mid (GoneTo limit command known time pauses still) → Since mid new (GoesFurther limit before now taken)
+    → Since old new (GoneTo limit command now time pauses left)
+gone_further old mid new limit command known before now time taken pauses still left same fewer gone goes =
+    gone_on old mid new limit command known before now time time taken pauses still left same fewer gone
+    (Since-map mid new (GoesFurther limit before now taken) (Goes limit before time now time taken) goes (λ calls is. is time))
+
+-- a script that came to its end, with what its time has told
+pub has_run : (old new : Option (List HostCall)) (way : RunWay) (dir link command : List ℕ) (now : Progress) (given : RcAnswer) (time : Timer) (pauses still : ℕ) (told tells : Option (List ℕ))
+    → now ≡ progress.Over given → Since old new (GoneTo way.seconds command now time pauses still) → Tells told tells (time_lines way dir link time)
+    → Since old new (HasRun way dir link command given pauses still told tells)
+has_run old new way dir link command now given time pauses still told tells is gone lines =
+    Since-map old new (GoneTo way.seconds command now time pauses still) (HasRun way dir link command given pauses still told tells) gone
+    (λ calls was. (time, subst (λ p. GoneTo way.seconds command p time pauses still calls) is was, lines))
+
+-- one that has none where the pauses are used up
+pub has_stopped : (old new : Option (List HostCall)) (way : RunWay) (dir link command : List ℕ) (now : Progress) (time : Timer) (pauses still : ℕ) (told tells : Option (List ℕ))
+    → is_waiting now ≡ true → still ≡ 0 → Since old new (GoneTo way.seconds command now time pauses still) → Tells told tells (time_lines way dir link time)
+    → Since old new (EndsEarly way dir link command pauses told tells)
+has_stopped old new way dir link command now time pauses still told tells waiting none gone lines =
+    Since-map old new (GoneTo way.seconds command now time pauses still) (EndsEarly way dir link command pauses told tells) gone
+    (λ calls was. (now, time, waiting, was.0, omega (arith, was.1, none), lines))

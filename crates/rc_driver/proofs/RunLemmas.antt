@@ -6,7 +6,7 @@ use Rattle.std.proofs.Math.Bool.{or-false, or_assoc}
 use Rattle.std.proofs.lemmas.Bool.{true≢false}
 use Rattle.std.specs.Io.KnownBytes.{Appends}
 use Rattle.program_io.specs.Writing.{AppendsPrefix}
-use Rattle.program_io.proofs.WritingLemmas.{AppendsPrefix-first, AppendsPrefix-then, AppendsPrefix-whole}
+use Rattle.program_io.proofs.WritingLemmas.{AppendsPrefix-first, AppendsPrefix-then}
 use Rattle.child_host.specs.Calls.{HostCall}
 use Rattle.child_host.specs.Record.{Since}
 use Rattle.rc_driver.specs.declared.driving.RunEnd.{RunEnd}
@@ -15,7 +15,7 @@ use Rattle.rc_driver.specs.declared.runs.RcAnswer.{RcAnswer}
 use Rattle.rc_driver.specs.declared.runs.RcAnswer.TheVariants as answer
 use Rattle.rc_driver.specs.declared.runs.RunWay.{RunWay}
 use Rattle.rc_driver.specs.Progress.{count_pauses}
-use Rattle.rc_driver.specs.Report.{TellsStart, WritesEnds, begin_line, done_end, is_over, line_of, lines_of, report}
+use Rattle.rc_driver.specs.Report.{Output, TellsStart, WritesEnds, begin_line, done_end, is_over, line_of, lines_of, report}
 use Rattle.rc_driver.specs.Runs.{LinkRun, RcState, is_failure}
 use Rattle.rc_driver.specs.Told.{EndsAt, RunsFrom, RunsLinks}
 
@@ -48,30 +48,30 @@ lines_told way s given before mid after told wrote =
     started_line way.verbose (begin_line s) (line_of s given) before mid after told wrote
 
 -- a run that ends at a script has written a part of its lines
-pub stops_part : (way : RunWay) (dir : List ℕ) (pauses : ℕ) (s : LinkRun) (before : Option (List ℕ)) (ended : RunEnd) (after : Option (List ℕ)) (calls : List HostCall)
-    → EndsAt way dir pauses s before ended after calls → (given : RcAnswer) × AppendsPrefix before after (lines_of way s given)
-stops_part way dir pauses s before (run_end.Limit link) after calls (named, now, waiting, ran, count, told) = (
+pub stops_part : (way : RunWay) (dir : List ℕ) (pauses : ℕ) (s : LinkRun) (before : Output) (ended : RunEnd) (after : Output) (calls : List HostCall)
+    → EndsAt way dir pauses s before ended after calls → (given : RcAnswer) × AppendsPrefix before.lines after.lines (lines_of way s given)
+stops_part way dir pauses s before (run_end.Limit link) after calls (named, now, time, waiting, ran, count, told, begun) = (
   answer.NotStarted,
-  started_part way.verbose (begin_line s) (line_of s answer.NotStarted) before after after told
-      (AppendsPrefix-none after (line_of s answer.NotStarted)),
+  started_part way.verbose (begin_line s) (line_of s answer.NotStarted) before.lines after.lines after.lines begun
+      (AppendsPrefix-none after.lines (line_of s answer.NotStarted)),
 )
-stops_part way dir pauses s before run_end.Write after calls (inl (verbose, none, wrote)) = (
+stops_part way dir pauses s before run_end.Write after calls (inl (verbose, none, wrote, stays)) = (
   answer.NotStarted,
-  unstarted_part way.verbose (begin_line s) (line_of s answer.NotStarted) before after verbose wrote,
+  unstarted_part way.verbose (begin_line s) (line_of s answer.NotStarted) before.lines after.lines verbose wrote,
 )
-stops_part way dir pauses s before run_end.Write after calls (inr (given, mid, ran, told, wrote)) =
-    (given, started_part way.verbose (begin_line s) (line_of s given) before mid after told wrote)
+stops_part way dir pauses s before run_end.Write after calls (inr (given, mid, ran, begun, wrote)) =
+    (given, started_part way.verbose (begin_line s) (line_of s given) before.lines mid after.lines begun wrote)
 stops_part way dir pauses s before run_end.Memory after calls (none, same) = (
   answer.NotStarted,
-  subst (λ b. AppendsPrefix before b (lines_of way s answer.NotStarted)) (sym same)
-      (AppendsPrefix-none before (lines_of way s answer.NotStarted)),
+  subst (λ (b : Output). AppendsPrefix before.lines b.lines (lines_of way s answer.NotStarted)) (sym same)
+      (AppendsPrefix-none before.lines (lines_of way s answer.NotStarted)),
 )
 stops_part way dir pauses s before run_end.Done after calls at = absurd at
 stops_part way dir pauses s before run_end.Failed after calls at = absurd at
 stops_part way dir pauses s before run_end.Waiting after calls at = absurd at
 
 -- it is not over
-pub stops_early : (way : RunWay) (dir : List ℕ) (pauses : ℕ) (s : LinkRun) (before : Option (List ℕ)) (ended : RunEnd) (after : Option (List ℕ)) (calls : List HostCall)
+pub stops_early : (way : RunWay) (dir : List ℕ) (pauses : ℕ) (s : LinkRun) (before : Output) (ended : RunEnd) (after : Output) (calls : List HostCall)
     → EndsAt way dir pauses s before ended after calls → is_over ended ≡ false
 stops_early way dir pauses s before (run_end.Limit link) after calls at = refl
 stops_early way dir pauses s before run_end.Write after calls at = refl
@@ -89,43 +89,43 @@ record Wrote (way : RunWay) (failed : Bool) (scripts : List LinkRun) (before : O
       (ended ≡ done_end (failed || list_any is_failure answers)) × (length answers ≡ length scripts)
       × Appends before after (report way scripts answers) × (left ≡ [])
 
-wrote : (way : RunWay) (dir : List ℕ) (pauses : ℕ) (failed : Bool) (scripts : List LinkRun) (before : Option (List ℕ)) (ended : RunEnd) (left : List LinkRun) (after : Option (List ℕ)) (calls : List HostCall)
-    → RunsFrom way dir pauses failed scripts before ended left after calls → Wrote way failed scripts before ended left after
+wrote : (way : RunWay) (dir : List ℕ) (pauses : ℕ) (failed : Bool) (scripts : List LinkRun) (before : Output) (ended : RunEnd) (left : List LinkRun) (after : Output) (calls : List HostCall)
+    → RunsFrom way dir pauses failed scripts before ended left after calls → Wrote way failed scripts before.lines ended left after.lines
 wrote way dir pauses failed [] before ended left after calls (is, none, same, no_calls) = record {
   answers = [];
-  part = subst (λ b. AppendsPrefix before b []) (sym same) (AppendsPrefix-none before []);
-  whole = λ over. (is ∙ ap done_end (sym (or-false failed)), refl, subst (λ b. Appends before b []) (sym same) (Appends-nil before), none);
+  part = subst (λ (b : Output). AppendsPrefix before.lines b.lines []) (sym same) (AppendsPrefix-none before.lines []);
+  whole = λ over. (is ∙ ap done_end (sym (or-false failed)), refl, subst (λ (b : Output). Appends before.lines b.lines []) (sym same) (Appends-nil before.lines), none);
 }
 wrote way dir pauses failed (s ∷ scripts) before ended left after calls (inl (at, behind)) =
     let stop = stops_part way dir pauses s before ended after calls at in
     let early = stops_early way dir pauses s before ended after calls at in
     record {
       answers = stop.0 ∷ [];
-      part = AppendsPrefix-first before after (lines_of way s stop.0) (report way scripts []) stop.1;
+      part = AppendsPrefix-first before.lines after.lines (lines_of way s stop.0) (report way scripts []) stop.1;
       whole = λ over. absurd (true≢false (sym over ∙ early));
     }
 wrote way dir pauses failed (s ∷ scripts) before ended left after calls (inr (given, first, later, between, is, ran, line, rest)) =
     let behind = wrote way dir (pauses - count_pauses first) (failed || is_failure given) scripts between ended left after later rest in
     record {
       answers = given ∷ behind.answers;
-      part = AppendsPrefix-then before between after (lines_of way s given) (report way scripts behind.answers) line behind.part;
+      part = AppendsPrefix-then before.lines between.lines after.lines (lines_of way s given) (report way scripts behind.answers) line behind.part;
       whole = λ over. let all = behind.whole over in (
         all.0 ∙ ap done_end (or_assoc failed (is_failure given) (list_any is_failure behind.answers)),
         ap suc all.1,
-        Appends-trans before between after (lines_of way s given) (report way scripts behind.answers) line all.2,
+        Appends-trans before.lines between.lines after.lines (lines_of way s given) (report way scripts behind.answers) line all.2,
         all.3,
       );
     }
 
 -- what a run has written
-pub writes_ends : (old new : Option (List HostCall)) (way : RunWay) (dir : List ℕ) (pauses : ℕ) (rc now : RcState) (before after : Option (List ℕ)) (ended : RunEnd)
-    → Since old new (RunsLinks way dir pauses false rc before ended now after) → WritesEnds way rc before ended now after
+pub writes_ends : (old new : Option (List HostCall)) (way : RunWay) (dir : List ℕ) (pauses : ℕ) (rc now : RcState) (before after : Output) (ended : RunEnd)
+    → Since old new (RunsLinks way dir pauses false rc before ended now after) → WritesEnds way rc before.lines ended now after.lines
 writes_ends old new way dir pauses rc now before after ended (calls, told, runs) = by rc.waits refl
   where
-    by : (waits : Bool) → rc.waits ≡ waits → WritesEnds way rc before ended now after
+    by : (waits : Bool) → rc.waits ≡ waits → WritesEnds way rc before.lines ended now after.lines
     by true is = let same = runs.waits is in record {
       answers = [];
-      part = subst (λ b. AppendsPrefix before b (report way rc.left [])) (sym same.2) (AppendsPrefix-none before (report way rc.left []));
+      part = subst (λ (b : Output). AppendsPrefix before.lines b.lines (report way rc.left [])) (sym same.2) (AppendsPrefix-none before.lines (report way rc.left []));
       whole = λ over. absurd (true≢false (sym over ∙ ap is_over same.0));
       waits = λ early. subst (λ (r : RcState). r.waits ≡ true) (sym same.1) is;
     }

@@ -9,96 +9,108 @@ use Rattle.child_host.specs.Record.{Since}
 use Rattle.child_host.proofs.Record.{Since-map, Since-none, Since-then}
 use Rattle.rc_driver.specs.declared.driving.RunEnd.{RunEnd}
 use Rattle.rc_driver.specs.declared.driving.RunEnd.TheVariants as run_end
-use Rattle.rc_driver.specs.declared.progress.Progress.{Progress}
-use Rattle.rc_driver.specs.declared.progress.Progress.TheVariants as progress
 use Rattle.rc_driver.specs.declared.runs.Arg.{Arg}
 use Rattle.rc_driver.specs.declared.runs.RcAnswer.{RcAnswer}
 use Rattle.rc_driver.specs.declared.runs.RunWay.{RunWay}
-use Rattle.rc_driver.specs.Parts.{Advanced, EndsCommand, EndsEarly, GoneTo}
+use Rattle.rc_driver.specs.Parts.{Advanced, EndsCommand, EndsEarly, HasRun}
 use Rattle.rc_driver.specs.Progress.{RunsTo, count_pauses}
-use Rattle.rc_driver.specs.Report.{TellsStart, begin_line, command_text, done_end, is_over, line_of, lines_of}
+use Rattle.rc_driver.specs.Report.{Output, TellsStart, begin_line, command_text, done_end, is_over, line_of, lines_of, output}
 use Rattle.rc_driver.specs.Runs.{LinkRun, RcState, is_failure}
-use Rattle.rc_driver.specs.Told.{EndsAt, RunsFrom, RunsLinks}
+use Rattle.rc_driver.specs.Told.{EndsAt, RanBy, RunsFrom, RunsLinks}
 use Rattle.rc_driver.proofs.RunLemmas.{lines_told, stops_early}
 
 -- the text that started it is the script's
-pub gone_by : (old new : Option (List HostCall)) (command text : List ℕ) (now : Progress) (pauses still : ℕ) → command ≡ text
-    → Since old new (GoneTo command now pauses still) → Since old new (GoneTo text now pauses still)
-gone_by old new command text now pauses still same gone = subst (λ t. Since old new (GoneTo t now pauses still)) same gone
+pub run_by : (old new : Option (List HostCall)) (way : RunWay) (dir link command text : List ℕ) (given : RcAnswer) (pauses still : ℕ) (told tells : Option (List ℕ)) → command ≡ text
+    → Since old new (HasRun way dir link command given pauses still told tells)
+    → Since old new (HasRun way dir link text given pauses still told tells)
+run_by old new way dir link command text given pauses still told tells same gone =
+    subst (λ t. Since old new (HasRun way dir link t given pauses still told tells)) same gone
 
 -- the pauses are used up
-pub ends_early : (old new : Option (List HostCall)) (command : List ℕ) (pauses : ℕ) (link : Bor (List ℕ)) (given : Arg) (bytes : Option (List ℕ))
-    → Since old new (EndsEarly command pauses)
-    → Since old new (EndsCommand command pauses (link.now, given) bytes (run_end.Limit link) bytes)
-ends_early old new command pauses link given bytes early =
-    Since-map old new (EndsEarly command pauses) (EndsCommand command pauses (link.now, given) bytes (run_end.Limit link) bytes) early
+pub ends_early : (old new : Option (List HostCall)) (way : RunWay) (dir command : List ℕ) (pauses : ℕ) (link : Bor (List ℕ)) (given : Arg) (bytes told tells : Option (List ℕ))
+    → Since old new (EndsEarly way dir link.now command pauses told tells)
+    → Since old new (EndsCommand way dir command pauses (link.now, given) (output bytes told) (run_end.Limit link) (output bytes tells))
+ends_early old new way dir command pauses link given bytes told tells early =
+    Since-map old new (EndsEarly way dir link.now command pauses told tells)
+    (EndsCommand way dir command pauses (link.now, given) (output bytes told) (run_end.Limit link) (output bytes tells)) early
     (λ calls is. (refl, is, refl))
 
+-- what ran to its end with fewer pauses ran with so many at most
+ran_by : (way : RunWay) (dir command : List ℕ) (pauses still : ℕ) (s : LinkRun) (given : RcAnswer) (told tells : Option (List ℕ)) (calls : List HostCall)
+    → HasRun way dir s.0 command given pauses still told tells calls → RanBy way dir command pauses s given told tells calls
+ran_by way dir command pauses still s given told tells calls (time, (ran, count), lines) =
+    (time, ran, omega (arith, count), lines)
+
 -- the line was not written
-pub ends_unwritten : (old new : Option (List HostCall)) (command : List ℕ) (pauses still : ℕ) (s : LinkRun) (given : RcAnswer) (before after : Option (List ℕ)) (ended : RunEnd)
-    → Since old new (GoneTo command (progress.Over given) pauses still)
+pub ends_unwritten : (old new : Option (List HostCall)) (way : RunWay) (dir command : List ℕ) (pauses still : ℕ) (s : LinkRun) (given : RcAnswer) (before after told tells : Option (List ℕ)) (ended : RunEnd)
+    → Since old new (HasRun way dir s.0 command given pauses still told tells)
     → (ended ≡ run_end.Write) × AppendsPrefix before after (line_of s given)
-    → Since old new (EndsCommand command pauses s before ended after)
-ends_unwritten old new command pauses still s given before after ended gone (is, line) =
-    Since-map old new (GoneTo command (progress.Over given) pauses still) (EndsCommand command pauses s before ended after) gone
-    (λ calls was. subst (λ e. EndsCommand command pauses s before e after calls) (sym is) (given, was.0, omega (arith, was.1), line))
+    → Since old new (EndsCommand way dir command pauses s (output before told) ended (output after tells))
+ends_unwritten old new way dir command pauses still s given before after told tells ended gone (is, line) =
+    Since-map old new (HasRun way dir s.0 command given pauses still told tells) (EndsCommand way dir command pauses s (output before told) ended (output after tells)) gone
+    (λ calls was. subst (λ e. EndsCommand way dir command pauses s (output before told) e (output after tells) calls) (sym is)
+    (given, ran_by way dir command pauses still s given told tells calls was, line))
 
 -- the line of its start was not written
-pub ends_unbegun : (told : Option (List HostCall)) (way : RunWay) (dir : List ℕ) (pauses : ℕ) (s : LinkRun) (before after : Option (List ℕ)) (ended : RunEnd)
+pub ends_unbegun : (record_told : Option (List HostCall)) (way : RunWay) (dir : List ℕ) (pauses : ℕ) (s : LinkRun) (before after told : Option (List ℕ)) (ended : RunEnd)
     → (ended ≡ run_end.Write) × (way.verbose ≡ true) × AppendsPrefix before after (begin_line s)
-    → Since told told (EndsAt way dir pauses s before ended after)
-ends_unbegun told way dir pauses s before after ended (is, verbose, line) =
-    Since-none told (EndsAt way dir pauses s before ended after)
-    (subst (λ e. EndsAt way dir pauses s before e after []) (sym is) (inl (verbose, refl, line)))
+    → Since record_told record_told (EndsAt way dir pauses s (output before told) ended (output after told))
+ends_unbegun record_told way dir pauses s before after told ended (is, verbose, line) =
+    Since-none record_told (EndsAt way dir pauses s (output before told) ended (output after told))
+    (subst (λ e. EndsAt way dir pauses s (output before told) e (output after told) []) (sym is) (inl (verbose, refl, line, refl)))
 
 -- a run of a command, behind the line of its script's start
-ends_at : (way : RunWay) (dir command : List ℕ) (pauses : ℕ) (s : LinkRun) (before mid after : Option (List ℕ)) (ended : RunEnd) (calls : List HostCall)
-    → command ≡ command_text way dir s → TellsStart way s before mid → EndsCommand command pauses s mid ended after calls
-    → EndsAt way dir pauses s before ended after calls
-ends_at way dir command pauses s before mid after (run_end.Limit link) calls same told (named, early, stays) = (
+ends_at : (way : RunWay) (dir command : List ℕ) (pauses : ℕ) (s : LinkRun) (before mid after told tells : Option (List ℕ)) (ended : RunEnd) (calls : List HostCall)
+    → command ≡ command_text way dir s → TellsStart way s before mid → EndsCommand way dir command pauses s (output mid told) ended (output after tells) calls
+    → EndsAt way dir pauses s (output before told) ended (output after tells) calls
+ends_at way dir command pauses s before mid after told tells (run_end.Limit link) calls same begun (named, (now, time, waiting, ran, count, lines), stays) = (
   named,
-  early.0,
-  early.1,
-  subst (λ text. RunsTo text early.0 calls) same early.2,
-  early.3,
-  subst (λ b. TellsStart way s before b) (sym stays) told,
+  now,
+  time,
+  waiting,
+  subst (λ text. RunsTo way.seconds text now time calls) same ran,
+  count,
+  lines,
+  subst (λ b. TellsStart way s before b) (sym stays) begun,
 )
-ends_at way dir command pauses s before mid after run_end.Write calls same told (given, ran, count, line) =
-    inr (given, mid, (subst (λ text. RunsTo text (progress.Over given) calls) same ran, count), told, line)
-ends_at way dir command pauses s before mid after run_end.Memory calls same told at = absurd at
-ends_at way dir command pauses s before mid after run_end.Done calls same told at = absurd at
-ends_at way dir command pauses s before mid after run_end.Failed calls same told at = absurd at
-ends_at way dir command pauses s before mid after run_end.Waiting calls same told at = absurd at
+ends_at way dir command pauses s before mid after told tells run_end.Write calls same begun (given, ran, line) =
+    inr (given, mid, subst (λ text. RanBy way dir text pauses s given told tells calls) same ran, begun, line)
+ends_at way dir command pauses s before mid after told tells run_end.Memory calls same begun at = absurd at
+ends_at way dir command pauses s before mid after told tells run_end.Done calls same begun at = absurd at
+ends_at way dir command pauses s before mid after told tells run_end.Failed calls same begun at = absurd at
+ends_at way dir command pauses s before mid after told tells run_end.Waiting calls same begun at = absurd at
 
-pub ends_told : (old new : Option (List HostCall)) (way : RunWay) (dir command : List ℕ) (pauses : ℕ) (s : LinkRun) (before mid after : Option (List ℕ)) (ended : RunEnd)
-    → command ≡ command_text way dir s → TellsStart way s before mid → Since old new (EndsCommand command pauses s mid ended after)
-    → Since old new (EndsAt way dir pauses s before ended after)
-ends_told old new way dir command pauses s before mid after ended same told ends =
-    Since-map old new (EndsCommand command pauses s mid ended after) (EndsAt way dir pauses s before ended after) ends
-    (λ calls at. ends_at way dir command pauses s before mid after ended calls same told at)
+pub ends_told : (old new : Option (List HostCall)) (way : RunWay) (dir command : List ℕ) (pauses : ℕ) (s : LinkRun) (before mid after told tells : Option (List ℕ)) (ended : RunEnd)
+    → command ≡ command_text way dir s → TellsStart way s before mid
+    → Since old new (EndsCommand way dir command pauses s (output mid told) ended (output after tells))
+    → Since old new (EndsAt way dir pauses s (output before told) ended (output after tells))
+ends_told old new way dir command pauses s before mid after told tells ended same begun ends =
+    Since-map old new (EndsCommand way dir command pauses s (output mid told) ended (output after tells)) (EndsAt way dir pauses s (output before told) ended (output after tells)) ends
+    (λ calls at. ends_at way dir command pauses s before mid after told tells ended calls same begun at)
 
 -- the same where a command was run, whatever came of it
 pub started_lines : (ran : Result RcAnswer RunEnd) (way : RunWay) (s : LinkRun) (before mid after : Option (List ℕ)) → TellsStart way s before mid
     → IfOk ran (λ given. Appends mid after (line_of s given)) → IfOk ran (λ given. Appends before after (lines_of way s given))
-started_lines (Ok given) way s before mid after told line = lines_told way s given before mid after told line
-started_lines (Err ended) way s before mid after told line = tt
+started_lines (Ok given) way s before mid after begun line = lines_told way s given before mid after begun line
+started_lines (Err ended) way s before mid after begun line = tt
 
-pub started_ran : (ran : Result RcAnswer RunEnd) (old new : Option (List HostCall)) (command text : List ℕ) (pauses still : ℕ) → command ≡ text
-    → IfOk ran (λ given. Since old new (GoneTo command (progress.Over given) pauses still))
-    → IfOk ran (λ given. Since old new (GoneTo text (progress.Over given) pauses still))
-started_ran (Ok given) old new command text pauses still same gone = gone_by old new command text (progress.Over given) pauses still same gone
-started_ran (Err ended) old new command text pauses still same gone = tt
+pub started_ran : (ran : Result RcAnswer RunEnd) (old new : Option (List HostCall)) (way : RunWay) (dir link command text : List ℕ) (pauses still : ℕ) (told tells : Option (List ℕ)) → command ≡ text
+    → IfOk ran (λ given. Since old new (HasRun way dir link command given pauses still told tells))
+    → IfOk ran (λ given. Since old new (HasRun way dir link text given pauses still told tells))
+started_ran (Ok given) old new way dir link command text pauses still told tells same gone =
+    run_by old new way dir link command text given pauses still told tells same gone
+started_ran (Err ended) old new way dir link command text pauses still told tells same gone = tt
 
-pub started_ends : (ran : Result RcAnswer RunEnd) (old new : Option (List HostCall)) (way : RunWay) (dir command : List ℕ) (pauses : ℕ) (s : LinkRun) (before mid after : Option (List ℕ))
+pub started_ends : (ran : Result RcAnswer RunEnd) (old new : Option (List HostCall)) (way : RunWay) (dir command : List ℕ) (pauses : ℕ) (s : LinkRun) (before mid after told tells : Option (List ℕ))
     → command ≡ command_text way dir s → TellsStart way s before mid
-    → IfErr ran (λ ended. Since old new (EndsCommand command pauses s mid ended after))
-    → IfErr ran (λ ended. Since old new (EndsAt way dir pauses s before ended after))
-started_ends (Ok given) old new way dir command pauses s before mid after same told ends = tt
-started_ends (Err ended) old new way dir command pauses s before mid after same told ends =
-    ends_told old new way dir command pauses s before mid after ended same told ends
+    → IfErr ran (λ ended. Since old new (EndsCommand way dir command pauses s (output mid told) ended (output after tells)))
+    → IfErr ran (λ ended. Since old new (EndsAt way dir pauses s (output before told) ended (output after tells)))
+started_ends (Ok given) old new way dir command pauses s before mid after told tells same begun ends = tt
+started_ends (Err ended) old new way dir command pauses s before mid after told tells same begun ends =
+    ends_told old new way dir command pauses s before mid after told tells ended same begun ends
 
 -- a run that ends at its first script
-pub runs_ends : (old new : Option (List HostCall)) (way : RunWay) (dir : List ℕ) (pauses : ℕ) (failed : Bool) (rc now : RcState) (before after : Option (List ℕ)) (ended : RunEnd) (s : LinkRun)
+pub runs_ends : (old new : Option (List HostCall)) (way : RunWay) (dir : List ℕ) (pauses : ℕ) (failed : Bool) (rc now : RcState) (before after : Output) (ended : RunEnd) (s : LinkRun)
     → rc.waits ≡ false → rc.left ≡ s ∷ now.left → now.waits ≡ true → Since old new (EndsAt way dir pauses s before ended after)
     → Since old new (RunsLinks way dir pauses failed rc before ended now after)
 runs_ends old new way dir pauses failed rc now before after ended s ready head waiting ends =
@@ -114,7 +126,7 @@ done_over true = refl
 done_over false = refl
 
 -- a run of no script more
-pub runs_done : (told : Option (List HostCall)) (way : RunWay) (dir : List ℕ) (pauses : ℕ) (failed : Bool) (rc now : RcState) (bytes : Option (List ℕ)) (ended : RunEnd)
+pub runs_done : (told : Option (List HostCall)) (way : RunWay) (dir : List ℕ) (pauses : ℕ) (failed : Bool) (rc now : RcState) (bytes : Output) (ended : RunEnd)
     → (rc.waits ≡ false) × (rc.left ≡ []) × (now ≡ rc) → ended ≡ done_end failed
     → Since told told (RunsLinks way dir pauses failed rc bytes ended now bytes)
 runs_done told way dir pauses failed rc now bytes ended (ready, none, same) is =
@@ -126,7 +138,7 @@ runs_done told way dir pauses failed rc now bytes ended (ready, none, same) is =
     })
 
 -- an answer is missing
-pub runs_waiting : (told : Option (List HostCall)) (way : RunWay) (dir : List ℕ) (pauses : ℕ) (failed : Bool) (rc now : RcState) (bytes : Option (List ℕ))
+pub runs_waiting : (told : Option (List HostCall)) (way : RunWay) (dir : List ℕ) (pauses : ℕ) (failed : Bool) (rc now : RcState) (bytes : Output)
     → (rc.waits ≡ true) × (now ≡ rc) → Since told told (RunsLinks way dir pauses failed rc bytes run_end.Waiting now bytes)
 runs_waiting told way dir pauses failed rc now bytes (waiting, same) =
     Since-none told (RunsLinks way dir pauses failed rc bytes run_end.Waiting now bytes) (record {
@@ -136,17 +148,17 @@ runs_waiting told way dir pauses failed rc now bytes (waiting, same) =
     })
 
 -- a script that was handed out, ran and was answered
-pub advanced : (old new : Option (List HostCall)) (way : RunWay) (dir : List ℕ) (pauses still : ℕ) (failed fails : Bool) (rc mid now : RcState) (before after : Option (List ℕ)) (s : LinkRun) (given : RcAnswer)
+pub advanced : (old new : Option (List HostCall)) (way : RunWay) (dir : List ℕ) (pauses still : ℕ) (failed fails : Bool) (rc mid now : RcState) (before after : Output) (s : LinkRun) (given : RcAnswer)
     → rc.waits ≡ false → rc.left ≡ s ∷ mid.left → now ≡ record mid { waits = false } → fails ≡ (failed || is_failure given)
-    → Since old new (GoneTo (command_text way dir s) (progress.Over given) pauses still) → Appends before after (lines_of way s given)
+    → Since old new (HasRun way dir s.0 (command_text way dir s) given pauses still before.told after.told) → Appends before.lines after.lines (lines_of way s given)
     → Since old new (Advanced way dir pauses still failed fails rc before now after)
 advanced old new way dir pauses still failed fails rc mid now before after s given ready head is failing gone line =
-    Since-map old new (GoneTo (command_text way dir s) (progress.Over given) pauses still) (Advanced way dir pauses still failed fails rc before now after) gone
+    Since-map old new (HasRun way dir s.0 (command_text way dir s) given pauses still before.told after.told) (Advanced way dir pauses still failed fails rc before now after) gone
     (λ calls was. subst (λ (r : RcState). Advanced way dir pauses still failed fails rc before r after calls) (sym is)
     (s, given, ready, head, refl, failing, was, line))
 
 -- a script, and the run behind it
-pub runs_more : (old mid new : Option (List HostCall)) (way : RunWay) (dir : List ℕ) (pauses still : ℕ) (failed fails : Bool) (rc now last : RcState) (before between after : Option (List ℕ)) (ended : RunEnd)
+pub runs_more : (old mid new : Option (List HostCall)) (way : RunWay) (dir : List ℕ) (pauses still : ℕ) (failed fails : Bool) (rc now last : RcState) (before between after : Output) (ended : RunEnd)
     → Since old mid (Advanced way dir pauses still failed fails rc before now between)
     → Since mid new (RunsLinks way dir still fails now between ended last after)
     → Since old new (RunsLinks way dir pauses failed rc before ended last after)
@@ -157,7 +169,7 @@ runs_more old mid new way dir pauses still failed fails rc now last before betwe
     together : (earlier later : List HostCall) → Advanced way dir pauses still failed fails rc before now between earlier
         → RunsLinks way dir still fails now between ended last after later
         → RunsLinks way dir pauses failed rc before ended last after (later ++ earlier)
-    together earlier later (s, given, ready, head, answered, failing, gone, line) runs = record {
+    together earlier later (s, given, ready, head, answered, failing, (time, (ran, count), lines), line) runs = record {
       waits = λ is. absurd (true≢false (sym is ∙ ready));
       runs = λ _. subst (λ left. RunsFrom way dir pauses failed left before ended last.left after (later ++ earlier)) (sym head)
           (inr (
@@ -166,10 +178,10 @@ runs_more old mid new way dir pauses still failed fails rc now last before betwe
             later,
             between,
             refl,
-            (gone.0, omega (arith, gone.1)),
+            (time, ran, omega (arith, count), lines),
             line,
             subst (λ f. RunsFrom way dir (pauses - count_pauses earlier) f now.left between ended last.left after later) failing
-                (subst (λ n. RunsFrom way dir n fails now.left between ended last.left after later) (left_of gone.1) (runs.runs answered)),
+                (subst (λ n. RunsFrom way dir n fails now.left between ended last.left after later) (left_of count) (runs.runs answered)),
           ));
       answered = λ _. runs.answered answered;
     }

@@ -1,7 +1,16 @@
 -- What is written where texts are written one behind the other.
-use Rattle.std.proofs.Common.{Result, Ok, Err, OnErr}
+use Rattle.std.proofs.Common.{Result, Ok, Err, OnErr, OnOk, Option, List, ℕ}
+use Rattle.std.specs.Io.KnownBytes.{Appends}
+use Rattle.program_io.specs.Writing.{AppendsPrefix}
+use Rattle.program_io.proofs.WritingLemmas.{AppendsPrefix-whole}
 
 -- what follows from what holds after an error holds after it
 pub after_error : {T E : Type 0} (ended : Result T E) (P Q : Type 0) → (P → Q) → OnErr ended P → OnErr ended Q
 after_error (Ok value) P Q follows holds = tt
 after_error (Err error) P Q follows holds = follows holds
+
+-- a write that ended so or so has written a prefix
+pub prefix_of : {T E : Type 0} (ended : Result T E) (old new : Option (List ℕ)) (text : List ℕ) → OnOk ended (Appends old new text)
+    → OnErr ended (AppendsPrefix old new text) → AppendsPrefix old new text
+prefix_of (Ok value) old new text ok err = AppendsPrefix-whole old new text ok
+prefix_of (Err error) old new text ok err = err

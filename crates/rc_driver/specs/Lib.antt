@@ -6,3 +6,5 @@ pub mod Printing
 pub mod Progress
 pub mod Told
 pub mod Parts
+pub mod Times
+pub mod Sysv

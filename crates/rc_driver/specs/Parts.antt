@@ -1,53 +1,74 @@
 -- What a part of a script's run adds to its calls.
-use Rattle.std.specs.Prelude.{◌≡◌, ◌≤◌, ◌+◌, ℕ, Bool, true, false, ◌||◌, List, ◌∷◌, ◌++◌, Option}
+use Rattle.std.specs.Prelude.{◌≡◌, ◌+◌, ℕ, Bool, true, false, ◌||◌, List, ◌∷◌, ◌++◌, Option}
 use Rattle.child_host.specs.Calls.{HostCall}
 use Rattle.rc_driver.specs.declared.progress.Progress.{Progress}
 use Rattle.rc_driver.specs.declared.progress.Progress.TheVariants as progress
+use Rattle.rc_driver.specs.declared.times.Timer.{Timer}
+use Rattle.rc_driver.specs.declared.times.Timer.TheVariants as timer
 use Rattle.std.specs.Io.KnownBytes.{Appends}
 use Rattle.rc_driver.specs.declared.runs.RcAnswer.{RcAnswer}
 use Rattle.rc_driver.specs.Progress.{RunsTo, count_pauses, is_waiting}
 use Rattle.rc_driver.specs.declared.driving.RunEnd.{RunEnd}
 use Rattle.rc_driver.specs.declared.driving.RunEnd.TheVariants as run_end
 use Rattle.rc_driver.specs.declared.runs.RunWay.{RunWay}
-use Rattle.rc_driver.specs.Report.{command_text, line_of, lines_of}
+use Rattle.rc_driver.specs.Report.{Output, Tells, command_text, line_of, lines_of}
 use Rattle.rc_driver.specs.Runs.{LinkRun, RcState, is_failure}
+use Rattle.rc_driver.specs.Times.{time_lines}
+use Rattle.rc_driver.specs.Told.{RanBy}
 use Rattle.program_io.specs.Writing.{AppendsPrefix}
 
 -- the calls begin the script's run, with no pause
-abbrev pub Begins : List ℕ → Progress → List HostCall → Type 0
-Begins command now calls = RunsTo command now calls × (count_pauses calls ≡ 0)
+abbrev pub Begins : Option ℕ → List ℕ → Progress → List HostCall → Type 0
+Begins limit command now calls = RunsTo limit command now timer.Unread calls × (count_pauses calls ≡ 0)
 
 -- behind a run that brought the script so far, the calls bring it farther, with so many pauses
-abbrev pub Goes : Progress → Progress → ℕ → List HostCall → Type 0
-Goes before now pauses calls = (count_pauses calls ≡ pauses)
-    × ((command : List ℕ) (earlier : List HostCall) → RunsTo command before earlier → RunsTo command now (calls ++ earlier))
+abbrev pub Goes : Option ℕ → Progress → Timer → Progress → Timer → ℕ → List HostCall → Type 0
+Goes limit before old now new pauses calls = (count_pauses calls ≡ pauses)
+    × ((command : List ℕ) (earlier : List HostCall) → RunsTo limit command before old earlier
+    → RunsTo limit command now new (calls ++ earlier))
+
+-- the same, which leaves its time as it stands
+abbrev pub GoesFurther : Option ℕ → Progress → Progress → ℕ → List HostCall → Type 0
+GoesFurther limit before now pauses calls = (time : Timer) → Goes limit before time now time pauses calls
 
 -- from the start on the calls brought the script so far, and so many pauses became fewer by theirs
-abbrev pub GoneTo : List ℕ → Progress → ℕ → ℕ → List HostCall → Type 0
-GoneTo command now old new calls = RunsTo command now calls × (old ≡ count_pauses calls + new)
+abbrev pub GoneTo : Option ℕ → List ℕ → Progress → Timer → ℕ → ℕ → List HostCall → Type 0
+GoneTo limit command now time old new calls = RunsTo limit command now time calls × (old ≡ count_pauses calls + new)
+
+-- the script came to this end, and what its time has told was told
+abbrev pub HasRun : RunWay → List ℕ → List ℕ → List ℕ → RcAnswer → ℕ → ℕ → Option (List ℕ) → Option (List ℕ)
+    → List HostCall → Type 0
+HasRun way dir link command given pauses still told tells calls = (time : Timer)
+    × GoneTo way.seconds command (progress.Over given) time pauses still calls
+    × Tells told tells (time_lines way dir link time)
 
 -- so many pauses are used up, and the script has not come to its end
-abbrev pub EndsEarly : List ℕ → ℕ → List HostCall → Type 0
-EndsEarly command pauses calls = (now : Progress) × (is_waiting now ≡ true)
-    × RunsTo command now calls × (count_pauses calls ≡ pauses)
+abbrev pub EndsEarly : RunWay → List ℕ → List ℕ → List ℕ → ℕ → Option (List ℕ) → Option (List ℕ) → List HostCall → Type 0
+EndsEarly way dir link command pauses told tells calls = (now : Progress) × (time : Timer) × (is_waiting now ≡ true)
+    × RunsTo way.seconds command now time calls × (count_pauses calls ≡ pauses)
+    × Tells told tells (time_lines way dir link time)
 
 abbrev pub is_born : Progress → Bool
 is_born progress.Born = true
 is_born _ = false
 
+-- it may be sent a signal
+abbrev pub is_found : Progress → Bool
+is_found progress.Found = true
+is_found _ = false
+
 -- the script that a command starts came to no end with so many pauses, and is named; or its line was not written
-abbrev pub EndsCommand : List ℕ → ℕ → LinkRun → Option (List ℕ) → RunEnd → Option (List ℕ) → List HostCall → Type 0
-EndsCommand command pauses s before (run_end.Limit link) after calls =
-    (link.now ≡ s.0) × EndsEarly command pauses calls × (after ≡ before)
-EndsCommand command pauses s before run_end.Write after calls = (given : RcAnswer)
-    × RunsTo command (progress.Over given) calls × (count_pauses calls ≤ pauses)
-    × AppendsPrefix before after (line_of s given)
-EndsCommand command pauses s before _ after calls = ⊥
+abbrev pub EndsCommand : RunWay → List ℕ → List ℕ → ℕ → LinkRun → Output → RunEnd → Output → List HostCall → Type 0
+EndsCommand way dir command pauses s before (run_end.Limit link) after calls = (link.now ≡ s.0)
+    × EndsEarly way dir s.0 command pauses before.told after.told calls × (after.lines ≡ before.lines)
+EndsCommand way dir command pauses s before run_end.Write after calls = (given : RcAnswer)
+    × RanBy way dir command pauses s given before.told after.told calls
+    × AppendsPrefix before.lines after.lines (line_of s given)
+EndsCommand way dir command pauses s before _ after calls = ⊥
 
 -- the next script was handed out, ran to its end, and its lines were written
-abbrev pub Advanced : RunWay → List ℕ → ℕ → ℕ → Bool → Bool → RcState → Option (List ℕ) → RcState → Option (List ℕ)
-    → List HostCall → Type 0
+abbrev pub Advanced : RunWay → List ℕ → ℕ → ℕ → Bool → Bool → RcState → Output → RcState → Output → List HostCall → Type 0
 Advanced way dir pauses still failed fails old before new after calls = (s : LinkRun) × (given : RcAnswer)
     × (old.waits ≡ false) × (old.left ≡ s ∷ new.left) × (new.waits ≡ false) × (fails ≡ (failed || is_failure given))
-    × GoneTo (command_text way dir s) (progress.Over given) pauses still calls
-    × Appends before after (lines_of way s given)
+    × HasRun way dir s.0 (command_text way dir s) given pauses still before.told after.told calls
+    × Appends before.lines after.lines (lines_of way s given)

@@ -1,8 +1,11 @@
 -- The calls of a host by which one script is run, the newest first, and how far the script is by them.
-use Rattle.std.specs.Prelude.{◌≡◌, ℕ, Bool, true, false, if◌then◌else◌, List, [], ◌∷◌, length, filter, codes, Option, Some}
+use Rattle.std.specs.Prelude.{◌≡◌, ℕ, Bool, true, false, if◌then◌else◌, List, [], ◌∷◌, length, filter, codes, Option, Some, None}
 use Rattle.init_words.specs.Ids.{same_id}
 use Rattle.init_words.specs.declared.orders.Answer.{Answer}
 use Rattle.init_words.specs.declared.orders.Answer.TheVariants as given
+use Rattle.rc_driver.specs.declared.times.Timer.{Timer}
+use Rattle.rc_driver.specs.declared.times.Timer.TheVariants as timer
+use Rattle.rc_driver.specs.Times.{due_by, timer_by}
 use Rattle.child_host.specs.Calls.{HostCall}
 use Rattle.child_host.specs.declared.calls.Call.TheVariants as call
 use Rattle.child_host.specs.declared.calls.Reply.{Reply}
@@ -15,16 +18,21 @@ use Rattle.rc_driver.specs.declared.runs.RcAnswer.TheVariants as answer
 abbrev pub script_id : List ℕ
 script_id = codes "rc"
 
+-- a script that was found alive; its time is looked at, where it has a limit
+abbrev pub alive : Option ℕ → Progress
+alive None = progress.Living
+alive (Some seconds) = progress.Found
+
 -- how far a script is by the answer to a look at it
-abbrev pub by_look : Answer → Progress
-by_look (given.Ended how) = progress.Over (answer.Ended how)
-by_look _ = progress.Living
+abbrev pub by_look : Option ℕ → Answer → Progress
+by_look limit (given.Ended how) = progress.Over (answer.Ended how)
+by_look limit _ = alive limit
 
 -- by the answer to its start; a child that was born is looked at, before any pause
-abbrev pub by_start : Answer → Progress
-by_start (given.Born number) = progress.Born
-by_start given.NotBorn = progress.Over answer.NotStarted
-by_start said = by_look said
+abbrev pub by_start : Option ℕ → Answer → Progress
+by_start limit (given.Born number) = progress.Born
+by_start limit given.NotBorn = progress.Over answer.NotStarted
+by_start limit said = by_look limit said
 
 -- an answer that is to come later is waited for
 abbrev pub by_reply : (Answer → Progress) → Reply → Progress
@@ -33,10 +41,10 @@ by_reply by Later = progress.Asked
 
 -- behind a pause, by the answer that came later: one to this script is heard, where one is waited for; a script that
 -- lives is looked at again
-abbrev pub by_late : Progress → Option (List ℕ × Answer) → Progress
-by_late progress.Living late = progress.Born
-by_late progress.Asked (Some late) = if same_id late.0 script_id then by_start late.1 else progress.Asked
-by_late before late = before
+abbrev pub by_late : Option ℕ → Progress → Option (List ℕ × Answer) → Progress
+by_late limit progress.Living late = progress.Born
+by_late limit progress.Asked (Some late) = if same_id late.0 script_id then by_start limit late.1 else progress.Asked
+by_late limit before late = before
 
 -- it waits for an answer, or lives
 abbrev pub is_waiting : Progress → Bool
@@ -44,17 +52,24 @@ is_waiting progress.Asked = true
 is_waiting progress.Living = true
 is_waiting _ = false
 
--- The calls run the script that this text starts, and by their answers it is so far: it was started once, under the id
--- of scripts; it is looked at where it was born or is due again; while it waits or lives there is a pause, and an answer
--- that came later is asked for.
-abbrev pub RunsTo : List ℕ → Progress → List HostCall → Type 0
-RunsTo command now (call.Start id text reply ∷ calls) =
-    (id ≡ script_id) × (text ≡ command) × (calls ≡ []) × (now ≡ by_reply by_start reply)
-RunsTo command now (call.Look id reply ∷ calls) =
-    (id ≡ script_id) × RunsTo command progress.Born calls × (now ≡ by_reply by_look reply)
-RunsTo command now (call.Late late ∷ call.Pause ∷ calls) = (before : Progress) × (is_waiting before ≡ true)
-    × RunsTo command before calls × (now ≡ by_late before late)
-RunsTo command now _ = ⊥
+-- The calls run the script that this text starts, within a limit of seconds, where it has one; by their answers it is so
+-- far, and its time stands so. It was started once, under the id of scripts; it is looked at where it was born or is due
+-- again; where it was found alive and has a limit, the clock is read, and the signal is sent that is due by it; while it
+-- waits or lives there is a pause, and an answer that came later is asked for.
+abbrev pub RunsTo : Option ℕ → List ℕ → Progress → Timer → List HostCall → Type 0
+RunsTo limit command now time (call.Start id text reply ∷ calls) = (id ≡ script_id) × (text ≡ command) × (calls ≡ [])
+    × (now ≡ by_reply (by_start limit) reply) × (time ≡ timer.Unread)
+RunsTo limit command now time (call.Look id reply ∷ calls) =
+    (id ≡ script_id) × RunsTo limit command progress.Born time calls × (now ≡ by_reply (by_look limit) reply)
+RunsTo limit command now time (call.Clock reading ∷ calls) = (now ≡ progress.Living) × (before : Timer)
+    × RunsTo limit command progress.Found before calls × (due_by limit before reading ≡ None)
+    × (time ≡ timer_by before reading None)
+RunsTo limit command now time (call.Signal id signal reply ∷ call.Clock reading ∷ calls) = (id ≡ script_id)
+    × (now ≡ progress.Living) × (before : Timer) × RunsTo limit command progress.Found before calls
+    × (due_by limit before reading ≡ Some signal) × (time ≡ timer_by before reading (Some signal))
+RunsTo limit command now time (call.Late late ∷ call.Pause ∷ calls) = (before : Progress) × (is_waiting before ≡ true)
+    × RunsTo limit command before time calls × (now ≡ by_late limit before late)
+RunsTo limit command now time _ = ⊥
 
 abbrev pub is_pause : HostCall → Bool
 is_pause call.Pause = true

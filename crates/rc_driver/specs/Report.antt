@@ -1,7 +1,9 @@
 -- What is written of the scripts that were run, and how a run over a host ends.
-use Rattle.std.specs.Prelude.{◌≡◌, ℕ, Bool, true, false, if◌then◌else◌, List, [], ◌∷◌, ◌++◌, length, codes, decimal, Option}
+use Rattle.std.specs.Prelude.{◌≡◌, ℕ, Bool, true, false, if◌then◌else◌, List, [], ◌∷◌, ◌++◌, length, codes, decimal, Option, Some, None}
 use Rattle.std.specs.List.{list_any}
 use Rattle.std.specs.Io.KnownBytes.{Appends}
+use Rattle.init_words.specs.Levels.{level_code}
+use Rattle.init_words.specs.declared.levels.Level.{Level}
 use Rattle.init_words.specs.declared.children.Status.{Status}
 use Rattle.init_words.specs.declared.children.Status.TheVariants as status
 use Rattle.program_io.specs.Writing.{AppendsPrefix}
@@ -11,6 +13,7 @@ use Rattle.rc_driver.specs.declared.runs.Arg.{Arg}
 use Rattle.rc_driver.specs.declared.runs.Arg.TheVariants as arg
 use Rattle.rc_driver.specs.declared.runs.RcAnswer.{RcAnswer}
 use Rattle.rc_driver.specs.declared.runs.RcAnswer.TheVariants as answer
+use Rattle.rc_driver.specs.declared.runs.Passage.{Passage}
 use Rattle.rc_driver.specs.declared.runs.RunWay.{RunWay}
 use Rattle.rc_driver.specs.Runs.{LinkRun, RcState, is_failure}
 
@@ -47,6 +50,20 @@ begin_line s = script_text s ++ codes " begins\n"
 abbrev pub lines_of : RunWay → LinkRun → RcAnswer → List ℕ
 lines_of way s given = (if way.verbose then begin_line s else []) ++ line_of s given
 
+-- what stands in the writer of lines, and in that of what is told, where it is known
+pub record Output : Type 0 where
+  pub lines : Option (List ℕ)
+  pub told : Option (List ℕ)
+
+abbrev pub output : Option (List ℕ) → Option (List ℕ) → Output
+output lines told = record { lines = lines; told = told }
+
+-- lines were told, the newest first, of each as much as the writer took
+abbrev pub Tells : Option (List ℕ) → Option (List ℕ) → List (List ℕ) → Type 0
+Tells before after [] = after ≡ before
+Tells before after (line ∷ lines) =
+    (between : Option (List ℕ)) × Tells before between lines × AppendsPrefix between after line
+
 -- the line of a script's start was written, where starts are told
 abbrev pub TellsStart : RunWay → LinkRun → Option (List ℕ) → Option (List ℕ) → Type 0
 TellsStart way s before after =
@@ -56,9 +73,19 @@ TellsStart way s before after =
 abbrev pub shell_word : RunWay → List ℕ
 shell_word way = if way.direct then [] else codes "sh "
 
+-- the word for the level before, N where there was none
+abbrev pub before_code : Option Level → ℕ
+before_code (Some level) = level_code level
+before_code None = 78
+
+-- env(1), which sets the two levels for a script (init(8)), where scripts have them
+abbrev pub level_words : Option Passage → List ℕ
+level_words None = []
+level_words (Some passage) = codes "env RUNLEVEL=" ++ (level_code passage.new ∷ (codes " PREVLEVEL=" ++ (before_code passage.before ∷ codes " ")))
+
 -- what starts a script, whose link stands in the folder
 abbrev pub command_text : RunWay → List ℕ → LinkRun → List ℕ
-command_text way dir s = shell_word way ++ (dir ++ (codes "/" ++ script_text s))
+command_text way dir s = level_words way.levels ++ (shell_word way ++ (dir ++ (codes "/" ++ script_text s)))
 
 -- what is written of scripts that came to these ends, as far as there are both
 abbrev pub report : RunWay → List LinkRun → List RcAnswer → List ℕ

@@ -9,45 +9,57 @@ use Rattle.rc_driver.specs.declared.progress.Progress.{Progress}
 use Rattle.rc_driver.specs.declared.progress.Progress.TheVariants as progress
 use Rattle.rc_driver.specs.declared.runs.RcAnswer.{RcAnswer}
 use Rattle.rc_driver.specs.declared.runs.RunWay.{RunWay}
+use Rattle.rc_driver.specs.declared.times.Timer.{Timer}
 use Rattle.rc_driver.specs.Progress.{RunsTo, count_pauses, is_waiting}
-use Rattle.rc_driver.specs.Report.{TellsStart, begin_line, command_text, done_end, is_over, line_of, lines_of}
+use Rattle.rc_driver.specs.Report.{Output, Tells, TellsStart, begin_line, command_text, done_end, is_over, line_of, lines_of}
 use Rattle.rc_driver.specs.Runs.{LinkRun, RcState, is_failure}
+use Rattle.rc_driver.specs.Times.{time_lines}
 
--- the calls run the script to this end, with so many pauses at most
-abbrev pub Ran : RunWay → List ℕ → ℕ → LinkRun → RcAnswer → List HostCall → Type 0
-Ran way dir pauses s given calls =
-    RunsTo (command_text way dir s) (progress.Over given) calls × (count_pauses calls ≤ pauses)
+-- the calls run the script that a command starts to this end, with so many pauses at most, and what its time has told
+-- was told
+abbrev pub RanBy : RunWay → List ℕ → List ℕ → ℕ → LinkRun → RcAnswer → Option (List ℕ) → Option (List ℕ)
+    → List HostCall → Type 0
+RanBy way dir command pauses s given told tells calls = (time : Timer)
+    × RunsTo way.seconds command (progress.Over given) time calls × (count_pauses calls ≤ pauses)
+    × Tells told tells (time_lines way dir s.0 time)
+
+-- the calls run the script of a link
+abbrev pub Ran : RunWay → List ℕ → ℕ → LinkRun → RcAnswer → Option (List ℕ) → Option (List ℕ) → List HostCall → Type 0
+Ran way dir pauses s given told tells calls =
+    RanBy way dir (command_text way dir s) pauses s given told tells calls
 
 -- a script's line was not written whole: that of its start, and so nothing is started; or that of its end
-abbrev pub EndsUnwritten : RunWay → List ℕ → ℕ → LinkRun → Option (List ℕ) → Option (List ℕ) → List HostCall → Type 0
+abbrev pub EndsUnwritten : RunWay → List ℕ → ℕ → LinkRun → Output → Output → List HostCall → Type 0
 EndsUnwritten way dir pauses s before after calls =
-    ((way.verbose ≡ true) × (calls ≡ []) × AppendsPrefix before after (begin_line s))
-    ⊎ ((given : RcAnswer) × (told : Option (List ℕ)) × Ran way dir pauses s given calls × TellsStart way s before told
-    × AppendsPrefix told after (line_of s given))
+    ((way.verbose ≡ true) × (calls ≡ []) × AppendsPrefix before.lines after.lines (begin_line s)
+    × (after.told ≡ before.told))
+    ⊎ ((given : RcAnswer) × (begun : Option (List ℕ)) × Ran way dir pauses s given before.told after.told calls
+    × TellsStart way s before.lines begun × AppendsPrefix begun after.lines (line_of s given))
 
 -- how a run ends at a script. The pauses are used up, and it, which is named, has no end yet; or of one of its lines a
 -- prefix was written; or it was not started for lack of memory
-abbrev pub EndsAt : RunWay → List ℕ → ℕ → LinkRun → Option (List ℕ) → RunEnd → Option (List ℕ) → List HostCall → Type 0
-EndsAt way dir pauses s before (run_end.Limit link) after calls = (link.now ≡ s.0) × (now : Progress)
-    × (is_waiting now ≡ true) × RunsTo (command_text way dir s) now calls × (count_pauses calls ≡ pauses)
-    × TellsStart way s before after
+abbrev pub EndsAt : RunWay → List ℕ → ℕ → LinkRun → Output → RunEnd → Output → List HostCall → Type 0
+EndsAt way dir pauses s before (run_end.Limit link) after calls = (link.now ≡ s.0) × (now : Progress) × (time : Timer)
+    × (is_waiting now ≡ true) × RunsTo way.seconds (command_text way dir s) now time calls
+    × (count_pauses calls ≡ pauses) × Tells before.told after.told (time_lines way dir s.0 time)
+    × TellsStart way s before.lines after.lines
 EndsAt way dir pauses s before run_end.Write after calls = EndsUnwritten way dir pauses s before after calls
 EndsAt way dir pauses s before run_end.Memory after calls = (calls ≡ []) × (after ≡ before)
 EndsAt way dir pauses s before _ after calls = ⊥
 
 -- a script ran to the end that the host answered, and its lines were written; the calls behind it, with the pauses that
 -- are left then, whether this one failed, and what was written by then
-abbrev pub GoesOn : RunWay → List ℕ → ℕ → LinkRun → Option (List ℕ) → List HostCall
-    → (ℕ → Bool → Option (List ℕ) → List HostCall → Type 0) → Type 0
+abbrev pub GoesOn : RunWay → List ℕ → ℕ → LinkRun → Output → List HostCall
+    → (ℕ → Bool → Output → List HostCall → Type 0) → Type 0
 GoesOn way dir pauses s before calls Rest = (given : RcAnswer) × (first later : List HostCall)
-    × (between : Option (List ℕ)) × (calls ≡ later ++ first) × Ran way dir pauses s given first
-    × Appends before between (lines_of way s given)
+    × (between : Output) × (calls ≡ later ++ first) × Ran way dir pauses s given before.told between.told first
+    × Appends before.lines between.lines (lines_of way s given)
     × Rest (pauses - count_pauses first) (is_failure given) between later
 
 -- The scripts were run one behind the other, from a folder and with so many pauses, where one has failed already or
 -- none: each to its end, and then the next, until none was left or the run ended at one. Those behind it are left.
-abbrev pub RunsFrom : RunWay → List ℕ → ℕ → Bool → List LinkRun → Option (List ℕ) → RunEnd → List LinkRun
-    → Option (List ℕ) → List HostCall → Type 0
+abbrev pub RunsFrom : RunWay → List ℕ → ℕ → Bool → List LinkRun → Output → RunEnd → List LinkRun → Output
+    → List HostCall → Type 0
 RunsFrom way dir pauses failed [] before ended left after calls =
     (ended ≡ done_end failed) × (left ≡ []) × (after ≡ before) × (calls ≡ [])
 RunsFrom way dir pauses failed (s ∷ scripts) before ended left after calls =
@@ -57,8 +69,8 @@ RunsFrom way dir pauses failed (s ∷ scripts) before ended left after calls =
 
 -- a run of the scripts that are left, where one has failed already or none. Where the answer to one that was handed out
 -- before is missing, none is run
-pub record RunsLinks (way : RunWay) (dir : List ℕ) (pauses : ℕ) (failed : Bool) (old : RcState) (before : Option (List ℕ))
-    (ended : RunEnd) (new : RcState) (after : Option (List ℕ)) (calls : List HostCall) : Type 0 where
+pub record RunsLinks (way : RunWay) (dir : List ℕ) (pauses : ℕ) (failed : Bool) (old : RcState) (before : Output)
+    (ended : RunEnd) (new : RcState) (after : Output) (calls : List HostCall) : Type 0 where
   pub waits : old.waits ≡ true → (ended ≡ run_end.Waiting) × (new ≡ old) × (after ≡ before) × (calls ≡ [])
   pub runs : old.waits ≡ false → RunsFrom way dir pauses failed old.left before ended new.left after calls
   pub answered : old.waits ≡ false → new.waits ≡ not (is_over ended)

@@ -3,10 +3,9 @@
 ghost use Rattle.std.specs.Prelude.{◌≡◌, false, None, IfOk, IfErr, IfSome};
 ghost use Rattle.std.specs.Io.KnownBytes.{Appends};
 ghost use Rattle.child_host.specs.Record.{Since};
-ghost use Rattle.rc_driver.specs.Parts.{Advanced, EndsCommand, GoneTo};
-ghost use Rattle.rc_driver.specs.Report.{WritesEnds, command_text, done_end, line_of, lines_of};
+ghost use Rattle.rc_driver.specs.Parts.{Advanced, EndsCommand, HasRun};
+ghost use Rattle.rc_driver.specs.Report.{WritesEnds, command_text, done_end, line_of, lines_of, output};
 ghost use Rattle.rc_driver.specs.Told.{EndsAt, RunsLinks};
-ghost use Rattle.rc_driver.specs.declared.progress.Progress.TheVariants as progress;
 
 use crate::progress::run_script;
 use crate::runs::{Arg, Rc, RcAnswer, RcStep, RunWay, failed_by};
@@ -40,24 +39,30 @@ fn done_end(failed: bool) -> RunEnd<'static>
 }
 
 /// Runs the script that the command starts, and writes its line at its end.
-fn run_command<'n, A: Allocator + Copy, H: Host, W: Write>(
+fn run_command<'n, A: Allocator + Copy, H: Host, W: Write, E: Write>(
     alloc: A,
     host: &mut H,
+    way: RunWay,
+    dir: &str,
     command: &[u8],
     link: &'n str,
     arg: Arg,
     pauses: &mut u32,
     out: &mut W,
+    err: &mut E,
 ) -> Result<RcAnswer, RunEnd<'n>>
     ensures ok { IfOk result (λ answer. Appends (W.contents out.old) (W.contents out.new)
         (line_of (link.now, arg) answer)) }
-    ensures ran { IfOk result (λ answer. Since (H.told host.old) (H.told host.new)
-        (GoneTo command.now (progress.Over answer) pauses.old pauses.new)) }
+    ensures ran { IfOk result (λ answer. Since (H.told host.old) (H.told host.new) (HasRun way
+        dir.now link.now command.now answer pauses.old pauses.new (E.contents err.old)
+        (E.contents err.new))) }
     ensures ends { IfErr result (λ ended. Since (H.told host.old) (H.told host.new)
-        (EndsCommand command.now pauses.old (link.now, arg) (W.contents out.old) ended
-        (W.contents out.new))) }
+        (EndsCommand way dir.now command.now pauses.old (link.now, arg)
+        (output (W.contents out.old) (E.contents err.old)) ended
+        (output (W.contents out.new) (E.contents err.new)))) }
+    ensures silent { way.seconds ≡ None → err.new ≡ err.old }
 {
-    let Some(answer) = run_script(alloc, host, command, pauses) else {
+    let Some(answer) = run_script(alloc, host, way, dir, link, command, pauses, err) else {
         return Err(RunEnd::Limit(link));
     };
     match tell_end(out, link, arg, &answer) {
@@ -67,7 +72,7 @@ fn run_command<'n, A: Allocator + Copy, H: Host, W: Write>(
 }
 
 /// Runs a script, and writes its lines.
-fn run_link<'n, A: Allocator + Copy, H: Host, W: Write>(
+fn run_link<'n, A: Allocator + Copy, H: Host, W: Write, E: Write>(
     alloc: A,
     host: &mut H,
     way: RunWay,
@@ -76,26 +81,40 @@ fn run_link<'n, A: Allocator + Copy, H: Host, W: Write>(
     arg: Arg,
     pauses: &mut u32,
     out: &mut W,
+    err: &mut E,
 ) -> Result<RcAnswer, RunEnd<'n>>
     ensures ok { IfOk result (λ answer. Appends (W.contents out.old) (W.contents out.new)
         (lines_of way (link.now, arg) answer)) }
-    ensures ran { IfOk result (λ answer. Since (H.told host.old) (H.told host.new) (GoneTo
-        (command_text way dir.now (link.now, arg)) (progress.Over answer) pauses.old
-        pauses.new)) }
+    ensures ran { IfOk result (λ answer. Since (H.told host.old) (H.told host.new) (HasRun way
+        dir.now link.now (command_text way dir.now (link.now, arg)) answer pauses.old pauses.new
+        (E.contents err.old) (E.contents err.new))) }
     ensures ends { IfErr result (λ ended. Since (H.told host.old) (H.told host.new) (EndsAt way
-        dir.now pauses.old (link.now, arg) (W.contents out.old) ended (W.contents out.new))) }
+        dir.now pauses.old (link.now, arg) (output (W.contents out.old) (E.contents err.old))
+        ended (output (W.contents out.new) (E.contents err.new)))) }
+    ensures silent { way.seconds ≡ None → err.new ≡ err.old }
 {
     let Ok(command) = command_of(alloc, way, dir, link, arg) else {
         return Err(RunEnd::Memory);
     };
     match tell_start(out, way, link, arg) {
-        Ok(()) => run_command(alloc, host, command.as_bytes(), link, arg, pauses, out),
+        Ok(()) => run_command(
+            alloc,
+            host,
+            way,
+            dir,
+            command.as_bytes(),
+            link,
+            arg,
+            pauses,
+            out,
+            err,
+        ),
         Err(ended) => Err(ended),
     }
 }
 
 /// Runs the next script, and notes whether it failed; gives how the run ended, where it did.
-fn run_next<'n, A: Allocator + Copy, B: Allocator, H: Host, W: Write>(
+fn run_next<'n, A: Allocator + Copy, B: Allocator, H: Host, W: Write, E: Write>(
     alloc: A,
     rc: &mut Rc<'n, B>,
     host: &mut H,
@@ -104,17 +123,20 @@ fn run_next<'n, A: Allocator + Copy, B: Allocator, H: Host, W: Write>(
     pauses: &mut u32,
     failed: &mut bool,
     out: &mut W,
+    err: &mut E,
 ) -> Option<RunEnd<'n>>
     ensures last { IfSome result (λ ended. Since (H.told host.old) (H.told host.new) (RunsLinks way
-        dir.now pauses.old failed.old rc.old (W.contents out.old) ended rc.new
-        (W.contents out.new))) }
+        dir.now pauses.old failed.old rc.old (output (W.contents out.old) (E.contents err.old))
+        ended rc.new (output (W.contents out.new) (E.contents err.new)))) }
     ensures one { result ≡ None → Since (H.told host.old) (H.told host.new) (Advanced way dir.now
-        pauses.old pauses.new failed.old failed.new rc.old (W.contents out.old) rc.new
-        (W.contents out.new)) }
+        pauses.old pauses.new failed.old failed.new rc.old
+        (output (W.contents out.old) (E.contents err.old)) rc.new
+        (output (W.contents out.new) (E.contents err.new))) }
+    ensures silent { way.seconds ≡ None → err.new ≡ err.old }
 {
     match rc.next() {
         RcStep::Run(link, arg) => {
-            match run_link(alloc, host, way, dir, link, arg, pauses, out) {
+            match run_link(alloc, host, way, dir, link, arg, pauses, out, err) {
                 Ok(answer) => {
                     *failed = failed_by(*failed, &answer);
                     let Ok(()) = rc.answer(answer) else {
@@ -133,10 +155,12 @@ fn run_next<'n, A: Allocator + Copy, B: Allocator, H: Host, W: Write>(
 /// Runs the scripts that are left over a host, one at a time, and writes the line of each at its end: its link, its
 /// argument, and `exit N`, `killed` or `not started`; where starts are told, a line at its start too. `dir` is the path
 /// of the new level's folder. The host is asked to start each under the id `rc`, and to look until the script has ended,
-/// with a pause between two looks; `limit` is the greatest number of pauses. How a script ends doesn't end the run.
+/// with a pause between two looks; `limit` is the greatest number of pauses. Where scripts have a limit of seconds, one
+/// that was found alive and has run for longer, by the host's clock, is sent TERM, and KILL where it runs on for longer
+/// than init's grace; each is told on `err`, in a line that names the link. How a script ends doesn't end the run.
 /// Where the run ends early, `rc` waits for the answer to the script that was handed out last; where it waited for one
 /// before, nothing is run.
-pub fn run_links<'n, A: Allocator + Copy, B: Allocator, H: Host, W: Write>(
+pub fn run_links<'n, A: Allocator + Copy, B: Allocator, H: Host, W: Write, E: Write>(
     alloc: A,
     rc: &mut Rc<'n, B>,
     host: &mut H,
@@ -144,16 +168,29 @@ pub fn run_links<'n, A: Allocator + Copy, B: Allocator, H: Host, W: Write>(
     dir: &str,
     limit: u32,
     out: &mut W,
+    err: &mut E,
 ) -> RunEnd<'n>
     ensures written { WritesEnds way rc.old (W.contents out.old) result rc.new
         (W.contents out.new) }
     ensures calls { Since (H.told host.old) (H.told host.new) (RunsLinks way dir.now limit false
-        rc.old (W.contents out.old) result rc.new (W.contents out.new)) }
+        rc.old (output (W.contents out.old) (E.contents err.old)) result rc.new
+        (output (W.contents out.new) (E.contents err.new))) }
+    ensures silent { way.seconds ≡ None → err.new ≡ err.old }
 {
     let mut pauses = limit;
     let mut failed = false;
     loop {
-        if let Some(ended) = run_next(alloc, rc, host, way, dir, &mut pauses, &mut failed, out) {
+        if let Some(ended) = run_next(
+            alloc,
+            rc,
+            host,
+            way,
+            dir,
+            &mut pauses,
+            &mut failed,
+            out,
+            err,
+        ) {
             return ended;
         }
     }

@@ -7,8 +7,9 @@ mod links;
 mod printing;
 mod progress;
 mod runs;
+mod times;
 mod writing;
 
 pub use driving::{RunEnd, run_links};
 pub use printing::print_links;
-pub use runs::{Arg, NotAsked, Rc, RcAnswer, RcStep, RunWay};
+pub use runs::{Arg, NotAsked, Passage, Rc, RcAnswer, RcStep, RunWay};

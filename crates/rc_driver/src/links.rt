@@ -6,8 +6,9 @@ ghost use Rattle.rc_driver.specs.Links.{has_link, is_link, is_link_like, is_name
 ghost use Rattle.rc_links.specs.Names.{is_name_byte};
 ghost use Rattle.rc_driver.specs.Links.{is_started, ordered, start_links, stop_links};
 ghost use Rattle.rc_driver.specs.Runs.{texts_of};
+ghost use Rattle.rc_driver.specs.Sysv.{is_halt, is_stopping, stopping_links, was_stopped};
 
-use init_words::Memory;
+use init_words::{Level, Memory};
 use rc_links::is_name_byte;
 use std::alloc::Allocator;
 
@@ -74,6 +75,27 @@ fn is_started(previous: &[String], new: &[String], link: &str) -> bool
         && !(has_link(b'S', link, previous) && !has_link(b'K', link, new))
 }
 
+/// The previous level had stopped the link's service.
+fn was_stopped(previous: &[String], link: &str) -> bool
+    ensures { result ≡ was_stopped (map string_bytes previous.now) link.now }
+{
+    has_link(b'K', link, previous) && !has_link(b'S', link, previous)
+}
+
+/// A link with the letter whose service the previous level had not stopped.
+fn is_stopping(letter: u8, previous: &[String], link: &str) -> bool
+    ensures { result ≡ is_stopping letter (map string_bytes previous.now) link.now }
+{
+    is_link(letter, link.as_bytes()) && !was_stopped(previous, link)
+}
+
+/// The machine is halted or started anew in the level.
+pub(crate) fn is_halt(level: Level) -> bool
+    ensures { result ≡ is_halt level }
+{
+    matches!(level, Level::L0 | Level::L6)
+}
+
 /// Adds the name where it is a link that stops.
 fn add_stop<'n, A: Allocator>(links: &mut Vec<&'n str, A>, name: &'n str) -> Result<(), Memory>
     ensures { OnOk result (texts_of links.new.items
@@ -98,6 +120,38 @@ fn add_start<'n, A: Allocator>(
 {
     if is_started(previous, new, name) {
         links.push(name)?;
+    }
+    Ok(())
+}
+
+/// Adds the name where it is a link with the letter that sysv-rc stops.
+fn add_stopping<'n, A: Allocator>(
+    links: &mut Vec<&'n str, A>,
+    letter: u8,
+    previous: &[String],
+    name: &'n str,
+) -> Result<(), Memory>
+    ensures { OnOk result (texts_of links.new.items ≡ texts_of links.old.items
+        ++ filter (is_stopping letter (map string_bytes previous.now)) (name.now ∷ [])) }
+{
+    if is_stopping(letter, previous, name) {
+        links.push(name)?;
+    }
+    Ok(())
+}
+
+fn add_all_stopping<'n, A: Allocator>(
+    links: &mut Vec<&'n str, A>,
+    letter: u8,
+    previous: &[String],
+    names: &'n [String],
+) -> Result<(), Memory>
+    ensures { OnOk result (texts_of links.new.items ≡ texts_of links.old.items
+        ++ filter (is_stopping letter (map string_bytes previous.now))
+        (map string_bytes names.now)) }
+{
+    for name in names {
+        add_stopping(links, letter, previous, name.as_str())?;
     }
     Ok(())
 }
@@ -164,6 +218,22 @@ pub(crate) fn start_links<'n, A: Allocator>(
 {
     let mut links = Vec::new(alloc);
     add_starts(&mut links, previous, new, new)?;
+    put_in_order(&mut links);
+    Ok(links)
+}
+
+/// The links of the new folder with the letter that sysv-rc stops.
+pub(crate) fn stopping_links<'n, A: Allocator>(
+    alloc: A,
+    letter: u8,
+    previous: &[String],
+    new: &'n [String],
+) -> Result<Vec<&'n str, A>, Memory>
+    ensures { IfOk result (λ links. texts_of links.items
+        ≡ stopping_links letter (map string_bytes previous.now) (map string_bytes new.now)) }
+{
+    let mut links = Vec::new(alloc);
+    add_all_stopping(&mut links, letter, previous, new)?;
     put_in_order(&mut links);
     Ok(links)
 }

@@ -41,7 +41,7 @@ fn print_next<'n, A: Allocator + Copy, B: Allocator, W: Write>(
 }
 
 /// Writes the text that would start a script, as a line.
-fn print_link<A: Allocator, W: Write>(
+fn print_link<A: Allocator + Copy, W: Write>(
     alloc: A,
     way: RunWay,
     dir: &str,

@@ -1,14 +1,19 @@
 //! How far one script has come: ordered, started, looked at, ended.
 
-ghost use Rattle.std.specs.Prelude.{◌≡◌, true, false, IfNone, IfSome};
+ghost use Rattle.std.specs.Prelude.{◌≡◌, ℕ, List, Option, None, true, false, IfNone, IfSome};
 ghost use Rattle.child_host.specs.Record.{Since};
-ghost use Rattle.rc_driver.specs.Parts.{Begins, EndsEarly, Goes, GoneTo, is_born};
-ghost use Rattle.rc_driver.specs.Progress.{by_late, by_look, by_start, is_waiting, script_id};
+ghost use Rattle.rc_driver.specs.Parts.{Begins, EndsEarly, Goes, GoesFurther, HasRun, is_born, is_found};
+ghost use Rattle.rc_driver.specs.Progress.{alive, by_late, by_look, by_start, is_waiting, script_id};
+ghost use Rattle.rc_driver.specs.Report.{Tells};
+ghost use Rattle.rc_driver.specs.Times.{time_lines};
 
-use crate::runs::RcAnswer;
+use crate::runs::{RcAnswer, RunWay};
+use crate::times::{Timer, due_at, timer_at};
+use crate::writing::tell_signal;
 use child_host::{Host, Reply};
 use init_words::{Answer, Id};
 use std::alloc::Allocator;
+use std::io::Write;
 
 /// How far a script is.
 #[derive(Clone, Copy)]
@@ -17,6 +22,8 @@ pub(crate) enum Progress {
     Asked,
     /// It is to be looked at.
     Born,
+    /// It lives, and its time is to be looked at.
+    Found,
     /// It lives, and is to be looked at behind the next pause.
     Living,
     /// It came to its end.
@@ -33,93 +40,150 @@ fn script_id() -> Id
     }
 }
 
+/// A script that was found alive.
+fn alive(limit: Option<u32>) -> Progress
+    ensures { result ≡ alive limit }
+{
+    match limit {
+        None => Progress::Living,
+        Some(_) => Progress::Found,
+    }
+}
+
 /// How far a script is by the answer to a look.
-fn by_look(answer: Answer) -> Progress
-    ensures { result ≡ by_look answer }
+fn by_look(limit: Option<u32>, answer: Answer) -> Progress
+    ensures { result ≡ by_look limit answer }
 {
     match answer {
         Answer::Ended(status) => Progress::Over(RcAnswer::Ended(status)),
-        _ => Progress::Living,
+        _ => alive(limit),
     }
 }
 
 /// How far a script is by the answer to its start, or by one that came later.
-fn by_start(answer: Answer) -> Progress
-    ensures { result ≡ by_start answer }
+fn by_start(limit: Option<u32>, answer: Answer) -> Progress
+    ensures { result ≡ by_start limit answer }
 {
     match answer {
         Answer::Born(_) => Progress::Born,
         Answer::NotBorn => Progress::Over(RcAnswer::NotStarted),
-        _ => by_look(answer),
+        _ => by_look(limit, answer),
     }
 }
 
 /// How far a script is by the answer that came later.
-fn by_late(progress: Progress, late: Option<(Id, Answer)>) -> Progress
-    ensures { result ≡ by_late progress late }
+fn by_late(limit: Option<u32>, progress: Progress, late: Option<(Id, Answer)>) -> Progress
+    ensures { result ≡ by_late limit progress late }
 {
     match progress {
         Progress::Living => Progress::Born,
         Progress::Asked => match late {
-            Some(late) if late.0 == script_id() => by_start(late.1),
+            Some(late) if late.0 == script_id() => by_start(limit, late.1),
             _ => Progress::Asked,
         },
         _ => progress,
     }
 }
 
-fn started<A: Allocator + Copy, H: Host>(alloc: A, host: &mut H, command: &[u8]) -> Progress
-    ensures { Since (H.told host.old) (H.told host.new) (Begins command.now result) }
+fn started<A: Allocator + Copy, H: Host>(
+    alloc: A,
+    host: &mut H,
+    limit: Option<u32>,
+    command: &[u8],
+) -> Progress
+    ensures { Since (H.told host.old) (H.told host.new) (Begins limit command.now result) }
 {
     match host.start(alloc, script_id(), command) {
         Reply::Later => Progress::Asked,
-        Reply::Now(answer) => by_start(answer),
+        Reply::Now(answer) => by_start(limit, answer),
     }
 }
 
 /// Looks at a script that was born, or is due again.
-fn looked<H: Host>(host: &mut H) -> Progress
-    ensures calls { Since (H.told host.old) (H.told host.new) (Goes Progress.Born result 0) }
+fn looked<H: Host>(host: &mut H, limit: Option<u32>) -> Progress
+    ensures calls { Since (H.told host.old) (H.told host.new)
+        (GoesFurther limit Progress.Born result 0) }
     ensures settled { is_born result ≡ false }
 {
     match host.look(script_id()) {
         Reply::Later => Progress::Asked,
-        Reply::Now(answer) => by_look(answer),
+        Reply::Now(answer) => by_look(limit, answer),
     }
 }
 
-/// Pauses, and asks for an answer that came later.
-fn paused<H: Host>(host: &mut H, progress: Progress) -> Progress
-    requires { is_waiting progress ≡ true }
-    ensures { Since (H.told host.old) (H.told host.new) (Goes progress result 1) }
+/// Looks at the time of a script that was found alive: sends it the signal that is due, and tells of that.
+fn timed<H: Host, E: Write>(
+    host: &mut H,
+    way: RunWay,
+    dir: &str,
+    link: &str,
+    timer: &mut Timer,
+    err: &mut E,
+)
+    ensures calls { Since (H.told host.old) (H.told host.new)
+        (Goes way.seconds Progress.Found timer.old Progress.Living timer.new 0) }
+    ensures told { (before : Option (List ℕ)) → Tells before (E.contents err.old)
+        (time_lines way dir.now link.now timer.old) → Tells before (E.contents err.new)
+        (time_lines way dir.now link.now timer.new) }
+    ensures silent { way.seconds ≡ None → err.new ≡ err.old }
 {
-    host.pause();
-    by_late(progress, host.late())
+    let Ok(now) = host.clock() else {
+        return;
+    };
+    let due = due_at(way.seconds, *timer, now);
+    *timer = timer_at(*timer, now, due);
+    let Some(signal) = due else {
+        return;
+    };
+    let _ = host.signal(script_id(), signal);
+    tell_signal(err, way.seconds, dir, link, signal);
 }
 
-/// Starts a script and waits for its end; None where no pause is left and it hasn't come to its end.
-pub(crate) fn run_script<A: Allocator + Copy, H: Host>(
+/// Pauses, and asks for an answer that came later.
+fn paused<H: Host>(host: &mut H, limit: Option<u32>, progress: Progress) -> Progress
+    requires { is_waiting progress ≡ true }
+    ensures { Since (H.told host.old) (H.told host.new) (GoesFurther limit progress result 1) }
+{
+    host.pause();
+    by_late(limit, progress, host.late())
+}
+
+/// Starts a script and waits for its end; None where no pause is left and it hasn't come to its end. Where it has a
+/// limit of seconds it is sent TERM behind them, and KILL behind the grace; that is told on `err`, by the link's name.
+pub(crate) fn run_script<A: Allocator + Copy, H: Host, E: Write>(
     alloc: A,
     host: &mut H,
+    way: RunWay,
+    dir: &str,
+    link: &str,
     command: &[u8],
     pauses: &mut u32,
+    err: &mut E,
 ) -> Option<RcAnswer>
     ensures ended { IfSome result (λ given. Since (H.told host.old) (H.told host.new)
-        (GoneTo command.now (Progress.Over given) pauses.old pauses.new)) }
+        (HasRun way dir.now link.now command.now given pauses.old pauses.new
+        (E.contents err.old) (E.contents err.new))) }
     ensures limit { IfNone result (Since (H.told host.old) (H.told host.new)
-        (EndsEarly command.now pauses.old)) }
+        (EndsEarly way dir.now link.now command.now pauses.old (E.contents err.old)
+        (E.contents err.new))) }
+    ensures silent { way.seconds ≡ None → err.new ≡ err.old }
 {
-    let mut progress = started(alloc, host, command);
+    let mut timer = Timer::Unread;
+    let mut progress = started(alloc, host, way.seconds, command);
     loop {
         progress = match progress {
             Progress::Over(answer) => return Some(answer),
-            Progress::Born => looked(host),
+            Progress::Born => looked(host, way.seconds),
+            Progress::Found => {
+                timed(host, way, dir, link, &mut timer, err);
+                Progress::Living
+            }
             waiting => {
                 if *pauses == 0 {
                     return None;
                 }
                 *pauses -= 1;
-                paused(host, waiting)
+                paused(host, way.seconds, waiting)
             }
         };
     }

@@ -3,9 +3,10 @@
 ghost use Rattle.std.specs.Prelude.{◌≡◌, ◌++◌, ◌||◌, false, true, map, string_bytes, IfOk, OnOk, OnErr};
 ghost use Rattle.rc_driver.specs.Runs.{is_failure, rc_run, scripts_of, texts_of, with_arg};
 ghost use Rattle.rc_driver.specs.Steps.{Steps};
+ghost use Rattle.rc_driver.specs.Sysv.{is_halt, sysv_run, sysv_starts, sysv_stops};
 
-use crate::links::{start_links, stop_links};
-use init_words::{Memory, Status};
+use crate::links::{is_halt, start_links, stop_links, stopping_links};
+use init_words::{Level, Memory, Status};
 use std::alloc::{Allocator, Global};
 use std::collections::VecDeque;
 use std::marker::Model;
@@ -40,6 +41,15 @@ pub enum RcAnswer {
     NotStarted,
 }
 
+/// A change of runlevel.
+#[derive(Clone, Copy, PartialEq, Eq)]
+pub struct Passage {
+    /// The runlevel before, if there was one.
+    pub before: Option<Level>,
+    /// The runlevel that is entered.
+    pub new: Level,
+}
+
 /// How scripts are run.
 #[derive(Clone, Copy, PartialEq, Eq)]
 pub struct RunWay {
@@ -47,6 +57,10 @@ pub struct RunWay {
     pub direct: bool,
     /// A line tells of each start.
     pub verbose: bool,
+    /// The seconds behind which a script is sent TERM, and KILL behind init's grace, where there is such a limit.
+    pub seconds: Option<u32>,
+    /// The change that scripts have in RUNLEVEL and PREVLEVEL (init(8)), by env(1), where they have it.
+    pub levels: Option<Passage>,
 }
 
 /// The script failed: it was not started, or its end is no exit with 0.
@@ -125,6 +139,63 @@ impl<'n, A: Allocator + Copy> Rc<'n, A> {
         )?;
         Ok(Rc { left, waits: false })
     }
+
+    /// The same as sysv-rc has it. With no level before no K link is run. A K link is left out where the level before
+    /// had stopped its service: the previous folder has a K link with the same part after the digits, and no S link.
+    /// In levels 0 and 6 the S links are stopped too, by the same rule.
+    pub fn as_sysv(
+        alloc: A,
+        passage: Passage,
+        previous: &[String],
+        new: &'n [String],
+    ) -> Result<Rc<'n, A>, Memory>
+        ensures { IfOk result (λ rc. rc ≡ record {
+          left = sysv_run passage (map string_bytes previous.now) (map string_bytes new.now);
+          waits = false;
+        }) }
+    {
+        let mut left = VecDeque::new(alloc);
+        add_sysv_stops(alloc, &mut left, passage.before, previous, new)?;
+        add_sysv_starts(alloc, &mut left, is_halt(passage.new), previous, new)?;
+        Ok(Rc { left, waits: false })
+    }
+}
+
+/// Adds the K links that sysv-rc stops, where there was a level before.
+fn add_sysv_stops<'n, A: Allocator + Copy>(
+    alloc: A,
+    scripts: &mut VecDeque<(&'n str, Arg), A>,
+    before: Option<Level>,
+    previous: &[String],
+    new: &'n [String],
+) -> Result<(), Memory>
+    ensures { OnOk result (scripts_of scripts.new.items ≡ scripts_of scripts.old.items
+        ++ sysv_stops before (map string_bytes previous.now) (map string_bytes new.now)) }
+{
+    if before.is_none() {
+        return Ok(());
+    }
+    let links = stopping_links(alloc, b'K', previous, new)?;
+    add_scripts(scripts, links.as_slice(), Arg::Stop)
+}
+
+/// Adds the S links that sysv-rc starts, or stops where the machine is halted.
+fn add_sysv_starts<'n, A: Allocator + Copy>(
+    alloc: A,
+    scripts: &mut VecDeque<(&'n str, Arg), A>,
+    is_halt: bool,
+    previous: &[String],
+    new: &'n [String],
+) -> Result<(), Memory>
+    ensures { OnOk result (scripts_of scripts.new.items ≡ scripts_of scripts.old.items
+        ++ sysv_starts is_halt (map string_bytes previous.now) (map string_bytes new.now)) }
+{
+    if is_halt {
+        let links = stopping_links(alloc, b'S', previous, new)?;
+        return add_scripts(scripts, links.as_slice(), Arg::Stop);
+    }
+    let links = start_links(alloc, previous, new)?;
+    add_scripts(scripts, links.as_slice(), Arg::Start)
 }
 
 impl<'n, A: Allocator> Rc<'n, A> {

@@ -1,15 +1,17 @@
 //! The lines of scripts, and the texts that start them.
 
-ghost use Rattle.std.specs.Prelude.{◌≡◌, ◌++◌, string_bytes, true, codes, IfOk, IfErr, OnOk, OnErr};
+ghost use Rattle.std.specs.Prelude.{◌≡◌, ◌++◌, string_bytes, true, codes, decimal, IfOk, IfErr, OnOk, OnErr};
 ghost use Rattle.std.specs.Io.KnownBytes.{Appends};
 ghost use Rattle.program_io.specs.Writing.{AppendsPrefix};
 ghost use Rattle.rc_driver.specs.Report.{TellsStart, arg_word, begin_line, command_text, end_text};
-ghost use Rattle.rc_driver.specs.Report.{exit_text, line_of, script_text, shell_word, status_text};
+ghost use Rattle.rc_driver.specs.Report.{before_code, exit_text, level_words, line_of, script_text, shell_word, status_text};
+ghost use Rattle.rc_driver.specs.Times.{late_line, signal_line, signal_word, wait_of};
 ghost use Rattle.rc_driver.specs.declared.driving.RunEnd.TheVariants as run_end;
 
 use crate::driving::RunEnd;
-use crate::runs::{Arg, RcAnswer, RunWay};
-use init_words::Status;
+use crate::runs::{Arg, Passage, RcAnswer, RunWay};
+use crate::times::wait_of;
+use init_words::{Level, Sig, Status};
 use itoa::Buffer;
 use program_io::write_text;
 use std::alloc::{AllocError, Allocator};
@@ -184,8 +186,30 @@ fn shell_word(way: RunWay) -> &'static str
     if way.direct { "" } else { "sh " }
 }
 
+/// The character of the level before, `N` where there was none.
+fn before_code(before: Option<Level>) -> u8
+    ensures { result ≡ before_code before }
+{
+    match before {
+        Some(level) => level.code(),
+        None => b'N',
+    }
+}
+
+/// What sets the two levels for a script, where scripts have them.
+fn level_words<A: Allocator>(alloc: A, levels: Option<Passage>) -> Result<String<A>, AllocError>
+    ensures { IfOk result (λ text. string_bytes text ≡ level_words levels) }
+{
+    let Some(passage) = levels else {
+        return Ok(String::new(alloc));
+    };
+    let new = char::from(passage.new.code());
+    let before = char::from(before_code(passage.before));
+    format!(in alloc; "env RUNLEVEL={new} PREVLEVEL={before} ")
+}
+
 /// The process text that starts a script.
-pub(crate) fn command_of<A: Allocator>(
+pub(crate) fn command_of<A: Allocator + Copy>(
     alloc: A,
     way: RunWay,
     dir: &str,
@@ -195,9 +219,103 @@ pub(crate) fn command_of<A: Allocator>(
     ensures { IfOk result (λ text.
         string_bytes text ≡ command_text way dir.now (link.now, arg)) }
 {
+    let levels = level_words(alloc, way.levels)?;
     let shell = shell_word(way);
     let word = arg_word(arg);
-    format!(in alloc; "{shell}{dir}/{link} {word}")
+    format!(in alloc; "{levels}{shell}{dir}/{link} {word}")
+}
+
+fn signal_word(signal: Sig) -> &'static [u8]
+    ensures { result.now ≡ signal_word signal }
+{
+    match signal {
+        Sig::Term => b" s: TERM was sent\n",
+        Sig::Kill => b" s more: KILL was sent\n",
+    }
+}
+
+/// Writes what names the folder.
+fn write_folder<E: Write>(err: &mut E, dir: &str) -> io::Result<()>
+    ensures ok { OnOk result (Appends (E.contents err.old) (E.contents err.new)
+        (codes "rc: " ++ (dir.now ++ codes "/"))) }
+    ensures err { OnErr result (AppendsPrefix (E.contents err.old) (E.contents err.new)
+        (codes "rc: " ++ (dir.now ++ codes "/"))) }
+{
+    write_three(err, b"rc: ", dir.as_bytes(), b"/")
+}
+
+/// Writes how long a script has run.
+fn write_wait<E: Write>(err: &mut E, link: &str, seconds: u32) -> io::Result<()>
+    ensures ok { OnOk result (Appends (E.contents err.old) (E.contents err.new)
+        (link.now ++ (codes " has not ended after " ++ decimal seconds))) }
+    ensures err { OnErr result (AppendsPrefix (E.contents err.old) (E.contents err.new)
+        (link.now ++ (codes " has not ended after " ++ decimal seconds))) }
+{
+    let mut buffer = Buffer::new();
+    let number = buffer.format(seconds).as_bytes();
+    write_three(err, link.as_bytes(), b" has not ended after ", number)
+}
+
+/// Writes which signal was sent.
+fn write_word<E: Write>(err: &mut E, signal: Sig) -> io::Result<()>
+    ensures ok { OnOk result
+        (Appends (E.contents err.old) (E.contents err.new) (signal_word signal)) }
+    ensures err { OnErr result
+        (AppendsPrefix (E.contents err.old) (E.contents err.new) (signal_word signal)) }
+{
+    write_one(err, signal_word(signal))
+}
+
+/// Writes the line that tells of a signal, behind what names the folder.
+fn write_late<E: Write>(err: &mut E, link: &str, seconds: u32, signal: Sig) -> io::Result<()>
+    ensures ok { OnOk result (Appends (E.contents err.old) (E.contents err.new)
+        ((link.now ++ (codes " has not ended after " ++ decimal seconds)) ++ signal_word signal)) }
+    ensures err { OnErr result (AppendsPrefix (E.contents err.old) (E.contents err.new)
+        ((link.now ++ (codes " has not ended after " ++ decimal seconds)) ++ signal_word signal)) }
+{
+    write_wait(err, link, seconds)?;
+    write_word(err, signal)?;
+    Ok(())
+}
+
+/// Writes the line that tells of a signal.
+fn write_signal<E: Write>(
+    err: &mut E,
+    dir: &str,
+    link: &str,
+    seconds: u32,
+    signal: Sig,
+) -> io::Result<()>
+    ensures ok { OnOk result (Appends (E.contents err.old) (E.contents err.new)
+        (late_line dir.now link.now seconds signal)) }
+    ensures err { OnErr result (AppendsPrefix (E.contents err.old) (E.contents err.new)
+        (late_line dir.now link.now seconds signal)) }
+{
+    write_folder(err, dir)?;
+    write_late(err, link, seconds, signal)?;
+    Ok(())
+}
+
+/// Tells that a script was sent a signal, by as much of the line as `err` takes.
+fn tell_late<E: Write>(err: &mut E, dir: &str, link: &str, seconds: u32, signal: Sig)
+    ensures { AppendsPrefix (E.contents err.old) (E.contents err.new)
+        (late_line dir.now link.now seconds signal) }
+{
+    let _ = write_signal(err, dir, link, seconds, signal);
+}
+
+/// The same, behind the seconds that the signal has waited.
+pub(crate) fn tell_signal<E: Write>(
+    err: &mut E,
+    limit: Option<u32>,
+    dir: &str,
+    link: &str,
+    signal: Sig,
+)
+    ensures { AppendsPrefix (E.contents err.old) (E.contents err.new)
+        (signal_line limit dir.now link.now signal) }
+{
+    tell_late(err, dir, link, wait_of(limit, signal), signal);
 }
 
 /// Writes a text as a line, and sees that it is out.

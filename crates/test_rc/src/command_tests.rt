@@ -46,6 +46,19 @@ const ROWS: &[Row] = &[
     ),
     (&["t", "-n", "--direct", "6", "0"], 0, "t/rc0.d/K20c stop\n"),
     (&["t", "3", "0"], 0, "K20c stop exit 0\n"),
+    (
+        &["-n", "--as-sysv", "t", "N", "3"],
+        0,
+        "env RUNLEVEL=3 PREVLEVEL=N t/rc3.d/S10b start\n\
+         env RUNLEVEL=3 PREVLEVEL=N t/rc3.d/S20c start\n\
+         env RUNLEVEL=3 PREVLEVEL=N t/rc3.d/S30d start\n",
+    ),
+    (
+        &["-n", "--as-sysv", "--timeout", "86400", "t", "2", "6"],
+        0,
+        "env RUNLEVEL=6 PREVLEVEL=2 t/rc6.d/S90r stop\n",
+    ),
+    (&["--timeout", "60", "t", "3", "0"], 0, "K20c stop exit 0\n"),
     (&["t", "0", "6"], 0, "S90r start exit 0\n"),
     (&["t", "N", "S"], 0, ""),
 ];
@@ -106,12 +119,15 @@ fn command_lines_are_run(rt: HostRuntime) -> Result<(), Fail> {
     Ok(())
 }
 
-const USAGE_REPORT: &str = "usage: rc [-n] [-v] [--strict] [--direct] DIR PREV NEW\
+const USAGE_REPORT: &str =
+    "usage: rc [-n] [-v] [--strict] [--direct] [--as-sysv] [--timeout SEC] DIR PREV NEW\
 \n       rc --version\
-\n  -n        print what would be run, and run nothing\
-\n  -v        tell of each start\
-\n  --strict  status 2 where a script fails\
-\n  --direct  execute each script by its own first line, not by sh\
+\n  -n             print what would be run, and run nothing\
+\n  -v             tell of each start\
+\n  --strict       status 2 where a script fails\
+\n  --direct       execute each script by its own first line, not by sh\
+\n  --as-sysv      run what sysv-rc runs, and as it does; --direct is meant too\
+\n  --timeout SEC  send TERM to a script that runs longer than SEC seconds, 1 to 86400, and KILL 5 seconds later\
 \n  DIR   the folder that holds those of the runlevels, as rc3.d; of bytes of A-Z a-z 0-9 . _ - / alone\
 \n  PREV  the runlevel before, 0 to 9 or S, or N where there was none\
 \n  NEW   the runlevel that is entered, 0 to 9 or S\n";
@@ -149,6 +165,18 @@ const REFUSED: &[(&[&str], &str)] = &[
     (
         &["t x", "n", "A"],
         "rc: t x: DIR has bytes of A-Z a-z 0-9 . _ - / alone\n",
+    ),
+    (
+        &["--timeout", "0", "t", "2", "3"],
+        "rc: --timeout 0: not 1 to 86400 seconds\n",
+    ),
+    (
+        &["--timeout", "86401", "t;x", "2", "3"],
+        "rc: --timeout 86401: not 1 to 86400 seconds\n",
+    ),
+    (
+        &["--timeout=5s", "t", "2", "3"],
+        "rc: --timeout 5s: not 1 to 86400 seconds\n",
     ),
     (&["--help"], ""),
     (&["-h"], ""),

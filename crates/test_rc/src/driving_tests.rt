@@ -1,9 +1,9 @@
 //! Runs over a scripted host.
 
-use child_host::{Call, Reply};
-use init_words::{Answer, ChildNo, Id, Status};
+use child_host::{Call, HostFault, Reply};
+use init_words::{Answer, ChildNo, Id, Level, Sig, Status};
 use memory_host::MemoryHost;
-use rc_driver::{Rc, RcStep, RunEnd, RunWay, print_links, run_links};
+use rc_driver::{Passage, Rc, RcStep, RunEnd, RunWay, print_links, run_links};
 use std::alloc::Global;
 use std::process::Abort;
 use std::test::Fail;
@@ -13,12 +13,16 @@ use test_support::Slow;
 const PLAIN: RunWay = RunWay {
     direct: false,
     verbose: false,
+    seconds: None,
+    levels: None,
 };
 
 /// The scripts themselves, and each start is told.
 const TOLD: RunWay = RunWay {
     direct: true,
     verbose: true,
+    seconds: None,
+    levels: None,
 };
 
 /// Replies to starts, replies to looks and late answers, each a letter: `l`ater, `b`orn, `n`ot born, `e`nded with 0,
@@ -175,6 +179,9 @@ fn letter_of(call: &Call) -> u8 {
         Call::Look(_, _) => b'L',
         Call::Late(_) => b'A',
         Call::Pause => b'P',
+        Call::Clock(_) => b'C',
+        Call::Signal(_, Sig::Term, _) => b'T',
+        Call::Signal(_, Sig::Kill, _) => b'K',
         _ => b'?',
     }
 }
@@ -229,8 +236,18 @@ fn step_at(end: RunEnd) -> RcStep<'static> {
 /// The run over the host ends so, with so much written.
 fn ends(rt: &impl Abort, alloc: Global, rc: &mut Rc, host: &mut MemoryHost, row: &Row) {
     let mut out = Slow::new(alloc, row.4, true, false);
-    let ended = run_links(alloc, rc, host, PLAIN, "etc/rc3.d", row.3, &mut out);
-    assert!(rt; ended == row.5 && out.taken.as_slice() == row.6.as_bytes());
+    let mut err: Vec<u8> = Vec::new(alloc);
+    let ended = run_links(
+        alloc,
+        rc,
+        host,
+        PLAIN,
+        "etc/rc3.d",
+        row.3,
+        &mut out,
+        &mut err,
+    );
+    assert!(rt; ended == row.5 && out.taken.as_slice() == row.6.as_bytes() && err.is_empty());
 }
 
 fn is_run_by(rt: &impl Abort, alloc: Global, rc: &mut Rc, row: &Row) -> Result<(), Fail> {
@@ -277,7 +294,8 @@ fn ends_at_once(
 ) {
     let mut host = MemoryHost::new(alloc);
     let mut out = Slow::new(alloc, 99, true, is_stuck);
-    let ended = run_links(alloc, rc, &mut host, PLAIN, "x", 9, &mut out);
+    let mut err: Vec<u8> = Vec::new(alloc);
+    let ended = run_links(alloc, rc, &mut host, PLAIN, "x", 9, &mut out, &mut err);
     assert!(rt; ended == end && out.taken.as_slice() == taken);
 }
 
@@ -336,7 +354,8 @@ fn starts_are_told(
     give_starts(&mut host, b"b")?;
     give_looks(&mut host, b"e")?;
     let mut out = Slow::new(alloc, row.0, true, false);
-    let ended = run_links(alloc, &mut rc, &mut host, TOLD, "x", 9, &mut out);
+    let mut err: Vec<u8> = Vec::new(alloc);
+    let ended = run_links(alloc, &mut rc, &mut host, TOLD, "x", 9, &mut out, &mut err);
     assert!(rt; ended == row.1 && out.taken.as_slice() == row.2.as_bytes());
     Ok(())
 }
@@ -355,7 +374,24 @@ const PRINTS: &[(RunWay, usize, RunEnd<'static>, &str)] = &[
     (PLAIN, 99, RunEnd::Done, "sh x/K05c stop\nsh x/S10a start\n"),
     (TOLD, 99, RunEnd::Done, "x/K05c stop\nx/S10a start\n"),
     (TOLD, 14, RunEnd::Write, "x/K05c stop\nx/"),
+    (
+        FIRST,
+        199,
+        RunEnd::Done,
+        "env RUNLEVEL=S PREVLEVEL=N x/K05c stop\nenv RUNLEVEL=S PREVLEVEL=N x/S10a start\n",
+    ),
 ];
+
+/// The scripts themselves, with the levels of a change to S from no level.
+const FIRST: RunWay = RunWay {
+    direct: true,
+    verbose: false,
+    seconds: None,
+    levels: Some(Passage {
+        before: None,
+        new: Level::S,
+    }),
+};
 
 fn scripts_are_printed(
     rt: &impl Abort,
@@ -377,6 +413,147 @@ fn what_would_be_run_is_printed(rt: HostRuntime) -> Result<(), Fail> {
     let names = two_names(rt.alloc())?;
     for row in PRINTS {
         scripts_are_printed(&rt, rt.alloc(), &names, row)?;
+    }
+    Ok(())
+}
+
+/// The scripts themselves, each with three seconds.
+const TIMED: RunWay = RunWay {
+    direct: true,
+    verbose: false,
+    seconds: Some(3),
+    levels: None,
+};
+
+/// Replies to looks and readings of the clock in seconds, `u8::MAX` for one that fails; then the room of the writer of what
+/// is told, how the run ends, what is written, what is told, and the calls: `C`lock, `T`ERM, `K`ILL and those above.
+type TimedRow = (
+    &'static [u8],
+    &'static [u8],
+    usize,
+    RunEnd<'static>,
+    &'static str,
+    &'static str,
+    &'static str,
+);
+
+const TERM_LINE: &str = "rc: x/S10a has not ended after 3 s: TERM was sent\n";
+
+const BOTH_LINES: &str = "rc: x/S10a has not ended after 3 s: TERM was sent\n\
+                          rc: x/S10a has not ended after 5 s more: KILL was sent\n";
+
+const TIMED_ROWS: &[TimedRow] = &[
+    // The clock isn't read of a script that has ended at once.
+    (
+        b"e",
+        b"",
+        200,
+        RunEnd::Done,
+        "S10a start exit 0\n",
+        "",
+        "SL",
+    ),
+    // Three seconds are within the limit; the first reading is that of its beginning.
+    (
+        b"aae",
+        &[40, 43],
+        200,
+        RunEnd::Done,
+        "S10a start exit 0\n",
+        "",
+        "SLCPALCPAL",
+    ),
+    (
+        b"aak",
+        &[40, 44],
+        200,
+        RunEnd::Failed,
+        "S10a start killed\n",
+        TERM_LINE,
+        "SLCPALCTPAL",
+    ),
+    // It is sent each signal once, and KILL behind the grace.
+    (
+        b"aaaaat",
+        &[40, 44, 49, 50, 90],
+        200,
+        RunEnd::Failed,
+        "S10a start exit 3\n",
+        BOTH_LINES,
+        "SLCPALCTPALCPALCKPALCPAL",
+    ),
+    // No time passes by a clock that can't be read, nor by one that is set back.
+    (
+        b"aaae",
+        &[u8::MAX, 40, 7],
+        200,
+        RunEnd::Done,
+        "S10a start exit 0\n",
+        "",
+        "SLCPALCPALCPAL",
+    ),
+    // A line that can't be told ends nothing.
+    (
+        b"aaak",
+        &[40, 44, 50],
+        6,
+        RunEnd::Failed,
+        "S10a start killed\n",
+        "rc: x/",
+        "SLCPALCTPALCKPAL",
+    ),
+];
+
+fn reading_of(second: u8) -> Result<u64, HostFault> {
+    if second == u8::MAX {
+        Err(HostFault::Device)
+    } else {
+        Ok(second as u64)
+    }
+}
+
+fn give_times(host: &mut MemoryHost, seconds: &[u8]) -> Result<(), Fail> {
+    for second in seconds {
+        host.give_clock(reading_of(*second))?;
+    }
+    Ok(())
+}
+
+fn is_timed(rt: &impl Abort, alloc: Global, names: &[String], row: &TimedRow) -> Result<(), Fail> {
+    let mut rc = Rc::new(alloc, &[], names)?;
+    let mut host = MemoryHost::new(alloc);
+    give_starts(&mut host, b"b")?;
+    give_looks(&mut host, row.0)?;
+    give_times(&mut host, row.1)?;
+    let mut out: Vec<u8> = Vec::new(alloc);
+    let mut err = Slow::new(alloc, row.2, true, false);
+    let ended = run_links(
+        alloc, &mut rc, &mut host, TIMED, "x", 99, &mut out, &mut err,
+    );
+    assert!(rt; ended == row.3 && out.as_slice() == row.4.as_bytes());
+    assert!(rt; err.taken.as_slice() == row.5.as_bytes() && made(&host, row.6.as_bytes()));
+    Ok(())
+}
+
+/// The host has these calls.
+fn made(host: &MemoryHost, letters: &[u8]) -> bool {
+    match host.calls() {
+        Some(calls) => are_calls(calls, letters),
+        None => false,
+    }
+}
+
+fn one_name(alloc: Global) -> Result<Vec<String>, Fail> {
+    let mut names = Vec::new(alloc);
+    names.push(String::from_str(alloc, "S10a")?)?;
+    Ok(names)
+}
+
+#[test]
+fn a_script_is_stopped_where_its_time_is_up(rt: HostRuntime) -> Result<(), Fail> {
+    let names = one_name(rt.alloc())?;
+    for row in TIMED_ROWS {
+        is_timed(&rt, rt.alloc(), &names, row)?;
     }
     Ok(())
 }

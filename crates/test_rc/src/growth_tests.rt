@@ -2,10 +2,10 @@
 //! of memory, and what was written is a front of the lines.
 
 use child_host::Reply;
-use init_words::{Answer, ChildNo, Memory, Status};
+use init_words::{Answer, ChildNo, Level, Memory, Status};
 use linked_list_allocator::LocalHeap;
 use memory_host::MemoryHost;
-use rc_driver::{Rc, RcStep, RunEnd, RunWay, run_links};
+use rc_driver::{Arg, Passage, Rc, RcStep, RunEnd, RunWay, run_links};
 use std::alloc::Global;
 use std::process::Abort;
 use std::test::Fail;
@@ -13,6 +13,14 @@ use std::test::Fail;
 const WAY: RunWay = RunWay {
     direct: false,
     verbose: false,
+    seconds: None,
+    levels: Some(PASSAGE),
+};
+
+/// From level 2 to 3.
+const PASSAGE: Passage = Passage {
+    before: Some(Level::L2),
+    new: Level::L3,
 };
 
 /// From one heap to the next there is less more room than the least growth takes, so that each growth is refused on
@@ -44,7 +52,17 @@ fn is_run(rt: &impl Abort, alloc: Global, new: &[String], heap: &LocalHeap) -> R
     let mut rc = Rc::new(alloc, &[], new)?;
     let mut host = host_of(alloc)?;
     let mut out: Vec<u8> = Vec::new(alloc);
-    let ended = run_links(heap, &mut rc, &mut host, WAY, "etc/rc3.d", 9, &mut out);
+    let mut err: Vec<u8> = Vec::new(alloc);
+    let ended = run_links(
+        heap,
+        &mut rc,
+        &mut host,
+        WAY,
+        "etc/rc3.d",
+        9,
+        &mut out,
+        &mut err,
+    );
     if ended == RunEnd::Done {
         assert!(rt; out.as_slice() == LINES && rc.next() == RcStep::Done);
         return Ok(true);
@@ -74,6 +92,23 @@ fn scripts_without_room_are_not_listed(rt: HostRuntime) -> Result<(), Fail> {
         let heap = LocalHeap::new(rt.alloc(), STEP * refused)?;
         if let Ok(mut rc) = Rc::new(&heap, &previous, &new) {
             assert!(rt; refused > 2 && rc.next() != RcStep::Done, "{refused}");
+            return Ok(());
+        }
+    }
+    Err(Fail::from("no heap has room"))
+}
+
+#[test]
+fn sysv_scripts_without_room_are_not_listed(rt: HostRuntime) -> Result<(), Fail> {
+    let previous = names_of(rt.alloc(), &["S10a", "K30d"])?;
+    let new = names_of(rt.alloc(), &["S10a", "S20b", "K05c", "K70d"])?;
+    for refused in 0..4096usize {
+        let heap = LocalHeap::new(rt.alloc(), STEP * refused)?;
+        if let Ok(mut rc) = Rc::as_sysv(&heap, PASSAGE, &previous, &new) {
+            assert!(rt;
+                refused > 2 && rc.next() == RcStep::Run("K05c", Arg::Stop),
+                "{refused}"
+            );
             return Ok(());
         }
     }

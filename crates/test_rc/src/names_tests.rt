@@ -96,6 +96,8 @@ fn names_are_run(rt: &impl Abort, alloc: Global, row: &Row) -> Result<(), Fail> 
         way: RunWay {
             direct: false,
             verbose: false,
+            seconds: None,
+            levels: None,
         },
     };
     let status = run_names(

@@ -1,7 +1,7 @@
 //! The scripts that are handed out, by the names in two folders.
 
-use init_words::Status;
-use rc_driver::{Arg, NotAsked, Rc, RcAnswer, RcStep};
+use init_words::{Level, Status};
+use rc_driver::{Arg, NotAsked, Passage, Rc, RcAnswer, RcStep};
 use std::alloc::Global;
 use std::process::Abort;
 use std::test::Fail;
@@ -179,4 +179,93 @@ fn is_asked_once(rt: &impl Abort, alloc: Global, new: &[String]) -> Result<(), F
 fn an_answer_is_asked_for_once(rt: HostRuntime) -> Result<(), Fail> {
     let new = names_of(rt.alloc(), &["S10a", "S20b"])?;
     is_asked_once(&rt, rt.alloc(), &new)
+}
+
+/// The change of level, the names in the previous folder and in the new one, and what sysv-rc runs.
+type SysvRow = (
+    Option<Level>,
+    Level,
+    &'static [&'static str],
+    &'static [&'static str],
+    Runs,
+);
+
+const SYSV_ROWS: &[SysvRow] = &[
+    // With no level before no K link is run, and no S link is left out.
+    (
+        None,
+        Level::L2,
+        &[],
+        &["K05c", "S10a", "S20b"],
+        &[("S10a", Arg::Start), ("S20b", Arg::Start)],
+    ),
+    // What the level before had stopped is not stopped again, unless it was started there too.
+    (
+        Some(Level::L2),
+        Level::L3,
+        &["K01c", "K02d", "S80d", "S10a"],
+        &["K05c", "K05d", "K05e", "S10a", "S20b"],
+        &[
+            ("K05d", Arg::Stop),
+            ("K05e", Arg::Stop),
+            ("S20b", Arg::Start),
+        ],
+    ),
+    // In levels 0 and 6 the S links are stopped, behind the K links and by the same rule.
+    (
+        Some(Level::L2),
+        Level::L0,
+        &["S10a", "K20b"],
+        &["S90h", "S10a", "K05c", "S20b"],
+        &[
+            ("K05c", Arg::Stop),
+            ("S10a", Arg::Stop),
+            ("S90h", Arg::Stop),
+        ],
+    ),
+    (
+        None,
+        Level::L6,
+        &[],
+        &["K05c", "S90h"],
+        &[("S90h", Arg::Stop)],
+    ),
+    // In S as in every other level.
+    (
+        Some(Level::L6),
+        Level::S,
+        &["S10a"],
+        &["S10a", "S20b", "K20b"],
+        &[("K20b", Arg::Stop), ("S20b", Arg::Start)],
+    ),
+];
+
+fn is_run_by(
+    rt: &impl Abort,
+    alloc: Global,
+    row: &SysvRow,
+    previous: &[String],
+    new: &[String],
+) -> Result<(), Fail> {
+    let passage = Passage {
+        before: row.0,
+        new: row.1,
+    };
+    let mut rc = Rc::as_sysv(alloc, passage, previous, new)?;
+    are_handed_out(rt, &mut rc, row.4);
+    Ok(())
+}
+
+fn is_run_as_sysv(rt: &impl Abort, alloc: Global, row: &SysvRow) -> Result<(), Fail> {
+    let previous = names_of(alloc, row.2)?;
+    let new = names_of(alloc, row.3)?;
+    is_run_by(rt, alloc, row, &previous, &new)
+}
+
+#[test]
+fn scripts_are_handed_out_as_sysv_rc_runs_them(rt: HostRuntime) -> Result<(), Fail> {
+    for row in SYSV_ROWS {
+        is_run_as_sysv(&rt, rt.alloc(), row)?;
+    }
+    Ok(())
 }

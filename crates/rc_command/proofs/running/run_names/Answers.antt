@@ -1,4 +1,4 @@
-use Rattle.std.proofs.Common.{rules, ◌≡◌, ◌∙◌, inr, ap, sym, true, false, Global, List, String, map, string_bytes, ℕ}
+use Rattle.std.proofs.Common.{rules, ◌≡◌, ◌∙◌, inl, inr, ap, sym, true, false, Global, List, String, map, string_bytes, ℕ}
 use Rattle.std.proofs.lemmas.Bool.{true≢false}
 use Rattle.rc_driver.specs.Runs.{RcState}
 use Rattle.rc_command.proofs.Reported.{dry_known, dry_part, dry_reports, run_names, run_part, run_reports}
@@ -44,3 +44,8 @@ returns-clause-part g c =
 pub returns-clause-ran : goal.returns-clause-ran
 returns-clause-ran g c =
     inr (λ wet. run_names c.args.options c.args.path.now (texts c.args.previous.now) (texts c.args.names.now) _ _ _ _ _ _ _ _ c.in-Ok.ensures c.run_all.ensures.ran)
+
+pub returns-clause-silent : goal.returns-clause-silent
+returns-clause-silent g c = λ whole quiet.
+    let wet : c.args.options.dry ≡ false = search rules in
+    c.run_all.ensures.silent whole (elim quiet [ inl dry ↦ absurd (true≢false (sym dry ∙ wet)) | inr none ↦ none ])

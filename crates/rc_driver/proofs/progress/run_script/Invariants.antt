@@ -1,11 +1,16 @@
-use Rattle.std.proofs.Common.{◌*◌, ◌+◌, cond}
+use Rattle.std.proofs.Common.{◌≡◌, None, ◌*◌, ◌+◌, cond}
 use Rattle.child_host.specs.Record.{Since}
-use Rattle.rc_driver.specs.Parts.{GoneTo, is_born}
+use Rattle.rc_driver.specs.Parts.{GoneTo, is_born, is_found}
+use Rattle.rc_driver.specs.Report.{Tells}
+use Rattle.rc_driver.specs.Times.{time_lines}
 use Rattle.rc_driver.proofs.progress.run_script.Given as goal
 
 abbrev pub invariant-loop-progress : goal.invariant-loop-progress
-invariant-loop-progress g l = Since (g.H.Host.told l.fn.host) (g.H.Host.told l.host) (GoneTo l.command l.progress l.fn.pauses l.pauses)
+invariant-loop-progress g l =
+    Since (g.H.Host.told l.fn.host) (g.H.Host.told l.host) (GoneTo l.way.seconds l.command l.progress l.timer l.fn.pauses l.pauses)
+    × Tells (g.E.Write.contents l.fn.err) (g.E.Write.contents l.err) (time_lines l.way l.dir l.link l.timer)
+    × (l.way.seconds ≡ None → l.err ≡ l.fn.err)
 
--- a pause, or the look that is due
+-- a pause, or the look that is due, or the one at its time
 abbrev pub decreases-loop-progress : goal.decreases-loop-progress
-decreases-loop-progress g l = 2 * l.pauses + cond (is_born l.progress) 1 0
+decreases-loop-progress g l = 3 * l.pauses + (cond (is_born l.progress) 2 0 + cond (is_found l.progress) 1 0)

@@ -4,7 +4,9 @@ use Rattle.rc_driver.proofs.CallLemmas.{begins}
 use Rattle.rc_driver.proofs.progress.started.Goals as goal
 
 pub returns-in-Later : goal.returns-in-Later
-returns-in-Later g c = begins _ _ _ _ _ _ c.start.ensures.adds c.script_id.ensures (ap (by_reply by_start) (sym c.in-Later.is))
+returns-in-Later g c =
+    begins _ _ c.args.limit _ _ _ _ c.start.ensures.adds c.script_id.ensures (ap (by_reply (by_start c.args.limit)) (sym c.in-Later.is))
 
 pub returns-in-Now : goal.returns-in-Now
-returns-in-Now g c = begins _ _ _ _ _ _ c.start.ensures.adds c.script_id.ensures (c.by_start.ensures ∙ ap (by_reply by_start) (sym c.in-Now.is))
+returns-in-Now g c =
+    begins _ _ c.args.limit _ _ _ _ c.start.ensures.adds c.script_id.ensures (c.by_start.ensures ∙ ap (by_reply (by_start c.args.limit)) (sym c.in-Now.is))
