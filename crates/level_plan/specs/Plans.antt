@@ -44,9 +44,12 @@ abbrev pub plan_of : Goal → List Entry → List Step
 plan_of goal table = steps_along goal.grace table (stages_to goal.level)
 
 -- the critical path: the entries whose ends init waits for on the way, each behind the ends of those before it
+abbrev pub is_on_path : Stage → Entry → Bool
+is_on_path stage e = is_started stage e && waited_of e
+
 abbrev pub path_along : List Entry → List Stage → List Entry
 path_along table [] = []
-path_along table (stage ∷ stages) = filter waited_of (started_in table stage) ++ path_along table stages
+path_along table (stage ∷ stages) = filter (is_on_path stage) table ++ path_along table stages
 
 abbrev pub critical_path : Level → List Entry → List Entry
 critical_path level table = path_along table (stages_to level)
