@@ -4,7 +4,6 @@ use Rattle.std.proofs.lemmas.List.{append-nil}
 use Rattle.init_words.specs.declared.entries.Entry.{Entry}
 use Rattle.init_words.specs.declared.levels.Level.{Level}
 use Rattle.init_words.specs.declared.levels.Level.TheVariants.{S}
-use Rattle.init_words.specs.declared.stages.Stage.{Stage}
 use Rattle.init_words.specs.declared.stages.Stage.TheVariants.{Sysinit, Boot, Run}
 use Rattle.init_words.specs.Levels.{same_level}
 use Rattle.level_plan.specs.Plans.{boot_before, is_on_path, path_along, stages_to, critical_path}
