@@ -35,7 +35,8 @@ pub const USAGE: &str = "usage: initview why ID TRACE
   lint    list the faults of an inittab's lines, with what was probably meant, and warnings; the
           exit status is 1 with faults, 2 with warnings alone
   diff    list what becomes of each entry in a level where the inittab NEW is read in OLD's place
-  plan    list what init starts on the way to a level, in its order, and what it waits for
+  plan    list what init starts on the way to a level, in its order, what it waits for, and the
+          critical path: the entries whose ends the way goes through
   ID      an id of the inittab, 1 to 8 characters
   TRACE   a trace of init, also one that is still being written; - is standard input
   TABLE   an inittab; FILEs go on where it ends

@@ -1,5 +1,5 @@
 -- What becomes of the entries of an inittab in a level, where init reads another one in its place (inittab(5), init(8)).
-use Rattle.std.specs.Prelude.{ℕ, Bool, false, ◌&&◌, if◌then◌else◌, true, List, [], ◌∷◌, ◌++◌, codes, Option, Some, None, is_some}
+use Rattle.std.specs.Prelude.{ℕ, Bool, false, if◌then◌else◌, List, [], ◌∷◌, ◌++◌, codes, Option, Some, None, is_some}
 use Rattle.std.specs.Option.{option_map}
 use Rattle.std.specs.Str.{bytes_eq}
 use Rattle.init_words.specs.declared.actions.Act.{Act}
@@ -7,17 +7,13 @@ use Rattle.init_words.specs.declared.entries.Entry.{Entry}
 use Rattle.init_words.specs.declared.levels.Level.{Level}
 use Rattle.init_words.specs.declared.stages.Stage.{Stage}
 use Rattle.init_words.specs.declared.stages.Stage.TheVariants.{Run}
-use Rattle.init_words.specs.Actions.{wanted_by}
-use Rattle.init_words.specs.Entries.{lives_of, starts_of}
+use Rattle.init_words.specs.Entries.{lives_of}
 use Rattle.inittab_text.specs.Tables.{entry_of}
 use Rattle.init_trace.specs.Wanted.{may_live}
 use Rattle.view_lines.specs.declared.changes.Change.{Change}
 use Rattle.view_lines.specs.declared.changes.Change.TheVariants.{Keep, NextStart, Stop, StopStart, Start, NotHere}
+use Rattle.level_plan.specs.Plans.{is_started}
 use Rattle.view_lines.specs.Words.{act_words, level_words, padded}
-
--- a stage starts the entry of itself: it starts there, and is wanted where nothing of it was started or called
-abbrev pub is_started : Stage → Entry → Bool
-is_started stage e = starts_of e stage && wanted_by e.act true true false
 
 abbrev pub starts_there : Stage → Option Entry → Bool
 starts_there stage None = false

@@ -1,15 +1,12 @@
--- Which entries init starts of itself on its way to a level, in their order (inittab(5), init(8)).
-use Rattle.std.specs.Prelude.{ℕ, Bool, if◌then◌else◌, List, [], ◌∷◌, ◌++◌, codes, Some}
+-- Which entries init starts of itself on its way to a level, in their order, and its critical path (inittab(5), init(8)).
+use Rattle.std.specs.Prelude.{ℕ, Bool, if◌then◌else◌, List, [], ◌∷◌, ◌++◌, codes, Option, Some, None}
 use Rattle.init_words.specs.declared.entries.Entry.{Entry}
 use Rattle.init_words.specs.declared.levels.Level.{Level}
-use Rattle.init_words.specs.declared.levels.Level.TheVariants.{S}
 use Rattle.init_words.specs.declared.stages.Stage.{Stage}
-use Rattle.init_words.specs.declared.stages.Stage.TheVariants.{Sysinit, Boot, Run}
 use Rattle.init_words.specs.Actions.{word_of}
 use Rattle.init_words.specs.Entries.{waited_of}
-use Rattle.init_words.specs.Levels.{same_level}
-use Rattle.view_lines.specs.Changes.{is_started}
-use Rattle.view_lines.specs.Words.{padded, stage_words}
+use Rattle.level_plan.specs.Plans.{critical_path, started_in, stages_to}
+use Rattle.view_lines.specs.Words.{level_words, padded, stage_words}
 
 -- whether init waits for a child's end before it goes on
 abbrev pub wait_words : Bool → List ℕ
@@ -18,20 +15,41 @@ wait_words waits = if waits then codes "init waits for its end\n" else codes "in
 abbrev pub start_line : Entry → List ℕ
 start_line e = padded 9 e.id ++ (padded 14 (word_of e.act) ++ wait_words (waited_of e))
 
--- the entries that a stage starts of itself, in the order of the table
-abbrev pub where_started : Stage → Entry → List ℕ
-where_started stage e = if is_started stage e then start_line e else []
+abbrev pub start_lines : List Entry → List ℕ
+start_lines [] = []
+start_lines (e ∷ es) = start_line e ++ start_lines es
 
-abbrev pub start_lines : Stage → List Entry → List ℕ
-start_lines stage [] = []
-start_lines stage (e ∷ es) = where_started stage e ++ start_lines stage es
+-- a stage, and the entries that it starts of itself
+abbrev pub stage_text : List Entry → Stage → List ℕ
+stage_text table stage = stage_words (Some stage) ++ (codes "\n" ++ start_lines (started_in table stage))
 
-abbrev pub stage_text : Stage → List Entry → List ℕ
-stage_text stage table = stage_words (Some stage) ++ (codes "\n" ++ start_lines stage table)
+abbrev pub stages_text : List Entry → List Stage → List ℕ
+stages_text table [] = []
+stages_text table (stage ∷ stages) = stage_text table stage ++ stages_text table stages
 
--- the stages on the way to a level: no boot on the way to S
-abbrev pub boot_text : Level → List Entry → List ℕ
-boot_text level table = if same_level level S then [] else stage_text Boot table
+-- what waits for the end of which entry
+abbrev pub behind_words : Option (List ℕ) → List ℕ
+behind_words None = codes "waits for nothing\n"
+behind_words (Some id) = codes "waits for " ++ (id ++ codes "\n")
+
+abbrev pub path_line : Option (List ℕ) → Entry → List ℕ
+path_line before e = padded 9 e.id ++ (padded 14 (word_of e.act) ++ behind_words before)
+
+-- the entries of a path, each behind the one before it
+abbrev pub path_lines : Option (List ℕ) → List Entry → List ℕ
+path_lines before [] = []
+path_lines before (e ∷ es) = path_line before e ++ path_lines (Some e.id) es
+
+abbrev pub last_of : Option (List ℕ) → List Entry → Option (List ℕ)
+last_of before [] = before
+last_of before (e ∷ es) = last_of (Some e.id) es
+
+-- the level is reached behind the last of them
+abbrev pub reached_line : Level → Option (List ℕ) → List ℕ
+reached_line level before = padded 9 (level_words level) ++ (padded 14 [] ++ behind_words before)
+
+abbrev pub path_text : Level → List Entry → List ℕ
+path_text level path = codes "critical path\n" ++ (path_lines None path ++ reached_line level (last_of None path))
 
 abbrev pub plan_text : Level → List Entry → List ℕ
-plan_text level table = stage_text Sysinit table ++ (boot_text level table ++ stage_text (Run level) table)
+plan_text level table = stages_text table (stages_to level) ++ path_text level (critical_path level table)

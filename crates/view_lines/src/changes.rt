@@ -2,7 +2,8 @@
 
 ghost use Rattle.std.specs.Prelude.{◌≡◌, ◌++◌, Some, codes, option_copied, IfOk, OnOk};
 ghost use Rattle.init_trace.specs.Wanted.{may_live};
-ghost use Rattle.view_lines.specs.Changes.{act_there, change_in, change_line, change_words, changes_text, gone_line, gone_lines, is_started, line_of_id, lives_there, new_lines, same_process, starts_there};
+ghost use Rattle.level_plan.specs.Plans.{is_started};
+ghost use Rattle.view_lines.specs.Changes.{act_there, change_in, change_line, change_words, changes_text, gone_line, gone_lines, line_of_id, lives_there, new_lines, same_process, starts_there};
 ghost use Rattle.view_lines.specs.Words.{level_words};
 
 use crate::words::{act_words, add_level, add_padded, put};

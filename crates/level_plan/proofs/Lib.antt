@@ -1,0 +1,5 @@
+pub mod Plain
+pub mod Firsts
+pub mod Children
+pub mod Starts
+pub mod Following
