@@ -72,7 +72,8 @@ fn seen_by<A: Allocator>(stop: Option<Stop>, happening: HappeningIn<A>) -> Optio
 impl<A: Allocator + Copy> TextView<A> {
     /// A view that has taken nothing. It takes no memory.
     pub fn new(alloc: A) -> TextView<A>
-        ensures { HasTaken result [] }
+        ensures taken { HasTaken result [] }
+        ensures shown { HasShown result [] [] }
     {
         TextView {
             reader: TextReader::new(alloc),

@@ -1,7 +1,7 @@
 use Rattle.std.proofs.Common.{◌≡◌, ◌++◌, map, filter, length}
-use Rattle.inittab_lint.specs.Warnings.{at_line, fields_at, holds, warnings_by}
-use Rattle.inittab_lint.proofs.traps.add_kinds.Given as goal
 use Rattle.inittab_text.specs.Lines.{fields_at}
+use Rattle.inittab_lint.specs.Warnings.{at_line, holds, warnings_by}
+use Rattle.inittab_lint.proofs.traps.add_kinds.Given as goal
 
 -- what was found so far, and behind it what holds of those that are left, is what was found before and all that holds
 abbrev pub invariant-loop-kind : goal.invariant-loop-kind
