@@ -17,7 +17,9 @@ use Rattle.initview_command.specs.Charting.{DrawsOf, Draws}
 use Rattle.initview_command.specs.Showing.{stop_status}
 
 pub drawn_is : (width : ℕ) (marks : List Mark) (time : ℕ) (past : List Event) → marks ≡ marks_of past → time ≡ time_of past → chart_of width marks time ≡ chart_text width past
-drawn_is width marks time past e1 e2 = rw (e1, e2) refl
+drawn_is width marks time past e1 e2 =
+    subst (λ m. chart_of width marks time ≡ chart_of width m (time_of past)) e1
+    (subst (λ t. chart_of width marks time ≡ chart_of width marks t) e2 refl)
 
 pub none_drawn : (past : List Event) (width : ℕ) (stop : Option Stop) (status : ℕ) (old : Option (List ℕ)) → status ≡ DEVICE_FAULT → DrawsOf past width stop status old old
 none_drawn past width stop status old is = inr (is, ([], chart_text width past, refl, Appends-nil old))
