@@ -8,7 +8,7 @@ use Rattle.text_view.specs.Views.{TextState, GoesOn, IsAt}
 use Rattle.text_view.proofs.Seeing.{seen_at}
 use Rattle.trace_timeline.specs.declared.marks.Mark.{Mark}
 use Rattle.trace_timeline.specs.Marks.{mark_at, marks_of, shown_of}
-use Rattle.trace_timeline.specs.Timelines.{TimelineState, IsMarking, HasMarked}
+use Rattle.trace_timeline.specs.Timelines.{IsMarking, HasMarked}
 
 pub some_marked : (next : Option Event) (h : Event) (old new : TextState) (before after : List Mark) (text : List ℕ) → next ≡ Some h → ((trace : List Event) → GoesOn next old new trace text) → ((past : List Event) → Viewed new.viewing (h ∷ past) → after ≡ before ++ mark_at (time_of (h ∷ past)) (shown_of h past)) → IsMarking (record { viewing = old; marks = before }) text → IsMarking (record { viewing = new; marks = after }) text
 some_marked next h old new before after text is goes marks at =

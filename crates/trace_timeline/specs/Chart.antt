@@ -10,7 +10,7 @@ use Rattle.init_trace.specs.Event.{Event}
 use Rattle.init_trace.specs.Past.{time_of}
 use Rattle.view_lines.specs.Words.{numbered, padded}
 use Rattle.trace_timeline.specs.declared.marks.Shown.{Shown}
-use Rattle.trace_timeline.specs.declared.marks.Shown.TheVariants.{Entered, Settled, Born, NotBorn, Ended, Sent, Held}
+use Rattle.trace_timeline.specs.declared.marks.Shown.TheVariants.{Entered, Settled, Born, NotBorn, Sent, Held}
 use Rattle.trace_timeline.specs.declared.marks.Mark.{Mark}
 use Rattle.trace_timeline.specs.declared.frames.Frame.{Frame}
 use Rattle.trace_timeline.specs.declared.lives.Life.{Life}

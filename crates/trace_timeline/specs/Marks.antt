@@ -2,7 +2,6 @@
 use Rattle.std.specs.Prelude.{ℕ, List, [], ◌∷◌, ◌++◌, Option, Some, None}
 use Rattle.init_words.specs.declared.orders.Ask.{Ask}
 use Rattle.init_words.specs.declared.orders.Ask.TheVariants as ask
-use Rattle.init_words.specs.declared.orders.Sig.{Sig}
 use Rattle.init_words.specs.declared.orders.Sig.TheVariants as sig
 use Rattle.init_trace.specs.declared.happenings.Happening.TheVariants.{Enter, Settle, Hold, Birth, NoBirth, Reaped, Hit}
 use Rattle.init_trace.specs.Event.{Event}
