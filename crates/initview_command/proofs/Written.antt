@@ -9,8 +9,13 @@ use Rattle.init_trace.specs.Event.{Event}
 use Rattle.trace_view.specs.Viewing.{ViewState, Viewed}
 use Rattle.text_view.specs.declared.text_views.Stop.{Stop}
 use Rattle.text_view.specs.Shown.{IsShown}
+use Rattle.text_view.specs.Views.{TextState, HasShown, HasTaken}
 use Rattle.initview_command.specs.declared.asking.Question.{Question}
 use Rattle.initview_command.specs.Showing.{said, status_by, ShowsOf, Shows}
+
+-- what a view shows of a text that it has taken
+pub shown_by : (state : TextState) (text : List ℕ) (stop : Option Stop) (left : Option ℕ) (view : ViewState) → ((trace : List Event) → HasShown state trace text → IsShown text stop left trace × Viewed view (reverse trace)) → HasTaken state text → (trace : List Event) × IsShown text stop left trace × Viewed view (reverse trace)
+shown_by state text stop left view so taken = (taken.0, (so taken.0 taken.1).0, (so taken.0 taken.1).1)
 
 pub none_written : (past : List Event) (asked : Question) (stop : Option Stop) (status : ℕ) (old : Option (List ℕ)) → status ≡ DEVICE_FAULT → ShowsOf past asked stop status old old
 none_written past asked stop status old is = inr (is, ([], said asked past, refl, Appends-nil old))

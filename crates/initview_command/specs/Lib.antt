@@ -1,3 +1,4 @@
 pub mod Asking
+pub mod Charting
 pub mod Showing
 pub mod Tables

@@ -152,7 +152,7 @@ fn behind_level(words: &[String]) -> &[String]
 }
 
 /// The words behind the command.
-fn behind_verb(words: &[String]) -> &[String]
+pub(crate) fn behind_verb(words: &[String]) -> &[String]
     ensures { map string_bytes result.now ≡ behind_verb (map string_bytes words.now) }
 {
     match words {
@@ -174,7 +174,7 @@ pub(crate) fn paths_of(words: &[String]) -> &[String]
 }
 
 /// The command.
-fn verb_of(words: &[String]) -> &str
+pub(crate) fn verb_of(words: &[String]) -> &str
     ensures { result.now ≡ verb_of (map string_bytes words.now) }
 {
     match words {
@@ -208,6 +208,10 @@ pub(crate) fn reason_of(words: &[String]) -> &'static str {
             if verb.as_str() == "why" || verb.as_str() == "status" || verb.as_str() == "left" => {
             "a word is missing, or one is too many"
         }
+        [verb, option, _, _] if verb.as_str() == "timeline" && option.as_str() == "--width" => {
+            "a width N is 20 to 1000 columns"
+        }
+        [verb, ..] if verb.as_str() == "timeline" => "a word is missing, or one is too many",
         [verb] if verb.as_str() == "lint" || verb.as_str() == "plan" => "a TABLE is missing",
         [_, option, level, ..]
             if option.as_str() == "--level" && level_in(level.as_bytes()).is_none() => {

@@ -5,11 +5,13 @@ ghost use Rattle.program_version.specs.VersionLine.{PrintsVersion};
 ghost use Rattle.command_words.specs.CommandLines.{asks_version};
 ghost use Rattle.initview_command.specs.declared.asking.Question.{Question};
 ghost use Rattle.initview_command.specs.declared.asking.TableQuestion.{TableQuestion};
+ghost use Rattle.initview_command.specs.Charting.{Draws, chart_path, chart_width};
 ghost use Rattle.initview_command.specs.Asking.{path_of, paths_of, question_of, table_question_of};
 ghost use Rattle.initview_command.specs.Showing.{Shows};
 ghost use Rattle.initview_command.specs.Tables.{Answers};
 
 use crate::asking::{path_of, paths_of, question_of, reason_of, table_question_of};
+use crate::charting::{chart_path, chart_width, draw_file};
 use crate::showing::show_file;
 use crate::tables::show_files;
 use command_words::{is_version, report_refused_words};
@@ -24,6 +26,7 @@ pub const USAGE: &str = "usage: initview why ID TRACE
        initview status TRACE [ID]
        initview status --json TRACE
        initview left TRACE
+       initview timeline [--width N] TRACE
        initview lint TABLE [FILE..]
        initview diff [--level LEVEL] OLD NEW
        initview plan [--level LEVEL] TABLE [FILE..]
@@ -32,6 +35,9 @@ pub const USAGE: &str = "usage: initview why ID TRACE
   status  say how init and its entries stand, or the entry ID alone; with ID the exit status is 0
           where it runs, 3 where it doesn't, 4 where it is unknown; with --json a line of JSON each
   left    list the children that were born and not reaped, and their numbers
+  timeline
+          draw the lives of each entry's children, signals, holds and stages over the time, in lines
+          of N columns, 80 without it
   lint    list the faults of an inittab's lines, with what was probably meant, and warnings; the
           exit status is 1 with faults, 2 with warnings alone
   diff    list what becomes of each entry in a level where the inittab NEW is read in OLD's place
@@ -61,13 +67,20 @@ pub fn run_words<T: Texts, W: Write, E: Write>(
         → question_of (map string_bytes words.now) ≡ Some question
         → Shows (T.text_at texts.now) (path_of (map string_bytes words.now)) question result
         (W.contents out.old) (W.contents out.new) }
+    ensures drawn { (width : ℕ) → asks_version (map string_bytes words.now) ≡ false
+        → question_of (map string_bytes words.now) ≡ None
+        → chart_width (map string_bytes words.now) ≡ Some width
+        → Draws (T.text_at texts.now) (chart_path (map string_bytes words.now)) width result
+        (W.contents out.old) (W.contents out.new) }
     ensures answered { (question : TableQuestion) → asks_version (map string_bytes words.now) ≡ false
         → question_of (map string_bytes words.now) ≡ None
+        → chart_width (map string_bytes words.now) ≡ None
         → table_question_of (map string_bytes words.now) ≡ Some question
         → Answers (T.text_at texts.now) (paths_of (map string_bytes words.now)) question result
         (W.contents out.old) (W.contents out.new) }
     ensures refused { asks_version (map string_bytes words.now) ≡ false
         → question_of (map string_bytes words.now) ≡ None
+        → chart_width (map string_bytes words.now) ≡ None
         → table_question_of (map string_bytes words.now) ≡ None
         → (result ≡ REFUSED) × (out.new ≡ out.old) }
 {
@@ -76,6 +89,9 @@ pub fn run_words<T: Texts, W: Write, E: Write>(
     }
     if let Some(question) = question_of(words) {
         return show_file(texts, alloc, path_of(words), &question, out, err);
+    }
+    if let Some(width) = chart_width(words) {
+        return draw_file(texts, alloc, chart_path(words), width, out, err);
     }
     match table_question_of(words) {
         Some(question) => show_files(texts, alloc, paths_of(words), question, out, err),

@@ -2,10 +2,12 @@
 #![tactic(auto)]
 
 mod asking;
+mod charting;
 mod command;
 mod showing;
 mod tables;
 mod telling;
 
 pub use asking::{Question, TableQuestion};
+pub use charting::{WIDTH, WIDTH_LEAST, WIDTH_LIMIT};
 pub use command::{USAGE, run_words};

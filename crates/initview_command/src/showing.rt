@@ -51,7 +51,7 @@ fn lsb_status(row: &Row) -> u8
 }
 
 /// The exit status of a trace that was shown up to its end, or up to here.
-fn stop_status(stop: Option<Stop>) -> u8
+pub(crate) fn stop_status(stop: Option<Stop>) -> u8
     ensures { result ≡ stop_status stop }
 {
     match stop {
@@ -164,7 +164,7 @@ fn show_view<W: Write, E: Write>(
 }
 
 /// Tells up to which line a trace is shown, where that isn't all of it.
-fn tell_stop<E: Write>(path: &str, stop: Option<Stop>, left: Option<u64>, err: &mut E) {
+pub(crate) fn tell_stop<E: Write>(path: &str, stop: Option<Stop>, left: Option<u64>, err: &mut E) {
     match stop {
         Some(Stop::Breach(law, line)) => {
             let why = law.words();

@@ -560,6 +560,90 @@ const TABLE_ROWS: &[Row] = &[
     (&[], "lint", 1, "", "initview: a TABLE is missing\nusage: "),
 ];
 
+/// Level 3, in which the respawned entry runs from 1000 on, and the change to level 4 at 1003, which sends KILL at 1008.
+const KILLED: &str =
+    "use 1\nr:3:respawn:x\nclock 1000\nenter sysinit 5\nenter boot 5\nenter 3 5\nask r start\nbirth r 9\ntold r\nsettle 3\ngot level 4 5\nclock 1003\nenter 4 5\nask r term\nhit r\ntold r\nclock 1008\nask r kill\nhit r\ntold r\nnudge\nask r look\ndeath 9\nreaped r 9 killed\ntold r\nsettle 4\nclock 1010\n";
+
+const CHART_ROWS: &[Row] = &[
+    // A stage and a child that goes on: one second a column.
+    (
+        &[TABLE, SYSINIT, S_UP, "clock 1010\n"],
+        "timeline --width 20 t",
+        0,
+        "clock 1000 to 1010, 10 s\nstage    i----------\ns        |==========\nstage: i sysinit, b boot, 0 to 9 and S levels; - entered, = settled\nids: | started, = runs, T TERM sent, K KILL sent, H held, ! start failed\n",
+        "",
+    ),
+    // Of stages that begin in one column the last; what is settled; the signals, and the end.
+    (
+        &[KILLED],
+        "timeline --width 20 t",
+        0,
+        "clock 1000 to 1010, 10 s\nstage    3==4----===\nr        |==T====K..\nstage: i sysinit, b boot, 0 to 9 and S levels; - entered, = settled\nids: | started, = runs, T TERM sent, K KILL sent, H held, ! start failed\n",
+        "",
+    ),
+    // Starts that fail, and behind them the hold, four seconds a column.
+    (
+        &[
+            "use 1\nr:3:respawn:x\nclock 1000\nenter sysinit 5\nenter boot 5\nenter 3 5\n",
+            FAILS,
+            "hold r\nsettle 3\nclock 1040\n",
+        ],
+        "timeline --width 20 t",
+        0,
+        "clock 1000 to 1040, 40 s\nstage    3==========\nr        H..........\nstage: i sysinit, b boot, 0 to 9 and S levels; - entered, = settled\nids: | started, = runs, T TERM sent, K KILL sent, H held, ! start failed\n",
+        "",
+    ),
+    // A start that fails, and one behind it that doesn't, in the order in which something first happened to the ids.
+    (
+        &[
+            UP,
+            "clock 1005\nask r start\nnobirth r\ntold r\nclock 1010\nask r start\nbirth r 13\ntold r\n",
+        ],
+        "timeline --width 20 t",
+        0,
+        "clock 1000 to 1010, 10 s\nstage    3----------\ns        |..........\nw        |..........\nv        |..........\nr        .....!....|\nstage: i sysinit, b boot, 0 to 9 and S levels; - entered, = settled\nids: | started, = runs, T TERM sent, K KILL sent, H held, ! start failed\n",
+        "",
+    ),
+    // Nothing that is shown, in eighty columns; a text of which a line is none.
+    (
+        &[TABLE],
+        "timeline t",
+        0,
+        "clock 1000 to 1000, 0 s\nstage    .......................................................................\nstage: i sysinit, b boot, 0 to 9 and S levels; - entered, = settled\nids: | started, = runs, T TERM sent, K KILL sent, H held, ! start failed\n",
+        "",
+    ),
+    (
+        &["nudge\nnudge \n"],
+        "timeline --width 20 t",
+        1,
+        "clock 0 to 0, 0 s\nstage    ...........\nstage: i sysinit, b boot, 0 to 9 and S levels; - entered, = settled\nids: | started, = runs, T TERM sent, K KILL sent, H held, ! start failed\n",
+        "initview: t:2: not a line of a trace: shown up to the line before it\n",
+    ),
+    // Words that are refused, and a trace that can't be read.
+    (
+        &[],
+        "timeline --width 19 t",
+        1,
+        "",
+        "initview: a width N is 20 to 1000 columns\nusage: ",
+    ),
+    (
+        &[],
+        "timeline --width 1001 t",
+        1,
+        "",
+        "initview: a width N is 20 to 1000 columns\nusage: ",
+    ),
+    (
+        &[],
+        "timeline",
+        1,
+        "",
+        "initview: a word is missing, or one is too many\nusage: ",
+    ),
+    (&[], "timeline u", 4, "", "initview: cannot read u: "),
+];
+
 /// Keeps the text of the parts at the path `t`.
 fn kept_of(alloc: Global, parts: &[&str]) -> Result<KeptTexts, AllocError> {
     let mut text = Vec::new(alloc);
@@ -589,6 +673,14 @@ fn is_said(alloc: Global, row: &Row) -> Result<bool, AllocError> {
 #[test]
 fn what_is_said_of_traces(rt: HostRuntime) -> Result<(), Fail> {
     for row in TRACE_ROWS {
+        assert!(rt; is_said(rt.alloc(), row)?, "{}", row.1);
+    }
+    Ok(())
+}
+
+#[test]
+fn what_timelines_show(rt: HostRuntime) -> Result<(), Fail> {
+    for row in CHART_ROWS {
         assert!(rt; is_said(rt.alloc(), row)?, "{}", row.1);
     }
     Ok(())

@@ -1,5 +1,5 @@
 -- One happening more, and a piece more.
-use Rattle.std.proofs.Common.{◌≡◌, ℕ, ◌+◌, ◌^◌, ◌<◌, ◌≤◌, false, List, [], ◌∷◌, ◌++◌, length, reverse, Option, Some, None, refl, sym, ap, ◌∙◌, subst, arith}
+use Rattle.std.proofs.Common.{◌≡◌, ℕ, ◌+◌, ◌^◌, ◌<◌, ◌≤◌, true, false, is_some, List, [], ◌∷◌, ◌++◌, length, reverse, Option, Some, None, refl, sym, ap, ◌∙◌, subst, arith}
 use Rattle.std.specs.Option.{option_map}
 use Rattle.std.proofs.lemmas.List.{append_assoc}
 use Rattle.text_lines.specs.Lines.{newlines}
@@ -19,7 +19,7 @@ use Rattle.trace_view.specs.Viewing.{ViewState, Viewed}
 use Rattle.text_view.specs.declared.text_views.Stop.{Stop}
 use Rattle.text_view.specs.declared.text_views.Stop.TheVariants.{Breach, Torn}
 use Rattle.text_view.specs.Shown.{IsBefore, IsShown}
-use Rattle.text_view.specs.Views.{TextState, HasSeen, StopsBy, AtBy, TakenBy, SeesStop, left_of}
+use Rattle.text_view.specs.Views.{TextState, HasSeen, StopsBy, AtBy, IsAt, TakenBy, HasTaken, GoesOn, SeesStop, left_of, seen_by}
 
 -- the text of a trace with one happening more
 whole_next : (reading new : Reading) (viewing : ViewState) (trace : List Event) (text : List ℕ) (h : Event) → HasSeen reading viewing trace text → ReadsNext reading new (Some h) → trace_text (trace ++ h ∷ []) ++ new.over ≡ text
@@ -57,83 +57,104 @@ breach_here reading new viewing trace text h law line small seen next is broke =
   at = is ∙ next_line reading viewing trace text small seen (omega (arith, shorter h new.over reading.over next.0 next.1));
 }
 
-pub goes_next : (stop : Option Stop) (reading new : Reading) (viewing later : ViewState) (text : List ℕ) (h : Event) (line : ℕ) → length text < 2 ^ 64 → ReadsNext reading new (Some h) → SeesStop stop viewing later h line → line ≡ capped (reading.lines + 1) → ((trace : List Event) × HasSeen reading viewing trace text) → AtBy stop (record { reading = new; viewing = later; stop = stop }) text
-goes_next None reading new viewing later text h line small next sees is at = (at.0 ++ h ∷ [], seen_next reading new viewing later at.0 text h small at.1 next (sees (reverse at.0) at.1.seen))
-goes_next (Some (Breach law number)) reading new viewing later text h line small next sees is at =
-    (at.0, breach_here reading new viewing at.0 text h law number small at.1 next (sees.1 ∙ is) (sees.2 (reverse at.0) at.1.seen), subst (λ v. Viewed v (reverse at.0)) (sym sees.0) at.1.seen)
-goes_next (Some (Torn number)) reading new viewing later text h line small next sees is at = absurd sees
+pub seen_goes : (stop : Option Stop) (reading new : Reading) (viewing later : ViewState) (trace : List Event) (text : List ℕ) (h : Event) (line : ℕ) → stop ≡ None → length text < 2 ^ 64 → ReadsNext reading new (Some h) → SeesStop stop viewing later h line → HasSeen reading viewing trace text → AtBy stop (record { reading = new; viewing = later; stop = stop }) (trace ++ h ∷ []) text
+seen_goes None reading new viewing later trace text h line is small next sees at =
+    seen_next reading new viewing later trace text h small at next (sees (reverse trace) at.seen)
+seen_goes (Some stop) reading new viewing later trace text h line is small next sees at = absurd (cc)
 
-pub torn_here : (reading : Reading) (viewing : ViewState) (text : List ℕ) (number : ℕ) → length text < 2 ^ 64 → number ≡ capped (reading.lines + 1) → NeverBegins reading.over → ((trace : List Event) × HasSeen reading viewing trace text) → StopsBy (Torn number) viewing text
-torn_here reading viewing text number small is none at = (
-  at.0,
+-- a happening at which it stops is not seen
+pub stops_here : (stop : Option Stop) (why : Stop) (reading new : Reading) (viewing later : ViewState) (trace : List Event) (text : List ℕ) (h : Event) (line : ℕ) → stop ≡ Some why → length text < 2 ^ 64 → ReadsNext reading new (Some h) → SeesStop stop viewing later h line → line ≡ capped (reading.lines + 1) → HasSeen reading viewing trace text → TakenBy stop (record { reading = new; viewing = later; stop = stop }) trace text
+stops_here None why reading new viewing later trace text h line is small next sees at seen = absurd (cc)
+stops_here (Some (Breach law number)) why reading new viewing later trace text h line is small next sees at seen =
+    (breach_here reading new viewing trace text h law number small seen next (sees.1 ∙ at) (sees.2 (reverse trace) seen.seen), subst (λ v. Viewed v (reverse trace)) (sym sees.0) seen.seen)
+stops_here (Some (Torn number)) why reading new viewing later trace text h line is small next sees at seen = absurd sees
+
+-- by cases of whether it stopped
+pub at_none : (stop : Option Stop) (state : TextState) (trace : List Event) (text : List ℕ) → stop ≡ None → AtBy stop state trace text → HasSeen state.reading state.viewing trace text
+at_none None state trace text is at = at
+at_none (Some stop) state trace text is at = absurd (cc)
+
+pub goes_next : (stop : Option Stop) (old : TextState) (new : Reading) (later : ViewState) (trace : List Event) (text : List ℕ) (h : Event) (line : ℕ) → old.stop ≡ None → length text < 2 ^ 64 → ReadsNext old.reading new (Some h) → SeesStop stop old.viewing later h line → line ≡ capped (old.reading.lines + 1) → GoesOn (seen_by stop h) old (record { reading = new; viewing = later; stop = stop }) trace text
+goes_next None old new later trace text h line went small next sees is = λ at. seen_goes None old.reading new old.viewing later trace text h line refl small next sees (at_none old.stop old trace text went at)
+goes_next (Some stop) old new later trace text h line went small next sees is = λ at. stops_here (Some stop) stop old.reading new old.viewing later trace text h line refl small next sees is (at_none old.stop old trace text went at)
+
+-- one more is seen, or all is taken
+pub more_seen : (next : Option Event) (old new : TextState) (text : List ℕ) → is_some next ≡ true → ((trace : List Event) → GoesOn next old new trace text) → ((trace : List Event) × IsAt old trace text) → (trace : List Event) × IsAt new trace text
+more_seen (Some h) old new text is goes at = (at.0 ++ h ∷ [], goes at.0 at.1)
+more_seen None old new text is goes at = absurd (cc)
+
+pub none_seen : (next : Option Event) (old new : TextState) (text : List ℕ) → is_some next ≡ false → ((trace : List Event) → GoesOn next old new trace text) → ((trace : List Event) × IsAt old trace text) → HasTaken new text
+none_seen (Some h) old new text is goes at = absurd (cc)
+none_seen None old new text is goes at = (at.0, goes at.0 at.1)
+
+pub torn_here : (reading : Reading) (viewing : ViewState) (trace : List Event) (text : List ℕ) (number : ℕ) → length text < 2 ^ 64 → number ≡ capped (reading.lines + 1) → NeverBegins reading.over → HasSeen reading viewing trace text → StopsBy (Torn number) viewing trace text
+torn_here reading viewing trace text number small is none seen = (
   (
     record {
-      trace = at.0;
+      trace = trace;
       rest = reading.over;
-      are = at.1.are;
-      whole = at.1.whole;
-      counted = is ∙ next_line reading viewing at.0 text small at.1 (never_some reading.over none);
+      are = seen.are;
+      whole = seen.whole;
+      counted = is ∙ next_line reading viewing trace text small seen (never_some reading.over none);
       none = none;
     },
     refl,
   ),
-  at.1.seen,
+  seen.seen,
 )
 
--- by cases of whether it stopped
-pub at_none : (stop : Option Stop) (state : TextState) (text : List ℕ) → stop ≡ None → AtBy stop state text → (trace : List Event) × HasSeen state.reading state.viewing trace text
-at_none None state text is at = at
-at_none (Some stop) state text is at = absurd (cc)
-
-stops_more : (stop : Stop) (viewing : ViewState) (text piece : List ℕ) → StopsBy stop viewing text → StopsBy stop viewing (text ++ piece)
-stops_more (Breach law line) viewing text piece stops = (
-  stops.0,
+stops_more : (stop : Stop) (viewing : ViewState) (trace : List Event) (text piece : List ℕ) → StopsBy stop viewing trace text → StopsBy stop viewing trace (text ++ piece)
+stops_more (Breach law line) viewing trace text piece stops = (
   record {
-    happening = stops.1.happening;
-    rest = stops.1.rest ++ piece;
-    are = stops.1.are;
-    whole = sym (append_assoc (trace_text (stops.0 ++ stops.1.happening ∷ [])) stops.1.rest piece) ∙ ap (λ t. t ++ piece) stops.1.whole;
-    broke = stops.1.broke;
-    at = stops.1.at;
+    happening = stops.0.happening;
+    rest = stops.0.rest ++ piece;
+    are = stops.0.are;
+    whole = sym (append_assoc (trace_text (trace ++ stops.0.happening ∷ [])) stops.0.rest piece) ∙ ap (λ t. t ++ piece) stops.0.whole;
+    broke = stops.0.broke;
+    at = stops.0.at;
   },
-  stops.2,
+  stops.1,
 )
-stops_more (Torn number) viewing text piece stops = (
-  stops.0,
+stops_more (Torn number) viewing trace text piece stops = (
   (
     record {
-      trace = stops.1.0.trace;
-      rest = stops.1.0.rest ++ piece;
-      are = stops.1.0.are;
-      whole = sym (append_assoc (trace_text stops.1.0.trace) stops.1.0.rest piece) ∙ ap (λ t. t ++ piece) stops.1.0.whole;
-      counted = stops.1.0.counted;
-      none = never_more stops.1.0.rest piece stops.1.0.none;
+      trace = stops.0.0.trace;
+      rest = stops.0.0.rest ++ piece;
+      are = stops.0.0.are;
+      whole = sym (append_assoc (trace_text stops.0.0.trace) stops.0.0.rest piece) ∙ ap (λ t. t ++ piece) stops.0.0.whole;
+      counted = stops.0.0.counted;
+      none = never_more stops.0.0.rest piece stops.0.0.none;
     },
-    stops.1.1,
+    stops.0.1,
   ),
-  stops.2,
+  stops.1,
 )
 
-pub still_stopped : (stop : Option Stop) (state : TextState) (text piece : List ℕ) (why : Stop) → stop ≡ Some why → TakenBy stop state text → AtBy stop state (text ++ piece)
-still_stopped (Some stop) state text piece why is taken = stops_more stop state.viewing text piece taken
-still_stopped None state text piece why is taken = absurd (cc)
+pub still_stopped : (stop : Option Stop) (state : TextState) (trace : List Event) (text piece : List ℕ) (why : Stop) → stop ≡ Some why → TakenBy stop state trace text → AtBy stop state trace (text ++ piece)
+still_stopped (Some stop) state trace text piece why is taken = stops_more stop state.viewing trace text piece taken
+still_stopped None state trace text piece why is taken = absurd (cc)
+
+-- what it has seen
+pub seen_at : (stop : Option Stop) (state : TextState) (trace : List Event) (text : List ℕ) → AtBy stop state trace text → Viewed state.viewing (reverse trace)
+seen_at None state trace text at = at.seen
+seen_at (Some (Breach law line)) state trace text at = at.1
+seen_at (Some (Torn number)) state trace text at = at.1
 
 -- what is shown of the text
 left_is : (reading : Reading) (viewing : ViewState) (trace : List Event) (text over : List ℕ) → length text < 2 ^ 64 → HasSeen reading viewing trace text → reading.over ≡ over → option_map capped (line_left reading.lines over) ≡ line_left (newlines (trace_text trace)) over
 left_is reading viewing trace text [] small seen is = refl
 left_is reading viewing trace text (byte ∷ over) small seen is = ap Some (next_line reading viewing trace text small seen (omega (arith, ap length is)))
 
-pub shown : (stop : Option Stop) (state : TextState) (text : List ℕ) (left : Option ℕ) → length text < 2 ^ 64 → TakenBy stop state text → left ≡ left_of stop (option_map capped (line_left state.reading.lines state.reading.over)) → (trace : List Event) × IsShown text stop left trace × Viewed state.viewing (reverse trace)
-shown None state text left small taken is = (
-  taken.0,
+pub shown : (stop : Option Stop) (state : TextState) (trace : List Event) (text : List ℕ) (left : Option ℕ) → length text < 2 ^ 64 → TakenBy stop state trace text → left ≡ left_of stop (option_map capped (line_left state.reading.lines state.reading.over)) → IsShown text stop left trace × Viewed state.viewing (reverse trace)
+shown None state trace text left small taken is = (
   record {
     over = state.reading.over;
-    are = taken.1.are;
-    whole = taken.1.whole;
-    unfinished = taken.2;
-    at = is ∙ left_is state.reading state.viewing taken.0 text state.reading.over small taken.1 refl;
+    are = taken.0.are;
+    whole = taken.0.whole;
+    unfinished = taken.1;
+    at = is ∙ left_is state.reading state.viewing trace text state.reading.over small taken.0 refl;
   },
-  taken.1.seen,
+  taken.0.seen,
 )
-shown (Some (Breach law line)) state text left small taken is = (taken.0, (taken.1, is), taken.2)
-shown (Some (Torn number)) state text left small taken is = (taken.0, (taken.1, is), taken.2)
+shown (Some (Breach law line)) state trace text left small taken is = ((taken.0, is), taken.1)
+shown (Some (Torn number)) state trace text left small taken is = ((taken.0, is), taken.1)

@@ -1,5 +1,5 @@
 -- A view of a text that comes in pieces, and the texts that it has taken.
-use Rattle.std.specs.Prelude.{◌≡◌, ℕ, Bool, true, false, List, ◌∷◌, ◌++◌, reverse, Option, Some, None}
+use Rattle.std.specs.Prelude.{◌≡◌, ℕ, true, List, [], ◌∷◌, ◌++◌, reverse, Option, Some, None}
 use Rattle.text_lines.specs.Lines.{newlines}
 use Rattle.init_trace.specs.Event.{Event}
 use Rattle.init_trace.specs.Lawful.{broken}
@@ -26,33 +26,35 @@ pub record HasSeen (reading : Reading) (viewing : ViewState) (trace : List Event
   pub lines : reading.lines ≡ newlines (trace_text trace)
   pub seen : Viewed viewing (reverse trace)
 
--- it goes no further in the text, and has seen what stands before
-abbrev pub StopsBy : Stop → ViewState → List ℕ → Type 0
-StopsBy (Breach law line) viewing text =
-    (trace : List Event) × IsBefore trace law line text × Viewed viewing (reverse trace)
-StopsBy (Torn number) viewing text = (trace : List Event) × IsUpTo trace number text × Viewed viewing (reverse trace)
+-- it goes no further in the text, and has seen this trace, which stands before
+abbrev pub StopsBy : Stop → ViewState → List Event → List ℕ → Type 0
+StopsBy (Breach law line) viewing trace text = IsBefore trace law line text × Viewed viewing (reverse trace)
+StopsBy (Torn number) viewing trace text = IsUpTo trace number text × Viewed viewing (reverse trace)
 
--- it is at work on the text
-abbrev pub AtBy : Option Stop → TextState → List ℕ → Type 0
-AtBy None state text = (trace : List Event) × HasSeen state.reading state.viewing trace text
-AtBy (Some stop) state text = StopsBy stop state.viewing text
+-- it is at work on the text, of which it has seen this trace
+abbrev pub AtBy : Option Stop → TextState → List Event → List ℕ → Type 0
+AtBy None state trace text = HasSeen state.reading state.viewing trace text
+AtBy (Some stop) state trace text = StopsBy stop state.viewing trace text
 
-abbrev pub IsAt : TextState → List ℕ → Type 0
-IsAt state text = AtBy state.stop state text
+abbrev pub IsAt : TextState → List Event → List ℕ → Type 0
+IsAt state trace text = AtBy state.stop state trace text
 
--- it has taken the text: besides, what it has not read is less than a happening, and may become one
-abbrev pub TakenBy : Option Stop → TextState → List ℕ → Type 0
-TakenBy None state text = (trace : List Event) × HasSeen state.reading state.viewing trace text
-    × IsLeft state.reading.over
-TakenBy (Some stop) state text = StopsBy stop state.viewing text
+-- it has taken the text, and seen this trace: besides, what it has not read is less than a happening, and may become one
+abbrev pub TakenBy : Option Stop → TextState → List Event → List ℕ → Type 0
+TakenBy None state trace text = HasSeen state.reading state.viewing trace text × IsLeft state.reading.over
+TakenBy (Some stop) state trace text = StopsBy stop state.viewing trace text
 
+abbrev pub HasShown : TextState → List Event → List ℕ → Type 0
+HasShown state trace text = TakenBy state.stop state trace text
+
+-- it has taken the text
 abbrev pub HasTaken : TextState → List ℕ → Type 0
-HasTaken state text = TakenBy state.stop state text
+HasTaken state text = (trace : List Event) × HasShown state trace text
 
--- it goes on with the text, or has taken it
-abbrev pub GoesOn : Bool → TextState → TextState → List ℕ → Type 0
-GoesOn true old new text = IsAt old text → IsAt new text
-GoesOn false old new text = IsAt old text → HasTaken new text
+-- it goes on with the text, and has seen this happening more; or has taken the text
+abbrev pub GoesOn : Option Event → TextState → TextState → List Event → List ℕ → Type 0
+GoesOn (Some happening) old new trace text = IsAt old trace text → IsAt new (trace ++ happening ∷ []) text
+GoesOn None old new trace text = IsAt old trace text → HasShown new trace text
 
 -- what a happening at this line makes of a view
 abbrev pub SeesStop : Option Stop → ViewState → ViewState → Event → ℕ → Type 0
@@ -60,6 +62,11 @@ SeesStop None old new happening line = (past : List Event) → Viewed old past �
 SeesStop (Some (Breach law at)) old new happening line = (new ≡ old) × (at ≡ line)
     × ((past : List Event) → Viewed old past → broken happening past ≡ Some (law_number law))
 SeesStop (Some (Torn number)) old new happening line = ⊥
+
+-- the happening, where it is seen: nothing stops the view there
+abbrev pub seen_by : Option Stop → Event → Option Event
+seen_by (Some stop) happening = None
+seen_by None happening = Some happening
 
 -- the line at which it holds a happening that isn't finished
 abbrev pub left_of : Option Stop → Option ℕ → Option ℕ

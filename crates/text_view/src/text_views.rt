@@ -1,12 +1,12 @@
 //! The view of the text of a trace that comes in pieces.
 
-ghost use Rattle.std.specs.Prelude.{◌≡◌, ◌^◌, ◌<◌, ◌+◌, List, ℕ, ◌++◌, [], length, true, option_map, reverse, IfOk, OnOk};
+ghost use Rattle.std.specs.Prelude.{◌≡◌, ◌^◌, ◌<◌, List, ℕ, ◌++◌, [], length, true, is_some, option_map, reverse, IfOk, OnOk};
 ghost use Rattle.init_trace.specs.Event.{Event};
 ghost use Rattle.trace_verdict.specs.Fronts.{line_left};
 ghost use Rattle.trace_verdict.specs.Readers.{capped};
 ghost use Rattle.trace_view.specs.Viewing.{Viewed};
 ghost use Rattle.text_view.specs.Shown.{IsShown};
-ghost use Rattle.text_view.specs.Views.{GoesOn, HasTaken, IsAt, SeesStop, left_of};
+ghost use Rattle.text_view.specs.Views.{GoesOn, HasShown, HasTaken, IsAt, SeesStop, left_of, seen_by};
 
 use init_trace::HappeningIn;
 use init_words::Memory;
@@ -59,10 +59,21 @@ fn see_next<A: Allocator + Copy, B: Allocator>(
     }
 }
 
+/// The happening, where it is seen: nothing stops the view there.
+fn seen_by<A: Allocator>(stop: Option<Stop>, happening: HappeningIn<A>) -> Option<HappeningIn<A>>
+    ensures { result ≡ seen_by stop happening }
+{
+    match stop {
+        Some(_) => None,
+        None => Some(happening),
+    }
+}
+
 impl<A: Allocator + Copy> TextView<A> {
     /// A view that has taken nothing. It takes no memory.
     pub fn new(alloc: A) -> TextView<A>
-        ensures { HasTaken result [] }
+        ensures taken { HasTaken result [] }
+        ensures shown { HasShown result [] [] }
     {
         TextView {
             reader: TextReader::new(alloc),
@@ -71,9 +82,10 @@ impl<A: Allocator + Copy> TextView<A> {
         }
     }
 
-    fn feed(&mut self, piece: &[u8]) -> Result<(), Memory>
-        ensures { OnOk result ((text : List ℕ) → HasTaken self.old text
-            → IsAt self.new (text ++ piece.now)) }
+    /// Takes the next piece of the text, and sees nothing of it yet.
+    pub fn feed(&mut self, piece: &[u8]) -> Result<(), Memory>
+        ensures { OnOk result ((trace : List Event) (text : List ℕ) → HasShown self.old trace text
+            → IsAt self.new trace (text ++ piece.now)) }
     {
         if let Some(_) = self.stop {
             return Ok(());
@@ -82,41 +94,49 @@ impl<A: Allocator + Copy> TextView<A> {
         Ok(())
     }
 
-    /// Takes the next happening, if one is whole.
-    fn take_next(&mut self) -> Result<bool, Memory>
-        ensures goes { IfOk result (λ more. (text : List ℕ) → length text < 2 ^ 64
-            → GoesOn more self.old self.new text) }
-        ensures shorter { IfOk result (λ more. more ≡ true
+    /// Sees the next happening, and gives it; None where none is whole, and where the view goes no further. Where memory
+    /// runs out the view is of no more use.
+    pub fn next(&mut self) -> Result<Option<HappeningIn<A>>, Memory>
+        ensures goes { IfOk result (λ next. (trace : List Event) (text : List ℕ)
+            → length text < 2 ^ 64 → GoesOn next self.old self.new trace text) }
+        ensures shorter { IfOk result (λ next. is_some next ≡ true
             → length self.new.reading.over < length self.old.reading.over) }
     {
         if let Some(_) = self.stop {
-            return Ok(false);
+            return Ok(None);
         }
         let line = self.reader.lines().saturating_add(1);
         match self.reader.next() {
             Ok(Some(happening)) => {
                 let stop = see_next(&mut self.view, line, &happening)?;
                 self.stop = stop;
-                Ok(true)
+                Ok(seen_by(stop, happening))
             }
-            Ok(None) => Ok(false),
+            Ok(None) => Ok(None),
             Err(ReadFault::Line(number)) => {
                 self.stop = Some(Stop::Torn(number));
-                Ok(false)
+                Ok(None)
             }
             Err(ReadFault::Memory) => Err(Memory),
         }
     }
 
-    /// Takes the next piece of the text. Where memory runs out a part of it may be taken, and the view is of no more
-    /// use.
+    /// Takes the next piece of the text, and sees all happenings of it that are whole. Where memory runs out a part of it
+    /// may be taken, and the view is of no more use.
     pub fn take(&mut self, piece: &[u8]) -> Result<(), Memory>
         ensures { OnOk result ((text : List ℕ) → length (text ++ piece.now) < 2 ^ 64
             → HasTaken self.old text → HasTaken self.new (text ++ piece.now)) }
     {
         self.feed(piece)?;
-        while self.take_next()? {}
+        while self.next()?.is_some() {}
         Ok(())
+    }
+
+    /// The view of what was seen.
+    pub fn view(&self) -> &TraceView<A>
+        ensures { result.now ≡ self.now.viewing }
+    {
+        &self.view
     }
 
     fn left(&self) -> Option<u64>
@@ -132,9 +152,9 @@ impl<A: Allocator + Copy> TextView<A> {
     /// The view of what was taken, why it went no further, and the number of the line, from 1, at which the last
     /// happening begins where that isn't finished: it isn't seen.
     pub fn answer(&self) -> (&TraceView<A>, Option<Stop>, Option<u64>)
-        ensures { (text : List ℕ) → length text < 2 ^ 64 → HasTaken self.now text
-            → (trace : List Event) × IsShown text result.1 result.2 trace
-            × Viewed result.0.now (reverse trace) }
+        ensures { (trace : List Event) (text : List ℕ) → length text < 2 ^ 64
+            → HasShown self.now trace text
+            → IsShown text result.1 result.2 trace × Viewed result.0.now (reverse trace) }
     {
         let left = self.left();
         (&self.view, self.stop, left)

@@ -16,3 +16,4 @@ pub use left::left_lines;
 pub use plans::plan_lines;
 pub use reasons::why_lines;
 pub use status::{row_line, status_lines};
+pub use words::{add_level, add_number, add_padded, add_stage, add_status, put, seconds_since};

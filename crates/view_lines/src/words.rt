@@ -9,7 +9,8 @@ use respawn_limit::HOLD;
 use std::alloc::AllocError;
 use trace_view::{Ending, Wish};
 
-pub(crate) fn put(text: &mut Vec<u8>, bytes: &[u8]) -> Result<(), AllocError>
+/// Adds a text.
+pub fn put(text: &mut Vec<u8>, bytes: &[u8]) -> Result<(), AllocError>
     ensures { OnOk result (text.new.items ≡ text.old.items ++ bytes.now) }
 {
     text.extend_from_slice(bytes)?;
@@ -17,7 +18,7 @@ pub(crate) fn put(text: &mut Vec<u8>, bytes: &[u8]) -> Result<(), AllocError>
 }
 
 /// Adds a number between two texts.
-pub(crate) fn add_number(
+pub fn add_number(
     text: &mut Vec<u8>,
     before: &[u8],
     number: u64,
@@ -34,7 +35,7 @@ pub(crate) fn add_number(
 }
 
 /// Adds a word, and spaces behind it up to a width of at most 14.
-pub(crate) fn add_padded(text: &mut Vec<u8>, width: usize, word: &[u8]) -> Result<(), AllocError>
+pub fn add_padded(text: &mut Vec<u8>, width: usize, word: &[u8]) -> Result<(), AllocError>
     requires { width ≤ 14 }
     ensures { OnOk result (text.new.items ≡ text.old.items ++ padded width word.now) }
 {
@@ -55,7 +56,8 @@ pub(crate) fn act_words(act: Option<Act>) -> &'static [u8]
     }
 }
 
-pub(crate) fn add_level(text: &mut Vec<u8>, level: Level) -> Result<(), AllocError>
+/// Adds the words of a level.
+pub fn add_level(text: &mut Vec<u8>, level: Level) -> Result<(), AllocError>
     ensures { OnOk result (text.new.items ≡ text.old.items ++ level_words level) }
 {
     text.extend_from_slice(b"level ")?;
@@ -63,7 +65,8 @@ pub(crate) fn add_level(text: &mut Vec<u8>, level: Level) -> Result<(), AllocErr
     Ok(())
 }
 
-pub(crate) fn add_stage(text: &mut Vec<u8>, stage: Option<Stage>) -> Result<(), AllocError>
+/// Adds the words of a stage.
+pub fn add_stage(text: &mut Vec<u8>, stage: Option<Stage>) -> Result<(), AllocError>
     ensures { OnOk result (text.new.items ≡ text.old.items ++ stage_words stage) }
 {
     match stage {
@@ -95,7 +98,7 @@ fn add_level_wish(text: &mut Vec<u8>, level: Level) -> Result<(), AllocError>
 }
 
 /// The seconds between two times.
-pub(crate) fn seconds_since(now: u64, time: u64) -> u64
+pub fn seconds_since(now: u64, time: u64) -> u64
     ensures { result ≡ now - time }
 {
     now.saturating_sub(time)
@@ -108,7 +111,8 @@ pub(crate) fn held_left(now: u64, since: u64) -> u64
     HOLD.saturating_sub(now.saturating_sub(since))
 }
 
-pub(crate) fn add_status(text: &mut Vec<u8>, status: Option<Status>) -> Result<(), AllocError>
+/// Adds the words of how an id ended.
+pub fn add_status(text: &mut Vec<u8>, status: Option<Status>) -> Result<(), AllocError>
     ensures { OnOk result (text.new.items ≡ text.old.items ++ status_words status) }
 {
     match status {

@@ -1,5 +1,4 @@
-use Rattle.std.proofs.Common.{sym, subst, reverse, List}
-use Rattle.init_trace.specs.Event.{Event}
+use Rattle.std.proofs.Common.{sym, subst, reverse}
 use Rattle.trace_view.specs.Viewing.{Viewed}
 use Rattle.text_view.specs.Shown.{IsShown}
 use Rattle.text_view.specs.Views.{TextState}
@@ -7,6 +6,6 @@ use Rattle.text_view.proofs.Seeing.{shown}
 use Rattle.text_view.proofs.text_views.TextView.answer.Goals as goal
 
 pub returns : goal.returns
-returns g c = λ text small taken.
-    subst (λ (s : TextState). (trace : List Event) × IsShown text s.stop c.left-left.result trace × Viewed s.viewing (reverse trace)) (sym c.self.view_is)
-    (shown c.args.self.now.stop c.args.self.now text c.left-left.result small taken c.left-left.ensures)
+returns g c = λ trace text small taken.
+    subst (λ (s : TextState). IsShown text s.stop c.left-left.result trace × Viewed s.viewing (reverse trace)) (sym c.self.view_is)
+    (shown c.args.self.now.stop c.args.self.now trace text c.left-left.result small taken c.left-left.ensures)

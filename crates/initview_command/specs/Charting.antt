@@ -1,0 +1,58 @@
+-- What is asked of the timeline of a trace, what is written, and the exit status.
+use Rattle.std.specs.Prelude.{◌≡◌, ◌⊎◌, ℕ, ◌+◌, nat_le, if◌then◌else◌, List, [], ◌∷◌, codes, reverse, Option, Some, None}
+use Rattle.std.specs.Str.{bytes_eq}
+use Rattle.std.specs.Io.KnownBytes.{Appends, Keeps}
+use Rattle.text_lines.specs.Numbers.{number_read}
+use Rattle.program_io.specs.Writing.{AppendsPrefix}
+use Rattle.program_io.specs.declared.statuses.TheConstants.{DEVICE_FAULT}
+use Rattle.path_texts.specs.Known.{IsTextAt, KnownTexts}
+use Rattle.init_trace.specs.Event.{Event}
+use Rattle.init_trace.specs.Lawful.{first_breach}
+use Rattle.text_view.specs.declared.text_views.Stop.{Stop}
+use Rattle.text_view.specs.Shown.{IsShown}
+use Rattle.trace_timeline.specs.Chart.{chart_text}
+use Rattle.initview_command.specs.declared.charting.TheConstants.{WIDTH, WIDTH_LEAST, WIDTH_LIMIT}
+use Rattle.initview_command.specs.Asking.{verb_of, behind_verb}
+use Rattle.initview_command.specs.Showing.{stop_status}
+
+-- a width: 20 to 1,000 columns
+abbrev pub width_if : ℕ → Option ℕ
+width_if width = if nat_le WIDTH_LEAST width then Some width else None
+
+abbrev pub width_of : Option ℕ → Option ℕ
+width_of (Some width) = width_if width
+width_of None = None
+
+-- --width N TRACE, TRACE
+abbrev pub width_behind : List (List ℕ) → Option ℕ
+width_behind (path ∷ []) = Some WIDTH
+width_behind (option ∷ width ∷ path ∷ []) =
+    if bytes_eq option (codes "--width") then width_of (number_read (WIDTH_LIMIT + 1) width) else None
+width_behind _ = None
+
+-- timeline, and what stands behind it
+abbrev pub chart_width : List (List ℕ) → Option ℕ
+chart_width words = if bytes_eq (verb_of words) (codes "timeline") then width_behind (behind_verb words) else None
+
+-- the path of the trace
+abbrev pub path_behind : List (List ℕ) → List ℕ
+path_behind (path ∷ []) = path
+path_behind (option ∷ width ∷ path ∷ []) = path
+path_behind _ = []
+
+abbrev pub chart_path : List (List ℕ) → List ℕ
+chart_path words = path_behind (behind_verb words)
+
+-- it was written, with its exit status; or the output failed or memory ran out, and a part of it was written
+abbrev pub DrawsOf : List Event → ℕ → Option Stop → ℕ → Option (List ℕ) → Option (List ℕ) → Type 0
+DrawsOf past width stop status old new =
+    ((status ≡ stop_status stop) × Appends old new (chart_text width past))
+    ⊎ ((status ≡ DEVICE_FAULT) × AppendsPrefix old new (chart_text width past))
+
+-- so of what a view shows of the text at the path, which breaks no law; or it was not read, and nothing was written
+abbrev pub Draws : KnownTexts → List ℕ → ℕ → ℕ → Option (List ℕ) → Option (List ℕ) → Type 0
+Draws text_at path width status old new =
+    ((text : List ℕ) × (stop : Option Stop) × (left : Option ℕ) × (trace : List Event) × IsTextAt text_at path text
+    × IsShown text stop left trace × (first_breach (reverse trace) ≡ None)
+    × DrawsOf (reverse trace) width stop status old new)
+    ⊎ ((status ≡ DEVICE_FAULT) × Keeps old new)

@@ -1,0 +1,13 @@
+//! The timeline of a trace: the lives of each entry's children, what was sent to them, holds, failed starts and stages,
+//! over the trace's time, as lines of text or as a picture.
+#![tactic(auto)]
+
+mod chart;
+mod frames;
+mod lives;
+mod marks;
+mod timelines;
+
+pub use chart::chart_lines;
+pub use marks::{Mark, Shown};
+pub use timelines::Timeline;
