@@ -1,5 +1,6 @@
 -- A run of all scripts reports them, and no answer to one is missing before it.
-use Rattle.std.proofs.Common.{◌≡◌, ◌≢◌, ◌⊎◌, ◌∙◌, inl, inr, refl, sym, arith, ℕ, ◌-◌, Bool, true, false, cond, ◌||◌, List, [], ◌∷◌, length, Option, ap, subst}
+use Rattle.std.proofs.Common.{◌≡◌, ◌≢◌, ◌⊎◌, ◌∙◌, inl, inr, refl, sym, arith, ℕ, ◌-◌, Bool, true, false, cond, ◌||◌, List, [], ◌∷◌, length, Option, Some, None, IfSome, ap, subst}
+use Rattle.std.specs.List.{list_any}
 use Rattle.std.specs.Io.KnownBytes.{Appends}
 use Rattle.std.proofs.lemmas.Bool.{true≢false}
 use Rattle.program_io.specs.Writing.{AppendsPrefix}
@@ -7,11 +8,13 @@ use Rattle.program_io.specs.declared.statuses.TheConstants.{DEVICE_FAULT, DONE, 
 use Rattle.child_host.specs.Calls.{HostCall}
 use Rattle.child_host.specs.Record.{Since}
 use Rattle.child_host.proofs.Record.{Since-map}
-use Rattle.rc_command.specs.CommandLine.{Said}
+use Rattle.init_words.specs.declared.levels.Level.{Level}
+use Rattle.rc_command.specs.CommandLine.{Asked, Said, entering, said_at}
+use Rattle.rc_command.specs.LevelFiles.{KnownFiles, before_in}
 use Rattle.rc_command.specs.declared.command.RunOptions.{RunOptions}
-use Rattle.rc_command.specs.Endings.{AreNames, IsWhole, Reports, ReportsFirst, ReportsNames, ReportsPart, RunsNames, RunsSaid, RunsScripts, ended_text, rc_of, status_of, written}
+use Rattle.rc_command.specs.Endings.{AreNames, AsksFor, IsBefore, IsStatusOf, IsEnded, IsWhole, Reports, ReportsFirst, ReportsNames, ReportsPart, RunsNames, RunsSaid, RunsScripts, ended_text, rc_of, status_of, written}
 use Rattle.rc_command.specs.Folders.{AreNamesAt, ArePrevious, KnownNames, folder_of}
-use Rattle.rc_command.specs.declared.running.TheConstants.{PAUSES_LIMIT}
+use Rattle.rc_command.specs.declared.running.TheConstants.{PAUSES_LIMIT, SCRIPT_FAILED}
 use Rattle.rc_driver.specs.declared.driving.RunEnd.{RunEnd}
 use Rattle.rc_driver.specs.declared.driving.RunEnd.TheVariants as run_end
 use Rattle.rc_driver.specs.declared.runs.RcAnswer.{RcAnswer}
@@ -22,7 +25,7 @@ use Rattle.rc_driver.specs.Report.{Output, done_end, is_over, output, report}
 use Rattle.rc_driver.specs.Runs.{LinkRun, RcState, is_failure}
 use Rattle.rc_driver.specs.Sysv.{scripts_by}
 use Rattle.rc_driver.specs.Told.{EndsAt, RunsFrom, RunsLinks}
-use Rattle.rc_driver.proofs.RunLemmas.{writes_ends}
+use Rattle.rc_driver.proofs.RunLemmas.{AppendsPrefix-none, writes_ends}
 
 -- a run that none was handed out before
 done_is_not_waiting : (failed : Bool) → done_end failed ≢ run_end.Waiting
@@ -241,3 +244,31 @@ said_runs names_at said dir path listed previous names before told after tells s
   calls,
   subst (λ p. RunsNames said.options p previous names before told status after tells calls) (folder_is said dir path same at) runs,
 )
+
+-- a status of a run that is whole is that of the run
+pub whole_status : (inner : ℕ) (told : Option (List ℕ)) (status : ℕ) (tells : Option (List ℕ)) → IsStatusOf inner told status tells → IsWhole status → status ≡ inner
+whole_status inner told status tells (inl (is, same)) whole = is
+whole_status inner told status tells (inr (fault, was)) whole = absurd (not_whole_fault status fault whole)
+
+-- it is known where that is
+pub known_of : (inner : ℕ) (told : Option (List ℕ)) (status : ℕ) (tells : Option (List ℕ)) → IsStatusOf inner told status tells → IsKnown inner → IsKnown status
+known_of inner told status tells (inl (is, same)) known = subst IsKnown (sym is) known
+known_of inner told status tells (inr (fault, was)) known = inr (inr fault)
+
+-- what is so of the folder, the change and the options that are run is so of what is asked for
+pub asks_for : (file_at : KnownFiles) (asked : Asked) (before : Option Level) (dir : List ℕ) (options : RunOptions) (P : Said → Type 0)
+    → IsBefore file_at asked before → dir ≡ asked.dir
+    → options ≡ entering asked.sysv (record { before = before; new = asked.new }) asked.options
+    → P (said_at dir (record { before = before; new = asked.new }) options) → AsksFor file_at asked P
+asks_for file_at asked before dir options P is same so holds = (
+  before,
+  is,
+  subst (λ o. P (said_at asked.dir (record { before = before; new = asked.new }) o)) so
+      (subst (λ d. P (said_at d (record { before = before; new = asked.new }) options)) same holds),
+)
+
+-- the level that was found in a file is the one before, where it is known what stands there
+pub before_found : (known : Option (Option (List ℕ))) (found : Option (List ℕ)) (before : Option Level)
+    → IfSome known (λ text. found ≡ text) → before_in found ≡ Some before → IfSome known (λ text. before_in text ≡ Some before)
+before_found None found before same is = tt
+before_found (Some text) found before same is = ap before_in (sym same) ∙ is
