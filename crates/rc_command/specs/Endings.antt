@@ -1,5 +1,5 @@
 -- How a run of `rc` ends, and what is written of it.
-use Rattle.std.specs.Prelude.{◌≡◌, ◌⊎◌, ℕ, Bool, true, false, if◌then◌else◌, List, [], ◌++◌, codes, length, Option, Some, None}
+use Rattle.std.specs.Prelude.{◌≡◌, ◌⊎◌, ℕ, Bool, true, false, if◌then◌else◌, List, [], ◌++◌, codes, length, Option, Some, None, IsSome}
 use Rattle.std.specs.List.{list_any}
 use Rattle.std.specs.Io.KnownBytes.{Appends}
 use Rattle.program_io.specs.Writing.{AppendsPrefix}
@@ -124,19 +124,27 @@ IsBefore file_at asked before = IsBeforeIn file_at asked.previous asked.file bef
 abbrev pub AsksFor : KnownFiles → Asked → (Said → Type 0) → Type 0
 AsksFor file_at asked P = (before : Option Level) × IsBefore file_at asked before × P (run_said asked before)
 
+-- what words ask for, and that this is so of it
+abbrev pub Says : List (List ℕ) → (Asked → Type 0) → Type 0
+Says words P = (asked : Asked) × (read_of words ≡ Some asked) × P asked
+
 -- what words ask for, and that this is so of what is run
 abbrev pub Asks : KnownFiles → List (List ℕ) → (Said → Type 0) → Type 0
-Asks file_at words P = (asked : Asked) × (read_of words ≡ Some asked) × AsksFor file_at asked P
+Asks file_at words P = Says words (λ asked. AsksFor file_at asked P)
 
 -- the new level stands in the file that is named, where scripts were run; else each file is as it was
 abbrev pub Keeps : Asked → KnownFiles → KnownFiles → Type 0
 Keeps asked old new = KeepsIn asked.options.dry asked.file asked.new old new
 
--- what words ask for was kept
-abbrev pub KeepsAsked : List (List ℕ) → KnownFiles → KnownFiles → Type 0
-KeepsAsked words old new = (asked : Asked) × (read_of words ≡ Some asked) × Keeps asked old new
+-- the status of a run, and what stands then in the writer of what is told; or that of a fault, where a file is named
+-- and the new level was not kept in it although all scripts were carried out
+abbrev pub IsStatusOf : Option (List ℕ) → ℕ → Option (List ℕ) → ℕ → Option (List ℕ) → Type 0
+IsStatusOf file inner told status tells =
+    ((status ≡ inner) × (tells ≡ told)) ⊎ (IsSome file × (status ≡ DEVICE_FAULT) × IsWhole inner)
 
--- the status of a run, and what stands then in the writer of what is told; or that of a fault, where the new level was
--- not kept although all scripts were carried out
-abbrev pub IsStatusOf : ℕ → Option (List ℕ) → ℕ → Option (List ℕ) → Type 0
-IsStatusOf inner told status tells = ((status ≡ inner) × (tells ≡ told)) ⊎ ((status ≡ DEVICE_FAULT) × IsWhole inner)
+-- the scripts that are asked for were run so, where any are run, and behind them the new level was kept
+abbrev pub RunsAsked : KnownFiles → KnownNames → Asked → Option (List ℕ) → Option (List ℕ) → ℕ → Option (List ℕ)
+    → Option (List ℕ) → Type 0
+RunsAsked file_at names_at asked before told status after tells =
+    AsksFor file_at asked (λ said. said.options.dry ≡ false → (inner : ℕ) × (between : Option (List ℕ))
+    × RunsSaid names_at said before told inner after between × IsStatusOf asked.file inner between status tells)

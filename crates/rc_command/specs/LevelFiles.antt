@@ -1,5 +1,5 @@
 -- The files of runlevels, as far as they are known.
-use Rattle.std.specs.Prelude.{◌≡◌, ℕ, Bool, true, false, IfSome, if◌then◌else◌, List, [], ◌∷◌, Option, Some, None, option_map}
+use Rattle.std.specs.Prelude.{◌≡◌, ℕ, Bool, true, false, IfSome, if◌then◌else◌, ◌==◌, List, [], ◌∷◌, Option, Some, None, option_map}
 use Rattle.std.specs.Str.{bytes_eq}
 use Rattle.init_words.specs.declared.levels.Level.{Level}
 use Rattle.init_words.specs.Levels.{level_code}
@@ -24,7 +24,7 @@ level_text level = level_code level ∷ 10 ∷ []
 
 -- the runlevel of a file's text
 abbrev pub level_in : List ℕ → Option Level
-level_in (code ∷ 10 ∷ []) = level_of (code ∷ [])
+level_in (code ∷ end ∷ []) = if end == 10 then level_of (code ∷ []) else None
 level_in _ = None
 
 -- the level before by what stands in its file: none where there is no file

@@ -263,7 +263,7 @@ fn words_of(
 /// A copy of a path, where there is one.
 fn path_copy(alloc: Global, path: Option<&str>) -> Result<Option<String>, AllocError>
     ensures { IfOk result (λ copy. option_map (λ (text : _). string_bytes text) copy
-        ≡ option_map (λ path. path.now) path) }
+        ≡ option_map (λ word. word.now) path.entry) }
 {
     match path {
         Some(path) => Ok(Some(String::from_str(alloc, path)?)),

@@ -1,6 +1,6 @@
 //! Where the runlevel before is kept from one run to the next.
 
-ghost use Rattle.std.specs.Prelude.{◌≡◌, option_map, IfOk, IfSome, OnOk, OnErr};
+ghost use Rattle.std.specs.Prelude.{◌≡◌, ◌∷◌, [], option_map, IfOk, IfSome, OnOk, OnErr};
 ghost use Rattle.rc_command.specs.LevelFiles.{AreSame, HasText, KnownFiles, level_in};
 
 use init_words::Level;
@@ -78,8 +78,17 @@ pub(crate) fn level_in(text: &[u8]) -> Option<Level>
     ensures { result ≡ level_in text.now }
 {
     match text {
-        [b's', b'\n'] => None,
-        [code, b'\n'] => Level::read(*code),
+        [code, end] => level_before_end(*code, *end),
         _ => None,
     }
+}
+
+/// The runlevel of a character, `S` as a capital, where a newline stands behind it.
+fn level_before_end(code: u8, end: u8) -> Option<Level>
+    ensures { result ≡ level_in (code ∷ end ∷ []) }
+{
+    if end != b'\n' || code == b's' {
+        return None;
+    }
+    Level::read(code)
 }

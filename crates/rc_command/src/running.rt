@@ -8,7 +8,7 @@ ghost use Rattle.command_words.specs.Faults.{ReportsUsage};
 ghost use Rattle.program_io.specs.Writing.{AppendsPrefix};
 ghost use Rattle.program_version.specs.VersionLine.{PrintsVersion};
 ghost use Rattle.rc_command.specs.CommandLine.{read_of, said_at, said_of};
-ghost use Rattle.rc_command.specs.Endings.{Asks, AsksFor, IsBefore, IsStatusOf, IsWhole, Keeps, KeepsAsked, Reports, ReportsFirst, ReportsNames, ReportsPart};
+ghost use Rattle.rc_command.specs.Endings.{Asks, AsksFor, IsBefore, IsStatusOf, IsWhole, Keeps, Reports, ReportsFirst, ReportsNames, ReportsPart, RunsAsked, Says};
 ghost use Rattle.rc_command.specs.LevelFiles.{AreSame};
 ghost use Rattle.std.specs.Io.KnownBytes.{Appends};
 ghost use Rattle.rc_driver.specs.Printing.{command_lines};
@@ -97,13 +97,13 @@ where
     // Nothing was run, or it is a call of `run_names` over the names in the two folders; behind it the level is kept.
     ensures ran { asks_version (map string_bytes words.items) ≡ false
         → (((result ≡ REFUSED) ⊎ (result ≡ DEVICE_FAULT)) × (out.new ≡ out.old))
-        ⊎ Asks (L.file_at levels.old) (map string_bytes words.items) (λ said. said.options.dry ≡ false
-        → (inner : ℕ) × (told : Option (List ℕ)) × RunsSaid (F.names_at folders.now) said
-        (W.contents out.old) (E.contents err.old) inner (W.contents out.new) told
-        × IsStatusOf inner told result (E.contents err.new)) }
+        ⊎ Says (map string_bytes words.items) (λ asked. RunsAsked (L.file_at levels.old)
+        (F.names_at folders.now) asked (W.contents out.old) (E.contents err.old) result
+        (W.contents out.new) (E.contents err.new)) }
     // The new level stands in the file that is named, where all scripts were carried out; else each file is as it was.
     ensures kept { asks_version (map string_bytes words.items) ≡ false → IsWhole result
-        → KeepsAsked (map string_bytes words.items) (L.file_at levels.old) (L.file_at levels.new) }
+        → Says (map string_bytes words.items)
+        (λ asked. Keeps asked (L.file_at levels.old) (L.file_at levels.new)) }
     ensures unkept { (asks_version (map string_bytes words.items) ≡ true) ⊎ (IsWhole result → ⊥)
         → AreSame (L.file_at levels.old) (L.file_at levels.new) }
     ensures report { result ≡ REFUSED
@@ -136,10 +136,9 @@ where
     ensures part { (out.new ≡ out.old) ⊎ AsksFor (L.file_at levels.old) (said_of said.now) (λ said.
         ReportsPart (F.names_at folders.now) said (W.contents out.old) (W.contents out.new)) }
     ensures ran { ((result ≡ DEVICE_FAULT) × (out.new ≡ out.old))
-        ⊎ AsksFor (L.file_at levels.old) (said_of said.now) (λ said. said.options.dry ≡ false
-        → (inner : ℕ) × (told : Option (List ℕ)) × RunsSaid (F.names_at folders.now) said
-        (W.contents out.old) (E.contents err.old) inner (W.contents out.new) told
-        × IsStatusOf inner told result (E.contents err.new)) }
+        ⊎ RunsAsked (L.file_at levels.old) (F.names_at folders.now) (said_of said.now)
+        (W.contents out.old) (E.contents err.old) result (W.contents out.new)
+        (E.contents err.new) }
     ensures kept { IsWhole result
         → Keeps (said_of said.now) (L.file_at levels.old) (L.file_at levels.new) }
     ensures unkept { (IsWhole result → ⊥) → AreSame (L.file_at levels.old) (L.file_at levels.new) }
@@ -223,7 +222,7 @@ fn keep_level<L: LevelFiles, E: Write>(
     status: u8,
     err: &mut E,
 ) -> u8
-    ensures status { IsStatusOf status (E.contents err.old) result (E.contents err.new) }
+    ensures status { IsStatusOf (said_of said.now).file status (E.contents err.old) result (E.contents err.new) }
     ensures kept { IsWhole result
         → Keeps (said_of said.now) (L.file_at levels.old) (L.file_at levels.new) }
     ensures unkept { (IsWhole result → ⊥) → AreSame (L.file_at levels.old) (L.file_at levels.new) }

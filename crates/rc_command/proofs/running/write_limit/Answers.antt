@@ -1,5 +1,5 @@
 use Rattle.std.proofs.Common.{codes}
-use Rattle.program_io.proofs.WritingLemmas.{AppendsFront-prefix, AppendsPrefix-of_write, AppendsPrefix-then, stops}
+use Rattle.program_io.proofs.WritingLemmas.{AppendsPrefix-of_write, AppendsPrefix-then, stops}
 use Rattle.rc_command.proofs.running.write_limit.Goals as goal
 
 pub returns-in_err-write_text : goal.returns-in_err-write_text
