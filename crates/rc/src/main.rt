@@ -3,7 +3,7 @@
 #![tactic(auto)]
 
 use program_io::{StandardFiles, report_unread_words, words};
-use rc_command::{USAGE, run_words};
+use rc_command::{SystemFiles, USAGE, run_words};
 use std::process::ExitCode;
 
 fn main(rt: HostRuntime) -> ExitCode {
@@ -12,6 +12,7 @@ fn main(rt: HostRuntime) -> ExitCode {
         Ok(words) => run_words(
             &rt,
             &rt,
+            &mut SystemFiles::new(&rt),
             rt.alloc(),
             words,
             &mut rt.stdout(),

@@ -7,9 +7,11 @@ use Rattle.program_io.specs.declared.statuses.TheConstants.{DEVICE_FAULT, DONE, 
 use Rattle.child_host.specs.Calls.{HostCall}
 use Rattle.child_host.specs.Record.{Since}
 use Rattle.child_host.proofs.Record.{Since-map}
-use Rattle.rc_command.specs.CommandLine.{Said}
+use Rattle.init_words.specs.declared.levels.Level.{Level}
+use Rattle.rc_command.specs.CommandLine.{Asked, Said, entering, said_at}
+use Rattle.rc_command.specs.LevelFiles.{KnownFiles}
 use Rattle.rc_command.specs.declared.command.RunOptions.{RunOptions}
-use Rattle.rc_command.specs.Endings.{AreNames, IsWhole, Reports, ReportsFirst, ReportsNames, ReportsPart, RunsNames, RunsSaid, RunsScripts, ended_text, rc_of, status_of, written}
+use Rattle.rc_command.specs.Endings.{AreNames, AsksFor, IsBefore, IsStatusOf, IsWhole, Reports, ReportsFirst, ReportsNames, ReportsPart, RunsAsked, RunsNames, RunsSaid, RunsScripts, ended_text, rc_of, status_of, written}
 use Rattle.rc_command.specs.Folders.{AreNamesAt, ArePrevious, KnownNames, folder_of}
 use Rattle.rc_command.specs.declared.running.TheConstants.{PAUSES_LIMIT}
 use Rattle.rc_driver.specs.declared.driving.RunEnd.{RunEnd}
@@ -241,3 +243,66 @@ said_runs names_at said dir path listed previous names before told after tells s
   calls,
   subst (λ p. RunsNames said.options p previous names before told status after tells calls) (folder_is said dir path same at) runs,
 )
+
+-- a status of a run that is whole is that of the run
+pub whole_status : (file : Option (List ℕ)) (inner : ℕ) (told : Option (List ℕ)) (status : ℕ) (tells : Option (List ℕ)) → IsStatusOf file inner told status tells → IsWhole status
+    → status ≡ inner
+whole_status file inner told status tells (inl (is, same)) whole = is
+whole_status file inner told status tells (inr (named, fault, was)) whole = absurd (not_whole_fault status fault whole)
+
+-- a fault of the run is one of the whole
+pub fault_of : (file : Option (List ℕ)) (inner : ℕ) (told : Option (List ℕ)) (status : ℕ) (tells : Option (List ℕ)) → IsStatusOf file inner told status tells
+    → inner ≡ DEVICE_FAULT → status ≡ DEVICE_FAULT
+fault_of file inner told status tells (inl (is, same)) fault = is ∙ fault
+fault_of file inner told status tells (inr (named, fault, was)) _ = fault
+
+-- it is known where that is
+pub known_of : (file : Option (List ℕ)) (inner : ℕ) (told : Option (List ℕ)) (status : ℕ) (tells : Option (List ℕ)) → IsStatusOf file inner told status tells → IsKnown inner
+    → IsKnown status
+known_of file inner told status tells (inl (is, same)) known = subst IsKnown (sym is) known
+known_of file inner told status tells (inr (named, fault, was)) known = inr (inr fault)
+
+-- what is so of the folder, the change and the options that are run is so of what is asked for
+pub asks_for : (file_at : KnownFiles) (asked : Asked) (before : Option Level) (dir : List ℕ) (options : RunOptions) (P : Said → Type 0)
+    → IsBefore file_at asked before → dir ≡ asked.dir
+    → options ≡ entering asked.sysv (record { before = before; new = asked.new }) asked.options
+    → P (said_at dir (record { before = before; new = asked.new }) options) → AsksFor file_at asked P
+asks_for file_at asked before dir options P is same so holds = (
+  before,
+  is,
+  subst (λ o. P (said_at asked.dir (record { before = before; new = asked.new }) o)) so
+      (subst (λ d. P (said_at d (record { before = before; new = asked.new }) options)) same holds),
+)
+
+-- where that is whole, what is so of the lines of a run is so of those that are asked for
+pub reports_asked : (file_at : KnownFiles) (names_at : KnownNames) (asked : Asked) (before : Option Level) (dir : List ℕ) (options : RunOptions) (inner status : ℕ)
+    (out told after tells : Option (List ℕ))
+    → IsBefore file_at asked before → dir ≡ asked.dir
+    → options ≡ entering asked.sysv (record { before = before; new = asked.new }) asked.options
+    → IsStatusOf asked.file inner told status tells
+    → (IsWhole inner → Reports names_at (said_at dir (record { before = before; new = asked.new }) options) out inner after)
+    → IsWhole status → AsksFor file_at asked (λ said. Reports names_at said out status after)
+reports_asked file_at names_at asked before dir options inner status out told after tells is same so ends reports whole =
+    let e = whole_status asked.file inner told status tells ends whole in
+    asks_for file_at asked before dir options (λ said. Reports names_at said out status after) is same so
+    (subst (λ s. Reports names_at (said_at dir (record { before = before; new = asked.new }) options) out s after) (sym e) (reports (subst IsWhole e whole)))
+
+-- what is so of how scripts were run is so of those that are asked for, where nothing was told before
+pub runs_asked : (file_at : KnownFiles) (names_at : KnownNames) (asked : Asked) (before : Option Level) (dir : List ℕ) (options : RunOptions) (inner status : ℕ)
+    (out first told between after tells : Option (List ℕ))
+    → IsBefore file_at asked before → dir ≡ asked.dir
+    → options ≡ entering asked.sysv (record { before = before; new = asked.new }) asked.options
+    → IsStatusOf asked.file inner between status tells → told ≡ first
+    → (options.dry ≡ false → RunsSaid names_at (said_at dir (record { before = before; new = asked.new }) options) out told inner after between)
+    → RunsAsked file_at names_at asked out first status after tells
+runs_asked file_at names_at asked before dir options inner status out first told between after tells is same so ends silent runs =
+    asks_for file_at asked before dir options
+    (λ said. said.options.dry ≡ false → (inner : ℕ) × (between : Option (List ℕ)) × RunsSaid names_at said out first inner after between
+    × IsStatusOf asked.file inner between status tells)
+    is same so
+    (λ wet. (
+      inner,
+      between,
+      subst (λ t. RunsSaid names_at (said_at dir (record { before = before; new = asked.new }) options) out t inner after between) silent (runs wet),
+      ends,
+    ))

@@ -1,9 +1,10 @@
--- The command line `rc [-n] [-v] [--strict] [--direct] [--as-sysv] [--timeout SEC] DIR PREV NEW`. What it takes is said by
--- clap's own words; they are opaque, since a goal that sees them sees the whole parser.
+-- The command line `rc [-n] [-v] [--strict] [--direct] [--as-sysv] [--timeout SEC] DIR PREV NEW`, or with
+-- `--level-file F` and without PREV. What it takes is said by clap's own words; they are opaque, since a goal that sees
+-- them sees the whole parser.
 use Rattle.std.specs.Prelude.{ℕ, ◌+◌, nat_lt, Bool, if◌then◌else◌, List, [], ◌∷◌, codes, Option, Some, None, unwrap_or, option_and_then, option_map, length, ◌==◌, ◌||◌, string_bytes}
 use Rattle.std.specs.List.{list_all}
 use Rattle.std.specs.Str.{byte, bytes_eq}
-use Rattle.clap.specs.Words.{App, Row, Text, fault_of, first_of, matches_of}
+use Rattle.clap.specs.Words.{App, Row, Rule, Text, fault_of, first_of, matches_of, new_rule}
 use Rattle.command_words.specs.CommandLines.{letter_rule, program_app, switch_rule, value_rule, with_rules, word_rule}
 use Rattle.init_words.specs.declared.levels.Level.{Level}
 use Rattle.init_words.specs.Levels.{level_read}
@@ -15,6 +16,10 @@ use Rattle.text_lines.specs.Numbers.{number_read}
 use Rattle.rc_command.specs.declared.command.Words.{Words}
 use Rattle.rc_links.specs.Names.{is_name_byte}
 
+-- a word that may be left out
+unfoldable pub last_rule : Text → Rule
+last_rule name = new_rule name
+
 unfoldable pub command_line : App
 command_line = with_rules (program_app (codes "rc")) (
     letter_rule (codes "dry") 110
@@ -23,23 +28,36 @@ command_line = with_rules (program_app (codes "rc")) (
     ∷ switch_rule (codes "direct")
     ∷ switch_rule (codes "as-sysv")
     ∷ value_rule (codes "timeout")
+    ∷ value_rule (codes "level-file")
     ∷ word_rule (codes "dir")
-    ∷ word_rule (codes "previous")
-    ∷ word_rule (codes "new")
+    ∷ word_rule (codes "first")
+    ∷ last_rule (codes "second")
     ∷ [])
 
--- the folder that holds those of the runlevels, the level before, if there was one, the new level, and the options
+-- what is run: the folder that holds those of the runlevels, the level before, if there was one, the new level, and the
+-- options
 pub record Said : Type 0 where
   pub dir : Text
   pub previous : Option Level
   pub new : Level
   pub options : RunOptions
 
-abbrev pub said_of : Words → Said
+-- what words ask for: the level before may be that of a file
+pub record Asked : Type 0 where
+  pub dir : Text
+  pub previous : Option Level
+  pub file : Option Text
+  pub new : Level
+  pub sysv : Bool
+  pub options : RunOptions
+
+abbrev pub said_of : Words → Asked
 said_of words = record {
   dir = string_bytes words.dir;
   previous = words.previous;
+  file = option_map (λ (text : _). string_bytes text) words.level_file;
   new = words.new;
+  sysv = words.sysv;
   options = words.options;
 }
 
@@ -94,29 +112,55 @@ abbrev pub entering : Bool → Passage → RunOptions → RunOptions
 entering sysv passage options =
     if sysv then record options { way = record options.way { levels = Some passage } } else options
 
--- what three words and the options say
-abbrev pub said_by : Text → Text → Text → Bool → RunOptions → Option Said
-said_by dir before after sysv options =
-    if is_dir dir then
-    option_and_then
-    (λ previous. option_map
-    (λ new. record {
-      dir = dir;
-      previous = previous;
-      new = new;
-      options = entering sysv (record { before = previous; new = new }) options;
+-- what is run from the folder at a change of level
+abbrev pub said_at : Text → Passage → RunOptions → Said
+said_at dir passage options = record { dir = dir; previous = passage.before; new = passage.new; options = options }
+
+-- what is run where that was the level before
+abbrev pub run_said : Asked → Option Level → Said
+run_said asked before =
+    let passage : Passage = record { before = before; new = asked.new } in
+    said_at asked.dir passage (entering asked.sysv passage asked.options)
+
+-- the level of a word, with none before it
+abbrev pub new_of : Text → Option Passage
+new_of after = option_map (λ new. record { before = None; new = new }) (level_of after)
+
+-- the levels of two words
+abbrev pub levels_of : Text → Text → Option Passage
+levels_of before after =
+    option_and_then (λ previous. option_map (λ new. record { before = previous; new = new }) (level_of after)) (previous_of before)
+
+-- the levels of the words, of which the first is left out where a file has it
+abbrev pub levels_in : Option Text → Text → Option Text → Option Passage
+levels_in None first (Some second) = levels_of first second
+levels_in None first None = None
+levels_in (Some file) first None = new_of first
+levels_in (Some file) first (Some second) = None
+
+abbrev pub levels_said : List Row → Option Passage
+levels_said rows = levels_in (first_of (codes "level-file") rows) (value_in (codes "first") rows) (first_of (codes "second") rows)
+
+-- what words and the options say
+abbrev pub said_by : List Row → Bool → RunOptions → Option Asked
+said_by rows sysv options =
+    if is_dir (value_in (codes "dir") rows) then
+    option_map
+    (λ (levels : Passage). record {
+      dir = value_in (codes "dir") rows;
+      previous = levels.before;
+      file = first_of (codes "level-file") rows;
+      new = levels.new;
+      sysv = sysv;
+      options = options;
     })
-    (level_of after))
-    (previous_of before)
+    (levels_said rows)
     else None
 
-abbrev pub rows_said : List Row → Option Said
+abbrev pub rows_said : List Row → Option Asked
 rows_said rows =
-    option_and_then
-    (λ seconds. said_by (value_in (codes "dir") rows) (value_in (codes "previous") rows) (value_in (codes "new") rows)
-    (is_set (codes "as-sysv") rows) (options_said seconds rows))
-    (seconds_said rows)
+    option_and_then (λ seconds. said_by rows (is_set (codes "as-sysv") rows) (options_said seconds rows)) (seconds_said rows)
 
 -- what words say; where the command line has a fault in them, nothing
-abbrev pub read_of : List Text → Option Said
+abbrev pub read_of : List Text → Option Asked
 read_of words = if length (fault_of command_line words) == 0 then rows_said (matches_of command_line words) else None

@@ -1,5 +1,5 @@
 -- How a run of `rc` ends, and what is written of it.
-use Rattle.std.specs.Prelude.{◌≡◌, ◌⊎◌, ℕ, Bool, true, false, if◌then◌else◌, List, [], ◌++◌, codes, length, Option, Some, None}
+use Rattle.std.specs.Prelude.{◌≡◌, ◌⊎◌, ℕ, Bool, true, false, if◌then◌else◌, List, [], ◌++◌, codes, length, Option, Some, None, IsSome}
 use Rattle.std.specs.List.{list_any}
 use Rattle.std.specs.Io.KnownBytes.{Appends}
 use Rattle.program_io.specs.Writing.{AppendsPrefix}
@@ -14,7 +14,9 @@ use Rattle.rc_driver.specs.Runs.{LinkRun, RcState, is_failure}
 use Rattle.rc_driver.specs.Sysv.{scripts_by}
 use Rattle.rc_driver.specs.declared.runs.Passage.{Passage}
 use Rattle.rc_driver.specs.Told.{RunsLinks}
-use Rattle.rc_command.specs.CommandLine.{Said, read_of}
+use Rattle.rc_command.specs.CommandLine.{Asked, Said, read_of, run_said}
+use Rattle.rc_command.specs.LevelFiles.{IsBeforeIn, KeepsIn, KnownFiles}
+use Rattle.init_words.specs.declared.levels.Level.{Level}
 use Rattle.rc_command.specs.declared.command.RunOptions.{RunOptions}
 use Rattle.rc_command.specs.declared.running.TheConstants.{PAUSES_LIMIT, SCRIPT_FAILED}
 use Rattle.rc_command.specs.Folders.{AreNamesAt, ArePrevious, KnownNames, folder_of}
@@ -114,6 +116,35 @@ ReportsPart names_at said old new =
     (previous names : List (List ℕ)) × AreNames names_at said previous names
     × ReportsFirst said.options (folder_of said.dir said.new) previous names old new
 
--- what words say, and that it has this
-abbrev pub Asks : List (List ℕ) → (Said → Type 0) → Type 0
-Asks words P = (said : Said) × (read_of words ≡ Some said) × P said
+-- the level before: that of the words, or that of the file that they name, where that is known
+abbrev pub IsBefore : KnownFiles → Asked → Option Level → Type 0
+IsBefore file_at asked before = IsBeforeIn file_at asked.previous asked.file before
+
+-- the level before, and that this is so of what is run behind it
+abbrev pub AsksFor : KnownFiles → Asked → (Said → Type 0) → Type 0
+AsksFor file_at asked P = (before : Option Level) × IsBefore file_at asked before × P (run_said asked before)
+
+-- what words ask for, and that this is so of it
+abbrev pub Says : List (List ℕ) → (Asked → Type 0) → Type 0
+Says words P = (asked : Asked) × (read_of words ≡ Some asked) × P asked
+
+-- what words ask for, and that this is so of what is run
+abbrev pub Asks : KnownFiles → List (List ℕ) → (Said → Type 0) → Type 0
+Asks file_at words P = Says words (λ asked. AsksFor file_at asked P)
+
+-- the new level stands in the file that is named, where scripts were run; else each file is as it was
+abbrev pub Keeps : Asked → KnownFiles → KnownFiles → Type 0
+Keeps asked old new = KeepsIn asked.options.dry asked.file asked.new old new
+
+-- the status of a run, and what stands then in the writer of what is told; or that of a fault, where a file is named
+-- and the new level was not kept in it although all scripts were carried out
+abbrev pub IsStatusOf : Option (List ℕ) → ℕ → Option (List ℕ) → ℕ → Option (List ℕ) → Type 0
+IsStatusOf file inner told status tells =
+    ((status ≡ inner) × (tells ≡ told)) ⊎ (IsSome file × (status ≡ DEVICE_FAULT) × IsWhole inner)
+
+-- the scripts that are asked for were run so, where any are run, and behind them the new level was kept
+abbrev pub RunsAsked : KnownFiles → KnownNames → Asked → Option (List ℕ) → Option (List ℕ) → ℕ → Option (List ℕ)
+    → Option (List ℕ) → Type 0
+RunsAsked file_at names_at asked before told status after tells =
+    AsksFor file_at asked (λ said. said.options.dry ≡ false → (inner : ℕ) × (between : Option (List ℕ))
+    × RunsSaid names_at said before told inner after between × IsStatusOf asked.file inner between status tells)

@@ -2,12 +2,12 @@
 
 ghost use Rattle.std.specs.Prelude.{◌≡◌, map, option_map, string_bytes, IfErr, IfOk, IsSome};
 ghost use Rattle.clap.specs.Words.{FailsBy, fault_of, first_of, found_of, matches_of, rows_of};
-ghost use Rattle.command_words.specs.CommandLines.{IsLine};
+ghost use Rattle.command_words.specs.CommandLines.{Adds, IsLine};
 ghost use Rattle.command_words.specs.Faults.{reason_of};
-ghost use Rattle.rc_command.specs.CommandLine.{command_line, entering, is_dir, is_set, level_of, options_said};
+ghost use Rattle.rc_command.specs.CommandLine.{command_line, entering, is_dir, is_set, last_rule, level_of, levels_of, levels_said, new_of, options_said};
 ghost use Rattle.rc_command.specs.CommandLine.{previous_of, read_of, rows_said, said_by, said_of, seconds_read, seconds_said};
 
-use clap::{ArgMatches, Command, Error};
+use clap::{Arg, ArgMatches, Command, Error};
 use command_words::{
     WordFault, program_line, value_of, with_letter, with_switch, with_value, with_word, word_fault,
 };
@@ -26,11 +26,15 @@ const SECONDS_LIMIT: u64 = 86_400;
 pub struct Words {
     /// The folder that holds those of the runlevels.
     pub dir: String,
-    /// The runlevel before, if there was one.
+    /// The runlevel before, if there was one, where no file has it.
     pub previous: Option<Level>,
+    /// The file that has the runlevel before, and then the new one, where one is named.
+    pub level_file: Option<String>,
     /// The runlevel that is entered.
     pub new: Level,
-    /// What the options say.
+    /// Scripts are run as sysv-rc runs them.
+    pub sysv: bool,
+    /// What the options say besides.
     pub options: RunOptions,
 }
 
@@ -68,9 +72,17 @@ fn command<'a>(alloc: Global) -> Result<Command<'a>, AllocError>
     let line = with_switch(alloc, line, "direct")?;
     let line = with_switch(alloc, line, "as-sysv")?;
     let line = with_value(alloc, line, "timeout")?;
+    let line = with_value(alloc, line, "level-file")?;
     let line = with_word(alloc, line, "dir")?;
-    let line = with_word(alloc, line, "previous")?;
-    with_word(alloc, line, "new")
+    let line = with_word(alloc, line, "first")?;
+    with_last(alloc, line, "second")
+}
+
+/// A command line with a word that may be left out, behind its other arguments. It fails for want of memory alone.
+fn with_last<'a>(alloc: Global, line: Command<'a>, name: &'a str) -> Result<Command<'a>, AllocError>
+    ensures { IfOk result (Adds line.entry (last_rule name.entry.now)) }
+{
+    line.arg(Arg::new(alloc, name))
 }
 
 fn parsed<'a>(alloc: Global, words: &'a [String]) -> Result<ArgMatches<'a>, Error>
@@ -89,15 +101,73 @@ fn read_matches(alloc: Global, matches: &ArgMatches) -> Result<Words, WordFault>
         → rows_said (rows_of (found_of matches.now)) ≡ None) }
 {
     let seconds = read_seconds_option(alloc, matches)?;
-    let dir = value_of(matches, "dir");
     words_of(
         alloc,
-        dir,
-        value_of(matches, "previous"),
-        value_of(matches, "new"),
+        matches,
         is_set(matches, "as-sysv"),
         read_options(matches, seconds),
     )
+}
+
+/// The two runlevels, of which a file has the first where one is named.
+fn read_levels(alloc: Global, matches: &ArgMatches) -> Result<Passage, WordFault>
+    ensures ok { IfOk result (λ levels.
+        levels_said (rows_of (found_of matches.now)) ≡ Some levels) }
+    ensures usage { IfErr result (λ fault. IsSome (reason_of fault)
+        → levels_said (rows_of (found_of matches.now)) ≡ None) }
+{
+    let first = value_of(matches, "first");
+    match (word_of(matches, "level-file"), word_of(matches, "second")) {
+        (None, Some(second)) => read_both(alloc, first, second),
+        (None, None) => Err(missing(alloc)),
+        (Some(_), None) => read_new(alloc, first),
+        (Some(_), Some(second)) => Err(refused_word(alloc, second)),
+    }
+}
+
+/// The fault of a word that is missing.
+fn missing(alloc: Global) -> WordFault {
+    match String::from_str(alloc, "a word is missing") {
+        Ok(reason) => WordFault::Usage(reason),
+        Err(AllocError) => WordFault::Memory,
+    }
+}
+
+/// The fault of a word behind NEW.
+fn refused_word(alloc: Global, word: &str) -> WordFault {
+    match format!(in alloc; "{word}: a word too much: with --level-file PREV is left out") {
+        Ok(reason) => WordFault::Usage(reason),
+        Err(AllocError) => WordFault::Memory,
+    }
+}
+
+/// The levels of two words.
+fn read_both(alloc: Global, before: &str, after: &str) -> Result<Passage, WordFault>
+    ensures ok { IfOk result (λ levels. levels_of before.now after.now ≡ Some levels) }
+    ensures usage { IfErr result (λ fault. IsSome (reason_of fault)
+        → levels_of before.now after.now ≡ None) }
+{
+    let Some(previous) = previous_of(before) else {
+        let reason = format!(in alloc; "{before}: PREV is a runlevel, 0 to 9 or S, or N")?;
+        return Err(WordFault::Usage(reason));
+    };
+    let levels = read_new(alloc, after)?;
+    Ok(Passage {
+        before: previous,
+        new: levels.new,
+    })
+}
+
+/// The level of a word.
+fn read_new(alloc: Global, after: &str) -> Result<Passage, WordFault>
+    ensures ok { IfOk result (λ levels. new_of after.now ≡ Some levels) }
+    ensures usage { IfErr result (λ fault. IsSome (reason_of fault) → new_of after.now ≡ None) }
+{
+    let Some(new) = level_of(after) else {
+        let reason = format!(in alloc; "{after}: NEW is a runlevel, 0 to 9 or S")?;
+        return Err(WordFault::Usage(reason));
+    };
+    Ok(Passage { before: None, new })
 }
 
 /// What the options say, with these seconds.
@@ -162,49 +232,47 @@ fn is_set(matches: &ArgMatches, id: &str) -> bool
     value_of(matches, id) == "true"
 }
 
-/// What three words say; a usage fault where one is no path or no level.
+/// What words say; a usage fault where one is no path or no level.
 fn words_of(
     alloc: Global,
-    dir: &str,
-    before: &str,
-    after: &str,
+    matches: &ArgMatches,
     sysv: bool,
     options: RunOptions,
 ) -> Result<Words, WordFault>
-    ensures ok { IfOk result (λ said.
-        said_by dir.now before.now after.now sysv options ≡ Some (said_of said)) }
+    ensures ok { IfOk result (λ said. said_by (rows_of (found_of matches.now)) sysv options
+        ≡ Some (said_of said)) }
     ensures usage { IfErr result (λ fault. IsSome (reason_of fault)
-        → said_by dir.now before.now after.now sysv options ≡ None) }
+        → said_by (rows_of (found_of matches.now)) sysv options ≡ None) }
 {
+    let dir = value_of(matches, "dir");
     if !is_dir(dir) {
         let reason = format!(in alloc; "{dir}: DIR has bytes of A-Z a-z 0-9 . _ - / alone")?;
         return Err(WordFault::Usage(reason));
     }
-    let Some(previous) = previous_of(before) else {
-        let reason = format!(in alloc; "{before}: PREV is a runlevel, 0 to 9 or S, or N")?;
-        return Err(WordFault::Usage(reason));
-    };
-    let Some(new) = level_of(after) else {
-        let reason = format!(in alloc; "{after}: NEW is a runlevel, 0 to 9 or S")?;
-        return Err(WordFault::Usage(reason));
-    };
+    let levels = read_levels(alloc, matches)?;
     Ok(Words {
         dir: String::from_str(alloc, dir)?,
-        previous,
-        new,
-        options: entering(
-            sysv,
-            Passage {
-                before: previous,
-                new,
-            },
-            options,
-        ),
+        previous: levels.before,
+        level_file: path_copy(alloc, word_of(matches, "level-file"))?,
+        new: levels.new,
+        sysv,
+        options,
     })
 }
 
+/// A copy of a path, where there is one.
+fn path_copy(alloc: Global, path: Option<&str>) -> Result<Option<String>, AllocError>
+    ensures { IfOk result (λ copy. option_map (λ (text : _). string_bytes text) copy
+        ≡ option_map (λ word. word.now) path.entry) }
+{
+    match path {
+        Some(path) => Ok(Some(String::from_str(alloc, path)?)),
+        None => Ok(None),
+    }
+}
+
 /// The options with the change of level, where scripts are run as sysv-rc runs them.
-fn entering(sysv: bool, passage: Passage, options: RunOptions) -> RunOptions
+pub(crate) fn entering(sysv: bool, passage: Passage, options: RunOptions) -> RunOptions
     ensures { result ≡ entering sysv passage options }
 {
     if !sysv {

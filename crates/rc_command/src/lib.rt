@@ -5,10 +5,14 @@
 mod command;
 mod folders;
 mod kept_folders;
+mod kept_level;
+mod level_files;
 mod running;
 
 pub use command::{RunOptions, Words, read_words};
 pub use command_words::WordFault;
 pub use folders::Folders;
 pub use kept_folders::KeptFolders;
+pub use kept_level::KeptLevel;
+pub use level_files::{LevelFiles, SystemFiles};
 pub use running::{PAUSES_LIMIT, SCRIPT_FAILED, USAGE, run_names, run_words};

@@ -1,23 +1,25 @@
 //! rc at work: the scripts of two runlevels' links, stopped and started over a host, or printed.
 
-ghost use Rattle.std.specs.Prelude.{◌≡◌, ◌≢◌, ◌⊎◌, true, false, codes, IfOk, IsSome, None, List, map, string_bytes};
+ghost use Rattle.std.specs.Prelude.{◌≡◌, ◌≢◌, ◌⊎◌, ◌↔◌, ℕ, true, false, codes, IfErr, IfOk, IsSome, IsTrue, None, OnOk, List, Option, map, string_bytes};
 ghost use Rattle.child_host.specs.Calls.{HostCall};
 ghost use Rattle.child_host.specs.Record.{Since};
 ghost use Rattle.command_words.specs.CommandLines.{asks_version};
 ghost use Rattle.command_words.specs.Faults.{ReportsUsage};
 ghost use Rattle.program_io.specs.Writing.{AppendsPrefix};
 ghost use Rattle.program_version.specs.VersionLine.{PrintsVersion};
-ghost use Rattle.rc_command.specs.CommandLine.{read_of, said_of};
-ghost use Rattle.rc_command.specs.Endings.{Asks, IsWhole, Reports, ReportsFirst, ReportsNames, ReportsPart};
+ghost use Rattle.rc_command.specs.CommandLine.{read_of, said_at, said_of};
+ghost use Rattle.rc_command.specs.Endings.{Asks, AsksFor, IsBefore, IsStatusOf, IsWhole, Keeps, Reports, ReportsFirst, ReportsNames, ReportsPart, RunsAsked, Says};
+ghost use Rattle.rc_command.specs.LevelFiles.{AreSame};
 ghost use Rattle.std.specs.Io.KnownBytes.{Appends};
 ghost use Rattle.rc_driver.specs.Printing.{command_lines};
 ghost use Rattle.rc_command.specs.Endings.{IsSilent, RunsNames, RunsSaid, RunsScripts, ended_text, limit_text, rc_of, status_of};
 
-use crate::command::{RunOptions, Words, read_words};
+use crate::command::{RunOptions, Words, entering, read_words};
 use crate::folders::{Folders, folder_of, previous_names};
+use crate::level_files::{LevelFiles, level_in};
 use child_host::Host;
 use command_words::{is_version, report_word_fault};
-use init_words::Memory;
+use init_words::{Level, Memory};
 use os_host::OsHost;
 use program_io::{DEVICE_FAULT, DONE, LIMIT_REACHED, REFUSED, report_no_memory, write_text};
 use program_version::print_version;
@@ -41,13 +43,15 @@ pub const SCRIPT_FAILED: u8 = 2;
 /// What is reported of words that are no command line, behind a line that says why.
 pub const USAGE: &str =
     "usage: rc [-n] [-v] [--strict] [--direct] [--as-sysv] [--timeout SEC] DIR PREV NEW
+       rc [OPTION..] --level-file F DIR NEW
        rc --version
-  -n             print what would be run, and run nothing
-  -v             tell of each start
-  --strict       status 2 where a script fails
-  --direct       execute each script by its own first line, not by sh
-  --as-sysv      run what sysv-rc runs, and as it does; --direct is meant too
-  --timeout SEC  send TERM to a script that runs longer than SEC seconds, 1 to 86400, and KILL 5 seconds later
+  -n              print what would be run, and run nothing
+  -v              tell of each start
+  --strict        status 2 where a script fails
+  --direct        execute each script by its own first line, not by sh
+  --as-sysv       run what sysv-rc runs, and as it does; --direct is meant too
+  --timeout SEC   send TERM to a script that runs longer than SEC seconds, 1 to 86400, and KILL 5 seconds later
+  --level-file F  PREV is what the file F has, N where there is none; F has NEW behind the run
   DIR   the folder that holds those of the runlevels, as rc3.d; of bytes of A-Z a-z 0-9 . _ - / alone
   PREV  the runlevel before, 0 to 9 or S, or N where there was none
   NEW   the runlevel that is entered, 0 to 9 or S
@@ -56,12 +60,14 @@ pub const USAGE: &str =
 /// Runs rc on a command line without the program's name, and gives its exit status: 0 where all scripts of NEW's folder
 /// were carried out, whatever their own statuses, or were printed, or the version was written, 1 where the words are no
 /// command line, 2 where `--strict` is said, all were carried out, and one failed, 3 where a script has not ended after
-/// `PAUSES_LIMIT` pauses, 4 where NEW's folder can't be listed, the output fails or memory runs out. The version is
-/// written on `out`, where the words are `--version` alone; or a line for each script at its end, with `-v` at its start
-/// too, with `-n` what would start it; a fault is reported on `err`. The folders are listed by `folders`.
-pub fn run_words<R, F, W, E>(
+/// `PAUSES_LIMIT` pauses, 4 where NEW's folder can't be listed, the level before can't be read from its file or the new
+/// one written there, the output fails or memory runs out. The version is written on `out`, where the words are
+/// `--version` alone; or a line for each script at its end, with `-v` at its start too, with `-n` what would start it; a
+/// fault is reported on `err`. The folders are listed by `folders`, and the file of the levels is one of `levels`.
+pub fn run_words<R, F, L, W, E>(
     rt: &R,
     folders: &F,
+    levels: &mut L,
     alloc: Global,
     words: Vec<String>,
     out: &mut W,
@@ -70,6 +76,7 @@ pub fn run_words<R, F, W, E>(
 where
     R: Processes + Files<File = File> + Clock + Print + Eprint + Clone + Drop,
     F: Folders,
+    L: LevelFiles,
     W: Write,
     E: Write,
     ensures statuses { IsWhole result ⊎ (result ≡ REFUSED) ⊎ (result ≡ LIMIT_REACHED)
@@ -81,18 +88,24 @@ where
         → IsSome (read_of (map string_bytes words.items)) }
     // The lines of all scripts of the two folders were written, and the status is the one for their ends.
     ensures done { asks_version (map string_bytes words.items) ≡ false → IsWhole result
-        → Asks (map string_bytes words.items) (λ said. Reports (F.names_at folders.now) said
-        (W.contents out.old) result (W.contents out.new)) }
+        → Asks (L.file_at levels.old) (map string_bytes words.items) (λ said. Reports
+        (F.names_at folders.now) said (W.contents out.old) result (W.contents out.new)) }
     // Nothing was written, or a prefix of those lines.
     ensures part { asks_version (map string_bytes words.items) ≡ false → (out.new ≡ out.old)
-        ⊎ Asks (map string_bytes words.items) (λ said. ReportsPart (F.names_at folders.now) said
-        (W.contents out.old) (W.contents out.new)) }
-    // Nothing was run, or it is a call of `run_names` over the names in the two folders.
+        ⊎ Asks (L.file_at levels.old) (map string_bytes words.items) (λ said. ReportsPart
+        (F.names_at folders.now) said (W.contents out.old) (W.contents out.new)) }
+    // Nothing was run, or it is a call of `run_names` over the names in the two folders; behind it the level is kept.
     ensures ran { asks_version (map string_bytes words.items) ≡ false
         → (((result ≡ REFUSED) ⊎ (result ≡ DEVICE_FAULT)) × (out.new ≡ out.old))
-        ⊎ Asks (map string_bytes words.items) (λ said. said.options.dry ≡ false
-        → RunsSaid (F.names_at folders.now) said (W.contents out.old) (E.contents err.old) result
+        ⊎ Says (map string_bytes words.items) (λ asked. RunsAsked (L.file_at levels.old)
+        (F.names_at folders.now) asked (W.contents out.old) (E.contents err.old) result
         (W.contents out.new) (E.contents err.new)) }
+    // The new level stands in the file that is named, where all scripts were carried out; else each file is as it was.
+    ensures kept { asks_version (map string_bytes words.items) ≡ false → IsWhole result
+        → Says (map string_bytes words.items)
+        (λ asked. Keeps asked (L.file_at levels.old) (L.file_at levels.new)) }
+    ensures unkept { (asks_version (map string_bytes words.items) ≡ true) ⊎ (IsWhole result → ⊥)
+        → AreSame (L.file_at levels.old) (L.file_at levels.new) }
     ensures report { result ≡ REFUSED
         → ReportsUsage (codes "rc") USAGE.now (E.contents err.old) (E.contents err.new) }
 {
@@ -100,15 +113,16 @@ where
         return print_version("rc", out, err);
     }
     match read_words(alloc, words.as_slice()) {
-        Ok(said) => run(rt, folders, alloc, &said, out, err),
+        Ok(said) => run_asked(rt, folders, levels, alloc, &said, out, err),
         Err(fault) => report_word_fault("rc", &fault, USAGE, err),
     }
 }
 
-/// Runs the scripts of the new level's folder.
-fn run<R, F: Folders, W: Write, E: Write>(
+/// Runs the scripts that words ask for, behind the level before, and keeps the new one.
+fn run_asked<R, F: Folders, L: LevelFiles, W: Write, E: Write>(
     rt: &R,
     folders: &F,
+    levels: &mut L,
     alloc: Global,
     said: &Words,
     out: &mut W,
@@ -117,24 +131,162 @@ fn run<R, F: Folders, W: Write, E: Write>(
 where
     R: Processes + Files<File = File> + Clock + Print + Eprint + Clone + Drop,
     ensures statuses { IsWhole result ⊎ (result ≡ LIMIT_REACHED) ⊎ (result ≡ DEVICE_FAULT) }
-    ensures done { IsWhole result → Reports (F.names_at folders.now) (said_of said.now)
-        (W.contents out.old) result (W.contents out.new) }
-    ensures part { (out.new ≡ out.old) ⊎ ReportsPart (F.names_at folders.now) (said_of said.now)
-        (W.contents out.old) (W.contents out.new) }
+    ensures done { IsWhole result → AsksFor (L.file_at levels.old) (said_of said.now) (λ said. Reports
+        (F.names_at folders.now) said (W.contents out.old) result (W.contents out.new)) }
+    ensures part { (out.new ≡ out.old) ⊎ AsksFor (L.file_at levels.old) (said_of said.now) (λ said.
+        ReportsPart (F.names_at folders.now) said (W.contents out.old) (W.contents out.new)) }
     ensures ran { ((result ≡ DEVICE_FAULT) × (out.new ≡ out.old))
-        ⊎ (said.now.options.dry ≡ false → RunsSaid (F.names_at folders.now) (said_of said.now)
+        ⊎ RunsAsked (L.file_at levels.old) (F.names_at folders.now) (said_of said.now)
+        (W.contents out.old) (E.contents err.old) result (W.contents out.new)
+        (E.contents err.new) }
+    ensures kept { IsWhole result
+        → Keeps (said_of said.now) (L.file_at levels.old) (L.file_at levels.new) }
+    ensures unkept { (IsWhole result → ⊥) → AreSame (L.file_at levels.old) (L.file_at levels.new) }
+{
+    let before = match level_before(levels, alloc, said, err) {
+        Ok(before) => before,
+        Err(status) => return status,
+    };
+    let passage = Passage {
+        before,
+        new: said.new,
+    };
+    let options = entering(said.sysv, passage, said.options);
+    let status = run(
+        rt,
+        folders,
+        alloc,
+        said.dir.as_str(),
+        passage,
+        options,
+        out,
+        err,
+    );
+    keep_level(levels, alloc, said, status, err)
+}
+
+/// The level before: that of the words, or that of the file that they name; the exit status where that has none, which
+/// is told.
+fn level_before<L: LevelFiles, E: Write>(
+    levels: &L,
+    alloc: Global,
+    said: &Words,
+    err: &mut E,
+) -> Result<Option<Level>, u8>
+    ensures ok { IfOk result (λ before. IsBefore (L.file_at levels.now) (said_of said.now) before) }
+    ensures silent { OnOk result (err.new ≡ err.old) }
+    ensures status { IfErr result (λ status. status ≡ DEVICE_FAULT) }
+{
+    let Some(path) = &said.level_file else {
+        return Ok(said.previous);
+    };
+    match levels.read(alloc, path.as_str()) {
+        Ok(None) => Ok(None),
+        Ok(Some(text)) => match level_in(text.as_slice()) {
+            Some(level) => Ok(Some(level)),
+            None => Err(report_no_level(path.as_str(), err)),
+        },
+        Err(error) => Err(report_unread(path.as_str(), &error, err)),
+    }
+}
+
+/// Reports that a file has no runlevel, and gives the exit status.
+fn report_no_level<E: Write>(path: &str, err: &mut E) -> u8
+    ensures { result ≡ DEVICE_FAULT }
+{
+    let _ = writeln!(
+        err,
+        "rc: {path}: not a runlevel, 0 to 9 or S, and a newline: nothing was run; write the level that is left \
+         into it, or remove it for N"
+    );
+    DEVICE_FAULT
+}
+
+/// Reports that a file was not read, and gives the exit status.
+fn report_unread<E: Write>(path: &str, error: &io::Error, err: &mut E) -> u8
+    ensures { result ≡ DEVICE_FAULT }
+{
+    let _ = writeln!(
+        err,
+        "rc: cannot read {path}: {error}: nothing was run; give PREV as a word without --level-file"
+    );
+    DEVICE_FAULT
+}
+
+/// Keeps the new level in the file that is named, where scripts were run and all were carried out, and gives the exit
+/// status.
+fn keep_level<L: LevelFiles, E: Write>(
+    levels: &mut L,
+    alloc: Global,
+    said: &Words,
+    status: u8,
+    err: &mut E,
+) -> u8
+    ensures status { IsStatusOf (said_of said.now).file status (E.contents err.old) result (E.contents err.new) }
+    ensures kept { IsWhole result
+        → Keeps (said_of said.now) (L.file_at levels.old) (L.file_at levels.new) }
+    ensures unkept { (IsWhole result → ⊥) → AreSame (L.file_at levels.old) (L.file_at levels.new) }
+{
+    if said.options.dry || !is_whole(status) {
+        return status;
+    }
+    let Some(path) = &said.level_file else {
+        return status;
+    };
+    match levels.put(alloc, path.as_str(), &[said.new.code(), b'\n']) {
+        Ok(()) => status,
+        Err(error) => report_unkept(path.as_str(), &error, err),
+    }
+}
+
+/// All scripts were carried out, by the exit status.
+fn is_whole(status: u8) -> bool
+    ensures { IsTrue result ↔ IsWhole status }
+{
+    status == DONE || status == SCRIPT_FAILED
+}
+
+/// Reports that the new level was not kept, and gives the exit status.
+fn report_unkept<E: Write>(path: &str, error: &io::Error, err: &mut E) -> u8
+    ensures { result ≡ DEVICE_FAULT }
+{
+    let _ = writeln!(
+        err,
+        "rc: cannot write {path}: {error}: all scripts were carried out, and it has not the new level"
+    );
+    DEVICE_FAULT
+}
+
+/// Runs the scripts of the new level's folder.
+fn run<R, F: Folders, W: Write, E: Write>(
+    rt: &R,
+    folders: &F,
+    alloc: Global,
+    dir: &str,
+    passage: Passage,
+    options: RunOptions,
+    out: &mut W,
+    err: &mut E,
+) -> u8
+where
+    R: Processes + Files<File = File> + Clock + Print + Eprint + Clone + Drop,
+    ensures statuses { IsWhole result ⊎ (result ≡ LIMIT_REACHED) ⊎ (result ≡ DEVICE_FAULT) }
+    ensures done { IsWhole result → Reports (F.names_at folders.now) (said_at dir.now passage options)
+        (W.contents out.old) result (W.contents out.new) }
+    ensures part { (out.new ≡ out.old) ⊎ ReportsPart (F.names_at folders.now)
+        (said_at dir.now passage options) (W.contents out.old) (W.contents out.new) }
+    ensures ran { ((result ≡ DEVICE_FAULT) × (out.new ≡ out.old))
+        ⊎ (options.dry ≡ false → RunsSaid (F.names_at folders.now) (said_at dir.now passage options)
         (W.contents out.old) (E.contents err.old) result (W.contents out.new)
         (E.contents err.new)) }
 {
-    let dir = said.dir.as_str();
-    let Ok(path) = folder_of(alloc, dir, said.new) else {
+    let Ok(path) = folder_of(alloc, dir, passage.new) else {
         return report_no_memory("rc", err);
     };
-    let previous = match previous_names(folders, alloc, dir, said.previous) {
+    let previous = match previous_names(folders, alloc, dir, passage.before) {
         Ok(previous) => previous,
         Err(error) => return report_unlisted(dir, &error, err),
     };
-    let options = said.options;
     match folders.names(alloc, path.as_str()) {
         Ok(names) => run_children(
             rt,

@@ -1,7 +1,7 @@
 //! The command line of rc, with real children.
 
 use program_version::{KIT, VERSION};
-use rc_command::run_words;
+use rc_command::{SystemFiles, run_words};
 use std::alloc::Global;
 use std::fs;
 use std::fs::File;
@@ -83,7 +83,15 @@ where
 {
     let mut out: Vec<u8> = Vec::new(alloc);
     let mut err: Vec<u8> = Vec::new(alloc);
-    let status = run_words(rt, rt, alloc, words, &mut out, &mut err);
+    let status = run_words(
+        rt,
+        rt,
+        &mut SystemFiles::new(rt),
+        alloc,
+        words,
+        &mut out,
+        &mut err,
+    );
     assert!(rt;
         status == row.1
             && out.as_slice() == row.2.as_bytes()
@@ -121,13 +129,15 @@ fn command_lines_are_run(rt: HostRuntime) -> Result<(), Fail> {
 
 const USAGE_REPORT: &str =
     "usage: rc [-n] [-v] [--strict] [--direct] [--as-sysv] [--timeout SEC] DIR PREV NEW\
+\n       rc [OPTION..] --level-file F DIR NEW\
 \n       rc --version\
-\n  -n             print what would be run, and run nothing\
-\n  -v             tell of each start\
-\n  --strict       status 2 where a script fails\
-\n  --direct       execute each script by its own first line, not by sh\
-\n  --as-sysv      run what sysv-rc runs, and as it does; --direct is meant too\
-\n  --timeout SEC  send TERM to a script that runs longer than SEC seconds, 1 to 86400, and KILL 5 seconds later\
+\n  -n              print what would be run, and run nothing\
+\n  -v              tell of each start\
+\n  --strict        status 2 where a script fails\
+\n  --direct        execute each script by its own first line, not by sh\
+\n  --as-sysv       run what sysv-rc runs, and as it does; --direct is meant too\
+\n  --timeout SEC   send TERM to a script that runs longer than SEC seconds, 1 to 86400, and KILL 5 seconds later\
+\n  --level-file F  PREV is what the file F has, N where there is none; F has NEW behind the run\
 \n  DIR   the folder that holds those of the runlevels, as rc3.d; of bytes of A-Z a-z 0-9 . _ - / alone\
 \n  PREV  the runlevel before, 0 to 9 or S, or N where there was none\
 \n  NEW   the runlevel that is entered, 0 to 9 or S\n";
@@ -178,6 +188,15 @@ const REFUSED: &[(&[&str], &str)] = &[
         &["--timeout=5s", "t", "2", "3"],
         "rc: --timeout 5s: not 1 to 86400 seconds\n",
     ),
+    (
+        &["--level-file", "f", "t", "2", "3"],
+        "rc: 3: a word too much: with --level-file PREV is left out\n",
+    ),
+    (&["--level-file", "f", "t"], "rc: a word is missing\n"),
+    (
+        &["--level-file", "f", "t", "N"],
+        "rc: N: NEW is a runlevel, 0 to 9 or S\n",
+    ),
     (&["--help"], ""),
     (&["-h"], ""),
 ];
@@ -188,7 +207,15 @@ where
 {
     let mut out: Vec<u8> = Vec::new(alloc);
     let mut err: Vec<u8> = Vec::new(alloc);
-    let status = run_words(rt, rt, alloc, words, &mut out, &mut err);
+    let status = run_words(
+        rt,
+        rt,
+        &mut SystemFiles::new(rt),
+        alloc,
+        words,
+        &mut out,
+        &mut err,
+    );
     assert!(rt; status == 1 && out.is_empty() && err.as_slice() == report.as_bytes());
 }
 
@@ -231,7 +258,15 @@ where
     let (room, status, report) = *row;
     let mut out = Slow::new(alloc, room, true, false);
     let mut err: Vec<u8> = Vec::new(alloc);
-    let ended = run_words(rt, rt, alloc, words, &mut out, &mut err);
+    let ended = run_words(
+        rt,
+        rt,
+        &mut SystemFiles::new(rt),
+        alloc,
+        words,
+        &mut out,
+        &mut err,
+    );
     assert!(rt;
         ended == status
             && err.as_slice() == report.as_bytes()

@@ -3,15 +3,15 @@ use Rattle.clap.specs.Words.{is_simple, is_simple_and_free}
 use Rattle.clap.proofs.OnLiterals.{clap_on_literals}
 use Rattle.command_words.specs.CommandLines.{letter_rule, program_app, switch_rule, value_rule, word_rule}
 use Rattle.command_words.proofs.KnownLines.{known_faults, known_rows}
-use Rattle.rc_command.specs.CommandLine.{command_line}
+use Rattle.rc_command.specs.CommandLine.{command_line, last_rule}
 use Rattle.rc_command.proofs.command.parsed.Goals as goal
 
 is_simple_line : is_simple command_line ≡ true
-unfolding program_app letter_rule switch_rule value_rule word_rule command_line
+unfolding program_app letter_rule switch_rule value_rule word_rule last_rule command_line
 is_simple_line = refl
 
 is_free_line : is_simple_and_free command_line ≡ true
-unfolding program_app letter_rule switch_rule value_rule word_rule command_line clap_on_literals
+unfolding program_app letter_rule switch_rule value_rule word_rule last_rule command_line clap_on_literals
 is_free_line = refl
 
 pub returns-clause-rows : goal.returns-clause-rows

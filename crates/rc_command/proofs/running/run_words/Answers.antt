@@ -3,17 +3,17 @@ use Rattle.rc_command.proofs.ReadWords.{refused_by}
 use Rattle.rc_command.proofs.running.run_words.Goals as goal
 
 pub returns-in-Ok-clause-done : goal.returns-in-Ok-clause-done
-returns-in-Ok-clause-done g c = λ _ is. let reads = rw c.as_slice-2.ensures.value at c.in-Ok.ensures.ok in (_, reads, c.run.ensures.done is)
+returns-in-Ok-clause-done g c = λ _ is. let reads = rw c.as_slice-2.ensures.value at c.in-Ok.ensures.ok in (_, reads, c.run_asked.ensures.done is)
 
 pub returns-in-Ok-clause-part : goal.returns-in-Ok-clause-part
 returns-in-Ok-clause-part g c = λ _.
     let reads = rw c.as_slice-2.ensures.value at c.in-Ok.ensures.ok in
-    elim c.run.ensures.part [ inl same ↦ inl same | inr part ↦ inr (_, reads, part) ]
+    elim c.run_asked.ensures.part [ inl same ↦ inl same | inr part ↦ inr (_, reads, part) ]
 
 pub returns-in-Ok-clause-ran : goal.returns-in-Ok-clause-ran
 returns-in-Ok-clause-ran g c = λ _.
     let reads = rw c.as_slice-2.ensures.value at c.in-Ok.ensures.ok in
-    elim c.run.ensures.ran [ inl none ↦ inl (inr none.0, none.1) | inr ran ↦ inr (_, reads, ran) ]
+    elim c.run_asked.ensures.ran [ inl none ↦ inl (inr none.0, none.1) | inr ran ↦ inr (_, reads, ran) ]
 
 pub returns-in-Ok-clause-said : goal.returns-in-Ok-clause-said
 returns-in-Ok-clause-said g c = λ _ _. let reads = rw c.as_slice-2.ensures.value at c.in-Ok.ensures.ok in subst IsSome (sym reads) refl
@@ -22,3 +22,6 @@ pub returns-clause-refused : goal.returns-clause-refused
 returns-clause-refused g c = λ is.
     let usage = rw c.as_slice-2.ensures.value at c.in-Err.ensures.usage in
     refused_by c.in-Err.fault c.report_word_fault.result usage c.report_word_fault.ensures.memory is
+
+pub returns-in-Ok-clause-kept : goal.returns-in-Ok-clause-kept
+returns-in-Ok-clause-kept g c = λ _ is. let reads = rw c.as_slice-2.ensures.value at c.in-Ok.ensures.ok in (_, reads, c.run_asked.ensures.kept is)

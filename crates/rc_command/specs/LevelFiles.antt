@@ -1,0 +1,52 @@
+-- The files of runlevels, as far as they are known.
+use Rattle.std.specs.Prelude.{◌≡◌, ℕ, Bool, true, false, IfSome, if◌then◌else◌, ◌==◌, List, [], ◌∷◌, Option, Some, None, option_map}
+use Rattle.std.specs.Str.{bytes_eq}
+use Rattle.init_words.specs.declared.levels.Level.{Level}
+use Rattle.init_words.specs.Levels.{level_code}
+use Rattle.rc_command.specs.CommandLine.{level_of}
+
+-- what stands at each path, where it is known: a text, or none where there is no file
+abbrev pub KnownFiles : Type 0
+KnownFiles = List ℕ → Option (Option (List ℕ))
+
+-- each file is as it was
+abbrev pub AreSame : KnownFiles → KnownFiles → Type 0
+AreSame old new = (at : List ℕ) → new at ≡ old at
+
+-- the text stands at the path, and each other file is as it was
+abbrev pub HasText : List ℕ → List ℕ → KnownFiles → KnownFiles → Type 0
+HasText path text old new =
+    (at : List ℕ) → new at ≡ (if bytes_eq at path then option_map (λ known. Some text) (old at) else old at)
+
+-- the text of a runlevel's file: its character and a newline
+abbrev pub level_text : Level → List ℕ
+level_text level = level_code level ∷ 10 ∷ []
+
+-- the runlevel of a file's text
+abbrev pub level_in : List ℕ → Option Level
+level_in (code ∷ end ∷ []) = if end == 10 then level_of (code ∷ []) else None
+level_in _ = None
+
+-- the level before by what stands in its file: none where there is no file
+abbrev pub before_in : Option (List ℕ) → Option (Option Level)
+before_in None = Some None
+before_in (Some text) = option_map Some (level_in text)
+
+-- the level before is this one, or that of the file, where that is known
+abbrev pub IsBeforeIn : KnownFiles → Option Level → Option (List ℕ) → Option Level → Type 0
+IsBeforeIn file_at said None before = before ≡ said
+IsBeforeIn file_at said (Some path) before = IfSome (file_at path) (λ known. before_in known ≡ Some before)
+
+-- the level stands in the file, where one is named and it is no dry run; else each file is as it was
+abbrev pub KeepsIn : Bool → Option (List ℕ) → Level → KnownFiles → KnownFiles → Type 0
+KeepsIn true file new before after = AreSame before after
+KeepsIn false None new before after = AreSame before after
+KeepsIn false (Some path) new before after = HasText path (level_text new) before after
+
+-- a file that is kept, or its want
+pub record KeptFile : Type 0 where
+  pub path : List ℕ
+  pub text : Option (List ℕ)
+
+abbrev pub kept_at : KeptFile → KnownFiles
+kept_at kept at = if bytes_eq kept.path at then Some kept.text else None
