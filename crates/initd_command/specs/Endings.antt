@@ -9,24 +9,22 @@ use Rattle.simulator.specs.Faults.{fault_text}
 use Rattle.simulated_system.specs.declared.objections.Objection.{Objection}
 use Rattle.simulated_system.specs.Objections.{objection_text}
 use Rattle.initd_command.specs.Lines.{line_at, line_told}
-use Rattle.initd_command.specs.declared.check.TheConstants.{UNWRITTEN, WITHIN}
+use Rattle.initd_command.specs.declared.check.TheConstants.{UNWRITTEN}
 use Rattle.initd_command.specs.declared.reports.TheConstants.{FLAWED, NO_MEMORY, TOO_MANY}
 use Rattle.initd_command.specs.declared.command.TheConstants.{UNVERSIONED, USAGE}
 use Rattle.initd_command.specs.declared.run.TheConstants.{UNLED, UNTOLD}
 use Rattle.initd_command.specs.Turned.{End, ReportsEnd, ReportsText, end_status}
 use Rattle.command_words.specs.Faults.{usage_report}
 
--- of a trace that was judged: the line at which its last happening isn't finished, if at any, how many are, and whether
--- it begins within a run
+-- of a trace that was judged: the line at which its last happening isn't finished, if at any, and how many are
 pub record Judged : Type 0 where
   pub left : Option ℕ
   pub count : ℕ
-  pub within : Bool
 
 -- done; the words are no command line, and why, or memory ran out; the file of a path was not read, and why; the inittab
 -- has too many files, or faults that these lines tell, or no entry of this id; the run over this script ended before its
 -- end; the writer could not be flushed; a trace is lawful, or unlawful, of which this is told, so far as it was judged; its
--- line of this number is none; the verdict could not
+-- line of this number is none; the trace of this path begins within a run; the verdict could not
 -- be written; the channel of a run over the operating system is in use, by whom where that is known, or two of its files
 -- are one, or the channel was not locked, and why; its turns ended so, where nothing names its level or something does;
 -- the file of its trace was not created, and why; the faults of its inittab could not be written; the version could not be
@@ -44,6 +42,7 @@ pub data Ending : Type 0 where
   lawful : Judged → Ending
   unlawful : List ℕ → Judged → Ending
   torn : ℕ → Ending
+  within : List ℕ → Ending
   unwritten : Ending
   busy : List ℕ → Option ℕ → Ending
   shared : List ℕ → List ℕ → Ending
@@ -73,6 +72,7 @@ status_of unflushed = DEVICE_FAULT
 status_of (lawful judged) = DONE
 status_of (unlawful message judged) = UNLAWFUL
 status_of (torn line) = REFUSED
+status_of (within path) = REFUSED
 status_of unwritten = DEVICE_FAULT
 status_of (busy path holder) = DEVICE_FAULT
 status_of (shared one other) = REFUSED
@@ -102,6 +102,10 @@ cannot_message verb path why =
 
 abbrev pub torn_message : ℕ → List ℕ
 torn_message line = codes "initd: trace line " ++ decimal line ++ codes " is not a line\n"
+
+abbrev pub within_message : List ℕ → List ℕ
+within_message path =
+    codes "initd: " ++ path ++ codes " begins within a run: judge it behind the piece before it\n"
 
 abbrev pub unfinished_message : ℕ → List ℕ
 unfinished_message line =
@@ -142,17 +146,10 @@ ReportsLeft (Some line) old new = ReportsText (unfinished_message line) old new
 abbrev pub count_message : ℕ → List ℕ
 count_message count = codes "initd: " ++ decimal count ++ codes " happenings\n"
 
--- what is told of a trace that begins within a run
-abbrev pub ReportsWithin : Bool → Option (List ℕ) → Option (List ℕ) → Type 0
-ReportsWithin false old new = Keeps old new
-ReportsWithin true old new = AppendsPrefix old new WITHIN.now
-
--- what is told of a trace that was judged: how many happenings it has, what isn't finished, and that it begins within a
--- run
+-- what is told of a trace that was judged: how many happenings it has, and what isn't finished
 abbrev pub ReportsJudged : Judged → Option (List ℕ) → Option (List ℕ) → Type 0
 ReportsJudged judged old new =
-    (mid : Option (List ℕ)) × ReportsText (count_message judged.count) old mid
-    × (behind : Option (List ℕ)) × ReportsLeft judged.left mid behind × ReportsWithin judged.within behind new
+    (mid : Option (List ℕ)) × ReportsText (count_message judged.count) old mid × ReportsLeft judged.left mid new
 
 -- what is reported of an ending
 abbrev pub Reports : Ending → Option (List ℕ) → Option (List ℕ) → Type 0
@@ -169,6 +166,7 @@ Reports (lawful judged) old new = ReportsJudged judged old new
 Reports (unlawful message judged) old new =
     (mid : Option (List ℕ)) × AppendsPrefix old mid message × ReportsJudged judged mid new
 Reports (torn line) old new = ReportsText (torn_message line) old new
+Reports (within path) old new = ReportsText (within_message path) old new
 Reports unwritten old new = AppendsPrefix old new UNWRITTEN.now
 Reports (busy path holder) old new = ReportsText (busy_message path holder) old new
 Reports (shared one other) old new = ReportsText (shared_message one other) old new

@@ -1,5 +1,5 @@
 -- How a trace is judged: the verdict that is written, and what is told of a breach.
-use Rattle.std.specs.Prelude.{◌≡◌, ◌==◌, not, ℕ, Bool, false, List, [], ◌∷◌, ◌++◌, codes, decimal, Option, Some, None}
+use Rattle.std.specs.Prelude.{◌≡◌, ◌==◌, not, ℕ, Bool, true, false, List, [], ◌∷◌, ◌++◌, codes, decimal, Option, Some, None}
 use Rattle.std.specs.Io.KnownBytes.{Appends, Keeps}
 use Rattle.program_io.specs.Writing.{AppendsPrefix}
 use Rattle.path_texts.specs.Known.{IsTextAt, KnownTexts}
@@ -9,7 +9,7 @@ use Rattle.trace_verdict.specs.declared.findings.Finding.TheVariants.{Lawful, Br
 use Rattle.trace_verdict.specs.Answers.{Named, Answers}
 use Rattle.trace_verdict.specs.Judges.{HasTaken, TextState}
 use Rattle.initd_command.specs.Lines.{front_line}
-use Rattle.initd_command.specs.Endings.{Ending, Judged, no_memory, unread, lawful, unlawful, torn, unwritten}
+use Rattle.initd_command.specs.Endings.{Ending, Judged, no_memory, unread, lawful, unlawful, torn, within, unwritten}
 
 -- the verdicts
 abbrev pub lawful_text : List ℕ
@@ -68,13 +68,28 @@ EndsFound Lawful judged ending old new = EndsLawful judged ending old new
 EndsFound (Breach breach) judged ending old new = EndsBreach breach judged ending old new
 EndsFound (Torn number) judged ending old new = EndsTorn number ending old new
 
--- how a text ends: by the answer on it
-abbrev pub EndsTrace : List ℕ → Ending → Option (List ℕ) → Option (List ℕ) → Type 0
-EndsTrace text ending old new = (finding : Finding Named) × (left : Option ℕ) × (count : ℕ)
+-- how a text ends that begins within a run: it has no verdict
+abbrev pub EndsUnjudged : List ℕ → Ending → Option (List ℕ) → Option (List ℕ) → Type 0
+EndsUnjudged path (within told) old new = (told ≡ path) × Keeps old new
+EndsUnjudged path _ old new = ⊥
+
+abbrev pub EndsWithin : List ℕ → Finding Named → Ending → Option (List ℕ) → Option (List ℕ) → Type 0
+EndsWithin path (Torn number) ending old new = EndsTorn number ending old new
+EndsWithin path _ ending old new = EndsUnjudged path ending old new
+
+-- how a text ends of which this is found, and which begins within a run or not
+abbrev pub EndsTold : Bool → List ℕ → Finding Named → Judged → Ending → Option (List ℕ) → Option (List ℕ) → Type 0
+EndsTold true path finding judged ending old new = EndsWithin path finding ending old new
+EndsTold false path finding judged ending old new = EndsFound finding judged ending old new
+
+-- how the text of a path ends: by the answer on it
+abbrev pub EndsTrace : List ℕ → List ℕ → Ending → Option (List ℕ) → Option (List ℕ) → Type 0
+EndsTrace path text ending old new = (finding : Finding Named) × (left : Option ℕ) × (count : ℕ)
     × Answers text finding left count
-    × EndsFound finding (record { left = left; count = count; within = is_within (first_byte text) }) ending old new
+    × EndsTold (is_within (first_byte text)) path finding (record { left = left; count = count }) ending old new
 
 -- how the text at a path ends: it is not read, or it ends so
 abbrev pub EndsCheck : KnownTexts → List ℕ → Ending → Option (List ℕ) → Option (List ℕ) → Type 0
 EndsCheck text_at path (unread told why) old new = (told ≡ path) × Keeps old new
-EndsCheck text_at path ending old new = (text : List ℕ) × IsTextAt text_at path text × EndsTrace text ending old new
+EndsCheck text_at path ending old new =
+    (text : List ℕ) × IsTextAt text_at path text × EndsTrace path text ending old new

@@ -1,11 +1,9 @@
 //! `initd check`: a trace file, judged.
 
-ghost use Rattle.std.specs.Prelude.{◌≡◌, ◌++◌, ℕ, List, Some, [], string_bytes, codes, IfOk};
-ghost use Rattle.std.specs.Io.KnownBytes.{Appends};
-ghost use Rattle.program_io.specs.Writing.{AppendsPrefix};
-ghost use Rattle.initd_command.specs.Endings.{Ending, Reports, ReportsJudged, ReportsLeft, ReportsWithin, count_message, status_of, torn_message, unfinished_message};
+ghost use Rattle.std.specs.Prelude.{◌≡◌, ◌++◌, ℕ, List, Some, [], string_bytes, IfOk};
+ghost use Rattle.initd_command.specs.Endings.{Ending, Reports, ReportsJudged, ReportsLeft, count_message, status_of, torn_message, unfinished_message, within_message};
 ghost use Rattle.initd_command.specs.Turned.{ReportsText};
-ghost use Rattle.initd_command.specs.Verdicts.{EndsBreach, EndsCheck, EndsFound, EndsLawful, IsJudge, breach_message, first_byte, is_within, message_of, unlawful_text, verdict_text};
+ghost use Rattle.initd_command.specs.Verdicts.{EndsBreach, EndsCheck, EndsFound, EndsLawful, EndsTold, EndsWithin, IsJudge, breach_message, first_byte, is_within, message_of, unlawful_text, verdict_text};
 
 use crate::lines::front_line;
 use crate::reports::{report, report_bytes, report_cannot, report_made, report_memory, tell};
@@ -93,20 +91,81 @@ fn judge_text<T: Texts, W: Write, E: Write>(
     match texts.read_pieces(path, file) {
         Ok(()) => {
             let (finding, left, count) = file.judge.answer();
-            tell_finding(alloc, finding, left, count, file.first, out, err)
+            tell_text(
+                alloc,
+                path,
+                is_within(file.first),
+                finding,
+                left,
+                count,
+                out,
+                err,
+            )
         }
         Err(error) => report_cannot(alloc, "read", path, &error, err),
     }
 }
 
-/// Tells what is found of a text with this first byte, how many happenings it has, and the line at which its last one
-/// isn't finished.
+/// A text with this first byte begins within a run.
+fn is_within(first: Option<u8>) -> bool
+    ensures { result ≡ is_within first }
+{
+    match first {
+        Some(byte) => byte != b'u',
+        None => false,
+    }
+}
+
+/// Tells what is found of the text of a path, or that it begins within a run.
+fn tell_text<W: Write, E: Write>(
+    alloc: Global,
+    path: &str,
+    within: bool,
+    finding: &Finding,
+    left: Option<u64>,
+    count: u64,
+    out: &mut W,
+    err: &mut E,
+) -> u8
+    ensures { (ending : Ending) × (result ≡ status_of ending)
+        × EndsTold within path.now finding.now (record {
+          left = left;
+          count = count;
+        }) ending (W.contents out.old) (W.contents out.new)
+        × Reports ending (E.contents err.old) (E.contents err.new) }
+{
+    if within {
+        tell_within(alloc, path, finding, out, err)
+    } else {
+        tell_finding(alloc, finding, left, count, out, err)
+    }
+}
+
+/// Tells that the text of a path begins within a run, or which of its lines is none.
+fn tell_within<W: Write, E: Write>(
+    alloc: Global,
+    path: &str,
+    finding: &Finding,
+    out: &mut W,
+    err: &mut E,
+) -> u8
+    ensures { (ending : Ending) × (result ≡ status_of ending)
+        × EndsWithin path.now finding.now ending (W.contents out.old) (W.contents out.new)
+        × Reports ending (E.contents err.old) (E.contents err.new) }
+{
+    match finding {
+        Finding::Lawful => report_within(alloc, path, err),
+        Finding::Breach(_) => report_within(alloc, path, err),
+        Finding::Torn(number) => report_torn(alloc, *number, err),
+    }
+}
+
+/// Tells what is found of a text, how many happenings it has, and the line at which its last one isn't finished.
 fn tell_finding<W: Write, E: Write>(
     alloc: Global,
     finding: &Finding,
     left: Option<u64>,
     count: u64,
-    first: Option<u8>,
     out: &mut W,
     err: &mut E,
 ) -> u8
@@ -114,20 +173,15 @@ fn tell_finding<W: Write, E: Write>(
         × EndsFound finding.now (record {
           left = left;
           count = count;
-          within = is_within first;
         }) ending (W.contents out.old) (W.contents out.new)
         × Reports ending (E.contents err.old) (E.contents err.new) }
 {
     match finding {
-        Finding::Lawful => tell_lawful(alloc, left, count, first, out, err),
-        Finding::Breach(breach) => tell_breach(alloc, breach, left, count, first, out, err),
+        Finding::Lawful => tell_lawful(alloc, left, count, out, err),
+        Finding::Breach(breach) => tell_breach(alloc, breach, left, count, out, err),
         Finding::Torn(number) => report_torn(alloc, *number, err),
     }
 }
-
-/// What is reported of a trace that begins within a run.
-const WITHIN: &str =
-    "initd: the trace begins within a run, its first line is no `use`: judge it behind the piece before it\n";
 
 /// What is reported where the verdict could not be written.
 const UNWRITTEN: &str = "initd: the verdict could not be written\n";
@@ -137,7 +191,6 @@ fn tell_lawful<W: Write, E: Write>(
     alloc: Global,
     left: Option<u64>,
     count: u64,
-    first: Option<u8>,
     out: &mut W,
     err: &mut E,
 ) -> u8
@@ -145,7 +198,6 @@ fn tell_lawful<W: Write, E: Write>(
         × EndsLawful (record {
           left = left;
           count = count;
-          within = is_within first;
         }) ending (W.contents out.old) (W.contents out.new)
         × Reports ending (E.contents err.old) (E.contents err.new) }
 {
@@ -153,7 +205,7 @@ fn tell_lawful<W: Write, E: Write>(
         report(UNWRITTEN, err);
         return DEVICE_FAULT;
     }
-    report_judged(alloc, left, count, first, err);
+    report_judged(alloc, left, count, err);
     DONE
 }
 
@@ -163,7 +215,6 @@ fn tell_breach<W: Write, E: Write>(
     breach: &Breach,
     left: Option<u64>,
     count: u64,
-    first: Option<u8>,
     out: &mut W,
     err: &mut E,
 ) -> u8
@@ -171,7 +222,6 @@ fn tell_breach<W: Write, E: Write>(
         × EndsBreach breach.now (record {
           left = left;
           count = count;
-          within = is_within first;
         }) ending (W.contents out.old) (W.contents out.new)
         × Reports ending (E.contents err.old) (E.contents err.new) }
 {
@@ -186,7 +236,7 @@ fn tell_breach<W: Write, E: Write>(
         return DEVICE_FAULT;
     }
     report_bytes(&message, err);
-    report_judged(alloc, left, count, first, err);
+    report_judged(alloc, left, count, err);
     UNLAWFUL
 }
 
@@ -225,35 +275,30 @@ fn message_of(alloc: Global, number: u64, line: &[u8], why: &[u8]) -> Result<Vec
     Ok(text)
 }
 
-/// Tells how many happenings of a trace were judged, the line at which the last one isn't finished, and that it begins
-/// within a run.
-fn report_judged<E: Write>(
-    alloc: Global,
-    left: Option<u64>,
-    count: u64,
-    first: Option<u8>,
-    err: &mut E,
-)
+/// Tells how many happenings of a trace were judged, and the line at which the last one isn't finished.
+fn report_judged<E: Write>(alloc: Global, left: Option<u64>, count: u64, err: &mut E)
     ensures { ReportsJudged (record {
       left = left;
       count = count;
-      within = is_within first;
     }) (E.contents err.old) (E.contents err.new) }
 {
     report_made(count_text(alloc, count), err);
     report_left(alloc, left, err);
-    report_within(first, err);
 }
 
-/// Tells that a trace with this first byte begins within a run, where it does.
-fn report_within<E: Write>(first: Option<u8>, err: &mut E)
-    ensures { ReportsWithin (is_within first) (E.contents err.old) (E.contents err.new) }
+/// Reports that the trace of a path begins within a run, and gives the exit status.
+fn report_within<E: Write>(alloc: Global, path: &str, err: &mut E) -> u8
+    ensures status { result ≡ REFUSED }
+    ensures reported { ReportsText (within_message path.now) (E.contents err.old) (E.contents err.new) }
 {
-    if let Some(byte) = first
-        && byte != b'u'
-    {
-        report(WITHIN, err);
-    }
+    report_made(within_text(alloc, path), err);
+    REFUSED
+}
+
+fn within_text(alloc: Global, path: &str) -> Result<String, AllocError>
+    ensures { IfOk result (λ text. string_bytes text ≡ within_message path.now) }
+{
+    format!(in alloc; "initd: {path} begins within a run: judge it behind the piece before it\n")
 }
 
 fn count_text(alloc: Global, count: u64) -> Result<String, AllocError>

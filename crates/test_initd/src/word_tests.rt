@@ -91,24 +91,29 @@ const OVER_KEPT: &[(&[u8], &[u8], &str, u8, (&str, &str))] = &[
     ),
     (
         b"",
-        b"settle 3\n",
+        b"use 0\nsettle 3\n",
         "check said",
         2,
         (
-            "unlawful: happening 0, law 5\n",
-            "line 1: settle 3: the level is not settled\ninitd: 1 happenings\n\
-             initd: the trace begins within a run, its first line is no `use`: judge it behind the piece before it\n",
+            "unlawful: happening 1, law 5\n",
+            "line 2: settle 3: the level is not settled\ninitd: 2 happenings\n",
         ),
     ),
     (
         b"",
-        b"nudge\nnud",
+        b"settle 3\n",
+        "check said",
+        1,
+        ("", "initd: said begins within a run: judge it behind the piece before it\n"),
+    ),
+    (
+        b"",
+        b"use 0\nnud",
         "check said",
         0,
         (
             "lawful\n",
-            "initd: 1 happenings\ninitd: the happening at trace line 2 is not finished: judged up to the line before it\n\
-             initd: the trace begins within a run, its first line is no `use`: judge it behind the piece before it\n",
+            "initd: 1 happenings\ninitd: the happening at trace line 2 is not finished: judged up to the line before it\n",
         ),
     ),
     (

@@ -1,10 +1,10 @@
 use Rattle.std.proofs.Common.{refl, sym, subst}
 use Rattle.std.proofs.KnownBytes.{Keeps-refl}
 use Rattle.initd_command.specs.Endings.{Judged, torn}
-use Rattle.initd_command.specs.Verdicts.{EndsFound, is_within}
+use Rattle.initd_command.specs.Verdicts.{EndsFound}
 use Rattle.initd_command.proofs.check.tell_finding.Goals as goal
 
 pub returns-in-Torn : goal.returns-in-Torn
 returns-in-Torn g c =
-    let judged : Judged = record { left = c.args.left; count = c.args.count; within = is_within c.args.first } in
+    let judged : Judged = record { left = c.args.left; count = c.args.count } in
     (torn c.in-Torn.number, c.report_torn.ensures.status, subst (λ finding. EndsFound finding judged (torn c.in-Torn.number) (g.W.Write.contents c.args.out.now) (g.W.Write.contents c.args.out.now)) (sym c.in-Torn.is) (refl, Keeps-refl (g.W.Write.contents c.args.out.now)), c.report_torn.ensures.reported)

@@ -1,30 +1,36 @@
-use Rattle.std.proofs.Common.{◌≡◌, refl, sym, subst, rules, List, ℕ, Option, Some, None, map, string_bytes}
+use Rattle.std.proofs.Common.{◌≡◌, refl, sym, subst, rules, Bool, true, false, List, ℕ, Option, Some, None, map, string_bytes}
 use Rattle.std.proofs.KnownBytes.{Keeps-refl}
 use Rattle.path_texts.specs.Known.{KnownTexts}
 use Rattle.initd_options.specs.CommandLine.{Said, judges, read_of, simulation_of, simulates, runs, version}
-use Rattle.initd_command.specs.Endings.{Ending, Judged, busy, done, flawed, lawful, no_memory, shared, stopped, too_many, torn, turned, uncreated, unflushed, unlawful, unlisted, unlocked, unread, untold, unversioned, unwritten, usage}
+use Rattle.initd_command.specs.Endings.{Ending, Judged, busy, done, flawed, lawful, no_memory, shared, stopped, too_many, torn, turned, uncreated, unflushed, unlawful, unlisted, unlocked, unread, untold, unversioned, unwritten, usage, within}
 use Rattle.initd_options.specs.Options.{run_of}
 use Rattle.std.specs.Io.KnownBytes.{Keeps}
 use Rattle.trace_verdict.specs.declared.findings.Finding.{Finding}
 use Rattle.trace_verdict.specs.declared.findings.Finding.TheVariants.{Lawful, Breach, Torn}
 use Rattle.trace_verdict.specs.Answers.{Named}
-use Rattle.initd_command.specs.Verdicts.{EndsFound, first_byte, is_within}
+use Rattle.initd_command.specs.Verdicts.{EndsTold, first_byte, is_within}
 use Rattle.initd_command.specs.Ran.{AsksSaid}
 use Rattle.initd_command.specs.Runs.{EndsBy, EndsSaid}
 use Rattle.initd_command.proofs.Ran.{none_asked}
 use Rattle.initd_command.proofs.command.run_words.Goals as goal
 
 -- a verdict is no usage fault
-no_usage : (finding : Finding Named) (judged : Judged) (reason : List ℕ) (old new : Option (List ℕ)) → EndsFound finding judged (usage reason) old new → ⊥
-no_usage Lawful judged reason old new none = none
-no_usage (Breach breach) judged reason old new none = none
-no_usage (Torn number) judged reason old new none = none
+no_usage : (within : Bool) (path : List ℕ) (finding : Finding Named) (judged : Judged) (reason : List ℕ) (old new : Option (List ℕ)) → EndsTold within path finding judged (usage reason) old new → ⊥
+no_usage true path Lawful judged reason old new none = none
+no_usage true path (Breach breach) judged reason old new none = none
+no_usage true path (Torn number) judged reason old new none = none
+no_usage false path Lawful judged reason old new none = none
+no_usage false path (Breach breach) judged reason old new none = none
+no_usage false path (Torn number) judged reason old new none = none
 
 -- a finding that memory ran out leaves what was written
-no_room : (finding : Finding Named) (judged : Judged) (old new : Option (List ℕ)) → EndsFound finding judged no_memory old new → Keeps old new
-no_room Lawful judged old new none = absurd none
-no_room (Breach breach) judged old new kept = kept
-no_room (Torn number) judged old new none = absurd none
+no_room : (within : Bool) (path : List ℕ) (finding : Finding Named) (judged : Judged) (old new : Option (List ℕ)) → EndsTold within path finding judged no_memory old new → Keeps old new
+no_room true path Lawful judged old new none = absurd none
+no_room true path (Breach breach) judged old new none = absurd none
+no_room true path (Torn number) judged old new none = absurd none
+no_room false path Lawful judged old new none = absurd none
+no_room false path (Breach breach) judged old new kept = kept
+no_room false path (Torn number) judged old new none = absurd none
 
 -- an ending of what was read
 ends_by : (text_at : KnownTexts) (words : List (List ℕ)) (said : Said) → read_of words ≡ Some said → (ending : Ending) (old new : Option (List ℕ))
@@ -32,12 +38,12 @@ ends_by : (text_at : KnownTexts) (words : List (List ℕ)) (said : Said) → rea
 ends_by text_at words said is done old new ends = (said, is, ends)
 ends_by text_at words version is (usage reason) old new ends = absurd ends
 ends_by text_at words (simulates run) is (usage reason) old new ends = absurd ends.4
-ends_by text_at words (judges path) is (usage reason) old new ends = absurd (no_usage ends.2.0 (record { left = ends.2.1; count = ends.2.2; within = is_within (first_byte ends.0) }) reason old new ends.2.4)
+ends_by text_at words (judges path) is (usage reason) old new ends = absurd (no_usage (is_within (first_byte ends.0)) path ends.2.0 (record { left = ends.2.1; count = ends.2.2 }) reason old new ends.2.4)
 ends_by text_at words (runs service) is (usage reason) old new ends = let wrong = ends.2.2.1 in absurd (cc)
 ends_by text_at words version is no_memory old new ends = absurd ends
 ends_by text_at words (runs service) is no_memory old new ends = ends
 ends_by text_at words (simulates run) is no_memory old new ends = absurd ends.4
-ends_by text_at words (judges path) is no_memory old new ends = no_room ends.2.0 (record { left = ends.2.1; count = ends.2.2; within = is_within (first_byte ends.0) }) old new ends.2.4
+ends_by text_at words (judges path) is no_memory old new ends = no_room (is_within (first_byte ends.0)) path ends.2.0 (record { left = ends.2.1; count = ends.2.2 }) old new ends.2.4
 ends_by text_at words said is (unread path why) old new ends = (said, is, ends)
 ends_by text_at words said is too_many old new ends = (said, is, ends)
 ends_by text_at words said is (flawed told) old new ends = (said, is, ends)
@@ -47,6 +53,7 @@ ends_by text_at words said is unflushed old new ends = (said, is, ends)
 ends_by text_at words said is (lawful left) old new ends = (said, is, ends)
 ends_by text_at words said is (unlawful message left) old new ends = (said, is, ends)
 ends_by text_at words said is (torn line) old new ends = (said, is, ends)
+ends_by text_at words said is (within path) old new ends = (said, is, ends)
 ends_by text_at words said is unwritten old new ends = (said, is, ends)
 ends_by text_at words said is (busy path holder) old new ends = (said, is, ends)
 ends_by text_at words said is (shared one other) old new ends = (said, is, ends)
