@@ -1,69 +1,98 @@
 -- What a brief log has written and holds behind a happening that it took or refused, and at its end.
-use Rattle.std.proofs.Common.{◌≡◌, refl, sym, subst, List, [], ◌∷◌, ◌++◌, append-nil, reverse, Option, Some, None, Ok, Err, OnOk, OnErr}
+use Rattle.std.proofs.Common.{◌≡◌, refl, sym, ◌∙◌, ap, subst, Bool, true, false, List, [], ◌∷◌, ◌++◌, append-nil, reverse, Ok, Err, OnOk, OnErr, is_ok, is_err, ◌&&◌, arith}
+use Rattle.std.proofs.lemmas.List.{reverse-append}
 use Rattle.std.specs.declared.result.Result.{Result}
 use Rattle.init_trace.specs.Event.{Event}
 use Rattle.trace_brief.specs.declared.held.Held.{Held}
-use Rattle.trace_brief.specs.Holding.{Holds, next_held}
-use Rattle.trace_log.specs.Logs.{Stays}
+use Rattle.trace_brief.specs.Brief.{brief_of}
+use Rattle.trace_brief.specs.Holding.{Holds, held_events, next_held}
+use Rattle.trace_log.specs.Logs.{LogState}
 use Rattle.brief_log.specs.Adding.{Adds, AddsFront, held_first, newly_first}
-use Rattle.brief_log.specs.Keeping.{Writes, WritesPast}
-use Rattle.brief_log.proofs.Writing.{kept_next, kept_front, kept_part}
+use Rattle.brief_log.specs.Keeping.{EndsBrief, HandsOn, TookBy, Writes}
+use Rattle.brief_log.proofs.Writing.{kept_end, kept_front, kept_next, kept_part}
 
-writes_next : (happening : Event) (old new : Option (List Event)) (held next : Held) (trace : List Event) → Adds old new (newly_first happening held) → next ≡ next_held happening held → Writes old held trace → Writes new next (happening ∷ trace)
-writes_next happening old new held next trace adds is told =
-    let P : Option (List Event) → Type 0 = λ o. Adds o new (newly_first happening held) in
-    let Q : Held → Type 0 = λ h. Holds h (reverse (told.written ++ newly_first happening held)) (happening ∷ trace) in
-    record {
-      written = told.written ++ newly_first happening held;
-      is = subst P told.is adds;
-      holds = subst Q (sym is) (kept_next happening held told.written trace told.holds);
-    }
+-- a trace with a happening behind it, turned
+turned : (trace : List Event) (happening : Event) → reverse (trace ++ happening ∷ []) ≡ happening ∷ reverse trace
+turned trace happening = reverse-append trace (happening ∷ [])
 
-past_next : (happening : Event) (old new : Option (List Event)) (held : Held) (trace : List Event) → AddsFront old new (newly_first happening held) → Writes old held trace → WritesPast new (happening ∷ trace)
-past_next happening old new held trace adds told =
-    let P : Option (List Event) → Type 0 = λ o. AddsFront o new (newly_first happening held) in
-    parts (subst P told.is adds) where
-      parts : AddsFront (Some told.written) new (newly_first happening held) → WritesPast new (happening ∷ trace)
-      parts gained =
-          let whole = kept_front happening held told.written gained.0 trace told.holds gained.2 in
-          record { written = gained.0; is = gained.1; later = whole.0; past = whole.1 }
+module _ {T E : Type 0} (r : Result T E) (Ranged : Type 0) (happening : Event) (old new : LogState) (held next : Held) where
+  pub took_ok : old.failed ≡ false → new.failed ≡ is_err r → OnOk r (next ≡ next_held happening held) → OnOk r (Ranged → Adds old new (newly_first happening held))
+      → OnOk r (Ranged → (before : List Event) → TookBy old.failed old held before → TookBy new.failed new next (before ++ happening ∷ []))
+  took_ok works flag is adds = by r flag is adds
+    where
+      by : (r : Result T E) → new.failed ≡ is_err r → OnOk r (next ≡ next_held happening held) → OnOk r (Ranged → Adds old new (newly_first happening held))
+          → OnOk r (Ranged → (before : List Event) → TookBy old.failed old held before → TookBy new.failed new next (before ++ happening ∷ []))
+      by (Err e) flag is adds = tt
+      by (Ok x) flag is adds = λ ranged before took.
+          let writes : Writes old held before = subst (λ b. TookBy b old held before) works took in
+          subst (λ b. TookBy b new next (before ++ happening ∷ [])) (sym flag) (record {
+            written = writes.written ++ newly_first happening held;
+            is = adds ranged writes.written writes.is;
+            holds = subst (λ trace. Holds next (reverse (writes.written ++ newly_first happening held)) trace) (sym (turned before happening))
+                (subst (λ h. Holds h (reverse (writes.written ++ newly_first happening held)) (happening ∷ reverse before)) (sym is)
+                (kept_next happening held writes.written (reverse before) writes.holds));
+          })
 
-pub writes_ok : {T E : Type 0} (r : Result T E) (Ranged : Type 0) (happening : Event) (old new : Option (List Event)) (held next : Held) → OnOk r (next ≡ next_held happening held) → OnOk r (Ranged → Adds old new (newly_first happening held)) → OnOk r (Ranged → (trace : List Event) → Writes old held trace → Writes new next (happening ∷ trace))
-writes_ok (Err e) Ranged happening old new held next is adds = tt
-writes_ok (Ok x) Ranged happening old new held next is adds = λ ranged trace told. writes_next happening old new held next trace (adds ranged) is told
+  pub took_err : old.failed ≡ false → new.failed ≡ is_err r → OnErr r (Ranged → AddsFront old new (newly_first happening held))
+      → OnErr r (Ranged → (before : List Event) → TookBy old.failed old held before → TookBy new.failed new next before)
+  took_err works flag adds = by r flag adds
+    where
+      by : (r : Result T E) → new.failed ≡ is_err r → OnErr r (Ranged → AddsFront old new (newly_first happening held))
+          → OnErr r (Ranged → (before : List Event) → TookBy old.failed old held before → TookBy new.failed new next before)
+      by (Ok x) flag adds = tt
+      by (Err e) flag adds = λ ranged before took.
+          let writes : Writes old held before = subst (λ b. TookBy b old held before) works took in
+          let parts = adds ranged writes.written writes.is in
+          subst (λ b. TookBy b new next before) (sym flag) (
+            writes.written ++ parts.first,
+            record {
+              more = happening ∷ [];
+              most = omega arith;
+              rest = parts.rest ++ reverse (held_events (next_held happening held));
+              front = kept_front writes.written parts.first parts.rest _ (reverse before) parts.all happening held refl writes.holds ∙ ap (λ trace. reverse (brief_of trace)) (sym (turned before happening));
+            },
+            parts.gained,
+          )
 
-pub writes_err : {T E : Type 0} (r : Result T E) (Ranged : Type 0) (happening : Event) (old new : Option (List Event)) (held : Held) → OnErr r (Ranged → AddsFront old new (newly_first happening held)) → OnErr r (Ranged → (trace : List Event) → Writes old held trace → WritesPast new (happening ∷ trace))
-writes_err (Ok x) Ranged happening old new held adds = tt
-writes_err (Err e) Ranged happening old new held adds = λ ranged trace told. past_next happening old new held trace (adds ranged) told
+-- a log that took nothing yet
+pub took_none : (failed : Bool) (log : LogState) (held : Held) → Holds held [] [] → log.taken [] → TookBy failed log held []
+took_none false log held holds none = record { written = []; is = none; holds = holds }
+took_none true log held holds none = ([], record { more = []; most = omega arith; rest = reverse (brief_of []); front = refl }, none)
 
-end_past : (old new : Option (List Event)) (held : Held) (trace : List Event) → AddsFront old new (held_first held) → Writes old held trace → WritesPast new trace
-end_past old new held trace adds told =
-    let P : Option (List Event) → Type 0 = λ o. AddsFront o new (held_first held) in
-    parts (subst P told.is adds) where
-      parts : AddsFront (Some told.written) new (held_first held) → WritesPast new trace
-      parts gained =
-          let whole = kept_part held told.written gained.0 trace told.holds gained.2 in
-          record { written = gained.0; is = gained.1; later = whole.0; past = whole.1 }
+-- ---- at its end
 
--- a log that refused a part of what is held
-pub end_part : (old new : Option (List Event)) (held : Held) → AddsFront old new (held_first held) → (trace : List Event) → Writes old held trace → WritesPast new trace
-end_part old new held adds trace told = end_past old new held trace adds told
+-- one that has failed hands on nothing more
+pub hands_failed : (log : LogState) (held : Held) → log.failed ≡ true → (trace : List Event) → TookBy log.failed log held trace → HandsOn false log.taken trace
+hands_failed log held failed trace took = subst (λ b. TookBy b log held trace) failed took
 
--- one that took all of it, and did not end
-adds_front : (old new : Option (List Event)) (more : List Event) → Adds old new more → AddsFront old new more
-adds_front None new more adds = tt
-adds_front (Some before) new more adds = (before ++ more, adds, record { first = more; rest = []; all = append-nil more; gained = refl })
+module _ {T E : Type 0} (r : Result T E) (old new : LogState) (held : Held) where
+  pub hands_held : old.failed ≡ false → OnOk r (Adds old new (held_first held)) → OnErr r (AddsFront old new (held_first held))
+      → (handed : Bool) → handed ≡ is_ok r → (trace : List Event) → TookBy old.failed old held trace → HandsOn handed new.taken trace
+  hands_held works adds part handed is trace took = subst (λ b. HandsOn b new.taken trace) (sym is) (by r adds part)
+    where
+      writes : Writes old held trace
+      writes = subst (λ b. TookBy b old held trace) works took
 
-past_stays : (mid new : Option (List Event)) (trace : List Event) → WritesPast mid trace → Stays mid new → WritesPast new trace
-past_stays mid new trace past stays =
-    let P : Option (List Event) → Type 0 = λ o. Stays o new in
-    record { written = past.written; is = subst P past.is stays; later = past.later; past = past.past }
+      by : (r : Result T E) → OnOk r (Adds old new (held_first held)) → OnErr r (AddsFront old new (held_first held)) → HandsOn (is_ok r) new.taken trace
+      by (Ok x) adds part = subst new.taken (kept_end held writes.written (reverse trace) writes.holds) (adds writes.written writes.is)
+      by (Err e) adds part =
+          let parts = part writes.written writes.is in (
+            writes.written ++ parts.first,
+            record {
+              more = [];
+              most = omega arith;
+              rest = parts.rest;
+              front = kept_part writes.written parts.first parts.rest _ (reverse trace) parts.all held refl writes.holds ∙ ap (λ t. reverse (brief_of (reverse t))) (sym (append-nil trace));
+            },
+            parts.gained,
+          )
 
-pub end_stays : (old mid new : Option (List Event)) (held : Held) → Adds old mid (held_first held) → Stays mid new → (trace : List Event) → Writes old held trace → WritesPast new trace
-end_stays old mid new held adds stays trace told =
-    past_stays mid new trace (end_past old mid held trace (adds_front old mid (held_first held) adds) told) stays
-
--- whatever a call gives, what is so anyway is so where it gives an error
-pub always_on_err : {T E : Type 0} {P : Type 0} (r : Result T E) → P → OnErr r P
-always_on_err (Ok x) so = tt
-always_on_err (Err e) so = so
+-- and the log behind it ends
+pub ends : (has_ended : Bool → List Event → Type 0) (taken : List Event → Type 0) (handed whole : Bool) (trace : List Event)
+    → HandsOn handed taken trace → ((t : List Event) → taken t → has_ended whole t) → (ended : Bool) → ended ≡ (handed && whole) → EndsBrief has_ended ended trace
+ends has_ended taken handed whole trace hands ended_so ended is = subst (λ b. EndsBrief has_ended b trace) (sym is) (by handed whole hands ended_so)
+  where
+    by : (handed whole : Bool) → HandsOn handed taken trace → ((t : List Event) → taken t → has_ended whole t) → EndsBrief has_ended (handed && whole) trace
+    by true true hands so = so _ hands
+    by true false hands so = (_, record { more = []; most = omega arith; rest = []; front = append-nil _ ∙ ap (λ t. reverse (brief_of (reverse t))) (sym (append-nil trace)) }, (false, so _ hands))
+    by false whole (written, part, took) so = (written, part, (whole, so written took))

@@ -1,6 +1,6 @@
 -- What a brief log has written, behind each happening, and at its end.
 use Rattle.std.proofs.Common.{◌≡◌, refl, sym, ◌∙◌, ap, ap₂, subst, ℕ, Bool, true, false, List, ◌∷◌, ◌++◌, reverse, Option, Some, None, append_assoc}
-use Rattle.std.proofs.lemmas.List.{reverse-append}
+use Rattle.std.proofs.lemmas.List.{reverse-append, reverse-reverse}
 use Rattle.init_trace.specs.declared.happenings.Happening.TheVariants.{Clock, Nudge}
 use Rattle.init_trace.specs.Event.{Event}
 use Rattle.trace_brief.specs.declared.held.Held.{Held}
@@ -9,7 +9,7 @@ use Rattle.trace_brief.specs.declared.held.HeldLook.TheVariants.{Ordered, FoundN
 use Rattle.trace_brief.specs.Brief.{brief_of}
 use Rattle.trace_brief.specs.Holding.{look_events, round_events, reading_events, held_events, held_back, written_of, Holds, next_held, newly_by, newly_written}
 use Rattle.trace_brief.proofs.HoldLemmas.{holds_next}
-use Rattle.brief_log.specs.Adding.{Front, held_first, newly_first_by, newly_first}
+use Rattle.brief_log.specs.Adding.{held_first, newly_first_by, newly_first}
 
 turned : (reading : Option ℕ) (round : Bool) (look : Option HeldLook) → reverse (reading_events reading ++ round_events round ++ reverse (look_events look)) ≡ look_events look ++ round_events round ++ reading_events reading
 turned None false None = refl
@@ -45,17 +45,24 @@ kept_next happening held before trace holds =
     let P : List Event → Type 0 = λ written. Holds (next_held happening held) written (happening ∷ trace) in
     subst P (sym (written_turned happening held before)) (holds_next happening held (reverse before) trace holds)
 
-pub kept_end : (held : Held) (before trace : List Event) → Holds held (reverse before) trace → reverse (before ++ held_first held) ≡ brief_of trace
-kept_end held before trace holds = reverse-append before (held_first held) ∙ ap (λ xs. xs ++ reverse before) (held_turned held) ∙ holds.brief
+pub kept_end : (held : Held) (before trace : List Event) → Holds held (reverse before) trace → before ++ held_first held ≡ reverse (brief_of trace)
+kept_end held before trace holds =
+    sym (reverse-reverse (before ++ held_first held))
+    ∙ ap reverse (reverse-append before (held_first held) ∙ ap (λ xs. xs ++ reverse before) (held_turned held) ∙ holds.brief)
 
--- where a part alone was written, that is a past of the brief form
-pub kept_front : (happening : Event) (held : Held) (before now trace : List Event) → Holds held (reverse before) trace → Front before now (newly_first happening held) → (later : List Event) × (later ++ reverse now ≡ brief_of (happening ∷ trace))
-kept_front happening held before now trace holds front = (held_events (next_held happening held) ++ reverse front.rest, append_assoc (held_events (next_held happening held)) (reverse front.rest) (reverse now) ∙ ap (λ xs. held_events (next_held happening held) ++ xs) joined ∙ (kept_next happening held before trace holds).brief) where
-  joined : reverse front.rest ++ reverse now ≡ reverse (before ++ newly_first happening held)
-  joined = sym (reverse-append now front.rest) ∙ ap reverse (ap (λ xs. xs ++ front.rest) front.gained ∙ append_assoc before front.first front.rest ∙ ap (λ xs. before ++ xs) front.all)
+-- what was written in part is a front of the brief form, and the rest of that
+module _ (before first rest more trace : List Event) (all : first ++ rest ≡ more) where
+  joined : (before ++ first) ++ rest ≡ before ++ more
+  joined = append_assoc before first rest ∙ ap (λ xs. before ++ xs) all
 
--- the same at the end
-pub kept_part : (held : Held) (before now trace : List Event) → Holds held (reverse before) trace → Front before now (held_first held) → (later : List Event) × (later ++ reverse now ≡ brief_of trace)
-kept_part held before now trace holds front = (reverse front.rest, joined ∙ kept_end held before trace holds) where
-  joined : reverse front.rest ++ reverse now ≡ reverse (before ++ held_first held)
-  joined = sym (reverse-append now front.rest) ∙ ap reverse (ap (λ xs. xs ++ front.rest) front.gained ∙ append_assoc before front.first front.rest ∙ ap (λ xs. before ++ xs) front.all)
+  pub kept_part : (held : Held) → more ≡ held_first held → Holds held (reverse before) trace → (before ++ first) ++ rest ≡ reverse (brief_of trace)
+  kept_part held is holds = joined ∙ ap (λ xs. before ++ xs) is ∙ kept_end held before trace holds
+
+  pub kept_front : (happening : Event) (held : Held) → more ≡ newly_first happening held → Holds held (reverse before) trace
+      → (before ++ first) ++ (rest ++ reverse (held_events (next_held happening held))) ≡ reverse (brief_of (happening ∷ trace))
+  kept_front happening held is holds =
+      sym (append_assoc (before ++ first) rest (reverse (held_events (next_held happening held))))
+      ∙ ap (λ xs. xs ++ reverse (held_events (next_held happening held))) (joined ∙ ap (λ xs. before ++ xs) is)
+      ∙ ap (λ xs. xs ++ reverse (held_events (next_held happening held))) (sym (reverse-reverse (before ++ newly_first happening held)))
+      ∙ sym (reverse-append (held_events (next_held happening held)) (reverse (before ++ newly_first happening held)))
+      ∙ ap reverse (kept_next happening held before trace holds).brief

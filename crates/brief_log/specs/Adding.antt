@@ -1,23 +1,24 @@
 -- What a log gains by several happenings.
-use Rattle.std.specs.Prelude.{◌≡◌, List, ◌++◌, reverse, [], Option, Some, None, IfSome}
+use Rattle.std.specs.Prelude.{◌≡◌, List, ◌++◌, reverse, [], Option, Some, None}
 use Rattle.init_trace.specs.Event.{Event}
+use Rattle.trace_log.specs.Logs.{LogState}
 use Rattle.trace_brief.specs.declared.held.Held.{Held}
 use Rattle.trace_brief.specs.Holding.{look_events, round_events, reading_events, written_of, held_back}
 
--- what is told is told still, and has gained these at its end
-abbrev pub Adds : Option (List Event) → Option (List Event) → List Event → Type 0
-Adds old new more = IfSome old (λ before. new ≡ Some (before ++ more))
+-- what it took it has taken still, and these behind it
+abbrev pub Adds : LogState → LogState → List Event → Type 0
+Adds old new more = (before : List Event) → old.taken before → new.taken (before ++ more)
 
--- some of these, from the first on, were added
-pub record Front (before now more : List Event) : Type 0 where
+-- some of these, from the first on, were taken behind those
+pub record Front (taken : List Event → Type 0) (before more : List Event) : Type 0 where
   pub first : List Event
   pub rest : List Event
   pub all : first ++ rest ≡ more
-  pub gained : now ≡ before ++ first
+  pub gained : taken (before ++ first)
 
--- what is told is told still, and has gained some of these, from the first on
-abbrev pub AddsFront : Option (List Event) → Option (List Event) → List Event → Type 0
-AddsFront old new more = IfSome old (λ before. (now : List Event) × (new ≡ Some now) × Front before now more)
+-- what it took it has taken still, and some of these behind it, from the first on
+abbrev pub AddsFront : LogState → LogState → List Event → Type 0
+AddsFront old new more = (before : List Event) → old.taken before → Front new.taken before more
 
 -- the held happenings, the oldest first
 abbrev pub held_first : Held → List Event

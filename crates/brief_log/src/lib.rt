@@ -2,23 +2,21 @@
 //! to another log.
 #![tactic(auto)]
 
-ghost use Rattle.std.specs.Prelude.{◌≡◌, ◌++◌, ◌∷◌, [], List, true, false, is_err, reverse, Some, OnOk, OnErr};
+ghost use Rattle.std.specs.Prelude.{◌≡◌, ◌++◌, ◌∷◌, [], List, true, false, is_err, reverse, OnOk, OnErr};
 ghost use Rattle.init_words.specs.declared.orders.Ask.TheVariants.{Look};
 ghost use Rattle.init_trace.specs.declared.happenings.Happening.TheVariants.{Asked, Still};
 ghost use Rattle.init_trace.specs.Event.{Event};
 ghost use Rattle.init_trace.specs.Range.{is_in_range, is_short};
-ghost use Rattle.trace_log.specs.Logs.{LogState};
-ghost use Rattle.trace_brief.specs.Brief.{brief_of};
 ghost use Rattle.trace_brief.specs.Holding.{look_events, round_events, reading_events, written_of, next_held};
 ghost use Rattle.brief_log.specs.Adding.{Adds, AddsFront, held_first, newly_first};
-ghost use Rattle.brief_log.specs.Keeping.{TakesTrace, WritesPast, Grows};
+ghost use Rattle.brief_log.specs.Keeping.{HandsOn, TookBy, brief_state};
 
 use init_trace::{Happening, HappeningIn, law_of_ranges};
 use init_words::{Ask, Id};
 use std::alloc::{Allocator, Global};
 use std::marker::Model;
 use trace_brief::{Held, HeldLook};
-use trace_log::{Log, LogFault};
+use trace_log::{EndedLog, Log, LogFault};
 
 /// A log of a brief trace, in front of another log. It holds back at most four happenings: a reading of the clock, a
 /// round, the order of a look, and that the look found nothing. It takes no memory.
@@ -43,9 +41,9 @@ fn hand<L: Log, B: Allocator>(log: &mut L, happening: &HappeningIn<B>) -> Result
     requires { (L.state log.old).failed ≡ false }
     ensures flag { (L.state log.new).failed ≡ is_err result }
     ensures ok { OnOk result (is_short happening.now ≡ true
-        → Adds (L.state log.old).taken (L.state log.new).taken (happening.now ∷ [])) }
+        → Adds (L.state log.old) (L.state log.new) (happening.now ∷ [])) }
     ensures err { OnErr result (is_short happening.now ≡ true
-        → Adds (L.state log.old).taken (L.state log.new).taken []) }
+        → Adds (L.state log.old) (L.state log.new) []) }
 {
     law_of_ranges(happening);
     log.take(happening)
@@ -56,9 +54,9 @@ fn write_reading<L: Log>(log: &mut L, reading: Option<u64>) -> Result<(), LogFau
     requires { (L.state log.old).failed ≡ false }
     ensures flag { (L.state log.new).failed ≡ is_err result }
     ensures ok { OnOk result (Adds
-        (L.state log.old).taken (L.state log.new).taken
+        (L.state log.old) (L.state log.new)
         (reading_events reading)) }
-    ensures err { OnErr result (Adds (L.state log.old).taken (L.state log.new).taken []) }
+    ensures err { OnErr result (Adds (L.state log.old) (L.state log.new) []) }
 {
     match reading {
         None => Ok(()),
@@ -74,9 +72,9 @@ fn write_round<L: Log>(log: &mut L, round: bool) -> Result<(), LogFault>
     requires { (L.state log.old).failed ≡ false }
     ensures flag { (L.state log.new).failed ≡ is_err result }
     ensures ok { OnOk result (Adds
-        (L.state log.old).taken (L.state log.new).taken
+        (L.state log.old) (L.state log.new)
         (round_events round)) }
-    ensures err { OnErr result (Adds (L.state log.old).taken (L.state log.new).taken []) }
+    ensures err { OnErr result (Adds (L.state log.old) (L.state log.new) []) }
 {
     if !round {
         return Ok(());
@@ -90,9 +88,9 @@ fn write_order<L: Log>(log: &mut L, id: Id) -> Result<(), LogFault>
     requires { (L.state log.old).failed ≡ false }
     ensures flag { (L.state log.new).failed ≡ is_err result }
     ensures ok { OnOk result (Adds
-        (L.state log.old).taken (L.state log.new).taken
+        (L.state log.old) (L.state log.new)
         (Asked id Look ∷ [])) }
-    ensures err { OnErr result (Adds (L.state log.old).taken (L.state log.new).taken []) }
+    ensures err { OnErr result (Adds (L.state log.old) (L.state log.new) []) }
 {
     let happening: HappeningIn<Global> = Happening::Asked(id, Ask::Look);
     hand(log, &happening)
@@ -103,9 +101,9 @@ fn write_still<L: Log>(log: &mut L, id: Id) -> Result<(), LogFault>
     requires { (L.state log.old).failed ≡ false }
     ensures flag { (L.state log.new).failed ≡ is_err result }
     ensures ok { OnOk result (Adds
-        (L.state log.old).taken (L.state log.new).taken
+        (L.state log.old) (L.state log.new)
         (Still id ∷ [])) }
-    ensures err { OnErr result (Adds (L.state log.old).taken (L.state log.new).taken []) }
+    ensures err { OnErr result (Adds (L.state log.old) (L.state log.new) []) }
 {
     let happening: HappeningIn<Global> = Happening::Still(id);
     hand(log, &happening)
@@ -116,10 +114,10 @@ fn write_look<L: Log>(log: &mut L, look: &Option<HeldLook>) -> Result<(), LogFau
     requires { (L.state log.old).failed ≡ false }
     ensures flag { (L.state log.new).failed ≡ is_err result }
     ensures ok { OnOk result (Adds
-        (L.state log.old).taken (L.state log.new).taken
+        (L.state log.old) (L.state log.new)
         (reverse (look_events look.now))) }
     ensures err { OnErr result (AddsFront
-        (L.state log.old).taken (L.state log.new).taken
+        (L.state log.old) (L.state log.new)
         (reverse (look_events look.now))) }
 {
     match look {
@@ -137,10 +135,10 @@ fn write_held<L: Log>(log: &mut L, held: &Held) -> Result<(), LogFault>
     requires { (L.state log.old).failed ≡ false }
     ensures flag { (L.state log.new).failed ≡ is_err result }
     ensures ok { OnOk result (Adds
-        (L.state log.old).taken (L.state log.new).taken
+        (L.state log.old) (L.state log.new)
         (held_first held.now)) }
     ensures err { OnErr result (AddsFront
-        (L.state log.old).taken (L.state log.new).taken
+        (L.state log.old) (L.state log.new)
         (held_first held.now)) }
 {
     write_reading(log, held.reading)?;
@@ -153,9 +151,9 @@ fn write_new<L: Log, B: Allocator>(log: &mut L, happening: &HappeningIn<B>) -> R
     requires { (L.state log.old).failed ≡ false }
     ensures flag { (L.state log.new).failed ≡ is_err result }
     ensures ok { OnOk result (is_in_range happening.now ≡ true
-        → Adds (L.state log.old).taken (L.state log.new).taken (written_of happening.now)) }
+        → Adds (L.state log.old) (L.state log.new) (written_of happening.now)) }
     ensures err { OnErr result (is_in_range happening.now ≡ true
-        → AddsFront (L.state log.old).taken (L.state log.new).taken (written_of happening.now)) }
+        → AddsFront (L.state log.old) (L.state log.new) (written_of happening.now)) }
 {
     match happening {
         Happening::Clock(_) | Happening::Nudge => Ok(()),
@@ -173,11 +171,11 @@ fn write_all<L: Log, B: Allocator>(
     ensures flag { (L.state log.new).failed ≡ is_err result }
     ensures ok { OnOk result (is_in_range happening.now ≡ true
         → Adds
-        (L.state log.old).taken (L.state log.new).taken
+        (L.state log.old) (L.state log.new)
         (held_first held.now ++ written_of happening.now)) }
     ensures err { OnErr result (is_in_range happening.now ≡ true
         → AddsFront
-        (L.state log.old).taken (L.state log.new).taken
+        (L.state log.old) (L.state log.new)
         (held_first held.now ++ written_of happening.now)) }
 {
     write_held(log, held)?;
@@ -188,7 +186,7 @@ impl<L: Log> BriefLog<L> {
     /// A brief log in front of a log that took nothing.
     pub fn new(log: L) -> BriefLog<L>
         ensures log { result.log ≡ log }
-        ensures nothing { (L.state log).taken ≡ Some [] → TakesTrace L.state result [] }
+        ensures nothing { (L.state log).taken [] → (brief_state L.state result).taken [] }
     {
         BriefLog {
             log,
@@ -202,12 +200,10 @@ impl<L: Log> BriefLog<L> {
         ensures flag { (L.state self.new.log).failed ≡ is_err result }
         ensures held { OnOk result (self.new.held ≡ next_held happening.now self.old.held) }
         ensures ok { OnOk result (is_in_range happening.now ≡ true → Adds
-            (L.state self.old.log).taken
-            (L.state self.new.log).taken
+            (L.state self.old.log) (L.state self.new.log)
             (newly_first happening.now self.old.held)) }
         ensures err { OnErr result (is_in_range happening.now ≡ true → AddsFront
-            (L.state self.old.log).taken
-            (L.state self.new.log).taken
+            (L.state self.old.log) (L.state self.new.log)
             (newly_first happening.now self.old.held)) }
     {
         match self.held.hold_back(happening) {
@@ -233,48 +229,56 @@ impl<L: Log> BriefLog<L> {
 }
 
 impl<L: Log> Log for BriefLog<L> {
-    ghost use Rattle.std.specs.Prelude.{None};
-    ghost use Rattle.trace_log.specs.Logs.{LogState, Gains, Stays};
-    ghost use Rattle.brief_log.specs.Keeping.{Brief};
+    ghost use Rattle.trace_log.specs.Logs.{Gains, Stays};
+    ghost use Rattle.brief_log.specs.Keeping.{Grows};
 
-    ghost state = { λ (log : Brief L). record { taken = None; failed = (L.state log.log).failed } };
+    ghost state = { brief_state L.state };
 
-    /// Takes a happening: holds it back, or hands the log what was held and then the happening. What it took isn't told
-    /// by its state: of each trace that it took, its clauses say that what is written and held is the brief form.
+    /// Takes a happening: holds it back, or hands the log what was held and then the happening. What is written and held
+    /// is the brief form of what it took.
     fn take<B: Allocator>(&mut self, happening: &HappeningIn<B>) -> Result<(), LogFault>
         requires { (L.state self.old.log).failed ≡ false }
         ensures flag { (L.state self.new.log).failed ≡ is_err result }
-        ensures ok { OnOk result (is_in_range happening.now ≡ true → (trace : List Event)
-            → TakesTrace L.state self.old trace
-            → TakesTrace L.state self.new (happening.now ∷ trace)) }
-        ensures err { OnErr result (is_in_range happening.now ≡ true → (trace : List Event)
-            → TakesTrace L.state self.old trace
-            → WritesPast (L.state self.new.log).taken (happening.now ∷ trace)) }
+        ensures ok { OnOk result (is_in_range happening.now ≡ true
+            → Gains (brief_state L.state self.old) (brief_state L.state self.new) happening.now) }
+        ensures err { OnErr result (is_in_range happening.now ≡ true
+            → Stays (brief_state L.state self.old) (brief_state L.state self.new)) }
         ensures kept { is_in_range happening.now ≡ true
-            → Grows (L.state self.old.log).taken (L.state self.new.log).taken }
+            → Grows (L.state self.old.log) (L.state self.new.log) }
     {
         self.step(happening)
     }
 
-    /// Hands the log all that is held, and ends it. Its happenings are then the brief form of the trace; where it fails,
-    /// a past of that.
-    fn end(&mut self) -> Result<(), LogFault>
-        requires { (L.state self.old.log).failed ≡ false }
-        ensures flag { (L.state self.new.log).failed ≡ is_err result }
-        ensures ok { OnOk result ((trace : List Event)
-            → TakesTrace L.state self.old trace
-            → (L.state self.new.log).taken ≡ Some (reverse (brief_of trace))) }
-        ensures err { OnErr result ((trace : List Event)
-            → TakesTrace L.state self.old trace → WritesPast (L.state self.new.log).taken trace) }
-        ensures kept { Grows (L.state self.old.log).taken (L.state self.new.log).taken }
-    {
-        let held = self.held;
-        self.held = Held::new();
-        write_held(&mut self.log, &held)?;
-        self.log.end()
-    }
-
     fn failed(&self) -> bool {
         self.log.failed()
+    }
+}
+
+/// Hands the log all that was held, unless it has failed; gives whether it took that.
+fn hand_on<L: Log>(log: &mut L, held: &Held) -> bool
+    ensures failed { (L.state log.old).failed ≡ true → result ≡ false }
+    ensures handed { (trace : List Event)
+        → TookBy (L.state log.old).failed (L.state log.old) held.now trace
+        → HandsOn result (L.state log.new).taken trace }
+{
+    if log.failed() {
+        return false;
+    }
+    write_held(log, held).is_ok()
+}
+
+impl<L: EndedLog> EndedLog for BriefLog<L> {
+    ghost use Rattle.brief_log.specs.Keeping.{EndsBrief};
+
+    type Left = L::Left;
+
+    ghost has_ended = { λ left whole trace. EndsBrief (L.has_ended left) whole trace };
+
+    /// Hands the other log all that is held, and ends it. It has then the brief form of the trace, or a part of it.
+    fn end(self) -> (L::Left, bool) {
+        let BriefLog { mut log, held } = self;
+        let handed = hand_on(&mut log, &held);
+        let (left, whole) = log.end();
+        (left, handed && whole)
     }
 }

@@ -1,5 +1,5 @@
 -- What a part of init's work makes of its core and its log, as far as its host's answers were possible (init(8)).
-use Rattle.std.specs.Prelude.{◌≡◌, ℕ, Bool, true, false, ◌&&◌, ◌||◌, ◌+◌, IsTrue, ◌==◌, not, List, [], ◌∷◌, ◌++◌, length, take, reverse, Some, IfSome, is_some, Ok, Err}
+use Rattle.std.specs.Prelude.{◌≡◌, ℕ, Bool, true, false, ◌&&◌, ◌||◌, ◌+◌, IsTrue, ◌==◌, not, List, [], ◌∷◌, ◌++◌, length, take, reverse, is_some, Ok, Err}
 use Rattle.std.specs.List.{starts_with}
 use Rattle.initctl_frame.specs.Blocks.{Begun}
 use Rattle.init_trace.specs.declared.happenings.Handed.{Handed as HandOver}
@@ -74,16 +74,16 @@ pub record Takes (old new : LogState) (before came : List Event) : Type 0 where
   pub took : List Event
   pub missed : List Event
   pub parts : came ≡ missed ++ took
-  pub told : new.taken ≡ Some (before ++ reverse took)
+  pub told : new.taken (before ++ reverse took)
   pub whole : new.failed ≡ false → missed ≡ []
   pub nothing : old.failed ≡ true → took ≡ []
   pub stays : old.failed ≡ true → new.failed ≡ true
 
--- the trace has grown, and the log, where it told what it took, has taken of what came
+-- the trace has grown, and the log has taken of what came behind what it took before
 pub record Took (old new : LogState) (past now : List Event) : Type 0 where
   pub came : List Event
   pub grown : now ≡ came ++ past
-  pub log : IfSome old.taken (λ before. Takes old new before came)
+  pub log : (before : List Event) → old.taken before → Takes old new before came
 
 -- so it is where the seconds that the trace names are at most an hour: a log tells no others
 abbrev pub Logs : LogState → LogState → List Event → List Event → Type 0

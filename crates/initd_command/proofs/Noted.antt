@@ -1,18 +1,19 @@
--- What turns noted over a host that tells its calls, and what their judge found.
-use Rattle.std.proofs.Common.{◌≡◌, refl, sym, ◌∙◌, ap, subst, inl, inr, ◌⊎◌, ℕ, Bool, true, false, not, if◌then◌else◌, List, [], ◌++◌, reverse, Option, Some, None, is_some, IfSome}
-use Rattle.std.proofs.lemmas.List.{append-nil, reverse-reverse}
+-- What turns noted over a host that tells its calls, what their judge found, and how their log ended.
+use Rattle.std.proofs.Common.{◌≡◌, refl, sym, ◌∙◌, ap, subst, inr, inl, ◌⊎◌, ℕ, Bool, true, false, not, ◌&&◌, if◌then◌else◌, List, [], ◌++◌, reverse, Option, Some, None, is_some, IfSome}
+use Rattle.std.proofs.lemmas.Bool.{and_parts}
+use Rattle.std.proofs.lemmas.List.{append-nil, reverse-append, reverse-reverse}
 use Rattle.init_words.specs.declared.entries.Entry.{Entry}
 use Rattle.init_words.specs.declared.levels.Level.{Level}
 use Rattle.init_trace.specs.Event.{Event}
 use Rattle.trace_log.specs.Logs.{LogState}
 use Rattle.child_host.specs.Calls.{HostCall}
-use Rattle.host_trace.specs.Leads.{Took, Takes}
+use Rattle.host_trace.specs.Leads.{Takes}
 use Rattle.host_trace.specs.Point.{point_after}
 use Rattle.child_host.specs.Record.{Since}
 use Rattle.run_notes.specs.declared.LastEnd.TheVariants.{Unnoted}
 use Rattle.run_notes.specs.Ends.{last_end}
-use Rattle.run_notes.specs.Notes.{Notes, are_noted, end_in, last_noted, last_of, notes_state, told_of}
-use Rattle.run_notes.proofs.Noted.{births_noted, last_by_told, told_noted}
+use Rattle.run_notes.specs.Notes.{Notes, NotesOf, end_in, last_noted, last_of}
+use Rattle.run_notes.proofs.Noted.{last_by_notes}
 use Rattle.supervisor.specs.declared.serving.Served.{Served}
 use Rattle.init_trace.specs.declared.steps.Goal.{Goal}
 use Rattle.core_model.specs.State.{CoreState, opening_goal}
@@ -23,104 +24,102 @@ use Rattle.initd_options.specs.Options.{RunSaid}
 use Rattle.initd_command.specs.Turned.{ReportsEnd, end_status}
 use Rattle.judged_log.specs.declared.judgements.Judgement.{Judgement}
 use Rattle.judged_log.specs.Judgements.{Finds}
-use Rattle.initd_command.specs.Services.{IsNoted, IsServed, TurnsFrom, TurnsOver, end_of, judgement_for, noted_of}
-
--- what is told of the happenings that a log took are these happenings
-told_is : {L : Type 0} (notes : Notes L) (taken all : List Event) → told_of notes (Some taken) ≡ Some all → taken ≡ all
-told_is notes taken all is = by (are_noted notes (reverse taken)) is
-  where
-    by : (noted : Bool) → (if noted then Some taken else None) ≡ Some all → taken ≡ all
-    by true same = cc
-    by false same = absurd (cc)
-
--- what is found of happenings, where they were to be judged
-abbrev IsFound : Option Judgement → List Event → Type 0
-IsFound judgement past = IfSome judgement (λ found. Finds found past)
-
--- what was found of the happenings that came is found of the trace
-found_of_trace : {L : Type 0} (notes : Notes L) (came past : List Event) (judgement : Option Judgement)
-    → told_of notes (Some (reverse came)) ≡ Some (reverse past) → IsFound judgement came → IsFound judgement past
-found_of_trace notes came past judgement is found =
-    subst (IsFound judgement) (sym (reverse-reverse came) ∙ ap reverse (told_is notes (reverse came) (reverse past) is) ∙ reverse-reverse past) found
+use Rattle.initd_command.specs.Services.{IsNoted, IsServed, LogEnds, TurnsFrom, TurnsOver, end_of, judgement_for, noted_of}
 
 -- where a run is to be judged, what was found counts
-pub found_for : (service : RunSaid) (found : Judgement) (past : List Event) → Finds found past → IfSome (judgement_for service found) (λ judgement. Finds judgement past)
+found_for : (service : RunSaid) (found : Judgement) (past : List Event) → Finds found past → IfSome (judgement_for service found) (λ judgement. Finds judgement past)
 found_for service found past finds = by service.judge
   where
     by : (asked : Bool) → IfSome (if asked then Some found else None) (λ judgement. Finds judgement past)
     by true = finds
     by false = tt
 
-pub judged_for : (service : RunSaid) (found : Judgement) → is_some (judgement_for service found) ≡ service.judge
+judged_for : (service : RunSaid) (found : Judgement) → is_some (judgement_for service found) ≡ service.judge
 judged_for service found = by service.judge
   where
     by : (asked : Bool) → is_some (if asked then Some found else None) ≡ asked
     by true = refl
     by false = refl
 
+pub judged_still : (service : RunSaid) (found : Judgement) (judgement : Option Judgement) → judgement ≡ judgement_for service found → is_some judgement ≡ service.judge
+judged_still service found judgement is = subst (λ j. is_some j ≡ service.judge) (sym is) (judged_for service found)
+
 -- the lines are those of what is kept of the trace
 abbrev IsWaiting : List ℕ → List Event → Type 0
 IsWaiting waiting past = (goal : Goal) × (core : CoreState) × FitsAll core goal past × (waiting ≡ waiting_text core)
 
--- notes of a log that told this trace are notes of it
-noted_of_trace : {L : Type 0} (notes : Notes L) (waiting : List ℕ) (judgement : Option Judgement) (told : Option (List Event)) (past : List Event)
-    → told_of notes told ≡ Some (reverse past) → IsWaiting waiting past → IfSome judgement (λ found. Finds found past) → IsNoted (noted_of notes waiting judgement) past
-noted_of_trace notes waiting judgement told past is waits finds = record {
-  births = births_noted notes past noted;
+-- notes of a trace, and what its judge found
+noted_of_trace : (notes : Notes) (waiting : List ℕ) (judgement : Option Judgement) (past : List Event)
+    → NotesOf notes past → IsWaiting waiting past → IfSome judgement (λ found. Finds found past) → IsNoted (noted_of notes waiting judgement) past
+noted_of_trace notes waiting judgement past of waits finds = record {
+  births = of.births;
   last = λ id. known id notes.complete refl;
   waiting = waits;
   judgement = finds;
 }
   where
-    noted : are_noted notes past ≡ true
-    noted =
-        ap (are_noted notes) (sym (reverse-reverse past))
-        ∙ subst (λ t. IfSome t (λ taken. are_noted notes (reverse taken) ≡ true)) is (told_noted notes told (λ taken. are_noted notes (reverse taken) ≡ true) (λ taken h. h))
-
     known : (id : List ℕ) (complete : Bool) → notes.complete ≡ complete → (last_noted id notes ≡ Unnoted) ⊎ (last_noted id notes ≡ last_of (last_end id past))
-    known id true all = inr (last_by_told notes id past noted all)
+    known id true all = inr (last_by_notes notes id past of all)
     known id false none = inl (ap (λ complete. if complete then last_of (end_in id notes.ends) else Unnoted) none)
-
--- a log that has not failed took the whole trace
-taken_all : (old new : LogState) (past : List Event) → Took old new [] past → old.taken ≡ Some [] → new.failed ≡ false → new.taken ≡ Some (reverse past)
-taken_all old new past took none well = taken (subst (λ told. IfSome told (λ before. Takes old new before took.came)) none took.log)
-  where
-    taken : Takes old new [] took.came → new.taken ≡ Some (reverse past)
-    taken takes =
-        let came : took.came ≡ takes.took = takes.parts ∙ ap (λ missed. missed ++ takes.took) (takes.whole well) in
-        takes.told ∙ ap (λ events. Some (reverse events)) (sym (took.grown ∙ append-nil took.came ∙ came))
 
 not_so : (b : Bool) → not b ≡ true → b ≡ false
 not_so true h = sym h
 not_so false h = refl
 
--- and the log was ended behind it: what was noted stays, and it took the trace whole only where it had before
-pub turns_over : {L : Type 0} (notes now : Notes L) (came : List Event) (failed : Bool) (core : CoreState) (judgement : Option Judgement) (old : LogState) (service : RunSaid) (level : Option Level)
-    (table : List Entry) (served ended : Served) (status : ℕ) (told now_told : Option (List HostCall)) (err now_err : Option (List ℕ))
-    → now ≡ record notes { log = now.log } → ended ≡ record served { logged = ended.logged } → (ended.logged ≡ true → served.logged ≡ true)
-    → old.taken ≡ Some [] → served.logged ≡ not failed → IsServed service served
-    → is_some judgement ≡ service.judge → IfSome judgement (λ found. Finds found came)
-    → status ≡ end_status (end_of service (noted_of now (waiting_text core) judgement) ended)
-    → ReportsEnd (end_of service (noted_of now (waiting_text core) judgement) ended) err now_err
-    → Opens told now_told old (notes_state notes (record { taken = Some (reverse came); failed = failed })) level table service.drain served.turns core
-    → Since told now_told (λ calls. TurnsFrom level table calls (TurnsOver service status err now_err))
-turns_over notes now came failed core judgement old service level table served ended status told now_told err now_err kept goes whole none logged limits asked found is reports (calls, are_told, (turns, leads)) =
-    let state : LogState = record { taken = Some (reverse came); failed = failed } in (
-      calls,
-      are_told,
-      λ allowed carried.
-          let went = (leads allowed).1 carried in
-          let past = (point_after calls (opening_point table)).past in
-          let noted : noted_of now (waiting_text core) judgement ≡ noted_of notes (waiting_text core) judgement = ap (λ n. noted_of n (waiting_text core) judgement) kept in (
-            ended,
-            noted_of now (waiting_text core) judgement,
-            is,
-            subst (IsServed service) (sym goes) limits,
-            asked,
-            (λ all.
-                let taken = taken_all old (notes_state notes state) past went.log none (not_so failed (sym logged ∙ whole all)) in
-                subst (λ n. IsNoted n past) (sym noted)
-                (noted_of_trace notes (waiting_text core) judgement (Some (reverse came)) past taken (opening_goal level table, core, went.fits.0.fits, refl) (found_of_trace notes came past judgement taken found))),
-            reports,
-          ),
-    )
+-- turns are as many behind the end of their log
+pub served_still : (P : ℕ → Bool → Type 0) (served ended : Served) (logged : Bool) → ended ≡ record served { logged = logged } → P served.turns served.drained → P ended.turns ended.drained
+served_still P served ended logged is so = subst (λ (s : Served). P s.turns s.drained) (sym is) so
+
+pub is_served : (service : RunSaid) (served ended : Served) (logged : Bool) → ended ≡ record served { logged = logged } → IsServed service served → IsServed service ended
+is_served service served ended logged is limits = subst (IsServed service) (sym is) limits
+
+-- a log that took of a trace what it had not missed has ended so
+module _ (has_ended : Bool → List Event → Type 0) (whole : Bool) (past missed took : List Event) (parts : past ≡ missed ++ took) (ends : has_ended whole (reverse took)) where
+  log_ends : (logged : Bool) → (logged ≡ true → missed ≡ []) → LogEnds has_ended (logged && whole) (reverse past)
+  log_ends logged all = by logged whole refl all
+    where
+      front : reverse took ++ reverse missed ≡ reverse past
+      front = sym (reverse-append missed took) ∙ ap reverse (sym parts)
+
+      by : (logged kept : Bool) → kept ≡ whole → (logged ≡ true → missed ≡ []) → LogEnds has_ended (logged && kept) (reverse past)
+      by true true is none = subst (λ b. has_ended b (reverse past)) (sym is) (subst (λ trace. has_ended whole (reverse trace)) (sym (parts ∙ ap (λ m. m ++ took) (none refl))) ends)
+      by true false is none = (reverse took, reverse missed, front, whole, ends)
+      by false kept is none = (reverse took, reverse missed, front, whole, ends)
+
+-- turns over a log that had taken nothing, which was ended behind them
+pub turns_over : (has_ended : Bool → List Event → Type 0) (Found : List Event → Type 0) (taken : List Event → Type 0) (notes : Notes) (found : Judgement) (failed whole : Bool)
+    (core : CoreState) (old : LogState) (service : RunSaid) (level : Option Level) (table : List Entry) (served ended : Served) (judgement : Option Judgement) (status : ℕ)
+    (told now_told : Option (List HostCall)) (err now_err : Option (List ℕ))
+    → ended ≡ record served { logged = served.logged && whole } → judgement ≡ judgement_for service found
+    → old.taken [] → served.logged ≡ not failed → IsServed service served
+    → ((trace : List Event) → Found (reverse trace) × taken trace → Finds found (reverse trace)) → ((trace : List Event) → taken trace → has_ended whole trace)
+    → status ≡ end_status (end_of service (noted_of notes (waiting_text core) judgement) ended)
+    → ReportsEnd (end_of service (noted_of notes (waiting_text core) judgement) ended) err now_err
+    → Opens told now_told old (record { taken = λ trace. NotesOf notes (reverse trace) × (Found (reverse trace) × taken trace); failed = failed }) level table service.drain served.turns core
+    → Since told now_told (λ calls. TurnsFrom level table calls (TurnsOver has_ended service status err now_err))
+turns_over has_ended Found taken notes found failed whole core old service level table served ended judgement status told now_told err now_err goes asked none logged limits finds ends is reports (calls, are_told, (turns, leads)) = (
+  calls,
+  are_told,
+  λ allowed carried.
+      let went = (leads allowed).1 carried in
+      let past = (point_after calls (opening_point table)).past in
+      let took = went.log in
+      let takes : Takes old (record { taken = λ trace. NotesOf notes (reverse trace) × (Found (reverse trace) × taken trace); failed = failed }) [] took.came = took.log [] none in
+      let parts : past ≡ takes.missed ++ takes.took = took.grown ∙ append-nil took.came ∙ takes.parts in
+      let all : served.logged ≡ true → takes.missed ≡ [] = λ h. takes.whole (not_so failed (sym logged ∙ h)) in
+      let so : ended.logged ≡ (served.logged && whole) = ap (λ s. s.logged) goes in (
+        ended,
+        noted_of notes (waiting_text core) judgement,
+        is,
+        is_served service served ended _ goes limits,
+        judged_still service found judgement asked,
+        (λ h.
+            let every : takes.took ≡ past = sym (parts ∙ ap (λ m. m ++ takes.took) (all (and_parts served.logged whole (sym so ∙ h)).0)) in
+            let same : reverse (reverse takes.took) ≡ past = reverse-reverse takes.took ∙ every in
+            noted_of_trace notes (waiting_text core) judgement past (subst (NotesOf notes) same takes.told.0)
+            (opening_goal level table, core, went.fits.0.fits, refl)
+            (subst (λ j. IfSome j (λ given. Finds given past)) (sym asked) (found_for service found past (subst (Finds found) same (finds (reverse takes.took) takes.told.1))))),
+        subst (λ b. LogEnds has_ended b (reverse past)) (sym so) (log_ends has_ended whole past takes.missed takes.took parts (ends (reverse takes.took) takes.told.1.1) served.logged all),
+        reports,
+      ),
+)

@@ -23,7 +23,7 @@ pub reported_unlogged : (service : RunSaid) (noted : Noted) (served : Served) (o
 reported_unlogged service noted served old said mid new missed part waiting found =
     subst (λ logged. ReportsEnd (end_at service noted logged (service.drain && served.drained)) old new) (sym missed) (mid, (said, part, waiting), found)
 
-pub reported_logged : {L : Type 0} (service : RunSaid) (notes : Notes L) (waiting : List ℕ) (judgement : Option Judgement) (served : Served) (old mid new : Option (List ℕ))
+pub reported_logged : (service : RunSaid) (notes : Notes) (waiting : List ℕ) (judgement : Option Judgement) (served : Served) (old mid new : Option (List ℕ))
     → served.logged ≡ true → ReportsTurns (end_at service (noted_of notes waiting None) true (service.drain && served.drained)) old mid
     → ReportsJudgement true judgement mid new → ReportsEnd (end_of service (noted_of notes waiting judgement) served) old new
 reported_logged service notes waiting judgement served old mid new all turns found =

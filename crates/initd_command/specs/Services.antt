@@ -1,6 +1,6 @@
 -- How a run over the operating system ends. Its host tells nothing of what was asked of it, so this is what is written,
 -- and how the exit status follows from what ended the turns.
-use Rattle.std.specs.Prelude.{◌≡◌, ◌≤◌, ◌<◌, ◌⊎◌, ◌&&◌, ◌==◌, not, min, if◌then◌else◌, ℕ, Bool, true, false, List, [], ◌∷◌, length, string_bytes, Option, Some, None, option_map, is_none, is_some, unwrap_or, IfSome, IsSome, IsTrue, ⊤}
+use Rattle.std.specs.Prelude.{◌≡◌, ◌≤◌, ◌<◌, ◌⊎◌, ◌&&◌, ◌==◌, not, min, if◌then◌else◌, ℕ, Bool, true, false, List, [], ◌∷◌, ◌++◌, length, reverse, string_bytes, Option, Some, None, option_map, is_none, is_some, unwrap_or, IfSome, IsSome, IsTrue, ⊤}
 use Rattle.std.specs.Io.KnownBytes.{Appends, Keeps}
 use Rattle.program_io.specs.Writing.{AppendsPrefix}
 use Rattle.path_texts.specs.Known.{IsTextAt, KnownTexts}
@@ -63,7 +63,7 @@ pub record Noted : Type 0 where
   pub waiting : List ℕ
   pub judgement : Option Judgement
 
-abbrev pub noted_of : {L : Type 0} → Notes L → List ℕ → Option Judgement → Noted
+abbrev pub noted_of : Notes → List ℕ → Option Judgement → Noted
 noted_of notes waiting judgement = record {
   births = notes.births;
   last = λ id. last_noted id notes;
@@ -117,11 +117,21 @@ pub record IsNoted (noted : Noted) (past : List Event) : Type 0 where
   pub waiting : (goal : Goal) × (core : CoreState) × FitsAll core goal past × (noted.waiting ≡ waiting_text core)
   pub judgement : IfSome noted.judgement (λ judgement. Finds judgement past)
 
--- the same of turns that made this trace: where it was taken whole, what is noted is noted of it
-abbrev pub TurnsOver : RunSaid → ℕ → Option (List ℕ) → Option (List ℕ) → List Event → Type 0
-TurnsOver service status old new past =
+-- what is left of a log that was handed this trace, the oldest happening first: it took all of it and handed all on, or
+-- it took a front of it
+abbrev pub LogEnds : (Bool → List Event → Type 0) → Bool → List Event → Type 0
+LogEnds has_ended true trace = has_ended true trace
+LogEnds has_ended false trace = (taken : List Event) × (missed : List Event) × (taken ++ missed ≡ trace)
+    × (whole : Bool) × has_ended whole taken
+
+-- the same of turns that made this trace: where it was taken whole, what is noted is noted of it; and so its log has
+-- ended
+abbrev pub TurnsOver : (Bool → List Event → Type 0) → RunSaid → ℕ → Option (List ℕ) → Option (List ℕ) → List Event
+    → Type 0
+TurnsOver has_ended service status old new past =
     (served : Served) × (noted : Noted) × (status ≡ end_status (end_of service noted served)) × IsServed service served
-    × IsJudged service noted × (served.logged ≡ true → IsNoted noted past) × ReportsEnd (end_of service noted served) old new
+    × IsJudged service noted × (served.logged ≡ true → IsNoted noted past)
+    × LogEnds has_ended served.logged (reverse past) × ReportsEnd (end_of service noted served) old new
 
 -- the same over a host that tells the calls that were made of it, where they are those of an opening
 abbrev pub TurnsFrom : Option Level → List Entry → List HostCall → (List Event → Type 0) → Type 0

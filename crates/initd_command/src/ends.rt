@@ -1,6 +1,6 @@
 //! How the turns of a run ended, as it is reported, and the exit status.
 
-ghost use Rattle.std.specs.Prelude.{◌≡◌, ◌++◌, ◌&&◌, ℕ, List, [], None, Some, string_bytes, true, IfOk, OnOk};
+ghost use Rattle.std.specs.Prelude.{◌≡◌, ◌++◌, ◌&&◌, [], None, Some, string_bytes, true, IfOk, OnOk};
 ghost use Rattle.initd_options.specs.Options.{run_of};
 ghost use Rattle.initd_command.specs.Services.{end_at, end_of, entry_end, noted_of};
 ghost use Rattle.waiting_lines.specs.Lines.{waiting_text};
@@ -17,7 +17,6 @@ use run_notes::{LastEnd, Numbers, RunNotes};
 use std::alloc::{AllocError, Global};
 use std::io::Write;
 use supervisor::Served;
-use trace_log::Log;
 use waiting_lines::waiting_lines;
 
 /// What is reported where a run made all its turns.
@@ -42,11 +41,11 @@ const UNJUDGED: &str = "initd: there was no memory to judge the run to its end\n
 const KILLED: u8 = 137;
 
 /// Reports how the turns of a run ended, and gives its exit status.
-pub(crate) fn report_end<L: Log, E: Write>(
+pub(crate) fn report_end<E: Write>(
     alloc: Global,
     said: &RunWords,
     served: &Served,
-    notes: &RunNotes<L>,
+    notes: &RunNotes,
     core: &Core,
     judgement: Option<Judgement>,
     err: &mut E,
@@ -68,11 +67,11 @@ pub(crate) fn report_end<L: Log, E: Write>(
 }
 
 /// Reports how turns ended whose log took the whole trace, and gives the exit status that they have by themselves.
-fn report_turns<L: Log, E: Write>(
+fn report_turns<E: Write>(
     alloc: Global,
     said: &RunWords,
     served: &Served,
-    notes: &RunNotes<L>,
+    notes: &RunNotes,
     core: &Core,
     err: &mut E,
 ) -> u8
@@ -158,12 +157,7 @@ fn report_idle<E: Write>(is_idle: bool, err: &mut E)
 }
 
 /// Reports how the last child of an entry ended, where a run has an entry's result, and gives the exit status.
-fn report_result<L: Log, E: Write>(
-    alloc: Global,
-    entry: Option<Id>,
-    notes: &RunNotes<L>,
-    err: &mut E,
-) -> u8
+fn report_result<E: Write>(alloc: Global, entry: Option<Id>, notes: &RunNotes, err: &mut E) -> u8
     ensures status { result ≡ drained_status (entry_end (noted_of notes.now [] None).last entry) }
     ensures reported { ReportsResult (entry_end (noted_of notes.now [] None).last entry)
         (E.contents err.old) (E.contents err.new) }
@@ -210,7 +204,7 @@ fn last_text(alloc: Global, last: LastEnd) -> Result<String, AllocError>
 }
 
 /// Reports the children that go on, where there are any, or that there was no memory to note them all.
-fn report_running<L: Log, E: Write>(alloc: Global, notes: &RunNotes<L>, err: &mut E)
+fn report_running<E: Write>(alloc: Global, notes: &RunNotes, err: &mut E)
     ensures { ReportsRunning (noted_of notes.now [] None).running (E.contents err.old)
         (E.contents err.new) }
 {

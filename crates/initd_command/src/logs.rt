@@ -1,7 +1,5 @@
 //! Logs of a run: none, and a file.
 
-ghost use Rattle.std.specs.Prelude.{◌≡◌, false};
-
 use init_trace::{Handed, Happening, HappeningIn};
 use program_io::write_text;
 use std::alloc::{Allocator, Global};
@@ -9,18 +7,18 @@ use std::fs::{File, OpenOptions};
 use std::io;
 use std::io::{ErrorKind, Write};
 use std::rt::Files;
-use trace_log::{Log, LogFault, StreamLog};
+use trace_log::{EndedLog, Log, LogFault, StreamLog};
 
 /// A log that takes all and keeps nothing.
 #[derive(Drop)]
 pub(crate) struct NoLog {}
 
 impl Log for NoLog {
-    ghost use Rattle.std.specs.Prelude.{false, None};
+    ghost use Rattle.std.specs.Prelude.{false, ⊤};
     ghost use Rattle.trace_log.specs.Logs.{LogState};
 
     ghost state = { λ _.
-        let nothing : LogState = record { taken = None; failed = false } in nothing };
+        let nothing : LogState = record { taken = λ _. ⊤; failed = false } in nothing };
 
     fn take<B: Allocator>(&mut self, _happening: &HappeningIn<B>) -> Result<(), LogFault> {
         Ok(())
@@ -28,6 +26,18 @@ impl Log for NoLog {
 
     fn failed(&self) -> bool {
         false
+    }
+}
+
+impl EndedLog for NoLog {
+    ghost use Rattle.std.specs.Prelude.{⊤};
+
+    type Left = ();
+
+    ghost has_ended = { λ _ _ _. ⊤ };
+
+    fn end(self) -> ((), bool) {
+        ((), true)
     }
 }
 
@@ -137,15 +147,11 @@ pub(crate) struct FileLog<'a, R> {
     is_waiting: bool,
     /// A part of the trace stands in no piece.
     is_torn: bool,
-    /// The trace was ended, and is torn.
-    failed: bool,
 }
 
 impl<'a, R: Files<File = File> + Eprint> FileLog<'a, R> {
     /// The log of a file that was created at the path.
-    pub(crate) fn new(rt: &'a R, alloc: Global, path: &'a str, file: File) -> FileLog<'a, R>
-        ensures { result.failed ≡ false }
-    {
+    pub(crate) fn new(rt: &'a R, alloc: Global, path: &'a str, file: File) -> FileLog<'a, R> {
         FileLog {
             rt,
             alloc,
@@ -153,14 +159,11 @@ impl<'a, R: Files<File = File> + Eprint> FileLog<'a, R> {
             log: StreamLog::new(alloc, TraceFile::new(file, Vec::new(alloc))),
             is_waiting: false,
             is_torn: false,
-            failed: false,
         }
     }
 
     /// Writes a happening, unless the file could not be written before.
-    fn write<B: Allocator>(&mut self, happening: &HappeningIn<B>)
-        ensures { self.new.failed ≡ self.old.failed }
-    {
+    fn write<B: Allocator>(&mut self, happening: &HappeningIn<B>) {
         if self.log.failed() {
             return;
         }
@@ -175,9 +178,7 @@ impl<'a, R: Files<File = File> + Eprint> FileLog<'a, R> {
     }
 
     /// Tells that bytes are kept since the file can't be written, and that it was.
-    fn tell_waiting(&mut self)
-        ensures { self.new.failed ≡ self.old.failed }
-    {
+    fn tell_waiting(&mut self) {
         let path = self.path;
         match &self.log.writer().fault {
             Some(error) if !self.is_waiting => {
@@ -210,9 +211,7 @@ impl<'a, R: Files<File = File> + Eprint> FileLog<'a, R> {
     }
 
     /// Goes on in a new file, where there is none at the path. What the file before didn't take stands there first.
-    fn begin_anew(&mut self)
-        ensures { self.new.failed ≡ self.old.failed }
-    {
+    fn begin_anew(&mut self) {
         let path = self.path;
         let is_torn = self.log.failed();
         let is_off = is_torn || self.is_waiting;
@@ -238,9 +237,7 @@ impl<'a, R: Files<File = File> + Eprint> FileLog<'a, R> {
     }
 
     /// Goes on in this file, first with what the file before didn't take, where the trace isn't torn.
-    fn go_on_in(&mut self, file: File, is_torn: bool)
-        ensures { self.new.failed ≡ self.old.failed }
-    {
+    fn go_on_in(&mut self, file: File, is_torn: bool) {
         let rest = if is_torn {
             &[]
         } else {
@@ -278,11 +275,11 @@ fn say_occupied(rt: &impl Eprint, path: &str, is_off: bool) -> io::Result<()> {
 }
 
 impl<R: Files<File = File> + Eprint> Log for FileLog<'_, R> {
-    ghost use Rattle.std.specs.Prelude.{None};
+    ghost use Rattle.std.specs.Prelude.{false, ⊤};
     ghost use Rattle.trace_log.specs.Logs.{LogState};
 
-    ghost state = { λ file.
-        let unknown : LogState = record { taken = None; failed = file.failed } in unknown };
+    ghost state = { λ _.
+        let unknown : LogState = record { taken = λ _. ⊤; failed = false } in unknown };
 
     fn take<B: Allocator>(&mut self, happening: &HappeningIn<B>) -> Result<(), LogFault> {
         self.write(happening);
@@ -292,15 +289,21 @@ impl<R: Files<File = File> + Eprint> Log for FileLog<'_, R> {
         Ok(())
     }
 
-    fn end(&mut self) -> Result<(), LogFault> {
-        self.failed = self.is_torn || self.log.writer().fault.is_some();
-        if self.failed {
-            return Err(LogFault::Device);
-        }
-        Ok(())
-    }
-
     fn failed(&self) -> bool {
-        self.failed
+        false
+    }
+}
+
+impl<R: Files<File = File> + Eprint> EndedLog for FileLog<'_, R> {
+    ghost use Rattle.std.specs.Prelude.{⊤};
+
+    type Left = ();
+
+    ghost has_ended = { λ _ _ _. ⊤ };
+
+    /// Whether the file took all of the trace, in pieces or in one.
+    fn end(self) -> ((), bool) {
+        let is_whole = !self.is_torn && self.log.writer().fault.is_none();
+        ((), is_whole)
     }
 }

@@ -1,6 +1,6 @@
 //! `initd run`: what it stands on, and its turns.
 
-ghost use Rattle.std.specs.Prelude.{◌≡◌, ◌∷◌, not, true, ℕ, List, Option, None, Some, [], option_map, unwrap_or, IfErr, IfOk, OnErr};
+ghost use Rattle.std.specs.Prelude.{◌≡◌, ◌∷◌, ◌&&◌, true, List, Option, None, Some, [], option_map, unwrap_or, IfErr, IfOk, OnErr};
 ghost use Rattle.init_words.specs.Parts.{NamedText, texts_of};
 ghost use Rattle.inittab_text.specs.Parts.{faults_of_parts, table_of_texts};
 ghost use Rattle.initd_command.specs.Endings.{Ending, Reports, ReportsUnled, status_of};
@@ -32,7 +32,7 @@ use judged_log::{JudgedLog, Judgement};
 use os_host::{FolderFault, PassedNames, faults_text, with_folder};
 use path_texts::Texts;
 use program_io::{DEVICE_FAULT, refuse_special};
-use run_notes::RunNotes;
+use run_notes::NotedLog;
 use simulator::SimFault;
 use stamped_lines::StampedRuntime;
 use std::alloc::{AllocError, Global};
@@ -42,7 +42,7 @@ use std::io::Write;
 use std::os::unix::fs::MetadataExt;
 use std::rt::{Clock, Files};
 use supervisor::{Opening, Served};
-use trace_log::Log;
+use trace_log::EndedLog;
 
 /// What is reported where the faults of inittab's lines could not be written.
 const UNTOLD: &str = "initd: the faults of the inittab could not be written\n";
@@ -491,13 +491,13 @@ where
         → Since (H.told host.old) (H.told host.new) (MakesTurns (run_of said.now) table end)) }
 {
     let Some(file) = trace else {
-        return make_turns(rt, alloc, said, opening, host, NoLog {}, err);
+        return make_turns(rt, alloc, said, opening, host, NoLog {}, err).0;
     };
     let log = FileLog::new(rt, alloc, trace_of(said), file);
     if said.brief {
-        return make_turns(rt, alloc, said, opening, host, BriefLog::new(log), err);
+        return make_turns(rt, alloc, said, opening, host, BriefLog::new(log), err).0;
     }
-    make_turns(rt, alloc, said, opening, host, log, err)
+    make_turns(rt, alloc, said, opening, host, log, err).0
 }
 
 /// Reports that nothing names a level, where that is so.
@@ -509,10 +509,11 @@ fn report_unled<E: Write>(is_unled: bool, err: &mut E)
     }
 }
 
-/// Makes the turns of a run, from its opening on, and reports how they ended: the exit status is 0, or that of the
-/// entry whose result the run's is, where it ended drained, 3 at the limit of turns, and 4 where the log failed. A run
-/// that is judged and breaks a law has 2 in place of 0 and 3, and 4 where memory ran out for the judge.
-pub fn make_turns<R: Eprint, H: Host, L: Log, E: Write>(
+/// Makes the turns of a run, from its opening on, ends its log, and reports how they ended: the exit status is 0, or that
+/// of the entry whose result the run's is, where it ended drained, 3 at the limit of turns, and 4 where the log failed. A
+/// run that is judged and breaks a law has 2 in place of 0 and 3, and 4 where memory ran out for the judge. Gives what is
+/// left of the log, too.
+pub fn make_turns<R: Eprint, H: Host, L: EndedLog, E: Write>(
     rt: &R,
     alloc: Global,
     said: &RunWords,
@@ -520,33 +521,41 @@ pub fn make_turns<R: Eprint, H: Host, L: Log, E: Write>(
     host: &mut H,
     log: L,
     err: &mut E,
-) -> u8
+) -> (u8, L::Left)
 where
     L: Drop,
-    ensures turns { Turns (run_of said.now) result (E.contents err.old) (E.contents err.new) }
-    ensures made { (end : End) × (result ≡ end_status end) × EndsServed (run_of said.now) end
+    ensures turns { Turns (run_of said.now) result.0 (E.contents err.old) (E.contents err.new) }
+    ensures made { (end : End) × (result.0 ≡ end_status end) × EndsServed (run_of said.now) end
         × ReportsEnd end (E.contents err.old) (E.contents err.new)
         × ((table : List Entry) → IsOpeningOf (run_of said.now).level table opening
         → Since (H.told host.old) (H.told host.new) (MakesTurns (run_of said.now) table end)) }
     ensures told { (level : Option Level) (table : List Entry) → IsOpeningOf level table opening
+        → (L.state log).taken []
         → Since (H.told host.old) (H.told host.new) (λ calls. TurnsFrom level table calls
-        (TurnsOver (run_of said.now) result (E.contents err.old) (E.contents err.new))) }
+        (TurnsOver (L.has_ended result.1) (run_of said.now) result.0
+        (E.contents err.old) (E.contents err.new))) }
 {
     let judged = JudgedLog::new(rt, alloc, log, said.judge);
-    let mut notes = RunNotes::new(alloc, judged);
+    let mut noted = NotedLog::new(alloc, judged);
     let mut watch = Patience::new(rt, alloc, said.verbose);
-    let (served, core) = opening.serve(alloc, host, &mut notes, said.turns, said.drain, &mut watch);
-    let found = notes.log().judgement();
-    let served = end_log(&mut notes, served);
-    report_end(
-        alloc,
-        said,
-        &served,
-        &notes,
-        &core,
-        judgement_for(said, found),
-        err,
-    )
+    let (served, core) = opening.serve(alloc, host, &mut noted, said.turns, said.drain, &mut watch);
+    let (judged, notes) = noted.into_parts();
+    let found = judged.judgement();
+    let (left, whole) = judged.into_log().end();
+    let served = ended_with(served, whole);
+    let judgement = judgement_for(said, found);
+    let status = report_end(alloc, said, &served, &notes, &core, judgement, err);
+    (status, left)
+}
+
+/// Turns whose log was ended, with all that it took or not.
+fn ended_with(served: Served, whole: bool) -> Served
+    ensures { result ≡ record served { logged = served.logged && whole } }
+{
+    Served {
+        logged: served.logged && whole,
+        ..served
+    }
 }
 
 /// What was found of a run, where it was to be judged.
@@ -554,15 +563,4 @@ fn judgement_for(said: &RunWords, found: Judgement) -> Option<Judgement>
     ensures { result ≡ judgement_for (run_of said.now) found }
 {
     if said.judge { Some(found) } else { None }
-}
-
-/// Ends the log of turns that were made. Where it can't hand on what it holds back, the trace isn't whole.
-fn end_log<L: Log>(notes: &mut RunNotes<L>, served: Served) -> Served
-    requires { served.logged ≡ not (L.state notes.old.log).failed }
-    ensures notes { notes.new ≡ record notes.old { log = notes.new.log } }
-    ensures turns { result ≡ record served { logged = result.logged } }
-    ensures logged { result.logged ≡ true → served.logged ≡ true }
-{
-    let logged = served.logged && notes.end().is_ok();
-    Served { logged, ..served }
 }

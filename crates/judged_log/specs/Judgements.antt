@@ -1,17 +1,18 @@
 -- What a judge finds of the happenings that a log takes.
-use Rattle.std.specs.Prelude.{◌≡◌, ℕ, Bool, if◌then◌else◌, List, ◌∷◌, length, Option, Some, None, ⊤}
+use Rattle.std.specs.Prelude.{◌≡◌, Bool, if◌then◌else◌, List, length, reverse, Some, None, ⊤}
 use Rattle.init_trace.specs.Event.{Event}
 use Rattle.init_trace.specs.Lawful.{first_breach}
 use Rattle.trace_check.specs.Faults.{fault_at}
 use Rattle.trace_check.specs.Judging.{Judged, Judging}
+use Rattle.trace_log.specs.Logs.{LogState}
 use Rattle.judged_log.specs.declared.judgements.Judgement.{Judgement}
 use Rattle.judged_log.specs.declared.judgements.Judgement.TheVariants.{Lawful, Breach, Unjudged}
 
--- a log that is judged: the log behind it, what was found, and the happenings that it took, the newest first
-pub record JudgedTrace (L : Type 0) : Type 0 where
+-- a log that is judged: the log behind it, its judge, and what was found
+pub record JudgedBy (L : Type 0) : Type 0 where
   pub log : L
+  pub judge : Judging
   pub judgement : Judgement
-  pub came : List Event
 
 -- it is found of these happenings, the newest first: they break no law, and are so many; or this is their first breach
 abbrev pub Finds : Judgement → List Event → Type 0
@@ -24,6 +25,13 @@ abbrev pub FindsBy : Judging → Judgement → List Event → Type 0
 FindsBy judge (Lawful count) past = Judged judge past × (count ≡ length past)
 FindsBy judge (Breach place law) past = first_breach past ≡ Some (fault_at place law)
 FindsBy judge Unjudged past = ⊤
+
+-- it took what the other log took, and what was found is of that
+abbrev pub judged_state : {L : Type 0} → (L → LogState) → JudgedBy L → LogState
+judged_state state judged = record {
+  taken = λ trace. FindsBy judged.judge judged.judgement (reverse trace) × (state judged.log).taken trace;
+  failed = (state judged.log).failed;
+}
 
 -- what is found of nothing, where a judge is asked for or not
 abbrev pub found_first : Bool → Judgement

@@ -1,22 +1,15 @@
--- The last ends of all ids by a trace, and when notes are those of one.
-use Rattle.std.proofs.Common.{◌≡◌, refl, sym, ◌∙◌, ap, ℕ, min, Bool, true, false, not, ◌||◌, cond, if◌then◌else◌, List, [], ◌∷◌, ◌++◌, reverse, Option, Some, None, IfSome, eqb-true, eq-eqb}
-use Rattle.std.specs.Bool.{Decides}
+-- The last ends of all ids by a trace.
+use Rattle.std.proofs.Common.{◌≡◌, refl, sym, ◌∙◌, ap, ℕ, Bool, true, false, cond, if◌then◌else◌, List, [], ◌∷◌, Some}
 use Rattle.std.specs.Map.{lookup}
-use Rattle.std.proofs.lemmas.Bool.{false≢true, and_parts, and_from}
-use Rattle.std.proofs.lemmas.List.{reverse-append}
-use Rattle.std.proofs.lemmas.Slice.Eq.{slice_eq-Decides}
+use Rattle.std.proofs.lemmas.Bool.{false≢true}
 use Rattle.indexmap.specs.IndexMap.{insert_entry}
-use Rattle.init_words.specs.declared.children.Status.{Status}
-use Rattle.init_words.specs.declared.children.Status.TheVariants.{Exit, Killed}
 use Rattle.init_words.specs.Ids.{same_id}
-use Rattle.init_words.proofs.Same.{same_id-from, same_id-is}
+use Rattle.init_words.proofs.Same.{same_id-is}
 use Rattle.init_trace.specs.declared.happenings.Happening.TheVariants.{Reaped}
 use Rattle.init_trace.specs.Event.{Event}
-use Rattle.trace_log.specs.Logs.{Gains}
-use Rattle.run_notes.specs.Ends.{births, ends_of, last_end}
+use Rattle.run_notes.specs.Ends.{ends_of, last_end}
 use Rattle.run_notes.specs.declared.LastEnd.TheVariants.{Unnoted}
-use Rattle.run_notes.specs.declared.TheConstants.{BIRTHS_LIMIT}
-use Rattle.run_notes.specs.Notes.{Notes, NotesOf, are_noted, end_in, last_noted, last_of, same_end, same_status, told_of}
+use Rattle.run_notes.specs.Notes.{Notes, NotesOf, end_in, last_noted, last_of}
 
 -- an entry behind which the look-up goes on
 chosen : {X : Type 0} (a b : Bool) (x y : X) (rest behind : X) → (b ≡ true → a ≡ false)
@@ -58,83 +51,9 @@ ends_known id (Reaped other number status ∷ past) =
     lookup_inserted id other status (ends_of past) ∙ ap (cond (same_id id other) (Some status)) (ends_known id past)
 ends_known id (_ ∷ past) = ends_known id past
 
-abbrev code_in : Status → ℕ
-code_in (Exit code) = code
-code_in Killed = 0
-
-abbrev has_code : Status → Bool
-has_code (Exit code) = true
-has_code Killed = false
-
-same_status-Decides : (a b : Status) → Decides (same_status a b) (a ≡ b)
-same_status-Decides (Exit a) (Exit b) = (λ h. ap Exit (eqb-true a b h), λ h. eq-eqb a b (ap code_in h))
-same_status-Decides Killed Killed = (λ h. refl, λ h. refl)
-same_status-Decides (Exit a) Killed = (λ h. absurd (false≢true h), λ h. absurd (false≢true (sym (ap has_code h))))
-same_status-Decides Killed (Exit b) = (λ h. absurd (false≢true h), λ h. absurd (false≢true (ap has_code h)))
-
-same_end-Decides : (a b : List ℕ × Status) → Decides (same_end a b) (a ≡ b)
-same_end-Decides a b = (is, λ h. and_from _ _ (same_id-from a.0 b.0 (ap (λ e. e.0) h)) ((same_status-Decides a.1 b.1).1 (ap (λ e. e.1) h)))
-  where
-    is : same_end a b ≡ true → a ≡ b
-    is h =
-        let parts = and_parts (same_id a.0 b.0) (same_status a.1 b.1) h in
-        ap (λ id. (id, a.1)) (same_id-is a.0 b.0 parts.0) ∙ ap (λ status. (b.0, status)) ((same_status-Decides a.1 b.1).0 parts.1)
-
-where_complete : (complete same : Bool) → (complete ≡ true → same ≡ true) → (not complete || same) ≡ true
-where_complete true same h = h refl
-where_complete false same h = refl
-
-complete_same : (complete same : Bool) → (not complete || same) ≡ true → complete ≡ true → same ≡ true
-complete_same true same h all = h
-complete_same false same h all = absurd (false≢true all)
-
-module _ {L : Type 0} (notes : Notes L) (past : List Event) where
-  pub noted_from : notes.births ≡ min (births past) BIRTHS_LIMIT → (notes.complete ≡ true → notes.ends ≡ ends_of past) → are_noted notes past ≡ true
-  noted_from counted ends =
-      and_from _ _ (eq-eqb _ _ counted) (where_complete notes.complete _ (λ all. (slice_eq-Decides same_end-Decides notes.ends (ends_of past) _ refl).1 (ends all)))
-
-  pub births_noted : are_noted notes past ≡ true → notes.births ≡ min (births past) BIRTHS_LIMIT
-  births_noted noted = eqb-true _ _ (and_parts _ _ noted).0
-
-  pub ends_noted : are_noted notes past ≡ true → notes.complete ≡ true → notes.ends ≡ ends_of past
-  ends_noted noted all =
-      (slice_eq-Decides same_end-Decides notes.ends (ends_of past) _ refl).0 (complete_same notes.complete _ (and_parts _ _ noted).1 all)
-
--- what is told is the trace that is noted
-pub told_noted : {L : Type 0} (notes : Notes L) (told : Option (List Event)) (P : List Event → Type 0)
-    → ((taken : List Event) → are_noted notes (reverse taken) ≡ true → P taken) → IfSome (told_of notes told) P
-told_noted notes None P h = tt
-told_noted notes (Some taken) P h = by (are_noted notes (reverse taken)) refl
-  where
-    by : (noted : Bool) → are_noted notes (reverse taken) ≡ noted → IfSome (if noted then Some taken else None) P
-    by true is = h taken is
-    by false is = tt
-
 -- a last end that is noted, where all are
-last_all : {L : Type 0} (notes : Notes L) (id : List ℕ) (past : List Event) → notes.ends ≡ ends_of past → notes.complete ≡ true
+pub last_by_notes : (notes : Notes) (id : List ℕ) (past : List Event) → NotesOf notes past → notes.complete ≡ true
     → last_noted id notes ≡ last_of (last_end id past)
-last_all notes id past ends all =
+last_by_notes notes id past of all =
     ap (λ complete. if complete then last_of (end_in id notes.ends) else Unnoted) all
-    ∙ ap (λ known. last_of (end_in id known)) ends ∙ ap last_of (ends_known id past)
-
-pub last_by_notes : {L : Type 0} (notes : Notes L) (id : List ℕ) (past : List Event) → NotesOf notes past → notes.complete ≡ true
-    → last_noted id notes ≡ last_of (last_end id past)
-last_by_notes notes id past of all = last_all notes id past (of.ends all) all
-
-pub last_by_told : {L : Type 0} (notes : Notes L) (id : List ℕ) (past : List Event) → are_noted notes past ≡ true → notes.complete ≡ true
-    → last_noted id notes ≡ last_of (last_end id past)
-last_by_told notes id past noted all = last_all notes id past (ends_noted notes past noted all) all
-
-module _ {L : Type 0} (old new : Notes L) where
-  -- a happening that the other log gains is gained, where the notes go on with it
-  pub notes_gain : (happening : Event) (before after : Option (List Event)) → Gains before after happening
-      → ((past : List Event) → are_noted old past ≡ true → are_noted new (happening ∷ past) ≡ true)
-      → Gains (told_of old before) (told_of new after) happening
-  notes_gain happening None after gains noted = tt
-  notes_gain happening (Some taken) after gains noted = by (are_noted old (reverse taken)) refl
-    where
-      by : (was : Bool) → are_noted old (reverse taken) ≡ was → Gains (if was then Some taken else None) (told_of new after) happening
-      by true is =
-          ap (told_of new) gains
-          ∙ ap (λ b. if b then Some (taken ++ happening ∷ []) else None) (ap (are_noted new) (reverse-append taken (happening ∷ [])) ∙ noted (reverse taken) is)
-      by false is = tt
+    ∙ ap (λ known. last_of (end_in id known)) (of.ends all) ∙ ap last_of (ends_known id past)

@@ -2,11 +2,10 @@
 //! born, which of them are not reaped, and how the last child of each id ended.
 #![tactic(auto)]
 
-ghost use Rattle.std.specs.Prelude.{◌≡◌, ◌+◌, ◌∷◌, [], min, true, ℕ, List, OnOk, reverse};
+ghost use Rattle.std.specs.Prelude.{◌≡◌, ◌+◌, ◌∷◌, [], min, true, List, OnOk};
 ghost use Rattle.init_trace.specs.Event.{Event};
-ghost use Rattle.trace_log.specs.Logs.{LogState};
 ghost use Rattle.run_notes.specs.Ends.{births, ends_of, last_end};
-ghost use Rattle.run_notes.specs.Notes.{IsRunning, NotesOf, last_noted, last_of, told_of};
+ghost use Rattle.run_notes.specs.Notes.{IsRunning, NotesOf, last_noted, last_of};
 
 use indexmap::IndexMap;
 use init_trace::{Happening, HappeningIn};
@@ -35,23 +34,21 @@ pub enum LastEnd {
 /// The greatest number of births that is counted.
 pub const BIRTHS_LIMIT: u64 = u64::MAX;
 
-/// A log in front of another one, to which each happening is handed on. What the other one takes is noted.
+/// What is noted of the happenings of a run.
 #[derive(Drop)]
-pub struct RunNotes<L, A: Allocator = Global> {
-    log: L,
+pub struct RunNotes<A: Allocator = Global> {
     births: u64,
     ends: Ends<A>,
     running: Numbers<A>,
     is_complete: bool,
 }
 
-impl<L, A: Allocator> Model for RunNotes<L, A> {
+impl<A: Allocator> Model for RunNotes<A> {
     ghost use Rattle.run_notes.specs.Notes.{Notes};
 
-    ghost Value = { Notes L };
+    ghost Value = { Notes };
 
     ghost view = { λ notes. record {
-      log = notes.log;
       births = notes.births;
       ends = notes.ends.entries;
       running = notes.running.entries;
@@ -59,18 +56,14 @@ impl<L, A: Allocator> Model for RunNotes<L, A> {
     } };
 }
 
-impl<L: Log, A: Allocator + Copy> RunNotes<L, A> {
-    ghost use Rattle.std.specs.Prelude.{Some, IfSome, IsSome, ◌↔◌, true};
+impl<A: Allocator + Copy> RunNotes<A> {
+    ghost use Rattle.std.specs.Prelude.{IfSome, IsSome, ◌↔◌, true};
 
-    /// Notes of nothing, in front of this log. It takes no memory.
-    pub fn new(alloc: A, log: L) -> RunNotes<L, A>
-        ensures log { result.log ≡ log }
-        ensures nothing { NotesOf result [] }
-        ensures told { (L.state log).taken ≡ Some []
-            → told_of result (L.state result.log).taken ≡ Some [] }
+    /// Notes of nothing. It takes no memory.
+    fn new(alloc: A) -> RunNotes<A>
+        ensures { NotesOf result [] }
     {
         RunNotes {
-            log,
             births: 0,
             ends: IndexMap::new(alloc),
             running: IndexMap::new(alloc),
@@ -78,20 +71,11 @@ impl<L: Log, A: Allocator + Copy> RunNotes<L, A> {
         }
     }
 
-    /// The log in front of which it stands.
-    pub fn log(&self) -> &L
-        ensures { result.now ≡ self.now.log }
-    {
-        &self.log
-    }
-
     /// How many children were born.
     pub fn births(&self) -> u64
         ensures value { result ≡ self.now.births }
         ensures trace { (past : List Event) → NotesOf self.now past
             → result ≡ min (births past) BIRTHS_LIMIT }
-        ensures told { IfSome (told_of self.now (L.state self.now.log).taken) (λ taken.
-            result ≡ min (births (reverse taken)) BIRTHS_LIMIT) }
     {
         self.births
     }
@@ -101,8 +85,6 @@ impl<L: Log, A: Allocator + Copy> RunNotes<L, A> {
         ensures value { result ≡ last_noted id.now self.now }
         ensures trace { (past : List Event) → NotesOf self.now past
             → self.now.complete ≡ true → result ≡ last_of (last_end id.now past) }
-        ensures told { IfSome (told_of self.now (L.state self.now.log).taken) (λ taken.
-            self.now.complete ≡ true → result ≡ last_of (last_end id.now (reverse taken))) }
     {
         self.noted_end(id)
     }
@@ -133,17 +115,10 @@ impl<L: Log, A: Allocator + Copy> RunNotes<L, A> {
         }
     }
 
-    /// Notes a happening that was taken.
+    /// Notes a happening.
     fn note<B: Allocator>(&mut self, happening: &HappeningIn<B>)
-        ensures log { self.new.log ≡ self.old.log }
-        ensures births { (past : List Event) → self.old.births ≡ min (births past) BIRTHS_LIMIT
-            → self.new.births ≡ min (births (happening.now ∷ past)) BIRTHS_LIMIT }
-        ensures ends { (past : List Event)
-            → (self.old.complete ≡ true → self.old.ends ≡ ends_of past)
-            → self.new.complete ≡ true → self.new.ends ≡ ends_of (happening.now ∷ past) }
-        ensures running { (past : List Event)
-            → (self.old.complete ≡ true → IsRunning self.old.running past)
-            → self.new.complete ≡ true → IsRunning self.new.running (happening.now ∷ past) }
+        ensures { (past : List Event) → NotesOf self.old past
+            → NotesOf self.new (happening.now ∷ past) }
     {
         self.births = counted(self.births, happening);
         let ends = note_end(&mut self.ends, happening);
@@ -151,6 +126,44 @@ impl<L: Log, A: Allocator + Copy> RunNotes<L, A> {
         if ends.is_err() || children.is_err() {
             self.is_complete = false;
         }
+    }
+}
+
+/// A log in front of another one, to which each happening is handed on. What the other one takes is noted.
+#[derive(Drop)]
+pub struct NotedLog<L, A: Allocator = Global> {
+    log: L,
+    notes: RunNotes<A>,
+}
+
+impl<L, A: Allocator> Model for NotedLog<L, A> {
+    ghost use Rattle.run_notes.specs.Notes.{Noted};
+
+    ghost Value = { Noted L };
+
+    ghost view = { λ noted. record { log = noted.log; notes = noted.notes } };
+}
+
+impl<L: Log, A: Allocator + Copy> NotedLog<L, A> {
+    ghost use Rattle.run_notes.specs.Notes.{noted_state};
+
+    /// A log with notes of nothing, in front of this log. It takes no memory.
+    pub fn new(alloc: A, log: L) -> NotedLog<L, A>
+        ensures log { result.log ≡ log }
+        ensures nothing { (L.state log).taken [] → (noted_state L.state result).taken [] }
+    {
+        NotedLog {
+            log,
+            notes: RunNotes::new(alloc),
+        }
+    }
+
+    /// The other log, and the notes of what it took.
+    pub fn into_parts(self) -> (L, RunNotes<A>)
+        ensures { result ≡ (self.log, self.notes) }
+    {
+        let NotedLog { log, notes } = self;
+        (log, notes)
     }
 }
 
@@ -199,47 +212,31 @@ fn note_child<A: Allocator, B: Allocator>(
     Ok(())
 }
 
-impl<L: Log, A: Allocator + Copy> Log for RunNotes<L, A> {
-    ghost use Rattle.std.specs.Prelude.{◌≡◌, ◌∷◌, true, false, is_err, List, OnOk, OnErr};
+impl<L: Log, A: Allocator + Copy> Log for NotedLog<L, A> {
+    ghost use Rattle.std.specs.Prelude.{◌≡◌, true, false, is_err, OnOk, OnErr};
     ghost use Rattle.init_trace.specs.Range.{is_in_range};
-    ghost use Rattle.init_trace.specs.Event.{Event};
     ghost use Rattle.trace_log.specs.Logs.{Gains, Stays};
-    ghost use Rattle.run_notes.specs.Notes.{Notes, NotesOf, notes_state, told_of};
+    ghost use Rattle.run_notes.specs.Notes.{noted_state};
 
-    ghost state = { λ (notes : Notes L). notes_state notes (L.state notes.log) };
+    ghost state = { noted_state L.state };
 
     /// Hands the happening on. It is noted where the other log took it; where not, nothing is.
     fn take<B: Allocator>(&mut self, happening: &HappeningIn<B>) -> Result<(), LogFault>
         requires { (L.state self.old.log).failed ≡ false }
         ensures flag { (L.state self.new.log).failed ≡ is_err result }
         ensures ok { OnOk result (is_in_range happening.now ≡ true
-            → Gains (told_of self.old (L.state self.old.log).taken)
-            (told_of self.new (L.state self.new.log).taken) happening.now) }
+            → Gains (noted_state L.state self.old) (noted_state L.state self.new) happening.now) }
         ensures err { OnErr result (is_in_range happening.now ≡ true
-            → Stays (told_of self.old (L.state self.old.log).taken)
-            (told_of self.new (L.state self.new.log).taken)) }
+            → Stays (noted_state L.state self.old) (noted_state L.state self.new)) }
         ensures log_ok { OnOk result (is_in_range happening.now ≡ true
-            → Gains (L.state self.old.log).taken (L.state self.new.log).taken happening.now) }
+            → Gains (L.state self.old.log) (L.state self.new.log) happening.now) }
         ensures log_err { OnErr result (is_in_range happening.now ≡ true
-            → Stays (L.state self.old.log).taken (L.state self.new.log).taken) }
-        ensures noted { OnOk result ((past : List Event)
-            → NotesOf self.old past → NotesOf self.new (happening.now ∷ past)) }
-        ensures kept { OnErr result (self.new ≡ record self.old { log = self.new.log }) }
+            → Stays (L.state self.old.log) (L.state self.new.log)) }
+        ensures kept { OnErr result (self.new.notes ≡ self.old.notes) }
     {
         self.log.take(happening)?;
-        self.note(happening);
+        self.notes.note(happening);
         Ok(())
-    }
-
-    /// Ends the other log.
-    fn end(&mut self) -> Result<(), LogFault>
-        requires { (L.state self.old.log).failed ≡ false }
-        ensures flag { (L.state self.new.log).failed ≡ is_err result }
-        ensures stays { Stays (told_of self.old (L.state self.old.log).taken)
-            (told_of self.new (L.state self.new.log).taken) }
-        ensures kept { self.new ≡ record self.old { log = self.new.log } }
-    {
-        self.log.end()
     }
 
     fn failed(&self) -> bool {

@@ -40,7 +40,7 @@ fn use_parts<A: Allocator + Copy, H: Host, L: Log>(
         → Logs (L.state log.old) (L.state log.new) past
         (NewTable (table_of_texts (texts_of parts.now)) ∷ past) }
     ensures core { result ≡ false → core.new ≡ core.old }
-    ensures log { result ≡ false → L.state log.new ≡ L.state log.old }
+    ensures log { result ≡ false → log.new ≡ log.old }
     ensures told { H.told host.new ≡ H.told host.old }
 {
     let reading = read_parts(alloc, parts);
@@ -74,7 +74,7 @@ fn use_table<A: Allocator + Copy, H: Host, L: Log>(
     ensures read { result ≡ false → (parts : PartsRead)
         × Adds (H.told host.old) (H.told host.new) (ReadTables parts) }
     ensures core { result ≡ false → core.new ≡ core.old }
-    ensures log { result ≡ false → L.state log.new ≡ L.state log.old }
+    ensures log { result ≡ false → log.new ≡ log.old }
 {
     let Ok(parts) = host.read_tables(alloc) else {
         return false;

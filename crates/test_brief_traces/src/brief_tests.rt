@@ -178,9 +178,9 @@ fn written_before(alloc: Global, trace: &[HappeningIn<Global>]) -> usize {
 }
 
 fn is_shortened(alloc: Global, trace: &[HappeningIn<Global>], row: &Row) -> bool {
-    let (log, all) = finished(ListLog::new(alloc), trace);
-    all && is_brief(alloc, log.list(), row)
-        && log.list().len() == written_before(alloc, trace).saturating_add(row.held)
+    let (list, all) = finished(ListLog::new(alloc), trace);
+    all && is_brief(alloc, list.as_slice(), row)
+        && list.len() == written_before(alloc, trace).saturating_add(row.held)
 }
 
 fn holds(alloc: Global, row: &Row) -> bool {

@@ -18,11 +18,11 @@ reaped a 10 killed\ntold a\nask a start\nbirth a 11\ntold a\nclock 102\nnudge\na
 
 /// The writer took what it has room for, and the log all where that is the whole text.
 fn is_streamed_in(alloc: Global, trace: &[HappeningIn<Global>], room: usize, fails: bool) -> bool {
-    let (log, all) = finished(
+    let (writer, all) = finished(
         StreamLog::new(alloc, Slow::new(alloc, room, fails, false)),
         trace,
     );
-    all == (room >= BRIEF.len()) && log.writer().taken.as_slice() == &BRIEF[..room.min(BRIEF.len())]
+    all == (room >= BRIEF.len()) && writer.taken.as_slice() == &BRIEF[..room.min(BRIEF.len())]
 }
 
 fn is_streamed(alloc: Global, room: usize, fails: bool) -> bool {
@@ -49,11 +49,11 @@ fn is_past<'a>(alloc: Global, list: &[HappeningIn<&'a LocalHeap>], all: bool) ->
 
 /// How many happenings a log on the heap took; `None` where they are no past of the brief form.
 fn listed_on(alloc: Global, heap: &LocalHeap, trace: &[HappeningIn<Global>]) -> Option<usize> {
-    let (log, all) = finished(ListLog::new(heap), trace);
-    if !is_past(alloc, log.list(), all) {
+    let (list, all) = finished(ListLog::new(heap), trace);
+    if !is_past(alloc, list.as_slice(), all) {
         return None;
     }
-    Some(log.list().len())
+    Some(list.len())
 }
 
 fn listed_over(alloc: Global, heap: &LocalHeap) -> Option<usize> {

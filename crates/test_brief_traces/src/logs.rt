@@ -3,7 +3,7 @@
 use brief_log::BriefLog;
 use init_trace::HappeningIn;
 use std::alloc::Global;
-use trace_log::Log;
+use trace_log::{EndedLog, Log};
 
 fn add_line(lines: &mut Vec<u8>, line: &str) -> bool {
     lines.extend_from_slice(line.as_bytes()).is_ok() && lines.push(b'\n').is_ok()
@@ -48,9 +48,10 @@ pub(crate) fn unfinished<L: Log>(log: L, trace: &[HappeningIn<Global>]) -> (L, b
     (brief.into_log(), all)
 }
 
-/// The log after the brief form of a trace, and whether it took it whole.
-pub(crate) fn finished<L: Log>(log: L, trace: &[HappeningIn<Global>]) -> (L, bool) {
+/// What is left of a log after the brief form of a trace, and whether it took it whole.
+pub(crate) fn finished<L: EndedLog>(log: L, trace: &[HappeningIn<Global>]) -> (L::Left, bool) {
     let mut brief = BriefLog::new(log);
-    let whole = takes_all(&mut brief, trace) && !brief.failed() && brief.end().is_ok();
-    (brief.into_log(), whole)
+    let all = takes_all(&mut brief, trace);
+    let (left, whole) = brief.end();
+    (left, all && whole)
 }

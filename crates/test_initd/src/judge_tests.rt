@@ -48,7 +48,7 @@ fn run(rt: &HostRuntime, line: &str) -> Result<(u8, Vec<u8>), Fail> {
     let opening = Opening::new(alloc, table, None)?;
     let mut err = Vec::new(alloc);
     let log = ListLog::new(alloc);
-    let status = make_turns(rt, alloc, &said, opening, &mut host, log, &mut err);
+    let (status, _) = make_turns(rt, alloc, &said, opening, &mut host, log, &mut err);
     Ok((status, err))
 }
 

@@ -7,7 +7,7 @@ use init_trace::HappeningIn;
 use init_words::Memory;
 use std::alloc::{AllocError, Global};
 use trace_check::{Law, Verdict};
-use trace_log::{ListLog, Log};
+use trace_log::{EndedLog, ListLog, Log};
 use trace_text::ReadFault;
 
 /// What is done to a line of a trace.
@@ -59,24 +59,25 @@ fn law_of(alloc: Global, trace: &[HappeningIn<Global>]) -> Result<Option<Law>, M
     }
 }
 
-/// Hands a log the happenings of a trace, and ends it: whether it took them all.
+/// Hands a log the happenings of a trace: whether it took them all.
 fn is_taken<L: Log>(log: &mut L, trace: &[HappeningIn<Global>]) -> bool {
     for happening in trace {
         if log.failed() || log.take(happening).is_err() {
             return false;
         }
     }
-    !log.failed() && log.end().is_ok()
+    true
 }
 
 /// The trace and its brief form break the same law first, or none.
 fn is_alike(alloc: Global, trace: &[HappeningIn<Global>]) -> Result<bool, Memory> {
     let mut brief = BriefLog::new(ListLog::new(alloc));
-    if !is_taken(&mut brief, trace) {
+    let all = is_taken(&mut brief, trace);
+    let (brief, whole) = brief.end();
+    if !(all && whole) {
         return Err(Memory);
     }
-    let brief = brief.into_log();
-    Ok(brief.list().len() <= trace.len() && law_of(alloc, brief.list())? == law_of(alloc, trace)?)
+    Ok(brief.len() <= trace.len() && law_of(alloc, brief.as_slice())? == law_of(alloc, trace)?)
 }
 
 /// The trace prints as the text.

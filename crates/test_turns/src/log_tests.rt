@@ -8,7 +8,7 @@ use init_words::{Id, Status};
 use level_core::Core;
 use linked_list_allocator::LocalHeap;
 use memory_host::MemoryHost;
-use run_notes::{LastEnd, RunNotes};
+use run_notes::{LastEnd, NotedLog};
 use std::alloc::Global;
 use std::test::Fail;
 use supervisor::{Served, Unwatched};
@@ -153,9 +153,10 @@ fn a_list_that_cannot_grow_ends_the_log(rt: HostRuntime) {
 }
 
 fn is_noted_over(alloc: Global, heap: &LocalHeap) -> Option<bool> {
-    let mut notes = RunNotes::new(heap, ListLog::new(alloc));
-    let served = served(alloc, &mut notes)?;
-    let text = trace_text::print(alloc, notes.log().list()).ok()?;
+    let mut noted = NotedLog::new(heap, ListLog::new(alloc));
+    let served = served(alloc, &mut noted)?;
+    let (log, notes) = noted.into_parts();
+    let text = trace_text::print(alloc, log.list()).ok()?;
     if text.as_slice() != TRACE || served != ended(true) || notes.births() != 1 {
         return None;
     }

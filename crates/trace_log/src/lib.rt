@@ -9,5 +9,5 @@ mod stream_logs;
 
 pub use faults::LogFault;
 pub use list_logs::ListLog;
-pub use logs::Log;
+pub use logs::{EndedLog, Log};
 pub use stream_logs::StreamLog;

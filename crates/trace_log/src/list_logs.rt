@@ -3,7 +3,7 @@
 ghost use Rattle.std.specs.Prelude.{◌≡◌, ◌++◌, ◌∷◌, [], OnOk, IfErr};
 
 use crate::faults::LogFault;
-use crate::logs::Log;
+use crate::logs::{EndedLog, Log};
 use init_trace::{HappeningIn, happening_copy};
 use std::alloc::{Allocator, Global};
 use std::marker::Model;
@@ -16,20 +16,19 @@ pub struct ListLog<A: Allocator = Global> {
 }
 
 impl<A: Allocator> Model for ListLog<A> {
-    ghost use Rattle.std.specs.Prelude.{Some};
-    ghost use Rattle.trace_log.specs.Logs.{LogState};
+    ghost use Rattle.trace_log.specs.Lists.{Listed};
 
-    ghost Value = { LogState };
+    ghost Value = { Listed };
 
-    ghost view = { λ log. record { taken = Some log.list.items; failed = log.failed } };
+    ghost view = { λ log. record { list = log.list.items; failed = log.failed } };
 }
 
 impl<A: Allocator> ListLog<A> {
-    ghost use Rattle.std.specs.Prelude.{Some, false};
+    ghost use Rattle.std.specs.Prelude.{false};
 
     /// A log that took nothing. It takes no memory.
     pub fn new(alloc: A) -> ListLog<A>
-        ensures { result ≡ record { taken = Some []; failed = false } }
+        ensures { result ≡ record { list = []; failed = false } }
     {
         ListLog {
             list: Vec::new(alloc),
@@ -39,25 +38,24 @@ impl<A: Allocator> ListLog<A> {
 
     /// What it took, the oldest first.
     pub fn list(&self) -> &[HappeningIn<A>]
-        ensures { Some result.now ≡ self.now.taken }
+        ensures { result.now ≡ self.now.list }
     {
         self.list.as_slice()
     }
 }
 
 impl<A: Allocator + Copy> Log for ListLog<A> {
-    ghost use Rattle.std.specs.Prelude.{◌≡◌, ◌++◌, ◌∷◌, [], true, false, is_err, OnOk, OnErr, IfErr, Some};
-    ghost use Rattle.init_trace.specs.Range.{is_in_range};
-    ghost use Rattle.trace_log.specs.Logs.{LogState, Gains, Stays};
+    ghost use Rattle.std.specs.Prelude.{◌≡◌, ◌++◌, ◌∷◌, [], false, is_err, OnOk, OnErr, IfErr};
+    ghost use Rattle.trace_log.specs.Lists.{Listed, list_state};
 
-    ghost state = { λ (log : LogState). log };
+    ghost state = { list_state };
 
     /// Takes a happening. Lack of memory is the only fault.
     fn take<B: Allocator>(&mut self, happening: &HappeningIn<B>) -> Result<(), LogFault>
         requires { self.old.failed ≡ false }
         ensures flag { self.new.failed ≡ is_err result }
-        ensures ok { OnOk result (Gains self.old.taken self.new.taken happening.now) }
-        ensures err { OnErr result (self.new.taken ≡ self.old.taken) }
+        ensures ok { OnOk result (self.new.list ≡ self.old.list ++ happening.now ∷ []) }
+        ensures err { OnErr result (self.new.list ≡ self.old.list) }
         ensures fault { IfErr result (λ fault. fault ≡ LogFault.Memory) }
     {
         let taken = keep(&mut self.list, happening);
@@ -83,5 +81,19 @@ fn keep<A: Allocator + Copy, B: Allocator>(
     match list.push(copy) {
         Ok(()) => Ok(()),
         Err(_) => Err(LogFault::Memory),
+    }
+}
+
+impl<A: Allocator + Copy> EndedLog for ListLog<A> {
+    ghost use Rattle.std.specs.Prelude.{◌≡◌};
+
+    type Left = Vec<HappeningIn<A>, A>;
+
+    ghost has_ended = { λ list whole trace. list.items ≡ trace };
+
+    /// The list. Nothing is held back.
+    fn end(self) -> (Vec<HappeningIn<A>, A>, bool) {
+        let ListLog { list, failed } = self;
+        (list, !failed)
     }
 }

@@ -6,7 +6,7 @@ ghost use Rattle.trace_text.specs.Lines.{event_text};
 ghost use Rattle.trace_log.specs.Faults.{Leaves};
 
 use crate::faults::LogFault;
-use crate::logs::Log;
+use crate::logs::{EndedLog, Log};
 use init_trace::HappeningIn;
 use program_io::write_text;
 use std::alloc::{Allocator, Global};
@@ -32,15 +32,15 @@ impl<W, A: Allocator> Model for StreamLog<W, A> {
 }
 
 impl<W: Write, A: Allocator> StreamLog<W, A> {
-    ghost use Rattle.std.specs.Prelude.{[], false, IfSome, Some};
-    ghost use Rattle.trace_log.specs.Streams.{stream_state, Tells};
+    ghost use Rattle.std.specs.Prelude.{[], false, IfSome};
+    ghost use Rattle.trace_log.specs.Streams.{stream_state};
 
     /// A log over a writer that holds no bytes. It takes no memory; `take` takes what it needs from the allocator.
     pub fn new(alloc: A, writer: W) -> StreamLog<W, A>
         requires { IfSome (W.contents writer) (λ bytes. bytes ≡ []) }
         ensures value { result ≡ record { writer = writer; failed = false } }
         ensures nothing { IfSome (W.contents writer)
-            (λ _. (stream_state W.contents result).taken ≡ Some []) }
+            (λ _. (stream_state W.contents result).taken []) }
     {
         StreamLog {
             writer,
@@ -52,8 +52,7 @@ impl<W: Write, A: Allocator> StreamLog<W, A> {
     /// The writer. Its bytes are the text of what the log took; after that, once the log has failed, may be a part of
     /// one happening's.
     pub fn writer(&self) -> &W
-        ensures value { result.now ≡ self.now.writer }
-        ensures text { Tells (stream_state W.contents self.now) (W.contents result.now) }
+        ensures { result.now ≡ self.now.writer }
     {
         &self.writer
     }
@@ -76,12 +75,10 @@ impl<W: Write, A: Allocator + Copy> Log for StreamLog<W, A> {
         requires { self.old.failed ≡ false }
         ensures flag { self.new.failed ≡ is_err result }
         ensures ok { OnOk result (is_in_range happening.now ≡ true
-            → Gains (stream_state W.contents self.old).taken
-            (stream_state W.contents self.new).taken
+            → Gains (stream_state W.contents self.old) (stream_state W.contents self.new)
             happening.now) }
         ensures err { OnErr result (is_in_range happening.now ≡ true
-            → Stays (stream_state W.contents self.old).taken
-            (stream_state W.contents self.new).taken) }
+            → Stays (stream_state W.contents self.old) (stream_state W.contents self.new)) }
         ensures text { OnOk result (Appends
             (W.contents self.old.writer) (W.contents self.new.writer) (event_text happening.now)) }
         ensures left { IfErr result (λ fault.
@@ -95,6 +92,25 @@ impl<W: Write, A: Allocator + Copy> Log for StreamLog<W, A> {
 
     fn failed(&self) -> bool {
         self.failed
+    }
+}
+
+impl<W: Write, A: Allocator + Copy> EndedLog for StreamLog<W, A> {
+    ghost use Rattle.std.specs.Prelude.{not};
+    ghost use Rattle.trace_log.specs.Streams.{KnowsText};
+
+    type Left = W;
+
+    ghost has_ended = { λ writer whole trace. KnowsText (not whole) trace (W.contents writer) };
+
+    /// The writer. Nothing is held back.
+    fn end(self) -> (W, bool) {
+        let StreamLog {
+            writer,
+            alloc: _,
+            failed,
+        } = self;
+        (writer, !failed)
     }
 }
 

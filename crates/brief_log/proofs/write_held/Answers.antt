@@ -6,9 +6,9 @@ use Rattle.brief_log.proofs.write_held.Goals as goal
 
 pub returns-clause-err : goal.returns-clause-err
 returns-clause-err g c =
-    let old = (g.L.Log.state c.args.log.now).taken in
-    let one = (g.L.Log.state c.write_reading.new.log).taken in
-    let two = (g.L.Log.state c.write_round.new.log).taken in
-    front_err c.write_look.result old two (g.L.Log.state c.write_look.new.log).taken (reading_events c.args.held.now.reading ++ round_events c.args.held.now.round) (reverse (look_events c.args.held.now.look))
+    let old = (g.L.Log.state c.args.log.now) in
+    let one = (g.L.Log.state c.write_reading.new.log) in
+    let two = (g.L.Log.state c.write_round.new.log) in
+    front_err c.write_look.result old two (g.L.Log.state c.write_look.new.log) (reading_events c.args.held.now.reading ++ round_events c.args.held.now.round) (reverse (look_events c.args.held.now.look))
     (adds_two old one two (reading_events c.args.held.now.reading) (round_events c.args.held.now.round) c.in_ok-write_reading.ensures.ok c.in_ok-write_round.ensures.ok)
     c.write_look.ensures.err

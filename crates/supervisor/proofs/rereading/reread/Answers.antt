@@ -24,4 +24,4 @@ returns g c =
     (Leads-not_read core new log now_log read.0
     (subst (λ s. OnEachTrace s (λ goal so_far. StillFits s new goal so_far (past.NotRead ∷ so_far))) (c.use_table.ensures.core failed) c.not_read.ensures.fits)
     (subst (λ s. Lasts s new) (c.use_table.ensures.core failed) (unread_lasts c.use_table.new.core new c.not_read.ensures.state))
-    (subst (λ l. (so_far : _) → Logs l now_log so_far (past.NotRead ∷ so_far)) (c.use_table.ensures.log failed) c.write.ensures))
+    (subst (λ l. (so_far : _) → Logs (g.L.Log.state l) now_log so_far (past.NotRead ∷ so_far)) (c.use_table.ensures.log failed) c.write.ensures))

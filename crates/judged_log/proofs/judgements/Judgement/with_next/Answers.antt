@@ -1,7 +1,7 @@
 -- One more happening that breaks no law is one more that is judged.
-use Rattle.std.proofs.Common.{◌≡◌, ◌+◌, ◌∷◌, ap, subst, sym, ℕ, suc, List, length, None}
+use Rattle.std.proofs.Common.{◌∷◌, ap, subst, sym, suc, None}
 use native.Mathlib.Numerals.{unary_clauses}
-use Rattle.trace_check.specs.Judging.{Judged, TakesNext}
+use Rattle.trace_check.specs.Judging.{TakesNext}
 use Rattle.judged_log.specs.Judgements.{FindsBy}
 use Rattle.judged_log.proofs.judgements.Judgement.with_next.Goals as goal
 

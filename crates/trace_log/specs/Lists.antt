@@ -1,0 +1,12 @@
+-- What a log in memory took: the happenings of its list.
+use Rattle.std.specs.Prelude.{◌≡◌, Bool, List}
+use Rattle.init_trace.specs.Event.{Event}
+use Rattle.trace_log.specs.Logs.{LogState}
+
+-- a log in memory: its list, the oldest first, and whether it has failed
+pub record Listed : Type 0 where
+  pub list : List Event
+  pub failed : Bool
+
+abbrev pub list_state : Listed → LogState
+list_state log = record { taken = λ trace. log.list ≡ trace; failed = log.failed }
