@@ -3,14 +3,14 @@
 #![tactic(auto)]
 
 use program_io::{StandardFiles, report_unread_words, words};
-use rc_command::{SystemFiles, USAGE, run_words};
+use rc_command::{SystemFiles, SystemHosts, USAGE, run_words};
 use std::process::ExitCode;
 
 fn main(rt: HostRuntime) -> ExitCode {
     let _standard = StandardFiles::hold(&rt);
     let status = match words(&rt, rt.alloc()) {
         Ok(words) => run_words(
-            &rt,
+            &mut SystemHosts::new(rt),
             &rt,
             &mut SystemFiles::new(&rt),
             rt.alloc(),

@@ -232,16 +232,15 @@ said_part names_at said dir path listed previous names before after same at ther
   subst (λ p. ReportsFirst said.options p previous names before after) (folder_is said dir path same at) part,
 )
 
-pub said_runs : (names_at : KnownNames) (said : Said) (dir path listed : List ℕ) (previous names : List (List ℕ)) (before told after tells : Option (List ℕ)) (status : ℕ)
+pub said_runs : (names_at : KnownNames) (said : Said) (dir path listed : List ℕ) (previous names : List (List ℕ)) (old new : Option (List HostCall)) (before told after tells : Option (List ℕ)) (status : ℕ)
     → dir ≡ said.dir → path ≡ folder_of dir said.new → listed ≡ folder_of dir said.new → ArePrevious names_at dir said.previous previous → AreNamesAt names_at listed names
-    → (calls : List HostCall) × RunsNames said.options path previous names before told status after tells calls
-    → RunsSaid names_at said before told status after tells
-said_runs names_at said dir path listed previous names before told after tells status same at there first here (calls, runs) = (
+    → Since old new (RunsNames said.options path previous names before told status after tells)
+    → RunsSaid names_at said old new before told status after tells
+said_runs names_at said dir path listed previous names old new before told after tells status same at there first here runs = (
   previous,
   names,
   are_names names_at said dir listed previous names same there first here,
-  calls,
-  subst (λ p. RunsNames said.options p previous names before told status after tells calls) (folder_is said dir path same at) runs,
+  subst (λ p. Since old new (RunsNames said.options p previous names before told status after tells)) (folder_is said dir path same at) runs,
 )
 
 -- a status of a run that is whole is that of the run
@@ -289,20 +288,23 @@ reports_asked file_at names_at asked before dir options inner status out told af
 
 -- what is so of how scripts were run is so of those that are asked for, where nothing was told before
 pub runs_asked : (file_at : KnownFiles) (names_at : KnownNames) (asked : Asked) (before : Option Level) (dir : List ℕ) (options : RunOptions) (inner status : ℕ)
-    (out first told between after tells : Option (List ℕ))
+    (old new : Option (List HostCall)) (out first told between after tells : Option (List ℕ))
     → IsBefore file_at asked before → dir ≡ asked.dir
     → options ≡ entering asked.sysv (record { before = before; new = asked.new }) asked.options
     → IsStatusOf asked.file inner between status tells → told ≡ first
-    → (options.dry ≡ false → RunsSaid names_at (said_at dir (record { before = before; new = asked.new }) options) out told inner after between)
-    → RunsAsked file_at names_at asked out first status after tells
-runs_asked file_at names_at asked before dir options inner status out first told between after tells is same so ends silent runs =
+    → (options.dry ≡ true → new ≡ old)
+    × (options.dry ≡ false → RunsSaid names_at (said_at dir (record { before = before; new = asked.new }) options) old new out told inner after between)
+    → RunsAsked file_at names_at asked old new out first status after tells
+runs_asked file_at names_at asked before dir options inner status old new out first told between after tells is same so ends silent (dry, runs) =
     asks_for file_at asked before dir options
-    (λ said. said.options.dry ≡ false → (inner : ℕ) × (between : Option (List ℕ)) × RunsSaid names_at said out first inner after between
-    × IsStatusOf asked.file inner between status tells)
-    is same so
-    (λ wet. (
-      inner,
-      between,
-      subst (λ t. RunsSaid names_at (said_at dir (record { before = before; new = asked.new }) options) out t inner after between) silent (runs wet),
-      ends,
-    ))
+    (λ said. (said.options.dry ≡ true → new ≡ old) × (said.options.dry ≡ false → (inner : ℕ) × (between : Option (List ℕ))
+    × RunsSaid names_at said old new out first inner after between × IsStatusOf asked.file inner between status tells))
+    is same so (
+      dry,
+      (λ wet. (
+        inner,
+        between,
+        subst (λ t. RunsSaid names_at (said_at dir (record { before = before; new = asked.new }) options) old new out t inner after between) silent (runs wet),
+        ends,
+      )),
+    )

@@ -5,6 +5,7 @@ use Rattle.std.specs.Io.KnownBytes.{Appends}
 use Rattle.program_io.specs.Writing.{AppendsPrefix}
 use Rattle.program_io.specs.declared.statuses.TheConstants.{DEVICE_FAULT, DONE, LIMIT_REACHED}
 use Rattle.child_host.specs.Calls.{HostCall}
+use Rattle.child_host.specs.Record.{Since}
 use Rattle.rc_driver.specs.declared.driving.RunEnd.{RunEnd}
 use Rattle.rc_driver.specs.declared.driving.RunEnd.TheVariants as run_end
 use Rattle.rc_driver.specs.declared.runs.RcAnswer.{RcAnswer}
@@ -72,11 +73,12 @@ abbrev pub AreNames : KnownNames → Said → List (List ℕ) → List (List ℕ
 AreNames names_at said previous names =
     ArePrevious names_at said.dir said.previous previous × AreNamesAt names_at (folder_of said.dir said.new) names
 
--- the scripts that a command line asks for were run so
-abbrev pub RunsSaid : KnownNames → Said → Option (List ℕ) → Option (List ℕ) → ℕ → Option (List ℕ) → Option (List ℕ) → Type 0
-RunsSaid names_at said before told status after tells =
-    (previous names : List (List ℕ)) × AreNames names_at said previous names × (calls : List HostCall)
-    × RunsNames said.options (folder_of said.dir said.new) previous names before told status after tells calls
+-- the scripts that a command line asks for were run so, with the calls that are told
+abbrev pub RunsSaid : KnownNames → Said → Option (List HostCall) → Option (List HostCall) → Option (List ℕ)
+    → Option (List ℕ) → ℕ → Option (List ℕ) → Option (List ℕ) → Type 0
+RunsSaid names_at said old new before told status after tells =
+    (previous names : List (List ℕ)) × AreNames names_at said previous names × Since old new (λ calls.
+    RunsNames said.options (folder_of said.dir said.new) previous names before told status after tells calls)
 
 -- what is written of the scripts by the names in two folders, which came to these ends: what would start each, where
 -- nothing is run; else their lines
@@ -142,9 +144,11 @@ abbrev pub IsStatusOf : Option (List ℕ) → ℕ → Option (List ℕ) → ℕ 
 IsStatusOf file inner told status tells =
     ((status ≡ inner) × (tells ≡ told)) ⊎ (IsSome file × (status ≡ DEVICE_FAULT) × IsWhole inner)
 
--- the scripts that are asked for were run so, where any are run, and behind them the new level was kept
-abbrev pub RunsAsked : KnownFiles → KnownNames → Asked → Option (List ℕ) → Option (List ℕ) → ℕ → Option (List ℕ)
-    → Option (List ℕ) → Type 0
-RunsAsked file_at names_at asked before told status after tells =
-    AsksFor file_at asked (λ said. said.options.dry ≡ false → (inner : ℕ) × (between : Option (List ℕ))
-    × RunsSaid names_at said before told inner after between × IsStatusOf asked.file inner between status tells)
+-- nothing is asked of a host in a dry run; else the scripts that are asked for were run so, and behind them the new
+-- level was kept
+abbrev pub RunsAsked : KnownFiles → KnownNames → Asked → Option (List HostCall) → Option (List HostCall)
+    → Option (List ℕ) → Option (List ℕ) → ℕ → Option (List ℕ) → Option (List ℕ) → Type 0
+RunsAsked file_at names_at asked old new before told status after tells = AsksFor file_at asked (λ said.
+    (said.options.dry ≡ true → new ≡ old)
+    × (said.options.dry ≡ false → (inner : ℕ) × (between : Option (List ℕ))
+    × RunsSaid names_at said old new before told inner after between × IsStatusOf asked.file inner between status tells))

@@ -4,6 +4,7 @@
 
 mod command;
 mod folders;
+mod hosts;
 mod kept_folders;
 mod kept_level;
 mod level_files;
@@ -12,6 +13,7 @@ mod running;
 pub use command::{RunOptions, Words, read_words};
 pub use command_words::WordFault;
 pub use folders::Folders;
+pub use hosts::{ScriptHosts, SystemHosts};
 pub use kept_folders::KeptFolders;
 pub use kept_level::KeptLevel;
 pub use level_files::{LevelFiles, SystemFiles};

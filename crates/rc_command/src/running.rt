@@ -16,26 +16,20 @@ ghost use Rattle.rc_command.specs.Endings.{IsSilent, RunsNames, RunsSaid, RunsSc
 
 use crate::command::{RunOptions, Words, entering, read_words};
 use crate::folders::{Folders, folder_of, previous_names};
+use crate::hosts::ScriptHosts;
 use crate::level_files::{LevelFiles, level_in};
 use child_host::Host;
 use command_words::{is_version, report_word_fault};
 use init_words::{Level, Memory};
-use os_host::OsHost;
 use program_io::{DEVICE_FAULT, DONE, LIMIT_REACHED, REFUSED, report_no_memory, write_text};
 use program_version::print_version;
 use rc_driver::{Passage, Rc, RunEnd, RunWay, print_links, run_links};
 use std::alloc::Global;
-use std::fs::File;
 use std::io;
 use std::io::Write;
-use std::process::Processes;
-use std::rt::{Clock, Files};
 
 /// The greatest number of pauses of a run, of a tenth of a second at most.
 pub const PAUSES_LIMIT: u32 = 1_000_000;
-
-/// The seconds of the longest pause; behind something that happened it is a thousandth of it.
-const PAUSE: &str = "0.1";
 
 /// Exit status: all scripts came to their ends, and one of them failed.
 pub const SCRIPT_FAILED: u8 = 2;
@@ -63,9 +57,10 @@ pub const USAGE: &str =
 /// `PAUSES_LIMIT` pauses, 4 where NEW's folder can't be listed, the level before can't be read from its file or the new
 /// one written there, the output fails or memory runs out. The version is written on `out`, where the words are
 /// `--version` alone; or a line for each script at its end, with `-v` at its start too, with `-n` what would start it; a
-/// fault is reported on `err`. The folders are listed by `folders`, and the file of the levels is one of `levels`.
-pub fn run_words<R, F, L, W, E>(
-    rt: &R,
+/// fault is reported on `err`. The children are
+/// those of a host of `hosts`, the folders are listed by `folders`, and the file of the levels is one of `levels`.
+pub fn run_words<H, S, F, L, W, E>(
+    hosts: &mut S,
     folders: &F,
     levels: &mut L,
     alloc: Global,
@@ -74,7 +69,8 @@ pub fn run_words<R, F, L, W, E>(
     err: &mut E,
 ) -> u8
 where
-    R: Processes + Files<File = File> + Clock + Print + Eprint + Clone + Drop,
+    H: Host + Drop,
+    S: ScriptHosts<H>,
     F: Folders,
     L: LevelFiles,
     W: Write,
@@ -94,12 +90,17 @@ where
     ensures part { asks_version (map string_bytes words.items) ≡ false → (out.new ≡ out.old)
         ⊎ Asks (L.file_at levels.old) (map string_bytes words.items) (λ said. ReportsPart
         (F.names_at folders.now) said (W.contents out.old) (W.contents out.new)) }
-    // Nothing was run, or it is a call of `run_names` over the names in the two folders; behind it the level is kept.
+    // Nothing was run and nothing asked of a host, or it is a call of `run_names` over the names in the two folders, with
+    // the calls that the hosts tell; behind it the level is kept.
     ensures ran { asks_version (map string_bytes words.items) ≡ false
-        → (((result ≡ REFUSED) ⊎ (result ≡ DEVICE_FAULT)) × (out.new ≡ out.old))
+        → (((result ≡ REFUSED) ⊎ (result ≡ DEVICE_FAULT)) × (out.new ≡ out.old)
+        × (S.told hosts.new ≡ S.told hosts.old))
         ⊎ Says (map string_bytes words.items) (λ asked. RunsAsked (L.file_at levels.old)
-        (F.names_at folders.now) asked (W.contents out.old) (E.contents err.old) result
+        (F.names_at folders.now) asked (S.told hosts.old) (S.told hosts.new)
+        (W.contents out.old) (E.contents err.old) result
         (W.contents out.new) (E.contents err.new)) }
+    ensures unasked { asks_version (map string_bytes words.items) ≡ true
+        → S.told hosts.new ≡ S.told hosts.old }
     // The new level stands in the file that is named, where all scripts were carried out; else each file is as it was.
     ensures kept { asks_version (map string_bytes words.items) ≡ false → IsWhole result
         → Says (map string_bytes words.items)
@@ -113,14 +114,14 @@ where
         return print_version("rc", out, err);
     }
     match read_words(alloc, words.as_slice()) {
-        Ok(said) => run_asked(rt, folders, levels, alloc, &said, out, err),
+        Ok(said) => run_asked(hosts, folders, levels, alloc, &said, out, err),
         Err(fault) => report_word_fault("rc", &fault, USAGE, err),
     }
 }
 
 /// Runs the scripts that words ask for, behind the level before, and keeps the new one.
-fn run_asked<R, F: Folders, L: LevelFiles, W: Write, E: Write>(
-    rt: &R,
+fn run_asked<H: Host + Drop, S: ScriptHosts<H>, F: Folders, L: LevelFiles, W: Write, E: Write>(
+    hosts: &mut S,
     folders: &F,
     levels: &mut L,
     alloc: Global,
@@ -128,17 +129,16 @@ fn run_asked<R, F: Folders, L: LevelFiles, W: Write, E: Write>(
     out: &mut W,
     err: &mut E,
 ) -> u8
-where
-    R: Processes + Files<File = File> + Clock + Print + Eprint + Clone + Drop,
     ensures statuses { IsWhole result ⊎ (result ≡ LIMIT_REACHED) ⊎ (result ≡ DEVICE_FAULT) }
     ensures done { IsWhole result → AsksFor (L.file_at levels.old) (said_of said.now) (λ said. Reports
         (F.names_at folders.now) said (W.contents out.old) result (W.contents out.new)) }
     ensures part { (out.new ≡ out.old) ⊎ AsksFor (L.file_at levels.old) (said_of said.now) (λ said.
         ReportsPart (F.names_at folders.now) said (W.contents out.old) (W.contents out.new)) }
-    ensures ran { ((result ≡ DEVICE_FAULT) × (out.new ≡ out.old))
+    ensures ran { ((result ≡ DEVICE_FAULT) × (out.new ≡ out.old)
+        × (S.told hosts.new ≡ S.told hosts.old))
         ⊎ RunsAsked (L.file_at levels.old) (F.names_at folders.now) (said_of said.now)
-        (W.contents out.old) (E.contents err.old) result (W.contents out.new)
-        (E.contents err.new) }
+        (S.told hosts.old) (S.told hosts.new) (W.contents out.old) (E.contents err.old) result
+        (W.contents out.new) (E.contents err.new) }
     ensures kept { IsWhole result
         → Keeps (said_of said.now) (L.file_at levels.old) (L.file_at levels.new) }
     ensures unkept { (IsWhole result → ⊥) → AreSame (L.file_at levels.old) (L.file_at levels.new) }
@@ -153,7 +153,7 @@ where
     };
     let options = entering(said.sysv, passage, said.options);
     let status = run(
-        rt,
+        hosts,
         folders,
         alloc,
         said.dir.as_str(),
@@ -258,8 +258,8 @@ fn report_unkept<E: Write>(path: &str, error: &io::Error, err: &mut E) -> u8
 }
 
 /// Runs the scripts of the new level's folder.
-fn run<R, F: Folders, W: Write, E: Write>(
-    rt: &R,
+fn run<H: Host + Drop, S: ScriptHosts<H>, F: Folders, W: Write, E: Write>(
+    hosts: &mut S,
     folders: &F,
     alloc: Global,
     dir: &str,
@@ -268,17 +268,17 @@ fn run<R, F: Folders, W: Write, E: Write>(
     out: &mut W,
     err: &mut E,
 ) -> u8
-where
-    R: Processes + Files<File = File> + Clock + Print + Eprint + Clone + Drop,
     ensures statuses { IsWhole result ⊎ (result ≡ LIMIT_REACHED) ⊎ (result ≡ DEVICE_FAULT) }
     ensures done { IsWhole result → Reports (F.names_at folders.now) (said_at dir.now passage options)
         (W.contents out.old) result (W.contents out.new) }
     ensures part { (out.new ≡ out.old) ⊎ ReportsPart (F.names_at folders.now)
         (said_at dir.now passage options) (W.contents out.old) (W.contents out.new) }
-    ensures ran { ((result ≡ DEVICE_FAULT) × (out.new ≡ out.old))
-        ⊎ (options.dry ≡ false → RunsSaid (F.names_at folders.now) (said_at dir.now passage options)
-        (W.contents out.old) (E.contents err.old) result (W.contents out.new)
-        (E.contents err.new)) }
+    ensures ran { ((result ≡ DEVICE_FAULT) × (out.new ≡ out.old)
+        × (S.told hosts.new ≡ S.told hosts.old))
+        ⊎ ((options.dry ≡ true → S.told hosts.new ≡ S.told hosts.old)
+        × (options.dry ≡ false → RunsSaid (F.names_at folders.now) (said_at dir.now passage options)
+        (S.told hosts.old) (S.told hosts.new) (W.contents out.old) (E.contents err.old) result
+        (W.contents out.new) (E.contents err.new))) }
 {
     let Ok(path) = folder_of(alloc, dir, passage.new) else {
         return report_no_memory("rc", err);
@@ -289,7 +289,7 @@ where
     };
     match folders.names(alloc, path.as_str()) {
         Ok(names) => run_children(
-            rt,
+            hosts,
             alloc,
             path.as_str(),
             &previous,
@@ -302,9 +302,9 @@ where
     }
 }
 
-/// Runs the scripts of a folder as real children.
-fn run_children<R, W: Write, E: Write>(
-    rt: &R,
+/// Runs the scripts of a folder as children of a host.
+fn run_children<H: Host + Drop, S: ScriptHosts<H>, W: Write, E: Write>(
+    hosts: &mut S,
     alloc: Global,
     path: &str,
     previous: &[String],
@@ -313,8 +313,6 @@ fn run_children<R, W: Write, E: Write>(
     out: &mut W,
     err: &mut E,
 ) -> u8
-where
-    R: Processes + Files<File = File> + Clock + Print + Eprint + Clone + Drop,
     ensures statuses { IsWhole result ⊎ (result ≡ LIMIT_REACHED) ⊎ (result ≡ DEVICE_FAULT) }
     ensures done { IsWhole result → ReportsNames options path.now
         (map string_bytes previous.now) (map string_bytes names.now) (W.contents out.old) result
@@ -322,21 +320,20 @@ where
     ensures part { (out.new ≡ out.old) ⊎ ReportsFirst options path.now
         (map string_bytes previous.now) (map string_bytes names.now) (W.contents out.old)
         (W.contents out.new) }
-    ensures ran { ((result ≡ DEVICE_FAULT) × (out.new ≡ out.old)) ⊎ (options.dry ≡ false
-        → (calls : List HostCall) × RunsNames options path.now (map string_bytes previous.now)
-        (map string_bytes names.now) (W.contents out.old) (E.contents err.old) result
-        (W.contents out.new) (E.contents err.new) calls) }
+    ensures ran { ((result ≡ DEVICE_FAULT) × (out.new ≡ out.old)
+        × (S.told hosts.new ≡ S.told hosts.old))
+        ⊎ ((options.dry ≡ true → S.told hosts.new ≡ S.told hosts.old)
+        × (options.dry ≡ false → Since (S.told hosts.old) (S.told hosts.new) (RunsNames options
+        path.now (map string_bytes previous.now) (map string_bytes names.now)
+        (W.contents out.old) (E.contents err.old) result (W.contents out.new)
+        (E.contents err.new)))) }
 {
-    let Ok(own) = rt.clone() else {
+    let Ok(mut host) = hosts.open(alloc) else {
         return report_no_memory("rc", err);
     };
-    let Ok(host) = OsHost::new(own, alloc, "rc", "", "", "", None) else {
-        return report_no_memory("rc", err);
-    };
-    let Ok(mut host) = host.with_pause(PAUSE) else {
-        return report_no_memory("rc", err);
-    };
-    run_names(alloc, &mut host, path, previous, names, options, out, err)
+    let status = run_names(alloc, &mut host, path, previous, names, options, out, err);
+    hosts.close(host);
+    status
 }
 
 /// Runs the scripts of the folder at `path` over a host, from the names in the folder of the previous level and in it,

@@ -1,7 +1,7 @@
 //! The command line of rc, with real children.
 
 use program_version::{KIT, VERSION};
-use rc_command::{SystemFiles, run_words};
+use rc_command::{SystemFiles, SystemHosts, run_words};
 use std::alloc::Global;
 use std::fs;
 use std::fs::File;
@@ -77,14 +77,20 @@ const SCRIPTS: &[(&str, &str)] = &[
 
 const FOLDERS: &[&str] = &["t", "t/rc0.d", "t/rc2.d", "t/rc3.d", "t/rc6.d", "t/rcS.d"];
 
-fn words_are_run<R>(rt: &R, alloc: Global, words: Vec<String>, row: &Row)
+fn words_are_run<R>(
+    rt: &R,
+    hosts: &mut SystemHosts<R>,
+    alloc: Global,
+    words: Vec<String>,
+    row: &Row,
+)
 where
     R: Processes + Files<File = File> + Clock + Print + Eprint + Alloc + Abort + Clone + Drop,
 {
     let mut out: Vec<u8> = Vec::new(alloc);
     let mut err: Vec<u8> = Vec::new(alloc);
     let status = run_words(
-        rt,
+        hosts,
         rt,
         &mut SystemFiles::new(rt),
         alloc,
@@ -103,7 +109,8 @@ fn is_run<R>(rt: &R, alloc: Global, row: &Row) -> Result<(), Fail>
 where
     R: Processes + Files<File = File> + Clock + Print + Eprint + Alloc + Abort + Clone + Drop,
 {
-    words_are_run(rt, alloc, words_of(alloc, row.0)?, row);
+    let mut hosts = SystemHosts::new(rt.clone()?);
+    words_are_run(rt, &mut hosts, alloc, words_of(alloc, row.0)?, row);
     Ok(())
 }
 
@@ -201,14 +208,20 @@ const REFUSED: &[(&[&str], &str)] = &[
     (&["-h"], ""),
 ];
 
-fn words_are_refused<R>(rt: &R, alloc: Global, words: Vec<String>, report: &str)
+fn words_are_refused<R>(
+    rt: &R,
+    hosts: &mut SystemHosts<R>,
+    alloc: Global,
+    words: Vec<String>,
+    report: &str,
+)
 where
     R: Processes + Files<File = File> + Clock + Print + Eprint + Alloc + Abort + Clone + Drop,
 {
     let mut out: Vec<u8> = Vec::new(alloc);
     let mut err: Vec<u8> = Vec::new(alloc);
     let status = run_words(
-        rt,
+        hosts,
         rt,
         &mut SystemFiles::new(rt),
         alloc,
@@ -225,7 +238,9 @@ where
     R: Processes + Files<File = File> + Clock + Print + Eprint + Alloc + Abort + Clone + Drop,
 {
     let report = format!(in alloc; "{why}{USAGE_REPORT}")?;
-    words_are_refused(rt, alloc, words_of(alloc, line)?, report.as_str());
+    let mut hosts = SystemHosts::new(rt.clone()?);
+    let words = words_of(alloc, line)?;
+    words_are_refused(rt, &mut hosts, alloc, words, report.as_str());
     Ok(())
 }
 
@@ -247,6 +262,7 @@ fn is_version(taken: &[u8], line: &str, room: usize) -> bool {
 
 fn version_is_written<R>(
     rt: &R,
+    hosts: &mut SystemHosts<R>,
     alloc: Global,
     words: Vec<String>,
     line: &str,
@@ -259,7 +275,7 @@ where
     let mut out = Slow::new(alloc, room, true, false);
     let mut err: Vec<u8> = Vec::new(alloc);
     let ended = run_words(
-        rt,
+        hosts,
         rt,
         &mut SystemFiles::new(rt),
         alloc,
@@ -279,7 +295,8 @@ fn the_version_is_written(rt: HostRuntime) -> Result<(), Fail> {
     let line = format!(in rt.alloc(); "rc {VERSION} ({KIT})\n")?;
     for row in VERSIONS {
         let words = words_of(rt.alloc(), &["--version"])?;
-        version_is_written(&rt, rt.alloc(), words, line.as_str(), row);
+        let mut hosts = SystemHosts::new(rt);
+        version_is_written(&rt, &mut hosts, rt.alloc(), words, line.as_str(), row);
     }
     Ok(())
 }

@@ -144,14 +144,14 @@ fn give_late(host: &mut MemoryHost, letter: u8) -> Result<(), Fail> {
     Ok(())
 }
 
-fn give_starts(host: &mut MemoryHost, letters: &[u8]) -> Result<(), Fail> {
+pub(crate) fn give_starts(host: &mut MemoryHost, letters: &[u8]) -> Result<(), Fail> {
     for letter in letters {
         host.give_start(reply_of(*letter))?;
     }
     Ok(())
 }
 
-fn give_looks(host: &mut MemoryHost, letters: &[u8]) -> Result<(), Fail> {
+pub(crate) fn give_looks(host: &mut MemoryHost, letters: &[u8]) -> Result<(), Fail> {
     for letter in letters {
         host.give_look(reply_of(*letter))?;
     }
@@ -187,7 +187,7 @@ fn letter_of(call: &Call) -> u8 {
 }
 
 /// The calls are these letters.
-fn are_calls(calls: &[Call], letters: &[u8]) -> bool {
+pub(crate) fn are_calls(calls: &[Call], letters: &[u8]) -> bool {
     let mut letters = letters.iter();
     for call in calls {
         match letters.next() {

@@ -9,6 +9,8 @@ mod driving_tests;
 #[cfg(test)]
 mod growth_tests;
 #[cfg(test)]
+mod host_tests;
+#[cfg(test)]
 mod names_tests;
 #[cfg(test)]
 mod order_tests;

@@ -4,7 +4,8 @@ use child_host::Reply;
 use init_words::{Answer, ChildNo, Status};
 use memory_host::MemoryHost;
 use rc_command::{
-    Folders, KeptFolders, KeptLevel, LevelFiles, RunOptions, SystemFiles, run_names, run_words,
+    Folders, KeptFolders, KeptLevel, LevelFiles, RunOptions, SystemFiles, SystemHosts, run_names,
+    run_words,
 };
 use rc_driver::RunWay;
 use std::alloc::Global;
@@ -143,7 +144,7 @@ where
     let mut out: Vec<u8> = Vec::new(alloc);
     let mut err: Vec<u8> = Vec::new(alloc);
     let status = run_words(
-        rt,
+        &mut SystemHosts::new(rt.clone()?),
         folders,
         &mut SystemFiles::new(rt),
         alloc,
@@ -261,7 +262,10 @@ where
     let mut file = file_of(alloc, row.0)?;
     let mut out: Vec<u8> = Vec::new(alloc);
     let mut err: Vec<u8> = Vec::new(alloc);
-    let status = run_words(rt, folders, &mut file, alloc, words, &mut out, &mut err);
+    let mut hosts = SystemHosts::new(rt.clone()?);
+    let status = run_words(
+        &mut hosts, folders, &mut file, alloc, words, &mut out, &mut err,
+    );
     assert!(rt; status == row.2 && out.as_slice() == row.3.as_bytes());
     assert!(rt; err.as_slice() == row.4.as_bytes() && stands(alloc, &file, row.5)?);
     Ok(())

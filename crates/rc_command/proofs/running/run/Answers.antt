@@ -27,11 +27,14 @@ returns-in-Ok-names-clause-part g c = elim c.run_children.ensures.part [
 pub returns-in-Ok-names-clause-ran : goal.returns-in-Ok-names-clause-ran
 returns-in-Ok-names-clause-ran g c = elim c.run_children.ensures.ran [
   | inl none ↦ inl none
-  | inr some ↦
-      inr (λ wet.
-      (let found = some wet in
-      let runs = rw (c.deref.ensures.value, c.deref-in-Ok-names.ensures.value) at found in
-      let previous = texts c.in-Ok-previous_names.previous.items in
-      let names = texts c.in-Ok-names.names.items in
-      said_runs (g.F.Folders.names_at c.args.folders.now) (said_at c.args.dir.now c.args.passage c.args.options) c.args.dir.now c.as_str-in-Ok-names.result.now c.as_str.result.now previous names _ _ _ _ _ refl (c.as_str-in-Ok-names.ensures.value ∙ c.in-Ok.ensures) (c.as_str.ensures.value ∙ c.in-Ok.ensures) c.in-Ok-previous_names.ensures c.in-Ok-names.ensures.names runs))
+  | inr (dry, some) ↦
+      inr (
+        dry,
+        (λ wet.
+            (let found = some wet in
+            let runs = rw (c.deref.ensures.value, c.deref-in-Ok-names.ensures.value) at found in
+            let previous = texts c.in-Ok-previous_names.previous.items in
+            let names = texts c.in-Ok-names.names.items in
+            said_runs (g.F.Folders.names_at c.args.folders.now) (said_at c.args.dir.now c.args.passage c.args.options) c.args.dir.now c.as_str-in-Ok-names.result.now c.as_str.result.now previous names _ _ _ _ _ _ _ refl (c.as_str-in-Ok-names.ensures.value ∙ c.in-Ok.ensures) (c.as_str.ensures.value ∙ c.in-Ok.ensures) c.in-Ok-previous_names.ensures c.in-Ok-names.ensures.names runs)),
+      )
 ]

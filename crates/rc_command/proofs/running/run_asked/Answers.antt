@@ -22,7 +22,7 @@ returns-clause-part g c = elim c.run-status.ensures.part [
 
 pub returns-clause-ran : goal.returns-clause-ran
 returns-clause-ran g c = elim c.run-status.ensures.ran [
-  | inl none ↦ inl (fault_of (said_of c.args.said.now).file c.run-status.result _ _ _ c.keep_level.ensures.status none.0, none.1)
+  | inl (fault, same, told) ↦ inl (fault_of (said_of c.args.said.now).file c.run-status.result _ _ _ c.keep_level.ensures.status fault, same, told)
   | inr runs ↦
-      inr (runs_asked (g.L.LevelFiles.file_at c.args.levels.now) (g.F.Folders.names_at c.args.folders.now) (said_of c.args.said.now) c.in-Ok.before c.as_str.result.now c.entering-options.result c.run-status.result c.keep_level.result _ _ _ _ _ _ c.in-Ok.ensures.ok c.as_str.ensures.value c.entering-options.ensures c.keep_level.ensures.status (ap g.E.Write.contents c.in-Ok.ensures.silent) runs)
+      inr (runs_asked (g.L.LevelFiles.file_at c.args.levels.now) (g.F.Folders.names_at c.args.folders.now) (said_of c.args.said.now) c.in-Ok.before c.as_str.result.now c.entering-options.result c.run-status.result c.keep_level.result _ _ _ _ _ _ _ _ c.in-Ok.ensures.ok c.as_str.ensures.value c.entering-options.ensures c.keep_level.ensures.status (ap g.E.Write.contents c.in-Ok.ensures.silent) runs)
 ]

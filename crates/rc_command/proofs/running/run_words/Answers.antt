@@ -13,7 +13,7 @@ returns-in-Ok-clause-part g c = λ _.
 pub returns-in-Ok-clause-ran : goal.returns-in-Ok-clause-ran
 returns-in-Ok-clause-ran g c = λ _.
     let reads = rw c.as_slice-2.ensures.value at c.in-Ok.ensures.ok in
-    elim c.run_asked.ensures.ran [ inl none ↦ inl (inr none.0, none.1) | inr ran ↦ inr (_, reads, ran) ]
+    elim c.run_asked.ensures.ran [ inl (fault, same, told) ↦ inl (inr fault, same, told) | inr ran ↦ inr (_, reads, ran) ]
 
 pub returns-in-Ok-clause-said : goal.returns-in-Ok-clause-said
 returns-in-Ok-clause-said g c = λ _ _. let reads = rw c.as_slice-2.ensures.value at c.in-Ok.ensures.ok in subst IsSome (sym reads) refl

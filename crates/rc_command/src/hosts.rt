@@ -1,0 +1,84 @@
+//! Where the host of a run of `rc` comes from: the operating system, or one of a test.
+
+ghost use Rattle.std.specs.Prelude.{◌≡◌, [], List, Option, IfOk, OnErr};
+ghost use Rattle.child_host.specs.Calls.{HostCall};
+
+use child_host::Host;
+use init_words::Memory;
+use os_host::OsHost;
+use proof_values::Noted;
+use std::alloc::Global;
+use std::fs::File;
+use std::marker::Model;
+use std::process::Processes;
+use std::rt::{Clock, Files};
+use telling_host::{CallList, Telling, no_calls};
+
+/// The seconds of the longest pause; behind something that happened it is a thousandth of it.
+const PAUSE: &str = "0.1";
+
+/// Where the host of a run comes from, and who takes it back behind it.
+///
+/// A contract sees of it the calls that its hosts were asked, where they tell them.
+pub trait ScriptHosts<H: Host> {
+    /// The calls of its hosts with their answers, the newest first. None from the first call that isn't told.
+    ghost told: { Self → Option (List HostCall) };
+
+    /// A host. It tells what was told before.
+    fn open(&mut self, alloc: Global) -> Result<H, Memory>
+        ensures told { IfOk result (λ host. H.told host ≡ told self.old) }
+        ensures err { OnErr result (told self.new ≡ told self.old) };
+
+    /// Takes a host back.
+    fn close(&mut self, host: H)
+        ensures { told self.new ≡ H.told host };
+}
+
+/// The hosts that ask the operating system. They tell the calls that they were asked, which proofs alone can read.
+#[derive(Drop)]
+pub struct SystemHosts<R: Processes + Files<File = File> + Clock + Print + Eprint + Clone + Drop> {
+    rt: R,
+    calls: Noted<CallList>,
+}
+
+impl<R: Processes + Files<File = File> + Clock + Print + Eprint + Clone + Drop> Model
+    for SystemHosts<R> {
+    ghost use Rattle.std.specs.Prelude.{List};
+    ghost use Rattle.child_host.specs.Calls.{HostCall};
+
+    ghost Value = { List HostCall };
+
+    ghost view = { λ hosts. hosts.calls.value };
+}
+
+impl<R: Processes + Files<File = File> + Clock + Print + Eprint + Clone + Drop> SystemHosts<R> {
+    /// Hosts of which no call was asked yet.
+    pub fn new(rt: R) -> SystemHosts<R>
+        ensures { result ≡ [] }
+    {
+        SystemHosts {
+            rt,
+            calls: no_calls(),
+        }
+    }
+}
+
+impl<R: Processes + Files<File = File> + Clock + Print + Eprint + Clone + Drop> ScriptHosts<
+    Telling<OsHost<R>>,
+> for SystemHosts<R> {
+    ghost use Rattle.std.specs.Prelude.{◌≡◌, Some, IfOk};
+
+    ghost told = { λ hosts. Some hosts };
+
+    fn open(&mut self, alloc: Global) -> Result<Telling<OsHost<R>>, Memory>
+        ensures told { IfOk result (λ host. Some host.calls ≡ Some self.old) }
+        ensures err { self.new ≡ self.old }
+    {
+        let host = OsHost::new(self.rt.clone()?, alloc, "rc", "", "", "", None)?;
+        Ok(Telling::after(&self.calls, host.with_pause(PAUSE)?))
+    }
+
+    fn close(&mut self, host: Telling<OsHost<R>>) {
+        self.calls = host.calls();
+    }
+}
