@@ -289,7 +289,8 @@ fn report_judged<E: Write>(alloc: Global, left: Option<u64>, count: u64, err: &m
 /// Reports that the trace of a path begins within a run, and gives the exit status.
 fn report_within<E: Write>(alloc: Global, path: &str, err: &mut E) -> u8
     ensures status { result ≡ REFUSED }
-    ensures reported { ReportsText (within_message path.now) (E.contents err.old) (E.contents err.new) }
+    ensures reported { ReportsText (within_message path.now)
+        (E.contents err.old) (E.contents err.new) }
 {
     report_made(within_text(alloc, path), err);
     REFUSED

@@ -50,10 +50,11 @@ pub(crate) fn report_end<E: Write>(
     judgement: Option<Judgement>,
     err: &mut E,
 ) -> u8
-    ensures status { result
-        ≡ end_status (end_of (run_of said.now) (noted_of notes.now (waiting_text core.now) judgement) served.now) }
-    ensures reported { ReportsEnd (end_of (run_of said.now) (noted_of notes.now (waiting_text core.now) judgement)
-        served.now) (E.contents err.old) (E.contents err.new) }
+    ensures status { result ≡ end_status (end_of (run_of said.now)
+        (noted_of notes.now (waiting_text core.now) judgement) served.now) }
+    ensures reported { ReportsEnd (end_of (run_of said.now)
+        (noted_of notes.now (waiting_text core.now) judgement) served.now)
+        (E.contents err.old) (E.contents err.new) }
 {
     if !served.logged {
         report(UNLOGGED, err);
@@ -75,11 +76,13 @@ fn report_turns<E: Write>(
     core: &Core,
     err: &mut E,
 ) -> u8
-    ensures status { result
-        ≡ turns_status (end_at (run_of said.now) (noted_of notes.now (waiting_text core.now) None) true
+    ensures status { result ≡ turns_status (end_at (run_of said.now)
+        (noted_of notes.now (waiting_text core.now) None) true
         ((run_of said.now).drain && served.now.drained)) }
-    ensures reported { ReportsTurns (end_at (run_of said.now) (noted_of notes.now (waiting_text core.now) None) true
-        ((run_of said.now).drain && served.now.drained)) (E.contents err.old) (E.contents err.new) }
+    ensures reported { ReportsTurns (end_at (run_of said.now)
+        (noted_of notes.now (waiting_text core.now) None) true
+        ((run_of said.now).drain && served.now.drained))
+        (E.contents err.old) (E.contents err.new) }
 {
     if said.drain && served.drained {
         report_idle(notes.births() == 0, err);

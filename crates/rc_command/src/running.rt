@@ -130,8 +130,9 @@ fn run_asked<H: Host + Drop, S: ScriptHosts<H>, F: Folders, L: LevelFiles, W: Wr
     err: &mut E,
 ) -> u8
     ensures statuses { IsWhole result ⊎ (result ≡ LIMIT_REACHED) ⊎ (result ≡ DEVICE_FAULT) }
-    ensures done { IsWhole result → AsksFor (L.file_at levels.old) (said_of said.now) (λ said. Reports
-        (F.names_at folders.now) said (W.contents out.old) result (W.contents out.new)) }
+    ensures done { IsWhole result → AsksFor (L.file_at levels.old) (said_of said.now) (λ said.
+        Reports (F.names_at folders.now) said (W.contents out.old) result
+        (W.contents out.new)) }
     ensures part { (out.new ≡ out.old) ⊎ AsksFor (L.file_at levels.old) (said_of said.now) (λ said.
         ReportsPart (F.names_at folders.now) said (W.contents out.old) (W.contents out.new)) }
     ensures ran { ((result ≡ DEVICE_FAULT) × (out.new ≡ out.old)
@@ -222,7 +223,8 @@ fn keep_level<L: LevelFiles, E: Write>(
     status: u8,
     err: &mut E,
 ) -> u8
-    ensures status { IsStatusOf (said_of said.now).file status (E.contents err.old) result (E.contents err.new) }
+    ensures status { IsStatusOf (said_of said.now).file status (E.contents err.old) result
+        (E.contents err.new) }
     ensures kept { IsWhole result
         → Keeps (said_of said.now) (L.file_at levels.old) (L.file_at levels.new) }
     ensures unkept { (IsWhole result → ⊥) → AreSame (L.file_at levels.old) (L.file_at levels.new) }
@@ -269,8 +271,8 @@ fn run<H: Host + Drop, S: ScriptHosts<H>, F: Folders, W: Write, E: Write>(
     err: &mut E,
 ) -> u8
     ensures statuses { IsWhole result ⊎ (result ≡ LIMIT_REACHED) ⊎ (result ≡ DEVICE_FAULT) }
-    ensures done { IsWhole result → Reports (F.names_at folders.now) (said_at dir.now passage options)
-        (W.contents out.old) result (W.contents out.new) }
+    ensures done { IsWhole result → Reports (F.names_at folders.now)
+        (said_at dir.now passage options) (W.contents out.old) result (W.contents out.new) }
     ensures part { (out.new ≡ out.old) ⊎ ReportsPart (F.names_at folders.now)
         (said_at dir.now passage options) (W.contents out.old) (W.contents out.new) }
     ensures ran { ((result ≡ DEVICE_FAULT) × (out.new ≡ out.old)

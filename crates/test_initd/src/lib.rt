@@ -11,6 +11,8 @@ mod io_tests;
 #[cfg(test)]
 mod judge_tests;
 #[cfg(test)]
+mod log_tests;
+#[cfg(test)]
 mod one_channel;
 #[cfg(test)]
 mod telinit_tests;

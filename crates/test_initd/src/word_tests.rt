@@ -104,7 +104,10 @@ const OVER_KEPT: &[(&[u8], &[u8], &str, u8, (&str, &str))] = &[
         b"settle 3\n",
         "check said",
         1,
-        ("", "initd: said begins within a run: judge it behind the piece before it\n"),
+        (
+            "",
+            "initd: said begins within a run: judge it behind the piece before it\n",
+        ),
     ),
     (
         b"",

@@ -1,0 +1,68 @@
+//! Turns over a log: what is left of it behind them.
+
+use brief_log::BriefLog;
+use child_host::Reply;
+use init_words::{Answer, ChildNo};
+use initd_command::make_turns;
+use initd_options::{Words, read_words};
+use memory_host::MemoryHost;
+use std::alloc::Global;
+use std::test::Fail;
+use supervisor::Opening;
+use test_support::line_words;
+use trace_log::{EndedLog, StreamLog};
+
+const INITTAB: &[u8] = b"r:3:respawn:x\n";
+
+/// Three turns: a child is born in the first, and lives at the looks of the others.
+const TRACE: &[u8] =
+    b"use 1\nr:3:respawn:x\nclock 0\nnudge\nenter sysinit 5\nenter boot 5\nenter 3 5\n\
+    ask r start\nbirth r 10\ntold r\nsettle 3\n\
+    clock 0\nnudge\nask r look\nstill r\ntold r\nclock 0\nnudge\nask r look\nstill r\ntold r\n";
+
+/// Its brief form: of the idle rounds the last reading of the clock and the last round are left.
+const BRIEF: &[u8] =
+    b"use 1\nr:3:respawn:x\nclock 0\nnudge\nenter sysinit 5\nenter boot 5\nenter 3 5\n\
+    ask r start\nbirth r 10\ntold r\nsettle 3\nclock 0\nnudge\n";
+
+fn host_of(alloc: Global) -> Result<MemoryHost, Fail> {
+    let mut host = MemoryHost::new(alloc);
+    host.give_start(Reply::Now(Answer::Born(ChildNo(10))))?;
+    host.give_look(Reply::Now(Answer::Alive))?;
+    host.give_look(Reply::Now(Answer::Alive))?;
+    Ok(host)
+}
+
+/// What is left of the log behind the turns.
+fn left_of<L: EndedLog + Drop>(rt: &HostRuntime, log: L) -> Result<L::Left, Fail> {
+    let alloc = rt.alloc();
+    let words = line_words(alloc, "run --level 3 --turns 3")?;
+    let Ok(Words::Run(said)) = read_words(alloc, words.as_slice()) else {
+        return Err(Fail::from("no run"));
+    };
+    let Ok((table, _)) = inittab_text::read(alloc, INITTAB) else {
+        return Err(Fail::from("no table"));
+    };
+    let mut host = host_of(alloc)?;
+    let opening = Opening::new(alloc, table, said.level)?;
+    let mut err: Vec<u8> = Vec::new(alloc);
+    let (_, left) = make_turns(rt, alloc, &said, opening, &mut host, log, &mut err);
+    Ok(left)
+}
+
+#[test]
+fn the_writer_that_is_left_has_the_trace(rt: HostRuntime) -> Result<(), Fail> {
+    let alloc = rt.alloc();
+    let text: Vec<u8> = left_of(&rt, StreamLog::new(alloc, Vec::new(alloc)))?;
+    assert!(rt; text.as_slice() == TRACE, "{text:?}");
+    Ok(())
+}
+
+#[test]
+fn the_writer_that_is_left_of_a_brief_log_has_the_brief_form(rt: HostRuntime) -> Result<(), Fail> {
+    let alloc = rt.alloc();
+    let log = BriefLog::new(StreamLog::new(alloc, Vec::new(alloc)));
+    let text: Vec<u8> = left_of(&rt, log)?;
+    assert!(rt; text.as_slice() == BRIEF, "{text:?}");
+    Ok(())
+}
