@@ -1,27 +1,23 @@
 //! Growths are refused in turn, on heaps of more and more room, until a call meets no refusal: what is answered is lack
 //! of memory.
 
-use init_words::{Memory, Part};
+use init_words::Part;
 use inittab_lint::{Found, LineWarning, Warning, lint_parts, warnings};
 use inittab_text::TableFault;
 use linked_list_allocator::LocalHeap;
 use std::alloc::{AllocError, Global};
 use std::test::Fail;
-use text_view::TextView;
-use trace_follow::take_lines;
 
 /// A call that grows.
 #[derive(Clone, Copy)]
 enum Call {
     LintParts,
     Warnings,
-    TakeLines,
 }
 
 const CALLS: &[(Call, &str)] = &[
     (Call::LintParts, "lint_parts"),
     (Call::Warnings, "warnings"),
-    (Call::TakeLines, "take_lines"),
 ];
 
 /// Two files with a fault and two warnings.
@@ -49,13 +45,6 @@ const WARNINGS: [LineWarning; 3] = [
     },
 ];
 
-/// A trace with a start and an end, and its lines.
-const TRACE: &str =
-    "use 1\ns::sysinit:x\nclock 7\nenter sysinit 5\nask s start\nbirth s 10\ntold s\nask s look\ndeath 10\nreaped s 10 exit 3\n";
-
-const LINES: &str =
-    "0 inittab read: 1 entry\n7 entering stage sysinit\n7 s started, 10\n7 s ended, 10: exit 3\n";
-
 /// From one heap to the next there is less more room than the least growth takes, so that each growth is refused on
 /// some heap.
 const STEP: usize = 16;
@@ -67,16 +56,8 @@ fn part_of(alloc: Global, name: &str, text: &str) -> Result<Part, AllocError> {
     })
 }
 
-/// The lines of the trace, by a view on a heap.
-fn lines_by(heap: &LocalHeap, alloc: Global) -> Result<Vec<u8>, Memory> {
-    let mut view = TextView::new(heap);
-    let mut lines = Vec::new(alloc);
-    take_lines(&mut view, TRACE.as_bytes(), &mut lines)?;
-    Ok(lines)
-}
-
 /// The call's answer on a heap is right; where it is a refusal, it is one for lack of memory, given as `None`.
-fn answer(heap: &LocalHeap, alloc: Global, parts: &[Part], call: Call) -> Option<bool> {
+fn answer(heap: &LocalHeap, parts: &[Part], call: Call) -> Option<bool> {
     match call {
         Call::LintParts => match lint_parts(heap, parts) {
             Ok(lint) => Some(
@@ -89,10 +70,6 @@ fn answer(heap: &LocalHeap, alloc: Global, parts: &[Part], call: Call) -> Option
             Ok(found) => Some(found.as_slice() == WARNINGS.as_slice()),
             Err(AllocError) => None,
         },
-        Call::TakeLines => match lines_by(heap, alloc) {
-            Ok(lines) => Some(lines.as_slice() == LINES.as_bytes()),
-            Err(Memory) => None,
-        },
     }
 }
 
@@ -100,7 +77,7 @@ fn answer(heap: &LocalHeap, alloc: Global, parts: &[Part], call: Call) -> Option
 fn refusals(alloc: Global, parts: &[Part], call: Call) -> Result<usize, Fail> {
     for refused in 0..4096usize {
         let heap = LocalHeap::new(alloc, STEP * refused)?;
-        let given = answer(&heap, alloc, parts, call);
+        let given = answer(&heap, parts, call);
         if given == Some(false) {
             return Ok(0);
         }
