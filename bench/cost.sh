@@ -1,10 +1,12 @@
 #!/bin/bash
 # What a line of a script costs `initd simulate` over tables of 16, 512 and 4,096 respawn entries, what 60 turns cost
-# `initd run` over 500 children that sleep, and what a trace of 10,000,000 lines costs `initd check`, in processor time;
-# of the last also the memory.
-# usage: bench/cost.sh INITD     (the program, as `rt run` leaves it in crates/initd/out/initd)
+# `initd run` over 500 children that sleep, and what a trace of 10,000,000 lines costs `initd check` and `initview`, in
+# processor time; of the last also the memory.
+# usage: bench/cost.sh INITD INITVIEW     (the programs, as `rt run` leaves them in crates/initd/out/initd and
+# crates/initview/out/initview)
 set -eu
 initd=$(realpath "$1")
+initview=$(realpath "$2")
 folder=$(mktemp -d)
 trap 'rm -r "$folder"' EXIT
 for entries in 16 512 4096; do
@@ -47,4 +49,11 @@ awk 'BEGIN {
     }
 }' > long
 echo "a trace of $(wc -l < long) lines, $(wc -c < long) bytes, is judged"
-/usr/bin/time -f '%U seconds of user time, %S of system time, %M KiB at most' "$initd" check long
+measured() {
+    /usr/bin/time -f '%U seconds of user time, %S of system time, %M KiB at most' "$@"
+}
+measured "$initd" check long
+echo "it is viewed: status, status of an id, follow"
+measured "$initview" status long
+measured "$initview" status long c4
+measured "$initview" follow - < long

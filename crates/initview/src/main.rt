@@ -1,7 +1,7 @@
 //! `initview`: why an entry of init is not started, how all stand and which children are left, by a trace.
 #![tactic(auto)]
 
-use initview_command::{USAGE, run_words};
+use initview_command::{GrowingFiles, USAGE, run_words};
 use program_io::{StandardFiles, report_unread_words, words};
 use std::process::ExitCode;
 
@@ -12,6 +12,7 @@ fn main(rt: HostRuntime) -> ExitCode {
         Ok(words) => {
             run_words(
                 &rt,
+                &GrowingFiles::new(&rt),
                 alloc,
                 words.as_slice(),
                 &mut rt.stdout(),

@@ -1,3 +1,4 @@
 pub mod Drawn
 pub mod Files
 pub mod Written
+pub mod Followed

@@ -211,7 +211,9 @@ pub(crate) fn reason_of(words: &[String]) -> &'static str {
         [verb, option, _, _] if verb.as_str() == "timeline" && option.as_str() == "--width" => {
             "a width N is 20 to 1000 columns"
         }
-        [verb, ..] if verb.as_str() == "timeline" => "a word is missing, or one is too many",
+        [verb, ..] if verb.as_str() == "timeline" || verb.as_str() == "follow" => {
+            "a word is missing, or one is too many"
+        }
         [verb] if verb.as_str() == "lint" || verb.as_str() == "plan" => "a TABLE is missing",
         [_, option, level, ..]
             if option.as_str() == "--level" && level_in(level.as_bytes()).is_none() => {

@@ -6,12 +6,15 @@ ghost use Rattle.command_words.specs.CommandLines.{asks_version};
 ghost use Rattle.initview_command.specs.declared.asking.Question.{Question};
 ghost use Rattle.initview_command.specs.declared.asking.TableQuestion.{TableQuestion};
 ghost use Rattle.initview_command.specs.Charting.{Draws, chart_path, chart_width};
+ghost use Rattle.initview_command.specs.Following.{Follows, follow_path};
 ghost use Rattle.initview_command.specs.Asking.{path_of, paths_of, question_of, table_question_of};
 ghost use Rattle.initview_command.specs.Showing.{Shows};
 ghost use Rattle.initview_command.specs.Tables.{Answers};
 
 use crate::asking::{path_of, paths_of, question_of, reason_of, table_question_of};
 use crate::charting::{chart_path, chart_width, draw_file};
+use crate::following::{follow_file, follow_path};
+use crate::growing::GrowingTexts;
 use crate::showing::show_file;
 use crate::tables::show_files;
 use command_words::{is_version, report_refused_words};
@@ -27,6 +30,7 @@ pub const USAGE: &str = "usage: initview why ID TRACE
        initview status --json TRACE
        initview left TRACE
        initview timeline [--width N] TRACE
+       initview follow TRACE
        initview lint TABLE [FILE..]
        initview diff [--level LEVEL] OLD NEW
        initview plan [--level LEVEL] TABLE [FILE..]
@@ -38,6 +42,8 @@ pub const USAGE: &str = "usage: initview why ID TRACE
   timeline
           draw the lives of each entry's children, signals, holds and stages over the time, in lines
           of N columns, 80 without it
+  follow  print a line for each happening that an operator is told of, also while the trace is
+          written, until it is interrupted
   lint    list the faults of an inittab's lines, with what was probably meant, and warnings; the
           exit status is 1 with faults, 2 with warnings alone
   diff    list what becomes of each entry in a level where the inittab NEW is read in OLD's place
@@ -52,10 +58,12 @@ pub const USAGE: &str = "usage: initview why ID TRACE
 /// Runs initview on its words, and gives the exit status: 0 where the trace was read to its end and the answer written
 /// on `out`, 1 where the words are refused or a line of the trace is none, 2 where a happening breaks a law, 4 where the
 /// trace can't be read, the output fails or memory runs out; of `status TRACE ID` 0, 3 or 4, as the LSB has them. What
-/// stands before a line that is none, or that breaks a law, is shown. Of an inittab the status is 1 where it isn't read
+/// stands before a line that is none, or that breaks a law, is shown. A trace that is followed is read on in `growing`
+/// until it ends, and each of its lines is written when it comes. Of an inittab the status is 1 where it isn't read
 /// for its size, of `lint` also where it has faults, and 2 where it has warnings alone. Faults of files are told on `err`.
-pub fn run_words<T: Texts, W: Write, E: Write>(
+pub fn run_words<T: Texts, G: GrowingTexts, W: Write, E: Write>(
     texts: &T,
+    growing: &G,
     alloc: Global,
     words: &[String],
     out: &mut W,
@@ -78,10 +86,17 @@ pub fn run_words<T: Texts, W: Write, E: Write>(
         → table_question_of (map string_bytes words.now) ≡ Some question
         → Answers (T.text_at texts.now) (paths_of (map string_bytes words.now)) question result
         (W.contents out.old) (W.contents out.new) }
+    ensures followed { (path : List ℕ) → asks_version (map string_bytes words.now) ≡ false
+        → question_of (map string_bytes words.now) ≡ None
+        → chart_width (map string_bytes words.now) ≡ None
+        → table_question_of (map string_bytes words.now) ≡ None
+        → follow_path (map string_bytes words.now) ≡ Some path
+        → Follows (G.text_at growing.now path) result (W.contents out.old) (W.contents out.new) }
     ensures refused { asks_version (map string_bytes words.now) ≡ false
         → question_of (map string_bytes words.now) ≡ None
         → chart_width (map string_bytes words.now) ≡ None
         → table_question_of (map string_bytes words.now) ≡ None
+        → follow_path (map string_bytes words.now) ≡ None
         → (result ≡ REFUSED) × (out.new ≡ out.old) }
 {
     if is_version(words) {
@@ -93,8 +108,11 @@ pub fn run_words<T: Texts, W: Write, E: Write>(
     if let Some(width) = chart_width(words) {
         return draw_file(texts, alloc, chart_path(words), width, out, err);
     }
-    match table_question_of(words) {
-        Some(question) => show_files(texts, alloc, paths_of(words), question, out, err),
+    if let Some(question) = table_question_of(words) {
+        return show_files(texts, alloc, paths_of(words), question, out, err);
+    }
+    match follow_path(words) {
+        Some(path) => follow_file(growing, alloc, path, out, err),
         None => report_refused_words("initview", reason_of(words), USAGE, err),
     }
 }

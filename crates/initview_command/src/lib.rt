@@ -4,6 +4,8 @@
 mod asking;
 mod charting;
 mod command;
+mod following;
+mod growing;
 mod showing;
 mod tables;
 mod telling;
@@ -11,3 +13,4 @@ mod telling;
 pub use asking::{Question, TableQuestion};
 pub use charting::{WIDTH, WIDTH_LEAST, WIDTH_LIMIT};
 pub use command::{USAGE, run_words};
+pub use growing::{GrowingFile, GrowingFiles, GrowingTexts};

@@ -644,6 +644,105 @@ const CHART_ROWS: &[Row] = &[
     (&[], "timeline u", 4, "", "initview: cannot read u: "),
 ];
 
+const FOLLOW_ROWS: &[Row] = &[
+    // A child that is stopped for another level, at the times of the clock.
+    (
+        &[KILLED],
+        "follow t",
+        0,
+        "0 inittab read: 1 entry\n1000 entering stage sysinit\n1000 entering stage boot\n1000 entering level 3\n1000 r started, 9\n1000 level 3 settled\n1000 request: level 4, 5 s from TERM to KILL\n1003 entering level 4\n1003 TERM sent to r, 9\n1008 KILL sent to r, 9\n1008 r ended, 9: killed\n1008 level 4 settled\n",
+        "",
+    ),
+    // An end with a status; signals that could not be sent.
+    (
+        &[TABLE, SYSINIT, S_DONE],
+        "follow t",
+        0,
+        "0 inittab read: 9 entries\n1000 entering stage sysinit\n1000 s started, 10\n1000 s ended, 10: exit 0\n",
+        "",
+    ),
+    (
+        &[
+            "use 1\nr:3:respawn:x\nenter sysinit 5\nenter boot 5\nenter 3 5\nask r start\nbirth r 9\ntold r\n",
+            "got level 4 5\nenter 4 0\nask r term\nmiss r\ntold r\nnudge\nask r term\nhit r\ntold r\nask r kill\nmiss r\n",
+        ],
+        "follow t",
+        0,
+        "0 inittab read: 1 entry\n0 entering stage sysinit\n0 entering stage boot\n0 entering level 3\n0 r started, 9\n0 request: level 4, 5 s from TERM to KILL\n0 entering level 4\n0 TERM could not be sent to r, 9\n0 TERM sent to r, 9\n0 KILL could not be sent to r, 9\n",
+        "",
+    ),
+    // Starts that fail, and behind them the hold.
+    (
+        &[
+            "use 1\nr:3:respawn:x\nenter sysinit 5\nenter boot 5\nenter 3 5\n",
+            FAILS,
+            "hold r\nsettle 3\n",
+        ],
+        "follow t",
+        0,
+        "0 inittab read: 1 entry\n0 entering stage sysinit\n0 entering stage boot\n0 entering level 3\n0 r could not be started\n0 r could not be started\n0 r could not be started\n0 r could not be started\n0 r could not be started\n0 r could not be started\n0 r could not be started\n0 r could not be started\n0 r could not be started\n0 r could not be started\n0 r held for 300 s: started 10 times in 120 s\n0 level 3 settled\n",
+        "",
+    ),
+    // Requests, what is called for them, readings of inittab and hand-overs.
+    (
+        &[
+            "use 0\ngot call A\ncall B\ngot power fail\npower failnow\ngot power failnow\npower ok\ngot power ok\npower fail\n",
+            "got reload\nnotread\nuse 0\ngot reexec\nhanded none\nhanded cut 7\nhanded older 3\nhanded whole\n",
+            "got nothing 1\ngot nothing 2\ngot nothing 3\ngot nothing 4\n",
+        ],
+        "follow t",
+        0,
+        "0 inittab read: 0 entries\n0 request: call the entries of A\n0 calling the entries of B\n0 request: the power fails\n0 the battery is almost empty: calling the entries for it\n0 request: the battery is almost empty\n0 the power is back: calling the entries for it\n0 request: the power is back\n0 the power fails: calling the entries for it\n0 request: read inittab again\n0 inittab could not be read again\n0 inittab read: 0 entries\n0 request: execute init anew\n0 init could not execute itself anew: its state was not handed over\n0 init could not execute itself anew: only 7 bytes of its state came back\n0 init could not execute itself anew: the state of generation 3 came back\n0 init executed itself anew\n0 request passed over: it has no magic number\n0 request passed over: it has an unknown command\n0 request passed over: it has a command that init leaves out\n0 request passed over: it has no character of telinit\n",
+        "",
+    ),
+    // A look that failed, and signals that nobody ordered; of what an operator need not see, nothing.
+    (
+        &["use 0\nnolook r\nhit r\nmiss r\nask r look\nstill r\ntold r\ndeath 9\nnudge\nclock 7\n"],
+        "follow t",
+        0,
+        "0 inittab read: 0 entries\n0 r could not be looked at\n0 a signal sent to r\n0 a signal could not be sent to r\n",
+        "",
+    ),
+    // What stands before a breach, before a line that is none, and before what isn't finished.
+    (
+        &[TABLE, "birth r 9\n"],
+        "follow t",
+        2,
+        "0 inittab read: 9 entries\n",
+        "initview: t:12: ",
+    ),
+    (
+        &["clock 7\nnotread\nnudge \n"],
+        "follow t",
+        1,
+        "7 inittab could not be read again\n",
+        "initview: t:3: not a line of a trace: shown up to the line before it\n",
+    ),
+    (
+        &["clock 7\nnotread\nnotrea"],
+        "follow t",
+        0,
+        "7 inittab could not be read again\n",
+        "initview: t:3: the happening is not finished: shown up to the line before it\n",
+    ),
+    // Words that are refused, and a trace that can't be read.
+    (
+        &[],
+        "follow",
+        1,
+        "",
+        "initview: a word is missing, or one is too many\nusage: ",
+    ),
+    (
+        &[],
+        "follow t u",
+        1,
+        "",
+        "initview: a word is missing, or one is too many\nusage: ",
+    ),
+    (&[], "follow u", 4, "", "initview: cannot read u: "),
+];
+
 /// Keeps the text of the parts at the path `t`.
 fn kept_of(alloc: Global, parts: &[&str]) -> Result<KeptTexts, AllocError> {
     let mut text = Vec::new(alloc);
@@ -661,7 +760,7 @@ fn is_said(alloc: Global, row: &Row) -> Result<bool, AllocError> {
     let words = line_words(alloc, row.1)?;
     let mut out: Vec<u8> = Vec::new(alloc);
     let mut err: Vec<u8> = Vec::new(alloc);
-    let status = run_words(&kept, alloc, words.as_slice(), &mut out, &mut err);
+    let status = run_words(&kept, &kept, alloc, words.as_slice(), &mut out, &mut err);
     let tells = if row.4.is_empty() {
         err.is_empty()
     } else {
@@ -681,6 +780,14 @@ fn what_is_said_of_traces(rt: HostRuntime) -> Result<(), Fail> {
 #[test]
 fn what_timelines_show(rt: HostRuntime) -> Result<(), Fail> {
     for row in CHART_ROWS {
+        assert!(rt; is_said(rt.alloc(), row)?, "{}", row.1);
+    }
+    Ok(())
+}
+
+#[test]
+fn what_is_said_as_it_comes(rt: HostRuntime) -> Result<(), Fail> {
+    for row in FOLLOW_ROWS {
         assert!(rt; is_said(rt.alloc(), row)?, "{}", row.1);
     }
     Ok(())

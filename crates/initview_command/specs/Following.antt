@@ -1,0 +1,44 @@
+-- What is asked of a trace that is followed, what is written of it, and the exit status.
+use Rattle.std.specs.Prelude.{◌≡◌, ◌⊎◌, ℕ, if◌then◌else◌, List, [], ◌∷◌, ◌++◌, codes, Option, Some, None, IfSome}
+use Rattle.std.specs.Str.{bytes_eq}
+use Rattle.std.specs.Io.KnownBytes.{Appends}
+use Rattle.program_io.specs.Writing.{AppendsPrefix}
+use Rattle.program_io.specs.declared.statuses.TheConstants.{DEVICE_FAULT}
+use Rattle.text_view.specs.declared.text_views.Stop.{Stop}
+use Rattle.text_view.specs.Views.{TextState}
+use Rattle.trace_follow.specs.Following.{HasSaid, IsSaidOf}
+use Rattle.initview_command.specs.Showing.{stop_status}
+
+-- follow TRACE: its path
+abbrev pub follow_path : List (List ℕ) → Option (List ℕ)
+follow_path (verb ∷ path ∷ []) = if bytes_eq verb (codes "follow") then Some path else None
+follow_path _ = None
+
+-- the text is all that was left, where that is known, or the beginning of it
+abbrev pub IsAllOf : Option (List ℕ) → List ℕ → Type 0
+IsAllOf left text = IfSome left (λ known. text ≡ known)
+
+abbrev pub BeginsAllOf : Option (List ℕ) → List ℕ → Type 0
+BeginsAllOf left text = IfSome left (λ known. (rest : List ℕ) × (text ++ rest ≡ known))
+
+-- the lines of all that was left were written: those of what is shown of it, by why it goes no further, and by the line at
+-- which a happening isn't finished
+abbrev pub WritesAll : Option (List ℕ) → Option Stop → Option ℕ → Option (List ℕ) → Option (List ℕ) → Type 0
+WritesAll left stop line old new =
+    (text : List ℕ) × (said : List ℕ) × IsAllOf left text × IsSaidOf text stop line said × Appends old new said
+
+-- a part of the lines of its beginning was written
+abbrev pub WritesPart : Option (List ℕ) → Option (List ℕ) → Option (List ℕ) → Type 0
+WritesPart left old new =
+    (text : List ℕ) × (said : List ℕ) × (stop : Option Stop) × (line : Option ℕ)
+    × BeginsAllOf left text × IsSaidOf text stop line said × AppendsPrefix old new said
+
+-- all was written, with its exit status; or the trace could not be read further, the output failed or memory ran out
+abbrev pub Follows : Option (List ℕ) → ℕ → Option (List ℕ) → Option (List ℕ) → Type 0
+Follows left status old new =
+    ((stop : Option Stop) × (line : Option ℕ) × (status ≡ stop_status stop) × WritesAll left stop line old new)
+    ⊎ ((status ≡ DEVICE_FAULT) × WritesPart left old new)
+
+-- a view has taken the text, and its lines were written
+abbrev pub HasWritten : TextState → List ℕ → Option (List ℕ) → Option (List ℕ) → Type 0
+HasWritten state text old new = (said : List ℕ) × HasSaid state said text × Appends old new said

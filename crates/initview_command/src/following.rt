@@ -1,0 +1,168 @@
+//! A trace in words, while it is written.
+
+ghost use Rattle.std.specs.Prelude.{◌≡◌, ◌^◌, ◌<◌, ◌++◌, [], List, ℕ, length, Option, Some, None, map, reverse, option_map, string_bytes, IfOk, OnOk, OnErr};
+ghost use Rattle.init_trace.specs.Event.{Event};
+ghost use Rattle.init_trace.specs.Lawful.{first_breach};
+ghost use Rattle.program_io.specs.declared.statuses.TheConstants.{DEVICE_FAULT};
+ghost use Rattle.text_view.specs.Shown.{IsShown};
+ghost use Rattle.text_view.specs.Views.{HasShown};
+ghost use Rattle.trace_follow.specs.Following.{HasSaid};
+ghost use Rattle.initview_command.specs.Following.{Follows, HasWritten, WritesAll, WritesPart, follow_path};
+
+use crate::growing::GrowingTexts;
+use crate::showing::{stop_status, tell_stop};
+use crate::telling::{report_memory, report_unread, report_unwritten, tell};
+use init_words::Memory;
+use path_texts::{PIECE_LIMIT, READS_LIMIT};
+use std::alloc::Global;
+use std::io;
+use std::io::{ErrorKind, Read, Write};
+use text_view::{Stop, TextView};
+use trace_follow::take_lines;
+
+/// The path of the trace that the words ask to follow.
+pub(crate) fn follow_path(words: &[String]) -> Option<&str>
+    ensures { option_map (λ path. path.now) result ≡ follow_path (map string_bytes words.now) }
+{
+    match words {
+        [verb, path] if verb.as_str() == "follow" => Some(path.as_str()),
+        _ => None,
+    }
+}
+
+/// Why a trace is not followed to its end.
+#[derive(Drop)]
+enum FollowFault {
+    Unread(io::Error),
+    Unwritten,
+    Memory,
+}
+
+impl From<io::Error> for FollowFault {
+    fn from(error: io::Error) -> FollowFault {
+        FollowFault::Unread(error)
+    }
+}
+
+impl From<Memory> for FollowFault {
+    fn from(_memory: Memory) -> FollowFault {
+        FollowFault::Memory
+    }
+}
+
+/// Tells why, and gives the exit status.
+fn report_fault<E: Write>(path: &str, fault: &FollowFault, err: &mut E) -> u8
+    ensures { result ≡ DEVICE_FAULT }
+{
+    match fault {
+        FollowFault::Unread(error) => report_unread(path, error, err),
+        FollowFault::Unwritten => report_unwritten(err),
+        FollowFault::Memory => report_memory(err),
+    }
+}
+
+/// Why a view goes no further, and the number of the line at which a happening isn't finished.
+type End = (Option<Stop>, Option<u64>);
+
+/// How a view that has taken a text stands.
+fn end_of(view: &TextView) -> End
+    ensures { (trace : List Event) (text : List ℕ) → length text < 2 ^ 64
+        → HasShown view.now trace text
+        → IsShown text result.0 result.1 trace × (first_breach (reverse trace) ≡ None) }
+{
+    let (_, stop, line) = view.answer();
+    (stop, line)
+}
+
+/// Shows a view the next piece of its text, and writes the lines of it.
+fn write_piece<W: Write>(
+    view: &mut TextView,
+    alloc: Global,
+    piece: &[u8],
+    out: &mut W,
+) -> Result<(), FollowFault>
+    ensures ok { OnOk result ((text : List ℕ) (first : Option (List ℕ))
+        → length (text ++ piece.now) < 2 ^ 64
+        → HasWritten view.old text first (W.contents out.old)
+        → HasWritten view.new (text ++ piece.now) first (W.contents out.new)) }
+    ensures err { OnErr result ((text : List ℕ) (first : Option (List ℕ))
+        → length (text ++ piece.now) < 2 ^ 64
+        → HasWritten view.old text first (W.contents out.old)
+        → WritesPart (Some (text ++ piece.now)) first (W.contents out.new)) }
+{
+    let mut lines = Vec::new(alloc);
+    take_lines(view, piece, &mut lines)?;
+    if tell(&lines, out) {
+        Ok(())
+    } else {
+        Err(FollowFault::Unwritten)
+    }
+}
+
+/// Writes the lines of a text, each when it comes, up to its end, or up to where the view goes no further. More than
+/// 4,294,967,296 reads are an error, `FileTooLarge`.
+fn write_lines<R: Read, W: Write>(
+    from: &mut R,
+    view: &mut TextView,
+    alloc: Global,
+    out: &mut W,
+) -> Result<End, FollowFault>
+    requires { HasWritten view.old [] (W.contents out.old) (W.contents out.old) }
+    ensures ok { IfOk result (λ end. WritesAll (R.remaining from.old) end.0 end.1
+        (W.contents out.old) (W.contents out.new)) }
+    ensures err { OnErr result
+        (WritesPart (R.remaining from.old) (W.contents out.old) (W.contents out.new)) }
+{
+    let mut piece = [0; PIECE_LIMIT];
+    for _ in 0..READS_LIMIT {
+        let taken = from.read(&mut piece)?;
+        if taken == 0 {
+            return Ok(end_of(view));
+        }
+        write_piece(view, alloc, &piece[..taken], out)?;
+        let end = end_of(view);
+        if end.0.is_some() {
+            return Ok(end);
+        }
+    }
+    Err(FollowFault::Unread(io::Error::from(ErrorKind::FileTooLarge)))
+}
+
+/// Writes the lines of a text, and gives the exit status.
+fn follow_text<R: Read, W: Write, E: Write>(
+    from: &mut R,
+    view: &mut TextView,
+    alloc: Global,
+    path: &str,
+    out: &mut W,
+    err: &mut E,
+) -> u8
+    requires { HasWritten view.old [] (W.contents out.old) (W.contents out.old) }
+    ensures { Follows (R.remaining from.old) result (W.contents out.old) (W.contents out.new) }
+{
+    match write_lines(from, view, alloc, out) {
+        Ok((stop, line)) => {
+            tell_stop(path, stop, line, err);
+            stop_status(stop)
+        }
+        Err(fault) => report_fault(path, &fault, err),
+    }
+}
+
+/// Follows the trace at a path, and gives the exit status.
+pub(crate) fn follow_file<G: GrowingTexts, W: Write, E: Write>(
+    growing: &G,
+    alloc: Global,
+    path: &str,
+    out: &mut W,
+    err: &mut E,
+) -> u8
+    ensures { Follows (G.text_at growing.now path.now) result (W.contents out.old)
+        (W.contents out.new) }
+{
+    let mut view = TextView::new(alloc);
+    match growing.open(alloc, path) {
+        Ok(mut text) => follow_text(&mut text, &mut view, alloc, path, out, err),
+        Err(error) => report_unread(path, &error, err),
+    }
+}

@@ -1,0 +1,163 @@
+//! Texts that may still grow while they are read.
+
+ghost use Rattle.std.specs.Prelude.{◌≡◌, IfOk};
+ghost use Rattle.path_texts.specs.Known.{KnownTexts};
+
+use path_texts::{KeptTexts, Texts};
+use program_io::open_plain;
+use std::alloc::{Allocator, Global};
+use std::fs::{File, Metadata};
+use std::io::{Cursor, Error, ErrorKind, Read};
+use std::os::unix::fs::MetadataExt;
+use std::rt::{Clock, Files};
+use std::time::Duration;
+use std::{fs, io, thread};
+
+/// What opens a text to follow it while it grows.
+///
+/// A contract sees of it the text that stands at a path, where it is known: all of it, which ends.
+pub trait GrowingTexts {
+    /// The text at a path; None where it isn't known.
+    ghost text_at: { Self → KnownTexts };
+
+    /// A text that is followed. A read waits for more, and gives no byte where nothing more can come.
+    type Growing: Read + Drop;
+
+    /// Opens the text at a path.
+    fn open(&self, alloc: Global, path: &str) -> io::Result<Self::Growing>
+        ensures { IfOk result (λ text. Self.Growing.remaining text ≡ text_at self.now path.now) };
+}
+
+/// A text in memory is whole.
+impl<A: Allocator> GrowingTexts for KeptTexts<A> {
+    ghost use Rattle.std.specs.Prelude.{List};
+    ghost use Rattle.path_texts.specs.Known.{Kept, text_in};
+
+    ghost text_at = { λ (kept : List Kept) path. text_in kept path };
+
+    type Growing = Cursor<Vec<u8>>;
+
+    fn open(&self, alloc: Global, path: &str) -> io::Result<Cursor<Vec<u8>>> {
+        Ok(Cursor::new(self.read(alloc, path)?))
+    }
+}
+
+/// The files of the operating system, which may be written to while they are followed. Nothing is known of their texts.
+#[derive(Drop)]
+pub struct GrowingFiles<'a, R> {
+    rt: &'a R,
+}
+
+impl<'a, R> GrowingFiles<'a, R> {
+    /// The files that this system has.
+    pub fn new(rt: &'a R) -> GrowingFiles<'a, R> {
+        GrowingFiles { rt }
+    }
+}
+
+impl<'a, R: Files<File = File> + Clock> GrowingTexts for GrowingFiles<'a, R> {
+    ghost use Rattle.std.specs.Prelude.{None};
+
+    ghost text_at = { λ _ _. None };
+
+    type Growing = GrowingFile<'a, R>;
+
+    /// Standard input for `-`, which ends, as what the system or a shell gives by a path below `/dev/`. Any other is
+    /// opened only where it is a plain file, and may grow.
+    fn open(&self, alloc: Global, path: &str) -> io::Result<GrowingFile<'a, R>> {
+        let (file, grows) = match path {
+            "-" => (File::open(self.rt, "/dev/stdin")?, false),
+            _ if path.starts_with("/dev/") => (File::open(self.rt, path)?, false),
+            _ => (open_plain(self.rt, path)?, true),
+        };
+        Ok(GrowingFile {
+            rt: self.rt,
+            path: String::from_str(alloc, path)?,
+            file,
+            grows,
+            place: 0,
+            next: None,
+        })
+    }
+}
+
+/// How long it is waited until a file is looked at again, in milliseconds.
+const PAUSE: u64 = 100;
+
+/// How often at most, which takes some thirteen years.
+const PAUSES_LIMIT: u64 = 4_294_967_296;
+
+/// A file that is followed, and behind it each that comes to stand at its path: the pieces of a trace that was renamed
+/// away are one text. A file that is shorter than what was read of it was begun anew, and is an error, `InvalidData`.
+#[derive(Drop)]
+pub struct GrowingFile<'a, R> {
+    rt: &'a R,
+    path: String,
+    file: File,
+    /// More may come behind its end.
+    grows: bool,
+    /// How many bytes of it were read.
+    place: u64,
+    /// Another file that stands at the path: nothing is written to this one any more.
+    next: Option<File>,
+}
+
+/// One file is the other.
+fn are_same(one: &Metadata, other: &Metadata) -> bool {
+    one.dev() == other.dev() && one.ino() == other.ino()
+}
+
+impl<'a, R: Files<File = File> + Clock> GrowingFile<'a, R> {
+    /// What stands at the path; None where nothing does, while a file that was renamed away is still written to.
+    fn found(&self) -> io::Result<Option<Metadata>> {
+        match fs::metadata(self.rt, self.path.as_str()) {
+            Ok(found) => Ok(Some(found)),
+            Err(error) if error.kind() == ErrorKind::NotFound => Ok(None),
+            Err(error) => Err(error),
+        }
+    }
+
+    /// Another file that stands at the path by now.
+    fn successor(&self) -> io::Result<Option<File>> {
+        let Some(found) = self.found()? else {
+            return Ok(None);
+        };
+        if !are_same(&found, &self.file.metadata()?) {
+            return Ok(Some(open_plain(self.rt, self.path.as_str())?));
+        }
+        if found.len() < self.place {
+            let message = "another run began it anew: follow it again";
+            return Err(Error::new(ErrorKind::InvalidData, message));
+        }
+        Ok(None)
+    }
+
+    /// At the end of the file: goes on in the next one, or looks for it, and waits where there is none.
+    fn go_on(&mut self) -> io::Result<()> {
+        if let Some(file) = self.next.take() {
+            self.file = file;
+            self.place = 0;
+            return Ok(());
+        }
+        self.next = self.successor()?;
+        if self.next.is_none() {
+            thread::sleep(self.rt, Duration::from_millis(PAUSE));
+        }
+        Ok(())
+    }
+}
+
+impl<R: Files<File = File> + Clock> Read for GrowingFile<'_, R> {
+    /// Waits until there is a byte. A file that has had none more for 4,294,967,296 looks is an error, `TimedOut`.
+    fn read(&mut self, buf: &mut [u8]) -> io::Result<usize> {
+        for _ in 0..PAUSES_LIMIT {
+            let count = self.file.read(buf)?;
+            if count > 0 || !self.grows || buf.is_empty() {
+                self.place = self.place.saturating_add(count as u64);
+                return Ok(count);
+            }
+            self.go_on()?;
+        }
+        Err(Error::from(ErrorKind::TimedOut))
+    }
+}
