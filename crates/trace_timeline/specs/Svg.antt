@@ -1,5 +1,5 @@
 -- A timeline as a picture: one SVG document, with a row for the stages and one for each id.
-use Rattle.std.specs.Prelude.{ℕ, List, [], ◌∷◌, ◌++◌, codes, length}
+use Rattle.std.specs.Prelude.{ℕ, List, [], ◌∷◌, ◌++◌, codes, length, reverse}
 use Rattle.init_trace.specs.Event.{Event}
 use Rattle.init_trace.specs.Past.{time_of}
 use Rattle.view_lines.specs.Words.{numbered}
@@ -22,13 +22,13 @@ band f place name =
     ++ (numbered (codes "<rect class=\"band\" height=\"20\" width=\"") f.last (codes "\"/>")
     ++ (codes "<text class=\"id\" x=\"-8\" y=\"14\">" ++ (escaped name ++ codes "</text>\n")))
 
--- the row of the stages, and that of an id by its marks: its lives, and above them the signs
+-- the row of the stages, and that of an id by its marks: its lives, an earlier one upon a later one, and upon them the signs
 abbrev pub stages_row : Frame → List Mark → List ℕ
 stages_row f marks = band f 0 (codes "stage") ++ (stage_bars f (stage_spans f.end marks) ++ codes "</g>\n")
 
 abbrev pub id_row : Frame → ℕ → List ℕ → List Mark → List ℕ
 id_row f place id marks =
-    band f place id ++ (life_bars f id (lives_of marks) ++ (signs f id marks ++ codes "</g>\n"))
+    band f place id ++ (life_bars f id (reverse (lives_of marks)) ++ (signs f id marks ++ codes "</g>\n"))
 
 abbrev pub id_rows : Frame → ℕ → List Mark → List (List ℕ) → List ℕ
 id_rows f place marks [] = []

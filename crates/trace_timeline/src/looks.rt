@@ -10,7 +10,7 @@ pub const ROW: u64 = 24;
 pub const MARGINS: u64 = 104;
 
 /// How wide a bar is at least, so that it is seen.
-pub const BAR_LEAST: u64 = 2;
+pub const BAR_LEAST: u64 = 4;
 
 /// How wide a stage is at least that has its words on it, or its letter.
 pub const WORDS_ROOM: u64 = 100;
@@ -60,7 +60,7 @@ text{font:12px monospace;fill:#222;pointer-events:none}
 .stage{fill:#c8d4e3}
 .settled{fill:#2e7d32}
 .runs{fill:#1f6fd0}
-.done{fill:#8cb4ea}
+.done{fill:#7fade6}
 .failed{fill:#e08a00}
 .killed{fill:#8a6fc0}
 .term{fill:#f2c200}

@@ -47,7 +47,7 @@ fn add_stages_row(
     put(text, b"</g>\n")
 }
 
-/// Adds the row of an id, by its marks.
+/// Adds the row of an id, by its marks. The last life is drawn first, so that it doesn't hide a short one before it.
 fn add_id_row(
     text: &mut Vec<u8>,
     alloc: Global,
@@ -58,7 +58,8 @@ fn add_id_row(
 ) -> Result<(), AllocError>
     ensures { OnOk result (text.new.items ≡ text.old.items ++ id_row frame place id.now marks.now) }
 {
-    let lives = lives_of(alloc, marks)?;
+    let mut lives = lives_of(alloc, marks)?;
+    lives.reverse();
     add_band(text, frame, place, id.as_bytes())?;
     add_life_bars(text, frame, id, lives.as_slice())?;
     add_signs(text, frame, id, marks)?;
