@@ -211,6 +211,9 @@ pub(crate) fn reason_of(words: &[String]) -> &'static str {
         [verb, option, _, _] if verb.as_str() == "timeline" && option.as_str() == "--width" => {
             "a width N is 20 to 1000 columns"
         }
+        [verb, option, ..] if verb.as_str() == "timeline" && option.as_str() == "--svg" => {
+            "behind --svg stands the TRACE, and no --width: the picture has its own"
+        }
         [verb, ..] if verb.as_str() == "timeline" || verb.as_str() == "follow" => {
             "a word is missing, or one is too many"
         }

@@ -6,8 +6,9 @@ ghost use Rattle.init_trace.specs.Event.{Event};
 ghost use Rattle.trace_view.specs.Viewing.{Viewed};
 ghost use Rattle.trace_timeline.specs.Chart.{chart_text};
 ghost use Rattle.trace_timeline.specs.Marks.{marks_of};
+ghost use Rattle.trace_timeline.specs.Svg.{svg_text};
 ghost use Rattle.trace_timeline.specs.Timelines.{HasMarked};
-ghost use Rattle.initview_command.specs.Charting.{Draws, DrawsOf, chart_path, chart_width, path_behind, width_behind, width_of};
+ghost use Rattle.initview_command.specs.Charting.{Draws, DrawsOf, chart_form, chart_path, drawing, form_behind, lines_of, path_behind};
 
 use crate::asking::{behind_verb, verb_of};
 use crate::showing::{stop_status, tell_stop};
@@ -18,7 +19,7 @@ use std::alloc::{AllocError, Global};
 use std::io::Write;
 use text_lines::read_below;
 use text_view::Stop;
-use trace_timeline::{Mark, Timeline, chart_lines};
+use trace_timeline::{Mark, Timeline, chart_lines, svg_text};
 use trace_view::TraceView;
 
 /// How many columns lines have where none are named, at least, and at most.
@@ -28,29 +29,44 @@ pub const WIDTH_LEAST: u64 = 20;
 
 pub const WIDTH_LIMIT: u64 = 1_000;
 
-/// The width of a word.
-fn width_of(width: &str) -> Option<u64>
-    ensures { result ≡ width_of (number_read (WIDTH_LIMIT + 1) width.now) }
+/// The form of a timeline.
+#[derive(Clone, Copy)]
+pub enum Form {
+    /// Lines of so many columns.
+    Lines(u64),
+    /// A picture, as one SVG document.
+    Svg,
+}
+
+/// Lines of the width of a word.
+fn lines_of(width: &str) -> Option<Form>
+    ensures { result ≡ lines_of (number_read (WIDTH_LIMIT + 1) width.now) }
 {
     let width = read_below(width.as_bytes(), WIDTH_LIMIT + 1)?;
     if WIDTH_LEAST <= width {
-        Some(width)
+        Some(Form::Lines(width))
     } else {
         None
     }
 }
 
-/// The width that the words behind the command ask for, where they are some of a timeline.
-fn width_behind(words: &[String]) -> Option<u64>
-    ensures { result ≡ width_behind (map string_bytes words.now) }
+/// The form that the words behind the command ask for, where they are some of a timeline.
+fn form_behind(words: &[String]) -> Option<Form>
+    ensures { result ≡ form_behind (map string_bytes words.now) }
 {
     match words {
         [] => None,
-        [_path] => Some(WIDTH),
-        [_, _] => None,
+        [_path] => Some(Form::Lines(WIDTH)),
+        [option, _path] => {
+            if option.as_str() == "--svg" {
+                Some(Form::Svg)
+            } else {
+                None
+            }
+        }
         [option, width, _path] => {
             if option.as_str() == "--width" {
-                width_of(width.as_str())
+                lines_of(width.as_str())
             } else {
                 None
             }
@@ -59,12 +75,12 @@ fn width_behind(words: &[String]) -> Option<u64>
     }
 }
 
-/// The width that the words ask for, where they are a command line for a timeline.
-pub(crate) fn chart_width(words: &[String]) -> Option<u64>
-    ensures { result ≡ chart_width (map string_bytes words.now) }
+/// The form that the words ask for, where they are a command line for a timeline.
+pub(crate) fn chart_form(words: &[String]) -> Option<Form>
+    ensures { result ≡ chart_form (map string_bytes words.now) }
 {
     if verb_of(words) == "timeline" {
-        width_behind(behind_verb(words))
+        form_behind(behind_verb(words))
     } else {
         None
     }
@@ -77,7 +93,7 @@ fn path_behind(words: &[String]) -> &str
     match words {
         [] => "",
         [path] => path.as_str(),
-        [_, _] => "",
+        [_, path] => path.as_str(),
         [_, _, path] => path.as_str(),
         [_, _, _, _, ..] => "",
     }
@@ -109,8 +125,12 @@ impl PieceTaker for FileTimeline {
     }
 }
 
-/// A timeline, drawn.
-fn draw(alloc: Global, width: u64, marks: &[Mark], view: &TraceView) -> Result<Vec<u8>, AllocError>
+fn draw_lines(
+    alloc: Global,
+    width: u64,
+    marks: &[Mark],
+    view: &TraceView,
+) -> Result<Vec<u8>, AllocError>
     ensures { IfOk result (λ text. (past : List Event) → Viewed view.now past
         → marks.now ≡ marks_of past → text.items ≡ chart_text width past) }
 {
@@ -118,22 +138,41 @@ fn draw(alloc: Global, width: u64, marks: &[Mark], view: &TraceView) -> Result<V
     Ok(text)
 }
 
+fn draw_picture(alloc: Global, marks: &[Mark], view: &TraceView) -> Result<Vec<u8>, AllocError>
+    ensures { IfOk result (λ text. (past : List Event) → Viewed view.now past
+        → marks.now ≡ marks_of past → text.items ≡ svg_text past) }
+{
+    let text = svg_text(alloc, marks, view.time())?;
+    Ok(text)
+}
+
+/// A timeline, drawn.
+fn draw(alloc: Global, form: Form, marks: &[Mark], view: &TraceView) -> Result<Vec<u8>, AllocError>
+    ensures { IfOk result (λ text. (past : List Event) → Viewed view.now past
+        → marks.now ≡ marks_of past → text.items ≡ drawing form past) }
+{
+    match form {
+        Form::Lines(width) => draw_lines(alloc, width, marks, view),
+        Form::Svg => draw_picture(alloc, marks, view),
+    }
+}
+
 /// Reads the trace of a path, writes its timeline, and gives the exit status.
 pub(crate) fn draw_file<T: Texts, W: Write, E: Write>(
     texts: &T,
     alloc: Global,
     path: &str,
-    width: u64,
+    form: Form,
     out: &mut W,
     err: &mut E,
 ) -> u8
-    ensures { Draws (T.text_at texts.now) path.now width result (W.contents out.old)
+    ensures { Draws (T.text_at texts.now) path.now form result (W.contents out.old)
         (W.contents out.new) }
 {
     let mut file = FileTimeline {
         timeline: Timeline::new(alloc),
     };
-    draw_text(texts, alloc, path, width, &mut file, out, err)
+    draw_text(texts, alloc, path, form, &mut file, out, err)
 }
 
 /// Hands the text of a path to a timeline that has taken none, and writes it.
@@ -141,20 +180,20 @@ fn draw_text<T: Texts, W: Write, E: Write>(
     texts: &T,
     alloc: Global,
     path: &str,
-    width: u64,
+    form: Form,
     file: &mut FileTimeline,
     out: &mut W,
     err: &mut E,
 ) -> u8
     requires { HasMarked file.old.timeline [] }
-    ensures { Draws (T.text_at texts.now) path.now width result (W.contents out.old)
+    ensures { Draws (T.text_at texts.now) path.now form result (W.contents out.old)
         (W.contents out.new) }
 {
     match texts.read_pieces(path, file) {
         Ok(()) => {
             let (view, marks, stop, left) = file.timeline.answer();
             tell_stop(path, stop, left, err);
-            draw_marks(alloc, width, marks, view, stop, out, err)
+            draw_marks(alloc, form, marks, view, stop, out, err)
         }
         Err(error) => report_unread(path, &error, err),
     }
@@ -163,7 +202,7 @@ fn draw_text<T: Texts, W: Write, E: Write>(
 /// Writes a timeline, and gives the exit status.
 fn draw_marks<W: Write, E: Write>(
     alloc: Global,
-    width: u64,
+    form: Form,
     marks: &[Mark],
     view: &TraceView,
     stop: Option<Stop>,
@@ -171,9 +210,9 @@ fn draw_marks<W: Write, E: Write>(
     err: &mut E,
 ) -> u8
     ensures { (past : List Event) → Viewed view.now past → marks.now ≡ marks_of past
-        → DrawsOf past width stop result (W.contents out.old) (W.contents out.new) }
+        → DrawsOf past form stop result (W.contents out.old) (W.contents out.new) }
 {
-    let Ok(text) = draw(alloc, width, marks, view) else {
+    let Ok(text) = draw(alloc, form, marks, view) else {
         return report_memory(err);
     };
     if !tell(&text, out) {

@@ -1,18 +1,19 @@
 //! The words of `initview`, and what it does for them.
 
-ghost use Rattle.std.specs.Prelude.{◌≡◌, true, false, None, Some, codes, map, string_bytes, List, ℕ};
+ghost use Rattle.std.specs.Prelude.{◌≡◌, true, false, None, Some, codes, map, string_bytes, List};
 ghost use Rattle.program_version.specs.VersionLine.{PrintsVersion};
 ghost use Rattle.command_words.specs.CommandLines.{asks_version};
 ghost use Rattle.initview_command.specs.declared.asking.Question.{Question};
 ghost use Rattle.initview_command.specs.declared.asking.TableQuestion.{TableQuestion};
-ghost use Rattle.initview_command.specs.Charting.{Draws, chart_path, chart_width};
+ghost use Rattle.initview_command.specs.declared.charting.Form.{Form};
+ghost use Rattle.initview_command.specs.Charting.{Draws, chart_form, chart_path};
 ghost use Rattle.initview_command.specs.Following.{Follows, follow_path};
 ghost use Rattle.initview_command.specs.Asking.{path_of, paths_of, question_of, table_question_of};
 ghost use Rattle.initview_command.specs.Showing.{Shows};
 ghost use Rattle.initview_command.specs.Tables.{Answers};
 
 use crate::asking::{path_of, paths_of, question_of, reason_of, table_question_of};
-use crate::charting::{chart_path, chart_width, draw_file};
+use crate::charting::{chart_form, chart_path, draw_file};
 use crate::following::{follow_file, follow_path};
 use crate::growing::GrowingTexts;
 use crate::showing::show_file;
@@ -29,7 +30,7 @@ pub const USAGE: &str = "usage: initview why ID TRACE
        initview status TRACE [ID]
        initview status --json TRACE
        initview left TRACE
-       initview timeline [--width N] TRACE
+       initview timeline [--svg | --width N] TRACE
        initview follow TRACE
        initview lint TABLE [FILE..]
        initview diff [--level LEVEL] OLD NEW
@@ -41,7 +42,7 @@ pub const USAGE: &str = "usage: initview why ID TRACE
   left    list the children that were born and not reaped, and their numbers
   timeline
           draw the lives of each entry's children, signals, holds and stages over the time, in lines
-          of N columns, 80 without it
+          of N columns, 80 without it; or with --svg as a picture that a browser shows
   follow  print a line for each happening that an operator is told of, also while the trace is
           written, until it is interrupted
   lint    list the faults of an inittab's lines, with what was probably meant, and warnings; the
@@ -75,26 +76,26 @@ pub fn run_words<T: Texts, G: GrowingTexts, W: Write, E: Write>(
         → question_of (map string_bytes words.now) ≡ Some question
         → Shows (T.text_at texts.now) (path_of (map string_bytes words.now)) question result
         (W.contents out.old) (W.contents out.new) }
-    ensures drawn { (width : ℕ) → asks_version (map string_bytes words.now) ≡ false
+    ensures drawn { (form : Form) → asks_version (map string_bytes words.now) ≡ false
         → question_of (map string_bytes words.now) ≡ None
-        → chart_width (map string_bytes words.now) ≡ Some width
-        → Draws (T.text_at texts.now) (chart_path (map string_bytes words.now)) width result
+        → chart_form (map string_bytes words.now) ≡ Some form
+        → Draws (T.text_at texts.now) (chart_path (map string_bytes words.now)) form result
         (W.contents out.old) (W.contents out.new) }
     ensures answered { (question : TableQuestion) → asks_version (map string_bytes words.now) ≡ false
         → question_of (map string_bytes words.now) ≡ None
-        → chart_width (map string_bytes words.now) ≡ None
+        → chart_form (map string_bytes words.now) ≡ None
         → table_question_of (map string_bytes words.now) ≡ Some question
         → Answers (T.text_at texts.now) (paths_of (map string_bytes words.now)) question result
         (W.contents out.old) (W.contents out.new) }
     ensures followed { (path : List ℕ) → asks_version (map string_bytes words.now) ≡ false
         → question_of (map string_bytes words.now) ≡ None
-        → chart_width (map string_bytes words.now) ≡ None
+        → chart_form (map string_bytes words.now) ≡ None
         → table_question_of (map string_bytes words.now) ≡ None
         → follow_path (map string_bytes words.now) ≡ Some path
         → Follows (G.text_at growing.now path) result (W.contents out.old) (W.contents out.new) }
     ensures refused { asks_version (map string_bytes words.now) ≡ false
         → question_of (map string_bytes words.now) ≡ None
-        → chart_width (map string_bytes words.now) ≡ None
+        → chart_form (map string_bytes words.now) ≡ None
         → table_question_of (map string_bytes words.now) ≡ None
         → follow_path (map string_bytes words.now) ≡ None
         → (result ≡ REFUSED) × (out.new ≡ out.old) }
@@ -105,8 +106,8 @@ pub fn run_words<T: Texts, G: GrowingTexts, W: Write, E: Write>(
     if let Some(question) = question_of(words) {
         return show_file(texts, alloc, path_of(words), &question, out, err);
     }
-    if let Some(width) = chart_width(words) {
-        return draw_file(texts, alloc, chart_path(words), width, out, err);
+    if let Some(form) = chart_form(words) {
+        return draw_file(texts, alloc, chart_path(words), form, out, err);
     }
     if let Some(question) = table_question_of(words) {
         return show_files(texts, alloc, paths_of(words), question, out, err);

@@ -3,3 +3,8 @@ pub mod Timelines
 pub mod Lives
 pub mod Frames
 pub mod Chart
+pub mod Axis
+pub mod Bars
+pub mod Signs
+pub mod Legend
+pub mod Svg

@@ -11,7 +11,7 @@ use init_words::{Id, Sig, Stage};
 use std::alloc::{AllocError, Global};
 use view_lines::{add_number, add_padded, put};
 
-fn stage_letter(stage: Stage) -> u8
+pub(crate) fn stage_letter(stage: Stage) -> u8
     ensures { result ≡ stage_letter stage }
 {
     match stage {

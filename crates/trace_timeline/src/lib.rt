@@ -2,12 +2,19 @@
 //! over the trace's time, as lines of text or as a picture.
 #![tactic(auto)]
 
+mod axis;
+mod bars;
 mod chart;
 mod frames;
+mod legend;
 mod lives;
+mod looks;
 mod marks;
+mod signs;
+mod svg;
 mod timelines;
 
 pub use chart::chart_lines;
 pub use marks::{Mark, Shown};
+pub use svg::svg_text;
 pub use timelines::Timeline;

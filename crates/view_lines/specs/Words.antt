@@ -1,5 +1,5 @@
 -- The words that lines are made of. Times are seconds.
-use Rattle.std.specs.Prelude.{ℕ, ◌-◌, List, [], ◌∷◌, ◌++◌, codes, decimal, length, take, Option, Some, None}
+use Rattle.std.specs.Prelude.{ℕ, ◌-◌, List, [], ◌∷◌, ◌++◌, codes, decimal, length, replicate, Option, Some, None}
 use Rattle.respawn_limit.specs.declared.TheConstants.{HOLD}
 use Rattle.init_words.specs.declared.actions.Act.{Act}
 use Rattle.init_words.specs.declared.children.Status.{Status}
@@ -17,9 +17,9 @@ use Rattle.trace_view.specs.declared.wishes.Wish.TheVariants as wish
 abbrev pub numbered : List ℕ → ℕ → List ℕ → List ℕ
 numbered before number after = before ++ (decimal number ++ after)
 
--- a word, and spaces behind it up to a width of at most 14
+-- a word, and spaces behind it up to a width
 abbrev pub padded : ℕ → List ℕ → List ℕ
-padded width word = word ++ take (width - length word) (codes "              ")
+padded width word = word ++ replicate (width - length word) 32
 
 abbrev pub act_words : Option Act → List ℕ
 act_words (Some action) = word_of action

@@ -1,6 +1,6 @@
 //! The words that lines are made of.
 
-ghost use Rattle.std.specs.Prelude.{◌≡◌, ◌≤◌, ◌-◌, ◌++◌, OnOk};
+ghost use Rattle.std.specs.Prelude.{◌≡◌, ◌-◌, ◌++◌, replicate, OnOk};
 ghost use Rattle.view_lines.specs.Words.{act_words, ago_words, held_left, last_words, level_wish_words, level_words, numbered, padded, stage_words, status_words, wish_words};
 
 use init_words::{Act, Level, Stage, Status};
@@ -34,15 +34,22 @@ pub fn add_number(
     Ok(())
 }
 
-/// Adds a word, and spaces behind it up to a width of at most 14.
+fn add_spaces(text: &mut Vec<u8>, count: usize) -> Result<(), AllocError>
+    ensures { OnOk result (text.new.items ≡ text.old.items ++ replicate count 32) }
+{
+    for _ in 0..count {
+        text.push(b' ')?;
+    }
+    Ok(())
+}
+
+/// Adds a word, and spaces behind it up to a width.
 pub fn add_padded(text: &mut Vec<u8>, width: usize, word: &[u8]) -> Result<(), AllocError>
-    requires { width ≤ 14 }
     ensures { OnOk result (text.new.items ≡ text.old.items ++ padded width word.now) }
 {
-    let spaces: &[u8] = b"              ";
     let room = width.saturating_sub(word.len());
     text.extend_from_slice(word)?;
-    text.extend_from_slice(&spaces[..room])?;
+    add_spaces(text, room)?;
     Ok(())
 }
 

@@ -6,7 +6,7 @@ use Rattle.initview_command.proofs.charting.draw_text.Goals as goal
 pub returns-in-Ok : goal.returns-in-Ok
 returns-in-Ok g c =
     let (text, small, at, taken) = c.in-Ok.ensures.text in
-    draws (g.T.Texts.text_at c.args.texts.now) c.args.path.now text c.args.width c.answer-stop.result.0.now c.answer-stop.result.1.now c.answer-stop.result.2 c.answer-stop.result.3 c.draw_marks.result (g.W.Write.contents c.args.out.now) (g.W.Write.contents c.draw_marks.new.out) at (c.answer-stop.ensures text small (taken c.requires)) c.draw_marks.ensures
+    draws (g.T.Texts.text_at c.args.texts.now) c.args.path.now text c.args.form c.answer-stop.result.0.now c.answer-stop.result.1.now c.answer-stop.result.2 c.answer-stop.result.3 c.draw_marks.result (g.W.Write.contents c.args.out.now) (g.W.Write.contents c.draw_marks.new.out) at (c.answer-stop.ensures text small (taken c.requires)) c.draw_marks.ensures
 
 pub returns-in-Err : goal.returns-in-Err
 returns-in-Err g c = inr (c.report_unread.ensures, Keeps-refl (g.W.Write.contents c.args.out.now))
