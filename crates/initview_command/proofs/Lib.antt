@@ -1,3 +1,4 @@
 pub mod Drawn
 pub mod Files
+pub mod Reloads
 pub mod Written

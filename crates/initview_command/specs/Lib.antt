@@ -1,4 +1,5 @@
 pub mod Asking
 pub mod Charting
+pub mod Reloading
 pub mod Showing
 pub mod Tables

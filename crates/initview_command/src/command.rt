@@ -5,13 +5,16 @@ ghost use Rattle.program_version.specs.VersionLine.{PrintsVersion};
 ghost use Rattle.command_words.specs.CommandLines.{asks_version};
 ghost use Rattle.initview_command.specs.declared.asking.Question.{Question};
 ghost use Rattle.initview_command.specs.declared.asking.TableQuestion.{TableQuestion};
+ghost use Rattle.initview_command.specs.declared.reloading.Reload.{Reload};
 ghost use Rattle.initview_command.specs.Charting.{Draws, chart_path, chart_width};
 ghost use Rattle.initview_command.specs.Asking.{path_of, paths_of, question_of, table_question_of};
+ghost use Rattle.initview_command.specs.Reloading.{Reloads, reload_of, reload_paths, reload_trace};
 ghost use Rattle.initview_command.specs.Showing.{Shows};
 ghost use Rattle.initview_command.specs.Tables.{Answers};
 
 use crate::asking::{path_of, paths_of, question_of, reason_of, table_question_of};
 use crate::charting::{chart_path, chart_width, draw_file};
+use crate::reloading::{reload_of, reload_paths, reload_trace, show_reload};
 use crate::showing::show_file;
 use crate::tables::show_files;
 use command_words::{is_version, report_refused_words};
@@ -28,7 +31,7 @@ pub const USAGE: &str = "usage: initview why ID TRACE
        initview left TRACE
        initview timeline [--width N] TRACE
        initview lint TABLE [FILE..]
-       initview diff [--level LEVEL] OLD NEW
+       initview diff [--trace TRACE] [--level LEVEL] OLD NEW
        initview plan [--level LEVEL] TABLE [FILE..]
        initview --version
   why     say why the entry ID isn't started next, and what to do
@@ -40,20 +43,23 @@ pub const USAGE: &str = "usage: initview why ID TRACE
           of N columns, 80 without it
   lint    list the faults of an inittab's lines, with what was probably meant, and warnings; the
           exit status is 1 with faults, 2 with warnings alone
-  diff    list what becomes of each entry in a level where the inittab NEW is read in OLD's place
+  diff    list what becomes of each entry in a level where the inittab NEW is read in OLD's place;
+          with --trace of what runs now, and the exit status is as for status TRACE
   plan    list what init starts on the way to a level, in its order, what it waits for, and the
           critical path: the entries whose ends the way goes through
   ID      an id of the inittab, 1 to 8 characters
   TRACE   a trace of init, also one that is still being written; - is standard input
   TABLE   an inittab; FILEs go on where it ends
-  LEVEL   0 to 9 or S; without it the default level of the inittab that is new
+  LEVEL   0 to 9 or S; without it the default level of the inittab that is new, with --trace the
+          stage in force at its end
 ";
 
 /// Runs initview on its words, and gives the exit status: 0 where the trace was read to its end and the answer written
 /// on `out`, 1 where the words are refused or a line of the trace is none, 2 where a happening breaks a law, 4 where the
 /// trace can't be read, the output fails or memory runs out; of `status TRACE ID` 0, 3 or 4, as the LSB has them. What
-/// stands before a line that is none, or that breaks a law, is shown. Of an inittab the status is 1 where it isn't read
-/// for its size, of `lint` also where it has faults, and 2 where it has warnings alone. Faults of files are told on `err`.
+/// stands before a line that is none, or that breaks a law, is shown, and is the trace of `diff --trace`. Of an inittab
+/// the status is 1 where it isn't read for its size, of `lint` also where it has faults, and 2 where it has warnings
+/// alone. Faults of files are told on `err`.
 pub fn run_words<T: Texts, W: Write, E: Write>(
     texts: &T,
     alloc: Global,
@@ -72,15 +78,24 @@ pub fn run_words<T: Texts, W: Write, E: Write>(
         → chart_width (map string_bytes words.now) ≡ Some width
         → Draws (T.text_at texts.now) (chart_path (map string_bytes words.now)) width result
         (W.contents out.old) (W.contents out.new) }
+    ensures reloaded { (asked : Reload) → asks_version (map string_bytes words.now) ≡ false
+        → question_of (map string_bytes words.now) ≡ None
+        → chart_width (map string_bytes words.now) ≡ None
+        → reload_of (map string_bytes words.now) ≡ Some asked
+        → Reloads (T.text_at texts.now) (reload_trace (map string_bytes words.now))
+        (reload_paths (map string_bytes words.now)) asked result
+        (W.contents out.old) (W.contents out.new) }
     ensures answered { (question : TableQuestion) → asks_version (map string_bytes words.now) ≡ false
         → question_of (map string_bytes words.now) ≡ None
         → chart_width (map string_bytes words.now) ≡ None
+        → reload_of (map string_bytes words.now) ≡ None
         → table_question_of (map string_bytes words.now) ≡ Some question
         → Answers (T.text_at texts.now) (paths_of (map string_bytes words.now)) question result
         (W.contents out.old) (W.contents out.new) }
     ensures refused { asks_version (map string_bytes words.now) ≡ false
         → question_of (map string_bytes words.now) ≡ None
         → chart_width (map string_bytes words.now) ≡ None
+        → reload_of (map string_bytes words.now) ≡ None
         → table_question_of (map string_bytes words.now) ≡ None
         → (result ≡ REFUSED) × (out.new ≡ out.old) }
 {
@@ -92,6 +107,10 @@ pub fn run_words<T: Texts, W: Write, E: Write>(
     }
     if let Some(width) = chart_width(words) {
         return draw_file(texts, alloc, chart_path(words), width, out, err);
+    }
+    if let Some(asked) = reload_of(words) {
+        let path = reload_trace(words);
+        return show_reload(texts, alloc, path, reload_paths(words), asked, out, err);
     }
     match table_question_of(words) {
         Some(question) => show_files(texts, alloc, paths_of(words), question, out, err),

@@ -4,6 +4,7 @@
 mod asking;
 mod charting;
 mod command;
+mod reloading;
 mod showing;
 mod tables;
 mod telling;
@@ -11,3 +12,4 @@ mod telling;
 pub use asking::{Question, TableQuestion};
 pub use charting::{WIDTH, WIDTH_LEAST, WIDTH_LIMIT};
 pub use command::{USAGE, run_words};
+pub use reloading::Reload;
