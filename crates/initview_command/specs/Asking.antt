@@ -56,7 +56,7 @@ abbrev pub behind_verb : List (List ℕ) → List (List ℕ)
 behind_verb [] = []
 behind_verb (verb ∷ rest) = rest
 
--- these name a level, which is a character, and files behind it
+-- these begin with a level, which is a character, and have files behind it
 abbrev pub has_level : List (List ℕ) → Bool
 has_level [] = false
 has_level (option ∷ rest) = bytes_eq option (codes "--level")
@@ -71,15 +71,17 @@ level_named [] = None
 level_named (option ∷ []) = None
 level_named (option ∷ level ∷ paths) = level_in level
 
-abbrev pub behind_level : List (List ℕ) → List (List ℕ)
-behind_level [] = []
-behind_level (option ∷ []) = []
-behind_level (option ∷ level ∷ paths) = paths
+abbrev pub behind_option : List (List ℕ) → List (List ℕ)
+behind_option [] = []
+behind_option (option ∷ []) = []
+behind_option (option ∷ level ∷ paths) = paths
 
 -- the paths of the files
+abbrev pub paths_in : List (List ℕ) → List (List ℕ)
+paths_in rest = if has_level rest then behind_option rest else rest
+
 abbrev pub paths_of : List (List ℕ) → List (List ℕ)
-paths_of words =
-    if has_level (behind_verb words) then behind_level (behind_verb words) else behind_verb words
+paths_of words = paths_in (behind_verb words)
 
 -- lint TABLE [FILE..], diff [--level LEVEL] OLD NEW, plan [--level LEVEL] TABLE [FILE..]
 abbrev pub question_at : List (List ℕ) → Option Level → Option TableQuestion

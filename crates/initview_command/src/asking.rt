@@ -1,7 +1,7 @@
 //! What the words of a command line ask of a trace, or of inittabs.
 
 ghost use Rattle.std.specs.Prelude.{◌≡◌, map, string_bytes};
-ghost use Rattle.initview_command.specs.Asking.{asked_by, behind_level, behind_verb, has_level, level_in, level_named, of_three, of_two, path_of, path_of_three, paths_of, question_of, table_question_of, verb_of};
+ghost use Rattle.initview_command.specs.Asking.{asked_by, behind_option, behind_verb, has_level, level_in, level_named, of_three, of_two, path_of, path_of_three, paths_in, paths_of, question_of, table_question_of, verb_of};
 
 use init_words::{Id, Level};
 
@@ -111,8 +111,8 @@ fn asked_by(verb: &str, level: Option<Level>, count: usize) -> Option<TableQuest
     }
 }
 
-/// The words behind the command name a level.
-fn has_level(words: &[String]) -> bool
+/// These words begin with a level.
+pub(crate) fn has_level(words: &[String]) -> bool
     ensures { result ≡ has_level (map string_bytes words.now) }
 {
     match words {
@@ -131,8 +131,8 @@ fn level_in(word: &[u8]) -> Option<Level>
     }
 }
 
-/// The level that the words behind the command name.
-fn level_named(words: &[String]) -> Option<Level>
+/// The level with which they begin.
+pub(crate) fn level_named(words: &[String]) -> Option<Level>
     ensures { result ≡ level_named (map string_bytes words.now) }
 {
     match words {
@@ -141,9 +141,9 @@ fn level_named(words: &[String]) -> Option<Level>
     }
 }
 
-/// The words behind a level.
-fn behind_level(words: &[String]) -> &[String]
-    ensures { map string_bytes result.now ≡ behind_level (map string_bytes words.now) }
+/// The words behind an option and its value.
+pub(crate) fn behind_option(words: &[String]) -> &[String]
+    ensures { map string_bytes result.now ≡ behind_option (map string_bytes words.now) }
 {
     match words {
         [_, _, paths @ ..] => paths,
@@ -161,16 +161,22 @@ pub(crate) fn behind_verb(words: &[String]) -> &[String]
     }
 }
 
+/// The words behind a level, where they begin with one.
+pub(crate) fn paths_in(rest: &[String]) -> &[String]
+    ensures { map string_bytes result.now ≡ paths_in (map string_bytes rest.now) }
+{
+    if has_level(rest) {
+        behind_option(rest)
+    } else {
+        rest
+    }
+}
+
 /// The paths of the files that the words name.
 pub(crate) fn paths_of(words: &[String]) -> &[String]
     ensures { map string_bytes result.now ≡ paths_of (map string_bytes words.now) }
 {
-    let rest = behind_verb(words);
-    if has_level(rest) {
-        behind_level(rest)
-    } else {
-        rest
-    }
+    paths_in(behind_verb(words))
 }
 
 /// The command.
@@ -218,6 +224,15 @@ pub(crate) fn reason_of(words: &[String]) -> &'static str {
             "a word is missing, or one is too many"
         }
         [verb] if verb.as_str() == "lint" || verb.as_str() == "plan" => "a TABLE is missing",
+        [verb, option, _, level, name, ..]
+            if verb.as_str() == "diff"
+                && option.as_str() == "--trace"
+                && level.as_str() == "--level"
+                && level_in(name.as_bytes()).is_none() => { "a LEVEL is one of 0 to 9 and S" }
+        [verb, level, _, option, ..]
+            if verb.as_str() == "diff"
+                && level.as_str() == "--level"
+                && option.as_str() == "--trace" => { "--trace stands before --level" }
         [_, option, level, ..]
             if option.as_str() == "--level" && level_in(level.as_bytes()).is_none() => {
             "a LEVEL is one of 0 to 9 and S"

@@ -19,8 +19,8 @@ use view_lines::{json_lines, left_lines, row_line, status_lines, why_lines};
 
 /// The view of a trace whose text is read in pieces.
 #[derive(Drop)]
-struct FileView {
-    view: TextView,
+pub(crate) struct FileView {
+    pub(crate) view: TextView,
 }
 
 impl PieceTaker for FileView {

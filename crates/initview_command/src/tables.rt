@@ -31,7 +31,7 @@ fn add_file<T: Texts>(texts: &T, alloc: Global, path: &str, parts: &mut Vec<Part
 }
 
 /// Reads the files of the paths, in their order. One that can't be read is told, and none is given.
-fn read_files<T: Texts, E: Write>(
+pub(crate) fn read_files<T: Texts, E: Write>(
     texts: &T,
     alloc: Global,
     paths: &[String],
@@ -175,6 +175,26 @@ fn answer<E: Write>(
     }
 }
 
+/// The old and the new table of a diff.
+pub(crate) fn old_and_new<E: Write>(
+    alloc: Global,
+    parts: &[Part],
+    err: &mut E,
+) -> Result<(Table, Table), TableFault>
+    ensures tables { IfOk result (λ both. (both.0 ≡ table_in (take 1 parts.now))
+        × (both.1 ≡ table_in (drop 1 parts.now))) }
+    ensures fault { IfErr result (FailsBy (AreNone (take 1 parts.now) ⊎ AreNone (drop 1 parts.now))) }
+{
+    let old = match table_in(alloc, old_of(parts), err) {
+        Ok(table) => table,
+        Err(fault) => return Err(fault),
+    };
+    match table_in(alloc, new_of(parts), err) {
+        Ok(new) => Ok((old, new)),
+        Err(fault) => Err(fault),
+    }
+}
+
 fn diff_answer<E: Write>(
     alloc: Global,
     level: Option<Level>,
@@ -185,12 +205,8 @@ fn diff_answer<E: Write>(
         IsAnswer (table_question.Diff level) parts.now given.0.items given.1) }
     ensures fault { IfErr result (FailsBy (AreNone (take 1 parts.now) ⊎ AreNone (drop 1 parts.now))) }
 {
-    let old = match table_in(alloc, old_of(parts), err) {
-        Ok(table) => table,
-        Err(fault) => return Err(fault),
-    };
-    let new = match table_in(alloc, new_of(parts), err) {
-        Ok(table) => table,
+    let (old, new) = match old_and_new(alloc, parts, err) {
+        Ok(both) => both,
         Err(fault) => return Err(fault),
     };
     match diff_text(alloc, level, &old, &new) {
@@ -220,7 +236,7 @@ fn plan_answer<E: Write>(
 }
 
 /// Tells why an inittab is not read.
-fn report_fault<E: Write>(fault: TableFault, err: &mut E) -> u8
+pub(crate) fn report_fault<E: Write>(fault: TableFault, err: &mut E) -> u8
     ensures { result ≡ REFUSED }
 {
     let _ = writeln!(err, "initview: {fault}");

@@ -743,6 +743,164 @@ const FOLLOW_ROWS: &[Row] = &[
     (&[], "follow u", 4, "", "initview: cannot read u: "),
 ];
 
+/// The parts of a trace, the texts of the inittabs `o` and `n`, the words, the status, what is written, and how what is
+/// told begins.
+type BehindRow = (
+    &'static [&'static str],
+    &'static str,
+    &'static str,
+    &'static str,
+    u8,
+    &'static str,
+    &'static str,
+);
+
+/// The inittab of the traces.
+const IN_FORCE: &str =
+    "id:3:initdefault:\ns::sysinit:x\nw:3:wait:x\nv:3:wait:x\nr:3:respawn:x\no:3:once:x\nd:A:ondemand:x\nf:4:respawn:x\nx:3:off:\n";
+
+/// Another one: an entry more, two less, and others of an action, a process and a level.
+const CHANGED: &str =
+    "id:3:initdefault:\ns::sysinit:x\nw:3:wait:x\nn:3:once:x\nv:3:respawn:x\nr:3:respawn:y\no:4:once:x\nd:A:ondemand:x\n";
+
+/// The entry that is started once in level 3 runs.
+const O_UP: &str = "ask o start\nbirth o 14\ntold o\n";
+
+const BEHIND_ROWS: &[BehindRow] = &[
+    // In the level in force, also where that is named: what ran is not started again, what runs is kept or stopped.
+    (
+        &[UP, R_UP, O_UP],
+        IN_FORCE,
+        CHANGED,
+        "diff --trace t o n",
+        0,
+        "level 3\nid       initdefault   not here\ns        sysinit       not here\nw        wait          not again\nn        once          start\nv        respawn       start\nr        respawn       changed at its next start  13\no        once          stop  14\nd        ondemand      not here\nf        -             not here\nx        -             not here\n",
+        "",
+    ),
+    (
+        &[UP, R_UP, O_UP],
+        IN_FORCE,
+        "o:3:respawn:x\nr:3:respawn:x\nw:3:once:x\n",
+        "diff --trace t --level 3 o n",
+        0,
+        "level 3\no        respawn       stop and start  14\nr        respawn       keep  13\nw        once          start\nid       -             not here\ns        -             not here\nv        -             not here\nd        -             not here\nf        -             not here\nx        -             not here\n",
+        "",
+    ),
+    // In another level.
+    (
+        &[UP, R_UP, O_UP],
+        IN_FORCE,
+        CHANGED,
+        "diff --trace t --level 4 o n",
+        0,
+        "level 4\nid       initdefault   not here\ns        sysinit       not here\nw        wait          not here\nn        once          not here\nv        respawn       not here\nr        respawn       stop  13\no        once          keep  14\nd        ondemand      not here\nf        -             not here\nx        -             not here\n",
+        "",
+    ),
+    // A child that has an entry in neither; an end that isn't told; a start that is under way.
+    (
+        &[UP, R_UP, "use 1\nq:3:once:x\n"],
+        "q:3:once:x\n",
+        "q:3:once:x\n",
+        "diff --trace t o n",
+        0,
+        "level 3\nq        once          start\nr        -             stop  13\n",
+        "",
+    ),
+    (
+        &[TABLE, SYSINIT, S_UP, S_END],
+        "s::sysinit:x\n",
+        "s::sysinit:x\nz::sysinit:x\n",
+        "diff --trace t o n",
+        0,
+        "stage sysinit\ns        sysinit       not again\nz        sysinit       start\n",
+        "",
+    ),
+    (
+        &[UP, "ask r start\n"],
+        "r:3:respawn:x\n",
+        "r:3:respawn:x\n",
+        "diff --trace t o n",
+        0,
+        "level 3\nr        respawn       start\n",
+        "",
+    ),
+    // Before the first stage.
+    (
+        &[TABLE],
+        "r:3:respawn:x\n",
+        "r:3:respawn:x\n",
+        "diff --trace t o n",
+        0,
+        "the opening\nr        respawn       not here\n",
+        "",
+    ),
+    // Lines that are left out; a trace that isn't shown to its end; files that can't be read.
+    (
+        &[TABLE, "nudge \n"],
+        "r:3:respawn:x\n",
+        "r:3:respwan:x\n",
+        "diff --trace t o n",
+        1,
+        "the opening\nr        -             not here\n",
+        "initview: n: lines that are left out: 1: initview lint says which\ninitview: t:12: not a line of a trace: shown up to the line before it\n",
+    ),
+    (
+        &[TABLE, "birth r 4\n"],
+        "",
+        "",
+        "diff --trace t o n",
+        2,
+        "the opening\n",
+        "initview: t:12: ",
+    ),
+    (
+        &[],
+        "",
+        "",
+        "diff --trace u o n",
+        4,
+        "",
+        "initview: cannot read u: entity not found\n",
+    ),
+    (
+        &[],
+        "",
+        "",
+        "diff --trace t o u",
+        4,
+        "",
+        "initview: cannot read u: entity not found\n",
+    ),
+    // Refused words.
+    (
+        &[],
+        "",
+        "",
+        "diff --trace t o",
+        1,
+        "",
+        "initview: a word is missing, or one is too many\nusage: ",
+    ),
+    (
+        &[],
+        "",
+        "",
+        "diff --trace t --level x o n",
+        1,
+        "",
+        "initview: a LEVEL is one of 0 to 9 and S\nusage: ",
+    ),
+    (
+        &[],
+        "",
+        "",
+        "diff --level 3 --trace t o n",
+        1,
+        "",
+        "initview: --trace stands before --level\nusage: ",
+    ),
+];
+
 /// Keeps the text of the parts at the path `t`.
 fn kept_of(alloc: Global, parts: &[&str]) -> Result<KeptTexts, AllocError> {
     let mut text = Vec::new(alloc);
@@ -754,19 +912,39 @@ fn kept_of(alloc: Global, parts: &[&str]) -> Result<KeptTexts, AllocError> {
     Ok(kept)
 }
 
+/// What the words write, and how what they tell begins.
+fn says(
+    alloc: Global,
+    kept: &KeptTexts,
+    words: &str,
+    status: u8,
+    written: &str,
+    told: &str,
+) -> Result<bool, AllocError> {
+    let words = line_words(alloc, words)?;
+    let mut out: Vec<u8> = Vec::new(alloc);
+    let mut err: Vec<u8> = Vec::new(alloc);
+    let ended = run_words(kept, kept, alloc, words.as_slice(), &mut out, &mut err);
+    let tells = if told.is_empty() {
+        err.is_empty()
+    } else {
+        err.as_slice().starts_with(told.as_bytes())
+    };
+    Ok(ended == status && out.as_slice() == written.as_bytes() && tells)
+}
+
 /// What is said is what the row says.
 fn is_said(alloc: Global, row: &Row) -> Result<bool, AllocError> {
     let kept = kept_of(alloc, row.0)?;
-    let words = line_words(alloc, row.1)?;
-    let mut out: Vec<u8> = Vec::new(alloc);
-    let mut err: Vec<u8> = Vec::new(alloc);
-    let status = run_words(&kept, &kept, alloc, words.as_slice(), &mut out, &mut err);
-    let tells = if row.4.is_empty() {
-        err.is_empty()
-    } else {
-        err.as_slice().starts_with(row.4.as_bytes())
-    };
-    Ok(status == row.2 && out.as_slice() == row.3.as_bytes() && tells)
+    says(alloc, &kept, row.1, row.2, row.3, row.4)
+}
+
+/// What is said of a trace and of inittabs is what the row says.
+fn is_said_behind(alloc: Global, row: &BehindRow) -> Result<bool, AllocError> {
+    let mut kept = kept_of(alloc, row.0)?;
+    kept.keep("o", row.1.as_bytes())?;
+    kept.keep("n", row.2.as_bytes())?;
+    says(alloc, &kept, row.3, row.4, row.5, row.6)
 }
 
 #[test]
@@ -805,6 +983,14 @@ fn what_is_said_to_programs(rt: HostRuntime) -> Result<(), Fail> {
 fn what_is_said_of_inittabs(rt: HostRuntime) -> Result<(), Fail> {
     for row in TABLE_ROWS {
         assert!(rt; is_said(rt.alloc(), row)?, "{}", row.1);
+    }
+    Ok(())
+}
+
+#[test]
+fn what_is_said_of_inittabs_behind_traces(rt: HostRuntime) -> Result<(), Fail> {
+    for row in BEHIND_ROWS {
+        assert!(rt; is_said_behind(rt.alloc(), row)?, "{}", row.3);
     }
     Ok(())
 }

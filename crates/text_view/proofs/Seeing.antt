@@ -140,6 +140,11 @@ seen_at None state trace text at = at.seen
 seen_at (Some (Breach law line)) state trace text at = at.1
 seen_at (Some (Torn number)) state trace text at = at.1
 
+pub viewed_at : (stop : Option Stop) (state : TextState) (trace : List Event) (text : List ℕ) → TakenBy stop state trace text → Viewed state.viewing (reverse trace)
+viewed_at None state trace text taken = taken.0.seen
+viewed_at (Some (Breach law line)) state trace text taken = taken.1
+viewed_at (Some (Torn number)) state trace text taken = taken.1
+
 -- what is shown of the text
 left_is : (reading : Reading) (viewing : ViewState) (trace : List Event) (text over : List ℕ) → length text < 2 ^ 64 → HasSeen reading viewing trace text → reading.over ≡ over → option_map capped (line_left reading.lines over) ≡ line_left (newlines (trace_text trace)) over
 left_is reading viewing trace text [] small seen is = refl

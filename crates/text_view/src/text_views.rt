@@ -1,7 +1,8 @@
 //! The view of the text of a trace that comes in pieces.
 
-ghost use Rattle.std.specs.Prelude.{◌≡◌, ◌^◌, ◌<◌, List, ℕ, ◌++◌, [], length, true, is_some, option_map, reverse, IfOk, OnOk};
+ghost use Rattle.std.specs.Prelude.{◌≡◌, ◌^◌, ◌<◌, List, ℕ, ◌∷◌, ◌++◌, [], length, true, None, is_some, option_map, reverse, IfOk, OnOk};
 ghost use Rattle.init_trace.specs.Event.{Event};
+ghost use Rattle.init_trace.specs.Lawful.{broken};
 ghost use Rattle.trace_verdict.specs.Fronts.{line_left};
 ghost use Rattle.trace_verdict.specs.Readers.{capped};
 ghost use Rattle.trace_view.specs.Viewing.{Viewed};
@@ -101,6 +102,7 @@ impl<A: Allocator + Copy> TextView<A> {
             → length text < 2 ^ 64 → GoesOn next self.old self.new trace text) }
         ensures shorter { IfOk result (λ next. is_some next ≡ true
             → length self.new.reading.over < length self.old.reading.over) }
+        ensures unstopped { IfOk result (λ next. is_some next ≡ true → self.old.stop ≡ None) }
     {
         if let Some(_) = self.stop {
             return Ok(None);
@@ -121,6 +123,13 @@ impl<A: Allocator + Copy> TextView<A> {
         }
     }
 
+    /// How many lines of the text it has read: those of the happenings that it has seen, as long as it goes on.
+    pub fn lines(&self) -> u64
+        ensures { result ≡ self.now.reading.lines }
+    {
+        self.reader.lines()
+    }
+
     /// Takes the next piece of the text, and sees all happenings of it that are whole. Where memory runs out a part of it
     /// may be taken, and the view is of no more use.
     pub fn take(&mut self, piece: &[u8]) -> Result<(), Memory>
@@ -129,6 +138,17 @@ impl<A: Allocator + Copy> TextView<A> {
     {
         self.feed(piece)?;
         while self.next()?.is_some() {}
+        Ok(())
+    }
+
+    /// Shows the view a happening that the text doesn't have, and that can break no law: what comes of what was seen.
+    /// Where memory runs out the view is of no more use.
+    pub fn show<B: Allocator>(&mut self, happening: &HappeningIn<B>) -> Result<(), Memory>
+        requires { (past : List Event) → broken happening.now past ≡ None }
+        ensures { OnOk result ((past : List Event) → Viewed self.old.viewing past
+            → Viewed self.new.viewing (happening.now ∷ past)) }
+    {
+        let _law = self.view.take(happening)?;
         Ok(())
     }
 

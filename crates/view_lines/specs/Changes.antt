@@ -11,7 +11,7 @@ use Rattle.init_words.specs.Entries.{lives_of}
 use Rattle.inittab_text.specs.Tables.{entry_of}
 use Rattle.init_trace.specs.Wanted.{may_live}
 use Rattle.view_lines.specs.declared.changes.Change.{Change}
-use Rattle.view_lines.specs.declared.changes.Change.TheVariants.{Keep, NextStart, Stop, StopStart, Start, NotHere}
+use Rattle.view_lines.specs.declared.changes.Change.TheVariants.{Keep, NextStart, Stop, StopStart, Start, NotAgain, NotHere}
 use Rattle.level_plan.specs.Plans.{is_started}
 use Rattle.view_lines.specs.Words.{act_words, level_words, padded}
 
@@ -47,6 +47,7 @@ change_words NextStart = codes "changed at its next start"
 change_words Stop = codes "stop"
 change_words StopStart = codes "stop and start"
 change_words Start = codes "start"
+change_words NotAgain = codes "not again"
 change_words NotHere = codes "not here"
 
 -- the line of an id: its action in the new inittab, and what becomes of it

@@ -24,6 +24,8 @@ pub enum Change {
     StopStart,
     /// It is started.
     Start,
+    /// It was started in the level already, and isn't started again.
+    NotAgain,
     /// It doesn't run in the level, before or after.
     NotHere,
 }
@@ -73,7 +75,7 @@ fn may_live(entry: Option<&Entry>, act: Option<Act>, stage: Stage) -> bool
     }
 }
 
-fn same_process(old: Option<&Entry>, new: Option<&Entry>) -> bool
+pub(crate) fn same_process(old: Option<&Entry>, new: Option<&Entry>) -> bool
     ensures { result ≡ same_process (option_copied old.entry) (option_copied new.entry) }
 {
     match (old, new) {
@@ -108,7 +110,7 @@ fn change_in(stage: Stage, old: Option<&Entry>, new: Option<&Entry>) -> Change
     }
 }
 
-fn change_words(change: Change) -> &'static [u8]
+pub(crate) fn change_words(change: Change) -> &'static [u8]
     ensures { result.now ≡ change_words change }
 {
     match change {
@@ -117,6 +119,7 @@ fn change_words(change: Change) -> &'static [u8]
         Change::Stop => b"stop",
         Change::StopStart => b"stop and start",
         Change::Start => b"start",
+        Change::NotAgain => b"not again",
         Change::NotHere => b"not here",
     }
 }

@@ -1,5 +1,6 @@
 //! What a view of a trace says, as lines for people to read: how the entries stand, why one isn't started next, and
-//! which children are left; and what init makes of inittabs: what changes by another one, and what a level starts.
+//! which children are left; and what init makes of inittabs: what changes by another one, also for what runs at the end
+//! of a trace, and what a level starts.
 #![tactic(auto)]
 
 mod changes;
@@ -7,6 +8,7 @@ mod json;
 mod left;
 mod plans;
 mod reasons;
+mod reloads;
 mod status;
 mod words;
 
@@ -15,5 +17,6 @@ pub use json::json_lines;
 pub use left::left_lines;
 pub use plans::plan_lines;
 pub use reasons::why_lines;
+pub use reloads::reload_lines;
 pub use status::{row_line, status_lines};
 pub use words::{add_level, add_number, add_padded, add_stage, add_status, put, seconds_since};

@@ -15,6 +15,7 @@ returns-in_ok-stop-in-Ok-Some g c =
       goes = λ trace text small.
           goes_next new.stop old new.reading new.viewing trace text c.in-Ok-Some.happening c.saturating_add-line.result c.in_default.is small next c.in_ok-stop-in-Ok-Some.ensures (search rules);
       shorter = λ yes. shorter c.in-Ok-Some.happening new.reading.over old.reading.over next.0 next.1;
+      unstopped = λ yes. c.in_default.is;
     })
 
 pub returns-in-Err-Line : goal.returns-in-Err-Line
@@ -24,4 +25,5 @@ returns-in-Err-Line g c =
     rw (← c.self.view_is) (record {
       goes = λ trace text small at. torn_here old.reading old.viewing trace text c.in-Err-Line.number small none.0 none.1 (at_none old.stop old trace text c.in_default.is at);
       shorter = λ no. absurd (cc);
+      unstopped = λ no. absurd (cc);
     })
