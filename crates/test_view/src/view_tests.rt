@@ -5,6 +5,7 @@ use initview_command::run_words;
 use path_texts::KeptTexts;
 use std::alloc::{AllocError, Global};
 use std::process::Abort;
+use std::str;
 use std::test::Fail;
 use test_support::line_words;
 
@@ -642,6 +643,109 @@ const CHART_ROWS: &[Row] = &[
         "initview: a word is missing, or one is too many\nusage: ",
     ),
     (&[], "timeline u", 4, "", "initview: cannot read u: "),
+    (&[], "timeline --svg u", 4, "", "initview: cannot read u: "),
+    (
+        &[],
+        "timeline --svg --width 80 t",
+        1,
+        "",
+        "initview: behind --svg stands the TRACE, and no --width: the picture has its own\nusage: ",
+    ),
+    (
+        &[],
+        "timeline --png t",
+        1,
+        "",
+        "initview: a word is missing, or one is too many\nusage: ",
+    ),
+];
+
+/// A stage of one second, a level that isn't settled yet, and children that ended with a status, all of ten seconds.
+const ENDED: &str =
+    "use 2\na:3:once:x\nb:3:once:x\nclock 1000\nenter sysinit 5\nclock 1001\nenter boot 5\nenter 3 5\nask a start\nbirth a 21\ntold a\nask b start\nbirth b 22\ntold b\nclock 1006\nnudge\nask a look\nask b look\ndeath 21\nreaped a 21 exit 0\ntold a\ndeath 22\nreaped b 22 exit 3\ntold b\nclock 1010\n";
+
+/// The parts of a trace, and pieces that its picture has one behind the other. Of ten seconds each is 90 wide.
+const PICTURE_ROWS: &[(&[&str], &[&str])] = &[
+    (
+        &[KILLED],
+        &[
+            // Two rows.
+            "<svg xmlns=\"http://www.w3.org/2000/svg\" role=\"img\" width=\"1030\" height=\"152\" viewBox=\"0 0 1030 152\">\n<title>init: clock 1000 to 1010, 10 s</title>\n<style>\n",
+            "</style>\n<rect class=\"paper\" width=\"100%\" height=\"100%\"/>\n<g transform=\"translate(80 48)\">\n<text y=\"-30\">clock 1000 to 1010, 10 s</text>\n<path class=\"tick\" d=\"M0 -4V48\"/><text class=\"time\" y=\"-8\" x=\"0\">1000</text>\n",
+            // Each two seconds, since ten of one are no more than the whole; the last is the last time.
+            "<path class=\"tick\" d=\"M180 -4V48\"/><text class=\"time\" y=\"-8\" x=\"180\">1002</text>\n",
+            "<text class=\"time\" y=\"-8\" x=\"900\">1010</text>\n<g transform=\"translate(0 0)\"><rect class=\"band\" height=\"20\" width=\"900\"/><text class=\"id\" x=\"-8\" y=\"14\">stage</text>\n",
+            // A stage of no second has the least width, and no name.
+            "<rect x=\"0\" width=\"4\" class=\"stage\" height=\"20\"><title>stage sysinit, clock 1000 to 1000</title></rect>\n<rect ",
+            "<rect x=\"0\" width=\"270\" class=\"stage\" height=\"20\"><title>level 3, clock 1000 to 1003</title></rect>\n<text y=\"14\" dx=\"4\" x=\"0\">level 3</text>\n",
+            "<rect x=\"0\" width=\"270\" class=\"settled\" y=\"15\" height=\"5\"><title>level 3 settled, clock 1000 to 1003</title></rect>\n",
+            "<rect x=\"270\" width=\"630\" class=\"stage\" height=\"20\"><title>level 4, clock 1003 to 1010</title></rect>\n",
+            "<rect x=\"720\" width=\"180\" class=\"settled\" y=\"15\" height=\"5\"><title>level 4 settled, clock 1008 to 1010</title></rect>\n</g>\n",
+            // The child lives up to its reaping; above it stand the signals.
+            "<g transform=\"translate(0 24)\"><rect class=\"band\" height=\"20\" width=\"900\"/><text class=\"id\" x=\"-8\" y=\"14\">r</text>\n<rect x=\"0\" width=\"720\" class=\"killed\" y=\"4\" height=\"12\"><title>r 9: clock 1000 to 1008, killed</title></rect>\n<path transform=\"translate(270)\" class=\"term\" ",
+            "><title>r: TERM sent, clock 1003</title></path>\n<path transform=\"translate(720)\" class=\"kill\" ",
+            "><title>r: KILL sent, clock 1008</title></path>\n</g>\n<g transform=\"translate(0 56)\">\n<rect width=\"16\" x=\"0\" class=\"stage\" height=\"20\"/>",
+            "</g>\n<g transform=\"translate(0 78)\">\n<path transform=\"translate(8)\" class=\"term\" ",
+            "</g>\n</g>\n</svg>\n",
+        ],
+    ),
+    // A letter where there is no room for words; how children ended.
+    (
+        &[ENDED],
+        &[
+            "height=\"176\" ",
+            "<title>stage sysinit, clock 1000 to 1001</title></rect>\n<text y=\"14\" dx=\"4\" x=\"0\">i</text>\n",
+            "<rect x=\"90\" width=\"810\" class=\"stage\" height=\"20\"><title>level 3, clock 1001 to 1010</title></rect>\n<text y=\"14\" dx=\"4\" x=\"90\">level 3</text>\n</g>\n",
+            "<g transform=\"translate(0 24)\">",
+            "<rect x=\"90\" width=\"450\" class=\"done\" y=\"4\" height=\"12\"><title>a 21: clock 1001 to 1006, exit 0</title></rect>\n</g>\n",
+            "<g transform=\"translate(0 48)\">",
+            "<rect x=\"90\" width=\"450\" class=\"failed\" y=\"4\" height=\"12\"><title>b 22: clock 1001 to 1006, exit 3</title></rect>\n</g>\n<g transform=\"translate(0 80)\">\n",
+        ],
+    ),
+    // Starts that fail, and the hold; a whole for which no step is long enough has ten ticks at most.
+    (
+        &[
+            "use 1\nr:3:respawn:x\nclock 1000\nenter sysinit 5\nenter boot 5\nenter 3 5\n",
+            FAILS,
+            "hold r\nsettle 3\nclock 901000\n",
+        ],
+        &[
+            "<text class=\"time\" y=\"-8\" x=\"90\">91001</text>\n",
+            "<text class=\"time\" y=\"-8\" x=\"810\">811009</text>\n<g ",
+            "<text class=\"id\" x=\"-8\" y=\"14\">r</text>\n<path transform=\"translate(0)\" class=\"unborn\" ",
+            "><title>r: start failed, clock 1000</title></path>\n<path transform=\"translate(0)\" class=\"held\" ",
+            "><title>r: held, clock 1000</title></path>\n</g>\n",
+        ],
+    ),
+    // An id of signs that XML keeps for itself; a child that goes on; no second.
+    (
+        &[
+            "use 1\na<>&\"b:3:once:x\nclock 1000\nenter sysinit 5\nenter boot 5\nenter 3 5\nask a<>&\"b start\nbirth a<>&\"b 7\n",
+        ],
+        &[
+            "<title>init: clock 1000 to 1000, 0 s</title>\n",
+            " x=\"0\">1000</text>\n<g ",
+            "<text class=\"id\" x=\"-8\" y=\"14\">a&lt;&gt;&amp;&quot;b</text>\n<rect x=\"0\" width=\"4\" class=\"runs\" y=\"4\" height=\"12\"><title>a&lt;&gt;&amp;&quot;b 7: clock 1000 to 1000, runs still</title></rect>\n</g>\n",
+        ],
+    ),
+    // A life of no second is drawn upon the one behind it.
+    (
+        &[
+            "use 1\nr:3:respawn:x\nclock 1000\nenter sysinit 5\nenter boot 5\nenter 3 5\n",
+            "ask r start\nbirth r 13\ntold r\nnudge\nask r look\ndeath 13\nreaped r 13 exit 1\ntold r\nask r start\nbirth r 14\ntold r\nclock 1010\n",
+        ],
+        &[
+            "<title>r 14: clock 1000 to 1010, runs still</title></rect>\n<rect x=\"0\" width=\"4\" class=\"failed\" y=\"4\" height=\"12\"><title>r 13: clock 1000 to 1000, exit 1</title></rect>\n</g>\n",
+        ],
+    ),
+    // Nothing that is shown.
+    (
+        &[TABLE],
+        &[
+            "height=\"128\" ",
+            "<text class=\"id\" x=\"-8\" y=\"14\">stage</text>\n</g>\n<g transform=\"translate(0 32)\">\n",
+        ],
+    ),
 ];
 
 const FOLLOW_ROWS: &[Row] = &[
@@ -947,6 +1051,31 @@ fn is_said_behind(alloc: Global, row: &BehindRow) -> Result<bool, AllocError> {
     says(alloc, &kept, row.3, row.4, row.5, row.6)
 }
 
+/// The text has the pieces, one behind the other.
+fn has_pieces(text: &str, pieces: &[&str]) -> bool {
+    let mut rest = text;
+    for piece in pieces {
+        match rest.split_once(*piece) {
+            Some((_, behind)) => rest = behind,
+            None => return false,
+        }
+    }
+    true
+}
+
+/// The picture of the parts has the pieces.
+fn is_drawn(alloc: Global, parts: &[&str], pieces: &[&str]) -> Result<bool, AllocError> {
+    let kept = kept_of(alloc, parts)?;
+    let words = line_words(alloc, "timeline --svg t")?;
+    let mut out: Vec<u8> = Vec::new(alloc);
+    let mut err: Vec<u8> = Vec::new(alloc);
+    let status = run_words(&kept, alloc, words.as_slice(), &mut out, &mut err);
+    match str::from_utf8(out.as_slice()) {
+        Ok(text) => Ok(status == 0 && err.is_empty() && has_pieces(text, pieces)),
+        Err(_) => Ok(false),
+    }
+}
+
 #[test]
 fn what_is_said_of_traces(rt: HostRuntime) -> Result<(), Fail> {
     for row in TRACE_ROWS {
@@ -967,6 +1096,14 @@ fn what_timelines_show(rt: HostRuntime) -> Result<(), Fail> {
 fn what_is_said_as_it_comes(rt: HostRuntime) -> Result<(), Fail> {
     for row in FOLLOW_ROWS {
         assert!(rt; is_said(rt.alloc(), row)?, "{}", row.1);
+    }
+    Ok(())
+}
+
+#[test]
+fn what_pictures_show(rt: HostRuntime) -> Result<(), Fail> {
+    for (parts, pieces) in PICTURE_ROWS {
+        assert!(rt; is_drawn(rt.alloc(), parts, pieces)?, "{}", pieces[0]);
     }
     Ok(())
 }
