@@ -1069,7 +1069,7 @@ fn is_drawn(alloc: Global, parts: &[&str], pieces: &[&str]) -> Result<bool, Allo
     let words = line_words(alloc, "timeline --svg t")?;
     let mut out: Vec<u8> = Vec::new(alloc);
     let mut err: Vec<u8> = Vec::new(alloc);
-    let status = run_words(&kept, alloc, words.as_slice(), &mut out, &mut err);
+    let status = run_words(&kept, &kept, alloc, words.as_slice(), &mut out, &mut err);
     match str::from_utf8(out.as_slice()) {
         Ok(text) => Ok(status == 0 && err.is_empty() && has_pieces(text, pieces)),
         Err(_) => Ok(false),
