@@ -1,6 +1,6 @@
 //! The words of `initview`, and what it does for them.
 
-ghost use Rattle.std.specs.Prelude.{◌≡◌, true, false, None, Some, codes, map, string_bytes, List};
+ghost use Rattle.std.specs.Prelude.{◌≡◌, true, false, None, Some, codes, map, string_bytes, List, ℕ};
 ghost use Rattle.program_version.specs.VersionLine.{PrintsVersion};
 ghost use Rattle.command_words.specs.CommandLines.{asks_version};
 ghost use Rattle.initview_command.specs.declared.asking.Question.{Question};
