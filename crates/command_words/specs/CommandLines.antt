@@ -37,8 +37,8 @@ program_app name =
     record named { top = record named.top { no_binary_name = true } }
 
 -- `new` is `old` with the argument after all that it has
-abbrev pub Adds : Command → Rule → Command → Type 0
-Adds old rule new =
+abbrev pub AddsArgument : Command → Rule → Command → Type 0
+AddsArgument old rule new =
     (app_of new ≡ with_rule (app_of old) rule) × ((out-Command new).has_globals ≡ (out-Command old).has_globals)
 
 -- a command line with these arguments, in turn

@@ -2,15 +2,17 @@
 //! value of an argument, and whether the version is asked for.
 #![tactic(auto)]
 
+mod faults;
+mod versions;
+
 ghost use Rattle.std.specs.Prelude.{◌≡◌, [], unwrap_or, map, string_bytes, IfOk};
 ghost use Rattle.clap.specs.Words.{first_of, found_of, rows_of};
-ghost use Rattle.command_words.specs.CommandLines.{Adds, IsLine, asks_version, default_rule, letter_rule, program_app, short_rule, switch_rule, value_rule, word_rule};
-
-mod faults;
+ghost use Rattle.command_words.specs.CommandLines.{AddsArgument, IsLine, asks_version, default_rule, letter_rule, program_app, short_rule, switch_rule, value_rule, word_rule};
 
 use clap::{Arg, ArgAction, ArgMatches, Command};
 pub use faults::{WordFault, report_refused_words, report_word_fault, word_fault};
 use std::alloc::{AllocError, Global};
+pub use versions::{KIT, VERSION, print_version, write_version};
 
 /// The words ask for the version: they are `--version` alone.
 pub fn is_version(words: &[String]) -> bool
@@ -46,7 +48,7 @@ pub fn with_word<'a>(
     line: Command<'a>,
     name: &'a str,
 ) -> Result<Command<'a>, AllocError>
-    ensures { IfOk result (Adds line.entry (word_rule name.entry.now)) }
+    ensures { IfOk result (AddsArgument line.entry (word_rule name.entry.now)) }
 {
     line.arg(Arg::new(alloc, name).required(true))
 }
@@ -57,7 +59,7 @@ pub fn with_value<'a>(
     line: Command<'a>,
     name: &'a str,
 ) -> Result<Command<'a>, AllocError>
-    ensures { IfOk result (Adds line.entry (value_rule name.entry.now)) }
+    ensures { IfOk result (AddsArgument line.entry (value_rule name.entry.now)) }
 {
     line.arg(Arg::new(alloc, name).long(name))
 }
@@ -69,7 +71,7 @@ pub fn with_default<'a>(
     name: &'a str,
     value: &'a str,
 ) -> Result<Command<'a>, AllocError>
-    ensures { IfOk result (Adds line.entry (default_rule name.entry.now value.entry.now)) }
+    ensures { IfOk result (AddsArgument line.entry (default_rule name.entry.now value.entry.now)) }
 {
     line.arg(Arg::new(alloc, name).long(name).default_value(value))
 }
@@ -83,7 +85,7 @@ pub fn with_short<'a>(
     value: &'a str,
 ) -> Result<Command<'a>, AllocError>
     ensures { IfOk result
-        (Adds line.entry (short_rule name.entry.now character value.entry.now)) }
+        (AddsArgument line.entry (short_rule name.entry.now character value.entry.now)) }
 {
     let option = Arg::new(alloc, name).short(character).default_value(value);
     line.arg(option)
@@ -95,7 +97,7 @@ pub fn with_switch<'a>(
     line: Command<'a>,
     name: &'a str,
 ) -> Result<Command<'a>, AllocError>
-    ensures { IfOk result (Adds line.entry (switch_rule name.entry.now)) }
+    ensures { IfOk result (AddsArgument line.entry (switch_rule name.entry.now)) }
 {
     let switch = Arg::new(alloc, name).long(name).action(ArgAction::SetTrue);
     line.arg(switch)
@@ -108,7 +110,7 @@ pub fn with_letter<'a>(
     name: &'a str,
     character: char,
 ) -> Result<Command<'a>, AllocError>
-    ensures { IfOk result (Adds line.entry (letter_rule name.entry.now character)) }
+    ensures { IfOk result (AddsArgument line.entry (letter_rule name.entry.now character)) }
 {
     let switch = Arg::new(alloc, name)
         .short(character)

@@ -7,18 +7,18 @@ use Rattle.std.proofs.lemmas.Option.{none-some, same_Some}
 use Rattle.init_words.specs.Ids.{same_id}
 use Rattle.init_words.proofs.Same.{same_id-is}
 use Rattle.init_words.proofs.Tests.{both_ways, falsely, found_any}
-use Rattle.init_trace.specs.declared.happenings.Happening.TheVariants.{Birth, NoBirth, Death, Reaped, Still, NoLook, Hit, Miss}
-use Rattle.init_trace.specs.declared.steps.Goal.{Goal}
-use Rattle.init_trace.specs.Event.{Event}
-use Rattle.init_trace.specs.Past.{Child, is_of, has_child, kept_children, known_children}
-use Rattle.init_trace.specs.Wanted.{is_excluded}
-use Rattle.init_trace.specs.Spells.{spell_hits, is_missed}
-use Rattle.init_trace.specs.Due.{record_ids, wants_look}
-use Rattle.init_trace.specs.Sound.{is_sound}
+use Rattle.trace_events.specs.declared.happenings.Happening.TheVariants.{Birth, NoBirth, Death, Reaped, Still, NoLook, Hit, Miss}
+use Rattle.trace_events.specs.declared.steps.Goal.{Goal}
+use Rattle.trace_events.specs.Event.{Event}
+use Rattle.trace_events.specs.Past.{Child, is_of, has_child, kept_children, known_children}
+use Rattle.trace_events.specs.Wanted.{is_excluded}
+use Rattle.trace_events.specs.Spells.{spell_hits, is_missed}
+use Rattle.trace_events.specs.Due.{record_ids, wants_look}
+use Rattle.trace_events.specs.Sound.{is_sound}
 use Rattle.trace_laws.proofs.Orders.{known_kept}
 use Rattle.trace_laws.proofs.Births.{birth_ready}
 use Rattle.trace_laws.proofs.Spells.{is_still, spell_still, missed_still, spell_birth, missed_none}
-use Rattle.child_table.specs.Lists.{slot_of}
+use Rattle.core_records.specs.Lists.{record_by_id}
 use Rattle.core_model.specs.Fit.{LastStatuses, child_known, living, known_child, stop_after, stop_known, stop_of, is_to_look, was_missed, record_of, records_of, is_act}
 
 -- the child that is found for an id has the id
@@ -34,17 +34,17 @@ pub child_some : (id : List ℕ) (past : List Event) → is_some (known_child id
 child_some id past = found_any living (is_of id) (known_children past)
 
 -- among the records of some ids, that of an id that is one of them, and none of any other
-found_if : (lasts : LastStatuses) → (past : List Event) (id : List ℕ) (ids : List (List ℕ)) → slot_of id (map (record_of lasts past) ids) ≡ cond (list_any (same_id id) ids) (Some (record_of lasts past id)) None
+found_if : (lasts : LastStatuses) → (past : List Event) (id : List ℕ) (ids : List (List ℕ)) → record_by_id id (map (record_of lasts past) ids) ≡ cond (list_any (same_id id) ids) (Some (record_of lasts past id)) None
 found_if lasts past id [] = refl
 found_if lasts past id (x ∷ ids) = split (same_id id x) refl (found_if lasts past id ids) where
-  split : (b : Bool) → same_id id x ≡ b → slot_of id (map (record_of lasts past) ids) ≡ cond (list_any (same_id id) ids) (Some (record_of lasts past id)) None → cond b (Some (record_of lasts past x)) (slot_of id (map (record_of lasts past) ids)) ≡ cond (b || list_any (same_id id) ids) (Some (record_of lasts past id)) None
+  split : (b : Bool) → same_id id x ≡ b → record_by_id id (map (record_of lasts past) ids) ≡ cond (list_any (same_id id) ids) (Some (record_of lasts past id)) None → cond b (Some (record_of lasts past x)) (record_by_id id (map (record_of lasts past) ids)) ≡ cond (b || list_any (same_id id) ids) (Some (record_of lasts past id)) None
   split true same rest = ap (λ y. Some (record_of lasts past y)) (sym (same_id-is id x same))
   split false differ rest = rest
 
-pub found_record : (lasts : LastStatuses) → (past : List Event) (id : List ℕ) (ids : List (List ℕ)) → list_any (same_id id) ids ≡ true → slot_of id (map (record_of lasts past) ids) ≡ Some (record_of lasts past id)
+pub found_record : (lasts : LastStatuses) → (past : List Event) (id : List ℕ) (ids : List (List ℕ)) → list_any (same_id id) ids ≡ true → record_by_id id (map (record_of lasts past) ids) ≡ Some (record_of lasts past id)
 found_record lasts past id ids there = found_if lasts past id ids ∙ ap (λ b. cond b (Some (record_of lasts past id)) None) there
 
-pub no_record : (lasts : LastStatuses) → (past : List Event) (id : List ℕ) (ids : List (List ℕ)) → list_any (same_id id) ids ≡ false → slot_of id (map (record_of lasts past) ids) ≡ None
+pub no_record : (lasts : LastStatuses) → (past : List Event) (id : List ℕ) (ids : List (List ℕ)) → list_any (same_id id) ids ≡ false → record_by_id id (map (record_of lasts past) ids) ≡ None
 no_record lasts past id ids none = found_if lasts past id ids ∙ ap (λ b. cond b (Some (record_of lasts past id)) None) none
 
 -- of a child that is excluded as before, with the same Hits, the stop is as before; and likewise with the Misses

@@ -2,17 +2,17 @@
 use Rattle.std.proofs.Common.{◌≡◌, refl, sym, ap, ℕ, true, not, cond, List, [], ◌∷◌, filter, Some, None}
 use Rattle.std.specs.List.{list_any}
 use Rattle.std.proofs.lemmas.Option.{none-some}
-use Rattle.init_words.specs.declared.orders.Ask.{Ask}
-use Rattle.init_words.specs.declared.orders.Ask.TheVariants.{Start, Look, Term, Kill}
+use Rattle.init_words.specs.declared.orders.OrderKind.{OrderKind}
+use Rattle.init_words.specs.declared.orders.OrderKind.TheVariants.{Start, Look, Term, Kill}
 use Rattle.init_words.specs.Ids.{same_id}
 use Rattle.init_words.specs.Orders.{same_ask}
 use Rattle.init_words.proofs.Same.{same_id-self}
-use Rattle.init_trace.specs.declared.happenings.Happening.TheVariants.{Asked, Enter, Told}
-use Rattle.init_trace.specs.declared.steps.Step.TheVariants.{Order}
-use Rattle.init_trace.specs.declared.steps.Goal.{Goal}
-use Rattle.init_trace.specs.Event.{Event}
-use Rattle.init_trace.specs.Past.{is_of, is_quiet, open_orders, stage_of, undone_of}
-use Rattle.init_trace.specs.Sound.{is_sound, may_come}
+use Rattle.trace_events.specs.declared.happenings.Happening.TheVariants.{Asked, Enter, Told}
+use Rattle.trace_events.specs.declared.steps.Step.TheVariants.{Order}
+use Rattle.trace_events.specs.declared.steps.Goal.{Goal}
+use Rattle.trace_events.specs.Event.{Event}
+use Rattle.trace_events.specs.Past.{is_of, is_quiet, open_orders, stage_of, undone_of}
+use Rattle.trace_events.specs.Sound.{is_sound, may_come}
 use Rattle.trace_laws.proofs.Dues.{MayLook, MayStop, due_facts}
 use Rattle.trace_laws.proofs.Keeps.{keeps, not_placed, sound_holds, sound_ind}
 use Rattle.trace_laws.proofs.Stopping.{dawn_known}
@@ -20,7 +20,7 @@ use Rattle.trace_laws.proofs.Stopping.{dawn_known}
 dawn_orders : (goal : Goal) (past : List Event) → is_sound goal past ≡ true → stage_of past ≡ None → open_orders past ≡ []
 dawn_orders goal past h = sound_ind goal (λ before. stage_of before ≡ None → open_orders before ≡ []) (λ table distinct is. refl) next past h
   where
-    signalled : {P : Type 0} (id : List ℕ) (ask : Ask) (before : List Event) → is_sound goal before ≡ true → stage_of before ≡ None → MayStop id ask before → P
+    signalled : {P : Type 0} (id : List ℕ) (ask : OrderKind) (before : List Event) → is_sound goal before ≡ true → stage_of before ≡ None → MayStop id ask before → P
     signalled id ask before sound dawn may = dawn_known goal before sound dawn id (may.within (is_of id) may.own)
 
     next : (happening : Event) (before : List Event) → may_come goal happening before ≡ true → is_sound goal before ≡ true → (stage_of before ≡ None → open_orders before ≡ []) → stage_of (happening ∷ before) ≡ None → open_orders (happening ∷ before) ≡ []

@@ -7,30 +7,30 @@ use Rattle.init_words.specs.declared.levels.Level.{Level}
 use Rattle.init_words.specs.declared.stages.Stage.{Stage}
 use Rattle.init_words.specs.declared.stages.Stage.TheVariants as stage
 use Rattle.init_words.specs.declared.levels.Letter.TheVariants as letter
-use Rattle.init_words.specs.declared.orders.Ask.{Ask}
-use Rattle.init_words.specs.declared.orders.Ask.TheVariants.{Start, Look, Term, Kill}
+use Rattle.init_words.specs.declared.orders.OrderKind.{OrderKind}
+use Rattle.init_words.specs.declared.orders.OrderKind.TheVariants.{Start, Look, Term, Kill}
 use Rattle.init_words.specs.declared.orders.PowerKind.{PowerKind}
 use Rattle.init_words.specs.declared.orders.PowerKind.TheVariants as power
 use Rattle.init_words.specs.Actions.{is_limited}
 use Rattle.respawn_limit.specs.Window.{is_held, may_of}
-use Rattle.init_trace.specs.declared.steps.Goal.{Goal}
-use Rattle.init_trace.specs.declared.steps.Step.{Step}
-use Rattle.init_trace.specs.declared.steps.Step.TheVariants.{Enter, Call, Power, Reread, Order, Hold, Settle, Reexec, Idle}
-use Rattle.init_trace.specs.Wishes.{in_run}
-use Rattle.child_table.specs.declared.children.Stop.{Stop}
-use Rattle.child_table.specs.declared.children.Stop.TheVariants.{Due, Termed, Killed}
-use Rattle.child_table.specs.State.{SlotState}
-use Rattle.child_table.specs.Changes.{allows}
-use Rattle.child_table.specs.Lists.{is_quiet}
+use Rattle.trace_events.specs.declared.steps.Goal.{Goal}
+use Rattle.trace_events.specs.declared.steps.Step.{Step}
+use Rattle.trace_events.specs.declared.steps.Step.TheVariants.{Enter, Call, Power, Reread, Order, Hold, Settle, Reexec, Idle}
+use Rattle.trace_events.specs.Wishes.{in_run}
+use Rattle.core_records.specs.declared.children.Stop.{Stop}
+use Rattle.core_records.specs.declared.children.Stop.TheVariants.{Due, Termed, Killed}
+use Rattle.core_records.specs.State.{RecordState}
+use Rattle.core_records.specs.Changes.{allows}
+use Rattle.core_records.specs.Lists.{is_quiet}
 use Rattle.core_model.specs.declared.news.News.{News}
 use Rattle.core_model.specs.News.{first_news}
 use Rattle.core_model.specs.State.{CoreState}
-use Rattle.core_model.specs.Decide.{or_else, or_idle, level_step, news_step, wished_step, wish_step, stop_step, stop_among, signal_step, limited_step, start_step, start_along, start_among, stage_step, settle_step, calm_step, work_step, look_among, can_look_slot, can_start_slot, is_owed_slot, is_over_among, all_served, is_idle, has_excluded, stands, first_step, decide_in, decide}
+use Rattle.core_model.specs.Decide.{or_else, or_idle, level_step, news_step, wished_step, wish_step, stop_step, stop_among, signal_step, limited_step, start_step, start_along, start_among, stage_step, settle_step, calm_step, work_step, look_among, can_look_record, can_start_record, is_owed_record, is_over_among, all_served, is_idle, has_excluded, stands, first_step, decide_in, decide}
 
 -- the kinds of step pass: an Enter with the seconds of the goal, or of the wish for a level, and a re-execution where
 -- it is wished
 pub record EachPasses (test : Step → Bool) (c : CoreState) : Type 0 where
-  pub orders : (id : List ℕ) (ask : Ask) → test (Order id ask) ≡ true
+  pub orders : (id : List ℕ) (ask : OrderKind) → test (Order id ask) ≡ true
   pub holds : (id : List ℕ) → test (Hold id) ≡ true
   pub settles : (level : Level) → test (Settle level) ≡ true
   pub calls : (called : Letter) → test (Call called) ≡ true
@@ -64,13 +64,13 @@ module _ (test : Step → Bool) (c : CoreState) (each : EachPasses test c) where
   signals grace now id (Some (Killed time)) = tt
   signals grace now id None = tt
 
-  stops : (grace now : ℕ) (slots : List SlotState) → Pass (stop_among grace now slots)
+  stops : (grace now : ℕ) (slots : List RecordState) → Pass (stop_among grace now slots)
   stops grace now [] = tt
   stops grace now (slot ∷ slots) = by_else (stop_step grace now slot) (stop_among grace now slots)
       (by_cond (is_some slot.child && is_none slot.order && not slot.missed) (signal_step grace now slot.id slot.stop) None (λ _. signals grace now slot.id slot.stop) tt)
       (stops grace now slots)
 
-  limited : (now : ℕ) (e : Entry) (slot : SlotState) → Pass (limited_step now e slot)
+  limited : (now : ℕ) (e : Entry) (slot : RecordState) → Pass (limited_step now e slot)
   limited now e slot = by_cond (is_limited e.act) (cond (is_held slot.limiter.held now) None (Some (cond (allows (may_of slot.limiter now)) (Order e.id Start) (Hold e.id)))) (Some (Order e.id Start))
       (λ _. by_cond (is_held slot.limiter.held now) None (Some (cond (allows (may_of slot.limiter now)) (Order e.id Start) (Hold e.id))) (λ _. tt) (by (allows (may_of slot.limiter now)))) (each.orders e.id Start)
     where
@@ -78,11 +78,11 @@ module _ (test : Step → Bool) (c : CoreState) (each : EachPasses test c) where
       by true = each.orders e.id Start
       by false = each.holds e.id
 
-  starts : (now : Stage) (time : ℕ) (ps : List (Entry × SlotState)) → Pass (start_along now time ps)
+  starts : (now : Stage) (time : ℕ) (ps : List (Entry × RecordState)) → Pass (start_along now time ps)
   starts now time [] = tt
-  starts now time (p ∷ ps) = by_else (start_step now time p.0 p.1) (cond (is_owed_slot now p.0 p.1) None (start_along now time ps))
-      (by_cond (can_start_slot now p.0 p.1) (limited_step time p.0 p.1) None (λ _. limited time p.0 p.1) tt)
-      (by_cond (is_owed_slot now p.0 p.1) None (start_along now time ps) (λ _. tt) (starts now time ps))
+  starts now time (p ∷ ps) = by_else (start_step now time p.0 p.1) (cond (is_owed_record now p.0 p.1) None (start_along now time ps))
+      (by_cond (can_start_record now p.0 p.1) (limited_step time p.0 p.1) None (λ _. limited time p.0 p.1) tt)
+      (by_cond (is_owed_record now p.0 p.1) None (start_along now time ps) (λ _. tt) (starts now time ps))
 
   stages : (now : Stage) → Pass (stage_step now c.heads.goal c.table c.slots)
   stages stage.Sysinit = by_cond (is_over_among stage.Sysinit c.table c.slots) (Some (Enter _ c.heads.goal.grace)) None (λ _. each.goal _) tt
@@ -94,9 +94,9 @@ module _ (test : Step → Bool) (c : CoreState) (each : EachPasses test c) where
   settled stage.Boot = tt
   settled (stage.Run level) = by_cond (not c.heads.announced && is_idle c.slots && all_served level c.heads.time c.table c.slots) (Some (Settle level)) None (λ _. each.settles level) tt
 
-  looks : (slots : List SlotState) → Pass (look_among slots)
+  looks : (slots : List RecordState) → Pass (look_among slots)
   looks [] = tt
-  looks (slot ∷ slots) = by_cond (can_look_slot slot) (Some (Order slot.id Look)) (look_among slots) (λ _. each.orders slot.id Look) (looks slots)
+  looks (slot ∷ slots) = by_cond (can_look_record slot) (Some (Order slot.id Look)) (look_among slots) (λ _. each.orders slot.id Look) (looks slots)
 
   levels : (booted : Bool) (wish : Option Goal) → ((w : Goal) → wish ≡ Some w → (now : Stage) → test (Enter now w.grace) ≡ true) → Pass (level_step booted wish)
   levels booted None short = tt

@@ -7,17 +7,17 @@ use Rattle.init_words.specs.declared.stages.Stage.{Stage}
 use Rattle.init_words.specs.declared.stages.Stage.TheVariants as stage
 use Rattle.init_words.specs.Entries.{waited_of}
 use Rattle.init_words.proofs.Same.{same_level-self}
-use Rattle.init_trace.specs.declared.steps.Step.{Step}
-use Rattle.init_trace.specs.declared.steps.Step.TheVariants.{Enter, Call, Power, Reread, Settle, Reexec}
-use Rattle.init_trace.specs.declared.steps.Goal.{Goal}
-use Rattle.init_trace.specs.Event.{Event}
-use Rattle.init_trace.specs.Past.{table_of, stage_of, grace_of, time_of, has_child, is_quiet, is_idle, kept_children, known_children}
-use Rattle.init_trace.specs.Wanted.{is_wanted, is_excluded}
-use Rattle.init_trace.specs.Wishes.{is_level, in_run, goal_of, wants_reexec, wants_reread, level_wish, powers, letters, keeps_news, wish_stands, was_booted}
-use Rattle.init_trace.specs.Due as due
-use Rattle.init_trace.specs.Due.{due, first, step_if, steps_if, due_first, due_reexec, due_reread, due_level, due_news, due_stops, due_starts, due_stage, due_settle, due_looks, enter_level, power_steps, letter_steps, stops_among, starts_among, looks_among, is_announced, is_served, is_settled, record_ids}
-use Rattle.init_trace.specs.Sound.{is_sound}
-use Rattle.child_table.specs.Lists as lists
+use Rattle.trace_events.specs.declared.steps.Step.{Step}
+use Rattle.trace_events.specs.declared.steps.Step.TheVariants.{Enter, Call, Power, Reread, Settle, Reexec}
+use Rattle.trace_events.specs.declared.steps.Goal.{Goal}
+use Rattle.trace_events.specs.Event.{Event}
+use Rattle.trace_events.specs.Past.{table_of, stage_of, grace_of, time_of, has_child, is_quiet, is_idle, kept_children, known_children}
+use Rattle.trace_events.specs.Wanted.{is_wanted, is_excluded}
+use Rattle.trace_events.specs.Wishes.{is_level, in_run, goal_of, wants_reexec, wants_reread, level_wish, powers, letters, keeps_news, wish_stands, was_booted}
+use Rattle.trace_events.specs.Due as due
+use Rattle.trace_events.specs.Due.{due, first, step_if, steps_if, due_first, due_reexec, due_reread, due_level, due_news, due_stops, due_starts, due_stage, due_settle, due_looks, enter_level, power_steps, letter_steps, stops_among, starts_among, looks_among, is_announced, is_served, is_settled, record_ids}
+use Rattle.trace_events.specs.Sound.{is_sound}
+use Rattle.core_records.specs.Lists as lists
 use Rattle.core_model.specs.declared.news.News.{News}
 use Rattle.core_model.specs.News.{has_news, first_news}
 use Rattle.core_model.specs.State.{CoreState}

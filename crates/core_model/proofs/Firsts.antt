@@ -1,7 +1,7 @@
 -- The first of a list of steps, part by part.
 use Rattle.std.proofs.Common.{Bool, true, false, ◌≡◌, List, [], ◌∷◌, ◌++◌, Option, Some, None, refl, cond}
-use Rattle.init_trace.specs.declared.steps.Step.{Step}
-use Rattle.init_trace.specs.Due.{first, step_if, steps_if}
+use Rattle.trace_events.specs.declared.steps.Step.{Step}
+use Rattle.trace_events.specs.Due.{first, step_if, steps_if}
 use Rattle.core_model.specs.Decide.{or_else, or_idle}
 
 -- the first step, where there is one

@@ -1,11 +1,11 @@
 -- What a fit says of the records, and how what is read off the past goes on.
 use Rattle.std.proofs.Common.{◌≡◌, refl, sym, ◌∙◌, ap, ℕ, false, List, [], ◌∷◌, map}
-use Rattle.init_trace.specs.declared.steps.Goal.{Goal}
-use Rattle.init_trace.specs.Event.{Event}
-use Rattle.init_trace.specs.Past.{stage_of, table_of}
-use Rattle.init_trace.specs.Wishes.{in_run, goal_of}
-use Rattle.init_trace.specs.Due.{record_ids}
-use Rattle.child_table.specs.State.{SlotState}
+use Rattle.trace_events.specs.declared.steps.Goal.{Goal}
+use Rattle.trace_events.specs.Event.{Event}
+use Rattle.trace_events.specs.Past.{stage_of, table_of}
+use Rattle.trace_events.specs.Wishes.{in_run, goal_of}
+use Rattle.trace_events.specs.Due.{record_ids}
+use Rattle.core_records.specs.State.{RecordState}
 use Rattle.core_model.specs.State.{CoreState}
 use Rattle.core_model.specs.Fit.{LastStatuses, Fits, HasLasts, FitsAll, StillFits, lasts_after, lasts_of, record_of, records_of, core_read, with_lasts}
 
@@ -22,7 +22,7 @@ module _ (c : CoreState) (goal : Goal) (past : List Event) (fits : Fits c goal p
 
 -- the last statuses of the records that are read off the past with them
 module _ (past : List Event) (lasts : LastStatuses) where
-  lasts_read : (ids : List (List ℕ)) → map (λ (slot : SlotState). slot.last) (map (record_of lasts past) ids) ≡ map lasts ids
+  lasts_read : (ids : List (List ℕ)) → map (λ (slot : RecordState). slot.last) (map (record_of lasts past) ids) ≡ map lasts ids
   lasts_read [] = refl
   lasts_read (id ∷ ids) = ap (λ rest. lasts id ∷ rest) (lasts_read ids)
 
@@ -42,10 +42,10 @@ pub own_read : (c : CoreState) (goal : Goal) (past : List Event) → Fits c goal
     → c ≡ core_read (lasts_of past) past c.heads.goal c.heads.generation
 own_read c goal past fits has =
     fits.kept ∙ ap (λ slots. record (core_read fits.lasts past c.heads.goal c.heads.generation) { slots = slots })
-    (read_same past fits.lasts (lasts_of past) (record_ids past) (sym (ap (map (λ (slot : SlotState). slot.last)) (fit_records c goal past fits) ∙ lasts_read past fits.lasts (record_ids past)) ∙ has))
+    (read_same past fits.lasts (lasts_of past) (record_ids past) (sym (ap (map (λ (slot : RecordState). slot.last)) (fit_records c goal past fits) ∙ lasts_read past fits.lasts (record_ids past)) ∙ has))
 
 pub read_has : (c : CoreState) (past : List Event) → c ≡ core_read (lasts_of past) past c.heads.goal c.heads.generation → HasLasts c past
-read_has c past is = ap (λ (x : CoreState). map (λ (slot : SlotState). slot.last) x.slots) is ∙ lasts_read past (lasts_of past) (record_ids past)
+read_has c past is = ap (λ (x : CoreState). map (λ (slot : RecordState). slot.last) x.slots) is ∙ lasts_read past (lasts_of past) (record_ids past)
 
 -- what makes of a core that is read off the past one that is read off the past with one happening more keeps the fit
 pub goes_on : (old new : CoreState) (goal : Goal) (happening : Event) (past : List Event) → Fits old goal past
@@ -60,7 +60,7 @@ goes_on old new goal happening past fits reads law = (
 
 -- with any other last statuses a core fits the same trace
 module _ (lasts : LastStatuses) (past : List Event) where
-  read_with : (before : LastStatuses) (ids : List (List ℕ)) → map (λ (slot : SlotState). record slot { last = lasts slot.id }) (map (record_of before past) ids) ≡ map (record_of lasts past) ids
+  read_with : (before : LastStatuses) (ids : List (List ℕ)) → map (λ (slot : RecordState). record slot { last = lasts slot.id }) (map (record_of before past) ids) ≡ map (record_of lasts past) ids
   read_with before [] = refl
   read_with before (id ∷ ids) = ap (λ rest. record_of lasts past id ∷ rest) (read_with before ids)
 

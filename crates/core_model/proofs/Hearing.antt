@@ -6,20 +6,20 @@ use Rattle.init_words.specs.declared.levels.Level.{Level}
 use Rattle.init_words.specs.declared.orders.Answer.{Answer}
 use Rattle.init_words.specs.Actions.{is_limited}
 use Rattle.init_words.proofs.Tests.{and_false}
-use Rattle.initctl_frame.specs.declared.requests.Got.{Got}
+use Rattle.initctl_frame.specs.declared.requests.HeardRequest.{HeardRequest}
 use Rattle.inittab_text.specs.Tables.{ids_of, entry_of, is_distinct}
-use Rattle.init_trace.specs.declared.happenings.Happening.TheVariants as event
-use Rattle.init_trace.specs.declared.happenings.Handed.{Handed}
-use Rattle.init_trace.specs.declared.steps.Goal.{Goal}
-use Rattle.init_trace.specs.Event.{Event}
-use Rattle.init_trace.specs.Past.{stage_of}
-use Rattle.init_trace.specs.Wishes.{in_run, goal_of}
-use Rattle.init_trace.specs.Wanted.{brings}
-use Rattle.init_trace.specs.Answered.{answered_of}
-use Rattle.init_trace.specs.Due.{record_ids}
-use Rattle.init_trace.specs.Sound.{is_sound}
-use Rattle.child_table.specs.State.{SlotState, new_slot}
-use Rattle.child_table.specs.Lists as lists
+use Rattle.trace_events.specs.declared.happenings.Happening.TheVariants as event
+use Rattle.trace_events.specs.declared.happenings.Handed.{Handed}
+use Rattle.trace_events.specs.declared.steps.Goal.{Goal}
+use Rattle.trace_events.specs.Event.{Event}
+use Rattle.trace_events.specs.Past.{stage_of}
+use Rattle.trace_events.specs.Wishes.{in_run, goal_of}
+use Rattle.trace_events.specs.Wanted.{brings}
+use Rattle.trace_events.specs.Answered.{answered_of}
+use Rattle.trace_events.specs.Due.{record_ids}
+use Rattle.trace_events.specs.Sound.{is_sound}
+use Rattle.core_records.specs.State.{RecordState, new_record}
+use Rattle.core_records.specs.Lists as lists
 use Rattle.core_model.specs.State.{CoreState, opening_heads, opening_state}
 use Rattle.core_model.specs.Steps.{after_told, after_round, after_clock, after_got, after_adopt, after_not_read, after_handed, after_handed_on}
 use Rattle.core_model.specs.Fit.{LastStatuses, Fits, HasLasts, StillFits, lasts_after, lasts_of, record_of, records_of, core_read, child_known, is_act}
@@ -32,12 +32,12 @@ use Rattle.core_model.proofs.Telling.{told_records, told_taken}
 use Rattle.core_model.proofs.Reading.{Each, IsOwn, each_own}
 
 -- the records stay where the happening is of nobody
-kept_records : (f g : List ℕ → SlotState) → ((id : List ℕ) → f id ≡ g id) → (ids : List (List ℕ)) → map f ids ≡ map g ids
+kept_records : (f g : List ℕ → RecordState) → ((id : List ℕ) → f id ≡ g id) → (ids : List (List ℕ)) → map f ids ≡ map g ids
 kept_records f g same [] = refl
 kept_records f g same (id ∷ ids) = rw (same id, kept_records f g same ids) refl
 
 module _ (lasts : LastStatuses) (past : List Event) where
-  got_records : (request : Got) → records_of lasts past ≡ records_of lasts (event.Got request ∷ past)
+  got_records : (request : HeardRequest) → records_of lasts past ≡ records_of lasts (event.Got request ∷ past)
   got_records request = kept_records (record_of lasts past) (record_of lasts (event.Got request ∷ past)) (λ id. rw (stop_still (event.Got request) past (child_known id past) refl (λ c. refl), missed_known (event.Got request) past (child_known id past) refl) refl) (record_ids past)
 
   handed_records : (how : Handed) → records_of lasts past ≡ records_of lasts (event.Handed how ∷ past)
@@ -53,7 +53,7 @@ module _ (lasts : LastStatuses) (past : List Event) where
   unread_records = kept_records (record_of lasts past) (record_of lasts (event.NotRead ∷ past)) (λ id. rw (stop_still event.NotRead past (child_known id past) refl (λ c. refl), missed_known event.NotRead past (child_known id past) refl) refl) (record_ids past)
 
 -- a core that is read off the past, where a happening leaves its table and its single values
-unmoved : (lasts : LastStatuses) (past : List Event) (g : Goal) (n : ℕ) (slots : List SlotState) → records_of lasts past ≡ slots
+unmoved : (lasts : LastStatuses) (past : List Event) (g : Goal) (n : ℕ) (slots : List RecordState) → records_of lasts past ≡ slots
     → core_read lasts past g n ≡ record (core_read lasts past g n) { slots = slots }
 unmoved lasts past g n slots is = ap (λ slots. record (core_read lasts past g n) { slots = slots }) is
 
@@ -114,7 +114,7 @@ module _ (goal : Goal) (past : List Event) (c : CoreState) (sound : is_sound goa
   fits_handed_on how = goes_on c (after_handed_on c) goal (event.Handed how) past fits
       (λ lasts is. ap after_handed_on is ∙ ap (λ slots. record (core_read lasts (event.Handed how ∷ past) g (n + 1)) { slots = slots }) (handed_records lasts past how)) fits.goal
 
-  pub fits_got : (request : Got) → Kept (after_got request c) (event.Got request)
+  pub fits_got : (request : HeardRequest) → Kept (after_got request c) (event.Got request)
   fits_got request = goes_on c (after_got request c) goal (event.Got request) past fits
       (λ lasts is i. record {
         table = (is i).table;
@@ -124,14 +124,14 @@ module _ (goal : Goal) (past : List Event) (c : CoreState) (sound : is_sound goa
       (goal_heard c.heads past (ap (λ (x : CoreState). x.heads) fits.kept) goal fits.goal request)
 
 -- the records of an opening
-opening_record : (table : List Entry) (e : Entry) → entry_of e.id table ≡ Some e → new_slot e ≡ record_of (lasts_of (event.NewTable table ∷ [])) (event.NewTable table ∷ []) e.id
+opening_record : (table : List Entry) (e : Entry) → entry_of e.id table ≡ Some e → new_record e ≡ record_of (lasts_of (event.NewTable table ∷ [])) (event.NewTable table ∷ []) e.id
 opening_record table e own = at (is_limited e.act) refl
   where
-    at : (b : Bool) → is_limited e.act ≡ b → new_slot e ≡ record_of (lasts_of (event.NewTable table ∷ [])) (event.NewTable table ∷ []) e.id
+    at : (b : Bool) → is_limited e.act ≡ b → new_record e ≡ record_of (lasts_of (event.NewTable table ∷ [])) (event.NewTable table ∷ []) e.id
     at true is = rw (own, is, and_false (not (brings e.id table []))) refl
     at false is = rw (own, is, and_false (not (brings e.id table []))) refl
 
-opening_along : (table es : List Entry) → Each (IsOwn table) es → map new_slot es ≡ map (record_of (lasts_of (event.NewTable table ∷ [])) (event.NewTable table ∷ [])) (ids_of es)
+opening_along : (table es : List Entry) → Each (IsOwn table) es → map new_record es ≡ map (record_of (lasts_of (event.NewTable table ∷ [])) (event.NewTable table ∷ [])) (ids_of es)
 opening_along table [] own = refl
 opening_along table (e ∷ es) own = λ i. opening_record table e own.0 i ∷ opening_along table es own.1 i
 

@@ -5,67 +5,67 @@ use Rattle.std.proofs.lemmas.Bool.{and_parts, and_from, leb-true, le-leb}
 use Rattle.init_words.specs.declared.entries.Entry.{Entry}
 use Rattle.init_words.specs.declared.stages.Stage.{Stage}
 use Rattle.respawn_limit.specs.declared.TheConstants.{CLOCK_LIMIT}
-use Rattle.init_trace.specs.Wishes.{in_run}
-use Rattle.child_table.specs.State.{SlotState}
-use Rattle.child_table.specs.Lists.{are_distinct}
-use Rattle.child_table.specs.Order.{IsInOrder}
-use Rattle.child_table.specs.Times.{is_timely, are_timely}
-use Rattle.core_model.specs.Rules.{IsFit, has_cause, is_birth_known, is_order_allowed, is_stop_judged, are_marks_due, is_limiter_kept, are_starts_in, are_starts_free, is_other_level, is_goal_reached, are_heads_kept, is_slot_kept, are_slots_kept}
+use Rattle.trace_events.specs.Wishes.{in_run}
+use Rattle.core_records.specs.State.{RecordState}
+use Rattle.core_records.specs.Lists.{are_distinct}
+use Rattle.core_records.specs.Order.{IsInOrder}
+use Rattle.core_records.specs.Times.{is_timely, are_timely}
+use Rattle.core_model.specs.Rules.{IsFit, has_cause, is_birth_known, is_order_allowed, is_stop_judged, are_marks_due, is_limiter_kept, are_starts_in, are_starts_free, is_other_level, is_goal_reached, are_heads_kept, is_record_kept, are_records_kept}
 use Rattle.core_model.specs.State.{CoreState}
 
 -- tests of all records, one by one and together
-all_parts : (p q : SlotState → Bool) (slots : List SlotState) → list_all (λ (s : SlotState). p s && q s) slots ≡ true → (list_all p slots ≡ true) × (list_all q slots ≡ true)
+all_parts : (p q : RecordState → Bool) (slots : List RecordState) → list_all (λ (s : RecordState). p s && q s) slots ≡ true → (list_all p slots ≡ true) × (list_all q slots ≡ true)
 all_parts p q [] h = (refl, refl)
 all_parts p q (slot ∷ slots) h =
-    let both = and_parts (p slot && q slot) (list_all (λ (s : SlotState). p s && q s) slots) h in
+    let both = and_parts (p slot && q slot) (list_all (λ (s : RecordState). p s && q s) slots) h in
     let first = and_parts (p slot) (q slot) both.0 in
     let later = all_parts p q slots both.1 in
     (and_from (p slot) (list_all p slots) first.0 later.0, and_from (q slot) (list_all q slots) first.1 later.1)
 
-all_from : (p q : SlotState → Bool) (slots : List SlotState) → list_all p slots ≡ true → list_all q slots ≡ true → list_all (λ (s : SlotState). p s && q s) slots ≡ true
+all_from : (p q : RecordState → Bool) (slots : List RecordState) → list_all p slots ≡ true → list_all q slots ≡ true → list_all (λ (s : RecordState). p s && q s) slots ≡ true
 all_from p q [] h k = refl
 all_from p q (slot ∷ slots) h k =
     let first = and_parts (p slot) (list_all p slots) h in
     let second = and_parts (q slot) (list_all q slots) k in
-    and_from (p slot && q slot) (list_all (λ (s : SlotState). p s && q s) slots) (and_from (p slot) (q slot) first.0 second.0) (all_from p q slots first.1 second.1)
+    and_from (p slot && q slot) (list_all (λ (s : RecordState). p s && q s) slots) (and_from (p slot) (q slot) first.0 second.0) (all_from p q slots first.1 second.1)
 
 module _ (stage : Option Stage) (table : List Entry) (now : ℕ) where
-  abbrev to_stop : SlotState → Bool
+  abbrev to_stop : RecordState → Bool
   to_stop slot = has_cause slot && is_birth_known slot.child && is_order_allowed slot && is_stop_judged stage table slot
 
-  abbrev to_marks : SlotState → Bool
+  abbrev to_marks : RecordState → Bool
   to_marks slot = to_stop slot && are_marks_due slot
 
-  abbrev to_limiter : SlotState → Bool
+  abbrev to_limiter : RecordState → Bool
   to_limiter slot = to_marks slot && is_limiter_kept now slot
 
   -- each of the rules that a record is held to alone
-  record EachKept (slots : List SlotState) : Type 0 where
+  record EachKept (slots : List RecordState) : Type 0 where
     caused : list_all has_cause slots ≡ true
-    births : list_all (λ (s : SlotState). is_birth_known s.child) slots ≡ true
+    births : list_all (λ (s : RecordState). is_birth_known s.child) slots ≡ true
     orders : list_all is_order_allowed slots ≡ true
     stops : list_all (is_stop_judged stage table) slots ≡ true
     marks : list_all are_marks_due slots ≡ true
     limiters : list_all (is_limiter_kept now) slots ≡ true
     timely : are_timely now slots ≡ true
 
-  each_kept : (slots : List SlotState) → list_all (is_slot_kept stage table now) slots ≡ true → EachKept slots
+  each_kept : (slots : List RecordState) → list_all (is_record_kept stage table now) slots ≡ true → EachKept slots
   each_kept slots h =
       let fifth = all_parts to_limiter (is_timely now) slots h in
       let fourth = all_parts to_marks (is_limiter_kept now) slots fifth.0 in
       let third = all_parts to_stop are_marks_due slots fourth.0 in
-      let second = all_parts (λ (s : SlotState). has_cause s && is_birth_known s.child && is_order_allowed s) (is_stop_judged stage table) slots third.0 in
-      let first = all_parts (λ (s : SlotState). has_cause s && is_birth_known s.child) is_order_allowed slots second.0 in
-      let own = all_parts has_cause (λ (s : SlotState). is_birth_known s.child) slots first.0 in
+      let second = all_parts (λ (s : RecordState). has_cause s && is_birth_known s.child && is_order_allowed s) (is_stop_judged stage table) slots third.0 in
+      let first = all_parts (λ (s : RecordState). has_cause s && is_birth_known s.child) is_order_allowed slots second.0 in
+      let own = all_parts has_cause (λ (s : RecordState). is_birth_known s.child) slots first.0 in
       record { caused = own.0; births = own.1; orders = first.1; stops = second.1; marks = third.1; limiters = fourth.1; timely = fifth.1 }
 
-  all_kept : (slots : List SlotState) → EachKept slots → list_all (is_slot_kept stage table now) slots ≡ true
+  all_kept : (slots : List RecordState) → EachKept slots → list_all (is_record_kept stage table now) slots ≡ true
   all_kept slots each =
       all_from to_limiter (is_timely now) slots
       (all_from to_marks (is_limiter_kept now) slots
       (all_from to_stop are_marks_due slots
-      (all_from (λ (s : SlotState). has_cause s && is_birth_known s.child && is_order_allowed s) (is_stop_judged stage table) slots
-      (all_from (λ (s : SlotState). has_cause s && is_birth_known s.child) is_order_allowed slots (all_from has_cause (λ (s : SlotState). is_birth_known s.child) slots each.caused each.births) each.orders) each.stops)
+      (all_from (λ (s : RecordState). has_cause s && is_birth_known s.child && is_order_allowed s) (is_stop_judged stage table) slots
+      (all_from (λ (s : RecordState). has_cause s && is_birth_known s.child) is_order_allowed slots (all_from has_cause (λ (s : RecordState). is_birth_known s.child) slots each.caused each.births) each.orders) each.stops)
       each.marks)
       each.limiters)
       each.timely
@@ -73,7 +73,7 @@ module _ (stage : Option Stage) (table : List Entry) (now : ℕ) where
 pub record Rules (c : CoreState) : Type 0 where
   pub distinct : are_distinct c.slots ≡ true
   pub caused : list_all has_cause c.slots ≡ true
-  pub births : list_all (λ (slot : SlotState). is_birth_known slot.child) c.slots ≡ true
+  pub births : list_all (λ (slot : RecordState). is_birth_known slot.child) c.slots ≡ true
   pub orders : list_all is_order_allowed c.slots ≡ true
   pub starts : are_starts_in c.heads.stage c.table c.slots ≡ true
   pub free : are_starts_free c.slots ≡ true
@@ -88,11 +88,11 @@ pub record Rules (c : CoreState) : Type 0 where
 
 pub rules_of : (c : CoreState) → IsFit c → Rules c
 rules_of c fit =
-    let both = and_parts (are_heads_kept c.heads) (are_slots_kept c.heads.stage c.table c.heads.time c.slots) fit.kept in
+    let both = and_parts (are_heads_kept c.heads) (are_records_kept c.heads.stage c.table c.heads.time c.slots) fit.kept in
     let third = and_parts (nat_le c.heads.time CLOCK_LIMIT && is_other_level c.heads.stage c.heads.level_wish && (not c.heads.announced || in_run c.heads.stage)) (is_goal_reached c.heads.stage c.heads.goal c.heads.booted) both.0 in
     let second = and_parts (nat_le c.heads.time CLOCK_LIMIT && is_other_level c.heads.stage c.heads.level_wish) (not c.heads.announced || in_run c.heads.stage) third.0 in
     let first = and_parts (nat_le c.heads.time CLOCK_LIMIT) (is_other_level c.heads.stage c.heads.level_wish) second.0 in
-    let all = and_parts (are_distinct c.slots && are_starts_in c.heads.stage c.table c.slots && are_starts_free c.slots) (list_all (is_slot_kept c.heads.stage c.table c.heads.time) c.slots) both.1 in
+    let all = and_parts (are_distinct c.slots && are_starts_in c.heads.stage c.table c.slots && are_starts_free c.slots) (list_all (is_record_kept c.heads.stage c.table c.heads.time) c.slots) both.1 in
     let some = and_parts (are_distinct c.slots && are_starts_in c.heads.stage c.table c.slots) (are_starts_free c.slots) all.0 in
     let few = and_parts (are_distinct c.slots) (are_starts_in c.heads.stage c.table c.slots) some.0 in
     let each = each_kept c.heads.stage c.table c.heads.time c.slots all.1 in
@@ -116,13 +116,13 @@ rules_of c fit =
 pub fit_of : (c : CoreState) → IsInOrder c.table c.slots → Rules c → IsFit c
 fit_of c order rules = record {
   in_order = order;
-  kept = and_from (are_heads_kept c.heads) (are_slots_kept c.heads.stage c.table c.heads.time c.slots)
+  kept = and_from (are_heads_kept c.heads) (are_records_kept c.heads.stage c.table c.heads.time c.slots)
       (and_from (nat_le c.heads.time CLOCK_LIMIT && is_other_level c.heads.stage c.heads.level_wish && (not c.heads.announced || in_run c.heads.stage)) (is_goal_reached c.heads.stage c.heads.goal c.heads.booted)
       (and_from (nat_le c.heads.time CLOCK_LIMIT && is_other_level c.heads.stage c.heads.level_wish) (not c.heads.announced || in_run c.heads.stage)
       (and_from (nat_le c.heads.time CLOCK_LIMIT) (is_other_level c.heads.stage c.heads.level_wish) (le-leb c.heads.time CLOCK_LIMIT rules.clock) rules.wish)
       rules.announced)
       rules.reached)
-      (and_from (are_distinct c.slots && are_starts_in c.heads.stage c.table c.slots && are_starts_free c.slots) (list_all (is_slot_kept c.heads.stage c.table c.heads.time) c.slots)
+      (and_from (are_distinct c.slots && are_starts_in c.heads.stage c.table c.slots && are_starts_free c.slots) (list_all (is_record_kept c.heads.stage c.table c.heads.time) c.slots)
       (and_from (are_distinct c.slots && are_starts_in c.heads.stage c.table c.slots) (are_starts_free c.slots)
       (and_from (are_distinct c.slots) (are_starts_in c.heads.stage c.table c.slots) rules.distinct rules.starts)
       rules.free)

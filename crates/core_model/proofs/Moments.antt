@@ -9,15 +9,15 @@ use Rattle.init_words.specs.declared.orders.PowerKind.TheVariants as power
 use Rattle.init_words.specs.declared.stages.Stage.{Stage}
 use Rattle.init_words.specs.declared.stages.Stage.TheVariants as stage
 use Rattle.init_words.specs.Levels.{same_level}
-use Rattle.initctl_frame.specs.declared.requests.Got.{Got}
-use Rattle.initctl_frame.specs.declared.requests.Got.TheVariants as got
-use Rattle.init_trace.specs.declared.happenings.Happening.TheVariants as event
-use Rattle.init_trace.specs.declared.steps.Goal.{Goal}
-use Rattle.init_trace.specs.Event.{Event}
-use Rattle.init_trace.specs.Past.{stage_of}
-use Rattle.init_trace.specs.Wishes.{in_run, goal_of, heard_level, other_than, level_wish, was_booted, wants_reread}
+use Rattle.initctl_frame.specs.declared.requests.HeardRequest.{HeardRequest}
+use Rattle.initctl_frame.specs.declared.requests.HeardRequest.TheVariants as got
+use Rattle.trace_events.specs.declared.happenings.Happening.TheVariants as event
+use Rattle.trace_events.specs.declared.steps.Goal.{Goal}
+use Rattle.trace_events.specs.Event.{Event}
+use Rattle.trace_events.specs.Past.{stage_of}
+use Rattle.trace_events.specs.Wishes.{in_run, goal_of, heard_level, other_than, level_wish, was_booted, wants_reread}
 use Rattle.core_model.specs.News.{with_kind, with_call}
-use Rattle.core_model.specs.declared.parts.Heads.{Heads}
+use Rattle.core_model.specs.declared.parts.CoreFields.{CoreFields}
 use Rattle.core_model.specs.Steps.{is_boot, wished, heard_in, heads_heard}
 use Rattle.core_model.specs.Fit.{news_of, heads_of}
 
@@ -53,7 +53,7 @@ booted_by stage.Boot grace past booted h = refl
 booted_by (stage.Run level) grace past booted h = h
 
 -- single values that are those of the past
-module _ (h : Heads) (past : List Event) (kept : h ≡ heads_of past h.goal h.generation) where
+module _ (h : CoreFields) (past : List Event) (kept : h ≡ heads_of past h.goal h.generation) where
   -- a stage was entered
   pub heads_entered : (next : Stage) (grace : ℕ) → record h { stage = Some next; grace = grace; goal = wished h.level_wish h.goal; level_wish = None; booted = is_boot next || h.booted; announced = false }
       ≡ heads_of (event.Enter next grace ∷ past) (wished h.level_wish h.goal) h.generation
@@ -62,13 +62,13 @@ module _ (h : Heads) (past : List Event) (kept : h ≡ heads_of past h.goal h.ge
     grace = grace;
     goal = wished h.level_wish h.goal;
     level_wish = sym (no_wish_in next) i;
-    booted = booted_by next grace past h.booted (ap (λ (x : Heads). x.booted) kept) i;
+    booted = booted_by next grace past h.booted (ap (λ (x : CoreFields). x.booted) kept) i;
     announced = false;
   }
 
   -- news of the power, or a letter, was carried out
   pub heads_powered : (kind : PowerKind) → record h { news = with_kind kind false h.news } ≡ heads_of (event.Power kind ∷ past) h.goal h.generation
-  heads_powered kind = λ i. record (kept i) { news = (ap (λ (x : Heads). with_kind kind false x.news) kept ∙ by kind) i }
+  heads_powered kind = λ i. record (kept i) { news = (ap (λ (x : CoreFields). with_kind kind false x.news) kept ∙ by kind) i }
     where
       by : (kind : PowerKind) → with_kind kind false (news_of past) ≡ news_of (event.Power kind ∷ past)
       by power.Fail = refl
@@ -76,7 +76,7 @@ module _ (h : Heads) (past : List Event) (kept : h ≡ heads_of past h.goal h.ge
       by power.Ok = refl
 
   pub heads_called : (l : Letter) → record h { news = with_call l false h.news } ≡ heads_of (event.Call l ∷ past) h.goal h.generation
-  heads_called l = λ i. record (kept i) { news = (ap (λ (x : Heads). with_call l false x.news) kept ∙ by l) i }
+  heads_called l = λ i. record (kept i) { news = (ap (λ (x : CoreFields). with_call l false x.news) kept ∙ by l) i }
     where
       by : (l : Letter) → with_call l false (news_of past) ≡ news_of (event.Call l ∷ past)
       by letter.A = refl
@@ -99,7 +99,7 @@ module _ (h : Heads) (past : List Event) (kept : h ≡ heads_of past h.goal h.ge
     level_heard (Some (stage.Run run)) is = at (same_level l run) refl
       where
         reread : h.reread ≡ wants_reread past
-        reread = ap (λ (x : Heads). x.reread) kept
+        reread = ap (λ (x : CoreFields). x.reread) kept
 
         at : (b : Bool) → same_level l run ≡ b → cond b (record h { level_wish = None }) (record h { level_wish = Some asked; reread = true })
             ≡ heads_of then (cond b (record h { level_wish = None }) (record h { level_wish = Some asked; reread = true })).goal (cond b (record h { level_wish = None }) (record h { level_wish = Some asked; reread = true })).generation
@@ -111,23 +111,23 @@ module _ (h : Heads) (past : List Event) (kept : h ≡ heads_of past h.goal h.ge
             let wish : Some asked ≡ level_wish then = rw (is, differ) refl in
             let again : true ≡ wants_reread then = rw (is, differ) refl in
             λ i. record (kept i) { level_wish = wish i; reread = again i }
-    level_heard (Some stage.Sysinit) is = on_the_way_up (rw is refl) (ap (λ (x : Heads). x.level_wish) kept ∙ rw is refl)
-    level_heard (Some stage.Boot) is = on_the_way_up (rw is refl) (ap (λ (x : Heads). x.level_wish) kept ∙ rw is refl)
-    level_heard None is = on_the_way_up (rw is refl) (ap (λ (x : Heads). x.level_wish) kept ∙ rw is refl)
+    level_heard (Some stage.Sysinit) is = on_the_way_up (rw is refl) (ap (λ (x : CoreFields). x.level_wish) kept ∙ rw is refl)
+    level_heard (Some stage.Boot) is = on_the_way_up (rw is refl) (ap (λ (x : CoreFields). x.level_wish) kept ∙ rw is refl)
+    level_heard None is = on_the_way_up (rw is refl) (ap (λ (x : CoreFields). x.level_wish) kept ∙ rw is refl)
 
   -- a request was heard
-  pub heads_got : (request : Got) → heads_heard request h ≡ heads_of (event.Got request ∷ past) (heads_heard request h).goal (heads_heard request h).generation
+  pub heads_got : (request : HeardRequest) → heads_heard request h ≡ heads_of (event.Got request ∷ past) (heads_heard request h).goal (heads_heard request h).generation
   heads_got (got.Level l s) = subst (λ o. heard_in o (record { level = l; grace = s }) h ≡ heads_of (event.Got (got.Level l s) ∷ past) (heard_in o (record { level = l; grace = s }) h).goal (heard_in o (record { level = l; grace = s }) h).generation)
-      (sym (ap (λ (x : Heads). x.stage) kept)) (level_heard l s (stage_of past) refl)
+      (sym (ap (λ (x : CoreFields). x.stage) kept)) (level_heard l s (stage_of past) refl)
   heads_got got.Reload = λ i. record (kept i) { reread = true }
   heads_got got.Reexec = λ i. record (kept i) { reexec = true }
-  heads_got (got.Call l) = λ i. record (kept i) { news = (ap (λ (x : Heads). with_call l true x.news) kept ∙ by l) i }
+  heads_got (got.Call l) = λ i. record (kept i) { news = (ap (λ (x : CoreFields). with_call l true x.news) kept ∙ by l) i }
     where
       by : (l : Letter) → with_call l true (news_of past) ≡ news_of (event.Got (got.Call l) ∷ past)
       by letter.A = refl
       by letter.B = refl
       by letter.C = refl
-  heads_got (got.Power k) = λ i. record (kept i) { news = (ap (λ (x : Heads). with_kind k true x.news) kept ∙ by k) i }
+  heads_got (got.Power k) = λ i. record (kept i) { news = (ap (λ (x : CoreFields). with_kind k true x.news) kept ∙ by k) i }
     where
       by : (k : PowerKind) → with_kind k true (news_of past) ≡ news_of (event.Got (got.Power k) ∷ past)
       by power.Fail = refl
@@ -137,8 +137,8 @@ module _ (h : Heads) (past : List Event) (kept : h ≡ heads_of past h.goal h.ge
 
   -- the goal of what is kept, where it is that of the past before the run levels
   module _ (opening : Goal) (law : in_run (stage_of past) ≡ false → h.goal ≡ goal_of opening past) where
-    pub goal_heard : (request : Got) → in_run (stage_of past) ≡ false → (heads_heard request h).goal ≡ goal_of opening (event.Got request ∷ past)
-    goal_heard (got.Level l s) early = subst (λ o. in_run o ≡ false → (heard_in o (record { level = l; grace = s }) h).goal ≡ record { level = l; grace = s }) (sym (ap (λ (x : Heads). x.stage) kept)) (by (stage_of past)) (ap (λ (x : Heads). in_run x.stage) kept ∙ early)
+    pub goal_heard : (request : HeardRequest) → in_run (stage_of past) ≡ false → (heads_heard request h).goal ≡ goal_of opening (event.Got request ∷ past)
+    goal_heard (got.Level l s) early = subst (λ o. in_run o ≡ false → (heard_in o (record { level = l; grace = s }) h).goal ≡ record { level = l; grace = s }) (sym (ap (λ (x : CoreFields). x.stage) kept)) (by (stage_of past)) (ap (λ (x : CoreFields). in_run x.stage) kept ∙ early)
       where
         by : (o : Option Stage) → in_run o ≡ false → (heard_in o (record { level = l; grace = s }) h).goal ≡ record { level = l; grace = s }
         by (Some (stage.Run run)) h = absurd (false≢true (sym h))
@@ -157,4 +157,4 @@ module _ (h : Heads) (past : List Event) (kept : h ≡ heads_of past h.goal h.ge
       where
         at : (o : Option Goal) → h.level_wish ≡ o → wished o h.goal ≡ goal_of opening past
         at None is = law (on_the_way is early)
-        at (Some wish) is = sym (wish_goal opening past wish (sym (ap (λ (x : Heads). x.level_wish) kept) ∙ is))
+        at (Some wish) is = sym (wish_goal opening past wish (sym (ap (λ (x : CoreFields). x.level_wish) kept) ∙ is))

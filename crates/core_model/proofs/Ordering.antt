@@ -7,7 +7,7 @@ use Rattle.std.proofs.lemmas.Option.{none-some}
 use Rattle.std.proofs.lemmas.Grind.{reverse_onto}
 use Rattle.init_words.specs.declared.entries.Entry.{Entry}
 use Rattle.init_words.specs.declared.levels.Letter.{Letter}
-use Rattle.init_words.specs.declared.orders.Ask.TheVariants.{Start, Look, Term, Kill}
+use Rattle.init_words.specs.declared.orders.OrderKind.TheVariants.{Start, Look, Term, Kill}
 use Rattle.init_words.specs.declared.orders.PowerKind.{PowerKind}
 use Rattle.init_words.specs.Ids.{same_id}
 use Rattle.init_words.specs.Actions.{is_limited, stays_called}
@@ -16,28 +16,28 @@ use Rattle.init_words.proofs.Tests.{and_false, or_false, or_true, found_any}
 use Rattle.inittab_text.specs.Tables.{has_id, entry_of, is_distinct}
 use Rattle.respawn_limit.specs.Window.{with_start}
 use Rattle.respawn_limit.proofs.WindowLemmas.{drop_last_push}
-use Rattle.init_trace.specs.declared.steps.Step.TheVariants as step
-use Rattle.init_trace.specs.declared.happenings.Happening.TheVariants.{Asked, Hold, Power, Call, Nudge}
-use Rattle.init_trace.specs.Event.{Event}
-use Rattle.init_trace.specs.Past.{Child, is_of, has_child, table_of, stage_of, time_of, known_children}
-use Rattle.init_trace.specs.Wanted.{is_called, is_excluded}
-use Rattle.init_trace.specs.Spells.{is_missed, spell_hits}
-use Rattle.init_trace.specs.Timing.{start_times, hold_times}
-use Rattle.init_trace.specs.Due.{record_ids, wants_look}
+use Rattle.trace_events.specs.declared.steps.Step.TheVariants as step
+use Rattle.trace_events.specs.declared.happenings.Happening.TheVariants.{Asked, Hold, Power, Call, Nudge}
+use Rattle.trace_events.specs.Event.{Event}
+use Rattle.trace_events.specs.Past.{Child, is_of, has_child, table_of, stage_of, time_of, known_children}
+use Rattle.trace_events.specs.Wanted.{is_called, is_excluded}
+use Rattle.trace_events.specs.Spells.{is_missed, spell_hits}
+use Rattle.trace_events.specs.Timing.{start_times, hold_times}
+use Rattle.trace_events.specs.Due.{record_ids, wants_look}
 use Rattle.trace_laws.proofs.Spells.{is_still, spell_still, missed_still, spell_nudge}
-use Rattle.child_table.specs.State.{SlotState}
-use Rattle.child_table.specs.Changes.{after_order, after_hold, after_nudge}
-use Rattle.child_table.specs.Lists.{changed, with_changed}
+use Rattle.core_records.specs.State.{RecordState}
+use Rattle.core_records.specs.Changes.{after_order, after_hold, after_begin_round}
+use Rattle.core_records.specs.Lists.{changed, with_changed}
 use Rattle.core_model.specs.Steps.{is_named, called_if, with_called}
 use Rattle.core_model.specs.Fit.{LastStatuses, child_known, known_child, living, stop_known, stop_after, limiter_by, last_hold_end, record_of, records_of}
 
 -- two lists made along the same ids, alike at each
-pub records_same : (f g : List ℕ → SlotState) (change : SlotState → SlotState) → ((id : List ℕ) → change (f id) ≡ g id) → (ids : List (List ℕ)) → map change (map f ids) ≡ map g ids
+pub records_same : (f g : List ℕ → RecordState) (change : RecordState → RecordState) → ((id : List ℕ) → change (f id) ≡ g id) → (ids : List (List ℕ)) → map change (map f ids) ≡ map g ids
 records_same f g change same [] = refl
 records_same f g change same (id ∷ ids) = rw (same id, records_same f g change same ids) refl
 
 -- the records where one id's is changed: that one as changed, each other as it was
-pub one_changed : (id : List ℕ) (change : SlotState → SlotState) (f g : List ℕ → SlotState) → ((i : List ℕ) → (f i).id ≡ i) → ((i : List ℕ) → same_id id i ≡ true → change (f i) ≡ g i) → ((i : List ℕ) → same_id id i ≡ false → f i ≡ g i) → (i : List ℕ) → changed id change (f i) ≡ g i
+pub one_changed : (id : List ℕ) (change : RecordState → RecordState) (f g : List ℕ → RecordState) → ((i : List ℕ) → (f i).id ≡ i) → ((i : List ℕ) → same_id id i ≡ true → change (f i) ≡ g i) → ((i : List ℕ) → same_id id i ≡ false → f i ≡ g i) → (i : List ℕ) → changed id change (f i) ≡ g i
 one_changed id change f g own here other i = ap (λ x. cond (same_id id x) (change (f i)) (f i)) (own i) ∙ at (same_id id i) refl
   where
     at : (b : Bool) → same_id id i ≡ b → cond b (change (f i)) (f i) ≡ g i
@@ -134,8 +134,8 @@ module _ (lasts : LastStatuses) (id : List ℕ) (past : List Event) (e : Entry) 
         hold_other) (record_ids past)
 
 -- a round began
-pub nudged : (lasts : LastStatuses) → (past : List Event) → map after_nudge (records_of lasts past) ≡ records_of lasts (Nudge ∷ past)
-nudged lasts past = records_same (record_of lasts past) (record_of lasts (Nudge ∷ past)) after_nudge one (record_ids past)
+pub nudged : (lasts : LastStatuses) → (past : List Event) → map after_begin_round (records_of lasts past) ≡ records_of lasts (Nudge ∷ past)
+nudged lasts past = records_same (record_of lasts past) (record_of lasts (Nudge ∷ past)) after_begin_round one (record_ids past)
   where
     by : (c w : Bool) → (c || c && w) ≡ (c && c)
     by true w = refl
@@ -152,7 +152,7 @@ nudged lasts past = records_same (record_of lasts past) (record_of lasts (Nudge 
     there : (id : List ℕ) → is_some (known_child id past) ≡ has_child id (known_children past)
     there id = found_any living (is_of id) (known_children past)
 
-    one : (id : List ℕ) → after_nudge (record_of lasts past id) ≡ record_of lasts (Nudge ∷ past) id
+    one : (id : List ℕ) → after_begin_round (record_of lasts past id) ≡ record_of lasts (Nudge ∷ past) id
     one id = rw (there id, by (has_child id (known_children past)) (wants_look id past), stops (child_known id past), missed (child_known id past)) refl
 
 none_named : (p : Entry → Bool) (id : List ℕ) (es : List Entry) → list_any (has_id id) es ≡ false → list_any (λ e. has_id id e && p e) es ≡ false
@@ -172,7 +172,7 @@ named_own p id (e ∷ es) distinct = at (same_id id e.id) refl (named_own p id e
     at false differ rest = rest
 
 -- the entries that news of the power, or a letter, names were called
-called_same : (o : Option Entry) (named before after : Entry → Bool) → ((e : Entry) → after e ≡ (named e || before e)) → (slot : SlotState) → slot.called ≡ option_map_or before o false → called_if (option_map_or named o false) slot ≡ record slot { called = option_map_or after o false }
+called_same : (o : Option Entry) (named before after : Entry → Bool) → ((e : Entry) → after e ≡ (named e || before e)) → (slot : RecordState) → slot.called ≡ option_map_or before o false → called_if (option_map_or named o false) slot ≡ record slot { called = option_map_or after o false }
 called_same None named before after same slot is = rw (← is) refl
 called_same (Some e) named before after same slot is = rw (same e) (at (named e))
   where
@@ -182,14 +182,14 @@ called_same (Some e) named before after same slot is = rw (same e) (at (named e)
 
 module _ (lasts : LastStatuses) (past : List Event) (distinct : is_distinct (table_of past) ≡ true) where
   pub power_called : (kind : PowerKind) → with_called (is_named (step.Power kind) (stage_of past)) (table_of past) (records_of lasts past) ≡ records_of lasts (Power kind ∷ past)
-  power_called kind = records_same (record_of lasts past) (record_of lasts (Power kind ∷ past)) (λ (slot : SlotState). called_if (list_any (λ e. has_id slot.id e && is_named (step.Power kind) (stage_of past) e) (table_of past)) slot) one (record_ids past)
+  power_called kind = records_same (record_of lasts past) (record_of lasts (Power kind ∷ past)) (λ (slot : RecordState). called_if (list_any (λ e. has_id slot.id e && is_named (step.Power kind) (stage_of past) e) (table_of past)) slot) one (record_ids past)
     where
       one : (id : List ℕ) → called_if (list_any (λ e. has_id id e && is_named (step.Power kind) (stage_of past) e) (table_of past)) (record_of lasts past id) ≡ record_of lasts (Power kind ∷ past) id
       one id = rw (named_own (is_named (step.Power kind) (stage_of past)) id (table_of past) distinct, stop_still (Power kind) past (child_known id past) refl (λ c. refl), missed_known (Power kind) past (child_known id past) refl)
           (called_same (entry_of id (table_of past)) (is_named (step.Power kind) (stage_of past)) (λ e. is_called e past) (λ e. is_called e (Power kind ∷ past)) (λ e. refl) (record_of lasts past id) refl)
 
   pub letter_called : (letter : Letter) → with_called (is_named (step.Call letter) (stage_of past)) (table_of past) (records_of lasts past) ≡ records_of lasts (Call letter ∷ past)
-  letter_called letter = records_same (record_of lasts past) (record_of lasts (Call letter ∷ past)) (λ (slot : SlotState). called_if (list_any (λ e. has_id slot.id e && is_named (step.Call letter) (stage_of past) e) (table_of past)) slot) one (record_ids past)
+  letter_called letter = records_same (record_of lasts past) (record_of lasts (Call letter ∷ past)) (λ (slot : RecordState). called_if (list_any (λ e. has_id slot.id e && is_named (step.Call letter) (stage_of past) e) (table_of past)) slot) one (record_ids past)
     where
       one : (id : List ℕ) → called_if (list_any (λ e. has_id id e && is_named (step.Call letter) (stage_of past) e) (table_of past)) (record_of lasts past id) ≡ record_of lasts (Call letter ∷ past) id
       one id = rw (named_own (is_named (step.Call letter) (stage_of past)) id (table_of past) distinct, stop_still (Call letter) past (child_known id past) refl (λ c. refl), missed_known (Call letter) past (child_known id past) refl)

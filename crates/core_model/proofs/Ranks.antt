@@ -8,25 +8,25 @@ use Rattle.init_words.specs.declared.actions.Act.TheVariants as act
 use Rattle.init_words.specs.declared.levels.Level.{Level}
 use Rattle.init_words.specs.declared.stages.Stage.{Stage}
 use Rattle.init_words.specs.declared.stages.Stage.TheVariants as stage
-use Rattle.init_words.specs.declared.orders.Ask.TheVariants.{Start, Look}
+use Rattle.init_words.specs.declared.orders.OrderKind.TheVariants.{Start, Look}
 use Rattle.init_words.specs.Actions.{is_limited, served_by}
 use Rattle.init_words.specs.Entries.{waited_of}
 use Rattle.inittab_text.specs.Tables.{entry_of}
 use Rattle.respawn_limit.specs.State.{LimiterState}
 use Rattle.respawn_limit.specs.Window as window
-use Rattle.init_trace.specs.declared.steps.Step.TheVariants.{Order, Hold}
-use Rattle.init_trace.specs.declared.steps.Goal.{Goal}
-use Rattle.init_trace.specs.Event.{Event}
-use Rattle.init_trace.specs.Past.{table_of, stage_of, time_of, has_child, open_of, is_quiet, kept_children, known_children}
-use Rattle.init_trace.specs.Wanted.{is_wanted, is_owed, is_asked, is_order}
-use Rattle.init_trace.specs.Timing.{is_held, is_full, start_times, hold_times}
-use Rattle.init_trace.specs.Due.{step_if, steps_if, can_start, start_steps, starts_among, is_served, record_ids, wants_look, can_look, looks_among}
-use Rattle.init_trace.specs.Sound.{is_sound}
+use Rattle.trace_events.specs.declared.steps.Step.TheVariants.{Order, Hold}
+use Rattle.trace_events.specs.declared.steps.Goal.{Goal}
+use Rattle.trace_events.specs.Event.{Event}
+use Rattle.trace_events.specs.Past.{table_of, stage_of, time_of, has_child, open_of, is_quiet, kept_children, known_children}
+use Rattle.trace_events.specs.Wanted.{is_wanted, is_owed, is_asked, is_order}
+use Rattle.trace_events.specs.Timing.{is_held, is_full, start_times, hold_times}
+use Rattle.trace_events.specs.Due.{step_if, steps_if, can_start, start_steps, starts_among, is_served, record_ids, wants_look, can_look, looks_among}
+use Rattle.trace_events.specs.Sound.{is_sound}
 use Rattle.trace_laws.proofs.Known.{quiet_start, has_known, wanted_known, owed_known, can_start_known}
-use Rattle.child_table.specs.State.{SlotState}
-use Rattle.child_table.specs.Changes.{allows}
+use Rattle.core_records.specs.State.{RecordState}
+use Rattle.core_records.specs.Changes.{allows}
 use Rattle.core_model.specs.Decide as core
-use Rattle.core_model.specs.Decide.{or_else, signal_step, stop_step, stop_among, has_excluded, is_wanted_slot, is_owed_slot, limited_step, can_start_slot, start_step, start_along, is_done_slot, all_done, is_served_slot, all_served, look_among}
+use Rattle.core_model.specs.Decide.{or_else, signal_step, stop_step, stop_among, has_excluded, is_wanted_record, is_owed_record, limited_step, can_start_record, start_step, start_along, is_done_record, all_done, is_served_record, all_served, look_among}
 use Rattle.core_model.specs.Fit.{LastStatuses, known_child, limiter_by, limiter_of, record_of, records_of}
 use Rattle.core_model.proofs.Firsts.{head, head_append, head_step_if}
 use Rattle.core_model.proofs.Windows.{full_fits, held_fits, allows_by}
@@ -44,13 +44,13 @@ module _ (lasts : LastStatuses) (goal : Goal) (past : List Event) (sound : is_so
   -- an entry of the table in force, in its stage
   module _ (now : Stage) (in_stage : stage_of past ≡ Some now) where
     module _ (e : Entry) (own : entry_of e.id (table_of past) ≡ Some e) where
-      pub wanted_same : is_wanted e past ≡ is_wanted_slot now e (record_of lasts past e.id)
+      pub wanted_same : is_wanted e past ≡ is_wanted_record now e (record_of lasts past e.id)
       wanted_same = wanted_known goal past sound e ∙ rw (in_stage, child_none e.id past, asked_own past e own, called_own past e own) refl
 
-      pub owed_same : is_owed e past ≡ is_owed_slot now e (record_of lasts past e.id)
+      pub owed_same : is_owed e past ≡ is_owed_record now e (record_of lasts past e.id)
       owed_same = owed_known goal past sound e ∙ (λ i. waited_of e && (sym (child_some e.id past) i || is_order Start (open_of e.id past) || wanted_same i))
 
-      can_start_same : can_start e past ≡ can_start_slot now e (record_of lasts past e.id)
+      can_start_same : can_start e past ≡ can_start_record now e (record_of lasts past e.id)
       can_start_same = can_start_known goal past sound e ∙ (λ i. wanted_same i && sym (child_none e.id past) i && is_none (open_of e.id past))
 
       -- the start or the hold of one entry
@@ -71,19 +71,19 @@ module _ (lasts : LastStatuses) (goal : Goal) (past : List Event) (sound : is_so
           at false is = rw is refl
 
       start_same : head (steps_if (can_start e past) (start_steps e past)) ≡ start_step now (time_of past) e (record_of lasts past e.id)
-      start_same = rw can_start_same (at (can_start_slot now e (record_of lasts past e.id)))
+      start_same = rw can_start_same (at (can_start_record now e (record_of lasts past e.id)))
         where
           at : (b : Bool) → head (steps_if b (start_steps e past)) ≡ cond b (limited_step (time_of past) e (record_of lasts past e.id)) None
           at true = limited_same
           at false = refl
 
       -- at a quiet point, whether something is left to do for it
-      done_same : is_quiet past ≡ true → (not (is_wanted e past) && not (waited_of e && has_child e.id (kept_children past))) ≡ is_done_slot now e (record_of lasts past e.id)
+      done_same : is_quiet past ≡ true → (not (is_wanted e past) && not (waited_of e && has_child e.id (kept_children past))) ≡ is_done_record now e (record_of lasts past e.id)
       done_same quiet = rw (wanted_same, has_known goal past sound e.id (quiet_start e.id past quiet), child_some e.id past) refl
 
     along_same : (es : List Entry) → Each (IsOwn (table_of past)) es → head (starts_among es past) ≡ start_along now (time_of past) (zip es (map (λ (e : Entry). record_of lasts past e.id) es))
     along_same [] each = refl
-    along_same (e ∷ es) each = rw (head_append (steps_if (can_start e past) (start_steps e past)) (cond (is_owed e past) [] (starts_among es past)), start_same e each.0, owed_same e each.0) (at (is_owed_slot now e (record_of lasts past e.id)) (along_same es each.1))
+    along_same (e ∷ es) each = rw (head_append (steps_if (can_start e past) (start_steps e past)) (cond (is_owed e past) [] (starts_among es past)), start_same e each.0, owed_same e each.0) (at (is_owed_record now e (record_of lasts past e.id)) (along_same es each.1))
       where
         at : (b : Bool) → head (starts_among es past) ≡ start_along now (time_of past) (zip es (map (λ (e : Entry). record_of lasts past e.id) es))
             → or_else (start_step now (time_of past) e (record_of lasts past e.id)) (head (cond b [] (starts_among es past))) ≡ or_else (start_step now (time_of past) e (record_of lasts past e.id)) (cond b None (start_along now (time_of past) (zip es (map (λ (e : Entry). record_of lasts past e.id) es))))
@@ -96,8 +96,8 @@ module _ (lasts : LastStatuses) (goal : Goal) (past : List Event) (sound : is_so
 
     -- 8: nothing is left to do in the stage
     pub all_done_same : is_quiet past ≡ true → list_all (λ e. not (is_wanted e past) && not (waited_of e && has_child e.id (kept_children past))) (table_of past) ≡ all_done now (table_of past) (records_of lasts past)
-    all_done_same quiet = pairs_all (λ (e : Entry). record_of lasts past e.id) (IsOwn (table_of past)) (λ e. not (is_wanted e past) && not (waited_of e && has_child e.id (kept_children past))) (λ (p : Entry × SlotState). is_done_slot now p.0 p.1) (λ e own. done_same e own quiet) (table_of past) (table_own lasts goal past sound)
-        ∙ ap (list_all (λ (p : Entry × SlotState). is_done_slot now p.0 p.1)) (sym (table_pairs lasts past))
+    all_done_same quiet = pairs_all (λ (e : Entry). record_of lasts past e.id) (IsOwn (table_of past)) (λ e. not (is_wanted e past) && not (waited_of e && has_child e.id (kept_children past))) (λ (p : Entry × RecordState). is_done_record now p.0 p.1) (λ e own. done_same e own quiet) (table_of past) (table_own lasts goal past sound)
+        ∙ ap (list_all (λ (p : Entry × RecordState). is_done_record now p.0 p.1)) (sym (table_pairs lasts past))
 
   -- 9: each entry is served in the level
   module _ (level : Level) (in_level : stage_of past ≡ Some (stage.Run level)) where
@@ -105,12 +105,12 @@ module _ (lasts : LastStatuses) (goal : Goal) (past : List Event) (sound : is_so
     kept_up e true is = rw (child_some e.id past, held_fits e.id past) refl
     kept_up e false is = unlimited_served e.act (is_asked e.id past) (has_child e.id (known_children past) || is_held e.id past) (is_some (known_child e.id past) || window.is_held (limiter_by false (start_times e.id past) (hold_times e.id past)).held (time_of past)) is
 
-    served_same : (e : Entry) → entry_of e.id (table_of past) ≡ Some e → is_served level (known_children past) past e ≡ is_served_slot level (time_of past) e (record_of lasts past e.id)
+    served_same : (e : Entry) → entry_of e.id (table_of past) ≡ Some e → is_served level (known_children past) past e ≡ is_served_record level (time_of past) e (record_of lasts past e.id)
     served_same e own = rw (owed_same (stage.Run level) in_level e own, kept_up e (is_limited e.act) refl, asked_own past e own, limits_own past e own) refl
 
     pub all_served_same : list_all (is_served level (known_children past) past) (table_of past) ≡ all_served level (time_of past) (table_of past) (records_of lasts past)
-    all_served_same = pairs_all (λ (e : Entry). record_of lasts past e.id) (IsOwn (table_of past)) (is_served level (known_children past) past) (λ (p : Entry × SlotState). is_served_slot level (time_of past) p.0 p.1) served_same (table_of past) (table_own lasts goal past sound)
-        ∙ ap (list_all (λ (p : Entry × SlotState). is_served_slot level (time_of past) p.0 p.1)) (sym (table_pairs lasts past))
+    all_served_same = pairs_all (λ (e : Entry). record_of lasts past e.id) (IsOwn (table_of past)) (is_served level (known_children past) past) (λ (p : Entry × RecordState). is_served_record level (time_of past) p.0 p.1) served_same (table_of past) (table_own lasts goal past sound)
+        ∙ ap (list_all (λ (p : Entry × RecordState). is_served_record level (time_of past) p.0 p.1)) (sym (table_pairs lasts past))
 
 -- 10: the first look
 looks_along : (lasts : LastStatuses) → (past : List Event) (ids : List (List ℕ)) → head (looks_among ids past) ≡ look_among (map (record_of lasts past) ids)

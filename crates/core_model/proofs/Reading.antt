@@ -4,29 +4,29 @@ use Rattle.std.specs.List.{list_any, list_all}
 use Rattle.std.specs.Option.{option_map_or}
 use Rattle.std.proofs.lemmas.Bool.{false≢true, and_parts, and_from, or_parts, not-true}
 use Rattle.init_words.specs.declared.entries.Entry.{Entry}
-use Rattle.init_words.specs.declared.orders.Ask.{Ask}
-use Rattle.init_words.specs.declared.orders.Ask.TheVariants.{Look}
+use Rattle.init_words.specs.declared.orders.OrderKind.{OrderKind}
+use Rattle.init_words.specs.declared.orders.OrderKind.TheVariants.{Look}
 use Rattle.init_words.specs.Ids.{same_id}
 use Rattle.init_words.specs.Orders.{same_ask}
 use Rattle.init_words.proofs.Same.{same_id-is, same_id-self, same_id-sym}
 use Rattle.init_words.proofs.Tests.{same_tests, passing, any_less, any_same, any_filter}
 use Rattle.inittab_text.specs.Tables.{ids_of, has_id, entry_of, is_distinct}
-use Rattle.init_trace.specs.declared.steps.Goal.{Goal}
-use Rattle.init_trace.specs.Event.{Event}
-use Rattle.init_trace.specs.Past.{table_of, Child, is_of, has_child, open_of, open_orders, is_quiet, is_idle, kept_children, known_children}
-use Rattle.init_trace.specs.Wanted.{is_asked, is_called, is_excluded}
-use Rattle.init_trace.specs.Spells.{spell_hits}
-use Rattle.init_trace.specs.Due.{left_ids, record_ids}
-use Rattle.init_trace.specs.Sound.{is_sound}
+use Rattle.trace_events.specs.declared.steps.Goal.{Goal}
+use Rattle.trace_events.specs.Event.{Event}
+use Rattle.trace_events.specs.Past.{table_of, Child, is_of, has_child, open_of, open_orders, is_quiet, is_idle, kept_children, known_children}
+use Rattle.trace_events.specs.Wanted.{is_asked, is_called, is_excluded}
+use Rattle.trace_events.specs.Spells.{spell_hits}
+use Rattle.trace_events.specs.Due.{left_ids, record_ids}
+use Rattle.trace_events.specs.Sound.{is_sound}
 use Rattle.trace_laws.proofs.Keeps.{sound_holds}
 use Rattle.trace_laws.proofs.Orders.{open_listed}
 use Rattle.trace_laws.proofs.Known.{excluded_known, known_single}
 use Rattle.trace_laws.proofs.Records.{open_in_records, child_in_records}
-use Rattle.child_table.specs.State.{SlotState}
-use Rattle.child_table.specs.Lists.{is_busy}
-use Rattle.child_table.specs.Lists as lists
+use Rattle.core_records.specs.State.{RecordState}
+use Rattle.core_records.specs.Lists.{is_busy}
+use Rattle.core_records.specs.Lists as lists
 use Rattle.core_model.specs.Decide as core
-use Rattle.core_model.specs.Decide.{or_else, signal_step, stop_step, stop_among, has_excluded, is_wanted_slot, is_owed_slot, limited_step, can_start_slot, start_step, start_along, is_done_slot, all_done, is_served_slot, all_served, look_among}
+use Rattle.core_model.specs.Decide.{or_else, signal_step, stop_step, stop_among, has_excluded, is_wanted_record, is_owed_record, limited_step, can_start_record, start_step, start_along, is_done_record, all_done, is_served_record, all_served, look_among}
 use Rattle.core_model.specs.Fit.{LastStatuses, known_child, stop_after, stop_known, stop_of, asked_of, called_of, limiter_of, limits_of, record_of, records_of}
 use Rattle.core_model.proofs.Acts.{child_some}
 
@@ -56,7 +56,7 @@ each_own (e ∷ es) h =
     (rw (same_id-self e.id) refl, own_behind e es es (none_has e.id es (not-true (list_any (has_id e.id) es) parts.0)) (each_own es parts.1))
 
 -- the table's entries have the first records
-pub table_front : (f : List ℕ → SlotState) (es : List Entry) (rest : List (List ℕ)) → zip es (map f (ids_of es ++ rest)) ≡ zip es (map (λ (e : Entry). f e.id) es)
+pub table_front : (f : List ℕ → RecordState) (es : List Entry) (rest : List (List ℕ)) → zip es (map f (ids_of es ++ rest)) ≡ zip es (map (λ (e : Entry). f e.id) es)
 table_front f [] rest = refl
 table_front f (e ∷ es) rest = ap (λ ps. (e, f e.id) ∷ ps) (table_front f es rest)
 
@@ -64,7 +64,7 @@ pub table_pairs : (lasts : LastStatuses) → (past : List Event) → zip (table_
 table_pairs lasts past = table_front (record_of lasts past) (table_of past) (filter (λ id. has_child id (known_children past)) (left_ids past))
 
 -- a test of the entries and their records is one of the entries
-pub pairs_all : (f : Entry → SlotState) (P : Entry → Type 0) (q : Entry → Bool) (p : Entry × SlotState → Bool) → ((e : Entry) → P e → q e ≡ p (e, f e)) → (es : List Entry) → Each P es → list_all q es ≡ list_all p (zip es (map f es))
+pub pairs_all : (f : Entry → RecordState) (P : Entry → Type 0) (q : Entry → Bool) (p : Entry × RecordState → Bool) → ((e : Entry) → P e → q e ≡ p (e, f e)) → (es : List Entry) → Each P es → list_all q es ≡ list_all p (zip es (map f es))
 pairs_all f P q p same [] each = refl
 pairs_all f P q p same (e ∷ es) each = rw (same e each.0, pairs_all f P q p same es each.1) refl
 
@@ -112,10 +112,10 @@ module _ (lasts : LastStatuses) (goal : Goal) (past : List Event) (sound : is_so
   table_own = each_own (table_of past) (sound_holds goal past sound).distinct
 
   -- at which points which orders are open
-  orders_same : (p : Ask → Bool) → list_any (λ order. p order.ask) (open_orders past) ≡ list_any (λ id. option_map_or p (open_of id past) false) (record_ids past)
+  orders_same : (p : OrderKind → Bool) → list_any (λ order. p order.ask) (open_orders past) ≡ list_any (λ id. option_map_or p (open_of id past) false) (record_ids past)
   orders_same p = same_tests (list_any (λ order. p order.ask) (open_orders past)) (list_any (λ id. option_map_or p (open_of id past) false) (record_ids past)) there back
     where
-      placed : (id : List ℕ) (o : Option Ask) → open_of id past ≡ o → option_map_or p o false ≡ true → list_any (λ id. option_map_or p (open_of id past) false) (record_ids past) ≡ true
+      placed : (id : List ℕ) (o : Option OrderKind) → open_of id past ≡ o → option_map_or p o false ≡ true → list_any (λ id. option_map_or p (open_of id past) false) (record_ids past) ≡ true
       placed id None is passes = absurd (false≢true passes)
       placed id (Some ask) is passes =
           let found = passing (same_id id) (record_ids past) (open_in_records goal past sound id ask is) in
@@ -134,17 +134,17 @@ module _ (lasts : LastStatuses) (goal : Goal) (past : List Event) (sound : is_so
 
   pub quiet_same : is_quiet past ≡ lists.is_quiet (records_of lasts past)
   quiet_same = ap not (orders_same (λ ask. not (same_ask Look ask)) ∙ any_same (λ id. option_map_or (λ ask. not (same_ask Look ask)) (open_of id past) false) (λ id. is_busy (open_of id past)) (λ id. busy (open_of id past)) (record_ids past)
-      ∙ sym (any_map (record_of lasts past) (λ (slot : SlotState). is_busy slot.order) (record_ids past)))
+      ∙ sym (any_map (record_of lasts past) (λ (slot : RecordState). is_busy slot.order) (record_ids past)))
     where
-      busy : (o : Option Ask) → option_map_or (λ ask. not (same_ask Look ask)) o false ≡ is_busy o
+      busy : (o : Option OrderKind) → option_map_or (λ ask. not (same_ask Look ask)) o false ≡ is_busy o
       busy None = refl
       busy (Some ask) = refl
 
   pub idle_same : is_idle past ≡ core.is_idle (records_of lasts past)
   idle_same = ap not (orders_same (λ ask. true) ∙ any_same (λ id. option_map_or (λ ask. true) (open_of id past) false) (λ id. is_some (open_of id past)) (λ id. given (open_of id past)) (record_ids past)
-      ∙ sym (any_map (record_of lasts past) (λ (slot : SlotState). is_some slot.order) (record_ids past)))
+      ∙ sym (any_map (record_of lasts past) (λ (slot : RecordState). is_some slot.order) (record_ids past)))
     where
-      given : (o : Option Ask) → option_map_or (λ ask. true) o false ≡ is_some o
+      given : (o : Option OrderKind) → option_map_or (λ ask. true) o false ≡ is_some o
       given None = refl
       given (Some ask) = refl
 
@@ -161,7 +161,7 @@ module _ (lasts : LastStatuses) (goal : Goal) (past : List Event) (sound : is_so
       at (Some child) = begun (is_excluded past child) child
 
   pub excluded_same : list_any (is_excluded past) (known_children past) ≡ has_excluded (records_of lasts past)
-  excluded_same = same_tests (list_any (is_excluded past) (known_children past)) (list_any (λ id. is_some (stop_of id past)) (record_ids past)) there back ∙ sym (any_map (record_of lasts past) (λ (slot : SlotState). is_some slot.stop) (record_ids past))
+  excluded_same = same_tests (list_any (is_excluded past) (known_children past)) (list_any (λ id. is_some (stop_of id past)) (record_ids past)) there back ∙ sym (any_map (record_of lasts past) (λ (slot : RecordState). is_some slot.stop) (record_ids past))
     where
       there : list_any (is_excluded past) (known_children past) ≡ true → list_any (λ id. is_some (stop_of id past)) (record_ids past) ≡ true
       there h =

@@ -6,18 +6,18 @@ use Rattle.std.proofs.lemmas.Bool.{false≢true, and_right, eqb-true, eq-eqb}
 use Rattle.init_words.specs.Ids.{same_id}
 use Rattle.init_words.proofs.Same.{same_id-is}
 use Rattle.init_words.proofs.Tests.{same_tests}
-use Rattle.init_trace.specs.declared.steps.Goal.{Goal}
-use Rattle.init_trace.specs.Event.{Event}
-use Rattle.init_trace.specs.Past.{Child, is_of, is_child, unreaped_children, known_children}
-use Rattle.init_trace.specs.Agreement.{has_untold_birth, has_untold_end, is_unreaped, is_known}
-use Rattle.init_trace.specs.Due.{record_ids}
-use Rattle.init_trace.specs.Sound.{is_sound}
+use Rattle.trace_events.specs.declared.steps.Goal.{Goal}
+use Rattle.trace_events.specs.Event.{Event}
+use Rattle.trace_events.specs.Past.{Child, is_of, is_child, unreaped_children, known_children}
+use Rattle.trace_events.specs.Agreement.{has_untold_birth, has_untold_end, is_unreaped, is_known}
+use Rattle.trace_events.specs.Due.{record_ids}
+use Rattle.trace_events.specs.Sound.{is_sound}
 use Rattle.trace_laws.proofs.Agreement.{agrees_at}
 use Rattle.trace_laws.proofs.Births.{one_child}
 use Rattle.trace_laws.proofs.Known.{known_single}
 use Rattle.trace_laws.proofs.Records.{child_in_records}
-use Rattle.child_table.specs.State.{SlotState}
-use Rattle.child_table.specs.Lists.{is_slot_of, is_numbered}
+use Rattle.core_records.specs.State.{RecordState}
+use Rattle.core_records.specs.Lists.{is_record_of, is_numbered}
 use Rattle.core_model.specs.State.{CoreState}
 use Rattle.core_model.specs.Fit.{Fits, child_known, known_child, living, record_of}
 use Rattle.core_model.specs.Headline.{has_record, is_recorded}
@@ -57,8 +57,8 @@ numbered_some n (Some child) h = refl
 module _ (goal : Goal) (past : List Event) (c : CoreState) (sound : is_sound goal past ≡ true) (fits : Fits c goal past) where
   -- a record has a child where it is known
   recorded_known : (id : List ℕ) (n : ℕ) → has_record id n c ≡ is_known id n past
-  recorded_known id n = ap (list_any (λ (slot : SlotState). is_slot_of id slot && is_numbered n slot.child)) (fit_records c goal past fits)
-      ∙ any_map (record_of fits.lasts past) (λ (slot : SlotState). is_slot_of id slot && is_numbered n slot.child) (record_ids past)
+  recorded_known id n = ap (list_any (λ (slot : RecordState). is_record_of id slot && is_numbered n slot.child)) (fit_records c goal past fits)
+      ∙ any_map (record_of fits.lasts past) (λ (slot : RecordState). is_record_of id slot && is_numbered n slot.child) (record_ids past)
       ∙ one_id id (λ i. is_numbered n (known_child i past)) (record_ids past)
       ∙ listed (is_numbered n (known_child id past)) refl
       ∙ numbered_known n (child_known id past)

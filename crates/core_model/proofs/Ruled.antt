@@ -8,8 +8,8 @@ use Rattle.init_words.specs.declared.actions.Act.{Act}
 use Rattle.init_words.specs.declared.actions.Act.TheVariants as act
 use Rattle.init_words.specs.declared.entries.Entry.{Entry}
 use Rattle.init_words.specs.declared.levels.Mark.{Mark}
-use Rattle.init_words.specs.declared.orders.Ask.{Ask}
-use Rattle.init_words.specs.declared.orders.Ask.TheVariants.{Start, Look, Term, Kill}
+use Rattle.init_words.specs.declared.orders.OrderKind.{OrderKind}
+use Rattle.init_words.specs.declared.orders.OrderKind.TheVariants.{Start, Look, Term, Kill}
 use Rattle.init_words.specs.declared.stages.Stage.{Stage}
 use Rattle.init_words.specs.declared.stages.Stage.TheVariants as stage
 use Rattle.init_words.specs.Actions.{starts_by, lives_by}
@@ -18,16 +18,16 @@ use Rattle.init_words.specs.Ids.{same_id}
 use Rattle.init_words.proofs.Same.{same_id-self, same_id-sym, same_act-self}
 use Rattle.init_words.proofs.Tests.{both_ways, is_none-is}
 use Rattle.inittab_text.specs.Tables.{has_id, entry_of, act_of, is_distinct}
-use Rattle.init_trace.specs.declared.steps.Goal.{Goal}
-use Rattle.init_trace.specs.Wanted.{is_order}
-use Rattle.init_trace.specs.Wishes.{in_run}
-use Rattle.child_table.specs.State.{SlotState, is_act}
-use Rattle.child_table.specs.Judging.{is_excluded}
-use Rattle.child_table.specs.Lists.{is_slot_of, are_distinct}
-use Rattle.child_table.specs.Order.{IsInOrder}
-use Rattle.child_table.specs.Times.{is_timely, are_timely}
-use Rattle.child_table.proofs.Found.{is_listed, others, rest_distinct}
-use Rattle.core_model.specs.Decide.{is_owed_slot}
+use Rattle.trace_events.specs.declared.steps.Goal.{Goal}
+use Rattle.trace_events.specs.Wanted.{is_order}
+use Rattle.trace_events.specs.Wishes.{in_run}
+use Rattle.core_records.specs.State.{RecordState, is_act}
+use Rattle.core_records.specs.Judging.{is_excluded}
+use Rattle.core_records.specs.Lists.{is_record_of, are_distinct}
+use Rattle.core_records.specs.Order.{IsInOrder}
+use Rattle.core_records.specs.Times.{is_timely, are_timely}
+use Rattle.core_records.proofs.Found.{is_listed, others, rest_distinct}
+use Rattle.core_model.specs.Decide.{is_owed_record}
 use Rattle.core_model.specs.Rules.{has_cause, is_birth_known, allows_order, is_order_allowed, is_started, is_start_allowed, are_starts_along, are_starts_in, are_starts_free, is_excluded_in, is_stop_judged, are_marks_due, is_limiter_kept, is_other_level, is_goal_reached, IsFit}
 use Rattle.core_model.specs.State.{CoreState}
 use Rattle.core_model.proofs.Each.{Each, each_from, each_fails, each_all, each_both, each_less}
@@ -37,7 +37,7 @@ use Rattle.core_model.proofs.RuledRecord.{IsRuled}
 
 -- what the rules say of a record, with what follows from all of them: its action is the table's, the child of an open
 -- start is not excluded, and its times are no later than now
-pub record IsPlaced (stage : Option Stage) (table : List Entry) (now : ℕ) (slot : SlotState) : Type 0 where
+pub record IsPlaced (stage : Option Stage) (table : List Entry) (now : ℕ) (slot : RecordState) : Type 0 where
   pub rules : IsRuled stage table now slot
   pub own : slot.table_act ≡ act_of slot.id table
   pub start : is_started slot ≡ true → is_excluded_in stage slot.table_act (entry_of slot.id table) ≡ false
@@ -53,7 +53,7 @@ pub starts_live : (e : Entry) (now : Stage) → starts_of e now ≡ true → liv
 starts_live e now h = lives_by-starts e.act e.levels.items now h
 
 -- the records in order: those behind the first are of other ids
-module _ (e : Entry) (table : List Entry) (slot : SlotState) (slots : List SlotState) (order : IsInOrder (e ∷ table) (slot ∷ slots)) (distinct : are_distinct (slot ∷ slots) ≡ true) where
+module _ (e : Entry) (table : List Entry) (slot : RecordState) (slots : List RecordState) (order : IsInOrder (e ∷ table) (slot ∷ slots)) (distinct : are_distinct (slot ∷ slots) ≡ true) where
   own_entry : same_id slot.id e.id ≡ true
   own_entry = ap (same_id slot.id) (sym order.0) ∙ same_id-self slot.id
 
@@ -61,12 +61,12 @@ module _ (e : Entry) (table : List Entry) (slot : SlotState) (slots : List SlotS
   entry_first = ap (λ b. cond b (Some e) (entry_of slot.id table)) own_entry
 
   apart : Each (λ s. same_id s.id e.id ≡ false) slots
-  apart = each_less (λ s. is_slot_of slot.id s ≡ false) (λ s. same_id s.id e.id ≡ false) (λ s other. ap (same_id s.id) (sym order.0) ∙ same_id-sym s.id slot.id ∙ other) slots (each_fails (is_slot_of slot.id) slots (others slot.id slot slots distinct (same_id-self slot.id)))
+  apart = each_less (λ s. is_record_of slot.id s ≡ false) (λ s. same_id s.id e.id ≡ false) (λ s other. ap (same_id s.id) (sym order.0) ∙ same_id-sym s.id slot.id ∙ other) slots (each_fails (is_record_of slot.id) slots (others slot.id slot slots distinct (same_id-self slot.id)))
 
-  entry_behind : (s : SlotState) → same_id s.id e.id ≡ false → entry_of s.id (e ∷ table) ≡ entry_of s.id table
+  entry_behind : (s : RecordState) → same_id s.id e.id ≡ false → entry_of s.id (e ∷ table) ≡ entry_of s.id table
   entry_behind s other = ap (λ b. cond b (Some e) (entry_of s.id table)) other
 
-pub own_each : (table : List Entry) (slots : List SlotState) → IsInOrder table slots → are_distinct slots ≡ true → Each (λ slot. slot.table_act ≡ act_of slot.id table) slots
+pub own_each : (table : List Entry) (slots : List RecordState) → IsInOrder table slots → are_distinct slots ≡ true → Each (λ slot. slot.table_act ≡ act_of slot.id table) slots
 own_each [] slots order distinct = each_less (λ s. is_none s.table_act ≡ true) (λ s. s.table_act ≡ None) (λ s none. is_none-is s.table_act none) slots (each_from (λ s. is_none s.table_act) slots order)
 own_each (e ∷ table) [] order distinct = absurd order
 own_each (e ∷ table) (slot ∷ slots) order distinct = (
@@ -76,16 +76,16 @@ own_each (e ∷ table) (slot ∷ slots) order distinct = (
 )
 
 -- no id stands in the table twice
-table_listed : (id : List ℕ) (table : List Entry) (slots : List SlotState) → IsInOrder table slots → is_listed id slots ≡ false → list_any (has_id id) table ≡ false
+table_listed : (id : List ℕ) (table : List Entry) (slots : List RecordState) → IsInOrder table slots → is_listed id slots ≡ false → list_any (has_id id) table ≡ false
 table_listed id [] slots order none = refl
 table_listed id (e ∷ table) [] order none = absurd order
-table_listed id (e ∷ table) (slot ∷ slots) order none = at (is_slot_of id slot) refl none (table_listed id table slots order.2)
+table_listed id (e ∷ table) (slot ∷ slots) order none = at (is_record_of id slot) refl none (table_listed id table slots order.2)
   where
-    at : (b : Bool) → is_slot_of id slot ≡ b → (b || is_listed id slots) ≡ false → (is_listed id slots ≡ false → list_any (has_id id) table ≡ false) → (has_id id e || list_any (has_id id) table) ≡ false
+    at : (b : Bool) → is_record_of id slot ≡ b → (b || is_listed id slots) ≡ false → (is_listed id slots ≡ false → list_any (has_id id) table ≡ false) → (has_id id e || list_any (has_id id) table) ≡ false
     at true is h rest = absurd (false≢true (sym h))
     at false is h rest = ap (λ b. b || list_any (has_id id) table) (ap (same_id id) (sym order.0) ∙ is) ∙ rest h
 
-pub table_distinct : (table : List Entry) (slots : List SlotState) → IsInOrder table slots → are_distinct slots ≡ true → is_distinct table ≡ true
+pub table_distinct : (table : List Entry) (slots : List RecordState) → IsInOrder table slots → are_distinct slots ≡ true → is_distinct table ≡ true
 table_distinct [] slots order distinct = refl
 table_distinct (e ∷ table) [] order distinct = absurd order
 table_distinct (e ∷ table) (slot ∷ slots) order distinct =
@@ -98,10 +98,11 @@ start_asked true true b h k = k
 start_asked true false b h k = absurd (false≢true k)
 start_asked false a b h k = absurd (false≢true h)
 
-start_acts : (slot : SlotState) → is_started slot ≡ true → is_order_allowed slot ≡ true → is_some slot.table_act ≡ true
+start_acts : (slot : RecordState) → is_started slot ≡ true → is_order_allowed slot ≡ true
+    → is_some slot.table_act ≡ true
 start_acts slot started allowed = at slot.order started allowed
   where
-    at : (order : Option Ask) → is_order Start order ≡ true → allows_order order slot ≡ true → is_some slot.table_act ≡ true
+    at : (order : Option OrderKind) → is_order Start order ≡ true → allows_order order slot ≡ true → is_some slot.table_act ≡ true
     at None h k = absurd (false≢true h)
     at (Some Start) h k = (and_parts (is_some slot.table_act) (is_none slot.child) k).0
     at (Some Look) h k = absurd (false≢true h)
@@ -112,7 +113,7 @@ none_some : {X : Type 0} (o : Option X) → is_none o ≡ true → is_some o ≡
 none_some None none some = false≢true some
 none_some (Some x) none some = false≢true none
 
-start_each : (now : Stage) (table : List Entry) (slots : List SlotState) → IsInOrder table slots → are_distinct slots ≡ true → list_all is_order_allowed slots ≡ true → are_starts_along now (zip table slots) ≡ true → Each (λ slot. is_started slot ≡ true → is_excluded now slot.table_act (entry_of slot.id table) ≡ false) slots
+start_each : (now : Stage) (table : List Entry) (slots : List RecordState) → IsInOrder table slots → are_distinct slots ≡ true → list_all is_order_allowed slots ≡ true → are_starts_along now (zip table slots) ≡ true → Each (λ slot. is_started slot ≡ true → is_excluded now slot.table_act (entry_of slot.id table) ≡ false) slots
 start_each now [] slots order distinct allowed along = each_less (λ s. (is_none s.table_act ≡ true) × (is_order_allowed s ≡ true)) (λ s. is_started s ≡ true → is_excluded now s.table_act (entry_of s.id []) ≡ false) (λ s both started. absurd (none_some s.table_act both.0 (start_acts s started both.1))) slots
     (each_both (λ s. is_none s.table_act ≡ true) (λ s. is_order_allowed s ≡ true) slots (each_from (λ s. is_none s.table_act) slots order) (each_from is_order_allowed slots allowed))
 start_each now (e ∷ table) [] order distinct allowed along = absurd order
@@ -125,27 +126,27 @@ start_each now (e ∷ table) (slot ∷ slots) order distinct allowed along = (
   where
     head : is_started slot ≡ true → is_excluded now slot.table_act (entry_of slot.id (e ∷ table)) ≡ false
     head started =
-        let here = and_parts (is_start_allowed now e slot) (cond (is_owed_slot now e slot) (not (list_any (λ (q : Entry × SlotState). is_started q.1) (zip table slots))) (are_starts_along now (zip table slots))) along in
+        let here = and_parts (is_start_allowed now e slot) (cond (is_owed_record now e slot) (not (list_any (λ (q : Entry × RecordState). is_started q.1) (zip table slots))) (are_starts_along now (zip table slots))) along in
         let lives : lives_of e now ≡ true = starts_live e now (start_asked (is_started slot) slot.asked (starts_of e now) started here.0) in
         ap (is_excluded now slot.table_act) (entry_first e table slot slots order distinct) ∙ ap (λ a. not (is_act e.act a && lives_of e now)) order.1 ∙ (λ i. not (same_act-self e.act i && lives i))
 
-start_in : (now : Option Stage) (table : List Entry) (slots : List SlotState) → IsInOrder table slots → are_distinct slots ≡ true → list_all is_order_allowed slots ≡ true → are_starts_in now table slots ≡ true → Each (λ slot. is_started slot ≡ true → is_excluded_in now slot.table_act (entry_of slot.id table) ≡ false) slots
+start_in : (now : Option Stage) (table : List Entry) (slots : List RecordState) → IsInOrder table slots → are_distinct slots ≡ true → list_all is_order_allowed slots ≡ true → are_starts_in now table slots ≡ true → Each (λ slot. is_started slot ≡ true → is_excluded_in now slot.table_act (entry_of slot.id table) ≡ false) slots
 start_in None table slots order distinct allowed none = each_less (λ s. is_started s ≡ false) (λ s. is_started s ≡ true → true ≡ false) (λ s free started. both_ways (is_started s) started free) slots (each_fails is_started slots (not-true (list_any is_started slots) none))
 start_in (Some now) table slots order distinct allowed along = start_each now table slots order distinct allowed along
 
 -- the rules, record by record
-ruled_each : (now : Option Stage) (table : List Entry) (time : ℕ) (slots : List SlotState) → list_all has_cause slots ≡ true → list_all (λ (slot : SlotState). is_birth_known slot.child) slots ≡ true → list_all is_order_allowed slots ≡ true → list_all (is_stop_judged now table) slots ≡ true → list_all are_marks_due slots ≡ true → list_all (is_limiter_kept time) slots ≡ true → Each (IsRuled now table time) slots
+ruled_each : (now : Option Stage) (table : List Entry) (time : ℕ) (slots : List RecordState) → list_all has_cause slots ≡ true → list_all (λ (slot : RecordState). is_birth_known slot.child) slots ≡ true → list_all is_order_allowed slots ≡ true → list_all (is_stop_judged now table) slots ≡ true → list_all are_marks_due slots ≡ true → list_all (is_limiter_kept time) slots ≡ true → Each (IsRuled now table time) slots
 ruled_each now table time [] causes births orders stops marks limiters = tt
 ruled_each now table time (slot ∷ slots) causes births orders stops marks limiters =
     let cause = and_parts (has_cause slot) (list_all has_cause slots) causes in
-    let birth = and_parts (is_birth_known slot.child) (list_all (λ (s : SlotState). is_birth_known s.child) slots) births in
+    let birth = and_parts (is_birth_known slot.child) (list_all (λ (s : RecordState). is_birth_known s.child) slots) births in
     let order = and_parts (is_order_allowed slot) (list_all is_order_allowed slots) orders in
     let stop = and_parts (is_stop_judged now table slot) (list_all (is_stop_judged now table) slots) stops in
     let mark = and_parts (are_marks_due slot) (list_all are_marks_due slots) marks in
     let limiter = and_parts (is_limiter_kept time slot) (list_all (is_limiter_kept time) slots) limiters in
     (record { cause = cause.0; birth = birth.0; order = order.0; stop = stop.0; marks = mark.0; limiter = limiter.0 }, ruled_each now table time slots cause.1 birth.1 order.1 stop.1 mark.1 limiter.1)
 
-placed_each : (now : Option Stage) (table : List Entry) (time : ℕ) (slots : List SlotState) → Each (IsRuled now table time) slots → Each (λ s. s.table_act ≡ act_of s.id table) slots → Each (λ s. is_started s ≡ true → is_excluded_in now s.table_act (entry_of s.id table) ≡ false) slots → Each (λ s. is_timely time s ≡ true) slots → Each (IsPlaced now table time) slots
+placed_each : (now : Option Stage) (table : List Entry) (time : ℕ) (slots : List RecordState) → Each (IsRuled now table time) slots → Each (λ s. s.table_act ≡ act_of s.id table) slots → Each (λ s. is_started s ≡ true → is_excluded_in now s.table_act (entry_of s.id table) ≡ false) slots → Each (λ s. is_timely time s ≡ true) slots → Each (IsPlaced now table time) slots
 placed_each now table time [] rules owns starts times = tt
 placed_each now table time (slot ∷ slots) rules owns starts times = (record { rules = rules.0; own = owns.0; start = starts.0; timely = times.0 }, placed_each now table time slots rules.1 owns.1 starts.1 times.1)
 
@@ -157,7 +158,7 @@ each_placed c keeps = placed_each c.heads.stage c.table c.heads.time c.slots
     (each_from (is_timely c.heads.time) c.slots (rules_of c keeps).timely)
 
 -- and what the rules say of all together
-pub record AreRuled (now : Option Stage) (table : List Entry) (time : ℕ) (slots : List SlotState) : Type 0 where
+pub record AreRuled (now : Option Stage) (table : List Entry) (time : ℕ) (slots : List RecordState) : Type 0 where
   pub each : Each (IsRuled now table time) slots
   pub in_order : IsInOrder table slots
   pub distinct : are_distinct slots ≡ true
@@ -188,7 +189,7 @@ pub kept_by : (c : CoreState) → AreRuled c.heads.stage c.table c.heads.time c.
 kept_by c ruled heads = fit_of c ruled.in_order (record {
   distinct = ruled.distinct;
   caused = each_all (IsRuled c.heads.stage c.table c.heads.time) has_cause (λ s own. own.cause) c.slots ruled.each;
-  births = each_all (IsRuled c.heads.stage c.table c.heads.time) (λ (s : SlotState). is_birth_known s.child) (λ s own. own.birth) c.slots ruled.each;
+  births = each_all (IsRuled c.heads.stage c.table c.heads.time) (λ (s : RecordState). is_birth_known s.child) (λ s own. own.birth) c.slots ruled.each;
   orders = each_all (IsRuled c.heads.stage c.table c.heads.time) is_order_allowed (λ s own. own.order) c.slots ruled.each;
   starts = ruled.starts;
   free = ruled.free;

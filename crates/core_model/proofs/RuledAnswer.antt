@@ -3,29 +3,29 @@ use Rattle.std.proofs.Common.{◌≡◌, refl, sym, ap, ◌∙◌, subst, Bool, 
 use Rattle.std.proofs.lemmas.Bool.{false≢true, and_parts, or_left, or_right}
 use Rattle.init_words.specs.declared.children.Status.{Status}
 use Rattle.init_words.specs.declared.entries.Entry.{Entry}
-use Rattle.init_words.specs.declared.orders.Ask.{Ask}
-use Rattle.init_words.specs.declared.orders.Ask.TheVariants.{Start, Look, Term, Kill}
+use Rattle.init_words.specs.declared.orders.OrderKind.{OrderKind}
+use Rattle.init_words.specs.declared.orders.OrderKind.TheVariants.{Start, Look, Term, Kill}
 use Rattle.init_words.specs.declared.orders.Answer.{Answer}
 use Rattle.init_words.specs.declared.orders.Answer.TheVariants.{Born, NotBorn, Ended, Alive, NoLook, Hit, Miss}
 use Rattle.init_words.specs.declared.stages.Stage.{Stage}
 use Rattle.init_words.specs.Orders.{answers}
 use Rattle.init_words.proofs.Tests.{is_none-is, or_true, or_false}
-use Rattle.init_trace.specs.Wanted.{is_order}
-use Rattle.child_table.specs.declared.children.Stop.{Stop}
-use Rattle.child_table.specs.declared.children.Stop.TheVariants.{Due, Termed, Killed}
-use Rattle.child_table.specs.State.{SlotState}
-use Rattle.child_table.specs.Changes.{after_hit, after_answer, is_over}
+use Rattle.trace_events.specs.Wanted.{is_order}
+use Rattle.core_records.specs.declared.children.Stop.{Stop}
+use Rattle.core_records.specs.declared.children.Stop.TheVariants.{Due, Termed, Killed}
+use Rattle.core_records.specs.State.{RecordState}
+use Rattle.core_records.specs.Changes.{after_hit, after_answer, is_over}
 use Rattle.core_model.specs.Rules.{may_follow, allows_order, is_started, is_child_excluded, may_be_signalled}
 use Rattle.core_model.proofs.Ruled.{IsPlaced}
 use Rattle.core_model.proofs.RuledRecord.{IsRuled, excluded_same, stop_same, marks_parts, marks_from, stop_childless}
 
 -- the answer is one to the open order
-abbrev pub is_answered : Answer → Option Ask → Bool
+abbrev pub is_answered : Answer → Option OrderKind → Bool
 is_answered answer None = false
 is_answered answer (Some ask) = answers answer ask
 
 -- a child that is signalled may be, and is excluded
-signalled : (ask : Ask) (stop : Option Stop) → may_follow ask stop ≡ true → may_be_signalled stop ≡ true
+signalled : (ask : OrderKind) (stop : Option Stop) → may_follow ask stop ≡ true → may_be_signalled stop ≡ true
 signalled Term (Some Due) h = refl
 signalled Term (Some (Termed time)) h = refl
 signalled Term (Some (Killed time)) h = absurd (false≢true h)
@@ -55,13 +55,13 @@ none_from None p h k = is_none-is p k
 none_from (Some x) p h k = absurd (false≢true h)
 
 -- one record: with its order answered
-module _ (stage : Option Stage) (table : List Entry) (now : ℕ) (slot : SlotState) (placed : IsPlaced stage table now slot) where
+module _ (stage : Option Stage) (table : List Entry) (now : ℕ) (slot : RecordState) (placed : IsPlaced stage table now slot) where
   -- what the rules say of its open order
-  allowed : (ask : Ask) → slot.order ≡ Some ask → allows_order (Some ask) slot ≡ true
+  allowed : (ask : OrderKind) → slot.order ≡ Some ask → allows_order (Some ask) slot ≡ true
   allowed ask is = sym (ap (λ o. allows_order o slot) is) ∙ placed.rules.order
 
   -- only the order is over
-  rest_ruled : (after : SlotState) → after ≡ record slot { order = None } → IsRuled stage table now after
+  rest_ruled : (after : RecordState) → after ≡ record slot { order = None } → IsRuled stage table now after
   rest_ruled after is = subst (IsRuled stage table now) (sym is) (record {
     cause = placed.rules.cause;
     birth = placed.rules.birth;
@@ -85,10 +85,10 @@ module _ (stage : Option Stage) (table : List Entry) (now : ℕ) (slot : SlotSta
         limiter = placed.rules.limiter;
       }
 
-  ended_ruled : (status : Status) (after : SlotState) → after ≡ record slot { order = None; child = None; stop = None; look = false; missed = false; last = Some status } → is_none slot.table_act ≡ false → IsRuled stage table now after
+  ended_ruled : (status : Status) (after : RecordState) → after ≡ record slot { order = None; child = None; stop = None; look = false; missed = false; last = Some status } → is_none slot.table_act ≡ false → IsRuled stage table now after
   ended_ruled status after is stays =
       let marked = marks_parts slot placed.rules.marks in
-      let left : SlotState = record slot { order = None; child = None; stop = None; look = false; missed = false; last = Some status } in
+      let left : RecordState = record slot { order = None; child = None; stop = None; look = false; missed = false; last = Some status } in
       subst (IsRuled stage table now) (sym is) (record {
         cause = or_false (is_some slot.table_act) ∙ some_from slot.table_act stays;
         birth = refl;
@@ -102,7 +102,7 @@ module _ (stage : Option Stage) (table : List Entry) (now : ℕ) (slot : SlotSta
   hit_ruled : (stop : Option Stop) → is_some stop ≡ true → is_some slot.stop ≡ true → IsRuled stage table now (record slot { order = None; stop = stop; missed = false })
   hit_ruled stop new old =
       let marked = marks_parts slot placed.rules.marks in
-      let after : SlotState = record slot { order = None; stop = stop; missed = false } in
+      let after : RecordState = record slot { order = None; stop = stop; missed = false } in
       record {
         cause = placed.rules.cause;
         birth = placed.rules.birth;
@@ -116,10 +116,10 @@ module _ (stage : Option Stage) (table : List Entry) (now : ℕ) (slot : SlotSta
       by x None some h = absurd (false≢true some)
       by x (Some s) some h = h
 
-  signal_stop : (ask : Ask) → (is_some slot.child && may_follow ask slot.stop) ≡ true → may_be_signalled slot.stop ≡ true
+  signal_stop : (ask : OrderKind) → (is_some slot.child && may_follow ask slot.stop) ≡ true → may_be_signalled slot.stop ≡ true
   signal_stop ask may = signalled ask slot.stop (and_parts (is_some slot.child) (may_follow ask slot.stop) may).1
 
-  hit_by : (o : Option Ask) → slot.order ≡ o → is_answered Hit o ≡ true → IsRuled stage table now (record slot { order = None; stop = after_hit o now slot.stop; missed = false })
+  hit_by : (o : Option OrderKind) → slot.order ≡ o → is_answered Hit o ≡ true → IsRuled stage table now (record slot { order = None; stop = after_hit o now slot.stop; missed = false })
   hit_by None is h = absurd (false≢true h)
   hit_by (Some Start) is h = absurd (false≢true h)
   hit_by (Some Look) is h = absurd (false≢true h)
@@ -129,7 +129,7 @@ module _ (stage : Option Stage) (table : List Entry) (now : ℕ) (slot : SlotSta
   miss_ruled : may_be_signalled slot.stop ≡ true → IsRuled stage table now (record slot { order = None; missed = true })
   miss_ruled may =
       let marked = marks_parts slot placed.rules.marks in
-      let after : SlotState = record slot { order = None; missed = true } in
+      let after : RecordState = record slot { order = None; missed = true } in
       record {
         cause = placed.rules.cause;
         birth = placed.rules.birth;
@@ -139,14 +139,14 @@ module _ (stage : Option Stage) (table : List Entry) (now : ℕ) (slot : SlotSta
         limiter = placed.rules.limiter;
       }
 
-  miss_by : (o : Option Ask) → slot.order ≡ o → is_answered Miss o ≡ true → may_be_signalled slot.stop ≡ true
+  miss_by : (o : Option OrderKind) → slot.order ≡ o → is_answered Miss o ≡ true → may_be_signalled slot.stop ≡ true
   miss_by None is h = absurd (false≢true h)
   miss_by (Some Start) is h = absurd (false≢true h)
   miss_by (Some Look) is h = absurd (false≢true h)
   miss_by (Some Term) is h = signal_stop Term (allowed Term is)
   miss_by (Some Kill) is h = signal_stop Kill (allowed Kill is)
 
-  born_by : (n : ℕ) (o : Option Ask) → slot.order ≡ o → is_answered (Born n) o ≡ true → slot.order ≡ Some Start
+  born_by : (n : ℕ) (o : Option OrderKind) → slot.order ≡ o → is_answered (Born n) o ≡ true → slot.order ≡ Some Start
   born_by n None is h = absurd (false≢true h)
   born_by n (Some Start) is h = is
   born_by n (Some Look) is h = absurd (false≢true h)
@@ -163,14 +163,15 @@ module _ (stage : Option Stage) (table : List Entry) (now : ℕ) (slot : SlotSta
   told_ruled Miss is stays = miss_ruled (miss_by slot.order refl is)
 
   -- it had a child, or an open start; so its answer makes nothing more owed, and begins no stop
-  pub was_busy : (answer : Answer) (o : Option Ask) → slot.order ≡ o → is_answered answer o ≡ true → (is_some slot.child || is_started slot) ≡ true
+  pub was_busy : (answer : Answer) (o : Option OrderKind) → slot.order ≡ o → is_answered answer o ≡ true → (is_some slot.child || is_started slot) ≡ true
   was_busy answer None is h = absurd (false≢true h)
   was_busy answer (Some Start) is h = or_right (is_some slot.child) (is_started slot) (ap (is_order Start) is)
   was_busy answer (Some Look) is h = or_left (is_some slot.child) (is_started slot) (allowed Look is)
   was_busy answer (Some Term) is h = or_left (is_some slot.child) (is_started slot) (and_parts (is_some slot.child) (may_follow Term slot.stop) (allowed Term is)).0
   was_busy answer (Some Kill) is h = or_left (is_some slot.child) (is_started slot) (and_parts (is_some slot.child) (may_follow Kill slot.stop) (allowed Kill is)).0
 
-  hit_begins : (o : Option Ask) → slot.order ≡ o → is_some (after_hit o now slot.stop) ≡ true → is_some slot.stop ≡ true
+  hit_begins : (o : Option OrderKind) → slot.order ≡ o → is_some (after_hit o now slot.stop) ≡ true
+      → is_some slot.stop ≡ true
   hit_begins None is h = h
   hit_begins (Some Start) is h = h
   hit_begins (Some Look) is h = h

@@ -3,18 +3,18 @@ use Rattle.std.proofs.Common.{◌≡◌, refl, sym, ap, ◌∙◌, Bool, true, f
 use Rattle.std.specs.List.{list_any}
 use Rattle.std.proofs.lemmas.Bool.{false≢true, and_parts, and_from, or_left}
 use Rattle.init_words.specs.declared.entries.Entry.{Entry}
-use Rattle.init_words.specs.declared.orders.Ask.{Ask}
-use Rattle.init_words.specs.declared.orders.Ask.TheVariants.{Start, Look, Term, Kill}
+use Rattle.init_words.specs.declared.orders.OrderKind.{OrderKind}
+use Rattle.init_words.specs.declared.orders.OrderKind.TheVariants.{Start, Look, Term, Kill}
 use Rattle.init_words.specs.declared.stages.Stage.{Stage}
 use Rattle.init_words.proofs.Tests.{both_ways}
 use Rattle.respawn_limit.specs.Window.{may_of, with_start, with_hold}
-use Rattle.init_trace.specs.declared.steps.Step.TheVariants.{Order, Hold}
-use Rattle.child_table.specs.State.{SlotState, is_limited_slot, stays_called_slot}
-use Rattle.child_table.specs.Changes.{allows, can_be_asked, after_order, after_hold}
-use Rattle.child_table.specs.Lists.{is_slot_of, changed, with_changed}
-use Rattle.child_table.proofs.Changed.{id-after_order}
-use Rattle.child_table.proofs.Ordered.{kept_by_one, order_changed, act-after_order}
-use Rattle.child_table.proofs.Timely.{timely_changed, timely_order, timely_parts}
+use Rattle.trace_events.specs.declared.steps.Step.TheVariants.{Order, Hold}
+use Rattle.core_records.specs.State.{RecordState, is_limited_record, stays_called_record}
+use Rattle.core_records.specs.Changes.{allows, can_be_asked, after_order, after_hold}
+use Rattle.core_records.specs.Lists.{is_record_of, changed, with_changed}
+use Rattle.core_records.proofs.Changed.{id-after_order}
+use Rattle.core_records.proofs.Ordered.{kept_by_one, order_changed, act-after_order}
+use Rattle.core_records.proofs.Timely.{timely_changed, timely_order, timely_parts}
 use Rattle.core_model.specs.Decide.{has_excluded, decide}
 use Rattle.core_model.specs.Rules.{may_follow, is_callable, is_started, are_starts_along, are_starts_in, are_starts_free, is_limit_kept, is_unused, IsFit}
 use Rattle.core_model.specs.State.{CoreState}
@@ -28,7 +28,7 @@ use Rattle.core_model.proofs.RuledStarts.{IsLess, less_same, less_busy, along_le
 use Rattle.core_model.proofs.RuledRecord.{IsRuled, stop_same, allowed_same, marks_parts, marks_from}
 
 -- one record, of which something may be asked
-module _ (stage : Option Stage) (table : List Entry) (now : ℕ) (slot : SlotState) (placed : IsPlaced stage table now slot) where
+module _ (stage : Option Stage) (table : List Entry) (now : ℕ) (slot : RecordState) (placed : IsPlaced stage table now slot) where
   look_ruled : is_some slot.child ≡ true → IsRuled stage table now (after_order Look now slot)
   look_ruled there =
       let marked = marks_parts slot placed.rules.marks in
@@ -74,8 +74,8 @@ module _ (stage : Option Stage) (table : List Entry) (now : ℕ) (slot : SlotSta
         birth = placed.rules.birth;
         order = and_from (is_some slot.table_act) (is_none slot.child) acts none;
         stop = stop_same slot.child stage table slot (after_order Start now slot) slot.stop refl placed.rules.stop;
-        marks = marks_from (after_order Start now slot) (record { look = marked.look; missed = marked.missed; called = call_less (stays_called_slot slot) slot.called (is_callable slot.table_act) marked.called });
-        limiter = by (is_limited_slot slot) placed.rules.limiter;
+        marks = marks_from (after_order Start now slot) (record { look = marked.look; missed = marked.missed; called = call_less (stays_called_record slot) slot.called (is_callable slot.table_act) marked.called });
+        limiter = by (is_limited_record slot) placed.rules.limiter;
       }
     where
       by : (b : Bool) → cond b (is_limit_kept now slot.limiter) (is_unused slot.limiter) ≡ true → cond b (is_limit_kept now (cond b (with_start slot.limiter now) slot.limiter)) (is_unused (cond b (with_start slot.limiter now) slot.limiter)) ≡ true
@@ -88,9 +88,9 @@ module _ (stage : Option Stage) (table : List Entry) (now : ℕ) (slot : SlotSta
   three true false d e h = absurd (false≢true h)
   three false b d e h = absurd (false≢true h)
 
-  asked_ruled : (ask : Ask) → is_askable ask now slot ≡ true → IsRuled stage table now (after_order ask now slot)
+  asked_ruled : (ask : OrderKind) → is_askable ask now slot ≡ true → IsRuled stage table now (after_order ask now slot)
   asked_ruled Start h =
-      let may = three (is_none slot.order) (is_some slot.table_act) (is_none slot.child) (not (is_limited_slot slot) || allows (may_of slot.limiter now)) (and_parts (can_be_asked Start now slot) true h).0 in
+      let may = three (is_none slot.order) (is_some slot.table_act) (is_none slot.child) (not (is_limited_record slot) || allows (may_of slot.limiter now)) (and_parts (can_be_asked Start now slot) true h).0 in
       start_ruled may.0 may.1
   asked_ruled Look h = look_ruled (and_parts (is_none slot.order) (is_some slot.child) (and_parts (can_be_asked Look now slot) true h).0).1
   asked_ruled Term h =
@@ -102,15 +102,15 @@ module _ (stage : Option Stage) (table : List Entry) (now : ℕ) (slot : SlotSta
 
   held_ruled : is_holdable now slot ≡ true → IsRuled stage table now (after_hold now slot)
   held_ruled h =
-      let last = and_parts (unheld now slot && is_limited_slot slot) (not (allows (may_of slot.limiter now))) h in
-      let first = and_parts (unheld now slot) (is_limited_slot slot) last.0 in
+      let last = and_parts (unheld now slot && is_limited_record slot) (not (allows (may_of slot.limiter now))) h in
+      let first = and_parts (unheld now slot) (is_limited_record slot) last.0 in
       record {
         cause = placed.rules.cause;
         birth = placed.rules.birth;
         order = allowed_same slot.order slot (after_hold now slot) refl refl refl placed.rules.order;
         stop = stop_same slot.child stage table slot (after_hold now slot) slot.stop refl placed.rules.stop;
         marks = placed.rules.marks;
-        limiter = by (is_limited_slot slot) first.1 first.0 last.1 placed.rules.limiter;
+        limiter = by (is_limited_record slot) first.1 first.0 last.1 placed.rules.limiter;
       }
     where
       by : (b : Bool) → b ≡ true → unheld now slot ≡ true → not (allows (may_of slot.limiter now)) ≡ true → cond b (is_limit_kept now slot.limiter) (is_unused slot.limiter) ≡ true → cond b (is_limit_kept now (with_hold slot.limiter now)) (is_unused (with_hold slot.limiter now)) ≡ true
@@ -119,15 +119,15 @@ module _ (stage : Option Stage) (table : List Entry) (now : ℕ) (slot : SlotSta
 
 -- all of them, where the step was decided
 module _ (c : CoreState) (keeps : IsFit c) (id : List ℕ) where
-  module _ (ask : Ask) (is : decide c ≡ Order id ask) where
-    abbrev order : SlotState → SlotState
+  module _ (ask : OrderKind) (is : decide c ≡ Order id ask) where
+    abbrev order : RecordState → RecordState
     order slot = changed id (after_order ask c.heads.time) slot
 
-    abbrev IsAsked : SlotState → Type 0
-    IsAsked slot = IsPlaced c.heads.stage c.table c.heads.time slot × (is_slot_of id slot ≡ true → is_askable ask c.heads.time slot ≡ true)
+    abbrev IsAsked : RecordState → Type 0
+    IsAsked slot = IsPlaced c.heads.stage c.table c.heads.time slot × (is_record_of id slot ≡ true → is_askable ask c.heads.time slot ≡ true)
 
     each_asked : Each IsAsked c.slots
-    each_asked = each_both (IsPlaced c.heads.stage c.table c.heads.time) (λ s. is_slot_of id s ≡ true → is_askable ask c.heads.time s ≡ true) c.slots (each_placed c keeps) (each_own id (is_askable ask c.heads.time) c.slots (rules_of c keeps).distinct (decided c keeps.in_order (Order id ask) is))
+    each_asked = each_both (IsPlaced c.heads.stage c.table c.heads.time) (λ s. is_record_of id s ≡ true → is_askable ask c.heads.time s ≡ true) c.slots (each_placed c keeps) (each_own id (is_askable ask c.heads.time) c.slots (rules_of c keeps).distinct (decided c keeps.in_order (Order id ask) is))
 
     pub order_ruled : are_starts_in c.heads.stage c.table (with_changed id (after_order ask c.heads.time) c.slots) ≡ true → are_starts_free (with_changed id (after_order ask c.heads.time) c.slots) ≡ true → AreRuled c.heads.stage c.table c.heads.time (with_changed id (after_order ask c.heads.time) c.slots)
     order_ruled starts free = record {
@@ -139,37 +139,37 @@ module _ (c : CoreState) (keeps : IsFit c) (id : List ℕ) where
       timely = timely_changed c.heads.time id (after_order ask c.heads.time) (λ s h. timely_order ask c.heads.time c.heads.time (omega arith) s h) c.slots (rules_of c keeps).timely;
     }
 
-    order_stops : (slot : SlotState) → (after_order ask c.heads.time slot).stop ≡ slot.stop
+    order_stops : (slot : RecordState) → (after_order ask c.heads.time slot).stop ≡ slot.stop
     order_stops slot = at ask
       where
-        at : (a : Ask) → (after_order a c.heads.time slot).stop ≡ slot.stop
+        at : (a : OrderKind) → (after_order a c.heads.time slot).stop ≡ slot.stop
         at Start = refl
         at Look = refl
         at Term = refl
         at Kill = refl
 
-    stop_of : (slot : SlotState) (b : Bool) → is_some (cond b (after_order ask c.heads.time slot) slot).stop ≡ is_some slot.stop
+    stop_of : (slot : RecordState) (b : Bool) → is_some (cond b (after_order ask c.heads.time slot) slot).stop ≡ is_some slot.stop
     stop_of slot true = ap is_some (order_stops slot)
     stop_of slot false = refl
 
-    stops_same : (slots : List SlotState) → has_excluded (map order slots) ≡ has_excluded slots
+    stops_same : (slots : List RecordState) → has_excluded (map order slots) ≡ has_excluded slots
     stops_same [] = refl
-    stops_same (slot ∷ slots) = λ i. stop_of slot (is_slot_of id slot) i || stops_same slots i
+    stops_same (slot ∷ slots) = λ i. stop_of slot (is_record_of id slot) i || stops_same slots i
 
     -- an order about a child
-    module _ (there : (slot : SlotState) → is_askable ask c.heads.time slot ≡ true → is_some slot.child ≡ true) (plain : (slot : SlotState) → is_started (after_order ask c.heads.time slot) ≡ false) where
-      order_less : (slot : SlotState) → IsAsked slot → (now : Stage) (e : Entry) (b : Bool) → is_slot_of id slot ≡ b → IsLess now e slot (cond b (after_order ask c.heads.time slot) slot)
+    module _ (there : (slot : RecordState) → is_askable ask c.heads.time slot ≡ true → is_some slot.child ≡ true) (plain : (slot : RecordState) → is_started (after_order ask c.heads.time slot) ≡ false) where
+      order_less : (slot : RecordState) → IsAsked slot → (now : Stage) (e : Entry) (b : Bool) → is_record_of id slot ≡ b → IsLess now e slot (cond b (after_order ask c.heads.time slot) slot)
       order_less slot own now e true here = less_busy now e slot (after_order ask c.heads.time slot) (or_left (is_some slot.child) (is_started slot) (there slot (own.1 here))) (plain slot)
       order_less slot own now e false here = less_same now e slot
 
-      started_less : (slot : SlotState) (b : Bool) → is_started (cond b (after_order ask c.heads.time slot) slot) ≡ true → is_started slot ≡ true
+      started_less : (slot : RecordState) (b : Bool) → is_started (cond b (after_order ask c.heads.time slot) slot) ≡ true → is_started slot ≡ true
       started_less slot true h = both_ways (is_started (after_order ask c.heads.time slot)) h (plain slot)
       started_less slot false h = h
 
       pub child_ruled : (now : Stage) → c.heads.stage ≡ Some now → AreRuled c.heads.stage c.table c.heads.time (with_changed id (after_order ask c.heads.time) c.slots)
       child_ruled now in_stage = order_ruled
-          (ap (λ s. are_starts_in s c.table (with_changed id (after_order ask c.heads.time) c.slots)) in_stage ∙ along_less now order c.table c.slots (each_less IsAsked (λ s. (e : Entry) → IsLess now e s (order s)) (λ s own e. order_less s own now e (is_slot_of id s) refl) c.slots each_asked) (sym (ap (λ s. are_starts_in s c.table c.slots) in_stage) ∙ (rules_of c keeps).starts))
-          (free_less order c.slots (each_less IsAsked (λ s. is_started (order s) ≡ true → is_started s ≡ true) (λ s own. started_less s (is_slot_of id s)) c.slots each_asked) (each_less IsAsked (λ s. is_some (order s).stop ≡ true → is_some s.stop ≡ true) (λ s own h. sym (stop_of s (is_slot_of id s)) ∙ h) c.slots each_asked) (rules_of c keeps).free)
+          (ap (λ s. are_starts_in s c.table (with_changed id (after_order ask c.heads.time) c.slots)) in_stage ∙ along_less now order c.table c.slots (each_less IsAsked (λ s. (e : Entry) → IsLess now e s (order s)) (λ s own e. order_less s own now e (is_record_of id s) refl) c.slots each_asked) (sym (ap (λ s. are_starts_in s c.table c.slots) in_stage) ∙ (rules_of c keeps).starts))
+          (free_less order c.slots (each_less IsAsked (λ s. is_started (order s) ≡ true → is_started s ≡ true) (λ s own. started_less s (is_record_of id s)) c.slots each_asked) (each_less IsAsked (λ s. is_some (order s).stop ≡ true → is_some s.stop ≡ true) (λ s own h. sym (stop_of s (is_record_of id s)) ∙ h) c.slots each_asked) (rules_of c keeps).free)
 
   -- a start, where no child is excluded
   pub start_all_ruled : decide c ≡ Order id Start → (now : Stage) → c.heads.stage ≡ Some now → has_excluded c.slots ≡ false → are_starts_along now (zip c.table (with_changed id (after_order Start c.heads.time) c.slots)) ≡ true → AreRuled c.heads.stage c.table c.heads.time (with_changed id (after_order Start c.heads.time) c.slots)
@@ -183,24 +183,24 @@ module _ (c : CoreState) (keeps : IsFit c) (id : List ℕ) where
 
   -- a hold
   module _ (is : decide c ≡ Hold id) where
-    abbrev hold : SlotState → SlotState
+    abbrev hold : RecordState → RecordState
     hold slot = changed id (after_hold c.heads.time) slot
 
-    abbrev IsHeld : SlotState → Type 0
-    IsHeld slot = IsPlaced c.heads.stage c.table c.heads.time slot × (is_slot_of id slot ≡ true → is_holdable c.heads.time slot ≡ true)
+    abbrev IsHeld : RecordState → Type 0
+    IsHeld slot = IsPlaced c.heads.stage c.table c.heads.time slot × (is_record_of id slot ≡ true → is_holdable c.heads.time slot ≡ true)
 
     each_held : Each IsHeld c.slots
-    each_held = each_both (IsPlaced c.heads.stage c.table c.heads.time) (λ s. is_slot_of id s ≡ true → is_holdable c.heads.time s ≡ true) c.slots (each_placed c keeps) (each_own id (is_holdable c.heads.time) c.slots (rules_of c keeps).distinct (decided c keeps.in_order (Hold id) is))
+    each_held = each_both (IsPlaced c.heads.stage c.table c.heads.time) (λ s. is_record_of id s ≡ true → is_holdable c.heads.time s ≡ true) c.slots (each_placed c keeps) (each_own id (is_holdable c.heads.time) c.slots (rules_of c keeps).distinct (decided c keeps.in_order (Hold id) is))
 
-    hold_less : (slot : SlotState) (now : Stage) (e : Entry) (b : Bool) → IsLess now e slot (cond b (after_hold c.heads.time slot) slot)
+    hold_less : (slot : RecordState) (now : Stage) (e : Entry) (b : Bool) → IsLess now e slot (cond b (after_hold c.heads.time slot) slot)
     hold_less slot now e true = record { allowed = λ h. h; started = λ h. h; owed = λ h. h }
     hold_less slot now e false = less_same now e slot
 
-    hold_started : (slot : SlotState) (b : Bool) → is_started (cond b (after_hold c.heads.time slot) slot) ≡ true → is_started slot ≡ true
+    hold_started : (slot : RecordState) (b : Bool) → is_started (cond b (after_hold c.heads.time slot) slot) ≡ true → is_started slot ≡ true
     hold_started slot true h = h
     hold_started slot false h = h
 
-    hold_stops : (slot : SlotState) (b : Bool) → is_some (cond b (after_hold c.heads.time slot) slot).stop ≡ true → is_some slot.stop ≡ true
+    hold_stops : (slot : RecordState) (b : Bool) → is_some (cond b (after_hold c.heads.time slot) slot).stop ≡ true → is_some slot.stop ≡ true
     hold_stops slot true h = h
     hold_stops slot false h = h
 
@@ -209,7 +209,7 @@ module _ (c : CoreState) (keeps : IsFit c) (id : List ℕ) where
       each = each_changed IsHeld (IsRuled c.heads.stage c.table c.heads.time) id (after_hold c.heads.time) (λ s own. own.0.rules) (λ s here own. held_ruled c.heads.stage c.table c.heads.time s own.0 (own.1 here)) c.slots each_held;
       in_order = order_changed id (after_hold c.heads.time) (λ s. refl) (λ s. refl) c.table c.slots keeps.in_order;
       distinct = distinct_map hold (kept_by_one (λ s. s.id) id (after_hold c.heads.time) (λ s. refl)) c.slots (rules_of c keeps).distinct;
-      starts = ap (λ s. are_starts_in s c.table (with_changed id (after_hold c.heads.time) c.slots)) in_stage ∙ along_less now hold c.table c.slots (each_less IsHeld (λ s. (e : Entry) → IsLess now e s (hold s)) (λ s own e. hold_less s now e (is_slot_of id s)) c.slots each_held) (sym (ap (λ s. are_starts_in s c.table c.slots) in_stage) ∙ (rules_of c keeps).starts);
-      free = free_less hold c.slots (each_less IsHeld (λ s. is_started (hold s) ≡ true → is_started s ≡ true) (λ s own. hold_started s (is_slot_of id s)) c.slots each_held) (each_less IsHeld (λ s. is_some (hold s).stop ≡ true → is_some s.stop ≡ true) (λ s own. hold_stops s (is_slot_of id s)) c.slots each_held) (rules_of c keeps).free;
+      starts = ap (λ s. are_starts_in s c.table (with_changed id (after_hold c.heads.time) c.slots)) in_stage ∙ along_less now hold c.table c.slots (each_less IsHeld (λ s. (e : Entry) → IsLess now e s (hold s)) (λ s own e. hold_less s now e (is_record_of id s)) c.slots each_held) (sym (ap (λ s. are_starts_in s c.table c.slots) in_stage) ∙ (rules_of c keeps).starts);
+      free = free_less hold c.slots (each_less IsHeld (λ s. is_started (hold s) ≡ true → is_started s ≡ true) (λ s own. hold_started s (is_record_of id s)) c.slots each_held) (each_less IsHeld (λ s. is_some (hold s).stop ≡ true → is_some s.stop ≡ true) (λ s own. hold_stops s (is_record_of id s)) c.slots each_held) (rules_of c keeps).free;
       timely = timely_changed c.heads.time id (after_hold c.heads.time) (λ s h. h) c.slots (rules_of c keeps).timely;
     }

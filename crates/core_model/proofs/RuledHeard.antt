@@ -6,13 +6,13 @@ use Rattle.init_words.specs.declared.levels.Level.{Level}
 use Rattle.init_words.specs.declared.stages.Stage.{Stage}
 use Rattle.init_words.specs.declared.stages.Stage.TheVariants as stage
 use Rattle.init_words.specs.Levels.{same_level}
-use Rattle.initctl_frame.specs.declared.requests.Got.{Got}
-use Rattle.initctl_frame.specs.declared.requests.Got.TheVariants as got
-use Rattle.init_trace.specs.declared.steps.Goal.{Goal}
-use Rattle.child_table.specs.State.{SlotState}
-use Rattle.child_table.specs.Changes.{after_nudge}
-use Rattle.child_table.proofs.Ordered.{order_map}
-use Rattle.child_table.proofs.Timely.{timely_map, timely_later}
+use Rattle.initctl_frame.specs.declared.requests.HeardRequest.{HeardRequest}
+use Rattle.initctl_frame.specs.declared.requests.HeardRequest.TheVariants as got
+use Rattle.trace_events.specs.declared.steps.Goal.{Goal}
+use Rattle.core_records.specs.State.{RecordState}
+use Rattle.core_records.specs.Changes.{after_begin_round}
+use Rattle.core_records.proofs.Ordered.{order_map}
+use Rattle.core_records.proofs.Timely.{timely_map, timely_later}
 use Rattle.core_model.specs.Rules.{is_started, is_other_level, is_goal_reached, IsFit}
 use Rattle.core_model.specs.State.{CoreState}
 use Rattle.core_model.specs.Steps.{after_clock, after_round, heard_in, after_got, after_not_read, after_handed, after_handed_on}
@@ -38,7 +38,7 @@ module _ (c : CoreState) (keeps : IsFit c) where
   level_heard wish (Some stage.Boot) is = goal_heard wish (ap (λ o. is_goal_reached o wish c.heads.booted) is ∙ sym (ap (λ o. is_goal_reached o c.heads.goal c.heads.booted) is))
   level_heard wish (Some (stage.Run now)) is = wish_heard now wish is (same_level wish.level now) refl
 
-  pub got_keeps : (request : Got) → IsFit (after_got request c)
+  pub got_keeps : (request : HeardRequest) → IsFit (after_got request c)
   got_keeps (got.Level level grace) = level_heard (record { level = level; grace = grace }) c.heads.stage refl
   got_keeps (got.Call letter) = kept_by (after_got (got.Call letter) c) (all_kept c keeps) (heads_kept c keeps)
   got_keeps got.Reload = kept_by (after_got got.Reload c) (all_kept c keeps) (heads_kept c keeps)
@@ -57,7 +57,7 @@ module _ (c : CoreState) (keeps : IsFit c) where
   handed_on_keeps = kept_by (after_handed_on c) (all_kept c keeps) (heads_kept c keeps)
 
   -- a reading of the clock
-  later_ruled : (later : ℕ) → c.heads.time ≤ later → (slot : SlotState) → IsRuled c.heads.stage c.table c.heads.time slot → IsRuled c.heads.stage c.table later slot
+  later_ruled : (later : ℕ) → c.heads.time ≤ later → (slot : RecordState) → IsRuled c.heads.stage c.table c.heads.time slot → IsRuled c.heads.stage c.table later slot
   later_ruled later more slot own = record { cause = own.cause; birth = own.birth; order = own.order; stop = own.stop; marks = own.marks; limiter = limiter_later c.heads.time later more slot own.limiter }
 
   pub clock_keeps : (reading : ℕ) → IsFit (after_clock reading c)
@@ -76,15 +76,15 @@ module _ (c : CoreState) (keeps : IsFit c) where
       }) (record { clock = capped; wish = (rules_of c keeps).wish; announced = (rules_of c keeps).announced; reached = (rules_of c keeps).reached })
 
   -- a round
-  round_ruled : (slot : SlotState) → IsRuled c.heads.stage c.table c.heads.time slot → IsRuled c.heads.stage c.table c.heads.time (after_nudge slot)
+  round_ruled : (slot : RecordState) → IsRuled c.heads.stage c.table c.heads.time slot → IsRuled c.heads.stage c.table c.heads.time (after_begin_round slot)
   round_ruled slot own =
       let marked = marks_parts slot own.marks in
       record {
         cause = own.cause;
         birth = own.birth;
-        order = allowed_same slot.order slot (after_nudge slot) refl refl refl own.order;
-        stop = stop_same slot.child c.heads.stage c.table slot (after_nudge slot) slot.stop refl own.stop;
-        marks = marks_from (after_nudge slot) (record { look = looked (is_some slot.child) slot.look marked.look; missed = refl; called = marked.called });
+        order = allowed_same slot.order slot (after_begin_round slot) refl refl refl own.order;
+        stop = stop_same slot.child c.heads.stage c.table slot (after_begin_round slot) slot.stop refl own.stop;
+        marks = marks_from (after_begin_round slot) (record { look = looked (is_some slot.child) slot.look marked.look; missed = refl; called = marked.called });
         limiter = own.limiter;
       }
     where
@@ -94,10 +94,10 @@ module _ (c : CoreState) (keeps : IsFit c) where
 
   pub round_keeps : IsFit (after_round c)
   round_keeps = kept_by (after_round c) (record {
-    each = each_map (IsRuled c.heads.stage c.table c.heads.time) (IsRuled c.heads.stage c.table c.heads.time) after_nudge round_ruled c.slots (all_kept c keeps).each;
-    in_order = order_map after_nudge (λ s. refl) (λ s. refl) c.table c.slots keeps.in_order;
-    distinct = distinct_map after_nudge (λ s. refl) c.slots (rules_of c keeps).distinct;
-    starts = starts_less c.heads.stage after_nudge c.table c.slots (each_always (λ s. is_started (after_nudge s) ≡ true → is_started s ≡ true) (λ s h. h) c.slots) (λ now. each_always (λ s. (e : Entry) → IsLess now e s (after_nudge s)) (λ s e. record { allowed = λ h. h; started = λ h. h; owed = λ h. h }) c.slots) (rules_of c keeps).starts;
-    free = free_less after_nudge c.slots (each_always (λ s. is_started (after_nudge s) ≡ true → is_started s ≡ true) (λ s h. h) c.slots) (each_always (λ s. is_some (after_nudge s).stop ≡ true → is_some s.stop ≡ true) (λ s h. h) c.slots) (rules_of c keeps).free;
-    timely = timely_map c.heads.time after_nudge (λ s h. h) c.slots (rules_of c keeps).timely;
+    each = each_map (IsRuled c.heads.stage c.table c.heads.time) (IsRuled c.heads.stage c.table c.heads.time) after_begin_round round_ruled c.slots (all_kept c keeps).each;
+    in_order = order_map after_begin_round (λ s. refl) (λ s. refl) c.table c.slots keeps.in_order;
+    distinct = distinct_map after_begin_round (λ s. refl) c.slots (rules_of c keeps).distinct;
+    starts = starts_less c.heads.stage after_begin_round c.table c.slots (each_always (λ s. is_started (after_begin_round s) ≡ true → is_started s ≡ true) (λ s h. h) c.slots) (λ now. each_always (λ s. (e : Entry) → IsLess now e s (after_begin_round s)) (λ s e. record { allowed = λ h. h; started = λ h. h; owed = λ h. h }) c.slots) (rules_of c keeps).starts;
+    free = free_less after_begin_round c.slots (each_always (λ s. is_started (after_begin_round s) ≡ true → is_started s ≡ true) (λ s h. h) c.slots) (each_always (λ s. is_some (after_begin_round s).stop ≡ true → is_some s.stop ≡ true) (λ s h. h) c.slots) (rules_of c keeps).free;
+    timely = timely_map c.heads.time after_begin_round (λ s h. h) c.slots (rules_of c keeps).timely;
   }) (heads_kept c keeps)

@@ -7,8 +7,8 @@ use Rattle.std.proofs.lemmas.List.Sums.{count_by-le-length}
 use Rattle.respawn_limit.specs.declared.TheConstants.{HOLD, STARTS}
 use Rattle.respawn_limit.specs.State.{LimiterState}
 use Rattle.respawn_limit.specs.Window.{may_of, is_recent, is_full, is_held, last_starts, with_start, with_hold}
-use Rattle.child_table.specs.State.{SlotState, is_limited_slot}
-use Rattle.child_table.specs.Changes.{allows}
+use Rattle.core_records.specs.State.{RecordState, is_limited_record}
+use Rattle.core_records.specs.Changes.{allows}
 use Rattle.core_model.specs.Rules.{never_fall, is_hold_of, is_limit_kept, is_unused, is_limiter_kept}
 use Rattle.core_model.proofs.Windows.{allows_by}
 
@@ -90,8 +90,8 @@ hold_later now later h limiter (Some end) kept =
     let most : end ≤ now + HOLD = leb-true end (now + HOLD) parts.1 in
     and_from (length limiter.starts == STARTS) (nat_le end (later + HOLD)) parts.0 (le-leb end (later + HOLD) (omega arith))
 
-pub limiter_later : (now later : ℕ) → now ≤ later → (slot : SlotState) → is_limiter_kept now slot ≡ true → is_limiter_kept later slot ≡ true
-limiter_later now later h slot kept = at (is_limited_slot slot) kept
+pub limiter_later : (now later : ℕ) → now ≤ later → (slot : RecordState) → is_limiter_kept now slot ≡ true → is_limiter_kept later slot ≡ true
+limiter_later now later h slot kept = at (is_limited_record slot) kept
   where
     at : (b : Bool) → cond b (is_limit_kept now slot.limiter) (is_unused slot.limiter) ≡ true → cond b (is_limit_kept later slot.limiter) (is_unused slot.limiter) ≡ true
     at true kept =

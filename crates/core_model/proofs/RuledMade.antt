@@ -7,19 +7,19 @@ use Rattle.init_words.specs.declared.entries.Entry.{Entry}
 use Rattle.init_words.specs.declared.stages.Stage.{Stage}
 use Rattle.init_words.specs.Ids.{same_id}
 use Rattle.inittab_text.specs.Tables.{has_id, entry_of, act_of, is_distinct}
-use Rattle.child_table.specs.State.{SlotState, new_slot}
-use Rattle.child_table.specs.Adopting.{adopted, left_over, is_left_over, entry_slots, left_slots}
-use Rattle.child_table.specs.Adopting as adopting
-use Rattle.child_table.specs.Changes.{after_call, after_enter}
-use Rattle.child_table.specs.Judging.{after_judge}
-use Rattle.child_table.specs.Lists.{are_distinct, slot_of, is_busy, is_quiet}
-use Rattle.child_table.specs.Order.{IsInOrder}
-use Rattle.child_table.specs.Times.{is_timely, are_timely}
-use Rattle.child_table.proofs.Adopted.{adopt_distinct, timely_adopt}
-use Rattle.child_table.proofs.Changed.{id-after_judge, timely_judge, timely_enter}
-use Rattle.child_table.proofs.Found.{is_listed}
-use Rattle.child_table.proofs.Ordered.{order_map, order_adopt, order_new, act-after_judge}
-use Rattle.child_table.proofs.Timely.{timely_map}
+use Rattle.core_records.specs.State.{RecordState, new_record}
+use Rattle.core_records.specs.Adopting.{adopted, left_over, is_left_over, entry_records, left_records}
+use Rattle.core_records.specs.Adopting as adopting
+use Rattle.core_records.specs.Changes.{after_call, after_enter}
+use Rattle.core_records.specs.Judging.{after_judge}
+use Rattle.core_records.specs.Lists.{are_distinct, record_by_id, is_busy, is_quiet}
+use Rattle.core_records.specs.Order.{IsInOrder}
+use Rattle.core_records.specs.Times.{is_timely, are_timely}
+use Rattle.core_records.proofs.Adopted.{adopt_distinct, timely_adopt}
+use Rattle.core_records.proofs.Changed.{id-after_judge, timely_judge, timely_enter}
+use Rattle.core_records.proofs.Found.{is_listed}
+use Rattle.core_records.proofs.Ordered.{order_map, order_adopt, order_new, act-after_judge}
+use Rattle.core_records.proofs.Timely.{timely_map}
 use Rattle.core_model.specs.Rules.{is_callable, IsFit}
 use Rattle.core_model.specs.State.{CoreState}
 use Rattle.core_model.specs.Steps.{called_if, with_called, judged_in}
@@ -32,24 +32,24 @@ use Rattle.core_model.proofs.RuledRecord.{IsRuled, stop_same, marks_parts, marks
 use Rattle.core_model.proofs.RuledReady.{IsReady, IsCalm, judged_ruled, ready_enter, ready_new, ready_adopted, ready_left, dawn_stop, dawn_ruled}
 
 -- the records of a table, by what holds of those before
-entries_each : (Q : SlotState → Type 0) (slots : List SlotState) → ((e : Entry) → Q (adopted e (slot_of e.id slots))) → (table : List Entry) → Each Q (entry_slots table slots)
+entries_each : (Q : RecordState → Type 0) (slots : List RecordState) → ((e : Entry) → Q (adopted e (record_by_id e.id slots))) → (table : List Entry) → Each Q (entry_records table slots)
 entries_each Q slots keeps [] = tt
 entries_each Q slots keeps (e ∷ table) = (keeps e, entries_each Q slots keeps table)
 
-adopted_each : (P Q : SlotState → Type 0) (table : List Entry) (slots : List SlotState) → ((e : Entry) → Q (new_slot e)) → ((e : Entry) (slot : SlotState) → P slot → Q (adopted e (Some slot))) → ((slot : SlotState) → is_left_over table slot ≡ true → P slot → Q (left_over slot)) → Each P slots → Each Q (adopting.after_adopt table slots)
-adopted_each P Q table slots new kept left each = each_joined Q (entry_slots table slots) (left_slots table slots) (entries_each Q slots (λ e. at e (slot_of e.id slots) refl) table)
+adopted_each : (P Q : RecordState → Type 0) (table : List Entry) (slots : List RecordState) → ((e : Entry) → Q (new_record e)) → ((e : Entry) (slot : RecordState) → P slot → Q (adopted e (Some slot))) → ((slot : RecordState) → is_left_over table slot ≡ true → P slot → Q (left_over slot)) → Each P slots → Each Q (adopting.after_adopt table slots)
+adopted_each P Q table slots new kept left each = each_joined Q (entry_records table slots) (left_records table slots) (entries_each Q slots (λ e. at e (record_by_id e.id slots) refl) table)
     (each_map (λ s. P s × (is_left_over table s ≡ true)) Q left_over (λ s both. left s both.1 both.0) (filter (is_left_over table) slots) (each_filter P (λ s. P s × (is_left_over table s ≡ true)) (is_left_over table) (λ s is own. (own, is)) slots each))
   where
-    at : (e : Entry) (o : Option SlotState) → slot_of e.id slots ≡ o → Q (adopted e o)
+    at : (e : Entry) (o : Option RecordState) → record_by_id e.id slots ≡ o → Q (adopted e o)
     at e None is = new e
     at e (Some slot) is = kept e slot (each_found P e.id slots slot is each)
 
 -- records that keep the rules, with no start and no signal open, keep those on starts
-quiet_each : (slots : List SlotState) → Each (λ s. is_busy s.order ≡ false) slots → is_quiet slots ≡ true
+quiet_each : (slots : List RecordState) → Each (λ s. is_busy s.order ≡ false) slots → is_quiet slots ≡ true
 quiet_each [] each = refl
-quiet_each (slot ∷ slots) each = ap (λ b. not (b || list_any (λ (s : SlotState). is_busy s.order) slots)) each.0 ∙ quiet_each slots each.1
+quiet_each (slot ∷ slots) each = ap (λ b. not (b || list_any (λ (s : RecordState). is_busy s.order) slots)) each.0 ∙ quiet_each slots each.1
 
-quiet_ruled : (stage : Option Stage) (table : List Entry) (now : ℕ) (slots : List SlotState) → Each (IsCalm stage table now) slots → IsInOrder table slots → are_distinct slots ≡ true → are_timely now slots ≡ true → AreRuled stage table now slots
+quiet_ruled : (stage : Option Stage) (table : List Entry) (now : ℕ) (slots : List RecordState) → Each (IsCalm stage table now) slots → IsInOrder table slots → are_distinct slots ≡ true → are_timely now slots ≡ true → AreRuled stage table now slots
 quiet_ruled stage table now slots each order distinct timely =
     let quiet : is_quiet slots ≡ true = quiet_each slots (each_less (IsCalm stage table now) (λ s. is_busy s.order ≡ false) (λ s calm. calm.1) slots each) in
     record {
@@ -61,33 +61,33 @@ quiet_ruled stage table now slots each order distinct timely =
       timely = timely;
     }
 
-pub opening_ruled : (table : List Entry) → is_distinct table ≡ true → AreRuled None table 0 (map new_slot table)
-opening_ruled table distinct = quiet_ruled None table 0 (map new_slot table) (each table) (order_new table) (apart table distinct) (timely table)
+pub opening_ruled : (table : List Entry) → is_distinct table ≡ true → AreRuled None table 0 (map new_record table)
+opening_ruled table distinct = quiet_ruled None table 0 (map new_record table) (each table) (order_new table) (apart table distinct) (timely table)
   where
-    each : (es : List Entry) → Each (IsCalm None table 0) (map new_slot es)
+    each : (es : List Entry) → Each (IsCalm None table 0) (map new_record es)
     each [] = tt
-    each (e ∷ es) = (dawn_ruled table 0 (new_slot e) (ready_new 0 e) refl, each es)
+    each (e ∷ es) = (dawn_ruled table 0 (new_record e) (ready_new 0 e) refl, each es)
 
-    listed : (id : List ℕ) (es : List Entry) → is_listed id (map new_slot es) ≡ list_any (has_id id) es
+    listed : (id : List ℕ) (es : List Entry) → is_listed id (map new_record es) ≡ list_any (has_id id) es
     listed id [] = refl
     listed id (e ∷ es) = ap (λ b. same_id id e.id || b) (listed id es)
 
-    apart : (es : List Entry) → is_distinct es ≡ true → are_distinct (map new_slot es) ≡ true
+    apart : (es : List Entry) → is_distinct es ≡ true → are_distinct (map new_record es) ≡ true
     apart [] h = refl
     apart (e ∷ es) h =
         let parts = and_parts (not (list_any (has_id e.id) es)) (is_distinct es) h in
-        and_from (not (is_listed e.id (map new_slot es))) (are_distinct (map new_slot es)) (ap not (listed e.id es) ∙ parts.0) (apart es parts.1)
+        and_from (not (is_listed e.id (map new_record es))) (are_distinct (map new_record es)) (ap not (listed e.id es) ∙ parts.0) (apart es parts.1)
 
-    timely : (es : List Entry) → are_timely 0 (map new_slot es) ≡ true
+    timely : (es : List Entry) → are_timely 0 (map new_record es) ≡ true
     timely [] = refl
     timely (e ∷ es) = timely es
 
 -- a call leaves each record its id and its action
-pub called_id : (b : Bool) (slot : SlotState) → (called_if b slot).id ≡ slot.id
+pub called_id : (b : Bool) (slot : RecordState) → (called_if b slot).id ≡ slot.id
 called_id true slot = refl
 called_id false slot = refl
 
-pub called_act : (b : Bool) (slot : SlotState) → (called_if b slot).table_act ≡ slot.table_act
+pub called_act : (b : Bool) (slot : RecordState) → (called_if b slot).table_act ≡ slot.table_act
 called_act true slot = refl
 called_act false slot = refl
 
@@ -115,7 +115,7 @@ module _ (c : CoreState) (keeps : IsFit c) (quiet : is_quiet c.slots ≡ true) w
 
     adopted_dawn : c.heads.stage ≡ None → Each (IsCalm None table c.heads.time) (adopting.after_adopt table c.slots)
     adopted_dawn is = adopted_each (IsCalm None c.table c.heads.time) (IsCalm None table c.heads.time) table c.slots
-        (λ e. dawn_ruled table c.heads.time (new_slot e) (ready_new c.heads.time e) refl)
+        (λ e. dawn_ruled table c.heads.time (new_record e) (ready_new c.heads.time e) refl)
         (λ e s calm. dawn_ruled table c.heads.time (adopted e (Some s)) (ready_adopted None c.table c.heads.time e s calm) (dawn_stop s.child c.table table s (adopted e (Some s)) s.stop calm.0.stop))
         (λ s left calm. dawn_ruled table c.heads.time (left_over s) (ready_left None c.table table c.heads.time s left calm) (dawn_stop s.child c.table table s (left_over s) s.stop calm.0.stop))
         (subst (λ stage. Each (IsCalm stage c.table c.heads.time) c.slots) is calm_each)
@@ -133,17 +133,17 @@ module _ (c : CoreState) (keeps : IsFit c) (quiet : is_quiet c.slots ≡ true) w
 
   -- entries that may be called are called
   module _ (named : Entry → Bool) (callable : (e : Entry) → named e ≡ true → is_callable (Some e.act) ≡ true) where
-    abbrev call : SlotState → SlotState
+    abbrev call : RecordState → RecordState
     call slot = called_if (list_any (λ e. has_id slot.id e && named e) c.table) slot
 
-    named_callable : (slot : SlotState) → slot.table_act ≡ act_of slot.id c.table → list_any (λ e. has_id slot.id e && named e) c.table ≡ true → is_callable slot.table_act ≡ true
+    named_callable : (slot : RecordState) → slot.table_act ≡ act_of slot.id c.table → list_any (λ e. has_id slot.id e && named e) c.table ≡ true → is_callable slot.table_act ≡ true
     named_callable slot own h = ap is_callable own ∙ at (entry_of slot.id c.table) (sym (named_own named slot.id c.table (table_distinct c.table c.slots keeps.in_order (rules_of c keeps).distinct)) ∙ h)
       where
         at : (o : Option Entry) → option_map_or named o false ≡ true → is_callable (option_map (λ (e : Entry). e.act) o) ≡ true
         at None h = absurd (false≢true h)
         at (Some e) h = callable e h
 
-    call_ruled : (b : Bool) (slot : SlotState) → (b ≡ true → is_callable slot.table_act ≡ true) → IsCalm c.heads.stage c.table c.heads.time slot → IsCalm c.heads.stage c.table c.heads.time (called_if b slot)
+    call_ruled : (b : Bool) (slot : RecordState) → (b ≡ true → is_callable slot.table_act ≡ true) → IsCalm c.heads.stage c.table c.heads.time slot → IsCalm c.heads.stage c.table c.heads.time (called_if b slot)
     call_ruled true slot may calm =
         let marked = marks_parts slot calm.0.marks in (
           record {
@@ -158,7 +158,7 @@ module _ (c : CoreState) (keeps : IsFit c) (quiet : is_quiet c.slots ≡ true) w
         )
     call_ruled false slot may calm = calm
 
-    called_timely : (b : Bool) (slot : SlotState) → is_timely c.heads.time slot ≡ true → is_timely c.heads.time (called_if b slot) ≡ true
+    called_timely : (b : Bool) (slot : RecordState) → is_timely c.heads.time slot ≡ true → is_timely c.heads.time (called_if b slot) ≡ true
     called_timely true slot h = h
     called_timely false slot h = h
 

@@ -7,20 +7,20 @@ use Rattle.init_words.specs.declared.entries.Entry.{Entry}
 use Rattle.init_words.specs.declared.stages.Stage.{Stage}
 use Rattle.init_words.specs.Actions.{is_limited}
 use Rattle.inittab_text.specs.Tables.{entry_of}
-use Rattle.child_table.specs.declared.children.KnownChild.{KnownChild}
-use Rattle.child_table.specs.declared.children.Stop.{Stop}
-use Rattle.child_table.specs.declared.children.Stop.TheVariants.{Due}
-use Rattle.child_table.specs.State.{SlotState, new_slot, is_limited_slot}
-use Rattle.child_table.specs.Adopting.{adopted, left_over, is_left_over}
-use Rattle.child_table.specs.Changes.{after_enter}
-use Rattle.child_table.specs.Judging.{is_excluded, judged, judged_child, after_judge}
-use Rattle.child_table.specs.Lists.{is_busy}
-use Rattle.child_table.proofs.Changed.{order-after_judge}
+use Rattle.core_records.specs.declared.children.KnownChild.{KnownChild}
+use Rattle.core_records.specs.declared.children.Stop.{Stop}
+use Rattle.core_records.specs.declared.children.Stop.TheVariants.{Due}
+use Rattle.core_records.specs.State.{RecordState, new_record, is_limited_record}
+use Rattle.core_records.specs.Adopting.{adopted, left_over, is_left_over}
+use Rattle.core_records.specs.Changes.{after_enter}
+use Rattle.core_records.specs.Judging.{is_excluded, judged, judged_child, after_judge}
+use Rattle.core_records.specs.Lists.{is_busy}
+use Rattle.core_records.proofs.Changed.{order-after_judge}
 use Rattle.core_model.specs.Rules.{has_cause, is_birth_known, is_order_allowed, is_child_excluded, is_stop_judged, may_be_signalled, is_limit_kept, is_unused, is_limiter_kept}
 use Rattle.core_model.proofs.RuledRecord.{IsRuled, IsMarked, marks_parts, marks_from, calm_order, stop_childless}
 
 -- a record at a quiet point that can be judged by a stage
-pub record IsReady (now : ℕ) (slot : SlotState) : Type 0 where
+pub record IsReady (now : ℕ) (slot : RecordState) : Type 0 where
   pub cause : has_cause slot ≡ true
   pub birth : is_birth_known slot.child ≡ true
   pub calm : is_busy slot.order ≡ false
@@ -29,10 +29,10 @@ pub record IsReady (now : ℕ) (slot : SlotState) : Type 0 where
   pub marks : IsMarked slot
   pub limiter : is_limiter_kept now slot ≡ true
 
-abbrev pub IsCalm : Option Stage → List Entry → ℕ → SlotState → Type 0
+abbrev pub IsCalm : Option Stage → List Entry → ℕ → RecordState → Type 0
 IsCalm stage table now slot = IsRuled stage table now slot × (is_busy slot.order ≡ false)
 
-pub judged_ruled : (stage : Stage) (table : List Entry) (now : ℕ) (slot : SlotState) → IsReady now slot → IsCalm (Some stage) table now (after_judge table stage slot)
+pub judged_ruled : (stage : Stage) (table : List Entry) (now : ℕ) (slot : RecordState) → IsReady now slot → IsCalm (Some stage) table now (after_judge table stage slot)
 judged_ruled stage table now slot ready = (by_child slot.child refl, ap is_busy (order-after_judge table stage slot) ∙ ready.calm)
   where
     begun : (stop : Option Stop) → is_some (option_or stop (Some Due)) ≡ true
@@ -79,7 +79,7 @@ fresh_limiter now true = refl
 fresh_limiter now false = refl
 
 -- the records of a quiet point, ready for a stage: as they are, of a table's entry, and left over
-pub ready_enter : (stage : Option Stage) (table : List Entry) (now : ℕ) (slot : SlotState) → IsCalm stage table now slot → IsReady now (after_enter slot)
+pub ready_enter : (stage : Option Stage) (table : List Entry) (now : ℕ) (slot : RecordState) → IsCalm stage table now slot → IsReady now (after_enter slot)
 ready_enter stage table now slot calm =
     let marked = marks_parts slot calm.0.marks in
     record {
@@ -89,10 +89,10 @@ ready_enter stage table now slot calm =
       order = calm_order slot.order slot (after_enter slot) calm.1 refl calm.0.order;
       childless = stop_childless stage table slot calm.0.stop;
       marks = record { look = marked.look; missed = marked.missed; called = refl };
-      limiter = fresh_limiter now (is_limited_slot slot);
+      limiter = fresh_limiter now (is_limited_record slot);
     }
 
-pub ready_new : (now : ℕ) (e : Entry) → IsReady now (new_slot e)
+pub ready_new : (now : ℕ) (e : Entry) → IsReady now (new_record e)
 ready_new now e = record {
   cause = refl;
   birth = refl;
@@ -103,7 +103,7 @@ ready_new now e = record {
   limiter = fresh_limiter now (is_limited e.act);
 }
 
-pub ready_adopted : (stage : Option Stage) (table : List Entry) (now : ℕ) (e : Entry) (slot : SlotState) → IsCalm stage table now slot → IsReady now (adopted e (Some slot))
+pub ready_adopted : (stage : Option Stage) (table : List Entry) (now : ℕ) (e : Entry) (slot : RecordState) → IsCalm stage table now slot → IsReady now (adopted e (Some slot))
 ready_adopted stage table now e slot calm =
     let marked = marks_parts slot calm.0.marks in
     record {
@@ -116,7 +116,7 @@ ready_adopted stage table now e slot calm =
       limiter = fresh_limiter now (is_limited e.act);
     }
 
-pub ready_left : (stage : Option Stage) (table next : List Entry) (now : ℕ) (slot : SlotState) → is_left_over next slot ≡ true → IsCalm stage table now slot → IsReady now (left_over slot)
+pub ready_left : (stage : Option Stage) (table next : List Entry) (now : ℕ) (slot : RecordState) → is_left_over next slot ≡ true → IsCalm stage table now slot → IsReady now (left_over slot)
 ready_left stage table next now slot left calm =
     let marked = marks_parts slot calm.0.marks in
     record {
@@ -130,9 +130,9 @@ ready_left stage table next now slot left calm =
     }
 
 -- before the first stage each child stays excluded
-pub dawn_stop : (o : Option KnownChild) (table next : List Entry) (before after : SlotState) (stop : Option Stop) → cond (is_child_excluded None table before o) (is_some stop) (is_none stop) ≡ true → cond (is_child_excluded None next after o) (is_some stop) (is_none stop) ≡ true
+pub dawn_stop : (o : Option KnownChild) (table next : List Entry) (before after : RecordState) (stop : Option Stop) → cond (is_child_excluded None table before o) (is_some stop) (is_none stop) ≡ true → cond (is_child_excluded None next after o) (is_some stop) (is_none stop) ≡ true
 dawn_stop None table next before after stop h = h
 dawn_stop (Some child) table next before after stop h = h
 
-pub dawn_ruled : (table : List Entry) (now : ℕ) (slot : SlotState) → IsReady now slot → is_stop_judged None table slot ≡ true → IsCalm None table now slot
+pub dawn_ruled : (table : List Entry) (now : ℕ) (slot : RecordState) → IsReady now slot → is_stop_judged None table slot ≡ true → IsCalm None table now slot
 dawn_ruled table now slot ready stop = (record { cause = ready.cause; birth = ready.birth; order = ready.order; stop = stop; marks = marks_from slot ready.marks; limiter = ready.limiter }, ready.calm)

@@ -3,8 +3,8 @@ use Rattle.std.proofs.Common.{◌≡◌, refl, sym, ap, ◌∙◌, subst, Bool, 
 use Rattle.std.specs.List.{list_any}
 use Rattle.std.proofs.lemmas.Bool.{false≢true, not-true, not_from_false, or_left}
 use Rattle.init_words.specs.declared.entries.Entry.{Entry}
-use Rattle.init_words.specs.declared.orders.Ask.{Ask}
-use Rattle.init_words.specs.declared.orders.Ask.TheVariants.{Start}
+use Rattle.init_words.specs.declared.orders.OrderKind.{OrderKind}
+use Rattle.init_words.specs.declared.orders.OrderKind.TheVariants.{Start}
 use Rattle.init_words.specs.declared.orders.Answer.{Answer}
 use Rattle.init_words.specs.declared.orders.Answer.TheVariants.{Born, NotBorn, Ended, Alive, NoLook, Hit, Miss}
 use Rattle.init_words.specs.declared.refusals.Refusal.{Refusal}
@@ -12,15 +12,15 @@ use Rattle.init_words.specs.declared.refusals.Refusal.TheVariants.{WrongAnswer}
 use Rattle.init_words.specs.declared.stages.Stage.{Stage}
 use Rattle.init_words.specs.Orders.{answers}
 use Rattle.init_words.proofs.Tests.{any_filtered, falsely}
-use Rattle.init_trace.specs.Wanted.{is_order}
-use Rattle.child_table.specs.State.{SlotState}
-use Rattle.child_table.specs.Changes.{after_answer, is_over}
-use Rattle.child_table.specs.Lists.{is_slot_of, slot_of, order_of, order_in, changed, with_changed, without, refusal_of, is_over_of, after_told}
-use Rattle.child_table.specs.Order.{IsInOrder}
-use Rattle.child_table.specs.Times.{are_timely}
-use Rattle.child_table.proofs.Changed.{id-after_answer}
-use Rattle.child_table.proofs.Ordered.{kept_by_one, over_none, order_told}
-use Rattle.child_table.proofs.Timely.{timely_told}
+use Rattle.trace_events.specs.Wanted.{is_order}
+use Rattle.core_records.specs.State.{RecordState}
+use Rattle.core_records.specs.Changes.{after_answer, is_over}
+use Rattle.core_records.specs.Lists.{is_record_of, record_by_id, order_of, order_in, changed, with_changed, without, refusal_of, is_over_of, after_told}
+use Rattle.core_records.specs.Order.{IsInOrder}
+use Rattle.core_records.specs.Times.{are_timely}
+use Rattle.core_records.proofs.Changed.{id-after_answer}
+use Rattle.core_records.proofs.Ordered.{kept_by_one, over_none, order_told}
+use Rattle.core_records.proofs.Timely.{timely_told}
 use Rattle.core_model.specs.Rules.{is_started, are_starts_along, are_starts_in, IsFit}
 use Rattle.core_model.specs.State.{CoreState}
 use Rattle.core_model.proofs.Kept.{rules_of}
@@ -31,7 +31,7 @@ use Rattle.core_model.proofs.RuledStarts.{IsLess, less_same, less_busy, starts_l
 use Rattle.core_model.proofs.RuledRecord.{IsRuled}
 use Rattle.core_model.proofs.RuledAnswer.{is_answered, told_ruled, was_busy, begins_none}
 
-order_over : (answer : Answer) (now : ℕ) (slot : SlotState) → (after_answer answer now slot).order ≡ None
+order_over : (answer : Answer) (now : ℕ) (slot : RecordState) → (after_answer answer now slot).order ≡ None
 order_over (Born n) now slot = refl
 order_over NotBorn now slot = refl
 order_over (Ended status) now slot = refl
@@ -41,21 +41,21 @@ order_over Hit now slot = refl
 order_over Miss now slot = refl
 
 -- a record that is found passes
-pub found_with : (id : List ℕ) (p : SlotState → Bool) (slots : List SlotState) (slot : SlotState) → slot_of id slots ≡ Some slot → p slot ≡ true → has_with id p slots ≡ true
+pub found_with : (id : List ℕ) (p : RecordState → Bool) (slots : List RecordState) (slot : RecordState) → record_by_id id slots ≡ Some slot → p slot ≡ true → has_with id p slots ≡ true
 found_with id p [] slot is h = absurd (cc)
-found_with id p (first ∷ slots) slot is h = at (is_slot_of id first) is (found_with id p slots slot)
+found_with id p (first ∷ slots) slot is h = at (is_record_of id first) is (found_with id p slots slot)
   where
-    at : (b : Bool) → cond b (Some first) (slot_of id slots) ≡ Some slot → (slot_of id slots ≡ Some slot → p slot ≡ true → has_with id p slots ≡ true) → (b && p first || has_with id p slots) ≡ true
+    at : (b : Bool) → cond b (Some first) (record_by_id id slots) ≡ Some slot → (record_by_id id slots ≡ Some slot → p slot ≡ true → has_with id p slots ≡ true) → (b && p first || has_with id p slots) ≡ true
     at true is later = let same : first ≡ slot = cc in or_left (p first) (has_with id p slots) (ap p same ∙ h)
     at false is later = later is h
 
 -- the pairs with a table's entries stay where records of no entry go
-zip_without : (id : List ℕ) (table : List Entry) (slots : List SlotState) → IsInOrder table slots → Each (λ s. is_slot_of id s ≡ true → is_none s.table_act ≡ true) slots → zip table (without id slots) ≡ zip table slots
+zip_without : (id : List ℕ) (table : List Entry) (slots : List RecordState) → IsInOrder table slots → Each (λ s. is_record_of id s ≡ true → is_none s.table_act ≡ true) slots → zip table (without id slots) ≡ zip table slots
 zip_without id [] slots order none = refl
 zip_without id (e ∷ table) [] order none = absurd order
-zip_without id (e ∷ table) (slot ∷ slots) order none = at (is_slot_of id slot) refl (zip_without id table slots order.2 none.1)
+zip_without id (e ∷ table) (slot ∷ slots) order none = at (is_record_of id slot) refl (zip_without id table slots order.2 none.1)
   where
-    at : (b : Bool) → is_slot_of id slot ≡ b → zip table (without id slots) ≡ zip table slots → zip (e ∷ table) (cond (not b) (slot ∷ without id slots) (without id slots)) ≡ (e, slot) ∷ zip table slots
+    at : (b : Bool) → is_record_of id slot ≡ b → zip table (without id slots) ≡ zip table slots → zip (e ∷ table) (cond (not b) (slot ∷ without id slots) (without id slots)) ≡ (e, slot) ∷ zip table slots
     at true is rest = absurd (false≢true (ap is_none (sym order.1) ∙ none.0 is))
     at false is rest = ap (λ ps. (e, slot) ∷ ps) rest
 
@@ -67,39 +67,39 @@ accepted true is = refl
 accepted false is = absurd (cc)
 
 module _ (c : CoreState) (keeps : IsFit c) (id : List ℕ) (answer : Answer) where
-  abbrev next : SlotState → SlotState
+  abbrev next : RecordState → RecordState
   next slot = changed id (after_answer answer c.heads.time) slot
 
-  abbrev IsAnswered : SlotState → Type 0
-  IsAnswered slot = IsPlaced c.heads.stage c.table c.heads.time slot × (is_slot_of id slot ≡ true → is_answered answer slot.order ≡ true)
+  abbrev IsAnswered : RecordState → Type 0
+  IsAnswered slot = IsPlaced c.heads.stage c.table c.heads.time slot × (is_record_of id slot ≡ true → is_answered answer slot.order ≡ true)
 
-  module _ (found : SlotState) (there : slot_of id c.slots ≡ Some found) (answered : is_answered answer found.order ≡ true) where
+  module _ (found : RecordState) (there : record_by_id id c.slots ≡ Some found) (answered : is_answered answer found.order ≡ true) where
     each_answered : Each IsAnswered c.slots
-    each_answered = each_both (IsPlaced c.heads.stage c.table c.heads.time) (λ s. is_slot_of id s ≡ true → is_answered answer s.order ≡ true) c.slots (each_placed c keeps) (each_own id (λ s. is_answered answer s.order) c.slots (rules_of c keeps).distinct (found_with id (λ s. is_answered answer s.order) c.slots found there answered))
+    each_answered = each_both (IsPlaced c.heads.stage c.table c.heads.time) (λ s. is_record_of id s ≡ true → is_answered answer s.order ≡ true) c.slots (each_placed c keeps) (each_own id (λ s. is_answered answer s.order) c.slots (rules_of c keeps).distinct (found_with id (λ s. is_answered answer s.order) c.slots found there answered))
 
     -- the record stays, without its order
-    started_less : (slot : SlotState) (b : Bool) → is_started (cond b (after_answer answer c.heads.time slot) slot) ≡ true → is_started slot ≡ true
+    started_less : (slot : RecordState) (b : Bool) → is_started (cond b (after_answer answer c.heads.time slot) slot) ≡ true → is_started slot ≡ true
     started_less slot true h = absurd (false≢true (sym (ap (is_order Start) (order_over answer c.heads.time slot)) ∙ h))
     started_less slot false h = h
 
-    stop_less : (slot : SlotState) → IsAnswered slot → (b : Bool) → is_some (cond b (after_answer answer c.heads.time slot) slot).stop ≡ true → is_some slot.stop ≡ true
+    stop_less : (slot : RecordState) → IsAnswered slot → (b : Bool) → is_some (cond b (after_answer answer c.heads.time slot) slot).stop ≡ true → is_some slot.stop ≡ true
     stop_less slot own true h = begins_none c.heads.stage c.table c.heads.time slot own.0 answer h
     stop_less slot own false h = h
 
-    next_less : (slot : SlotState) → IsAnswered slot → (now : Stage) (e : Entry) (b : Bool) → is_slot_of id slot ≡ b → IsLess now e slot (cond b (after_answer answer c.heads.time slot) slot)
+    next_less : (slot : RecordState) → IsAnswered slot → (now : Stage) (e : Entry) (b : Bool) → is_record_of id slot ≡ b → IsLess now e slot (cond b (after_answer answer c.heads.time slot) slot)
     next_less slot own now e true is = less_busy now e slot (after_answer answer c.heads.time slot) (was_busy c.heads.stage c.table c.heads.time slot own.0 answer slot.order refl (own.1 is)) (ap (is_order Start) (order_over answer c.heads.time slot))
     next_less slot own now e false is = less_same now e slot
 
     stays_ruled : is_over answer found ≡ false → AreRuled c.heads.stage c.table c.heads.time (with_changed id (after_answer answer c.heads.time) c.slots)
     stays_ruled stays = record {
-      each = each_changed (λ s. IsAnswered s × (is_slot_of id s ≡ true → not (is_over answer s) ≡ true)) (IsRuled c.heads.stage c.table c.heads.time) id (after_answer answer c.heads.time)
+      each = each_changed (λ s. IsAnswered s × (is_record_of id s ≡ true → not (is_over answer s) ≡ true)) (IsRuled c.heads.stage c.table c.heads.time) id (after_answer answer c.heads.time)
           (λ s own. own.0.0.rules)
           (λ s is own. told_ruled c.heads.stage c.table c.heads.time s own.0.0 answer (own.0.1 is) (not-true (is_over answer s) (own.1 is))) c.slots
-          (each_both IsAnswered (λ s. is_slot_of id s ≡ true → not (is_over answer s) ≡ true) c.slots each_answered (each_own id (λ s. not (is_over answer s)) c.slots (rules_of c keeps).distinct (found_with id (λ s. not (is_over answer s)) c.slots found there (ap not stays))));
+          (each_both IsAnswered (λ s. is_record_of id s ≡ true → not (is_over answer s) ≡ true) c.slots each_answered (each_own id (λ s. not (is_over answer s)) c.slots (rules_of c keeps).distinct (found_with id (λ s. not (is_over answer s)) c.slots found there (ap not stays))));
       in_order = subst (IsInOrder c.table) here (order_told id answer c.heads.time c.table c.slots keeps.in_order);
       distinct = distinct_map next (kept_by_one (λ s. s.id) id (after_answer answer c.heads.time) (λ s. id-after_answer answer c.heads.time s)) c.slots (rules_of c keeps).distinct;
-      starts = starts_less c.heads.stage next c.table c.slots (each_less IsAnswered (λ s. is_started (next s) ≡ true → is_started s ≡ true) (λ s own. started_less s (is_slot_of id s)) c.slots each_answered) (λ now. each_less IsAnswered (λ s. (e : Entry) → IsLess now e s (next s)) (λ s own e. next_less s own now e (is_slot_of id s) refl) c.slots each_answered) (rules_of c keeps).starts;
-      free = free_less next c.slots (each_less IsAnswered (λ s. is_started (next s) ≡ true → is_started s ≡ true) (λ s own. started_less s (is_slot_of id s)) c.slots each_answered) (each_less IsAnswered (λ s. is_some (next s).stop ≡ true → is_some s.stop ≡ true) (λ s own. stop_less s own (is_slot_of id s)) c.slots each_answered) (rules_of c keeps).free;
+      starts = starts_less c.heads.stage next c.table c.slots (each_less IsAnswered (λ s. is_started (next s) ≡ true → is_started s ≡ true) (λ s own. started_less s (is_record_of id s)) c.slots each_answered) (λ now. each_less IsAnswered (λ s. (e : Entry) → IsLess now e s (next s)) (λ s own e. next_less s own now e (is_record_of id s) refl) c.slots each_answered) (rules_of c keeps).starts;
+      free = free_less next c.slots (each_less IsAnswered (λ s. is_started (next s) ≡ true → is_started s ≡ true) (λ s own. started_less s (is_record_of id s)) c.slots each_answered) (each_less IsAnswered (λ s. is_some (next s).stop ≡ true → is_some s.stop ≡ true) (λ s own. stop_less s own (is_record_of id s)) c.slots each_answered) (rules_of c keeps).free;
       timely = subst (λ slots. are_timely c.heads.time slots ≡ true) here (timely_told id answer c.heads.time c.heads.time (omega arith) c.slots (rules_of c keeps).timely);
     } where
       here : after_told id answer c.heads.time c.slots ≡ with_changed id (after_answer answer c.heads.time) c.slots
@@ -107,16 +107,16 @@ module _ (c : CoreState) (keeps : IsFit c) (id : List ℕ) (answer : Answer) whe
 
     -- the record of a child that ended goes
     starts_without : is_over answer found ≡ true → (stage : Option Stage) → are_starts_in stage c.table c.slots ≡ true → are_starts_in stage c.table (without id c.slots) ≡ true
-    starts_without over None none = not_from_false (list_any is_started (without id c.slots)) (falsely (list_any is_started (without id c.slots)) (list_any is_started c.slots) (any_filtered is_started (λ s. not (is_slot_of id s)) c.slots) (not-true (list_any is_started c.slots) none))
+    starts_without over None none = not_from_false (list_any is_started (without id c.slots)) (falsely (list_any is_started (without id c.slots)) (list_any is_started c.slots) (any_filtered is_started (λ s. not (is_record_of id s)) c.slots) (not-true (list_any is_started c.slots) none))
     starts_without over (Some now) along = ap (are_starts_along now) (zip_without id c.table c.slots keeps.in_order (each_own id (λ s. is_none s.table_act) c.slots (rules_of c keeps).distinct (found_with id (λ s. is_none s.table_act) c.slots found there (over_none answer found over)))) ∙ along
 
     goes_ruled : is_over answer found ≡ true → AreRuled c.heads.stage c.table c.heads.time (without id c.slots)
     goes_ruled over = record {
-      each = each_filter (IsPlaced c.heads.stage c.table c.heads.time) (IsRuled c.heads.stage c.table c.heads.time) (λ s. not (is_slot_of id s)) (λ s other own. own.rules) c.slots (each_placed c keeps);
+      each = each_filter (IsPlaced c.heads.stage c.table c.heads.time) (IsRuled c.heads.stage c.table c.heads.time) (λ s. not (is_record_of id s)) (λ s other own. own.rules) c.slots (each_placed c keeps);
       in_order = subst (IsInOrder c.table) here (order_told id answer c.heads.time c.table c.slots keeps.in_order);
-      distinct = distinct_filter (λ s. not (is_slot_of id s)) c.slots (rules_of c keeps).distinct;
+      distinct = distinct_filter (λ s. not (is_record_of id s)) c.slots (rules_of c keeps).distinct;
       starts = starts_without over c.heads.stage (rules_of c keeps).starts;
-      free = free_filter (λ s. not (is_slot_of id s)) c.slots (rules_of c keeps).free;
+      free = free_filter (λ s. not (is_record_of id s)) c.slots (rules_of c keeps).free;
       timely = subst (λ slots. are_timely c.heads.time slots ≡ true) here (timely_told id answer c.heads.time c.heads.time (omega arith) c.slots (rules_of c keeps).timely);
     } where
       here : after_told id answer c.heads.time c.slots ≡ without id c.slots
@@ -130,13 +130,13 @@ module _ (c : CoreState) (keeps : IsFit c) (id : List ℕ) (answer : Answer) whe
         at false stays = stays_ruled stays
 
   -- an answer that is not refused has its record
-  taken : (o : Option Ask) → refusal_of o answer ≡ Ok tt → is_answered answer o ≡ true
+  taken : (o : Option OrderKind) → refusal_of o answer ≡ Ok tt → is_answered answer o ≡ true
   taken None is = absurd (cc)
   taken (Some ask) is = accepted (answers answer ask) is
 
   pub answer_ruled : refusal_of (order_in id c.slots) answer ≡ Ok tt → AreRuled c.heads.stage c.table c.heads.time (after_told id answer c.heads.time c.slots)
-  answer_ruled given = at (slot_of id c.slots) refl
+  answer_ruled given = at (record_by_id id c.slots) refl
     where
-      at : (o : Option SlotState) → slot_of id c.slots ≡ o → AreRuled c.heads.stage c.table c.heads.time (after_told id answer c.heads.time c.slots)
+      at : (o : Option RecordState) → record_by_id id c.slots ≡ o → AreRuled c.heads.stage c.table c.heads.time (after_told id answer c.heads.time c.slots)
       at None is = absurd (false≢true (taken None (sym (ap (λ o. refusal_of (order_of o) answer) is) ∙ given)))
       at (Some found) is = found_ruled found is (taken found.order (sym (ap (λ o. refusal_of (order_of o) answer) is) ∙ given))

@@ -5,7 +5,7 @@ use Rattle.init_words.specs.declared.entries.Entry.{Entry}
 use Rattle.init_words.specs.declared.levels.Level.TheVariants.{S}
 use Rattle.init_words.specs.declared.levels.Mark.TheVariants.{OnCall}
 use Rattle.init_words.specs.declared.orders.Answer.{Answer}
-use Rattle.init_words.specs.declared.orders.Ask.TheVariants.{Start, Look, Term, Kill}
+use Rattle.init_words.specs.declared.orders.OrderKind.TheVariants.{Start, Look, Term, Kill}
 use Rattle.init_words.specs.declared.orders.PowerKind.TheVariants as power
 use Rattle.init_words.specs.declared.stages.Stage.{Stage}
 use Rattle.init_words.specs.declared.stages.Stage.TheVariants as stage
@@ -14,18 +14,18 @@ use Rattle.init_words.specs.Levels.{same_level, names}
 use Rattle.init_words.proofs.Same.{same_level-self}
 use Rattle.inittab_text.specs.Tables.{is_distinct}
 use Rattle.respawn_limit.specs.Window.{may_of, is_held}
-use Rattle.init_trace.specs.declared.steps.Goal.{Goal}
-use Rattle.init_trace.specs.declared.steps.Step.{Step}
-use Rattle.init_trace.specs.declared.steps.Step.TheVariants.{Enter, Call, Power, Order, Hold, Settle, Reread, Reexec, Idle}
-use Rattle.init_trace.specs.Wanted.{starts_in}
-use Rattle.init_trace.specs.Wishes.{in_run}
-use Rattle.child_table.specs.declared.children.Stop.{Stop}
-use Rattle.child_table.specs.declared.children.Stop.TheVariants.{Due, Termed, Killed}
-use Rattle.child_table.specs.State.{SlotState}
-use Rattle.child_table.specs.Changes.{allows, can_be_asked, after_order}
-use Rattle.child_table.specs.Lists.{is_quiet, with_changed, order_in, refusal_of}
+use Rattle.trace_events.specs.declared.steps.Goal.{Goal}
+use Rattle.trace_events.specs.declared.steps.Step.{Step}
+use Rattle.trace_events.specs.declared.steps.Step.TheVariants.{Enter, Call, Power, Order, Hold, Settle, Reread, Reexec, Idle}
+use Rattle.trace_events.specs.Wanted.{starts_in}
+use Rattle.trace_events.specs.Wishes.{in_run}
+use Rattle.core_records.specs.declared.children.Stop.{Stop}
+use Rattle.core_records.specs.declared.children.Stop.TheVariants.{Due, Termed, Killed}
+use Rattle.core_records.specs.State.{RecordState}
+use Rattle.core_records.specs.Changes.{allows, can_be_asked, after_order}
+use Rattle.core_records.specs.Lists.{is_quiet, with_changed, order_in, refusal_of}
 use Rattle.core_model.specs.News.{first_news}
-use Rattle.core_model.specs.Decide.{or_else, or_idle, level_step, news_step, wished_step, wish_step, stands, signal_step, stop_step, stop_among, has_excluded, is_owed_slot, can_start_slot, start_step, start_along, is_over_among, all_done, next_stage, enter_step, stage_step, is_idle, all_served, settle_step, can_look_slot, look_among, calm_step, work_step, decide_in, decide}
+use Rattle.core_model.specs.Decide.{or_else, or_idle, level_step, news_step, wished_step, wish_step, stands, signal_step, stop_step, stop_among, has_excluded, is_owed_record, can_start_record, start_step, start_along, is_over_among, all_done, next_stage, enter_step, stage_step, is_idle, all_served, settle_step, can_look_record, look_among, calm_step, work_step, decide_in, decide}
 use Rattle.core_model.specs.Rules.{may_follow, are_starts_along, are_starts_in, is_callable, is_other_level, is_goal_reached, IsFit}
 use Rattle.core_model.specs.State.{CoreState, opening_state}
 use Rattle.core_model.specs.Steps.{is_boot, wished, is_named, after_step, after_told, after_adopt}
@@ -127,7 +127,7 @@ module _ (c : CoreState) (keeps : IsFit c) (now : Stage) (in_stage : c.heads.sta
       at (stage.Run level) run = lawful_if (not c.heads.announced && is_idle c.slots && all_served level c.heads.time c.table c.slots) (Some (Settle level)) (λ h. run refl)
 
   -- signals and looks
-  stops_lawful : (slots : List SlotState) → is_lawful (stop_among c.heads.grace c.heads.time slots) ≡ true
+  stops_lawful : (slots : List RecordState) → is_lawful (stop_among c.heads.grace c.heads.time slots) ≡ true
   stops_lawful [] = refl
   stops_lawful (slot ∷ slots) = lawful_or (stop_step c.heads.grace c.heads.time slot) (stop_among c.heads.grace c.heads.time slots) (lawful_if (is_some slot.child && is_none slot.order && not slot.missed) (signal_step c.heads.grace c.heads.time slot.id slot.stop) (λ h. signal slot.stop)) (stops_lawful slots)
     where
@@ -137,9 +137,9 @@ module _ (c : CoreState) (keeps : IsFit c) (now : Stage) (in_stage : c.heads.sta
       signal (Some (Termed time)) = lawful_if (nat_le (time + c.heads.grace) c.heads.time) (Some (Order slot.id Kill)) (λ h. refl)
       signal (Some (Killed time)) = refl
 
-  looks_lawful : (slots : List SlotState) → is_lawful (look_among slots) ≡ true
+  looks_lawful : (slots : List RecordState) → is_lawful (look_among slots) ≡ true
   looks_lawful [] = refl
-  looks_lawful (slot ∷ slots) = at (can_look_slot slot) (looks_lawful slots)
+  looks_lawful (slot ∷ slots) = at (can_look_record slot) (looks_lawful slots)
     where
       at : (b : Bool) → is_lawful (look_among slots) ≡ true → is_lawful (cond b (Some (Order slot.id Look)) (look_among slots)) ≡ true
       at true rest = refl
@@ -156,9 +156,9 @@ module _ (c : CoreState) (keeps : IsFit c) (now : Stage) (in_stage : c.heads.sta
   walked_or None b ha hb = hb
   walked_or (Some step) b ha hb = ha
 
-  walked : (ps : List (Entry × SlotState)) → is_walked (start_along now c.heads.time ps) ≡ true
+  walked : (ps : List (Entry × RecordState)) → is_walked (start_along now c.heads.time ps) ≡ true
   walked [] = refl
-  walked (p ∷ ps) = walked_or (start_step now c.heads.time p.0 p.1) (cond (is_owed_slot now p.0 p.1) None (start_along now c.heads.time ps)) (step (can_start_slot now p.0 p.1) (is_limited p.0.act) (is_held p.1.limiter.held c.heads.time) (allows (may_of p.1.limiter c.heads.time))) (rest (is_owed_slot now p.0 p.1) (walked ps))
+  walked (p ∷ ps) = walked_or (start_step now c.heads.time p.0 p.1) (cond (is_owed_record now p.0 p.1) None (start_along now c.heads.time ps)) (step (can_start_record now p.0 p.1) (is_limited p.0.act) (is_held p.1.limiter.held c.heads.time) (allows (may_of p.1.limiter c.heads.time))) (rest (is_owed_record now p.0 p.1) (walked ps))
     where
       step : (b l h a : Bool) → is_walked (cond b (cond l (cond h None (Some (cond a (Order p.0.id Start) (Hold p.0.id)))) (Some (Order p.0.id Start))) None) ≡ true
       step true true true a = refl

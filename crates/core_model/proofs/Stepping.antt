@@ -6,28 +6,28 @@ use Rattle.init_words.specs.declared.entries.Entry.{Entry}
 use Rattle.init_words.specs.declared.levels.Level.{Level}
 use Rattle.init_words.specs.declared.stages.Stage.{Stage}
 use Rattle.init_words.specs.declared.stages.Stage.TheVariants as stage
-use Rattle.init_words.specs.declared.orders.Ask.TheVariants.{Start, Look, Term, Kill}
+use Rattle.init_words.specs.declared.orders.OrderKind.TheVariants.{Start, Look, Term, Kill}
 use Rattle.init_words.specs.Actions.{is_limited}
 use Rattle.init_words.proofs.Same.{same_id-self}
 use Rattle.inittab_text.specs.Tables.{entry_of, is_distinct}
 use Rattle.respawn_limit.specs.Window.{is_held}
-use Rattle.init_trace.specs.declared.happenings.Happening.TheVariants as event
-use Rattle.init_trace.specs.declared.steps.Step.{Step}
-use Rattle.init_trace.specs.declared.steps.Step.TheVariants.{Enter, Call, Power, Reread, Order, Hold, Settle, Reexec, Idle}
-use Rattle.init_trace.specs.declared.steps.Goal.{Goal}
-use Rattle.init_trace.specs.Event.{Event}
-use Rattle.init_trace.specs.Past.{table_of, stage_of, time_of}
-use Rattle.init_trace.specs.Wishes.{in_run, goal_of}
-use Rattle.init_trace.specs.Due.{due, first, same_step}
-use Rattle.init_trace.specs.Sound.{is_sound}
+use Rattle.trace_events.specs.declared.happenings.Happening.TheVariants as event
+use Rattle.trace_events.specs.declared.steps.Step.{Step}
+use Rattle.trace_events.specs.declared.steps.Step.TheVariants.{Enter, Call, Power, Reread, Order, Hold, Settle, Reexec, Idle}
+use Rattle.trace_events.specs.declared.steps.Goal.{Goal}
+use Rattle.trace_events.specs.Event.{Event}
+use Rattle.trace_events.specs.Past.{table_of, stage_of, time_of}
+use Rattle.trace_events.specs.Wishes.{in_run, goal_of}
+use Rattle.trace_events.specs.Due.{due, first, same_step}
+use Rattle.trace_events.specs.Sound.{is_sound}
 use Rattle.trace_laws.proofs.Dues.{MayRun, due_facts}
 use Rattle.trace_laws.proofs.Keeps.{sound_holds}
-use Rattle.child_table.specs.declared.children.Stop.{Stop}
-use Rattle.child_table.specs.declared.children.Stop.TheVariants.{Due, Termed, Killed}
-use Rattle.child_table.specs.State.{SlotState}
-use Rattle.child_table.specs.Changes.{after_enter}
-use Rattle.child_table.specs.Judging.{after_judge}
-use Rattle.child_table.specs.Lists as lists
+use Rattle.core_records.specs.declared.children.Stop.{Stop}
+use Rattle.core_records.specs.declared.children.Stop.TheVariants.{Due, Termed, Killed}
+use Rattle.core_records.specs.State.{RecordState}
+use Rattle.core_records.specs.Changes.{after_enter}
+use Rattle.core_records.specs.Judging.{after_judge}
+use Rattle.core_records.specs.Lists as lists
 use Rattle.core_model.specs.declared.news.News.{News}
 use Rattle.core_model.specs.News.{first_news}
 use Rattle.core_model.specs.State.{CoreState}
@@ -60,9 +60,10 @@ not_else : (b : Bool) (o : Option Step) → enters o ≡ false → enters (cond 
 not_else true o h = refl
 not_else false o h = h
 
-start_enters : (now : Stage) (time : ℕ) (ps : List (Entry × SlotState)) → enters (core.start_along now time ps) ≡ false
+start_enters : (now : Stage) (time : ℕ) (ps : List (Entry × RecordState))
+    → enters (core.start_along now time ps) ≡ false
 start_enters now time [] = refl
-start_enters now time (p ∷ ps) = neither (core.start_step now time p.0 p.1) (cond (core.is_owed_slot now p.0 p.1) None (core.start_along now time ps)) (not_if (core.can_start_slot now p.0 p.1) (core.limited_step time p.0 p.1) (told (is_limited (p.0).act) (is_held (p.1).limiter.held time) _)) (not_else (core.is_owed_slot now p.0 p.1) (core.start_along now time ps) (start_enters now time ps))
+start_enters now time (p ∷ ps) = neither (core.start_step now time p.0 p.1) (cond (core.is_owed_record now p.0 p.1) None (core.start_along now time ps)) (not_if (core.can_start_record now p.0 p.1) (core.limited_step time p.0 p.1) (told (is_limited (p.0).act) (is_held (p.1).limiter.held time) _)) (not_else (core.is_owed_record now p.0 p.1) (core.start_along now time ps) (start_enters now time ps))
   where
     told : (b h a : Bool) → enters (cond b (cond h None (Some (cond a (Order (p.0).id Start) (Hold (p.0).id)))) (Some (Order (p.0).id Start))) ≡ false
     told true true a = refl
@@ -70,7 +71,7 @@ start_enters now time (p ∷ ps) = neither (core.start_step now time p.0 p.1) (c
     told true false false = refl
     told false h a = refl
 
-stop_enters : (grace now : ℕ) (slots : List SlotState) → enters (core.stop_among grace now slots) ≡ false
+stop_enters : (grace now : ℕ) (slots : List RecordState) → enters (core.stop_among grace now slots) ≡ false
 stop_enters grace now [] = refl
 stop_enters grace now (slot ∷ slots) = neither (core.stop_step grace now slot) (core.stop_among grace now slots) (not_if (is_some slot.child && is_none slot.order && not slot.missed) (core.signal_step grace now slot.id slot.stop) (signal slot.stop)) (stop_enters grace now slots)
   where
@@ -80,9 +81,9 @@ stop_enters grace now (slot ∷ slots) = neither (core.stop_step grace now slot)
     signal (Some (Termed time)) = not_if (nat_le (time + grace) now) (Some (Order slot.id Kill)) refl
     signal (Some (Killed time)) = refl
 
-look_enters : (slots : List SlotState) → enters (core.look_among slots) ≡ false
+look_enters : (slots : List RecordState) → enters (core.look_among slots) ≡ false
 look_enters [] = refl
-look_enters (slot ∷ slots) = at (core.can_look_slot slot) (look_enters slots)
+look_enters (slot ∷ slots) = at (core.can_look_record slot) (look_enters slots)
   where
     at : (b : Bool) → enters (core.look_among slots) ≡ false → enters (cond b (Some (Order slot.id Look)) (core.look_among slots)) ≡ false
     at true h = refl
@@ -155,7 +156,7 @@ module _ (goal : Goal) (past : List Event) (c : CoreState) (sound : is_sound goa
   goes s happening same_goal same_age reads law = goes_on c (after_step s c) goal happening past fits (λ lasts kept. ap (after_step s) kept ∙ reads lasts ∙ (λ i. core_read (lasts_after happening past lasts) (happening ∷ past) (sym same_goal i) (sym same_age i))) (λ h. same_goal ∙ law h)
 
   -- records alone
-  abbrev with_records : LastStatuses → Event → List SlotState → CoreState
+  abbrev with_records : LastStatuses → Event → List RecordState → CoreState
   with_records lasts happening slots = record (core_read lasts (happening ∷ past) g n) { slots = slots }
 
   pub fits_step : StillFits c (after_step (decide c) c) goal past (with_step (decide c) past)

@@ -3,22 +3,22 @@ use Rattle.std.proofs.Common.{◌≡◌, ◌≤◌, refl, ◌∙◌, ap, cond, a
 use Rattle.std.specs.List.{list_any}
 use Rattle.std.specs.Option.{option_map, option_map_or}
 use Rattle.std.proofs.lemmas.Bool.{false≢true, and_parts, or_parts}
-use Rattle.init_words.specs.declared.orders.Ask.{Ask}
-use Rattle.init_words.specs.declared.orders.Ask.TheVariants.{Start, Look, Term, Kill}
+use Rattle.init_words.specs.declared.orders.OrderKind.{OrderKind}
+use Rattle.init_words.specs.declared.orders.OrderKind.TheVariants.{Start, Look, Term, Kill}
 use Rattle.init_words.proofs.Tests.{any_none}
-use Rattle.init_trace.specs.declared.steps.Step.{Step}
-use Rattle.init_trace.specs.declared.steps.Step.TheVariants.{Order}
-use Rattle.init_trace.specs.declared.steps.Goal.{Goal}
-use Rattle.init_trace.specs.Event.{Event}
-use Rattle.init_trace.specs.Past.{Child, is_of, open_of, grace_of, time_of, known_children}
-use Rattle.init_trace.specs.Wanted.{is_order, is_excluded}
-use Rattle.init_trace.specs.Spells.{Signal, spell_hits, is_missed, stop_by, stop_due}
-use Rattle.init_trace.specs.Due as due
-use Rattle.init_trace.specs.Due.{steps_if, stops_of, stops_among, record_ids}
-use Rattle.init_trace.specs.Sound.{is_sound}
+use Rattle.trace_events.specs.declared.steps.Step.{Step}
+use Rattle.trace_events.specs.declared.steps.Step.TheVariants.{Order}
+use Rattle.trace_events.specs.declared.steps.Goal.{Goal}
+use Rattle.trace_events.specs.Event.{Event}
+use Rattle.trace_events.specs.Past.{Child, is_of, open_of, grace_of, time_of, known_children}
+use Rattle.trace_events.specs.Wanted.{is_order, is_excluded}
+use Rattle.trace_events.specs.Spells.{Signal, spell_hits, is_missed, stop_by, stop_due}
+use Rattle.trace_events.specs.Due as due
+use Rattle.trace_events.specs.Due.{steps_if, stops_of, stops_among, record_ids}
+use Rattle.trace_events.specs.Sound.{is_sound}
 use Rattle.trace_laws.proofs.Known.{known_single}
 use Rattle.trace_laws.proofs.Stopping.{hits_are, hits_shape}
-use Rattle.child_table.specs.declared.children.Stop.TheVariants.{Termed, Killed}
+use Rattle.core_records.specs.declared.children.Stop.TheVariants.{Termed, Killed}
 use Rattle.core_model.specs.Decide.{or_else, signal_step, stop_step, stop_among}
 use Rattle.core_model.specs.Fit.{LastStatuses, living, stop_after, stop_known, record_of, records_of}
 use Rattle.core_model.proofs.Firsts.{head, head_append, head_steps_if}
@@ -33,7 +33,7 @@ signal_same grace now id (signal ∷ []) are = at signal.order are
     ripe true = refl
     ripe false = refl
 
-    at : (o : Option Ask) → is_order Term o ≡ true → head (due.stop_step id (cond (is_order Term o && nat_le (signal.time + grace) now) (Some Kill) None)) ≡ signal_step grace now id (Some (cond (is_order Kill o) (Killed signal.time) (Termed signal.time)))
+    at : (o : Option OrderKind) → is_order Term o ≡ true → head (due.stop_step id (cond (is_order Term o && nat_le (signal.time + grace) now) (Some Kill) None)) ≡ signal_step grace now id (Some (cond (is_order Kill o) (Killed signal.time) (Termed signal.time)))
     at None is = absurd (false≢true is)
     at (Some Start) is = absurd (false≢true is)
     at (Some Look) is = absurd (false≢true is)

@@ -11,21 +11,21 @@ use Rattle.respawn_limit.specs.State.{unused}
 use Rattle.init_words.specs.declared.entries.Entry.{Entry}
 use Rattle.init_words.specs.declared.actions.Act.{Act}
 use Rattle.init_words.specs.declared.stages.Stage.{Stage}
-use Rattle.init_words.specs.declared.orders.Ask.{Ask}
+use Rattle.init_words.specs.declared.orders.OrderKind.{OrderKind}
 use Rattle.init_words.specs.Actions.{act_number, same_act, is_limited}
 use Rattle.init_words.specs.Entries.{lives_of}
 use Rattle.init_words.specs.Ids.{same_id}
 use Rattle.init_words.proofs.Same.{same_id-is, same_id-self}
 use Rattle.init_words.proofs.Tests.{both_ways, falsely, same_tests, any_less, filter_both, filter_within, find_none}
 use Rattle.inittab_text.specs.Tables.{ids_of, has_id, entry_of, act_of, is_distinct}
-use Rattle.init_trace.specs.declared.happenings.Happening.TheVariants.{NewTable, Enter}
-use Rattle.init_trace.specs.declared.steps.Goal.{Goal}
-use Rattle.init_trace.specs.Event.{Event}
-use Rattle.init_trace.specs.Past.{table_of, stage_of, Child, is_of, has_child, open_of, kept_children, known_children}
-use Rattle.init_trace.specs.Wanted.{same_acts, may_live, is_asked, is_excluded}
-use Rattle.init_trace.specs.Spells.{spell_hits, is_missed}
-use Rattle.init_trace.specs.Due.{left_ids, record_ids, wants_look}
-use Rattle.init_trace.specs.Sound.{is_sound}
+use Rattle.trace_events.specs.declared.happenings.Happening.TheVariants.{NewTable, Enter}
+use Rattle.trace_events.specs.declared.steps.Goal.{Goal}
+use Rattle.trace_events.specs.Event.{Event}
+use Rattle.trace_events.specs.Past.{table_of, stage_of, Child, is_of, has_child, open_of, kept_children, known_children}
+use Rattle.trace_events.specs.Wanted.{same_acts, may_live, is_asked, is_excluded}
+use Rattle.trace_events.specs.Spells.{spell_hits, is_missed}
+use Rattle.trace_events.specs.Due.{left_ids, record_ids, wants_look}
+use Rattle.trace_events.specs.Sound.{is_sound}
 use Rattle.std.proofs.Math.Bool.{and_comm}
 use Rattle.trace_laws.proofs.Tests.{never}
 use Rattle.trace_laws.proofs.Records.{ids_listed}
@@ -33,15 +33,15 @@ use Rattle.trace_laws.proofs.Orders.{known_kept}
 use Rattle.trace_laws.proofs.Keeps.{sound_holds, entry_listed}
 use Rattle.trace_laws.proofs.Records.{child_in_records, open_in_records}
 use Rattle.trace_laws.proofs.Spells.{spell_none, spell_enter, missed_enter, spell_table, missed_table}
-use Rattle.child_table.specs.declared.children.Stop.{Stop}
-use Rattle.child_table.specs.declared.children.Stop.TheVariants.{Due}
-use Rattle.child_table.specs.State.{SlotState, is_act}
-use Rattle.child_table.specs.Lists.{slot_of}
-use Rattle.child_table.specs.Changes.{after_enter}
-use Rattle.child_table.specs.Judging.{judged, judged_child, after_judge}
-use Rattle.child_table.specs.Judging as judging
-use Rattle.child_table.specs.Adopting.{adopted, left_over, is_left_over, entry_slots, left_slots}
-use Rattle.child_table.specs.Adopting as adopting
+use Rattle.core_records.specs.declared.children.Stop.{Stop}
+use Rattle.core_records.specs.declared.children.Stop.TheVariants.{Due}
+use Rattle.core_records.specs.State.{RecordState, is_act}
+use Rattle.core_records.specs.Lists.{record_by_id}
+use Rattle.core_records.specs.Changes.{after_enter}
+use Rattle.core_records.specs.Judging.{judged, judged_child, after_judge}
+use Rattle.core_records.specs.Judging as judging
+use Rattle.core_records.specs.Adopting.{adopted, left_over, is_left_over, entry_records, left_records}
+use Rattle.core_records.specs.Adopting as adopting
 use Rattle.core_model.specs.Steps.{judged_in}
 use Rattle.core_model.specs.Fit.{LastStatuses, child_known, living, known_child, stop_after, stop_known, stop_of, is_to_look, was_missed, limiter_by, asked_of, lasts_after, record_of, records_of}
 use Rattle.core_model.proofs.Acts.{found_own, child_some, found_record, no_record}
@@ -62,7 +62,7 @@ excluded_same past stage now child = by (entry_of child.id (table_of past)) chil
 
 -- a happening that cuts the spell of each child that it does not exclude: the records are judged
 module _ (next past : List Event) (hits : (child : Child) → spell_hits child next ≡ cond (is_excluded next child) (spell_hits child past) []) (misses : (child : Child) → is_missed child next ≡ (is_excluded next child && is_missed child past)) where
-  judged_as : (stage : Stage) → stage_of next ≡ Some stage → (id : List ℕ) (o : Option Child) → ((child : Child) → o ≡ Some child → child.id ≡ id) → (slot : SlotState) → slot.id ≡ id → slot.stop ≡ stop_known past o → slot.missed ≡ option_map_or (λ child. is_missed child past) o false → judged_child stage (table_of next) (option_map living o) slot ≡ record slot { stop = stop_known next o; missed = option_map_or (λ child. is_missed child next) o false }
+  judged_as : (stage : Stage) → stage_of next ≡ Some stage → (id : List ℕ) (o : Option Child) → ((child : Child) → o ≡ Some child → child.id ≡ id) → (slot : RecordState) → slot.id ≡ id → slot.stop ≡ stop_known past o → slot.missed ≡ option_map_or (λ child. is_missed child past) o false → judged_child stage (table_of next) (option_map living o) slot ≡ record slot { stop = stop_known next o; missed = option_map_or (λ child. is_missed child next) o false }
   judged_as stage now id None own slot is stop missed = λ i. record slot { stop = stop i; missed = missed i }
   judged_as stage now id (Some child) own slot is stop missed = ap (λ b. judged b slot) excluded ∙ by (is_excluded next child) refl where
     excluded : judging.is_excluded stage child.act (entry_of slot.id (table_of next)) ≡ is_excluded next child
@@ -82,7 +82,7 @@ module _ (next past : List Event) (hits : (child : Child) → spell_hits child n
         let misses_too : false ≡ is_missed child next = sym (misses child ∙ ap (λ c. c && is_missed child past) is) in
         λ i. record slot { stop = stops i; missed = misses_too i }
 
-  pub judged_known : (stage : Stage) → stage_of next ≡ Some stage → (id : List ℕ) (slot : SlotState) → slot.id ≡ id → slot.child ≡ known_child id past → slot.stop ≡ stop_of id past → slot.missed ≡ was_missed id past → after_judge (table_of next) stage slot ≡ record slot { stop = stop_known next (child_known id past); missed = option_map_or (λ child. is_missed child next) (child_known id past) false }
+  pub judged_known : (stage : Stage) → stage_of next ≡ Some stage → (id : List ℕ) (slot : RecordState) → slot.id ≡ id → slot.child ≡ known_child id past → slot.stop ≡ stop_of id past → slot.missed ≡ was_missed id past → after_judge (table_of next) stage slot ≡ record slot { stop = stop_known next (child_known id past); missed = option_map_or (λ child. is_missed child next) (child_known id past) false }
   judged_known stage now id slot is child stop missed = ap (λ c. judged_child stage (table_of next) c slot) child ∙ judged_as stage now id (child_known id past) (found_own id (known_children past)) slot is stop missed
 
 -- what a record keeps of an entry, where the past has nothing since the stage began
@@ -94,14 +94,14 @@ unused_same (Some e) = by (is_limited e.act) where
   by false = refl
 
 -- two changes one after the other, along a list
-pub mapped : {X : Type 0} (f : SlotState → SlotState) (g k : X → SlotState) → ((x : X) → f (g x) ≡ k x) → (xs : List X) → map f (map g xs) ≡ map k xs
+pub mapped : {X : Type 0} (f : RecordState → RecordState) (g k : X → RecordState) → ((x : X) → f (g x) ≡ k x) → (xs : List X) → map f (map g xs) ≡ map k xs
 mapped f g k same [] = refl
 mapped f g k same (x ∷ xs) = λ i. same x i ∷ mapped f g k same xs i
 
 -- a stage was entered
 pub enter_records : (lasts : LastStatuses) → (goal : Goal) (stage : Stage) (grace : ℕ) (past : List Event) → is_sound goal past ≡ true → map (after_judge (table_of past) stage) (map after_enter (records_of lasts past)) ≡ records_of lasts (Enter stage grace ∷ past)
 enter_records lasts goal stage grace past sound = ap (map (after_judge (table_of past) stage)) (mapped after_enter (record_of lasts past) entered (λ id. refl) (record_ids past)) ∙ mapped (after_judge (table_of past) stage) entered (record_of lasts (Enter stage grace ∷ past)) same (record_ids past) where
-  entered : List ℕ → SlotState
+  entered : List ℕ → RecordState
   entered id = after_enter (record_of lasts past id)
 
   same : (id : List ℕ) → after_judge (table_of past) stage (entered id) ≡ record_of lasts (Enter stage grace ∷ past) id
@@ -125,7 +125,7 @@ none_found {X} p (x ∷ xs) = split (p x) (none_found p xs) where
   split false rest = rest
 
 -- along a table in which no id stands twice each entry is that of its id
-along : (table : List Entry) → is_distinct table ≡ true → (f g : Entry → SlotState) → ((e : Entry) → entry_of e.id table ≡ Some e → f e ≡ g e) → map f table ≡ map g table
+along : (table : List Entry) → is_distinct table ≡ true → (f g : Entry → RecordState) → ((e : Entry) → entry_of e.id table ≡ Some e → f e ≡ g e) → map f table ≡ map g table
 along [] distinct f g same = refl
 along (e ∷ table) distinct f g same = λ i. same e (ap (λ b. cond b (Some e) (entry_of e.id table)) (same_id-self e.id)) i ∷ along table parts.1 f g (λ x found. same x (behind x found (same_id x.id e.id) refl)) i where
   parts : (not (list_any (has_id e.id) table) ≡ true) × (is_distinct table ≡ true)
@@ -136,14 +136,14 @@ along (e ∷ table) distinct f g same = λ i. same e (ap (λ b. cond b (Some e) 
   behind x found false other = found
 
 -- the records judged one by one, where a stage is in force
-abbrev judged_by : Option Stage → List Entry → SlotState → SlotState
+abbrev judged_by : Option Stage → List Entry → RecordState → RecordState
 judged_by None table slot = slot
 judged_by (Some stage) table slot = after_judge table stage slot
 
-judged_all : (o : Option Stage) (table : List Entry) (slots : List SlotState) → judged_in o table slots ≡ map (judged_by o table) slots
+judged_all : (o : Option Stage) (table : List Entry) (slots : List RecordState) → judged_in o table slots ≡ map (judged_by o table) slots
 judged_all (Some stage) table slots = refl
 judged_all None table slots = sym (each slots) where
-  each : (xs : List SlotState) → map (judged_by None table) xs ≡ xs
+  each : (xs : List RecordState) → map (judged_by None table) xs ≡ xs
   each [] = refl
   each (x ∷ xs) = ap (λ rest. x ∷ rest) (each xs)
 
@@ -178,9 +178,9 @@ module _ (lasts : LastStatuses) (goal : Goal) (table : List Entry) (past : List 
   dawn_none : stage_of past ≡ None → (id : List ℕ) → child_known id past ≡ None
   dawn_none dawn id = find_none (is_of id) (known_children past) (falsely (has_child id (known_children past)) (list_any (λ (child : Child). true) (kept_children past)) (λ there. any_less (is_of id) (λ child. true) (λ child _. refl) (kept_children past) (known_kept (is_of id) past there)) ((sound_holds goal past sound).dawn dawn))
 
-  judged_slot : (o : Option Stage) → stage_of past ≡ o → (id : List ℕ) (slot : SlotState) → slot.id ≡ id → slot.child ≡ known_child id past → slot.stop ≡ stop_of id past → slot.missed ≡ was_missed id past → judged_by o table slot ≡ record slot { stop = stop_of id next; missed = was_missed id next }
-  judged_slot (Some stage) now id slot is child stop missed = judged_known next past (λ c. spell_table c table past) (λ c. missed_table c table past) stage now id slot is child stop missed
-  judged_slot None now id slot is child stop missed =
+  judged_record : (o : Option Stage) → stage_of past ≡ o → (id : List ℕ) (slot : RecordState) → slot.id ≡ id → slot.child ≡ known_child id past → slot.stop ≡ stop_of id past → slot.missed ≡ was_missed id past → judged_by o table slot ≡ record slot { stop = stop_of id next; missed = was_missed id next }
+  judged_record (Some stage) now id slot is child stop missed = judged_known next past (λ c. spell_table c table past) (λ c. missed_table c table past) stage now id slot is child stop missed
+  judged_record None now id slot is child stop missed =
       let none : child_known id past ≡ None = dawn_none now id in
       let stops : slot.stop ≡ stop_of id next = stop ∙ ap (stop_known past) none ∙ sym (ap (stop_known next) none) in
       let misses : slot.missed ≡ was_missed id next = missed ∙ ap (λ c. option_map_or (λ child. is_missed child past) c false) none ∙ sym (ap (λ c. option_map_or (λ child. is_missed child next) c false) none) in
@@ -207,12 +207,12 @@ module _ (lasts : LastStatuses) (goal : Goal) (table : List Entry) (past : List 
   last_kept id there = sym (ap (λ b. cond b (lasts id) None) there)
 
   -- the record of an entry before it is judged
-  abbrev entered_slot : Entry → SlotState
-  entered_slot e = record (record_of lasts past e.id) { table_act = Some e.act; asked = asked_of e.id past && is_act e.act (act_of e.id (table_of past)); called = false; limiter = unused; last = later e.id }
+  abbrev entered_record : Entry → RecordState
+  entered_record e = record (record_of lasts past e.id) { table_act = Some e.act; asked = asked_of e.id past && is_act e.act (act_of e.id (table_of past)); called = false; limiter = unused; last = later e.id }
 
-  adopted_same : (e : Entry) → adopted e (slot_of e.id (records_of lasts past)) ≡ entered_slot e
+  adopted_same : (e : Entry) → adopted e (record_by_id e.id (records_of lasts past)) ≡ entered_record e
   adopted_same e = by (list_any (same_id e.id) (record_ids past)) refl where
-    by : (b : Bool) → list_any (same_id e.id) (record_ids past) ≡ b → adopted e (slot_of e.id (records_of lasts past)) ≡ entered_slot e
+    by : (b : Bool) → list_any (same_id e.id) (record_ids past) ≡ b → adopted e (record_by_id e.id (records_of lasts past)) ≡ entered_record e
     by true there = ap (adopted e) (found_record lasts past e.id (record_ids past) there) ∙ (λ i. record (adopted e (Some (record_of lasts past e.id))) { last = last_kept e.id there i })
     by false none = ap (adopted e) (no_record lasts past e.id (record_ids past) none) ∙ (λ i. record {
       id = e.id;
@@ -235,7 +235,7 @@ module _ (lasts : LastStatuses) (goal : Goal) (table : List Entry) (past : List 
 
       unasked : None ≡ open_of e.id past
       unasked = read (open_of e.id past) refl where
-        read : (o : Option Ask) → open_of e.id past ≡ o → None ≡ o
+        read : (o : Option OrderKind) → open_of e.id past ≡ o → None ≡ o
         read None is = refl
         read (Some ask) is = both_ways (list_any (same_id e.id) (record_ids past)) (open_in_records goal past sound e.id ask is) none
 
@@ -248,14 +248,14 @@ module _ (lasts : LastStatuses) (goal : Goal) (table : List Entry) (past : List 
       unlooked : false ≡ is_to_look e.id past
       unlooked = sym (ap (λ b. b && wants_look e.id past) no_child)
 
-  entry_same : (e : Entry) → entry_of e.id table ≡ Some e → judged_by (stage_of past) table (adopted e (slot_of e.id (records_of lasts past))) ≡ record_of later next e.id
-  entry_same e found = ap (judged_by (stage_of past) table) (adopted_same e) ∙ judged_slot (stage_of past) refl e.id (entered_slot e) refl refl refl refl ∙ (λ i. record (record_of later next e.id) { table_act = option_map (λ (x : Entry). x.act) (sym found i); asked = asked_same e found i; called = never (entry_of e.id table) i; limiter = unused_same (entry_of e.id table) i })
+  entry_same : (e : Entry) → entry_of e.id table ≡ Some e → judged_by (stage_of past) table (adopted e (record_by_id e.id (records_of lasts past))) ≡ record_of later next e.id
+  entry_same e found = ap (judged_by (stage_of past) table) (adopted_same e) ∙ judged_record (stage_of past) refl e.id (entered_record e) refl refl refl refl ∙ (λ i. record (record_of later next e.id) { table_act = option_map (λ (x : Entry). x.act) (sym found i); asked = asked_same e found i; called = never (entry_of e.id table) i; limiter = unused_same (entry_of e.id table) i })
 
-  entries_same : judged_in (stage_of past) table (entry_slots table (records_of lasts past)) ≡ map (record_of later next) (ids_of table)
-  entries_same = judged_all (stage_of past) table (entry_slots table (records_of lasts past)) ∙ twice table ∙ along table distinct (λ e. judged_by (stage_of past) table (adopted e (slot_of e.id (records_of lasts past)))) (λ e. record_of later next e.id) entry_same ∙ sym (by_ids table) where
-    twice : (es : List Entry) → map (judged_by (stage_of past) table) (map (λ (e : Entry). adopted e (slot_of e.id (records_of lasts past))) es) ≡ map (λ (e : Entry). judged_by (stage_of past) table (adopted e (slot_of e.id (records_of lasts past)))) es
+  entries_same : judged_in (stage_of past) table (entry_records table (records_of lasts past)) ≡ map (record_of later next) (ids_of table)
+  entries_same = judged_all (stage_of past) table (entry_records table (records_of lasts past)) ∙ twice table ∙ along table distinct (λ e. judged_by (stage_of past) table (adopted e (record_by_id e.id (records_of lasts past)))) (λ e. record_of later next e.id) entry_same ∙ sym (by_ids table) where
+    twice : (es : List Entry) → map (judged_by (stage_of past) table) (map (λ (e : Entry). adopted e (record_by_id e.id (records_of lasts past))) es) ≡ map (λ (e : Entry). judged_by (stage_of past) table (adopted e (record_by_id e.id (records_of lasts past)))) es
     twice [] = refl
-    twice (e ∷ es) = ap (λ rest. judged_by (stage_of past) table (adopted e (slot_of e.id (records_of lasts past))) ∷ rest) (twice es)
+    twice (e ∷ es) = ap (λ rest. judged_by (stage_of past) table (adopted e (record_by_id e.id (records_of lasts past))) ∷ rest) (twice es)
 
     by_ids : (es : List Entry) → map (record_of later next) (ids_of es) ≡ map (λ (e : Entry). record_of later next e.id) es
     by_ids [] = refl
@@ -281,7 +281,7 @@ module _ (lasts : LastStatuses) (goal : Goal) (table : List Entry) (past : List 
   left_ids_next = filter_both is_kept has_left (ids_of (table_of past) ++ left_ids past)
 
   left_same : (id : List ℕ) → stays id ≡ true → judged_by (stage_of past) table (left_over (record_of lasts past id)) ≡ record_of later next id
-  left_same id h = judged_slot (stage_of past) refl id (left_over (record_of lasts past id)) refl refl refl refl ∙ (λ i. record (record_of later next id) { table_act = option_map (λ (x : Entry). x.act) (none i); asked = off_asked none i; called = never (entry_of id table) i; limiter = unused_same (entry_of id table) i; last = last_kept id placed i }) where
+  left_same id h = judged_record (stage_of past) refl id (left_over (record_of lasts past id)) refl refl refl refl ∙ (λ i. record (record_of later next id) { table_act = option_map (λ (x : Entry). x.act) (none i); asked = off_asked none i; called = never (entry_of id table) i; limiter = unused_same (entry_of id table) i; last = last_kept id placed i }) where
     placed : list_any (same_id id) (record_ids past) ≡ true
     placed = child_in_records goal past sound id (and_parts (has_left id) (is_kept id) h).1
 
@@ -291,13 +291,13 @@ module _ (lasts : LastStatuses) (goal : Goal) (table : List Entry) (past : List 
     off_asked : None ≡ entry_of id table → false ≡ asked_of id next
     off_asked gone = ap (λ o. option_map_or (λ (x : Entry). is_asked x.id next) o false) gone
 
-  lefts_same : judged_in (stage_of past) table (left_slots table (records_of lasts past)) ≡ map (record_of later next) (filter is_kept (left_ids next))
-  lefts_same = judged_all (stage_of past) table (left_slots table (records_of lasts past)) ∙ ap (λ slots. map (judged_by (stage_of past) table) (map left_over slots)) (filter_mapped (is_left_over table) (record_of lasts past) (record_ids past) ∙ ap (map (record_of lasts past)) left_over_ids) ∙ ap (map (judged_by (stage_of past) table)) (mapped left_over (record_of lasts past) (λ id. left_over (record_of lasts past id)) (λ id. refl) kept) ∙ mapped (judged_by (stage_of past) table) (λ id. left_over (record_of lasts past id)) (λ id. judged_by (stage_of past) table (left_over (record_of lasts past id))) (λ id. refl) kept ∙ mapped_passing stays (λ id. judged_by (stage_of past) table (left_over (record_of lasts past id))) (record_of later next) left_same (ids_of (table_of past) ++ left_ids past) ∙ ap (map (record_of later next)) (sym left_ids_next) where
+  lefts_same : judged_in (stage_of past) table (left_records table (records_of lasts past)) ≡ map (record_of later next) (filter is_kept (left_ids next))
+  lefts_same = judged_all (stage_of past) table (left_records table (records_of lasts past)) ∙ ap (λ slots. map (judged_by (stage_of past) table) (map left_over slots)) (filter_mapped (is_left_over table) (record_of lasts past) (record_ids past) ∙ ap (map (record_of lasts past)) left_over_ids) ∙ ap (map (judged_by (stage_of past) table)) (mapped left_over (record_of lasts past) (λ id. left_over (record_of lasts past id)) (λ id. refl) kept) ∙ mapped (judged_by (stage_of past) table) (λ id. left_over (record_of lasts past id)) (λ id. judged_by (stage_of past) table (left_over (record_of lasts past id))) (λ id. refl) kept ∙ mapped_passing stays (λ id. judged_by (stage_of past) table (left_over (record_of lasts past id))) (record_of later next) left_same (ids_of (table_of past) ++ left_ids past) ∙ ap (map (record_of later next)) (sym left_ids_next) where
     kept : List (List ℕ)
     kept = filter stays (ids_of (table_of past) ++ left_ids past)
 
 pub table_records : (lasts : LastStatuses) → (goal : Goal) (table : List Entry) (past : List Event) → is_sound goal past ≡ true → is_distinct table ≡ true → judged_in (stage_of past) table (adopting.after_adopt table (records_of lasts past)) ≡ records_of (lasts_after (NewTable table) past lasts) (NewTable table ∷ past)
-table_records lasts goal table past sound distinct = both (stage_of past) (entry_slots table (records_of lasts past)) (left_slots table (records_of lasts past)) ∙ (λ i. (entries_same lasts) goal table past sound distinct i ++ (lefts_same lasts) goal table past sound distinct i) ∙ sym (map-append (record_of (lasts_after (NewTable table) past lasts) (NewTable table ∷ past)) (ids_of table) (filter (λ id. has_child id (known_children past)) (left_ids (NewTable table ∷ past)))) where
-  both : (o : Option Stage) (xs ys : List SlotState) → judged_in o table (xs ++ ys) ≡ judged_in o table xs ++ judged_in o table ys
+table_records lasts goal table past sound distinct = both (stage_of past) (entry_records table (records_of lasts past)) (left_records table (records_of lasts past)) ∙ (λ i. (entries_same lasts) goal table past sound distinct i ++ (lefts_same lasts) goal table past sound distinct i) ∙ sym (map-append (record_of (lasts_after (NewTable table) past lasts) (NewTable table ∷ past)) (ids_of table) (filter (λ id. has_child id (known_children past)) (left_ids (NewTable table ∷ past)))) where
+  both : (o : Option Stage) (xs ys : List RecordState) → judged_in o table (xs ++ ys) ≡ judged_in o table xs ++ judged_in o table ys
   both None xs ys = refl
   both (Some stage) xs ys = map-append (after_judge table stage) xs ys

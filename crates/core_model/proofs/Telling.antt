@@ -6,8 +6,8 @@ use Rattle.std.proofs.lemmas.Bool.{false≢true, and_right, or_parts, not-true}
 use Rattle.std.proofs.lemmas.List.Elements.{filter-append, filter_agree}
 use Rattle.init_words.specs.declared.entries.Entry.{Entry}
 use Rattle.init_words.specs.declared.children.Status.{Status}
-use Rattle.init_words.specs.declared.orders.Ask.{Ask}
-use Rattle.init_words.specs.declared.orders.Ask.TheVariants.{Start, Look, Term, Kill}
+use Rattle.init_words.specs.declared.orders.OrderKind.{OrderKind}
+use Rattle.init_words.specs.declared.orders.OrderKind.TheVariants.{Start, Look, Term, Kill}
 use Rattle.init_words.specs.declared.orders.Answer.{Answer}
 use Rattle.init_words.specs.declared.orders.Answer.TheVariants as answer
 use Rattle.init_words.specs.declared.refusals.Refusal.TheVariants.{WrongAnswer}
@@ -16,40 +16,40 @@ use Rattle.init_words.specs.Orders.{answers, is_hit, is_miss}
 use Rattle.init_words.proofs.Same.{same_id-is, same_id-self, same_id-sym}
 use Rattle.init_words.proofs.Tests.{both_ways, and_false, and_true, filter_both, find_none}
 use Rattle.inittab_text.specs.Tables.{ids_of, has_id, entry_of, act_of}
-use Rattle.init_trace.specs.declared.happenings.Happening.TheVariants.{Told}
-use Rattle.init_trace.specs.declared.steps.Goal.{Goal}
-use Rattle.init_trace.specs.Event.{Event}
-use Rattle.init_trace.specs.Past.{table_of, time_of, Child, is_of, has_child, open_of, newborn, unreaped_children, known_children}
-use Rattle.init_trace.specs.Wanted.{is_excluded}
-use Rattle.init_trace.specs.Answered.{answered_of, child_after}
-use Rattle.init_trace.specs.Spells.{untold_hits, has_untold_miss, told_at, spell_hits, is_missed}
-use Rattle.init_trace.specs.Due.{left_ids, record_ids, wants_look}
-use Rattle.init_trace.specs.Sound.{is_sound}
+use Rattle.trace_events.specs.declared.happenings.Happening.TheVariants.{Told}
+use Rattle.trace_events.specs.declared.steps.Goal.{Goal}
+use Rattle.trace_events.specs.Event.{Event}
+use Rattle.trace_events.specs.Past.{table_of, time_of, Child, is_of, has_child, open_of, newborn, unreaped_children, known_children}
+use Rattle.trace_events.specs.Wanted.{is_excluded}
+use Rattle.trace_events.specs.Answered.{answered_of, child_after}
+use Rattle.trace_events.specs.Spells.{untold_hits, has_untold_miss, told_at, spell_hits, is_missed}
+use Rattle.trace_events.specs.Due.{left_ids, record_ids, wants_look}
+use Rattle.trace_events.specs.Sound.{is_sound}
 use Rattle.trace_laws.proofs.Dues.{is_signal}
 use Rattle.trace_laws.proofs.Orders.{told_other, same_has}
 use Rattle.trace_laws.proofs.Told.{answers_open, same_find, told_child}
 use Rattle.trace_laws.proofs.Records.{open_in_records, start_in_table, ids_listed}
 use Rattle.trace_laws.proofs.Spells.{missed_none, spell_told, missed_told, Tells, answered_tells}
 use Rattle.trace_laws.proofs.Stopping.{born_open, newborn_spared, unborn_childless, unborn_unlooked, left_apart, signal_excluded, signal_unmissed, has_after, told_leaves, answered_known}
-use Rattle.child_table.specs.declared.children.Stop.{Stop}
-use Rattle.child_table.specs.State.{SlotState}
-use Rattle.child_table.specs.Changes.{after_hit, after_answer, is_over}
-use Rattle.child_table.specs.Lists as lists
+use Rattle.core_records.specs.declared.children.Stop.{Stop}
+use Rattle.core_records.specs.State.{RecordState}
+use Rattle.core_records.specs.Changes.{after_hit, after_answer, is_over}
+use Rattle.core_records.specs.Lists as lists
 use Rattle.core_model.specs.Fit.{LastStatuses, child_known, living, stop_after, stop_known, stop_of, is_to_look, was_missed, last_told, lasts_after, record_of, records_of}
 use Rattle.core_model.proofs.Acts.{found_own, child_some, found_record, stop_same, missed_same}
 use Rattle.core_model.proofs.Tables.{none_found, mapped, filter_mapped, mapped_passing}
 
 -- the record of an answered id is there, with an open order that is answered so
 module _ (lasts : LastStatuses) (goal : Goal) (past : List Event) (sound : is_sound goal past ≡ true) (id : List ℕ) (given : Answer) (is : answered_of id past ≡ Some given) where
-  answered_record : lists.slot_of id (records_of lasts past) ≡ Some (record_of lasts past id)
+  answered_record : lists.record_by_id id (records_of lasts past) ≡ Some (record_of lasts past id)
   answered_record = read (open_of id past) refl (answers_open goal past sound id given is) where
-    read : (o : Option Ask) → open_of id past ≡ o → option_map_or (answers given) o false ≡ true → lists.slot_of id (records_of lasts past) ≡ Some (record_of lasts past id)
+    read : (o : Option OrderKind) → open_of id past ≡ o → option_map_or (answers given) o false ≡ true → lists.record_by_id id (records_of lasts past) ≡ Some (record_of lasts past id)
     read None order h = absurd (false≢true h)
     read (Some ask) order h = found_record lasts past id (record_ids past) (open_in_records goal past sound id ask order)
 
   pub told_taken : lists.refusal_of (lists.order_in id (records_of lasts past)) given ≡ Ok tt
   told_taken = ap (λ o. lists.refusal_of (lists.order_of o) given) answered_record ∙ read (open_of id past) (answers_open goal past sound id given is) where
-    read : (o : Option Ask) → option_map_or (answers given) o false ≡ true → lists.refusal_of o given ≡ Ok tt
+    read : (o : Option OrderKind) → option_map_or (answers given) o false ≡ true → lists.refusal_of o given ≡ Ok tt
     read None h = absurd (false≢true h)
     read (Some ask) h = ap (λ b. cond b (Ok tt) (Err WrongAnswer)) h
 
@@ -92,7 +92,7 @@ module _ (lasts : LastStatuses) (goal : Goal) (past : List Event) (sound : is_so
   later = lasts_after (Told id) past lasts
 
   -- the signals and the Misses of the known child, by those that are under way
-  hits_next : (child : Child) → child_known id past ≡ Some child → (hits : List (Option Ask)) → untold_hits id past ≡ hits → spell_hits child next ≡ cond (is_excluded past child) (map (told_at (time_of past)) hits ++ spell_hits child past) (spell_hits child past)
+  hits_next : (child : Child) → child_known id past ≡ Some child → (hits : List (Option OrderKind)) → untold_hits id past ≡ hits → spell_hits child next ≡ cond (is_excluded past child) (map (told_at (time_of past)) hits ++ spell_hits child past) (spell_hits child past)
   hits_next child there hits untold = spell_told child id past ∙ (λ i. cond (own i && is_excluded past child) (map (told_at (time_of past)) (under i) ++ spell_hits child past) (spell_hits child past)) where
     own : same_id child.id id ≡ true
     own = ap (λ y. same_id y id) (found_own id (known_children past) child there) ∙ same_id-self id
@@ -165,7 +165,7 @@ module _ (lasts : LastStatuses) (goal : Goal) (past : List Event) (sound : is_so
     there : has_child id (known_children past) ≡ true
     there = answered_known goal past sound id answer.Hit is refl
 
-    sent : (ask : Ask) → open_of id past ≡ Some ask → is_signal ask ≡ true → (child : Child) → child_known id past ≡ Some child → Some (stop_after (told_at (time_of past) (Some ask) ∷ spell_hits child past)) ≡ stop_known next (Some child)
+    sent : (ask : OrderKind) → open_of id past ≡ Some ask → is_signal ask ≡ true → (child : Child) → child_known id past ≡ Some child → Some (stop_after (told_at (time_of past) (Some ask) ∷ spell_hits child past)) ≡ stop_known next (Some child)
     sent ask order signal child known = sym (λ i. cond (excluded i) (Some (stop_after (hits i))) None) where
       excluded : is_excluded past child ≡ true
       excluded = signal_excluded goal past sound id ask order signal child known
@@ -173,7 +173,7 @@ module _ (lasts : LastStatuses) (goal : Goal) (past : List Event) (sound : is_so
       hits : spell_hits child next ≡ told_at (time_of past) (Some ask) ∷ spell_hits child past
       hits = hits_next child known (Some ask ∷ []) (tells.hits ∙ ap (λ o. o ∷ []) order) ∙ ap (λ b. cond b (told_at (time_of past) (Some ask) ∷ spell_hits child past) (spell_hits child past)) excluded
 
-    by_order : (o : Option Ask) → open_of id past ≡ o → option_map_or (answers answer.Hit) o false ≡ true → (child : Child) → child_known id past ≡ Some child → after_hit o (time_of past) (stop_of id past) ≡ stop_known next (Some child)
+    by_order : (o : Option OrderKind) → open_of id past ≡ o → option_map_or (answers answer.Hit) o false ≡ true → (child : Child) → child_known id past ≡ Some child → after_hit o (time_of past) (stop_of id past) ≡ stop_known next (Some child)
     by_order None order h child known = absurd (false≢true h)
     by_order (Some Start) order h child known = absurd (false≢true h)
     by_order (Some Look) order h child known = absurd (false≢true h)
@@ -190,10 +190,10 @@ module _ (lasts : LastStatuses) (goal : Goal) (past : List Event) (sound : is_so
     tells : Tells id past answer.Hit
     tells = answered_tells goal past sound id answer.Hit is
 
-    sent : (ask : Ask) → open_of id past ≡ Some ask → is_signal ask ≡ true → (child : Child) → child_known id past ≡ Some child → false ≡ is_missed child next
+    sent : (ask : OrderKind) → open_of id past ≡ Some ask → is_signal ask ≡ true → (child : Child) → child_known id past ≡ Some child → false ≡ is_missed child next
     sent ask order signal child known = sym (miss_next child known false tells.miss ∙ and_right (is_excluded past child) (is_missed child past) (signal_unmissed goal past sound id ask order signal child known))
 
-    by_order : (o : Option Ask) → open_of id past ≡ o → option_map_or (answers answer.Hit) o false ≡ true → (child : Child) → child_known id past ≡ Some child → false ≡ is_missed child next
+    by_order : (o : Option OrderKind) → open_of id past ≡ o → option_map_or (answers answer.Hit) o false ≡ true → (child : Child) → child_known id past ≡ Some child → false ≡ is_missed child next
     by_order None order h child known = absurd (false≢true h)
     by_order (Some Start) order h child known = absurd (false≢true h)
     by_order (Some Look) order h child known = absurd (false≢true h)
@@ -213,10 +213,10 @@ module _ (lasts : LastStatuses) (goal : Goal) (past : List Event) (sound : is_so
     there : has_child id (known_children past) ≡ true
     there = answered_known goal past sound id answer.Miss is refl
 
-    sent : (ask : Ask) → open_of id past ≡ Some ask → is_signal ask ≡ true → (child : Child) → child_known id past ≡ Some child → true ≡ is_missed child next
+    sent : (ask : OrderKind) → open_of id past ≡ Some ask → is_signal ask ≡ true → (child : Child) → child_known id past ≡ Some child → true ≡ is_missed child next
     sent ask order signal child known = sym (miss_next child known true tells.miss ∙ ap (λ b. b && true) (signal_excluded goal past sound id ask order signal child known))
 
-    by_order : (o : Option Ask) → open_of id past ≡ o → option_map_or (answers answer.Miss) o false ≡ true → (child : Child) → child_known id past ≡ Some child → true ≡ is_missed child next
+    by_order : (o : Option OrderKind) → open_of id past ≡ o → option_map_or (answers answer.Miss) o false ≡ true → (child : Child) → child_known id past ≡ Some child → true ≡ is_missed child next
     by_order None order h child known = absurd (false≢true h)
     by_order (Some Start) order h child known = absurd (false≢true h)
     by_order (Some Look) order h child known = absurd (false≢true h)
@@ -304,7 +304,7 @@ module _ (lasts : LastStatuses) (goal : Goal) (past : List Event) (sound : is_so
 
   -- the record of a child that ended goes, where the table doesn't have the id
   ended_without : list_any (has_id id) (table_of past) ≡ false → ((b : Bool) → has_after given b ≡ false) → lists.without id (records_of lasts past) ≡ records_of lasts_then after
-  ended_without gone ends = filter_mapped (λ (slot : SlotState). not (lists.is_slot_of id slot)) (record_of lasts past) (record_ids past) ∙ mapped_passing others (record_of lasts past) (record_of lasts_then after) (λ x other. (told_apart lasts) past id x (same_id-sym x id ∙ not-true (same_id id x) other)) (record_ids past) ∙ ap (map (record_of lasts_then after)) ids where
+  ended_without gone ends = filter_mapped (λ (slot : RecordState). not (lists.is_record_of id slot)) (record_of lasts past) (record_ids past) ∙ mapped_passing others (record_of lasts past) (record_of lasts_then after) (λ x other. (told_apart lasts) past id x (same_id-sym x id ∙ not-true (same_id id x) other)) (record_ids past) ∙ ap (map (record_of lasts_then after)) ids where
     others : List ℕ → Bool
     others x = not (same_id id x)
 

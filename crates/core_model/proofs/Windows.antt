@@ -9,17 +9,17 @@ use Rattle.std.proofs.lemmas.List.Elements.{All-push, filter-append}
 use Rattle.std.proofs.lemmas.List.Sums.{length-filter}
 use Rattle.std.proofs.lemmas.List.{length-append}
 use Rattle.respawn_limit.specs.declared.TheConstants.{HOLD, STARTS, CLOCK_LIMIT}
-use Rattle.init_words.specs.declared.orders.Ask.TheVariants.{Start}
+use Rattle.init_words.specs.declared.orders.OrderKind.TheVariants.{Start}
 use Rattle.init_words.specs.Ids.{same_id}
 use Rattle.respawn_limit.specs.State.{LimiterState}
 use Rattle.respawn_limit.specs.Window as window
 use Rattle.respawn_limit.specs.declared.May.TheVariants.{Yes, HoldUntil}
 use Rattle.respawn_limit.proofs.WindowLemmas.{is_full-last_starts, IsNonDecreasing-push}
-use Rattle.init_trace.specs.declared.happenings.Happening.TheVariants.{NewTable, Enter, Asked, Hold, Clock}
-use Rattle.init_trace.specs.Event.{Event}
-use Rattle.init_trace.specs.Past.{time_of}
-use Rattle.init_trace.specs.Timing.{start_times, hold_times, is_held, is_full}
-use Rattle.child_table.specs.Changes.{allows}
+use Rattle.trace_events.specs.declared.happenings.Happening.TheVariants.{NewTable, Enter, Asked, Hold, Clock}
+use Rattle.trace_events.specs.Event.{Event}
+use Rattle.trace_events.specs.Past.{time_of}
+use Rattle.trace_events.specs.Timing.{start_times, hold_times, is_held, is_full}
+use Rattle.core_records.specs.Changes.{allows}
 use Rattle.core_model.specs.Fit.{last_hold_end}
 
 -- times in order, none after now

@@ -10,20 +10,20 @@ use Rattle.init_words.specs.declared.levels.Level.{Level}
 use Rattle.init_words.specs.declared.levels.Letter.{Letter}
 use Rattle.init_words.specs.declared.levels.Letter.TheVariants as letter
 use Rattle.init_words.specs.declared.stages.Stage.{Stage}
-use Rattle.init_words.specs.declared.orders.Ask.{Ask}
-use Rattle.init_words.specs.declared.orders.Ask.TheVariants.{Start, Look, Term, Kill}
+use Rattle.init_words.specs.declared.orders.OrderKind.{OrderKind}
+use Rattle.init_words.specs.declared.orders.OrderKind.TheVariants.{Start, Look, Term, Kill}
 use Rattle.init_words.specs.declared.orders.PowerKind.{PowerKind}
 use Rattle.init_words.specs.declared.orders.PowerKind.TheVariants as power
 use Rattle.init_words.proofs.Tests.{any_less}
 use Rattle.inittab_text.specs.Tables.{has_id}
-use Rattle.init_trace.specs.declared.steps.Step.{Step}
-use Rattle.init_trace.specs.declared.steps.Step.TheVariants.{Enter, Call, Power, Reread, Order, Hold, Settle, Reexec, Idle}
-use Rattle.init_trace.specs.Run.{is_rest}
-use Rattle.child_table.specs.State.{SlotState, is_limited_slot}
-use Rattle.child_table.specs.Order.{IsInOrder}
-use Rattle.child_table.specs.Changes.{can_be_asked, after_order, after_hold, after_enter}
-use Rattle.child_table.specs.Judging.{after_judge}
-use Rattle.child_table.specs.Lists.{is_slot_of, changed, with_changed}
+use Rattle.trace_events.specs.declared.steps.Step.{Step}
+use Rattle.trace_events.specs.declared.steps.Step.TheVariants.{Enter, Call, Power, Reread, Order, Hold, Settle, Reexec, Idle}
+use Rattle.trace_events.specs.Run.{is_rest}
+use Rattle.core_records.specs.State.{RecordState, is_limited_record}
+use Rattle.core_records.specs.Order.{IsInOrder}
+use Rattle.core_records.specs.Changes.{can_be_asked, after_order, after_hold, after_enter}
+use Rattle.core_records.specs.Judging.{after_judge}
+use Rattle.core_records.specs.Lists.{is_record_of, changed, with_changed}
 use Rattle.core_model.specs.declared.news.News.{News}
 use Rattle.core_model.specs.News.{news_count, keeps_kind, keeps_call, with_kind, with_call}
 use Rattle.core_model.specs.State.{CoreState}
@@ -33,9 +33,9 @@ use Rattle.core_model.specs.Work.{stages_left, enters_left, unasked, unheld, wor
 use Rattle.core_model.proofs.Allowed.{has_with, has_asked, has_unheld, is_backed, decided}
 
 -- a change of an id's records that takes one out of those that count, and brings none in
-fewer : (p : SlotState → Bool) (id : List ℕ) (change : SlotState → SlotState) → ((slot : SlotState) → p (change slot) ≡ false) → (slots : List SlotState) → length (filter p (with_changed id change slots)) ≤ length (filter p slots)
+fewer : (p : RecordState → Bool) (id : List ℕ) (change : RecordState → RecordState) → ((slot : RecordState) → p (change slot) ≡ false) → (slots : List RecordState) → length (filter p (with_changed id change slots)) ≤ length (filter p slots)
 fewer p id change out [] = omega arith
-fewer p id change out (slot ∷ slots) = at (is_slot_of id slot) (p slot) refl (fewer p id change out slots)
+fewer p id change out (slot ∷ slots) = at (is_record_of id slot) (p slot) refl (fewer p id change out slots)
   where
     at : (b c : Bool) → p slot ≡ c → length (filter p (with_changed id change slots)) ≤ length (filter p slots) → length (filter p (cond b (change slot) slot ∷ with_changed id change slots)) ≤ length (cond c (slot ∷ filter p slots) (filter p slots))
     at true true is h = rw (out slot) (omega arith)
@@ -43,9 +43,9 @@ fewer p id change out (slot ∷ slots) = at (is_slot_of id slot) (p slot) refl (
     at false true is h = rw is (omega arith)
     at false false is h = rw is (omega arith)
 
-one_fewer : (p : SlotState → Bool) (id : List ℕ) (change : SlotState → SlotState) → ((slot : SlotState) → p (change slot) ≡ false) → (slots : List SlotState) → has_with id p slots ≡ true → length (filter p (with_changed id change slots)) < length (filter p slots)
+one_fewer : (p : RecordState → Bool) (id : List ℕ) (change : RecordState → RecordState) → ((slot : RecordState) → p (change slot) ≡ false) → (slots : List RecordState) → has_with id p slots ≡ true → length (filter p (with_changed id change slots)) < length (filter p slots)
 one_fewer p id change out [] there = absurd (false≢true there)
-one_fewer p id change out (slot ∷ slots) there = at (is_slot_of id slot) (p slot) refl there (fewer p id change out slots) (one_fewer p id change out slots)
+one_fewer p id change out (slot ∷ slots) there = at (is_record_of id slot) (p slot) refl there (fewer p id change out slots) (one_fewer p id change out slots)
   where
     at : (b c : Bool) → p slot ≡ c → (b && c || has_with id p slots) ≡ true → length (filter p (with_changed id change slots)) ≤ length (filter p slots)
         → (has_with id p slots ≡ true → length (filter p (with_changed id change slots)) < length (filter p slots))
@@ -56,7 +56,7 @@ one_fewer p id change out (slot ∷ slots) there = at (is_slot_of id slot) (p sl
     at false false is h le lt = rw is (lt h)
 
 -- a change that leaves alone what counts
-as_many : (p : SlotState → Bool) (change : SlotState → SlotState) → ((slot : SlotState) → p (change slot) ≡ p slot) → (slots : List SlotState) → length (filter p (map change slots)) ≡ length (filter p slots)
+as_many : (p : RecordState → Bool) (change : RecordState → RecordState) → ((slot : RecordState) → p (change slot) ≡ p slot) → (slots : List RecordState) → length (filter p (map change slots)) ≡ length (filter p slots)
 as_many p change same [] = refl
 as_many p change same (slot ∷ slots) = rw (same slot) (at (p slot) (as_many p change same slots))
   where
@@ -64,7 +64,7 @@ as_many p change same (slot ∷ slots) = rw (same slot) (at (p slot) (as_many p 
     at true h = omega arith
     at false h = h
 
-length-filter-le : (p : SlotState → Bool) (slots : List SlotState) → length (filter p slots) ≤ length slots
+length-filter-le : (p : RecordState → Bool) (slots : List RecordState) → length (filter p slots) ≤ length slots
 length-filter-le p [] = omega arith
 length-filter-le p (slot ∷ slots) = at (p slot) (length-filter-le p slots)
   where
@@ -72,12 +72,12 @@ length-filter-le p (slot ∷ slots) = at (p slot) (length-filter-le p slots)
     at true h = omega arith
     at false h = omega arith
 
-length-map : (f : SlotState → SlotState) (slots : List SlotState) → length (map f slots) ≡ length slots
+length-map : (f : RecordState → RecordState) (slots : List RecordState) → length (map f slots) ≡ length slots
 length-map f [] = refl
 length-map f (slot ∷ slots) = ap (λ n. suc n) (length-map f slots)
 
 -- a record of which something may be asked has no order, and has one then; what is held stays
-asked_free : (ask : Ask) (now : ℕ) (slot : SlotState) → can_be_asked ask now slot ≡ true → unasked slot ≡ true
+asked_free : (ask : OrderKind) (now : ℕ) (slot : RecordState) → can_be_asked ask now slot ≡ true → unasked slot ≡ true
 asked_free ask now slot = at ask
   where
     four : (b x y z : Bool) → (b && x && y && z) ≡ true → b ≡ true
@@ -88,20 +88,21 @@ asked_free ask now slot = at ask
     two true x h = refl
     two false x h = absurd (false≢true h)
 
-    at : (ask : Ask) → can_be_asked ask now slot ≡ true → unasked slot ≡ true
+    at : (ask : OrderKind) → can_be_asked ask now slot ≡ true → unasked slot ≡ true
     at Start h = four _ _ _ _ h
     at Look h = two _ _ h
     at Term h = two _ _ h
     at Kill h = two _ _ h
 
-order_asked : (ask : Ask) (now : ℕ) (slot : SlotState) → unasked (after_order ask now slot) ≡ false
+order_asked : (ask : OrderKind) (now : ℕ) (slot : RecordState) → unasked (after_order ask now slot) ≡ false
 order_asked Start now slot = refl
 order_asked Look now slot = refl
 order_asked Term now slot = refl
 order_asked Kill now slot = refl
 
-order_unheld : (ask : Ask) (now time : ℕ) (slot : SlotState) → unheld time (after_order ask now slot) ≡ unheld time slot
-order_unheld Start now time slot = at (is_limited_slot slot)
+order_unheld : (ask : OrderKind) (now time : ℕ) (slot : RecordState)
+    → unheld time (after_order ask now slot) ≡ unheld time slot
+order_unheld Start now time slot = at (is_limited_record slot)
   where
     at : (b : Bool) → not (window.is_held (cond b (window.with_start slot.limiter now) slot.limiter).held time) ≡ not (window.is_held slot.limiter.held time)
     at true = refl
@@ -110,17 +111,17 @@ order_unheld Look now time slot = refl
 order_unheld Term now time slot = refl
 order_unheld Kill now time slot = refl
 
-one_same : (id : List ℕ) (change : SlotState → SlotState) (p : SlotState → Bool) → ((slot : SlotState) → p (change slot) ≡ p slot) → (slot : SlotState) → p (changed id change slot) ≡ p slot
-one_same id change p same slot = at (is_slot_of id slot)
+one_same : (id : List ℕ) (change : RecordState → RecordState) (p : RecordState → Bool) → ((slot : RecordState) → p (change slot) ≡ p slot) → (slot : RecordState) → p (changed id change slot) ≡ p slot
+one_same id change p same slot = at (is_record_of id slot)
   where
     at : (b : Bool) → p (cond b (change slot) slot) ≡ p slot
     at true = same slot
     at false = refl
 
 -- an order to a record with none leaves less to do
-order_falls : (id : List ℕ) (ask : Ask) (c : CoreState) → has_with id (can_be_asked ask c.heads.time) c.slots ≡ true → work_left (after_step (Order id ask) c) < work_left c
+order_falls : (id : List ℕ) (ask : OrderKind) (c : CoreState) → has_with id (can_be_asked ask c.heads.time) c.slots ≡ true → work_left (after_step (Order id ask) c) < work_left c
 order_falls id ask c there =
-    let free : has_with id unasked c.slots ≡ true = any_less (λ (s : SlotState). is_slot_of id s && can_be_asked ask c.heads.time s) (λ (s : SlotState). is_slot_of id s && unasked s) (λ s both. let parts = and_parts (is_slot_of id s) (can_be_asked ask c.heads.time s) both in and_from (is_slot_of id s) (unasked s) parts.0 (asked_free ask c.heads.time s parts.1)) c.slots there in
+    let free : has_with id unasked c.slots ≡ true = any_less (λ (s : RecordState). is_record_of id s && can_be_asked ask c.heads.time s) (λ (s : RecordState). is_record_of id s && unasked s) (λ s both. let parts = and_parts (is_record_of id s) (can_be_asked ask c.heads.time s) both in and_from (is_record_of id s) (unasked s) parts.0 (asked_free ask c.heads.time s parts.1)) c.slots there in
     let less : length (filter unasked (with_changed id (after_order ask c.heads.time) c.slots)) < length (filter unasked c.slots) = one_fewer unasked id (after_order ask c.heads.time) (order_asked ask c.heads.time) c.slots free in
     let same : length (filter (unheld c.heads.time) (with_changed id (after_order ask c.heads.time) c.slots)) ≡ length (filter (unheld c.heads.time) c.slots) = as_many (unheld c.heads.time) (changed id (after_order ask c.heads.time)) (one_same id (after_order ask c.heads.time) (unheld c.heads.time) (order_unheld ask c.heads.time c.heads.time)) c.slots in
     let long : length (with_changed id (after_order ask c.heads.time) c.slots) ≡ length c.slots = length-map (changed id (after_order ask c.heads.time)) c.slots in
@@ -141,7 +142,7 @@ settle_falls level c is = rw is (omega arith)
 -- a stage that is entered leaves one less to come, whatever its records make of it
 enter_falls : (next : Stage) (grace : ℕ) (c : CoreState) → suc (stages_left (Some next)) ≤ enters_left c → work_left (after_step (Enter next grace) c) < work_left c
 enter_falls next grace c fewer_stages =
-    let entered : List SlotState = map (after_judge c.table next) (map after_enter c.slots) in
+    let entered : List RecordState = map (after_judge c.table next) (map after_enter c.slots) in
     let long : length (map (after_judge c.table next) (map after_enter c.slots)) ≡ length c.slots = length-map (after_judge c.table next) (map after_enter c.slots) ∙ length-map after_enter c.slots in
     let first : length (filter unasked entered) ≤ length c.slots = subst (λ n. length (filter unasked entered) ≤ n) long (length-filter-le unasked entered) in
     let second : length (filter (unheld c.heads.time) entered) ≤ length c.slots = subst (λ n. length (filter (unheld c.heads.time) entered) ≤ n) long (length-filter-le (unheld c.heads.time) entered) in
@@ -151,13 +152,13 @@ enter_falls next grace c fewer_stages =
     by s t k a b n w h ha hb = let more : (suc s) * (2 * k + 2) ≤ t * (2 * k + 2) = mul-le-mul_right (2 * k + 2) h in omega (arith, more)
 
 -- news that is carried out is kept no more, and what it calls loses no order and no hold
-called_same : {X : Type 0} (p : SlotState → X) → ((slot : SlotState) → p (called_if true slot) ≡ p slot) → (b : Bool) (slot : SlotState) → p (called_if b slot) ≡ p slot
+called_same : {X : Type 0} (p : RecordState → X) → ((slot : RecordState) → p (called_if true slot) ≡ p slot) → (b : Bool) (slot : RecordState) → p (called_if b slot) ≡ p slot
 called_same p same true slot = same slot
 called_same p same false slot = refl
 
 called_falls : (named : Entry → Bool) (news : News) (c : CoreState) → news_count news < news_count c.heads.news → work_left (record c { slots = with_called named c.table c.slots; heads = record c.heads { news = news } }) < work_left c
 called_falls named news c fewer_news =
-    let change : SlotState → SlotState = λ (slot : SlotState). called_if (list_any (λ e. has_id slot.id e && named e) c.table) slot in
+    let change : RecordState → RecordState = λ (slot : RecordState). called_if (list_any (λ e. has_id slot.id e && named e) c.table) slot in
     let first : length (filter unasked (map change c.slots)) ≡ length (filter unasked c.slots) = as_many unasked change (λ slot. called_same unasked (λ s. refl) (list_any (λ e. has_id slot.id e && named e) c.table) slot) c.slots in
     let second : length (filter (unheld c.heads.time) (map change c.slots)) ≡ length (filter (unheld c.heads.time) c.slots) = as_many (unheld c.heads.time) change (λ slot. called_same (unheld c.heads.time) (λ s. refl) (list_any (λ e. has_id slot.id e && named e) c.table) slot) c.slots in
     let long : length (map change c.slots) ≡ length c.slots = length-map change c.slots in

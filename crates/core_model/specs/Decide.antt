@@ -7,21 +7,21 @@ use Rattle.init_words.specs.declared.levels.Level.TheVariants.{S}
 use Rattle.init_words.specs.declared.levels.Mark.TheVariants.{At}
 use Rattle.init_words.specs.declared.stages.Stage.{Stage}
 use Rattle.init_words.specs.declared.stages.Stage.TheVariants as stage
-use Rattle.init_words.specs.declared.orders.Ask.TheVariants.{Start, Look, Term, Kill}
+use Rattle.init_words.specs.declared.orders.OrderKind.TheVariants.{Start, Look, Term, Kill}
 use Rattle.init_words.specs.Actions.{wanted_by, is_limited, served_by}
 use Rattle.init_words.specs.Entries.{starts_of, waited_of}
 use Rattle.init_words.specs.Levels.{same_level, names}
 use Rattle.respawn_limit.specs.Window.{may_of, is_held}
-use Rattle.init_trace.specs.declared.steps.Step.{Step}
-use Rattle.init_trace.specs.declared.steps.Step.TheVariants.{Enter, Order, Hold, Settle, Reread, Reexec, Idle}
-use Rattle.init_trace.specs.declared.steps.Goal.{Goal}
-use Rattle.init_trace.specs.Wanted.{is_order}
-use Rattle.init_trace.specs.Wishes.{in_run}
-use Rattle.child_table.specs.declared.children.Stop.{Stop}
-use Rattle.child_table.specs.declared.children.Stop.TheVariants.{Due, Termed}
-use Rattle.child_table.specs.State.{SlotState}
-use Rattle.child_table.specs.Changes.{allows}
-use Rattle.child_table.specs.Lists.{is_quiet}
+use Rattle.trace_events.specs.declared.steps.Step.{Step}
+use Rattle.trace_events.specs.declared.steps.Step.TheVariants.{Enter, Order, Hold, Settle, Reread, Reexec, Idle}
+use Rattle.trace_events.specs.declared.steps.Goal.{Goal}
+use Rattle.trace_events.specs.Wanted.{is_order}
+use Rattle.trace_events.specs.Wishes.{in_run}
+use Rattle.core_records.specs.declared.children.Stop.{Stop}
+use Rattle.core_records.specs.declared.children.Stop.TheVariants.{Due, Termed}
+use Rattle.core_records.specs.State.{RecordState}
+use Rattle.core_records.specs.Changes.{allows}
+use Rattle.core_records.specs.Lists.{is_quiet}
 use Rattle.core_model.specs.News.{has_news, first_news}
 use Rattle.core_model.specs.State.{CoreState}
 
@@ -66,63 +66,63 @@ signal_step grace now id (Some Due) = Some (Order id Term)
 signal_step grace now id (Some (Termed time)) = if nat_le (time + grace) now then Some (Order id Kill) else None
 signal_step grace now id _ = None
 
-abbrev pub stop_step : ℕ → ℕ → SlotState → Option Step
+abbrev pub stop_step : ℕ → ℕ → RecordState → Option Step
 stop_step grace now slot =
     if is_some slot.child && is_none slot.order && not slot.missed then signal_step grace now slot.id slot.stop
     else None
 
 -- the first signal in record order
-abbrev pub stop_among : ℕ → ℕ → List SlotState → Option Step
+abbrev pub stop_among : ℕ → ℕ → List RecordState → Option Step
 stop_among grace now [] = None
 stop_among grace now (slot ∷ slots) = or_else (stop_step grace now slot) (stop_among grace now slots)
 
 -- a child is excluded: its stop has begun
-abbrev pub has_excluded : List SlotState → Bool
-has_excluded slots = list_any (λ (slot : SlotState). is_some slot.stop) slots
+abbrev pub has_excluded : List RecordState → Bool
+has_excluded slots = list_any (λ (slot : RecordState). is_some slot.stop) slots
 
 -- the entry with this record is wanted in the stage
-abbrev pub is_wanted_slot : Stage → Entry → SlotState → Bool
-is_wanted_slot stage e slot =
+abbrev pub is_wanted_record : Stage → Entry → RecordState → Bool
+is_wanted_record stage e slot =
     starts_of e stage
     && wanted_by e.act (is_none slot.child && not (is_order Start slot.order)) (not slot.asked) slot.called
 
 -- it is owed: init waits for it
-abbrev pub is_owed_slot : Stage → Entry → SlotState → Bool
-is_owed_slot stage e slot =
-    waited_of e && (is_some slot.child || is_order Start slot.order || is_wanted_slot stage e slot)
+abbrev pub is_owed_record : Stage → Entry → RecordState → Bool
+is_owed_record stage e slot =
+    waited_of e && (is_some slot.child || is_order Start slot.order || is_wanted_record stage e slot)
 
 -- the start or the hold of an entry that could be started, if its limiter has not held it already
-abbrev pub limited_step : ℕ → Entry → SlotState → Option Step
+abbrev pub limited_step : ℕ → Entry → RecordState → Option Step
 limited_step now e slot =
     if is_limited e.act then
     (if is_held slot.limiter.held now then None
     else Some (if allows (may_of slot.limiter now) then Order e.id Start else Hold e.id))
     else Some (Order e.id Start)
 
-abbrev pub can_start_slot : Stage → Entry → SlotState → Bool
-can_start_slot stage e slot = is_wanted_slot stage e slot && is_none slot.child && is_none slot.order
+abbrev pub can_start_record : Stage → Entry → RecordState → Bool
+can_start_record stage e slot = is_wanted_record stage e slot && is_none slot.child && is_none slot.order
 
-abbrev pub start_step : Stage → ℕ → Entry → SlotState → Option Step
-start_step stage now e slot = if can_start_slot stage e slot then limited_step now e slot else None
+abbrev pub start_step : Stage → ℕ → Entry → RecordState → Option Step
+start_step stage now e slot = if can_start_record stage e slot then limited_step now e slot else None
 
 -- the first start or hold in table order, up to the first owed entry
-abbrev pub start_along : Stage → ℕ → List (Entry × SlotState) → Option Step
+abbrev pub start_along : Stage → ℕ → List (Entry × RecordState) → Option Step
 start_along stage now [] = None
 start_along stage now (p ∷ ps) =
-    or_else (start_step stage now p.0 p.1) (if is_owed_slot stage p.0 p.1 then None else start_along stage now ps)
+    or_else (start_step stage now p.0 p.1) (if is_owed_record stage p.0 p.1 then None else start_along stage now ps)
 
-abbrev pub start_among : Stage → ℕ → List Entry → List SlotState → Option Step
+abbrev pub start_among : Stage → ℕ → List Entry → List RecordState → Option Step
 start_among stage now table slots = start_along stage now (zip table slots)
 
 -- nothing is left to do for the entry in Sysinit or Boot
-abbrev pub is_done_slot : Stage → Entry → SlotState → Bool
-is_done_slot stage e slot = not (is_wanted_slot stage e slot) && not (waited_of e && is_some slot.child)
+abbrev pub is_done_record : Stage → Entry → RecordState → Bool
+is_done_record stage e slot = not (is_wanted_record stage e slot) && not (waited_of e && is_some slot.child)
 
-abbrev pub all_done : Stage → List Entry → List SlotState → Bool
-all_done stage table slots = list_all (λ (p : Entry × SlotState). is_done_slot stage p.0 p.1) (zip table slots)
+abbrev pub all_done : Stage → List Entry → List RecordState → Bool
+all_done stage table slots = list_all (λ (p : Entry × RecordState). is_done_record stage p.0 p.1) (zip table slots)
 
 -- a stage of the way up is over: nothing is open in it but looks, and nothing left to do
-abbrev pub is_over_among : Stage → List Entry → List SlotState → Bool
+abbrev pub is_over_among : Stage → List Entry → List RecordState → Bool
 is_over_among stage table slots = is_quiet slots && all_done stage table slots
 
 -- after Sysinit and Boot, the stage that comes next
@@ -135,37 +135,37 @@ abbrev pub enter_step : Option Stage → ℕ → Option Step
 enter_step None grace = None
 enter_step (Some stage) grace = Some (Enter stage grace)
 
-abbrev pub stage_step : Stage → Goal → List Entry → List SlotState → Option Step
+abbrev pub stage_step : Stage → Goal → List Entry → List RecordState → Option Step
 stage_step stage goal table slots =
     if is_over_among stage table slots then enter_step (next_stage stage goal.level) goal.grace else None
 
 -- no order at all is open
-abbrev pub is_idle : List SlotState → Bool
-is_idle slots = not (list_any (λ (slot : SlotState). is_some slot.order) slots)
+abbrev pub is_idle : List RecordState → Bool
+is_idle slots = not (list_any (λ (slot : RecordState). is_some slot.order) slots)
 
 -- the entry with this record keeps no level from being settled
-abbrev pub is_served_slot : Level → ℕ → Entry → SlotState → Bool
-is_served_slot level now e slot = not (is_owed_slot (stage.Run level) e slot)
+abbrev pub is_served_record : Level → ℕ → Entry → RecordState → Bool
+is_served_record level now e slot = not (is_owed_record (stage.Run level) e slot)
     && (not (names (At level) e.levels.items)
     || served_by e.act slot.asked (is_some slot.child || is_held slot.limiter.held now))
 
-abbrev pub all_served : Level → ℕ → List Entry → List SlotState → Bool
+abbrev pub all_served : Level → ℕ → List Entry → List RecordState → Bool
 all_served level now table slots =
-    list_all (λ (p : Entry × SlotState). is_served_slot level now p.0 p.1) (zip table slots)
+    list_all (λ (p : Entry × RecordState). is_served_record level now p.0 p.1) (zip table slots)
 
 -- in a run level, that it is settled, once
-abbrev pub settle_step : Stage → Bool → ℕ → List Entry → List SlotState → Option Step
+abbrev pub settle_step : Stage → Bool → ℕ → List Entry → List RecordState → Option Step
 settle_step (stage.Run level) announced now table slots =
     if not announced && is_idle slots && all_served level now table slots then Some (Settle level) else None
 settle_step _ announced now table slots = None
 
 -- the first record whose child is to be looked at
-abbrev pub can_look_slot : SlotState → Bool
-can_look_slot slot = is_some slot.child && is_none slot.order && slot.look
+abbrev pub can_look_record : RecordState → Bool
+can_look_record slot = is_some slot.child && is_none slot.order && slot.look
 
-abbrev pub look_among : List SlotState → Option Step
+abbrev pub look_among : List RecordState → Option Step
 look_among [] = None
-look_among (slot ∷ slots) = if can_look_slot slot then Some (Order slot.id Look) else look_among slots
+look_among (slot ∷ slots) = if can_look_record slot then Some (Order slot.id Look) else look_among slots
 
 -- where no child is excluded: a start or a hold, the next stage, or that the level is settled
 abbrev pub calm_step : Stage → CoreState → Option Step
@@ -193,12 +193,12 @@ abbrev pub decide : CoreState → Step
 decide c = decide_in c.heads.stage c
 
 -- a run level is announced, no record has a child or an order, no wish stands, and no entry is held
-abbrev pub is_busy_slot : ℕ → SlotState → Bool
-is_busy_slot now slot = is_some slot.child || is_some slot.order || is_held slot.limiter.held now
+abbrev pub is_busy_record : ℕ → RecordState → Bool
+is_busy_record now slot = is_some slot.child || is_some slot.order || is_held slot.limiter.held now
 
 abbrev pub is_drained_in : Option Stage → CoreState → Bool
 is_drained_in (Some (stage.Run level)) c =
-    c.heads.announced && not (stands (stage.Run level) c) && not (list_any (is_busy_slot c.heads.time) c.slots)
+    c.heads.announced && not (stands (stage.Run level) c) && not (list_any (is_busy_record c.heads.time) c.slots)
 is_drained_in _ c = false
 
 abbrev pub is_drained : CoreState → Bool

@@ -10,30 +10,30 @@ use Rattle.init_words.specs.declared.entries.Entry.{Entry}
 use Rattle.init_words.specs.declared.levels.Letter.TheVariants as letter
 use Rattle.init_words.specs.declared.orders.Answer.{Answer}
 use Rattle.init_words.specs.declared.orders.Answer.TheVariants.{Ended}
-use Rattle.init_words.specs.declared.orders.Ask.TheVariants.{Kill}
+use Rattle.init_words.specs.declared.orders.OrderKind.TheVariants.{Kill}
 use Rattle.init_words.specs.declared.orders.PowerKind.TheVariants as power
 use Rattle.init_words.specs.Actions.{is_limited}
 use Rattle.init_words.specs.Ids.{same_id}
 use Rattle.inittab_text.specs.Tables.{entry_of, act_of}
-use Rattle.init_trace.specs.declared.happenings.Happening.TheVariants as happened
-use Rattle.init_trace.specs.declared.steps.Step.{Step}
-use Rattle.init_trace.specs.declared.steps.Step.TheVariants as step
-use Rattle.init_trace.specs.declared.steps.Goal.{Goal}
-use Rattle.init_trace.specs.Event.{Event}
-use Rattle.init_trace.specs.Answered.{answered_of}
-use Rattle.init_trace.specs.Past.{Child, is_of, has_child, open_of, table_of, stage_of, grace_of, time_of, known_children}
-use Rattle.init_trace.specs.Wanted.{is_asked, is_called, is_excluded, is_order}
-use Rattle.init_trace.specs.Spells.{Signal, spell_hits, is_missed}
-use Rattle.init_trace.specs.Timing.{start_times, hold_times}
-use Rattle.init_trace.specs.Wishes.{in_run, goal_of, wants_reexec, wants_reread, level_wish, keeps_power, keeps_letter, was_booted}
-use Rattle.init_trace.specs.Due.{record_ids, wants_look, is_announced}
-use Rattle.init_trace.specs.Sound.{is_sound}
-use Rattle.child_table.specs.declared.children.KnownChild.{KnownChild}
-use Rattle.child_table.specs.declared.children.Stop.{Stop}
-use Rattle.child_table.specs.declared.children.Stop.TheVariants.{Due, Termed, Killed}
-use Rattle.child_table.specs.State.{SlotState}
+use Rattle.trace_events.specs.declared.happenings.Happening.TheVariants as happened
+use Rattle.trace_events.specs.declared.steps.Step.{Step}
+use Rattle.trace_events.specs.declared.steps.Step.TheVariants as step
+use Rattle.trace_events.specs.declared.steps.Goal.{Goal}
+use Rattle.trace_events.specs.Event.{Event}
+use Rattle.trace_events.specs.Answered.{answered_of}
+use Rattle.trace_events.specs.Past.{Child, is_of, has_child, open_of, table_of, stage_of, grace_of, time_of, known_children}
+use Rattle.trace_events.specs.Wanted.{is_asked, is_called, is_excluded, is_order}
+use Rattle.trace_events.specs.Spells.{Signal, spell_hits, is_missed}
+use Rattle.trace_events.specs.Timing.{start_times, hold_times}
+use Rattle.trace_events.specs.Wishes.{in_run, goal_of, wants_reexec, wants_reread, level_wish, keeps_power, keeps_letter, was_booted}
+use Rattle.trace_events.specs.Due.{record_ids, wants_look, is_announced}
+use Rattle.trace_events.specs.Sound.{is_sound}
+use Rattle.core_records.specs.declared.children.KnownChild.{KnownChild}
+use Rattle.core_records.specs.declared.children.Stop.{Stop}
+use Rattle.core_records.specs.declared.children.Stop.TheVariants.{Due, Termed, Killed}
+use Rattle.core_records.specs.State.{RecordState}
 use Rattle.core_model.specs.declared.news.News.{News}
-use Rattle.core_model.specs.declared.parts.Heads.{Heads}
+use Rattle.core_model.specs.declared.parts.CoreFields.{CoreFields}
 use Rattle.core_model.specs.State.{CoreState}
 
 -- the known child of an id, and as a record has it
@@ -115,7 +115,7 @@ lasts_of [] = λ id. None
 lasts_of (happening ∷ past) = lasts_after happening past (lasts_of past)
 
 -- the record of an id, as the past has it, with this last status
-abbrev pub record_of : LastStatuses → List Event → List ℕ → SlotState
+abbrev pub record_of : LastStatuses → List Event → List ℕ → RecordState
 record_of lasts past id = record {
   id = id;
   table_act = act_of id (table_of past);
@@ -131,7 +131,7 @@ record_of lasts past id = record {
 }
 
 -- all, in record order
-abbrev pub records_of : LastStatuses → List Event → List SlotState
+abbrev pub records_of : LastStatuses → List Event → List RecordState
 records_of lasts past = map (record_of lasts past) (record_ids past)
 
 -- what is kept of the power and of letters
@@ -146,7 +146,7 @@ news_of past = record {
 }
 
 -- the single values of init as the past has them, with this goal and of this generation
-abbrev pub heads_of : List Event → Goal → ℕ → Heads
+abbrev pub heads_of : List Event → Goal → ℕ → CoreFields
 heads_of past goal generation = record {
   generation = generation;
   time = time_of past;
@@ -179,11 +179,11 @@ pub record Fits (core : CoreState) (opening : Goal) (past : List Event) : Type 0
 -- the core with these last statuses
 abbrev pub with_lasts : LastStatuses → CoreState → CoreState
 with_lasts lasts core =
-    record core { slots = map (λ (slot : SlotState). record slot { last = lasts slot.id }) core.slots }
+    record core { slots = map (λ (slot : RecordState). record slot { last = lasts slot.id }) core.slots }
 
 -- beside it: the last statuses of its records are those of the past
 abbrev pub HasLasts : CoreState → List Event → Type 0
-HasLasts core past = map (λ (slot : SlotState). slot.last) core.slots ≡ map (lasts_of past) (record_ids past)
+HasLasts core past = map (λ (slot : RecordState). slot.last) core.slots ≡ map (lasts_of past) (record_ids past)
 
 -- the core fits the trace, and its last statuses are those of the past
 abbrev pub FitsAll : CoreState → Goal → List Event → Type 0

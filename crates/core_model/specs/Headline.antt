@@ -1,15 +1,15 @@
 -- The children of the system are the core's records, corrected by the answers under way.
 use Rattle.std.specs.Prelude.{ℕ, Bool, not, ◌&&◌, ◌||◌, List}
 use Rattle.std.specs.List.{list_any}
-use Rattle.init_trace.specs.Event.{Event}
-use Rattle.init_trace.specs.Agreement.{has_untold_birth, has_untold_end}
-use Rattle.child_table.specs.State.{SlotState}
-use Rattle.child_table.specs.Lists.{is_slot_of, is_numbered}
+use Rattle.trace_events.specs.Event.{Event}
+use Rattle.trace_events.specs.Agreement.{has_untold_birth, has_untold_end}
+use Rattle.core_records.specs.State.{RecordState}
+use Rattle.core_records.specs.Lists.{is_record_of, is_numbered}
 use Rattle.core_model.specs.State.{CoreState}
 
 -- a record of the core has the child of this id and number
 abbrev pub has_record : List ℕ → ℕ → CoreState → Bool
-has_record id n core = list_any (λ (slot : SlotState). is_slot_of id slot && is_numbered n slot.child) core.slots
+has_record id n core = list_any (λ (slot : RecordState). is_record_of id slot && is_numbered n slot.child) core.slots
 
 -- the records that have a child, less those whose reaping is not told, with those whose birth is not told
 abbrev pub is_recorded : List ℕ → ℕ → CoreState → List Event → Bool

@@ -1,19 +1,19 @@
 -- What init keeps, as plain values: what its state text says (telinit(8), `u`).
 use Rattle.std.specs.Prelude.{List, map}
 use Rattle.init_words.specs.declared.entries.Entry.{Entry}
-use Rattle.child_table.specs.State.{SlotState, child_number, birth_act}
-use Rattle.core_model.specs.declared.parts.Heads.{Heads}
-use Rattle.core_model.specs.declared.parts.Record.{Record}
+use Rattle.core_records.specs.State.{RecordState, child_number, birth_act}
+use Rattle.core_model.specs.declared.parts.CoreFields.{CoreFields}
+use Rattle.core_model.specs.declared.parts.PlainRecord.{PlainRecord}
 use Rattle.core_model.specs.State.{CoreState}
 
 -- the heads, the table, and a record for each id in record order
 pub record SavedState : Type 0 where
-  pub heads : Heads
+  pub heads : CoreFields
   pub table : List Entry
-  pub records : List Record
+  pub records : List PlainRecord
 
 -- what a record of init's keeps
-abbrev pub record_of : SlotState → Record
+abbrev pub record_of : RecordState → PlainRecord
 record_of slot = record {
   id = slot.id;
   child = child_number slot;

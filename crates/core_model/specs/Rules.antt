@@ -4,8 +4,8 @@ use Rattle.std.specs.Prelude.{◌≡◌, ℕ, Bool, true, false, not, ◌&&◌, 
 use Rattle.std.specs.List.{list_all, list_any}
 use Rattle.init_words.specs.declared.actions.Act.{Act}
 use Rattle.init_words.specs.declared.entries.Entry.{Entry}
-use Rattle.init_words.specs.declared.orders.Ask.{Ask}
-use Rattle.init_words.specs.declared.orders.Ask.TheVariants.{Start, Look, Term, Kill}
+use Rattle.init_words.specs.declared.orders.OrderKind.{OrderKind}
+use Rattle.init_words.specs.declared.orders.OrderKind.TheVariants.{Start, Look, Term, Kill}
 use Rattle.init_words.specs.declared.orders.PowerKind.TheVariants as power
 use Rattle.init_words.specs.declared.stages.Stage.{Stage}
 use Rattle.init_words.specs.declared.stages.Stage.TheVariants as stage
@@ -15,23 +15,23 @@ use Rattle.init_words.specs.Levels.{same_level}
 use Rattle.inittab_text.specs.Tables.{entry_of}
 use Rattle.respawn_limit.specs.declared.TheConstants.{CLOCK_LIMIT, HOLD, STARTS}
 use Rattle.respawn_limit.specs.State.{LimiterState}
-use Rattle.init_trace.specs.declared.steps.Goal.{Goal}
-use Rattle.init_trace.specs.Wanted.{is_order}
-use Rattle.init_trace.specs.Wishes.{in_run}
-use Rattle.child_table.specs.declared.children.KnownChild.{KnownChild}
-use Rattle.child_table.specs.declared.children.Stop.{Stop}
-use Rattle.child_table.specs.declared.children.Stop.TheVariants.{Due, Termed}
-use Rattle.child_table.specs.State.{SlotState, is_limited_slot}
-use Rattle.child_table.specs.Judging.{is_excluded}
-use Rattle.child_table.specs.Lists.{are_distinct}
-use Rattle.child_table.specs.Order.{IsInOrder}
-use Rattle.child_table.specs.Times.{is_timely}
-use Rattle.core_model.specs.declared.parts.Heads.{Heads}
-use Rattle.core_model.specs.Decide.{has_excluded, is_owed_slot}
+use Rattle.trace_events.specs.declared.steps.Goal.{Goal}
+use Rattle.trace_events.specs.Wanted.{is_order}
+use Rattle.trace_events.specs.Wishes.{in_run}
+use Rattle.core_records.specs.declared.children.KnownChild.{KnownChild}
+use Rattle.core_records.specs.declared.children.Stop.{Stop}
+use Rattle.core_records.specs.declared.children.Stop.TheVariants.{Due, Termed}
+use Rattle.core_records.specs.State.{RecordState, is_limited_record}
+use Rattle.core_records.specs.Judging.{is_excluded}
+use Rattle.core_records.specs.Lists.{are_distinct}
+use Rattle.core_records.specs.Order.{IsInOrder}
+use Rattle.core_records.specs.Times.{is_timely}
+use Rattle.core_model.specs.declared.parts.CoreFields.{CoreFields}
+use Rattle.core_model.specs.Decide.{has_excluded, is_owed_record}
 use Rattle.core_model.specs.State.{CoreState}
 
 -- a record is that of an entry, or has a child
-abbrev pub has_cause : SlotState → Bool
+abbrev pub has_cause : RecordState → Bool
 has_cause slot = is_some slot.table_act || is_some slot.child
 
 -- the action that a child was born with is known
@@ -40,46 +40,46 @@ is_birth_known None = true
 is_birth_known (Some child) = is_some child.act
 
 -- a signal that may be open, by how far the stop of the child has come: TERM where none was sent, and KILL after TERM
-abbrev pub may_follow : Ask → Option Stop → Bool
+abbrev pub may_follow : OrderKind → Option Stop → Bool
 may_follow Term (Some Due) = true
 may_follow Kill (Some (Termed time)) = true
 may_follow _ _ = false
 
 -- an open order that the record allows: a start of an entry without child, any other of a child
-abbrev pub allows_order : Option Ask → SlotState → Bool
+abbrev pub allows_order : Option OrderKind → RecordState → Bool
 allows_order None slot = true
 allows_order (Some Start) slot = is_some slot.table_act && is_none slot.child
 allows_order (Some Look) slot = is_some slot.child
 allows_order (Some signal) slot = is_some slot.child && may_follow signal slot.stop
 
-abbrev pub is_order_allowed : SlotState → Bool
+abbrev pub is_order_allowed : RecordState → Bool
 is_order_allowed slot = allows_order slot.order slot
 
-abbrev pub is_started : SlotState → Bool
+abbrev pub is_started : RecordState → Bool
 is_started slot = is_order Start slot.order
 
 -- an open start was asked of an entry that starts in the stage
-abbrev pub is_start_allowed : Stage → Entry → SlotState → Bool
+abbrev pub is_start_allowed : Stage → Entry → RecordState → Bool
 is_start_allowed stage e slot = not (is_started slot) || (slot.asked && starts_of e stage)
 
 -- and none of an entry that stands after an owed one
-abbrev pub are_starts_along : Stage → List (Entry × SlotState) → Bool
+abbrev pub are_starts_along : Stage → List (Entry × RecordState) → Bool
 are_starts_along stage [] = true
 are_starts_along stage (p ∷ ps) = is_start_allowed stage p.0 p.1
-    && (if is_owed_slot stage p.0 p.1 then not (list_any (λ (q : Entry × SlotState). is_started q.1) ps)
+    && (if is_owed_record stage p.0 p.1 then not (list_any (λ (q : Entry × RecordState). is_started q.1) ps)
     else are_starts_along stage ps)
 
 -- no start is open
-abbrev pub are_unstarted : List SlotState → Bool
+abbrev pub are_unstarted : List RecordState → Bool
 are_unstarted slots = not (list_any is_started slots)
 
 -- before the first stage none is at all
-abbrev pub are_starts_in : Option Stage → List Entry → List SlotState → Bool
+abbrev pub are_starts_in : Option Stage → List Entry → List RecordState → Bool
 are_starts_in None table slots = are_unstarted slots
 are_starts_in (Some stage) table slots = are_starts_along stage (zip table slots)
 
 -- no start is open while a child is excluded
-abbrev pub are_starts_free : List SlotState → Bool
+abbrev pub are_starts_free : List RecordState → Bool
 are_starts_free slots = are_unstarted slots || not (has_excluded slots)
 
 -- the child of a record is excluded; before the first stage each child is
@@ -87,12 +87,12 @@ abbrev pub is_excluded_in : Option Stage → Option Act → Option Entry → Boo
 is_excluded_in None born found = true
 is_excluded_in (Some stage) born found = is_excluded stage born found
 
-abbrev pub is_child_excluded : Option Stage → List Entry → SlotState → Option KnownChild → Bool
+abbrev pub is_child_excluded : Option Stage → List Entry → RecordState → Option KnownChild → Bool
 is_child_excluded stage table slot None = false
 is_child_excluded stage table slot (Some child) = is_excluded_in stage child.act (entry_of slot.id table)
 
 -- exactly the excluded children are to be stopped
-abbrev pub is_stop_judged : Option Stage → List Entry → SlotState → Bool
+abbrev pub is_stop_judged : Option Stage → List Entry → RecordState → Bool
 is_stop_judged stage table slot =
     if is_child_excluded stage table slot slot.child then is_some slot.stop else is_none slot.stop
 
@@ -109,7 +109,7 @@ may_be_signalled (Some (Termed time)) = true
 may_be_signalled _ = false
 
 -- a look is due to a child, a missed signal to one that may be sent a signal yet, and a call to an entry that is called
-abbrev pub are_marks_due : SlotState → Bool
+abbrev pub are_marks_due : RecordState → Bool
 are_marks_due slot = (not slot.look || is_some slot.child) && (not slot.missed || may_be_signalled slot.stop)
     && (not slot.called || is_callable slot.table_act)
 
@@ -131,9 +131,9 @@ abbrev pub is_unused : LimiterState → Bool
 is_unused limiter = length limiter.starts == 0 && is_none limiter.held
 
 -- the starts and the hold of an entry that the respawn limit holds for; any other has none
-abbrev pub is_limiter_kept : ℕ → SlotState → Bool
+abbrev pub is_limiter_kept : ℕ → RecordState → Bool
 is_limiter_kept now slot =
-    if is_limited_slot slot then is_limit_kept now slot.limiter else is_unused slot.limiter
+    if is_limited_record slot then is_limit_kept now slot.limiter else is_unused slot.limiter
 
 -- another level is wished for in a run level alone
 abbrev pub is_other_level : Option Stage → Option Goal → Bool
@@ -148,23 +148,23 @@ is_goal_reached (Some stage.Boot) goal booted = booted
 is_goal_reached _ goal booted = not booted
 
 -- the rules of the single values: no time later than the clock's limit, the wish for a level, the announcement, the goal
-abbrev pub are_heads_kept : Heads → Bool
+abbrev pub are_heads_kept : CoreFields → Bool
 are_heads_kept heads = nat_le heads.time CLOCK_LIMIT && is_other_level heads.stage heads.level_wish
     && (not heads.announced || in_run heads.stage) && is_goal_reached heads.stage heads.goal heads.booted
 
 -- of each record: init knows how its child was born, its open order is allowed, its stop, marks and limiter are as they
 -- should be, and no time is later than now
-abbrev pub is_slot_kept : Option Stage → List Entry → ℕ → SlotState → Bool
-is_slot_kept stage table now slot = has_cause slot && is_birth_known slot.child && is_order_allowed slot
+abbrev pub is_record_kept : Option Stage → List Entry → ℕ → RecordState → Bool
+is_record_kept stage table now slot = has_cause slot && is_birth_known slot.child && is_order_allowed slot
     && is_stop_judged stage table slot && are_marks_due slot && is_limiter_kept now slot && is_timely now slot
 
 -- of all records: one an id, and no start is open where what comes first is owed or excluded
-abbrev pub are_slots_kept : Option Stage → List Entry → ℕ → List SlotState → Bool
-are_slots_kept stage table now slots = are_distinct slots && are_starts_in stage table slots
-    && are_starts_free slots && list_all (is_slot_kept stage table now) slots
+abbrev pub are_records_kept : Option Stage → List Entry → ℕ → List RecordState → Bool
+are_records_kept stage table now slots = are_distinct slots && are_starts_in stage table slots
+    && are_starts_free slots && list_all (is_record_kept stage table now) slots
 
-abbrev pub is_kept : Heads → List Entry → List SlotState → Bool
-is_kept heads table slots = are_heads_kept heads && are_slots_kept heads.stage table heads.time slots
+abbrev pub is_kept : CoreFields → List Entry → List RecordState → Bool
+is_kept heads table slots = are_heads_kept heads && are_records_kept heads.stage table heads.time slots
 
 -- what init keeps is fit: the records stand in record order, and the rules are kept
 pub record IsFit (c : CoreState) : Type 0 where

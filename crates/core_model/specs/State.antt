@@ -5,19 +5,19 @@ use Rattle.init_words.specs.declared.levels.Level.{Level}
 use Rattle.init_words.specs.declared.levels.Level.TheVariants.{S}
 use Rattle.init_words.specs.declared.limits.TheConstants.{GRACE}
 use Rattle.inittab_text.specs.Tables.{default_level_of}
-use Rattle.init_trace.specs.declared.steps.Goal.{Goal}
-use Rattle.child_table.specs.State.{SlotState, new_slot}
-use Rattle.core_model.specs.declared.parts.Heads.{Heads}
+use Rattle.trace_events.specs.declared.steps.Goal.{Goal}
+use Rattle.core_records.specs.State.{RecordState, new_record}
+use Rattle.core_model.specs.declared.parts.CoreFields.{CoreFields}
 use Rattle.core_model.specs.News.{no_news}
 
 -- the table, the records in record order, and the single values of init: its stage, goal, time and wishes
 pub record CoreState : Type 0 where
   pub table : List Entry
-  pub slots : List SlotState
-  pub heads : Heads
+  pub slots : List RecordState
+  pub heads : CoreFields
 
 -- the opening: no stage yet, a record for each entry, and no wish
-abbrev pub opening_heads : Goal → Heads
+abbrev pub opening_heads : Goal → CoreFields
 opening_heads goal = record {
   generation = 0;
   time = 0;
@@ -33,7 +33,7 @@ opening_heads goal = record {
 }
 
 abbrev pub opening_state : List Entry → Goal → CoreState
-opening_state table goal = record { table = table; slots = map new_slot table; heads = opening_heads goal }
+opening_state table goal = record { table = table; slots = map new_record table; heads = opening_heads goal }
 
 -- the goal of an opening: the level given, else the table's default, else S, with five seconds between the signals
 abbrev pub opening_level : Option Level → Option Level → Level

@@ -9,19 +9,19 @@ use Rattle.init_words.specs.declared.orders.Answer.{Answer}
 use Rattle.init_words.specs.Actions.{is_called_by, is_ondemand}
 use Rattle.init_words.specs.Levels.{same_level, names}
 use Rattle.inittab_text.specs.Tables.{has_id}
-use Rattle.initctl_frame.specs.declared.requests.Got.{Got}
-use Rattle.initctl_frame.specs.declared.requests.Got.TheVariants as got
+use Rattle.initctl_frame.specs.declared.requests.HeardRequest.{HeardRequest}
+use Rattle.initctl_frame.specs.declared.requests.HeardRequest.TheVariants as got
 use Rattle.respawn_limit.specs.declared.TheConstants.{CLOCK_LIMIT}
-use Rattle.init_trace.specs.declared.steps.Step.{Step}
-use Rattle.init_trace.specs.declared.steps.Step.TheVariants.{Enter, Call, Power, Order, Hold, Settle}
-use Rattle.init_trace.specs.declared.steps.Goal.{Goal}
-use Rattle.init_trace.specs.Wanted.{starts_in}
-use Rattle.child_table.specs.State.{SlotState}
-use Rattle.child_table.specs.Changes.{after_order, after_hold, after_call, after_enter, after_nudge}
-use Rattle.child_table.specs.Judging.{after_judge}
-use Rattle.child_table.specs.Lists as lists
-use Rattle.child_table.specs.Adopting as adopting
-use Rattle.core_model.specs.declared.parts.Heads.{Heads}
+use Rattle.trace_events.specs.declared.steps.Step.{Step}
+use Rattle.trace_events.specs.declared.steps.Step.TheVariants.{Enter, Call, Power, Order, Hold, Settle}
+use Rattle.trace_events.specs.declared.steps.Goal.{Goal}
+use Rattle.trace_events.specs.Wanted.{starts_in}
+use Rattle.core_records.specs.State.{RecordState}
+use Rattle.core_records.specs.Changes.{after_order, after_hold, after_call, after_enter, after_begin_round}
+use Rattle.core_records.specs.Judging.{after_judge}
+use Rattle.core_records.specs.Lists as lists
+use Rattle.core_records.specs.Adopting as adopting
+use Rattle.core_model.specs.declared.parts.CoreFields.{CoreFields}
 use Rattle.core_model.specs.News.{with_kind, with_call}
 use Rattle.core_model.specs.State.{CoreState}
 
@@ -41,13 +41,13 @@ is_named (Call letter) stage e = is_ondemand e.act && names (OnCall letter) e.le
 is_named _ stage e = false
 
 -- the records, those called whose entry is named
-abbrev pub called_if : Bool → SlotState → SlotState
+abbrev pub called_if : Bool → RecordState → RecordState
 called_if true slot = after_call slot
 called_if false slot = slot
 
-abbrev pub with_called : (Entry → Bool) → List Entry → List SlotState → List SlotState
+abbrev pub with_called : (Entry → Bool) → List Entry → List RecordState → List RecordState
 with_called named table slots =
-    map (λ (slot : SlotState). called_if (list_any (λ e. has_id slot.id e && named e) table) slot) slots
+    map (λ (slot : RecordState). called_if (list_any (λ e. has_id slot.id e && named e) table) slot) slots
 
 -- the state after a step was taken
 abbrev pub after_step : Step → CoreState → CoreState
@@ -81,21 +81,21 @@ after_clock reading c = record c { heads = record c.heads { time = max (min read
 
 -- after a round began, and after an answer was told
 abbrev pub after_round : CoreState → CoreState
-after_round c = record c { slots = map after_nudge c.slots }
+after_round c = record c { slots = map after_begin_round c.slots }
 
 abbrev pub after_told : List ℕ → Answer → CoreState → CoreState
 after_told id answer c = record c { slots = lists.after_told id answer c.heads.time c.slots }
 
 -- after a level was asked for: in that level a wish for another is forgotten, in another level it is wished for, and
 -- before the run levels it is the goal
-abbrev pub heard_in : Option Stage → Goal → Heads → Heads
+abbrev pub heard_in : Option Stage → Goal → CoreFields → CoreFields
 heard_in (Some (stage.Run now)) wish heads =
     if same_level wish.level now then record heads { level_wish = None }
     else record heads { level_wish = Some wish; reread = true }
 heard_in _ wish heads = record heads { goal = wish; reread = true }
 
 -- after a request
-abbrev pub heads_heard : Got → Heads → Heads
+abbrev pub heads_heard : HeardRequest → CoreFields → CoreFields
 heads_heard (got.Level level grace) heads = heard_in heads.stage (record { level = level; grace = grace }) heads
 heads_heard (got.Call letter) heads = record heads { news = with_call letter true heads.news }
 heads_heard got.Reload heads = record heads { reread = true }
@@ -103,11 +103,11 @@ heads_heard got.Reexec heads = record heads { reexec = true }
 heads_heard (got.Power kind) heads = record heads { news = with_kind kind true heads.news }
 heads_heard (got.Nothing cause) heads = heads
 
-abbrev pub after_got : Got → CoreState → CoreState
+abbrev pub after_got : HeardRequest → CoreState → CoreState
 after_got request c = record c { heads = heads_heard request c.heads }
 
 -- after another table was adopted: its children are judged by the stage, where there is one
-abbrev pub judged_in : Option Stage → List Entry → List SlotState → List SlotState
+abbrev pub judged_in : Option Stage → List Entry → List RecordState → List RecordState
 judged_in None table slots = slots
 judged_in (Some stage) table slots = map (after_judge table stage) slots
 

@@ -3,7 +3,7 @@ use Rattle.std.specs.Prelude.{ℕ, Bool, not, ◌+◌, ◌*◌, if◌then◌else
 use Rattle.init_words.specs.declared.stages.Stage.{Stage}
 use Rattle.init_words.specs.declared.stages.Stage.TheVariants.{Sysinit, Boot, Run}
 use Rattle.respawn_limit.specs.Window.{is_held}
-use Rattle.child_table.specs.State.{SlotState}
+use Rattle.core_records.specs.State.{RecordState}
 use Rattle.core_model.specs.News.{news_count}
 use Rattle.core_model.specs.State.{CoreState}
 
@@ -18,10 +18,10 @@ abbrev pub enters_left : CoreState → ℕ
 enters_left c = stages_left c.heads.stage + (if is_some c.heads.level_wish then 2 else 0)
 
 -- the records of which something may be asked, and those that may be held
-abbrev pub unasked : SlotState → Bool
+abbrev pub unasked : RecordState → Bool
 unasked slot = is_none slot.order
 
-abbrev pub unheld : ℕ → SlotState → Bool
+abbrev pub unheld : ℕ → RecordState → Bool
 unheld now slot = not (is_held slot.limiter.held now)
 
 -- what may be done in the stage: an order or a hold for each record, the announcement, and the news

@@ -2,17 +2,17 @@
 
 ghost use Rattle.std.specs.Prelude.{◌≡◌, ◌≤◌, ◌+◌, ℕ, IsTrue, false, ◌&&◌, List, ◌∷◌, ◌++◌, filter, length};
 ghost use Rattle.std.specs.List.{list_any, list_all};
-ghost use Rattle.init_words.specs.declared.orders.Ask.TheVariants.{Start, Term, Kill};
+ghost use Rattle.init_words.specs.declared.orders.OrderKind.TheVariants.{Start, Term, Kill};
 ghost use Rattle.respawn_limit.specs.declared.TheConstants.{WINDOW, STARTS, HOLD};
-ghost use Rattle.init_trace.specs.declared.happenings.Happening.TheVariants.{Asked, Hold, Hit};
-ghost use Rattle.init_trace.specs.declared.steps.Goal.{Goal};
-ghost use Rattle.init_trace.specs.Event.{Event};
-ghost use Rattle.init_trace.specs.Past.{time_of, is_of, has_child, unreaped_children, known_children};
-ghost use Rattle.init_trace.specs.Due.{is_settled};
-ghost use Rattle.init_trace.specs.Sound.{is_sound};
-ghost use Rattle.init_trace.specs.Lawful.{is_alone, is_placed, is_in_turn, are_spared, is_limited_id, is_free, is_due_hold, may_term, may_kill, is_lawful};
-ghost use Rattle.init_trace.specs.Agreement.{Agrees, is_unreaped};
-ghost use Rattle.init_trace.specs.Bounds.{keeps_pace, hits_its_own, kills_once};
+ghost use Rattle.trace_events.specs.declared.happenings.Happening.TheVariants.{Asked, Hold, Hit};
+ghost use Rattle.trace_events.specs.declared.steps.Goal.{Goal};
+ghost use Rattle.trace_events.specs.Event.{Event};
+ghost use Rattle.trace_events.specs.Past.{time_of, is_of, has_child, unreaped_children, known_children};
+ghost use Rattle.trace_events.specs.Due.{is_settled};
+ghost use Rattle.trace_events.specs.Sound.{is_sound};
+ghost use Rattle.trace_events.specs.Lawful.{is_alone, is_placed, is_in_turn, are_spared, is_limited_id, is_free, is_due_hold, may_term, may_kill, is_lawful};
+ghost use Rattle.trace_events.specs.Agreement.{Agrees, is_unreaped};
+ghost use Rattle.trace_events.specs.Bounds.{keeps_pace, hits_its_own, kills_once};
 ghost use Rattle.trace_laws.specs.Belonging.{belongs};
 ghost use Rattle.trace_laws.specs.Moments.{AtEachMoment, AtEachBirth, AtEachSettle, AtEachOrder, AtEachHold, AtEachHit, BetweenBirths, BetweenStarts, FromHoldToStart, FromOrderToHit};
 ghost use Rattle.trace_laws.specs.Stretches.{count_starts, is_order_of, is_reaping_of, is_stoppable};

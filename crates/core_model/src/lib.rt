@@ -13,4 +13,4 @@ mod parts;
 pub use headline::law_agreement;
 pub use laws::{law_of_acts, law_of_lasts};
 pub use news::News;
-pub use parts::{Heads, Parts, Record};
+pub use parts::{CoreFields, Parts, PlainRecord};

@@ -3,8 +3,8 @@
 ghost use Rattle.std.specs.Prelude.{◌≡◌, true, false};
 ghost use Rattle.core_model.specs.News.{keeps_kind, keeps_call, with_kind, with_call, has_news, first_news, no_news};
 
-use init_trace::Step;
 use init_words::{Letter, PowerKind};
+use trace_events::Step;
 
 /// What init heard of the power and which letters it was asked to call, and did not carry out yet (telinit(8)).
 #[derive(Clone, Copy, PartialEq, Eq)]

@@ -6,17 +6,17 @@ ghost use Rattle.core_model.specs.State.{opening_heads};
 
 use crate::news::News;
 use arrayvec::ArrayVec;
-use child_table::{Slot, Stop};
-use init_trace::Goal;
-use init_words::{Act, Ask, ChildNo, Id, Stage, Status};
+use core_records::{Record, Stop};
+use init_words::{Act, ChildNumber, Id, OrderKind, Stage, Status};
 use inittab_text::Table;
 use respawn_limit::STARTS;
 use std::alloc::{Allocator, Global};
 use std::marker::Model;
+use trace_events::Goal;
 
 /// What init keeps, but for its table and its records.
 #[derive(Clone, Copy)]
-pub struct Heads {
+pub struct CoreFields {
     /// How often init was re-executed.
     pub generation: u64,
     /// The time, in seconds.
@@ -39,12 +39,12 @@ pub struct Heads {
     pub news: News,
 }
 
-impl Heads {
+impl CoreFields {
     /// Those of an opening with the goal: no stage yet, and no wish.
-    pub fn opening(goal: Goal) -> Heads
+    pub fn opening(goal: Goal) -> CoreFields
         ensures { result ≡ opening_heads goal }
     {
-        Heads {
+        CoreFields {
             generation: 0,
             time: 0,
             stage: None,
@@ -62,14 +62,14 @@ impl Heads {
 
 /// What init keeps of one id.
 #[derive(Drop)]
-pub struct Record {
+pub struct PlainRecord {
     pub id: Id,
     /// The number of its child.
-    pub child: Option<ChildNo>,
+    pub child: Option<ChildNumber>,
     /// The action that the id had when its child was born.
     pub act: Option<Act>,
     /// The order that is not answered yet.
-    pub order: Option<Ask>,
+    pub order: Option<OrderKind>,
     /// How far the stopping of its child has come.
     pub stop: Option<Stop>,
     pub asked: bool,
@@ -84,16 +84,16 @@ pub struct Record {
     pub last: Option<Status>,
 }
 
-impl Record {
+impl PlainRecord {
     /// What a record of init's keeps.
-    pub fn of(slot: &Slot) -> Record
+    pub fn of(slot: &Record) -> PlainRecord
         ensures { result ≡ record_of slot.now }
     {
         let mut starts = ArrayVec::new();
         if starts.try_extend_from_slice(slot.starts()).is_err() {
             unreachable!()
         }
-        Record {
+        PlainRecord {
             id: slot.id(),
             child: slot.child(),
             act: slot.act(),
@@ -113,10 +113,10 @@ impl Record {
 /// What init keeps, as plain values: what its state text says, and what it is rebuilt from.
 #[derive(Drop)]
 pub struct Parts<A: Allocator = Global> {
-    pub heads: Heads,
+    pub heads: CoreFields,
     pub table: Table<A>,
     /// In record order.
-    pub records: Vec<Record, A>,
+    pub records: Vec<PlainRecord, A>,
 }
 
 impl<A: Allocator> Model for Parts<A> {

@@ -7,25 +7,25 @@ use Rattle.std.proofs.lemmas.Bool.{false≢true, and_from}
 use Rattle.init_words.specs.declared.entries.Entry.{Entry}
 use Rattle.init_words.specs.declared.orders.Answer.{Answer}
 use Rattle.init_words.specs.declared.orders.Answer.TheVariants as answer
-use Rattle.init_words.specs.declared.orders.Ask.{Ask}
+use Rattle.init_words.specs.declared.orders.OrderKind.{OrderKind}
 use Rattle.init_words.specs.declared.refusals.Refusal.{Refusal}
 use Rattle.init_words.specs.declared.refusals.Refusal.TheVariants.{WrongAnswer}
 use Rattle.init_words.specs.Ids.{same_id}
 use Rattle.init_words.specs.Orders.{answers}
 use Rattle.init_words.proofs.Same.{same_id-self}
 use Rattle.inittab_text.specs.Tables.{is_distinct}
-use Rattle.init_trace.specs.declared.happenings.Happening.TheVariants as past
-use Rattle.init_trace.specs.declared.steps.Goal.{Goal}
-use Rattle.init_trace.specs.declared.steps.Step.{Step}
-use Rattle.init_trace.specs.declared.steps.Step.TheVariants as step
-use Rattle.init_trace.specs.Event.{Event}
-use Rattle.init_trace.specs.Past.{open_of, is_quiet}
-use Rattle.init_trace.specs.Answered.{answered_of}
-use Rattle.init_trace.specs.Due.{due, first, record_ids}
-use Rattle.init_trace.specs.Sound.{is_sound, may_come}
+use Rattle.trace_events.specs.declared.happenings.Happening.TheVariants as past
+use Rattle.trace_events.specs.declared.steps.Goal.{Goal}
+use Rattle.trace_events.specs.declared.steps.Step.{Step}
+use Rattle.trace_events.specs.declared.steps.Step.TheVariants as step
+use Rattle.trace_events.specs.Event.{Event}
+use Rattle.trace_events.specs.Past.{open_of, is_quiet}
+use Rattle.trace_events.specs.Answered.{answered_of}
+use Rattle.trace_events.specs.Due.{due, first, record_ids}
+use Rattle.trace_events.specs.Sound.{is_sound, may_come}
 use Rattle.trace_laws.proofs.Records.{open_in_records}
 use Rattle.trace_laws.proofs.Runs.{first_due}
-use Rattle.child_table.specs.Lists as lists
+use Rattle.core_records.specs.Lists as lists
 use Rattle.core_model.specs.State.{CoreState}
 use Rattle.core_model.specs.Steps.{after_told}
 use Rattle.core_model.specs.Fit.{Fits, FitsAll, StillFits, OnEachTrace, with_step, records_of, is_act}
@@ -109,7 +109,7 @@ order_same goal so_far c sound fits id = ap (lists.order_in id) (fit_records c g
     by true there = ap lists.order_of (found_record fits.lasts so_far id (record_ids so_far) there)
     by false none = ap lists.order_of (no_record fits.lasts so_far id (record_ids so_far) none) ∙ sym (unopened (open_of id so_far) refl)
       where
-        unopened : (o : Option Ask) → open_of id so_far ≡ o → open_of id so_far ≡ None
+        unopened : (o : Option OrderKind) → open_of id so_far ≡ o → open_of id so_far ≡ None
         unopened None is = is
         unopened (Some ask) is = absurd (false≢true (sym none ∙ open_in_records goal so_far sound id ask is))
 
@@ -120,7 +120,7 @@ taken = Ok tt
 abbrev verdict : Bool → Result (Unit {0}) Refusal
 verdict b = cond b taken (Err WrongAnswer)
 
-taken_asked : (o : Option Ask) (given : Answer) → taken ≡ lists.refusal_of o given → option_map_or (answers given) o false ≡ true
+taken_asked : (o : Option OrderKind) (given : Answer) → taken ≡ lists.refusal_of o given → option_map_or (answers given) o false ≡ true
 taken_asked None given h = cc
 taken_asked (Some ask) given h = by (answers given ask) h
   where
@@ -128,7 +128,7 @@ taken_asked (Some ask) given h = by (answers given ask) h
     by true h = refl
     by false h = cc
 
-refused_unasked : (o : Option Ask) (given : Answer) (why : Refusal) → Err why ≡ lists.refusal_of o given → option_map_or (answers given) o false ≡ false
+refused_unasked : (o : Option OrderKind) (given : Answer) (why : Refusal) → Err why ≡ lists.refusal_of o given → option_map_or (answers given) o false ≡ false
 refused_unasked None given why h = refl
 refused_unasked (Some ask) given why h = by (answers given ask) h
   where

@@ -1,19 +1,19 @@
 -- Bytes taken one by one fill the blocks of the whole list; and what the reader of requests makes of a piece.
 use Rattle.std.proofs.Common.{◌≡◌, refl, sym, ◌∙◌, ap, subst, ℕ, ◌+◌, ◌*◌, ◌/◌, ◌<◌, ◌==◌, Bool, true, false, cond, List, [], ◌∷◌, ◌++◌, length, take, drop, append-nil, append_assoc, length-append, length-drop, Option, Ok, arith}
 use Rattle.std.specs.List.{list_all}
-use Rattle.init_trace.specs.Range.{is_request}
+use Rattle.trace_events.specs.Range.{is_request}
 use Rattle.std.specs.Option.{option_to_list}
 use Rattle.std.proofs.lemmas.Bool.{eqb-true, eqb-false}
 use Rattle.std.proofs.lemmas.List.{append_cancel_left}
-use Rattle.initctl_frame.specs.declared.requests.Got.{Got}
-use Rattle.initctl_frame.specs.Frames.{got_of}
+use Rattle.initctl_frame.specs.declared.requests.HeardRequest.{HeardRequest}
+use Rattle.initctl_frame.specs.Frames.{heard_of}
 use Rattle.initctl_frame.specs.Blocks.{Begun, Stands, gots_of, over_of}
 use Rattle.initctl_frame.proofs.BlockLemmas.{gots_stay, gots_grow, over_feeds, blocks-partial}
-use Rattle.init_trace.specs.declared.happenings.Happening.TheVariants as past
-use Rattle.init_trace.specs.declared.steps.Goal.{Goal}
-use Rattle.init_trace.specs.Event.{Event}
-use Rattle.init_trace.specs.Sound.{is_sound}
-use Rattle.child_host.specs.declared.calls.Call.TheVariants.{TakeBytes}
+use Rattle.trace_events.specs.declared.happenings.Happening.TheVariants as past
+use Rattle.trace_events.specs.declared.steps.Goal.{Goal}
+use Rattle.trace_events.specs.Event.{Event}
+use Rattle.trace_events.specs.Sound.{is_sound}
+use Rattle.host_calls.specs.declared.calls.Call.TheVariants.{TakeBytes}
 use Rattle.core_model.specs.State.{CoreState}
 use Rattle.trace_log.specs.Logs.{LogState}
 use Rattle.host_trace.specs.Point.{Point, byte_after, bytes_after}
@@ -25,7 +25,7 @@ use Rattle.host_trace.proofs.Leading.{bytes_allowed, bytes_generation}
 use Rattle.host_trace.proofs.Seconds.{given_short, logged, short_then}
 use Rattle.host_trace.proofs.Taking.{Took-none, Took-then}
 
-requested-append : (xs ys : List Got) (so_far : List Event) → requested (xs ++ ys) so_far ≡ requested ys (requested xs so_far)
+requested-append : (xs ys : List HeardRequest) (so_far : List Event) → requested (xs ++ ys) so_far ≡ requested ys (requested xs so_far)
 requested-append [] ys so_far = refl
 requested-append (request ∷ xs) ys so_far = requested-append xs ys (past.Got request ∷ so_far)
 
@@ -48,16 +48,16 @@ byte_continues before byte p is = by (length (p.over ++ byte ∷ []) == 384) ref
     by true full =
         let whole : length (over_of before) + 1 ≡ 384 = sym size ∙ eqb-true (length (p.over ++ byte ∷ [])) 384 full in
         record {
-          requests = got_of (p.over ++ byte ∷ []) ∷ [];
-          gots = gots_grow before (byte ∷ []) whole ∙ ap (λ (l : List ℕ). gots_of before ++ got_of (l ++ byte ∷ []) ∷ []) (sym is);
-          point = ap (λ b. cond b (record p { over = []; past = past.Got (got_of (p.over ++ byte ∷ [])) ∷ p.past }) (record p { over = p.over ++ byte ∷ [] })) full ∙ ap (λ (l : List ℕ). record p { over = l; past = past.Got (got_of (p.over ++ byte ∷ [])) ∷ p.past }) (sym (over_full before byte whole));
+          requests = heard_of (p.over ++ byte ∷ []) ∷ [];
+          gots = gots_grow before (byte ∷ []) whole ∙ ap (λ (l : List ℕ). gots_of before ++ heard_of (l ++ byte ∷ []) ∷ []) (sym is);
+          point = ap (λ b. cond b (record p { over = []; past = past.Got (heard_of (p.over ++ byte ∷ [])) ∷ p.past }) (record p { over = p.over ++ byte ∷ [] })) full ∙ ap (λ (l : List ℕ). record p { over = l; past = past.Got (heard_of (p.over ++ byte ∷ [])) ∷ p.past }) (sym (over_full before byte whole));
         }
     by false open_still =
         let short : length (over_of before) + 1 < 384 = omega (arith, blocks-partial before, size, eqb-false (length (p.over ++ byte ∷ [])) 384 open_still) in
         record {
           requests = [];
           gots = gots_stay before (byte ∷ []) short ∙ sym (append-nil (gots_of before));
-          point = ap (λ b. cond b (record p { over = []; past = past.Got (got_of (p.over ++ byte ∷ [])) ∷ p.past }) (record p { over = p.over ++ byte ∷ [] })) open_still ∙ ap (λ (l : List ℕ). record p { over = l }) (ap (λ (l : List ℕ). l ++ byte ∷ []) is ∙ sym (over_feeds before (byte ∷ []) 1 (omega arith) short));
+          point = ap (λ b. cond b (record p { over = []; past = past.Got (heard_of (p.over ++ byte ∷ [])) ∷ p.past }) (record p { over = p.over ++ byte ∷ [] })) open_still ∙ ap (λ (l : List ℕ). record p { over = l }) (ap (λ (l : List ℕ). l ++ byte ∷ []) is ∙ sym (over_feeds before (byte ∷ []) 1 (omega arith) short));
         }
 
 pub bytes_continue : (bytes before : List ℕ) (p : Point) → p.over ≡ over_of before → Continues before bytes p
@@ -73,7 +73,7 @@ bytes_continue (byte ∷ bytes) before p is =
     let joined : (before ++ byte ∷ []) ++ bytes ≡ before ++ byte ∷ bytes = append_assoc before (byte ∷ []) bytes in
     record {
       requests = one.requests ++ more.requests;
-      gots = ap gots_of (sym joined) ∙ more.gots ∙ ap (λ (l : List Got). l ++ more.requests) one.gots ∙ append_assoc (gots_of before) one.requests more.requests;
+      gots = ap gots_of (sym joined) ∙ more.gots ∙ ap (λ (l : List HeardRequest). l ++ more.requests) one.gots ∙ append_assoc (gots_of before) one.requests more.requests;
       point = more.point ∙ (λ i. record (one.point i) { over = over_of (joined i); past = requested more.requests (one.point i).past }) ∙ ap (λ (l : List Event). record p { over = over_of (before ++ byte ∷ bytes); past = l }) (sym (requested-append one.requests more.requests p.past));
     }
 
@@ -84,7 +84,7 @@ over_own : (over : List ℕ) → length over < 384 → over_of over ≡ over
 over_own over short = ap (λ n. drop (384 * n) over) (let none : length over / 384 ≡ 0 = omega (arith, short) in none)
 
 -- what a reader that stands after the bytes over makes of a piece
-pub piece_fed : (old new : Begun) (part : List ℕ) (given : Option Got) (p : Point) → old.count < 384 → IsOver old p.over → ((bytes : List ℕ) → Stands old bytes → Stands new (bytes ++ part)) → ((bytes : List ℕ) → Stands old bytes → gots_of (bytes ++ part) ≡ gots_of bytes ++ option_to_list given) → (IsOver new (bytes_after part p).over) × ((bytes_after part p).past ≡ requested (option_to_list given) p.past) × (list_all is_request (option_to_list given) ≡ true)
+pub piece_fed : (old new : Begun) (part : List ℕ) (given : Option HeardRequest) (p : Point) → old.count < 384 → IsOver old p.over → ((bytes : List ℕ) → Stands old bytes → Stands new (bytes ++ part)) → ((bytes : List ℕ) → Stands old bytes → gots_of (bytes ++ part) ≡ gots_of bytes ++ option_to_list given) → (IsOver new (bytes_after part p).over) × ((bytes_after part p).past ≡ requested (option_to_list given) p.past) × (list_all is_request (option_to_list given) ≡ true)
 piece_fed old new part given p short stands fed gots =
     let own : over_of p.over ≡ p.over = over_own p.over (subst (λ n. n < 384) stands.count short) in
     let before : Stands old p.over = record { count = stands.count ∙ ap length (sym own); front = stands.front ∙ ap (take 16) (sym own) } in
@@ -94,7 +94,7 @@ piece_fed old new part given p short stands fed gots =
     let over : over_of (p.over ++ part) ≡ (bytes_after part p).over = ap (λ (q : Point). q.over) (sym all.point) in
     (record { count = behind.count ∙ ap length over; front = behind.front ∙ ap (take 16) over }, ap (λ (q : Point). q.past) all.point ∙ ap (λ l. requested l p.past) heard, given_short (gots_of p.over) (option_to_list given) (p.over ++ part) (gots p.over before))
 
-pub Leads-fed : (c now : CoreState) (old new : Begun) (l₀ l₁ : LogState) (room : ℕ) (part : List ℕ) (given : Option Got) → old.count < 384 → ((bytes : List ℕ) → Stands old bytes → Stands new (bytes ++ part)) → ((bytes : List ℕ) → Stands old bytes → gots_of (bytes ++ part) ≡ gots_of bytes ++ option_to_list given) → (list_all is_request (option_to_list given) ≡ true → Hears (Tracks c) (Tracks now) l₀ l₁ (requested (option_to_list given))) → Leads (At c old) (At now new) l₀ l₁ (TakeBytes room (Ok part) ∷ [])
+pub Leads-fed : (c now : CoreState) (old new : Begun) (l₀ l₁ : LogState) (room : ℕ) (part : List ℕ) (given : Option HeardRequest) → old.count < 384 → ((bytes : List ℕ) → Stands old bytes → Stands new (bytes ++ part)) → ((bytes : List ℕ) → Stands old bytes → gots_of (bytes ++ part) ≡ gots_of bytes ++ option_to_list given) → (list_all is_request (option_to_list given) ≡ true → Hears (Tracks c) (Tracks now) l₀ l₁ (requested (option_to_list given))) → Leads (At c old) (At now new) l₀ l₁ (TakeBytes room (Ok part) ∷ [])
 Leads-fed c now old new l₀ l₁ room part given short fed gots hears goal p sound fits allowed = (
   tt,
   λ carried.

@@ -4,26 +4,26 @@ use Rattle.std.specs.Option.{option_map_or}
 use Rattle.std.proofs.lemmas.Bool.{and_from, and_parts, false≢true}
 use Rattle.init_words.specs.declared.entries.Entry.{Entry}
 use Rattle.init_words.specs.declared.orders.Answer.{Answer}
-use Rattle.init_words.specs.declared.orders.Ask.{Ask}
-use Rattle.init_words.specs.declared.orders.Ask.TheVariants as ask
+use Rattle.init_words.specs.declared.orders.OrderKind.{OrderKind}
+use Rattle.init_words.specs.declared.orders.OrderKind.TheVariants as ask
 use Rattle.init_words.specs.Entries.{command_of}
 use Rattle.init_words.proofs.Same.{same_id-self}
 use Rattle.init_words.specs.Parts.{NamedText, texts_of}
 use Rattle.inittab_text.specs.Parts.{are_readable, table_of_texts}
 use Rattle.inittab_text.specs.Tables.{entry_of}
 use Rattle.inittab_text.proofs.Distinct.{distinct_texts}
-use Rattle.init_trace.specs.declared.happenings.Handed.{Handed as HandOver}
-use Rattle.init_trace.specs.declared.happenings.Handed.TheVariants as handed
-use Rattle.init_trace.specs.declared.happenings.Happening.TheVariants as past
-use Rattle.init_trace.specs.declared.steps.Goal.{Goal}
-use Rattle.init_trace.specs.declared.steps.Step.{Step}
-use Rattle.init_trace.specs.declared.steps.Step.TheVariants as step
-use Rattle.init_trace.specs.Event.{Event}
-use Rattle.init_trace.specs.Due.{due, first, same_step}
-use Rattle.init_trace.specs.Sound.{is_sound}
-use Rattle.init_trace.specs.Wishes.{wants_reexec}
+use Rattle.trace_events.specs.declared.happenings.Handed.{Handed as HandOver}
+use Rattle.trace_events.specs.declared.happenings.Handed.TheVariants as handed
+use Rattle.trace_events.specs.declared.happenings.Happening.TheVariants as past
+use Rattle.trace_events.specs.declared.steps.Goal.{Goal}
+use Rattle.trace_events.specs.declared.steps.Step.{Step}
+use Rattle.trace_events.specs.declared.steps.Step.TheVariants as step
+use Rattle.trace_events.specs.Event.{Event}
+use Rattle.trace_events.specs.Due.{due, first, same_step}
+use Rattle.trace_events.specs.Sound.{is_sound}
+use Rattle.trace_events.specs.Wishes.{wants_reexec}
 use Rattle.trace_laws.proofs.Runs.{same_step-self}
-use Rattle.child_table.specs.Lists as lists
+use Rattle.core_records.specs.Lists as lists
 use Rattle.core_model.specs.State.{CoreState}
 use Rattle.core_model.specs.Fit.{Fits, FitsAll, StillFits, OnEachTrace, with_step}
 use Rattle.core_model.specs.Parts.{state_of}
@@ -31,15 +31,15 @@ use Rattle.core_model.specs.Rules.{IsFit}
 use Rattle.core_model.proofs.Decided.{reexec_wished}
 use Rattle.core_model.proofs.Deciding.{decide_due}
 use Rattle.core_model.proofs.Fitted.{fit_table, all_on}
-use Rattle.state_text.specs.declared.versions.Version.TheVariants.{V2}
-use Rattle.state_text.specs.Range as range
-use Rattle.state_text.specs.Refused.{IsTextIn, IsTextOf}
+use Rattle.core_text.specs.declared.versions.Version.TheVariants.{V2}
+use Rattle.core_text.specs.Range as range
+use Rattle.core_text.specs.Refused.{IsTextIn, IsTextOf}
 use Rattle.trace_log.specs.Logs.{LogState}
-use Rattle.child_host.specs.declared.calls.Call.TheVariants.{Start, Late, Clock, ReadTables, Announce}
-use Rattle.child_host.specs.declared.calls.HostFault.{HostFault}
-use Rattle.child_host.specs.declared.calls.Reply.{Reply}
-use Rattle.child_host.specs.declared.calls.Reply.TheVariants.{Now, Later}
-use Rattle.child_host.specs.Calls.{PartsRead, TextRead}
+use Rattle.host_calls.specs.declared.calls.Call.TheVariants.{Start, Late, Clock, ReadTables, Announce}
+use Rattle.host_calls.specs.declared.calls.HostFault.{HostFault}
+use Rattle.host_calls.specs.declared.calls.Reply.{Reply}
+use Rattle.host_calls.specs.declared.calls.Reply.TheVariants.{Now, Later}
+use Rattle.host_calls.specs.Calls.{PartsRead, TextRead}
 use Rattle.host_trace.specs.Point.{Point, replied, ordered, come, is_last, nudged_if, clocked, reading, before_reading, before_handing, handed_if, came_whole, same_text, is_command, is_first, is_refusal, is_outcome, carrying, point_after, has_trace}
 use Rattle.host_trace.specs.Leads.{AreTexts, IsStateText, is_allowed, comes_back, are_carried, gone_on, Logs, Gave, Counted, Lasts, Tracks, Leads, Heard, Hears}
 use Rattle.host_trace.proofs.Leading.{answered_allowed, nudged_allowed, Leads-heard, Hears-then}
@@ -57,7 +57,7 @@ replied_allowed goal id (Now given) so_far h = answered_allowed goal id given so
 replied_allowed goal id Later so_far h = h
 
 -- init asked, and heard the reply
-pub Hears-order : (c new : CoreState) (l₀ l₁ l₂ : LogState) (id : List ℕ) (order : Ask) (reply : Reply) → ((so_far : List Event) → Logs l₀ l₁ so_far (past.Asked id order ∷ so_far)) → Hears (Tracks c) (Tracks new) l₁ l₂ (replied id reply) → Hears (Gave (Tracks c) (step.Order id order)) (Tracks new) l₀ l₂ (ordered id order reply)
+pub Hears-order : (c new : CoreState) (l₀ l₁ l₂ : LogState) (id : List ℕ) (order : OrderKind) (reply : Reply) → ((so_far : List Event) → Logs l₀ l₁ so_far (past.Asked id order ∷ so_far)) → Hears (Tracks c) (Tracks new) l₁ l₂ (replied id reply) → Hears (Gave (Tracks c) (step.Order id order)) (Tracks new) l₀ l₂ (ordered id order reply)
 Hears-order c new l₀ l₁ l₂ id order reply took heard = Hears-then (Gave (Tracks c) (step.Order id order)) (Tracks c) (Tracks new) l₀ l₁ l₂ (with_step (step.Order id order)) (replied id reply) (λ goal so_far h. replied_allowed goal id reply so_far h) (Hears-step (Tracks c) l₀ l₁ (step.Order id order) took) heard
 
 -- the command of the id's entry in the core's table is that of the entry in force

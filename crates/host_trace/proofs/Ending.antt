@@ -5,21 +5,21 @@ use Rattle.std.specs.List.{list_any}
 use Rattle.std.proofs.lemmas.Bool.{false≢true, and_parts, eqb-true}
 use Rattle.init_words.specs.declared.children.Status.{Status}
 use Rattle.init_words.specs.declared.orders.Answer.TheVariants as answer
-use Rattle.init_words.specs.declared.orders.Ask.TheVariants.{Look}
-use Rattle.init_trace.specs.declared.happenings.Happening.TheVariants as past
-use Rattle.init_trace.specs.declared.steps.Goal.{Goal}
-use Rattle.init_trace.specs.Event.{Event}
-use Rattle.init_trace.specs.Past.{Child, is_of, is_child, is_dead, has_child, undone_of, unreaped_children, known_children}
-use Rattle.init_trace.specs.Wanted.{is_order}
-use Rattle.init_trace.specs.Due.{record_ids}
-use Rattle.init_trace.specs.Sound.{is_sound, may_come}
+use Rattle.init_words.specs.declared.orders.OrderKind.TheVariants.{Look}
+use Rattle.trace_events.specs.declared.happenings.Happening.TheVariants as past
+use Rattle.trace_events.specs.declared.steps.Goal.{Goal}
+use Rattle.trace_events.specs.Event.{Event}
+use Rattle.trace_events.specs.Past.{Child, is_of, is_child, is_dead, has_child, undone_of, unreaped_children, known_children}
+use Rattle.trace_events.specs.Wanted.{is_order}
+use Rattle.trace_events.specs.Due.{record_ids}
+use Rattle.trace_events.specs.Sound.{is_sound, may_come}
 use Rattle.trace_laws.proofs.Keeps.{sound_holds}
 use Rattle.trace_laws.proofs.Known.{known_single}
 use Rattle.trace_laws.proofs.Orders.{same_of, told_known}
 use Rattle.trace_laws.proofs.Records.{child_in_records}
 use Rattle.trace_laws.proofs.Tests.{is_order-is}
-use Rattle.child_table.specs.State.{SlotState, child_number}
-use Rattle.child_table.specs.Lists as lists
+use Rattle.core_records.specs.State.{RecordState, child_number}
+use Rattle.core_records.specs.Lists as lists
 use Rattle.core_model.specs.State.{CoreState}
 use Rattle.core_model.specs.Fit.{Fits, child_known, living, record_of}
 use Rattle.core_model.proofs.Acts.{found_record, child_some}
@@ -31,8 +31,8 @@ use Rattle.host_trace.proofs.Leading.{allowed_first}
 
 -- the core's record of the id, and the number of its child
 pub record HasNumber (c : CoreState) (id : List ℕ) (number : ℕ) : Type 0 where
-  pub slot : SlotState
-  pub found : lists.slot_of id c.slots ≡ Some slot
+  pub slot : RecordState
+  pub found : lists.record_by_id id c.slots ≡ Some slot
   pub number_is : child_number slot ≡ Some number
 
 pub end_number : (goal : Goal) (so_far : List Event) (c : CoreState) (id : List ℕ) (status : Status) → is_sound goal so_far ≡ true → Fits c goal so_far → is_allowed goal (acted id (answer.Ended status) so_far) ≡ true → HasNumber c id (last_birth id so_far)
@@ -65,6 +65,6 @@ end_number goal so_far c id status sound fits allowed = by (child_known id so_fa
         let there : has_child id (known_children so_far) ≡ true = sym (child_some id so_far) ∙ ap (λ o. is_some (option_map living o)) is in
         record {
           slot = record_of fits.lasts so_far id;
-          found = ap (lists.slot_of id) (fit_records c goal so_far fits) ∙ found_record fits.lasts so_far id (record_ids so_far) (child_in_records goal so_far sound id there);
+          found = ap (lists.record_by_id id) (fit_records c goal so_far fits) ∙ found_record fits.lasts so_far id (record_ids so_far) (child_in_records goal so_far sound id there);
           number_is = ap (λ o. option_map (λ child. child.number) (option_map living o)) is ∙ ap Some (sym (eqb-true n child.number h));
         }

@@ -4,18 +4,18 @@ use Rattle.std.specs.List.{list_all}
 use Rattle.std.proofs.lemmas.Bool.{false≢true, and_parts, and_from}
 use Rattle.init_words.specs.declared.orders.Answer.{Answer}
 use Rattle.init_words.specs.declared.orders.Answer.TheVariants as answer
-use Rattle.init_words.specs.declared.orders.Ask.{Ask}
-use Rattle.init_words.specs.declared.orders.Ask.TheVariants as ask
-use Rattle.initctl_frame.specs.Frames.{got_of}
-use Rattle.init_trace.specs.declared.happenings.Handed.TheVariants as handed
-use Rattle.init_trace.specs.declared.happenings.Happening.TheVariants as past
-use Rattle.init_trace.specs.declared.steps.Goal.{Goal}
-use Rattle.init_trace.specs.Event.{Event}
-use Rattle.init_trace.specs.Sound.{is_sound}
-use Rattle.child_host.specs.declared.calls.Call.TheVariants.{Start, Look, Signal, Late, Clock, TakeBytes, ReadTables, Carry, Announce, Pause}
-use Rattle.child_host.specs.declared.calls.Reply.{Reply}
-use Rattle.child_host.specs.declared.calls.Reply.TheVariants.{Now, Later}
-use Rattle.child_host.specs.Calls.{HostCall, TextRead}
+use Rattle.init_words.specs.declared.orders.OrderKind.{OrderKind}
+use Rattle.init_words.specs.declared.orders.OrderKind.TheVariants as ask
+use Rattle.initctl_frame.specs.Frames.{heard_of}
+use Rattle.trace_events.specs.declared.happenings.Handed.TheVariants as handed
+use Rattle.trace_events.specs.declared.happenings.Happening.TheVariants as past
+use Rattle.trace_events.specs.declared.steps.Goal.{Goal}
+use Rattle.trace_events.specs.Event.{Event}
+use Rattle.trace_events.specs.Sound.{is_sound}
+use Rattle.host_calls.specs.declared.calls.Call.TheVariants.{Start, Look, Signal, Late, Clock, TakeBytes, ReadTables, Carry, Announce, Pause}
+use Rattle.host_calls.specs.declared.calls.Reply.{Reply}
+use Rattle.host_calls.specs.declared.calls.Reply.TheVariants.{Now, Later}
+use Rattle.host_calls.specs.Calls.{HostCall, TextRead}
 use Rattle.trace_log.specs.Logs.{LogState}
 use Rattle.host_trace.specs.Point.{Point, last_birth, acted, is_asked_for, answered, ordered, order_for, come, is_last, nudged_if, byte_after, bytes_after, reading, before_reading, before_handing, came_whole, handed_if, announced, is_announcement, after, point_after, is_in_place}
 use Rattle.host_trace.specs.Leads.{AreTexts, Counted, IsStateText, meets, is_allowed, comes_back, are_carried, gone_on, Took, Went, Leads, Heard, Hears}
@@ -48,7 +48,7 @@ module _ (goal : Goal) where
       by true h = acted_allowed id given so_far (allowed_rest (past.Told id) (acted id given so_far) h)
       by false h = h
 
-  pub ordered_allowed : (id : List ℕ) (ask : Ask) (reply : Reply) (so_far : List Event) → is_allowed goal (ordered id ask reply so_far) ≡ true → is_allowed goal so_far ≡ true
+  pub ordered_allowed : (id : List ℕ) (ask : OrderKind) (reply : Reply) (so_far : List Event) → is_allowed goal (ordered id ask reply so_far) ≡ true → is_allowed goal so_far ≡ true
   ordered_allowed id ask (Now given) so_far h = allowed_rest (past.Asked id ask) so_far (answered_allowed id given (past.Asked id ask ∷ so_far) h)
   ordered_allowed id ask Later so_far h = allowed_rest (past.Asked id ask) so_far h
 
@@ -63,8 +63,8 @@ module _ (goal : Goal) where
   byte_allowed : (byte : ℕ) (p : Point) → is_allowed goal (byte_after byte p).past ≡ true → is_allowed goal p.past ≡ true
   byte_allowed byte p h = by (length (p.over ++ byte ∷ []) == 384) h
     where
-      by : (b : Bool) → is_allowed goal (cond b (record p { over = []; past = past.Got (got_of (p.over ++ byte ∷ [])) ∷ p.past }) (record p { over = p.over ++ byte ∷ [] })).past ≡ true → is_allowed goal p.past ≡ true
-      by true h = allowed_rest (past.Got (got_of (p.over ++ byte ∷ []))) p.past h
+      by : (b : Bool) → is_allowed goal (cond b (record p { over = []; past = past.Got (heard_of (p.over ++ byte ∷ [])) ∷ p.past }) (record p { over = p.over ++ byte ∷ [] })).past ≡ true → is_allowed goal p.past ≡ true
+      by true h = allowed_rest (past.Got (heard_of (p.over ++ byte ∷ []))) p.past h
       by false h = h
 
   pub bytes_allowed : (bytes : List ℕ) (p : Point) → is_allowed goal (bytes_after bytes p).past ≡ true → is_allowed goal p.past ≡ true
@@ -220,7 +220,7 @@ bytes_lates : (bytes : List ℕ) (p : Point) → (bytes_after bytes p).lates ≡
 bytes_lates [] p = refl
 bytes_lates (byte ∷ bytes) p = bytes_lates bytes (byte_after byte p) ∙ by (length (p.over ++ byte ∷ []) == 384)
   where
-    by : (b : Bool) → (cond b (record p { over = []; past = past.Got (got_of (p.over ++ byte ∷ [])) ∷ p.past }) (record p { over = p.over ++ byte ∷ [] })).lates ≡ p.lates
+    by : (b : Bool) → (cond b (record p { over = []; past = past.Got (heard_of (p.over ++ byte ∷ [])) ∷ p.past }) (record p { over = p.over ++ byte ∷ [] })).lates ≡ p.lates
     by true = refl
     by false = refl
 
@@ -228,7 +228,7 @@ pub bytes_generation : (bytes : List ℕ) (p : Point) → (bytes_after bytes p).
 bytes_generation [] p = refl
 bytes_generation (byte ∷ bytes) p = bytes_generation bytes (byte_after byte p) ∙ by (length (p.over ++ byte ∷ []) == 384)
   where
-    by : (b : Bool) → (cond b (record p { over = []; past = past.Got (got_of (p.over ++ byte ∷ [])) ∷ p.past }) (record p { over = p.over ++ byte ∷ [] })).generation ≡ p.generation
+    by : (b : Bool) → (cond b (record p { over = []; past = past.Got (heard_of (p.over ++ byte ∷ [])) ∷ p.past }) (record p { over = p.over ++ byte ∷ [] })).generation ≡ p.generation
     by true = refl
     by false = refl
 

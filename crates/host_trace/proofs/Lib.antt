@@ -5,7 +5,7 @@ pub mod Ending
 pub mod Leading
 pub mod Point
 pub mod Requests
-pub mod Seconds
 pub mod Rows
+pub mod Seconds
 pub mod Taking
 pub mod Texts

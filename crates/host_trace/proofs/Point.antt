@@ -3,14 +3,14 @@ use Rattle.std.proofs.Common.{◌≡◌, refl, ◌∙◌, ap, ℕ, ◌==◌, nat
 use Rattle.std.specs.List.{starts_with}
 use Rattle.std.proofs.lemmas.Bool.{false≢true, and_parts, and_from, ltb-true}
 use Rattle.init_words.proofs.Same.{same_id-is}
-use Rattle.init_trace.specs.declared.happenings.Handed.{Handed as HandOver}
-use Rattle.init_trace.specs.declared.happenings.Handed.TheVariants as handed
-use Rattle.init_trace.specs.declared.happenings.Happening.TheVariants as past
-use Rattle.init_trace.specs.declared.steps.Goal.{Goal}
-use Rattle.init_trace.specs.declared.steps.Step.TheVariants as step
-use Rattle.init_trace.specs.Event.{Event}
-use Rattle.child_host.specs.declared.calls.Call.TheVariants.{ReadTables, Carry, Announce}
-use Rattle.child_host.specs.Calls.{HostCall, TextRead}
+use Rattle.trace_events.specs.declared.happenings.Handed.{Handed as HandOver}
+use Rattle.trace_events.specs.declared.happenings.Handed.TheVariants as handed
+use Rattle.trace_events.specs.declared.happenings.Happening.TheVariants as past
+use Rattle.trace_events.specs.declared.steps.Goal.{Goal}
+use Rattle.trace_events.specs.declared.steps.Step.TheVariants as step
+use Rattle.trace_events.specs.Event.{Event}
+use Rattle.host_calls.specs.declared.calls.Call.TheVariants.{ReadTables, Carry, Announce}
+use Rattle.host_calls.specs.Calls.{HostCall, TextRead}
 use Rattle.host_trace.specs.Point.{Point, after, point_after, byte_after, bytes_after, was_reading, came_whole, came_cut, is_first, may_announce, is_in_place, are_in_place, tells_outcomes, has_trace}
 
 -- the later calls go on from where the earlier ones stand: ys behind xs

@@ -2,18 +2,18 @@
 use Rattle.std.proofs.Common.{◌≡◌, refl, sym, ◌∙◌, ap, ℕ, Bool, true, false, cond, List, [], ◌∷◌, ◌++◌, append-nil, append_assoc, Option, Some, None, Ok, Err}
 use Rattle.init_words.specs.declared.orders.Answer.{Answer}
 use Rattle.init_words.specs.declared.orders.Answer.TheVariants as answer
-use Rattle.init_words.specs.declared.orders.Ask.{Ask}
-use Rattle.init_words.specs.declared.orders.Ask.TheVariants as ask
+use Rattle.init_words.specs.declared.orders.OrderKind.{OrderKind}
+use Rattle.init_words.specs.declared.orders.OrderKind.TheVariants as ask
 use Rattle.init_words.specs.Parts.{texts_of}
 use Rattle.inittab_text.specs.Parts.{are_readable, table_of_texts}
-use Rattle.initctl_frame.specs.declared.requests.Got.{Got as Request}
+use Rattle.initctl_frame.specs.declared.requests.HeardRequest.{HeardRequest as Request}
 use Rattle.initctl_frame.specs.Blocks.{gots_of, over_of}
-use Rattle.init_trace.specs.declared.happenings.Happening.TheVariants as past
-use Rattle.init_trace.specs.Event.{Event}
-use Rattle.child_host.specs.declared.calls.Call.TheVariants.{Start, Look, Signal, Late, Clock, TakeBytes, ReadTables, Carry, Announce, Pause}
-use Rattle.child_host.specs.declared.calls.Reply.{Reply}
-use Rattle.child_host.specs.declared.calls.Reply.TheVariants.{Now, Later}
-use Rattle.child_host.specs.Calls.{HostCall, PartsRead}
+use Rattle.trace_events.specs.declared.happenings.Happening.TheVariants as past
+use Rattle.trace_events.specs.Event.{Event}
+use Rattle.host_calls.specs.declared.calls.Call.TheVariants.{Start, Look, Signal, Late, Clock, TakeBytes, ReadTables, Carry, Announce, Pause}
+use Rattle.host_calls.specs.declared.calls.Reply.{Reply}
+use Rattle.host_calls.specs.declared.calls.Reply.TheVariants.{Now, Later}
+use Rattle.host_calls.specs.Calls.{HostCall, PartsRead}
 use Rattle.host_trace.specs.Point.{Point, acted, is_asked_for, answered, ordered, order_for, come, is_last, nudged_if, reading, before_reading, announced, point_after, before_handing, came_whole, handed_if}
 use Rattle.host_trace.specs.Requests.{requested, Continues, requests_in, bytes_of, Brings}
 use Rattle.host_trace.proofs.Bytes.{bytes_continue}
@@ -40,7 +40,7 @@ answered_none id given so_far = by (is_asked_for id given so_far)
     by true = acted_none id given so_far
     by false = refl
 
-ordered_none : (id : List ℕ) (order : Ask) (reply : Reply) (so_far : List Event) → requests_in (ordered id order reply so_far) ≡ requests_in so_far
+ordered_none : (id : List ℕ) (order : OrderKind) (reply : Reply) (so_far : List Event) → requests_in (ordered id order reply so_far) ≡ requests_in so_far
 ordered_none id order (Now given) so_far = answered_none id given (past.Asked id order ∷ so_far)
 ordered_none id order Later so_far = refl
 

@@ -8,21 +8,21 @@ use Rattle.init_words.specs.declared.levels.Mark.{Mark}
 use Rattle.init_words.specs.declared.levels.Mark.TheVariants.{At}
 use Rattle.init_words.specs.declared.stages.Stage.TheVariants as stage
 use Rattle.init_words.specs.declared.orders.Answer.TheVariants.{Born, NotBorn, Alive}
-use Rattle.init_words.specs.declared.orders.Ask.TheVariants as ask
-use Rattle.initctl_frame.specs.declared.requests.Got.TheVariants as got
+use Rattle.init_words.specs.declared.orders.OrderKind.TheVariants as ask
+use Rattle.initctl_frame.specs.declared.requests.HeardRequest.TheVariants as got
 use Rattle.initctl_frame.specs.Frames.{block_of_ints}
-use Rattle.init_trace.specs.declared.happenings.Handed.TheVariants as handed
-use Rattle.init_trace.specs.declared.happenings.Happening.TheVariants as past
-use Rattle.init_trace.specs.declared.steps.Goal.{Goal}
-use Rattle.init_trace.specs.declared.steps.Step.TheVariants as step
-use Rattle.init_trace.specs.Due.{due, first}
-use Rattle.init_trace.specs.Sound.{is_sound}
+use Rattle.trace_events.specs.declared.happenings.Handed.TheVariants as handed
+use Rattle.trace_events.specs.declared.happenings.Happening.TheVariants as past
+use Rattle.trace_events.specs.declared.steps.Goal.{Goal}
+use Rattle.trace_events.specs.declared.steps.Step.TheVariants as step
+use Rattle.trace_events.specs.Due.{due, first}
+use Rattle.trace_events.specs.Sound.{is_sound}
 use Rattle.core_model.specs.Parts.{SavedState, state_of}
-use Rattle.state_text.specs.declared.versions.Version.TheVariants.{V2}
-use Rattle.state_text.specs.Lines.{text_in}
-use Rattle.child_host.specs.declared.calls.Call.TheVariants.{Start, Look, Late, Clock, TakeBytes, ReadTables, Carry, Announce, Pause}
-use Rattle.child_host.specs.declared.calls.Reply.TheVariants.{Now, Later}
-use Rattle.child_host.specs.Calls.{HostCall, TextRead}
+use Rattle.core_text.specs.declared.versions.Version.TheVariants.{V2}
+use Rattle.core_text.specs.Lines.{text_in}
+use Rattle.host_calls.specs.declared.calls.Call.TheVariants.{Start, Look, Late, Clock, TakeBytes, ReadTables, Carry, Announce, Pause}
+use Rattle.host_calls.specs.declared.calls.Reply.TheVariants.{Now, Later}
+use Rattle.host_calls.specs.Calls.{HostCall, TextRead}
 use Rattle.host_trace.specs.Point.{Point, point_after, has_trace}
 use Rattle.host_trace.specs.Leads.{AreTexts, is_allowed}
 use Rattle.host_trace.specs.Turns.{AreSteps, IsTurn, is_step}

@@ -9,35 +9,35 @@ use Rattle.init_words.specs.declared.levels.Level.{Level}
 use Rattle.init_words.specs.declared.limits.TheConstants.{GRACE_LIMIT}
 use Rattle.init_words.specs.declared.orders.Answer.{Answer}
 use Rattle.init_words.specs.declared.orders.Answer.TheVariants as answer
-use Rattle.init_words.specs.declared.orders.Ask.{Ask}
-use Rattle.init_words.specs.declared.orders.Ask.TheVariants as ask
+use Rattle.init_words.specs.declared.orders.OrderKind.{OrderKind}
+use Rattle.init_words.specs.declared.orders.OrderKind.TheVariants as ask
 use Rattle.init_words.specs.declared.orders.PowerKind.TheVariants as power
 use Rattle.init_words.specs.Levels.{level_read, letter_read}
 use Rattle.initctl_frame.specs.declared.requests.Cause.TheVariants.{Magic, Unknown, LeftOut, Character}
-use Rattle.initctl_frame.specs.declared.requests.Got.{Got}
-use Rattle.initctl_frame.specs.declared.requests.Got.TheVariants as got
-use Rattle.initctl_frame.specs.Frames.{got_of, got_of_command, got_of_ints, got_of_runlevel, int_at, is_left_out, seconds_of}
+use Rattle.initctl_frame.specs.declared.requests.HeardRequest.{HeardRequest}
+use Rattle.initctl_frame.specs.declared.requests.HeardRequest.TheVariants as got
+use Rattle.initctl_frame.specs.Frames.{heard_of, heard_of_command, heard_of_ints, heard_of_runlevel, int_at, is_left_out, seconds_of}
 use Rattle.initctl_frame.specs.Blocks.{blocks_of, gots_of}
-use Rattle.initctl_frame.specs.Signs.{got_of_letter, got_of_level}
+use Rattle.initctl_frame.specs.Signs.{heard_of_letter, heard_of_level}
 use Rattle.init_words.specs.Parts.{texts_of}
 use Rattle.inittab_text.specs.Parts.{are_readable, table_of_texts}
-use Rattle.init_trace.specs.declared.happenings.Happening.TheVariants as past
-use Rattle.init_trace.specs.declared.steps.Goal.{Goal}
-use Rattle.init_trace.specs.Event.{Event}
-use Rattle.init_trace.specs.Range.{are_short, is_request, is_seconds, is_short}
-use Rattle.init_trace.specs.Sound.{is_sound}
+use Rattle.trace_events.specs.declared.happenings.Happening.TheVariants as past
+use Rattle.trace_events.specs.declared.steps.Goal.{Goal}
+use Rattle.trace_events.specs.Event.{Event}
+use Rattle.trace_events.specs.Range.{are_short, is_request, is_seconds, is_short}
+use Rattle.trace_events.specs.Sound.{is_sound}
 use Rattle.trace_laws.proofs.Seconds.{is_short_request, sound_short}
-use Rattle.child_host.specs.declared.calls.Call.TheVariants.{Start, Look, Signal, Late, Clock, TakeBytes, ReadTables, Carry, Announce, Pause}
-use Rattle.child_host.specs.declared.calls.Reply.{Reply}
-use Rattle.child_host.specs.declared.calls.Reply.TheVariants.{Now, Later}
-use Rattle.child_host.specs.Calls.{HostCall, PartsRead}
+use Rattle.host_calls.specs.declared.calls.Call.TheVariants.{Start, Look, Signal, Late, Clock, TakeBytes, ReadTables, Carry, Announce, Pause}
+use Rattle.host_calls.specs.declared.calls.Reply.{Reply}
+use Rattle.host_calls.specs.declared.calls.Reply.TheVariants.{Now, Later}
+use Rattle.host_calls.specs.Calls.{HostCall, PartsRead}
 use Rattle.trace_log.specs.Logs.{LogState}
 use Rattle.host_trace.specs.Leads.{Logs, Took, are_seconds_short}
 use Rattle.host_trace.specs.Point.{Point, after, acted, announced, answered, before_handing, before_reading, byte_after, bytes_after, came_whole, come, handed_if, is_asked_for, is_last, is_announcement, nudged_if, order_for, ordered, point_after, reading}
 
 -- ---- a request
 
-level_request : (level : Option Level) (letter : Option Letter) (code seconds : ℕ) → is_seconds seconds ≡ true → is_request (got_of_level level code seconds) ≡ true
+level_request : (level : Option Level) (letter : Option Letter) (code seconds : ℕ) → is_seconds seconds ≡ true → is_request (heard_of_level level code seconds) ≡ true
 level_request (Some level) letter code seconds short = short
 level_request None letter code seconds short = of_letter (letter_read code)
   where
@@ -46,7 +46,7 @@ level_request None letter code seconds short = of_letter (letter_read code)
     last false true = refl
     last false false = refl
 
-    of_letter : (o : Option Letter) → is_request (got_of_letter o code) ≡ true
+    of_letter : (o : Option Letter) → is_request (heard_of_letter o code) ≡ true
     of_letter (Some called) = refl
     of_letter None = last (code == 81 || code == 113) (code == 85 || code == 117)
 
@@ -54,11 +54,11 @@ seconds_short : (sleeptime : ℤ) → is_seconds (seconds_of sleeptime) ≡ true
 seconds_short (pos seconds) = lt-ltb (min seconds GRACE_LIMIT) (GRACE_LIMIT + 1) (omega arith)
 seconds_short (negsuc below) = refl
 
-runlevel_request : (runlevel : ℤ) (seconds : ℕ) → is_seconds seconds ≡ true → is_request (got_of_runlevel runlevel seconds) ≡ true
+runlevel_request : (runlevel : ℤ) (seconds : ℕ) → is_seconds seconds ≡ true → is_request (heard_of_runlevel runlevel seconds) ≡ true
 runlevel_request (pos code) seconds short = level_request (level_read code) (letter_read code) code seconds short
 runlevel_request (negsuc below) seconds short = refl
 
-command_request : (runlevel fail fail_now ok left : Bool) (asked : Got) → is_request asked ≡ true → is_request (cond runlevel asked (cond fail (got.Power power.Fail) (cond fail_now (got.Power power.FailNow) (cond ok (got.Power power.Ok) (cond left (got.Nothing LeftOut) (got.Nothing Unknown)))))) ≡ true
+command_request : (runlevel fail fail_now ok left : Bool) (asked : HeardRequest) → is_request asked ≡ true → is_request (cond runlevel asked (cond fail (got.Power power.Fail) (cond fail_now (got.Power power.FailNow) (cond ok (got.Power power.Ok) (cond left (got.Nothing LeftOut) (got.Nothing Unknown)))))) ≡ true
 command_request true fail fail_now ok left asked short = short
 command_request false true fail_now ok left asked short = refl
 command_request false false true ok left asked short = refl
@@ -66,15 +66,16 @@ command_request false false false true left asked short = refl
 command_request false false false false true asked short = refl
 command_request false false false false false asked short = refl
 
-ints_request : (magic command runlevel sleeptime : ℤ) → is_request (got_of_ints magic command runlevel sleeptime) ≡ true
+ints_request : (magic command runlevel sleeptime : ℤ)
+    → is_request (heard_of_ints magic command runlevel sleeptime) ≡ true
 ints_request magic command runlevel sleeptime = by (int_eq magic (pos 0x03091969))
   where
-    by : (b : Bool) → is_request (cond b (got_of_command command runlevel sleeptime) (got.Nothing Magic)) ≡ true
+    by : (b : Bool) → is_request (cond b (heard_of_command command runlevel sleeptime) (got.Nothing Magic)) ≡ true
     by true = command_request (int_eq command (pos 1)) (int_eq command (pos 2)) (int_eq command (pos 3)) (int_eq command (pos 4)) (is_left_out command)
-        (got_of_runlevel runlevel (seconds_of sleeptime)) (runlevel_request runlevel (seconds_of sleeptime) (seconds_short sleeptime))
+        (heard_of_runlevel runlevel (seconds_of sleeptime)) (runlevel_request runlevel (seconds_of sleeptime) (seconds_short sleeptime))
     by false = refl
 
-request_short : (block : List ℕ) → is_request (got_of block) ≡ true
+request_short : (block : List ℕ) → is_request (heard_of block) ≡ true
 request_short block = ints_request (int_at 0 block) (int_at 4 block) (int_at 8 block) (int_at 12 block)
 
 -- ---- what a call comes to
@@ -98,7 +99,7 @@ answered_requests id given so_far all = by (is_asked_for id given so_far)
     by true = acted_requests id given so_far all
     by false = all
 
-ordered_requests : (id : List ℕ) (order : Ask) (reply : Reply) (so_far : List Event) → Requests so_far → Requests (ordered id order reply so_far)
+ordered_requests : (id : List ℕ) (order : OrderKind) (reply : Reply) (so_far : List Event) → Requests so_far → Requests (ordered id order reply so_far)
 ordered_requests id order (Now given) so_far all = answered_requests id given (past.Asked id order ∷ so_far) all
 ordered_requests id order Later so_far all = all
 
@@ -113,8 +114,8 @@ come_requests None so_far all = all
 byte_requests : (byte : ℕ) (p : Point) → Requests p.past → Requests (byte_after byte p).past
 byte_requests byte p all = by (length (p.over ++ byte ∷ []) == 384)
   where
-    by : (b : Bool) → Requests (cond b (record p { over = []; past = past.Got (got_of (p.over ++ byte ∷ [])) ∷ p.past }) (record p { over = p.over ++ byte ∷ [] })).past
-    by true = and_from (is_request (got_of (p.over ++ byte ∷ []))) (list_all is_short_request p.past) (request_short (p.over ++ byte ∷ [])) all
+    by : (b : Bool) → Requests (cond b (record p { over = []; past = past.Got (heard_of (p.over ++ byte ∷ [])) ∷ p.past }) (record p { over = p.over ++ byte ∷ [] })).past
+    by true = and_from (is_request (heard_of (p.over ++ byte ∷ []))) (list_all is_short_request p.past) (request_short (p.over ++ byte ∷ [])) all
     by false = all
 
 bytes_requests : (bytes : List ℕ) (p : Point) → Requests p.past → Requests (bytes_after bytes p).past
@@ -186,11 +187,11 @@ requests_of (past.Got request ∷ so_far) short =
 requests_of (happening ∷ so_far) short = requests_of so_far (and_parts (is_short happening) (are_short so_far) short).1
 
 -- the requests of blocks
-blocks_short : (blocks : List (List ℕ)) → list_all is_request (map got_of blocks) ≡ true
+blocks_short : (blocks : List (List ℕ)) → list_all is_request (map heard_of blocks) ≡ true
 blocks_short [] = refl
-blocks_short (block ∷ blocks) = and_from (is_request (got_of block)) (list_all is_request (map got_of blocks)) (request_short block) (blocks_short blocks)
+blocks_short (block ∷ blocks) = and_from (is_request (heard_of block)) (list_all is_request (map heard_of blocks)) (request_short block) (blocks_short blocks)
 
-pub given_short : (before given : List Got) (bytes : List ℕ) → gots_of bytes ≡ before ++ given → list_all is_request given ≡ true
+pub given_short : (before given : List HeardRequest) (bytes : List ℕ) → gots_of bytes ≡ before ++ given → list_all is_request given ≡ true
 given_short before given bytes is = (and_parts (list_all is_request before) (list_all is_request given) (sym (list_all-append is_request before given) ∙ ap (list_all is_request) (sym is) ∙ blocks_short (blocks_of bytes))).1
 
 -- ---- the trace of a record

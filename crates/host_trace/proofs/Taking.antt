@@ -4,8 +4,8 @@ use Rattle.std.specs.Result.{OnOk, OnErr, is_err}
 use Rattle.std.proofs.lemmas.Bool.{false≢true, and_parts}
 use Rattle.std.proofs.lemmas.List.{reverse-append}
 use Rattle.std.proofs.lemmas.List.Folds.{list_all-append}
-use Rattle.init_trace.specs.Event.{Event}
-use Rattle.init_trace.specs.Range.{is_in_range, is_short, are_short}
+use Rattle.trace_events.specs.Event.{Event}
+use Rattle.trace_events.specs.Range.{is_in_range, is_short, are_short}
 use Rattle.trace_log.specs.declared.faults.LogFault.{LogFault}
 use Rattle.trace_log.specs.Logs.{LogState, Gains, Stays}
 use Rattle.host_trace.specs.Leads.{Logs, Takes, Took}

@@ -5,13 +5,13 @@ use Rattle.std.specs.Option.{option_map_or}
 use Rattle.std.proofs.lemmas.Bool.{false≢true, and_from, and_parts, or_left, or_right, eqb-true}
 use Rattle.init_words.proofs.Same.{same_id-is}
 use Rattle.init_words.proofs.Tests.{or_either}
-use Rattle.init_trace.specs.declared.steps.Goal.{Goal}
+use Rattle.trace_events.specs.declared.steps.Goal.{Goal}
 use Rattle.core_model.specs.Parts.{state_of}
-use Rattle.state_text.specs.declared.versions.Version.TheVariants.{V2}
-use Rattle.state_text.specs.Reading.{generation_of}
-use Rattle.state_text.proofs.Prefixes.{generation_said}
-use Rattle.child_host.specs.declared.calls.Call.TheVariants.{Start, Look, Signal, Late, Clock, TakeBytes, ReadTables, Carry, Announce, Pause}
-use Rattle.child_host.specs.Calls.{HostCall, TextRead}
+use Rattle.core_text.specs.declared.versions.Version.TheVariants.{V2}
+use Rattle.core_text.specs.Reading.{generation_of}
+use Rattle.core_text.proofs.Prefixes.{generation_said}
+use Rattle.host_calls.specs.declared.calls.Call.TheVariants.{Start, Look, Signal, Late, Clock, TakeBytes, ReadTables, Carry, Announce, Pause}
+use Rattle.host_calls.specs.Calls.{HostCall, TextRead}
 use Rattle.host_trace.specs.Point.{Point, after, is_of_generation, point_after, same_text}
 use Rattle.host_trace.specs.Leads.{AreTexts, IsStateText, are_carried, comes_back}
 use Rattle.host_trace.specs.Texts.{are_given_back, is_given_back, texts_in}

@@ -1,5 +1,5 @@
 pub mod Leads
 pub mod Point
 pub mod Requests
-pub mod Turns
 pub mod Texts
+pub mod Turns

@@ -5,10 +5,10 @@ use Rattle.std.specs.Option.{option_map_or}
 use Rattle.std.specs.Cmp.Lexicographic.{pointwise}
 use Rattle.init_words.specs.declared.orders.Answer.{Answer}
 use Rattle.init_words.specs.declared.orders.Answer.TheVariants as answer
-use Rattle.init_words.specs.declared.orders.Ask.{Ask}
-use Rattle.init_words.specs.declared.orders.Ask.TheVariants as ask
-use Rattle.init_words.specs.declared.orders.Sig.{Sig}
-use Rattle.init_words.specs.declared.orders.Sig.TheVariants as signal
+use Rattle.init_words.specs.declared.orders.OrderKind.{OrderKind}
+use Rattle.init_words.specs.declared.orders.OrderKind.TheVariants as ask
+use Rattle.init_words.specs.declared.orders.SignalKind.{SignalKind}
+use Rattle.init_words.specs.declared.orders.SignalKind.TheVariants as signal
 use Rattle.init_words.specs.Entries.{command_of}
 use Rattle.init_words.specs.Ids.{same_id}
 use Rattle.init_words.specs.Orders.{answers}
@@ -16,23 +16,23 @@ use Rattle.init_words.specs.Parts.{texts_of}
 use Rattle.inittab_text.specs.Parts.{are_readable, table_of_texts}
 use Rattle.inittab_text.specs.Tables.{entry_of}
 use Rattle.initctl_frame.specs.declared.frames.TheConstants.{BLOCK}
-use Rattle.initctl_frame.specs.Frames.{got_of}
-use Rattle.init_trace.specs.declared.happenings.Handed.{Handed as HandOver}
-use Rattle.init_trace.specs.declared.happenings.Handed.TheVariants as handed
-use Rattle.init_trace.specs.declared.happenings.Happening.TheVariants as happened
-use Rattle.init_trace.specs.declared.steps.Goal.{Goal}
-use Rattle.init_trace.specs.declared.steps.Step.{Step}
-use Rattle.init_trace.specs.declared.steps.Step.TheVariants as step
-use Rattle.init_trace.specs.Event.{Event}
-use Rattle.init_trace.specs.Past.{open_of, table_of}
-use Rattle.init_trace.specs.Due.{due, first, same_step}
-use Rattle.init_trace.specs.Run.{step_in}
-use Rattle.state_text.specs.Reading.{generation_of}
-use Rattle.child_host.specs.declared.calls.Call.TheVariants.{Start, Look, Signal, Late, Clock, TakeBytes, ReadTables, Carry, Announce, Pause}
-use Rattle.child_host.specs.declared.calls.HostFault.{HostFault}
-use Rattle.child_host.specs.declared.calls.Reply.{Reply}
-use Rattle.child_host.specs.declared.calls.Reply.TheVariants.{Now, Later}
-use Rattle.child_host.specs.Calls.{HostCall, PartsRead, TextRead}
+use Rattle.initctl_frame.specs.Frames.{heard_of}
+use Rattle.trace_events.specs.declared.happenings.Handed.{Handed as HandOver}
+use Rattle.trace_events.specs.declared.happenings.Handed.TheVariants as handed
+use Rattle.trace_events.specs.declared.happenings.Happening.TheVariants as happened
+use Rattle.trace_events.specs.declared.steps.Goal.{Goal}
+use Rattle.trace_events.specs.declared.steps.Step.{Step}
+use Rattle.trace_events.specs.declared.steps.Step.TheVariants as step
+use Rattle.trace_events.specs.Event.{Event}
+use Rattle.trace_events.specs.Past.{open_of, table_of}
+use Rattle.trace_events.specs.Due.{due, first, same_step}
+use Rattle.trace_events.specs.Run.{step_in}
+use Rattle.core_text.specs.Reading.{generation_of}
+use Rattle.host_calls.specs.declared.calls.Call.TheVariants.{Start, Look, Signal, Late, Clock, TakeBytes, ReadTables, Carry, Announce, Pause}
+use Rattle.host_calls.specs.declared.calls.HostFault.{HostFault}
+use Rattle.host_calls.specs.declared.calls.Reply.{Reply}
+use Rattle.host_calls.specs.declared.calls.Reply.TheVariants.{Now, Later}
+use Rattle.host_calls.specs.Calls.{HostCall, PartsRead, TextRead}
 use Rattle.host_trace.specs.declared.TheConstants.{LATE_LIMIT}
 
 -- where a record stands: the bytes of a block under way, how many late answers were asked for since the clock was read,
@@ -74,10 +74,10 @@ abbrev pub replied : List ℕ → Reply → List Event → List Event
 replied id (Now given) past = answered id given past
 replied id Later past = past
 
-abbrev pub ordered : List ℕ → Ask → Reply → List Event → List Event
+abbrev pub ordered : List ℕ → OrderKind → Reply → List Event → List Event
 ordered id ask reply past = replied id reply (happened.Asked id ask ∷ past)
 
-abbrev pub order_for : Sig → Ask
+abbrev pub order_for : SignalKind → OrderKind
 order_for signal.Term = ask.Term
 order_for signal.Kill = ask.Kill
 
@@ -101,7 +101,7 @@ clocked (Err fault) past = past
 -- a byte more: the block that it fills is a request
 abbrev pub filled : List ℕ → Point → Point
 filled over p =
-    if length over == BLOCK then record p { over = []; past = happened.Got (got_of over) ∷ p.past }
+    if length over == BLOCK then record p { over = []; past = happened.Got (heard_of over) ∷ p.past }
     else record p { over = over }
 
 abbrev pub byte_after : ℕ → Point → Point

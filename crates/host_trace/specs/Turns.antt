@@ -1,17 +1,17 @@
 -- What calls a turn of init makes of its host, and what calls many turns make (init(8)). The newest stand first.
 use Rattle.std.specs.Prelude.{◌≡◌, ◌≤◌, ◌⊎◌, ◌+◌, ℕ, zero, suc, Bool, true, false, ◌&&◌, ◌||◌, ◌==◌, nat_le, nat_lt, IsTrue, List, [], ◌∷◌, ◌++◌, length, Some, None, Result, Ok, Err}
 use Rattle.std.specs.List.{list_all}
-use Rattle.init_trace.specs.declared.happenings.Happening.TheVariants.{NotRead, Handed}
-use Rattle.init_trace.specs.declared.steps.Goal.{Goal}
-use Rattle.init_trace.specs.declared.steps.Step.TheVariants.{Idle}
-use Rattle.init_trace.specs.Due.{due, first}
-use Rattle.init_trace.specs.Sound.{is_sound}
+use Rattle.trace_events.specs.declared.happenings.Happening.TheVariants.{NotRead, Handed}
+use Rattle.trace_events.specs.declared.steps.Goal.{Goal}
+use Rattle.trace_events.specs.declared.steps.Step.TheVariants.{Idle}
+use Rattle.trace_events.specs.Due.{due, first}
+use Rattle.trace_events.specs.Sound.{is_sound}
 use Rattle.core_model.specs.State.{CoreState}
 use Rattle.core_model.specs.Decide.{is_drained}
 use Rattle.core_model.specs.Fit.{FitsAll}
-use Rattle.child_host.specs.declared.calls.Call.TheVariants.{Start, Look, Signal, Late, Clock, TakeBytes, ReadTables, Carry, Announce, Pause}
-use Rattle.child_host.specs.declared.calls.HostFault.{HostFault}
-use Rattle.child_host.specs.Calls.{HostCall, TextRead}
+use Rattle.host_calls.specs.declared.calls.Call.TheVariants.{Start, Look, Signal, Late, Clock, TakeBytes, ReadTables, Carry, Announce, Pause}
+use Rattle.host_calls.specs.declared.calls.HostFault.{HostFault}
+use Rattle.host_calls.specs.Calls.{HostCall, TextRead}
 use Rattle.host_trace.specs.declared.TheConstants.{BYTE_LIMIT, PIECE, LATE_LIMIT, STEP_LIMIT}
 use Rattle.host_trace.specs.Point.{Point, point_after, has_trace}
 use Rattle.host_trace.specs.Leads.{AreTexts, are_carried, is_allowed}

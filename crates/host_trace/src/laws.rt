@@ -2,8 +2,8 @@
 
 ghost use Rattle.std.specs.Prelude.{◌≡◌, ◌+◌, ◌++◌, ℕ, IsTrue, List, length};
 ghost use Rattle.initctl_frame.specs.Blocks.{over_of};
-ghost use Rattle.init_trace.specs.declared.steps.Goal.{Goal};
-ghost use Rattle.child_host.specs.Calls.{HostCall};
+ghost use Rattle.trace_events.specs.declared.steps.Goal.{Goal};
+ghost use Rattle.host_calls.specs.Calls.{HostCall};
 ghost use Rattle.host_trace.specs.Point.{Point, point_after, has_trace};
 ghost use Rattle.host_trace.specs.Leads.{AreTexts, are_carried, is_allowed};
 ghost use Rattle.host_trace.specs.Requests.{Brings};

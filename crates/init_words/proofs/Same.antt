@@ -13,8 +13,8 @@ use Rattle.init_words.specs.declared.stages.Stage.{Stage}
 use Rattle.init_words.specs.declared.stages.Stage.TheVariants as stage
 use Rattle.init_words.specs.declared.orders.PowerKind.{PowerKind}
 use Rattle.init_words.specs.declared.orders.PowerKind.TheVariants as power
-use Rattle.init_words.specs.declared.orders.Ask.{Ask}
-use Rattle.init_words.specs.declared.orders.Ask.TheVariants.{Start, Look, Term, Kill}
+use Rattle.init_words.specs.declared.orders.OrderKind.{OrderKind}
+use Rattle.init_words.specs.declared.orders.OrderKind.TheVariants.{Start, Look, Term, Kill}
 use Rattle.init_words.specs.Ids.{same_id}
 use Rattle.init_words.specs.Actions.{act_number, same_act}
 use Rattle.init_words.specs.Levels.{level_code, same_level, level_read, letter_code, mark_code, mark_read, same_mark}
@@ -42,14 +42,14 @@ pub same_id-apart : (a b c : List ℕ) → same_id a b ≡ false → same_id a c
 same_id-apart a b c differ same = falsely (same_id b c) (same_id a b) (λ h. same_id-from a b (same_id-is a c same ∙ sym (same_id-is b c h))) differ
 
 -- orders, levels, actions
-pub same_ask-is : (a b : Ask) → same_ask a b ≡ true → a ≡ b
+pub same_ask-is : (a b : OrderKind) → same_ask a b ≡ true → a ≡ b
 same_ask-is Start Start h = refl
 same_ask-is Look Look h = refl
 same_ask-is Term Term h = refl
 same_ask-is Kill Kill h = refl
 same_ask-is _ _ h = absurd (false≢true h)
 
-pub same_ask-self : (a : Ask) → same_ask a a ≡ true
+pub same_ask-self : (a : OrderKind) → same_ask a a ≡ true
 same_ask-self Start = refl
 same_ask-self Look = refl
 same_ask-self Term = refl

@@ -1,7 +1,7 @@
 -- Orders, stages, power news and answers: when two are one, and which orders an answer may answer.
 use Rattle.std.specs.Prelude.{Bool, true, false}
-use Rattle.init_words.specs.declared.orders.Ask.{Ask}
-use Rattle.init_words.specs.declared.orders.Ask.TheVariants.{Start, Look, Term, Kill}
+use Rattle.init_words.specs.declared.orders.OrderKind.{OrderKind}
+use Rattle.init_words.specs.declared.orders.OrderKind.TheVariants.{Start, Look, Term, Kill}
 use Rattle.init_words.specs.declared.orders.Answer.{Answer}
 use Rattle.init_words.specs.declared.orders.Answer.TheVariants.{Born, NotBorn, Ended, Alive, NoLook, Hit, Miss}
 use Rattle.init_words.specs.declared.orders.PowerKind.{PowerKind}
@@ -10,7 +10,7 @@ use Rattle.init_words.specs.declared.stages.Stage.{Stage}
 use Rattle.init_words.specs.declared.stages.Stage.TheVariants as stage
 use Rattle.init_words.specs.Levels.{same_level}
 
-abbrev pub same_ask : Ask → Ask → Bool
+abbrev pub same_ask : OrderKind → OrderKind → Bool
 same_ask Start Start = true
 same_ask Look Look = true
 same_ask Term Term = true
@@ -30,7 +30,7 @@ same_stage (stage.Run k) (stage.Run l) = same_level k l
 same_stage _ _ = false
 
 -- the answer is one to an order of this kind
-abbrev pub answers : Answer → Ask → Bool
+abbrev pub answers : Answer → OrderKind → Bool
 answers (Born n) Start = true
 answers NotBorn Start = true
 answers (Ended status) Look = true

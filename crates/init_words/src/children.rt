@@ -4,9 +4,9 @@ use std::marker::Model;
 
 /// The number that the system gave a child.
 #[derive(Clone, Copy, Debug, PartialEq, Eq)]
-pub struct ChildNo(pub u32);
+pub struct ChildNumber(pub u32);
 
-impl Model for ChildNo {
+impl Model for ChildNumber {
     ghost use Rattle.std.specs.Prelude.{ℕ};
 
     ghost Value = { ℕ };

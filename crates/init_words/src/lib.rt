@@ -14,12 +14,12 @@ mod refusals;
 mod stages;
 
 pub use actions::{ACTS, Act};
-pub use children::{ChildNo, Status};
+pub use children::{ChildNumber, Status};
 pub use entries::{Entry, MARK_LIMIT, PROCESS_LIMIT, lives, starts, waited, without_plus};
 pub use ids::{ID_LIMIT, Id};
 pub use levels::{Letter, Level, Mark, names};
 pub use limits::{GRACE, GRACE_LIMIT};
-pub use orders::{Answer, Ask, PowerKind, Sig};
+pub use orders::{Answer, OrderKind, PowerKind, SignalKind};
 pub use parts::Part;
 pub use refusals::{Memory, Refusal};
 pub use stages::Stage;

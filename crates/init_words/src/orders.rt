@@ -3,11 +3,11 @@
 ghost use Rattle.std.specs.Prelude.{◌≡◌};
 ghost use Rattle.init_words.specs.Orders.{answers};
 
-use crate::children::{ChildNo, Status};
+use crate::children::{ChildNumber, Status};
 
 /// What init asks of the system about one entry.
 #[derive(Clone, Copy, PartialEq, Eq)]
-pub enum Ask {
+pub enum OrderKind {
     Start,
     Look,
     Term,
@@ -18,7 +18,7 @@ pub enum Ask {
 #[derive(Clone, Copy, PartialEq, Eq)]
 pub enum Answer {
     /// A start: the child of that number runs.
-    Born(ChildNo),
+    Born(ChildNumber),
     /// A start that failed.
     NotBorn,
     /// A look: the child had ended, and is reaped now.
@@ -35,13 +35,13 @@ pub enum Answer {
 
 impl Answer {
     /// It is an answer to an order of this kind.
-    pub fn answers(self, ask: Ask) -> bool
+    pub fn answers(self, ask: OrderKind) -> bool
         ensures { result ≡ answers self ask }
     {
         match (self, ask) {
-            (Answer::Born(_) | Answer::NotBorn, Ask::Start) => true,
-            (Answer::Ended(_) | Answer::Alive | Answer::NoLook, Ask::Look) => true,
-            (Answer::Hit | Answer::Miss, Ask::Term | Ask::Kill) => true,
+            (Answer::Born(_) | Answer::NotBorn, OrderKind::Start) => true,
+            (Answer::Ended(_) | Answer::Alive | Answer::NoLook, OrderKind::Look) => true,
+            (Answer::Hit | Answer::Miss, OrderKind::Term | OrderKind::Kill) => true,
             _ => false,
         }
     }
@@ -49,7 +49,7 @@ impl Answer {
 
 /// The two signals that stop a child (init(8)).
 #[derive(Clone, Copy, PartialEq, Eq)]
-pub enum Sig {
+pub enum SignalKind {
     Term,
     Kill,
 }

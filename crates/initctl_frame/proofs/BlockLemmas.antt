@@ -7,7 +7,7 @@ use Rattle.std.proofs.lemmas.List.{map-append, take-append-le, drop-append-le, d
 use Rattle.std.proofs.lemmas.Bool.{cases_lt}
 use Rattle.std.proofs.Math.Seq.{take-append-add}
 use Rattle.std.specs.Int.{cast_signed, from_le_bytes}
-use Rattle.initctl_frame.specs.Frames.{got_of, got_of_ints, int_at}
+use Rattle.initctl_frame.specs.Frames.{heard_of, heard_of_ints, int_at}
 use Rattle.initctl_frame.specs.Blocks.{blocks_of, gots_of, over_of, parts}
 
 -- ---- parts of any size
@@ -52,19 +52,19 @@ over_stays bytes more short =
 
 pub gots_stay : (bytes more : List ℕ) → length (over_of bytes) + length more < 384 → gots_of (bytes ++ more) ≡ gots_of bytes
 gots_stay bytes more short =
-    ap (map got_of) (ap (λ (n : ℕ). parts 384 n (bytes ++ more)) (count_stays bytes more short)
+    ap (map heard_of) (ap (λ (n : ℕ). parts 384 n (bytes ++ more)) (count_stays bytes more short)
     ∙ parts-append 384 (length bytes / 384) bytes more (omega arith))
 
 -- where the block is full, it is one more
-pub gots_grow : (bytes more : List ℕ) → length (over_of bytes) + length more ≡ 384 → gots_of (bytes ++ more) ≡ gots_of bytes ++ got_of (over_of bytes ++ more) ∷ []
+pub gots_grow : (bytes more : List ℕ) → length (over_of bytes) + length more ≡ 384 → gots_of (bytes ++ more) ≡ gots_of bytes ++ heard_of (over_of bytes ++ more) ∷ []
 gots_grow bytes more full =
     let n : ℕ = length bytes / 384 in
     let last : take 384 (drop (384 * n) (bytes ++ more)) ≡ over_of bytes ++ more =
     ap (take 384) (joined_over bytes more) ∙ take_all 384 (over_of bytes ++ more) (omega (arith, length-append (over_of bytes) more)) in
-    ap (map got_of) (ap (λ (k : ℕ). parts 384 k (bytes ++ more)) (count_grows bytes more full)
+    ap (map heard_of) (ap (λ (k : ℕ). parts 384 k (bytes ++ more)) (count_grows bytes more full)
     ∙ parts-last 384 n (bytes ++ more)
     ∙ ap₂ (λ (fronts : List (List ℕ)) (block : List ℕ). fronts ++ block ∷ []) (parts-append 384 n bytes more (omega arith)) last)
-    ∙ map-append got_of (blocks_of bytes) ((over_of bytes ++ more) ∷ [])
+    ∙ map-append heard_of (blocks_of bytes) ((over_of bytes ++ more) ∷ [])
 
 -- ---- the blocks are the parts of the bytes
 
@@ -113,11 +113,11 @@ int_in_front n place bytes within =
     ap (cast_signed w32) (from_four (drop place (take n bytes)) (drop place bytes) (λ i below.
     get_or-drop place (take n bytes) i 0 ∙ get_or-take n bytes (place + i) 0 (omega arith) ∙ sym (get_or-drop place bytes i 0)))
 
-pub got_of_front : (n : ℕ) (block : List ℕ) → 16 ≤ n → got_of (take n block) ≡ got_of block
-got_of_front n block within =
-    ap₂ (λ (magic command : ℤ). got_of_ints magic command (int_at 8 (take n block)) (int_at 12 (take n block)))
+pub heard_of_front : (n : ℕ) (block : List ℕ) → 16 ≤ n → heard_of (take n block) ≡ heard_of block
+heard_of_front n block within =
+    ap₂ (λ (magic command : ℤ). heard_of_ints magic command (int_at 8 (take n block)) (int_at 12 (take n block)))
     (int_in_front n 0 block (omega arith)) (int_in_front n 4 block (omega arith))
-    ∙ ap₂ (λ (runlevel sleeptime : ℤ). got_of_ints (int_at 0 block) (int_at 4 block) runlevel sleeptime)
+    ∙ ap₂ (λ (runlevel sleeptime : ℤ). heard_of_ints (int_at 0 block) (int_at 4 block) runlevel sleeptime)
     (int_in_front n 8 block (omega arith)) (int_in_front n 12 block (omega arith))
 
 take_min : (m taken : ℕ) (piece : List ℕ) → taken ≤ length piece → take (min taken m) piece ≡ take m (take taken piece)

@@ -4,8 +4,8 @@ use Rattle.std.proofs.lemmas.Nat.{from_le_bytes-to_le_bytes_4}
 use Rattle.std.proofs.lemmas.Int.{to_z_pos}
 use Rattle.std.specs.Int.{cast_signed}
 use Rattle.std.specs.Prelude.{min}
-use Rattle.initctl_frame.specs.Signs.{got_of_sign}
-use Rattle.initctl_frame.specs.Frames.{block_of_ints, got_of, got_of_runlevel, int_at, seconds_of}
+use Rattle.initctl_frame.specs.Signs.{heard_of_sign}
+use Rattle.initctl_frame.specs.Frames.{block_of_ints, heard_of, heard_of_runlevel, int_at, seconds_of}
 
 runlevel_of : (command runlevel sleeptime : ℕ) → runlevel < 2 ^ 31 → int_at 8 (block_of_ints command runlevel sleeptime) ≡ pos runlevel
 runlevel_of command runlevel sleeptime fits =
@@ -16,7 +16,7 @@ sleeptime_of command runlevel sleeptime fits =
     ap (cast_signed w32) (from_le_bytes-to_le_bytes_4 sleeptime (omega arith)) ∙ to_z_pos w32 sleeptime fits
 
 -- a level request is read back as the character with at most 3,600 seconds
-pub level_read_back : (sign seconds : ℕ) → sign < 2 ^ 8 → seconds < 2 ^ 16 → got_of (block_of_ints 1 sign seconds) ≡ got_of_sign sign (min seconds 3600)
+pub level_read_back : (sign seconds : ℕ) → sign < 2 ^ 8 → seconds < 2 ^ 16 → heard_of (block_of_ints 1 sign seconds) ≡ heard_of_sign sign (min seconds 3600)
 level_read_back sign seconds byte short =
-    ap₂ (λ runlevel sleeptime. got_of_runlevel runlevel (seconds_of sleeptime))
+    ap₂ (λ runlevel sleeptime. heard_of_runlevel runlevel (seconds_of sleeptime))
     (runlevel_of 1 sign seconds (omega arith)) (sleeptime_of 1 sign seconds (omega arith))

@@ -1,8 +1,8 @@
 -- The request blocks of a byte list, and where a reader of it stands.
 use Rattle.std.specs.Prelude.{◌≡◌, ℕ, zero, suc, ◌*◌, ◌/◌, List, [], ◌∷◌, length, take, drop, map}
 use Rattle.initctl_frame.specs.declared.frames.TheConstants.{BLOCK, FRONT}
-use Rattle.initctl_frame.specs.declared.requests.Got.{Got}
-use Rattle.initctl_frame.specs.Frames.{got_of}
+use Rattle.initctl_frame.specs.declared.requests.HeardRequest.{HeardRequest}
+use Rattle.initctl_frame.specs.Frames.{heard_of}
 
 -- the first parts of this size
 abbrev pub parts : ℕ → ℕ → List ℕ → List (List ℕ)
@@ -14,8 +14,8 @@ abbrev pub blocks_of : List ℕ → List (List ℕ)
 blocks_of bytes = parts BLOCK (length bytes / BLOCK) bytes
 
 -- the requests of a byte list: each block's, in order
-abbrev pub gots_of : List ℕ → List Got
-gots_of bytes = map got_of (blocks_of bytes)
+abbrev pub gots_of : List ℕ → List HeardRequest
+gots_of bytes = map heard_of (blocks_of bytes)
 
 -- the bytes over, after the last whole block
 abbrev pub over_of : List ℕ → List ℕ

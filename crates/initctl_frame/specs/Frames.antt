@@ -7,12 +7,12 @@ use Rattle.std.specs.Ordering.{int_eq}
 use Rattle.init_words.specs.declared.limits.TheConstants.{GRACE_LIMIT}
 use Rattle.init_words.specs.declared.orders.PowerKind.{PowerKind}
 use Rattle.init_words.specs.declared.orders.PowerKind.TheVariants as power
-use Rattle.initctl_frame.specs.declared.requests.Got.{Got}
-use Rattle.initctl_frame.specs.declared.requests.Got.TheVariants as got
+use Rattle.initctl_frame.specs.declared.requests.HeardRequest.{HeardRequest}
+use Rattle.initctl_frame.specs.declared.requests.HeardRequest.TheVariants as got
 use Rattle.initctl_frame.specs.declared.requests.Cause.TheVariants.{Magic, Unknown, LeftOut, Character}
 use Rattle.initctl_frame.specs.declared.requests.Request.{Request}
 use Rattle.initctl_frame.specs.declared.requests.Request.TheVariants as request
-use Rattle.initctl_frame.specs.Signs.{got_of_sign}
+use Rattle.initctl_frame.specs.Signs.{heard_of_sign}
 
 -- the int whose four bytes begin at this place, the lowest byte first
 abbrev pub int_at : ℕ → List ℕ → ℤ
@@ -24,31 +24,31 @@ seconds_of (pos seconds) = min seconds GRACE_LIMIT
 seconds_of (negsuc below) = 0
 
 -- a runlevel int asks for what the character of this code does
-abbrev pub got_of_runlevel : ℤ → ℕ → Got
-got_of_runlevel (pos code) seconds = got_of_sign code seconds
-got_of_runlevel (negsuc below) seconds = got.Nothing Character
+abbrev pub heard_of_runlevel : ℤ → ℕ → HeardRequest
+heard_of_runlevel (pos code) seconds = heard_of_sign code seconds
+heard_of_runlevel (negsuc below) seconds = got.Nothing Character
 
 -- START, BSD, SETENV, UNSETENV and CHANGECONS are commands that this init leaves out
 abbrev pub is_left_out : ℤ → Bool
 is_left_out command = list_any (int_eq command) (pos 0 ∷ pos 5 ∷ pos 6 ∷ pos 7 ∷ pos 12345 ∷ [])
 
 -- RUNLVL is 1, POWERFAIL 2, POWERFAILNOW 3, POWEROK 4
-abbrev pub got_of_command : ℤ → ℤ → ℤ → Got
-got_of_command command runlevel sleeptime =
-    if int_eq command (pos 1) then got_of_runlevel runlevel (seconds_of sleeptime)
+abbrev pub heard_of_command : ℤ → ℤ → ℤ → HeardRequest
+heard_of_command command runlevel sleeptime =
+    if int_eq command (pos 1) then heard_of_runlevel runlevel (seconds_of sleeptime)
     else if int_eq command (pos 2) then got.Power power.Fail
     else if int_eq command (pos 3) then got.Power power.FailNow
     else if int_eq command (pos 4) then got.Power power.Ok
     else if is_left_out command then got.Nothing LeftOut else got.Nothing Unknown
 
 -- what the four ints ask for
-abbrev pub got_of_ints : ℤ → ℤ → ℤ → ℤ → Got
-got_of_ints magic command runlevel sleeptime =
-    if int_eq magic (pos 0x03091969) then got_of_command command runlevel sleeptime else got.Nothing Magic
+abbrev pub heard_of_ints : ℤ → ℤ → ℤ → ℤ → HeardRequest
+heard_of_ints magic command runlevel sleeptime =
+    if int_eq magic (pos 0x03091969) then heard_of_command command runlevel sleeptime else got.Nothing Magic
 
 -- what a block asks for, by its four ints alone
-abbrev pub got_of : List ℕ → Got
-got_of block = got_of_ints (int_at 0 block) (int_at 4 block) (int_at 8 block) (int_at 12 block)
+abbrev pub heard_of : List ℕ → HeardRequest
+heard_of block = heard_of_ints (int_at 0 block) (int_at 4 block) (int_at 8 block) (int_at 12 block)
 
 -- the command of news of the power
 abbrev pub power_command : PowerKind → ℕ
@@ -68,6 +68,6 @@ block_of (request.Runlvl sign seconds) = block_of_ints 1 sign seconds
 block_of (request.Power kind) = block_of_ints (power_command kind) 0 0
 
 -- what a request means to init
-abbrev pub meaning_of : Request → Got
-meaning_of (request.Runlvl sign seconds) = got_of_sign sign (min seconds GRACE_LIMIT)
+abbrev pub meaning_of : Request → HeardRequest
+meaning_of (request.Runlvl sign seconds) = heard_of_sign sign (min seconds GRACE_LIMIT)
 meaning_of (request.Power kind) = got.Power kind

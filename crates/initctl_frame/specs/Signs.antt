@@ -4,8 +4,8 @@ use Rattle.std.specs.List.{list_any}
 use Rattle.init_words.specs.declared.levels.Level.{Level}
 use Rattle.init_words.specs.declared.levels.Letter.{Letter}
 use Rattle.init_words.specs.Levels.{level_read, letter_read}
-use Rattle.initctl_frame.specs.declared.requests.Got.{Got}
-use Rattle.initctl_frame.specs.declared.requests.Got.TheVariants as got
+use Rattle.initctl_frame.specs.declared.requests.HeardRequest.{HeardRequest}
+use Rattle.initctl_frame.specs.declared.requests.HeardRequest.TheVariants as got
 use Rattle.initctl_frame.specs.declared.requests.Cause.TheVariants.{Character}
 
 -- the characters of the list, as bytes
@@ -21,22 +21,22 @@ abbrev pub sign_read : ℕ → Option ℕ
 sign_read code = if is_sign code then Some code else None
 
 -- `Q q` reads inittab again, `U u` executes init anew, any other is no character
-abbrev pub got_of_last : ℕ → Got
-got_of_last code =
+abbrev pub heard_of_last : ℕ → HeardRequest
+heard_of_last code =
     if code == 81 || code == 113 then got.Reload
     else if code == 85 || code == 117 then got.Reexec
     else got.Nothing Character
 
 -- `A B C a b c` call the ondemand entries of the letter
-abbrev pub got_of_letter : Option Letter → ℕ → Got
-got_of_letter (Some letter) code = got.Call letter
-got_of_letter None code = got_of_last code
+abbrev pub heard_of_letter : Option Letter → ℕ → HeardRequest
+heard_of_letter (Some letter) code = got.Call letter
+heard_of_letter None code = heard_of_last code
 
 -- `0-9 S s` go to the level, with these seconds between the two signals
-abbrev pub got_of_level : Option Level → ℕ → ℕ → Got
-got_of_level (Some level) code seconds = got.Level level seconds
-got_of_level None code seconds = got_of_letter (letter_read code) code
+abbrev pub heard_of_level : Option Level → ℕ → ℕ → HeardRequest
+heard_of_level (Some level) code seconds = got.Level level seconds
+heard_of_level None code seconds = heard_of_letter (letter_read code) code
 
 -- what a character asks for
-abbrev pub got_of_sign : ℕ → ℕ → Got
-got_of_sign code seconds = got_of_level (level_read code) code seconds
+abbrev pub heard_of_sign : ℕ → ℕ → HeardRequest
+heard_of_sign code seconds = heard_of_level (level_read code) code seconds

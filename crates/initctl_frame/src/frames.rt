@@ -1,10 +1,10 @@
 //! One request of initreq.h: 384 bytes, decoded and encoded.
 
 ghost use Rattle.std.specs.Prelude.{◌≡◌, ◌+◌, ◌-◌, ◌≤◌, ◌++◌, ℕ, List, length, replicate};
-ghost use Rattle.initctl_frame.specs.Signs.{got_of_sign};
-ghost use Rattle.initctl_frame.specs.Frames.{block_of, block_of_ints, got_of, got_of_command, got_of_ints, got_of_runlevel, int_at, meaning_of, power_command, seconds_of};
+ghost use Rattle.initctl_frame.specs.Signs.{heard_of_sign};
+ghost use Rattle.initctl_frame.specs.Frames.{block_of, block_of_ints, heard_of, heard_of_command, heard_of_ints, heard_of_runlevel, int_at, meaning_of, power_command, seconds_of};
 
-use crate::requests::{Cause, Got, Request};
+use crate::requests::{Cause, HeardRequest, Request};
 use crate::signs::Sign;
 use init_words::{GRACE_LIMIT, Letter, Level, PowerKind};
 
@@ -19,8 +19,8 @@ const MAGIC: i32 = 0x03091969;
 
 /// What a block asks for (initreq.h). A block is judged by itself: nothing in it is looked for elsewhere than in its
 /// place.
-pub fn decode(block: &[u8; BLOCK]) -> Got
-    ensures { result ≡ got_of block.now }
+pub fn decode(block: &[u8; BLOCK]) -> HeardRequest
+    ensures { result ≡ heard_of block.now }
 {
     decode_front(block)
 }
@@ -28,7 +28,7 @@ pub fn decode(block: &[u8; BLOCK]) -> Got
 /// The block of a request: its ints, and 368 zeros. News of the power has 0 as its runlevel and its sleeptime.
 pub fn encode(request: &Request) -> [u8; BLOCK]
     ensures bytes { result ≡ block_of request.now }
-    ensures read_back { got_of result ≡ meaning_of request.now }
+    ensures read_back { heard_of result ≡ meaning_of request.now }
 {
     match *request {
         Request::Runlvl(sign, seconds) => block_of_ints(1, sign.code(), seconds),
@@ -37,21 +37,21 @@ pub fn encode(request: &Request) -> [u8; BLOCK]
 }
 
 /// What a request means to init: what it gets by the request's block.
-pub fn meaning(request: &Request) -> Got
+pub fn meaning(request: &Request) -> HeardRequest
     ensures { result ≡ meaning_of request.now }
 {
     match *request {
-        Request::Runlvl(sign, seconds) => got_of_sign(sign.code(), seconds.min(GRACE_LIMIT)),
-        Request::Power(kind) => Got::Power(kind),
+        Request::Runlvl(sign, seconds) => heard_of_sign(sign.code(), seconds.min(GRACE_LIMIT)),
+        Request::Power(kind) => HeardRequest::Power(kind),
     }
 }
 
 /// What the block that begins with these bytes asks for.
-pub(crate) fn decode_front(front: &[u8]) -> Got
+pub(crate) fn decode_front(front: &[u8]) -> HeardRequest
     requires { FRONT ≤ length front.now }
-    ensures { result ≡ got_of front.now }
+    ensures { result ≡ heard_of front.now }
 {
-    got_of_ints(
+    heard_of_ints(
         int_at(front, 0),
         int_at(front, 4),
         int_at(front, 8),
@@ -72,25 +72,25 @@ fn int_at(bytes: &[u8], place: usize) -> i32
     ])
 }
 
-fn got_of_ints(magic: i32, command: i32, runlevel: i32, sleeptime: i32) -> Got
-    ensures { result ≡ got_of_ints magic command runlevel sleeptime }
+fn heard_of_ints(magic: i32, command: i32, runlevel: i32, sleeptime: i32) -> HeardRequest
+    ensures { result ≡ heard_of_ints magic command runlevel sleeptime }
 {
     if magic != MAGIC {
-        return Got::Nothing(Cause::Magic);
+        return HeardRequest::Nothing(Cause::Magic);
     }
-    got_of_command(command, runlevel, sleeptime)
+    heard_of_command(command, runlevel, sleeptime)
 }
 
-fn got_of_command(command: i32, runlevel: i32, sleeptime: i32) -> Got
-    ensures { result ≡ got_of_command command runlevel sleeptime }
+fn heard_of_command(command: i32, runlevel: i32, sleeptime: i32) -> HeardRequest
+    ensures { result ≡ heard_of_command command runlevel sleeptime }
 {
     match command {
-        1 => got_of_runlevel(runlevel, seconds_of(sleeptime)),
-        2 => Got::Power(PowerKind::Fail),
-        3 => Got::Power(PowerKind::FailNow),
-        4 => Got::Power(PowerKind::Ok),
-        0 | 5 | 6 | 7 | 12345 => Got::Nothing(Cause::LeftOut),
-        _ => Got::Nothing(Cause::Unknown),
+        1 => heard_of_runlevel(runlevel, seconds_of(sleeptime)),
+        2 => HeardRequest::Power(PowerKind::Fail),
+        3 => HeardRequest::Power(PowerKind::FailNow),
+        4 => HeardRequest::Power(PowerKind::Ok),
+        0 | 5 | 6 | 7 | 12345 => HeardRequest::Nothing(Cause::LeftOut),
+        _ => HeardRequest::Nothing(Cause::Unknown),
     }
 }
 
@@ -100,28 +100,28 @@ fn seconds_of(sleeptime: i32) -> u16
     sleeptime.clamp(0, GRACE_LIMIT as i32) as u16
 }
 
-fn got_of_runlevel(runlevel: i32, seconds: u16) -> Got
-    ensures { result ≡ got_of_runlevel runlevel seconds }
+fn heard_of_runlevel(runlevel: i32, seconds: u16) -> HeardRequest
+    ensures { result ≡ heard_of_runlevel runlevel seconds }
 {
     match u8::try_from(runlevel) {
-        Ok(code) => got_of_sign(code, seconds),
-        Err(_) => Got::Nothing(Cause::Character),
+        Ok(code) => heard_of_sign(code, seconds),
+        Err(_) => HeardRequest::Nothing(Cause::Character),
     }
 }
 
-fn got_of_sign(code: u8, seconds: u16) -> Got
-    ensures { result ≡ got_of_sign code seconds }
+fn heard_of_sign(code: u8, seconds: u16) -> HeardRequest
+    ensures { result ≡ heard_of_sign code seconds }
 {
     if let Some(level) = Level::read(code) {
-        return Got::Level(level, seconds);
+        return HeardRequest::Level(level, seconds);
     }
     if let Some(letter) = Letter::read(code) {
-        return Got::Call(letter);
+        return HeardRequest::Call(letter);
     }
     match code {
-        b'Q' | b'q' => Got::Reload,
-        b'U' | b'u' => Got::Reexec,
-        _ => Got::Nothing(Cause::Character),
+        b'Q' | b'q' => HeardRequest::Reload,
+        b'U' | b'u' => HeardRequest::Reexec,
+        _ => HeardRequest::Nothing(Cause::Character),
     }
 }
 

@@ -12,6 +12,6 @@ mod stream;
 pub use frames::{BLOCK, decode, encode, meaning};
 pub use laws::blocks_are_parts;
 pub use pieces::read_pieces;
-pub use requests::{Cause, Got, Request};
+pub use requests::{Cause, HeardRequest, Request};
 pub use signs::Sign;
 pub use stream::Blocks;

@@ -4,15 +4,15 @@ ghost use Rattle.std.specs.Prelude.{◌≡◌, ◌≤◌, ◌++◌, ℕ, List, l
 ghost use Rattle.std.specs.Option.{option_to_list};
 ghost use Rattle.initctl_frame.specs.Blocks.{Stands, gots_of};
 ghost use Rattle.initctl_frame.specs.Pieces.{Fills};
-ghost use Rattle.initctl_frame.specs.declared.requests.Got.{Got};
+ghost use Rattle.initctl_frame.specs.declared.requests.HeardRequest.{HeardRequest};
 
-use crate::requests::Got;
+use crate::requests::HeardRequest;
 use crate::stream::Blocks;
 
 /// Writes the requests of a stream that comes in these pieces into `room`, as many as it has places, and gives how
 /// many.
 /// They are those of the joined bytes, however they are cut.
-pub fn read_pieces(pieces: &[&[u8]], room: &mut [Got]) -> usize
+pub fn read_pieces(pieces: &[&[u8]], room: &mut [HeardRequest]) -> usize
     ensures { Fills room.old (gots_of (flat_map (λ piece. piece.now) pieces.now)) result room.new }
 {
     let mut blocks = Blocks::new();
@@ -24,12 +24,12 @@ pub fn read_pieces(pieces: &[&[u8]], room: &mut [Got]) -> usize
 }
 
 /// Feeds the whole piece, and puts its requests after the `count` that are there.
-fn read_piece(blocks: &mut Blocks, piece: &[u8], room: &mut [Got], count: usize) -> usize
+fn read_piece(blocks: &mut Blocks, piece: &[u8], room: &mut [HeardRequest], count: usize) -> usize
     requires { count ≤ length room.old }
     ensures within { result ≤ length room.new }
     ensures stands { (bytes : List ℕ) → Stands blocks.old bytes
         → Stands blocks.new (bytes ++ piece.now) }
-    ensures fills { (bytes : List ℕ) (places : List Got) → Stands blocks.old bytes
+    ensures fills { (bytes : List ℕ) (places : List HeardRequest) → Stands blocks.old bytes
         → Fills places (gots_of bytes) count room.old
         → Fills places (gots_of (bytes ++ piece.now)) result room.new }
 {
@@ -44,10 +44,10 @@ fn read_piece(blocks: &mut Blocks, piece: &[u8], room: &mut [Got], count: usize)
 }
 
 /// Puts a request after the `count` that are there, where a place is left, and gives how many there are then.
-fn put(room: &mut [Got], count: usize, got: Option<Got>) -> usize
+fn put(room: &mut [HeardRequest], count: usize, got: Option<HeardRequest>) -> usize
     requires { count ≤ length room.old }
     ensures within { result ≤ length room.new }
-    ensures fills { (places gots : List Got) → Fills places gots count room.old
+    ensures fills { (places gots : List HeardRequest) → Fills places gots count room.old
         → Fills places (gots ++ option_to_list got) result room.new }
 {
     match got {

@@ -5,7 +5,7 @@ use init_words::{Letter, Level, PowerKind};
 
 /// What init got by a request block (initreq.h, telinit(8)).
 #[derive(Clone, Copy, PartialEq, Eq)]
-pub enum Got {
+pub enum HeardRequest {
     /// Go to the runlevel, with the given number of seconds between the two signals that stop a child, 0 to 3,600.
     Level(Level, u16),
     /// Start the ondemand entries of the letter.

@@ -4,7 +4,7 @@ ghost use Rattle.std.specs.Prelude.{◌≡◌, ◌↔◌, ◌+◌, ◌-◌, ◌<
 ghost use Rattle.std.specs.Option.{option_to_list};
 
 use crate::frames::{BLOCK, FRONT, decode_front};
-use crate::requests::Got;
+use crate::requests::HeardRequest;
 use arrayvec::ArrayVec;
 use std::alloc::AllocError;
 use std::marker::Model;
@@ -45,7 +45,7 @@ impl Blocks {
 
     /// Takes the bytes of the piece up to the end of the block under way, or all of the piece. Gives how many it took,
     /// and what the block asks for where it is full.
-    pub fn feed(&mut self, piece: &[u8]) -> (usize, Option<Got>)
+    pub fn feed(&mut self, piece: &[u8]) -> (usize, Option<HeardRequest>)
         // To the end of the block under way, or to its own end: so a piece with bytes in it gets on.
         ensures taken { result.0 ≡ min (length piece.now) (BLOCK - self.old.count) }
         ensures progress { 0 < length piece.now → 0 < result.0 }

@@ -7,14 +7,14 @@ use Rattle.std.proofs.KnownBytes.{Appends-kept, Keeps-trans}
 use Rattle.simulator.specs.declared.running.SimFault.{SimFault}
 use Rattle.simulator.specs.declared.running.SimFault.TheVariants as fault
 use Rattle.simulator.specs.Simulation.{Done, Ends, Scenario, past_text}
-use Rattle.path_texts.specs.Known.{KnownTexts}
+use Rattle.program_io.specs.Known.{KnownTexts}
 use Rattle.initd_command.specs.declared.run.RunFault.{RunFault}
 use Rattle.initd_command.specs.declared.run.RunFault.TheVariants as why
 use Rattle.init_words.specs.Parts.{NamedText, texts_of}
 use Rattle.inittab_text.specs.Parts.{are_readable, faults_of_parts, table_of_texts}
 use Rattle.initd_command.specs.Endings.{Ending, busy, done, flawed, lawful, no_memory, shared, stopped, too_many, torn, turned, uncreated, unflushed, unlawful, unlisted, unlocked, unread, untold, unversioned, unwritten, usage, within}
 use Rattle.initd_command.specs.Turned.{End}
-use Rattle.os_host.specs.LineFaults.{faults_text}
+use Rattle.host_system.specs.LineFaults.{faults_text}
 use Rattle.initd_options.specs.Options.{RunSaid}
 use Rattle.initd_command.specs.Services.{AreFiles, EndsRun, EndsServed, EndsTold, HasInittab, IsOfFault, is_taken, is_unled}
 

@@ -1,4 +1,4 @@
 pub mod Ended
 pub mod Noted
-pub mod Reported
 pub mod Ran
+pub mod Reported

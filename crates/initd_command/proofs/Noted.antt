@@ -4,26 +4,26 @@ use Rattle.std.proofs.lemmas.Bool.{and_parts}
 use Rattle.std.proofs.lemmas.List.{append-nil, reverse-append, reverse-reverse}
 use Rattle.init_words.specs.declared.entries.Entry.{Entry}
 use Rattle.init_words.specs.declared.levels.Level.{Level}
-use Rattle.init_trace.specs.Event.{Event}
+use Rattle.trace_events.specs.Event.{Event}
 use Rattle.trace_log.specs.Logs.{LogState}
-use Rattle.child_host.specs.Calls.{HostCall}
+use Rattle.host_calls.specs.Calls.{HostCall}
 use Rattle.host_trace.specs.Leads.{Takes}
 use Rattle.host_trace.specs.Point.{point_after}
-use Rattle.child_host.specs.Record.{Since}
-use Rattle.run_notes.specs.declared.LastEnd.TheVariants.{Unnoted}
-use Rattle.run_notes.specs.Ends.{last_end}
-use Rattle.run_notes.specs.Notes.{Notes, NotesOf, end_in, last_noted, last_of}
-use Rattle.run_notes.proofs.Noted.{last_by_notes}
-use Rattle.supervisor.specs.declared.serving.Served.{Served}
-use Rattle.init_trace.specs.declared.steps.Goal.{Goal}
+use Rattle.host_calls.specs.Record.{Since}
+use Rattle.trace_log_wrappers.specs.declared.run_notes.LastEnd.TheVariants.{Unnoted}
+use Rattle.trace_log_wrappers.specs.Ends.{last_end}
+use Rattle.trace_log_wrappers.specs.Notes.{Notes, NotesOf, end_in, last_noted, last_of}
+use Rattle.trace_log_wrappers.proofs.Noted.{last_by_notes}
+use Rattle.init_turns.specs.declared.serving.Served.{Served}
+use Rattle.trace_events.specs.declared.steps.Goal.{Goal}
 use Rattle.core_model.specs.State.{CoreState, opening_goal}
 use Rattle.core_model.specs.Fit.{FitsAll}
-use Rattle.waiting_lines.specs.Lines.{waiting_text}
-use Rattle.supervisor.specs.Opening.{Opens, opening_point}
+use Rattle.core_waiting.specs.Lines.{waiting_text}
+use Rattle.init_turns.specs.Opening.{Opens, opening_point}
 use Rattle.initd_options.specs.Options.{RunSaid}
 use Rattle.initd_command.specs.Turned.{ReportsEnd, end_status}
-use Rattle.judged_log.specs.declared.judgements.Judgement.{Judgement}
-use Rattle.judged_log.specs.Judgements.{Finds}
+use Rattle.trace_log_wrappers.specs.declared.judgements.Judgement.{Judgement}
+use Rattle.trace_log_wrappers.specs.Judgements.{Finds}
 use Rattle.initd_command.specs.Services.{IsNoted, IsServed, LogEnds, TurnsFrom, TurnsOver, end_of, judgement_for, noted_of}
 
 -- where a run is to be judged, what was found counts

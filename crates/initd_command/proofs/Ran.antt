@@ -5,11 +5,11 @@ use Rattle.std.specs.Prelude.{IsSome, unwrap_or}
 use Rattle.init_words.specs.Parts.{NamedText, texts_of}
 use Rattle.init_words.specs.declared.entries.Entry.{Entry}
 use Rattle.inittab_text.specs.Parts.{table_of_texts}
-use Rattle.path_texts.specs.Known.{KnownTexts}
-use Rattle.child_host.specs.Calls.{HostCall}
-use Rattle.initd_options.specs.CommandLine.{Said, judges, runs, simulates, version}
+use Rattle.program_io.specs.Known.{KnownTexts}
+use Rattle.host_calls.specs.Calls.{HostCall}
+use Rattle.initd_options.specs.CommandLine.{InitdSaid, judges, runs, simulates, version}
 use Rattle.initd_options.specs.Options.{RunSaid}
-use Rattle.supervisor.specs.Opening.{IsOpeningOf, OpeningState}
+use Rattle.init_turns.specs.Opening.{IsOpeningOf, OpeningState}
 use Rattle.initd_command.specs.declared.run.Inittab.{Inittab}
 use Rattle.initd_command.specs.declared.run.RunFault.{RunFault}
 use Rattle.initd_command.specs.declared.run.RunFault.TheVariants as why
@@ -122,7 +122,7 @@ failed text_at service (why.Trace error) ending old (some, (parts, are, read, ta
 failed text_at service why.Memory ending old fails is = subst (λ e. EndsRun text_at service e old old) (sym is) (Keeps-refl old)
 
 -- where memory runs out nothing is asked, whatever the words say
-pub none_asked : (text_at : KnownTexts) (said : Option Said) (now : Option (List HostCall)) → AsksSaid text_at said no_memory now now
+pub none_asked : (text_at : KnownTexts) (said : Option InitdSaid) (now : Option (List HostCall)) → AsksSaid text_at said no_memory now now
 none_asked text_at None now = refl
 none_asked text_at (Some version) now = refl
 none_asked text_at (Some (simulates run)) now = refl

@@ -1,9 +1,9 @@
 -- What is reported of an end, by what is reported of its turns and of what was found of them.
 use Rattle.std.proofs.Common.{◌≡◌, sym, subst, inl, inr, ◌&&◌, ℕ, Bool, true, false, List, [], Option, None, Result, Ok, Err, IfOk, OnErr}
 use Rattle.program_io.specs.Writing.{AppendsPrefix}
-use Rattle.judged_log.specs.declared.judgements.Judgement.{Judgement}
-use Rattle.run_notes.specs.Notes.{Notes}
-use Rattle.supervisor.specs.declared.serving.Served.{Served}
+use Rattle.trace_log_wrappers.specs.declared.judgements.Judgement.{Judgement}
+use Rattle.trace_log_wrappers.specs.Notes.{Notes}
+use Rattle.init_turns.specs.declared.serving.Served.{Served}
 use Rattle.initd_options.specs.Options.{RunSaid}
 use Rattle.initd_command.specs.declared.ends.TheConstants.{UNLOGGED}
 use Rattle.initd_command.specs.declared.reports.TheConstants.{NO_MEMORY}

@@ -6,8 +6,8 @@ use Rattle.program_io.specs.declared.statuses.TheConstants.{DONE, REFUSED, UNLAW
 use Rattle.simulator.specs.declared.running.SimFault.{SimFault}
 use Rattle.simulator.specs.declared.running.SimFault.TheVariants as fault
 use Rattle.simulator.specs.Faults.{fault_text}
-use Rattle.simulated_system.specs.declared.objections.Objection.{Objection}
-use Rattle.simulated_system.specs.Objections.{objection_text}
+use Rattle.simulator.specs.declared.objections.Objection.{Objection}
+use Rattle.simulator.specs.Objections.{objection_text}
 use Rattle.initd_command.specs.Lines.{line_at, line_told}
 use Rattle.initd_command.specs.declared.check.TheConstants.{UNWRITTEN}
 use Rattle.initd_command.specs.declared.reports.TheConstants.{FLAWED, NO_MEMORY, TOO_MANY}

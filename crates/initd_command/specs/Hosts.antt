@@ -1,5 +1,5 @@
 -- Which host the words of a run name.
-use Rattle.os_host.specs.Hosts.{HostState}
+use Rattle.host_system.specs.Hosts.{HostState}
 use Rattle.initd_options.specs.Options.{RunSaid}
 
 -- one that is strict, tells of its children and passes over the requests from before where the words say so; none of its

@@ -3,14 +3,14 @@ use Rattle.std.specs.Prelude.{◌≡◌, ℕ, List, Option, Some}
 use Rattle.init_words.specs.Parts.{texts_of}
 use Rattle.init_words.specs.declared.entries.Entry.{Entry}
 use Rattle.inittab_text.specs.Parts.{table_of_texts}
-use Rattle.path_texts.specs.Known.{KnownTexts}
-use Rattle.initd_options.specs.CommandLine.{Said, read_of, runs}
+use Rattle.program_io.specs.Known.{KnownTexts}
+use Rattle.initd_options.specs.CommandLine.{InitdSaid, initd_read_of, runs}
 use Rattle.initd_options.specs.Options.{RunSaid}
-use Rattle.child_host.specs.Calls.{HostCall}
-use Rattle.child_host.specs.Record.{Since}
+use Rattle.host_calls.specs.Calls.{HostCall}
+use Rattle.host_calls.specs.Record.{Since}
 use Rattle.host_trace.specs.Turns.{AreTurns}
-use Rattle.supervisor.specs.Opening.{IsOpening}
-use Rattle.supervisor.specs.declared.serving.Served.{Served}
+use Rattle.init_turns.specs.Opening.{IsOpening}
+use Rattle.init_turns.specs.declared.serving.Served.{Served}
 use Rattle.initd_command.specs.Turned.{End}
 use Rattle.initd_command.specs.Endings.{Ending, turned}
 use Rattle.initd_command.specs.Services.{HasInittab, IsJudged, IsServed, Noted, end_of}
@@ -37,9 +37,9 @@ RanBy text_at service (turned unled end) old new =
 RanBy text_at service _ old new = new ≡ old
 
 -- what words ask of hosts: those of a run what the run asks, any others nothing
-abbrev pub AsksSaid : KnownTexts → Option Said → Ending → Option (List HostCall) → Option (List HostCall) → Type 0
+abbrev pub AsksSaid : KnownTexts → Option InitdSaid → Ending → Option (List HostCall) → Option (List HostCall) → Type 0
 AsksSaid text_at (Some (runs service)) ending old new = RanBy text_at service ending old new
 AsksSaid text_at _ ending old new = new ≡ old
 
 abbrev pub AsksBy : KnownTexts → List (List ℕ) → Ending → Option (List HostCall) → Option (List HostCall) → Type 0
-AsksBy text_at words ending old new = AsksSaid text_at (read_of words) ending old new
+AsksBy text_at words ending old new = AsksSaid text_at (initd_read_of words) ending old new

@@ -3,11 +3,11 @@
 use Rattle.std.specs.Prelude.{◌≡◌, ◌⊎◌, ℕ, List, codes, Option, Some, None}
 use Rattle.std.specs.Io.KnownBytes.{Appends, Keeps}
 use Rattle.program_io.specs.Writing.{AppendsPrefix}
-use Rattle.program_version.specs.VersionLine.{version_line}
-use Rattle.path_texts.specs.Known.{IsTextAt, KnownTexts}
+use Rattle.command_words.specs.VersionLine.{version_line}
+use Rattle.program_io.specs.Known.{IsTextAt, KnownTexts}
 use Rattle.simulator.specs.declared.running.SimFault.{SimFault}
 use Rattle.simulator.specs.Simulation.{Done, Ends, Scenario, scenario}
-use Rattle.initd_options.specs.CommandLine.{SimulateSaid, Said, judges, read_of, simulates, runs, version}
+use Rattle.initd_options.specs.CommandLine.{SimulateSaid, InitdSaid, judges, initd_read_of, simulates, runs, version}
 use Rattle.initd_command.specs.Endings.{Ending, done, usage, no_memory, unread, stopped, unflushed, unversioned}
 use Rattle.initd_command.specs.Services.{EndsRun}
 use Rattle.initd_command.specs.Verdicts.{EndsCheck}
@@ -32,7 +32,7 @@ EndsVersion unversioned old new = AppendsPrefix old new (version_line (codes "in
 EndsVersion _ old new = ⊥
 
 -- how a command line ends that was read
-abbrev pub EndsSaid : KnownTexts → Said → Ending → Option (List ℕ) → Option (List ℕ) → Type 0
+abbrev pub EndsSaid : KnownTexts → InitdSaid → Ending → Option (List ℕ) → Option (List ℕ) → Type 0
 EndsSaid text_at version ending old new = EndsVersion ending old new
 EndsSaid text_at (simulates run) ending old new = EndsSimulate text_at run ending old new
 EndsSaid text_at (judges path) ending old new = EndsCheck text_at path ending old new
@@ -40,6 +40,7 @@ EndsSaid text_at (runs service) ending old new = EndsRun text_at service ending 
 
 -- how words end: they are no command line or memory ran out, and nothing is written, or they end by what they say
 abbrev pub EndsBy : KnownTexts → List (List ℕ) → Ending → Option (List ℕ) → Option (List ℕ) → Type 0
-EndsBy text_at words (usage reason) old new = (read_of words ≡ None) × Keeps old new
+EndsBy text_at words (usage reason) old new = (initd_read_of words ≡ None) × Keeps old new
 EndsBy text_at words no_memory old new = Keeps old new
-EndsBy text_at words ending old new = (said : Said) × (read_of words ≡ Some said) × EndsSaid text_at said ending old new
+EndsBy text_at words ending old new =
+    (said : InitdSaid) × (initd_read_of words ≡ Some said) × EndsSaid text_at said ending old new

@@ -3,36 +3,36 @@
 use Rattle.std.specs.Prelude.{◌≡◌, ◌≤◌, ◌<◌, ◌⊎◌, ◌&&◌, ◌==◌, not, min, if◌then◌else◌, ℕ, Bool, true, false, List, [], ◌∷◌, ◌++◌, length, reverse, string_bytes, Option, Some, None, option_map, is_none, is_some, unwrap_or, IfSome, IsSome, IsTrue, ⊤}
 use Rattle.std.specs.Io.KnownBytes.{Appends, Keeps}
 use Rattle.program_io.specs.Writing.{AppendsPrefix}
-use Rattle.path_texts.specs.Known.{IsTextAt, KnownTexts}
+use Rattle.program_io.specs.Known.{IsTextAt, KnownTexts}
 use Rattle.init_words.specs.Parts.{NamedText, texts_of}
 use Rattle.inittab_text.specs.Parts.{AreTooLong, AreTooMany, are_readable, faults_of_parts, table_of_texts}
 use Rattle.inittab_text.specs.Tables.{default_level_of, entry_of}
 use Rattle.init_words.specs.declared.entries.Entry.{Entry}
 use Rattle.init_words.specs.declared.levels.Level.{Level}
-use Rattle.judged_log.specs.declared.judgements.Judgement.{Judgement}
-use Rattle.judged_log.specs.Judgements.{Finds}
-use Rattle.run_notes.specs.declared.LastEnd.{LastEnd}
-use Rattle.run_notes.specs.declared.LastEnd.TheVariants.{Unnoted}
-use Rattle.run_notes.specs.declared.TheConstants.{BIRTHS_LIMIT}
-use Rattle.run_notes.specs.Ends.{births, last_end}
-use Rattle.run_notes.specs.Notes.{Notes, last_noted, last_of}
+use Rattle.trace_log_wrappers.specs.declared.judgements.Judgement.{Judgement}
+use Rattle.trace_log_wrappers.specs.Judgements.{Finds}
+use Rattle.trace_log_wrappers.specs.declared.run_notes.LastEnd.{LastEnd}
+use Rattle.trace_log_wrappers.specs.declared.run_notes.LastEnd.TheVariants.{Unnoted}
+use Rattle.trace_log_wrappers.specs.declared.run_notes.TheConstants.{BIRTHS_LIMIT}
+use Rattle.trace_log_wrappers.specs.Ends.{births, last_end}
+use Rattle.trace_log_wrappers.specs.Notes.{Notes, last_noted, last_of}
 use Rattle.simulator.specs.declared.running.SimFault.TheVariants as fault
-use Rattle.init_trace.specs.Event.{Event}
-use Rattle.init_trace.specs.declared.steps.Goal.{Goal}
+use Rattle.trace_events.specs.Event.{Event}
+use Rattle.trace_events.specs.declared.steps.Goal.{Goal}
 use Rattle.core_model.specs.State.{CoreState, opening_goal}
 use Rattle.core_model.specs.Fit.{FitsAll}
-use Rattle.waiting_lines.specs.Lines.{waiting_text}
-use Rattle.child_host.specs.Calls.{HostCall}
+use Rattle.core_waiting.specs.Lines.{waiting_text}
+use Rattle.host_calls.specs.Calls.{HostCall}
 use Rattle.host_trace.specs.Leads.{are_carried, is_allowed}
 use Rattle.host_trace.specs.Point.{point_after}
-use Rattle.supervisor.specs.declared.serving.Served.{Served}
-use Rattle.supervisor.specs.Opening.{opening_point}
+use Rattle.init_turns.specs.declared.serving.Served.{Served}
+use Rattle.init_turns.specs.Opening.{opening_point}
 use Rattle.initd_command.specs.declared.run.Inittab.{Inittab}
 use Rattle.initd_command.specs.declared.run.RunFault.{RunFault}
 use Rattle.initd_command.specs.declared.run.RunFault.TheVariants as why
 use Rattle.initd_command.specs.Endings.{Ending, no_memory, unread, too_many, flawed, unlisted, stopped, busy, shared, turned, uncreated, unlocked, untold}
 use Rattle.initd_command.specs.Turned.{End, EntryEnd, ReportsEnd, drained, end_status, limited, unlogged}
-use Rattle.os_host.specs.LineFaults.{faults_text}
+use Rattle.host_system.specs.LineFaults.{faults_text}
 use Rattle.initd_options.specs.Options.{RunSaid}
 
 -- nothing names the level that init goes to: neither the words nor the table

@@ -4,11 +4,11 @@ use Rattle.std.specs.Io.KnownBytes.{Keeps}
 use Rattle.program_io.specs.Writing.{AppendsPrefix}
 use Rattle.program_io.specs.declared.statuses.TheConstants.{DONE, UNLAWFUL, LIMIT_REACHED, DEVICE_FAULT}
 use Rattle.init_words.specs.declared.children.Status.TheVariants.{Exit, Killed}
-use Rattle.judged_log.specs.declared.judgements.Judgement.{Judgement}
-use Rattle.judged_log.specs.declared.judgements.Judgement.TheVariants.{Lawful, Breach, Unjudged}
-use Rattle.run_notes.specs.declared.LastEnd.{LastEnd}
+use Rattle.trace_log_wrappers.specs.declared.judgements.Judgement.{Judgement}
+use Rattle.trace_log_wrappers.specs.declared.judgements.Judgement.TheVariants.{Lawful, Breach, Unjudged}
+use Rattle.trace_log_wrappers.specs.declared.run_notes.LastEnd.{LastEnd}
 use Rattle.trace_check.specs.Laws.{law_words}
-use Rattle.run_notes.specs.declared.LastEnd.TheVariants.{Ended, Never, Unnoted}
+use Rattle.trace_log_wrappers.specs.declared.run_notes.LastEnd.TheVariants.{Ended, Never, Unnoted}
 use Rattle.initd_command.specs.declared.ends.TheConstants.{IDLE, KILLED, LIMITED, UNJUDGED, UNLOGGED, UNNAMED, UNNOTED}
 use Rattle.initd_command.specs.declared.reports.TheConstants.{NO_MEMORY}
 

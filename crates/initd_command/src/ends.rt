@@ -3,21 +3,20 @@
 ghost use Rattle.std.specs.Prelude.{◌≡◌, ◌++◌, ◌&&◌, [], None, Some, string_bytes, true, IfOk, OnOk};
 ghost use Rattle.initd_options.specs.Options.{run_of};
 ghost use Rattle.initd_command.specs.Services.{end_at, end_of, entry_end, noted_of};
-ghost use Rattle.waiting_lines.specs.Lines.{waiting_text};
+ghost use Rattle.core_waiting.specs.Lines.{waiting_text};
 ghost use Rattle.initd_command.specs.Turned.{ReportsEnd, ReportsIdle, ReportsJudgement, ReportsResult, ReportsRunning, ReportsText, ReportsTurns, breach_text, child_text, drained_status, end_status, judged_status, judgement_text, last_text, lawful_text, result_status, result_text, running_text, turns_status};
 
 use crate::reports::{report, report_lines, report_made};
-use init_words::{ChildNo, Id, Status};
+use core_steps::Core;
+use core_waiting::waiting_lines;
+use init_turns::Served;
+use init_words::{ChildNumber, Id, Status};
 use initd_options::RunWords;
 use itoa::Buffer;
-use judged_log::Judgement;
-use level_core::Core;
 use program_io::{DEVICE_FAULT, DONE, LIMIT_REACHED, UNLAWFUL};
-use run_notes::{LastEnd, Numbers, RunNotes};
 use std::alloc::{AllocError, Global};
 use std::io::Write;
-use supervisor::Served;
-use waiting_lines::waiting_lines;
+use trace_log_wrappers::{Judgement, LastEnd, Numbers, RunNotes};
 
 /// What is reported where a run made all its turns.
 const LIMITED: &str = "initd: the limit of turns is reached\n";
@@ -240,7 +239,12 @@ fn running_text(alloc: Global, running: &Numbers) -> Result<Vec<u8>, AllocError>
 }
 
 /// Adds a child that goes on, after a text.
-fn add_child(text: &mut Vec<u8>, front: &[u8], id: &Id, number: ChildNo) -> Result<(), AllocError>
+fn add_child(
+    text: &mut Vec<u8>,
+    front: &[u8],
+    id: &Id,
+    number: ChildNumber,
+) -> Result<(), AllocError>
     ensures { OnOk result (text.new.items
         ≡ text.old.items ++ (front.now ++ child_text (id.now, number))) }
 {

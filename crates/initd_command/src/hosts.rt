@@ -1,12 +1,12 @@
 //! Where the host of a run comes from.
 
 ghost use Rattle.std.specs.Prelude.{◌≡◌, List, Option, IfOk, OnErr};
-ghost use Rattle.child_host.specs.Calls.{HostCall};
+ghost use Rattle.host_calls.specs.Calls.{HostCall};
 
-use channel_files::ChannelLock;
-use child_host::Host;
+use host_calls::Host;
 use init_words::Memory;
 use initd_options::RunWords;
+use program_io::ChannelLock;
 use std::alloc::Global;
 
 /// Where the host of a run comes from, and who takes it back behind the turns.

@@ -1,12 +1,12 @@
 //! Logs of a run: none, and a file.
 
-use init_trace::{Handed, Happening, HappeningIn};
 use program_io::write_text;
 use std::alloc::{Allocator, Global};
 use std::fs::{File, OpenOptions};
 use std::io;
 use std::io::{ErrorKind, Write};
 use std::rt::Files;
+use trace_events::{Handed, Happening, HappeningIn};
 use trace_log::{EndedLog, Log, LogFault, StreamLog};
 
 /// A log that takes all and keeps nothing.

@@ -6,18 +6,16 @@ ghost use Rattle.initd_command.specs.Hosts.{host_said};
 
 use crate::hosts::Hosts;
 use crate::run::folder_of;
-use channel_files::ChannelLock;
+use host_system::{OsHost, StampedRuntime};
+use host_telling::{CallList, Noted, Telling, no_calls};
 use init_words::Memory;
 use initd_options::RunWords;
-use os_host::OsHost;
-use proof_values::Noted;
-use stamped_lines::StampedRuntime;
+use program_io::ChannelLock;
 use std::alloc::Global;
 use std::fs::File;
 use std::marker::Model;
 use std::process::Processes;
 use std::rt::{Clock, Files};
-use telling_host::{CallList, Telling, no_calls};
 
 /// The hosts that ask the operating system. They tell the calls that they were asked, which proofs alone can read.
 #[derive(Drop)]
@@ -29,7 +27,7 @@ pub struct OsHosts<R: Processes + Files<File = File> + Clock + Print + Eprint + 
 impl<R: Processes + Files<File = File> + Clock + Print + Eprint + Clone + Drop> Model
     for OsHosts<R> {
     ghost use Rattle.std.specs.Prelude.{List};
-    ghost use Rattle.child_host.specs.Calls.{HostCall};
+    ghost use Rattle.host_calls.specs.Calls.{HostCall};
 
     ghost Value = { List HostCall };
 

@@ -1,11 +1,11 @@
 //! What is said, on request, of a level that isn't settled for long: what init waits for.
 
+use core_steps::Core;
+use core_waiting::waiting_lines;
+use init_turns::Watch;
 use init_words::Stage;
-use level_core::Core;
 use std::alloc::Global;
 use std::str;
-use supervisor::Watch;
-use waiting_lines::waiting_lines;
 
 /// How long a stage may go on unsettled, in seconds, before it is said what it waits for.
 const PATIENCE: u64 = 60;

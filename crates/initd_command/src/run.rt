@@ -8,9 +8,9 @@ ghost use Rattle.initd_command.specs.Ran.{MakesTurns, RanBy, RanOver};
 ghost use Rattle.initd_command.specs.Turned.{End, ReportsEnd, end_status};
 ghost use Rattle.init_words.specs.declared.entries.Entry.{Entry};
 ghost use Rattle.init_words.specs.declared.levels.Level.{Level};
-ghost use Rattle.child_host.specs.Record.{Since};
-ghost use Rattle.supervisor.specs.Opening.{IsOpeningOf};
-ghost use Rattle.os_host.specs.LineFaults.{faults_text};
+ghost use Rattle.host_calls.specs.Record.{Since};
+ghost use Rattle.init_turns.specs.Opening.{IsOpeningOf};
+ghost use Rattle.host_system.specs.LineFaults.{faults_text};
 ghost use Rattle.initd_options.specs.Options.{run_of};
 ghost use Rattle.initd_command.specs.Services.{AreFiles, EndsRun, EndsServed, EndsTold, FailsBy, FailsOn, FailsOver, FailsToGet, FailsToLock, FailsToPart, FailsToRead, FailsToTake, HasInittab, IsInittab, IsOfFault, IsReadOf, Turns, TurnsFrom, TurnsOver, has_result, is_taken, is_unled, judgement_for};
 
@@ -22,27 +22,22 @@ use crate::reports::{
     report, report_busy, report_cannot, report_fault, report_flawed, report_memory, report_shared,
     report_too_many, report_unlisted, tell,
 };
-use brief_log::BriefLog;
-use channel_files::{ChannelLock, lock_channel, lock_holder};
-use child_host::Host;
+use host_calls::Host;
+use host_system::{FolderFault, PassedNames, StampedRuntime, faults_text, with_folder};
+use init_turns::{Opening, Served};
 use init_words::{Id, Level, Memory, Part};
 use initd_options::RunWords;
 use inittab_text::{Table, TableFault, read_parts};
-use judged_log::{JudgedLog, Judgement};
-use os_host::{FolderFault, PassedNames, faults_text, with_folder};
-use path_texts::Texts;
-use program_io::{DEVICE_FAULT, refuse_special};
-use run_notes::NotedLog;
+use program_io::{ChannelLock, DEVICE_FAULT, Texts, lock_channel, lock_holder, refuse_special};
 use simulator::SimFault;
-use stamped_lines::StampedRuntime;
 use std::alloc::{AllocError, Global};
 use std::fs::{File, metadata};
 use std::io;
 use std::io::Write;
 use std::os::unix::fs::MetadataExt;
 use std::rt::{Clock, Files};
-use supervisor::{Opening, Served};
 use trace_log::EndedLog;
+use trace_log_wrappers::{BriefLog, JudgedLog, Judgement, NotedLog};
 
 /// What is reported where the faults of inittab's lines could not be written.
 const UNTOLD: &str = "initd: the faults of the inittab could not be written\n";

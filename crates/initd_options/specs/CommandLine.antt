@@ -33,16 +33,16 @@ pub record SimulateSaid : Type 0 where
   pub script : Text
 
 -- the version, a simulated run of init, the path of a trace that is judged, or a run over the operating system
-pub data Said : Type 0 where
-  version : Said
-  simulates : SimulateSaid → Said
-  judges : Text → Said
-  runs : RunSaid → Said
+pub data InitdSaid : Type 0 where
+  version : InitdSaid
+  simulates : SimulateSaid → InitdSaid
+  judges : Text → InitdSaid
+  runs : RunSaid → InitdSaid
 
 abbrev pub simulation_of : SimulateWords → SimulateSaid
 simulation_of words = record { level = words.level; table = string_bytes words.table; script = string_bytes words.script }
 
-abbrev pub said_of : Words → Said
+abbrev pub said_of : Words → InitdSaid
 said_of Version = version
 said_of (Simulate words) = simulates (simulation_of words)
 said_of (Check trace) = judges (string_bytes trace)
@@ -59,28 +59,28 @@ simulation_said rows =
     (level_said rows)
 
 -- what the words after `check` say
-abbrev pub trace_said : List Row → Said
+abbrev pub trace_said : List Row → InitdSaid
 trace_said rows = judges (value_said (codes "trace") rows)
 
-abbrev pub run_said_by : Option (Text × List Row) → Option Said
+abbrev pub run_said_by : Option (Text × List Row) → Option InitdSaid
 run_said_by None = None
 run_said_by (Some entered) = if bytes_eq entered.0 (codes "run") then option_map runs (run_said entered.1) else None
 
-abbrev pub judged_by : Option (Text × List Row) → Option Said
+abbrev pub judged_by : Option (Text × List Row) → Option InitdSaid
 judged_by None = None
 judged_by (Some entered) =
     if bytes_eq entered.0 (codes "check") then Some (trace_said entered.1) else run_said_by (Some entered)
 
-abbrev pub said_by : Option (Text × List Row) → Option Said
-said_by None = None
-said_by (Some entered) =
+abbrev pub initd_said_by : Option (Text × List Row) → Option InitdSaid
+initd_said_by None = None
+initd_said_by (Some entered) =
     if bytes_eq entered.0 (codes "simulate") then option_map simulates (simulation_said entered.1) else judged_by (Some entered)
 
 -- what words say that don't ask for the version; where the command line has a fault in them, nothing
-abbrev pub line_said : List Text → Option Said
+abbrev pub line_said : List Text → Option InitdSaid
 line_said words =
-    if length (fault_of command_line words) == 0 then said_by (subcommand_of command_line words) else None
+    if length (fault_of command_line words) == 0 then initd_said_by (subcommand_of command_line words) else None
 
 -- what words say
-abbrev pub read_of : List Text → Option Said
-read_of words = if asks_version words then Some version else line_said words
+abbrev pub initd_read_of : List Text → Option InitdSaid
+initd_read_of words = if asks_version words then Some version else line_said words

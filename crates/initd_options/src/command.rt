@@ -4,7 +4,7 @@ ghost use Rattle.std.specs.Prelude.{◌≡◌, map, string_bytes, IfErr, IfOk, I
 ghost use Rattle.clap.specs.Words.{FailsBy, app_of, fault_of, found_of, rows_of, subcommand_of, subcommand_rows_of};
 ghost use Rattle.command_words.specs.CommandLines.{IsLine};
 ghost use Rattle.command_words.specs.Faults.{reason_of};
-ghost use Rattle.initd_options.specs.CommandLine.{check_line, command_line, judged_by, line_said, read_of, run_said_by, said_by, said_of, simulate_line, simulation_of, simulation_said, trace_said};
+ghost use Rattle.initd_options.specs.CommandLine.{check_line, command_line, judged_by, line_said, initd_read_of, run_said_by, initd_said_by, said_of, simulate_line, simulation_of, simulation_said, trace_said};
 
 use crate::options::{RunWords, read_run, run_line};
 use crate::values::read_level_option;
@@ -41,9 +41,10 @@ pub enum Words {
 
 /// Reads a command line, without the program's name in front. `Usage` says why it is none.
 pub fn read_words(alloc: Global, words: &[String]) -> Result<Words, WordFault>
-    ensures ok { IfOk result (λ said. read_of (map string_bytes words.now) ≡ Some (said_of said)) }
+    ensures ok { IfOk result (λ said.
+        initd_read_of (map string_bytes words.now) ≡ Some (said_of said)) }
     ensures usage { IfErr result (λ fault. IsSome (reason_of fault)
-        → read_of (map string_bytes words.now) ≡ None) }
+        → initd_read_of (map string_bytes words.now) ≡ None) }
 {
     if is_version(words) {
         return Ok(Words::Version);
@@ -106,9 +107,9 @@ fn parse<'a>(alloc: Global, words: &'a [String]) -> Result<ArgMatches<'a>, Error
 /// What matches say.
 fn read_matches(alloc: Global, matches: &ArgMatches) -> Result<Words, WordFault>
     ensures ok { IfOk result (λ said.
-        said_by (subcommand_rows_of matches.now) ≡ Some (said_of said)) }
+        initd_said_by (subcommand_rows_of matches.now) ≡ Some (said_of said)) }
     ensures usage { IfErr result (λ fault. IsSome (reason_of fault)
-        → said_by (subcommand_rows_of matches.now) ≡ None) }
+        → initd_said_by (subcommand_rows_of matches.now) ≡ None) }
 {
     match matches.subcommand_matches("simulate") {
         Some(simulate) => Ok(Words::Simulate(read_simulate(alloc, simulate)?)),

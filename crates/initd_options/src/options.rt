@@ -2,7 +2,7 @@
 
 ghost use Rattle.std.specs.Prelude.{◌≡◌, ◌<◌, codes, option_map, string_bytes, IfErr, IfOk, IfSome, IsSome, None, Some};
 ghost use Rattle.clap.specs.Words.{first_of, found_of, rows_of};
-ghost use Rattle.command_words.specs.CommandLines.{Adds, IsLine};
+ghost use Rattle.command_words.specs.CommandLines.{AddsArgument, IsLine};
 ghost use Rattle.command_words.specs.Faults.{reason_of};
 ghost use Rattle.initd_options.specs.Options.{AddsAll, brief_said, digit_read, hundredths_read, is_pause, part_read, pause_said, result_said, rule_of, rules_of, run_line, run_of, run_said, turns_read, turns_said};
 ghost use Rattle.initd_options.specs.Values.{is_set};
@@ -108,7 +108,7 @@ fn with_option<'a>(
     name: &'static str,
     takes: Takes,
 ) -> Result<Command<'a>, AllocError>
-    ensures { IfOk result (Adds line.entry (rule_of name.now takes)) }
+    ensures { IfOk result (AddsArgument line.entry (rule_of name.now takes)) }
 {
     match takes {
         Takes::Nothing => with_switch(alloc, line, name),

@@ -208,7 +208,8 @@ fn add_warnings<A: Allocator>(
     parts: &[Part],
     warnings: &[LineWarning],
 ) -> Result<(), AllocError>
-    ensures { OnOk result (text.new.items ≡ text.old.items ++ warning_lines parts.now warnings.now) }
+    ensures { OnOk result (text.new.items
+        ≡ text.old.items ++ warning_lines parts.now warnings.now) }
 {
     let mut rest = warnings;
     while let Some((found, others)) = rest.split_first() {

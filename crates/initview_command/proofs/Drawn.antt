@@ -4,16 +4,16 @@ use Rattle.std.specs.Io.KnownBytes.{Appends}
 use Rattle.std.proofs.KnownBytes.{Appends-nil}
 use Rattle.program_io.specs.Writing.{AppendsPrefix}
 use Rattle.program_io.specs.declared.statuses.TheConstants.{DEVICE_FAULT}
-use Rattle.path_texts.specs.Known.{IsTextAt, KnownTexts}
-use Rattle.init_trace.specs.Event.{Event}
-use Rattle.init_trace.specs.Past.{time_of}
+use Rattle.program_io.specs.Known.{IsTextAt, KnownTexts}
+use Rattle.trace_events.specs.Event.{Event}
+use Rattle.trace_events.specs.Past.{time_of}
 use Rattle.trace_view.specs.Viewing.{ViewState, Viewed}
-use Rattle.text_view.specs.declared.text_views.Stop.{Stop}
-use Rattle.trace_timeline.specs.declared.marks.Mark.{Mark}
-use Rattle.trace_timeline.specs.Chart.{chart_of, chart_text}
-use Rattle.trace_timeline.specs.Marks.{marks_of}
-use Rattle.trace_timeline.specs.Svg.{svg_of, svg_text}
-use Rattle.trace_timeline.specs.Timelines.{IsTimeline}
+use Rattle.trace_view.specs.declared.text_views.Stop.{Stop}
+use Rattle.initview_timeline.specs.declared.marks.Mark.{Mark}
+use Rattle.initview_timeline.specs.Chart.{chart_of, chart_text}
+use Rattle.initview_timeline.specs.Marks.{marks_of}
+use Rattle.initview_timeline.specs.Svg.{svg_of, svg_text}
+use Rattle.initview_timeline.specs.Timelines.{IsTimeline}
 use Rattle.initview_command.specs.declared.charting.Form.{Form}
 use Rattle.initview_command.specs.Charting.{drawing, DrawsOf, Draws}
 use Rattle.initview_command.specs.Showing.{stop_status}

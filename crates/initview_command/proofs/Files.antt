@@ -1,6 +1,6 @@
 -- The files of paths, one more after the others.
 use Rattle.std.proofs.Common.{◌≡◌, refl, ℕ, List, [], ◌∷◌, ◌++◌, length, append_assoc, arith}
-use Rattle.path_texts.specs.Known.{IsTextAt, KnownTexts}
+use Rattle.program_io.specs.Known.{IsTextAt, KnownTexts}
 use Rattle.init_words.specs.Parts.{NamedText}
 use Rattle.initview_command.specs.Tables.{AreFilesAt}
 

@@ -4,13 +4,13 @@ use Rattle.std.specs.Io.KnownBytes.{Appends, Consumes}
 use Rattle.std.proofs.KnownBytes.{Appends-nil, Appends-trans}
 use Rattle.program_io.specs.Writing.{AppendsPrefix}
 use Rattle.program_io.proofs.WritingLemmas.{AppendsPrefix-then, AppendsPrefix-whole}
-use Rattle.init_trace.specs.Event.{Event}
-use Rattle.init_trace.specs.Lawful.{first_breach}
-use Rattle.text_view.specs.declared.text_views.Stop.{Stop}
-use Rattle.text_view.specs.Shown.{IsShown}
-use Rattle.text_view.specs.Views.{TextState, HasShown}
-use Rattle.trace_follow.specs.Following.{HasSaid, IsSaidOf}
-use Rattle.trace_follow.proofs.SaidOf.{said_of, said_more}
+use Rattle.trace_events.specs.Event.{Event}
+use Rattle.trace_events.specs.Lawful.{first_breach}
+use Rattle.trace_view.specs.declared.text_views.Stop.{Stop}
+use Rattle.trace_view.specs.Shown.{IsShown}
+use Rattle.trace_view.specs.Views.{TextState, HasShown}
+use Rattle.initview_lines.specs.Following.{HasSaid, IsSaidOf}
+use Rattle.initview_lines.proofs.SaidOf.{said_of, said_more}
 use Rattle.initview_command.specs.Following.{BeginsAllOf, HasWritten, WritesAll, WritesPart}
 
 -- a view takes one piece more, and its lines stand behind those before

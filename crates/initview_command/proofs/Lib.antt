@@ -1,5 +1,5 @@
 pub mod Drawn
 pub mod Files
+pub mod Followed
 pub mod Reloads
 pub mod Written
-pub mod Followed

@@ -4,15 +4,15 @@ use Rattle.std.specs.Io.KnownBytes.{Appends}
 use Rattle.std.proofs.KnownBytes.{Appends-nil}
 use Rattle.program_io.specs.Writing.{AppendsPrefix}
 use Rattle.program_io.specs.declared.statuses.TheConstants.{DEVICE_FAULT}
-use Rattle.path_texts.specs.Known.{IsTextAt, KnownTexts}
+use Rattle.program_io.specs.Known.{IsTextAt, KnownTexts}
 use Rattle.init_words.specs.Parts.{NamedText}
 use Rattle.init_words.specs.declared.entries.Entry.{Entry}
-use Rattle.init_trace.specs.Event.{Event}
+use Rattle.trace_events.specs.Event.{Event}
 use Rattle.trace_view.specs.Viewing.{ViewState, Viewed}
-use Rattle.text_view.specs.declared.text_views.Stop.{Stop}
-use Rattle.text_view.specs.Shown.{IsShown}
-use Rattle.text_view.specs.Views.{TextState, HasShown, HasTaken}
-use Rattle.text_view.proofs.Seeing.{viewed_at}
+use Rattle.trace_view.specs.declared.text_views.Stop.{Stop}
+use Rattle.trace_view.specs.Shown.{IsShown}
+use Rattle.trace_view.specs.Views.{TextState, HasShown, HasTaken}
+use Rattle.trace_view.proofs.SeenTexts.{viewed_at}
 use Rattle.initview_command.specs.declared.reloading.Reload.{Reload}
 use Rattle.initview_command.specs.Reloading.{Reloads, ReloadsBehind, ReloadsFiles, ReloadsOf, reload_said}
 use Rattle.initview_command.specs.Showing.{stop_status}

@@ -4,9 +4,9 @@ use Rattle.std.specs.Str.{bytes_eq}
 use Rattle.std.specs.Io.KnownBytes.{Appends}
 use Rattle.program_io.specs.Writing.{AppendsPrefix}
 use Rattle.program_io.specs.declared.statuses.TheConstants.{DEVICE_FAULT}
-use Rattle.text_view.specs.declared.text_views.Stop.{Stop}
-use Rattle.text_view.specs.Views.{TextState}
-use Rattle.trace_follow.specs.Following.{HasSaid, IsSaidOf}
+use Rattle.trace_view.specs.declared.text_views.Stop.{Stop}
+use Rattle.trace_view.specs.Views.{TextState}
+use Rattle.initview_lines.specs.Following.{HasSaid, IsSaidOf}
 use Rattle.initview_command.specs.Showing.{stop_status}
 
 -- follow TRACE: its path

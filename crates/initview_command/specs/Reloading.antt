@@ -5,15 +5,15 @@ use Rattle.std.specs.Str.{bytes_eq}
 use Rattle.std.specs.Io.KnownBytes.{Appends, Keeps}
 use Rattle.program_io.specs.Writing.{AppendsPrefix}
 use Rattle.program_io.specs.declared.statuses.TheConstants.{REFUSED, DEVICE_FAULT}
-use Rattle.path_texts.specs.Known.{IsTextAt, KnownTexts}
+use Rattle.program_io.specs.Known.{IsTextAt, KnownTexts}
 use Rattle.init_words.specs.Parts.{NamedText}
 use Rattle.init_words.specs.declared.entries.Entry.{Entry}
 use Rattle.init_words.specs.declared.levels.Level.{Level}
-use Rattle.init_trace.specs.Event.{Event}
-use Rattle.init_trace.specs.Lawful.{first_breach}
-use Rattle.text_view.specs.declared.text_views.Stop.{Stop}
-use Rattle.text_view.specs.Shown.{IsShown}
-use Rattle.view_lines.specs.Reloads.{reload_text, reloaded}
+use Rattle.trace_events.specs.Event.{Event}
+use Rattle.trace_events.specs.Lawful.{first_breach}
+use Rattle.trace_view.specs.declared.text_views.Stop.{Stop}
+use Rattle.trace_view.specs.Shown.{IsShown}
+use Rattle.initview_lines.specs.Reloads.{reload_text, reloaded}
 use Rattle.initview_command.specs.declared.reloading.Reload.{Reload}
 use Rattle.initview_command.specs.Asking.{verb_of, behind_verb, behind_option, has_level, level_named, paths_in}
 use Rattle.initview_command.specs.Showing.{stop_status}

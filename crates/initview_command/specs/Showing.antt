@@ -3,18 +3,18 @@ use Rattle.std.specs.Prelude.{◌≡◌, ◌⊎◌, ℕ, if◌then◌else◌, Li
 use Rattle.std.specs.Io.KnownBytes.{Appends, Keeps}
 use Rattle.program_io.specs.Writing.{AppendsPrefix}
 use Rattle.program_io.specs.declared.statuses.TheConstants.{DONE, REFUSED, UNLAWFUL, DEVICE_FAULT}
-use Rattle.path_texts.specs.Known.{IsTextAt, KnownTexts}
-use Rattle.init_trace.specs.Event.{Event}
-use Rattle.init_trace.specs.Lawful.{first_breach}
+use Rattle.program_io.specs.Known.{IsTextAt, KnownTexts}
+use Rattle.trace_events.specs.Event.{Event}
+use Rattle.trace_events.specs.Lawful.{first_breach}
 use Rattle.trace_view.specs.declared.rows.Row.{Row}
 use Rattle.trace_view.specs.Rows.{row_of}
-use Rattle.text_view.specs.declared.text_views.Stop.{Stop}
-use Rattle.text_view.specs.declared.text_views.Stop.TheVariants.{Breach, Torn}
-use Rattle.text_view.specs.Shown.{IsShown}
-use Rattle.view_lines.specs.Json.{status_json_text}
-use Rattle.view_lines.specs.Left.{left_text}
-use Rattle.view_lines.specs.Reasons.{why_text}
-use Rattle.view_lines.specs.Status.{row_of_text, status_text}
+use Rattle.trace_view.specs.declared.text_views.Stop.{Stop}
+use Rattle.trace_view.specs.declared.text_views.Stop.TheVariants.{Breach, Torn}
+use Rattle.trace_view.specs.Shown.{IsShown}
+use Rattle.initview_lines.specs.Json.{status_json_text}
+use Rattle.initview_lines.specs.Left.{left_text}
+use Rattle.initview_lines.specs.Reasons.{why_text}
+use Rattle.initview_lines.specs.Status.{row_of_text, status_text}
 use Rattle.initview_command.specs.declared.asking.Question.{Question}
 use Rattle.initview_command.specs.declared.asking.Question.TheVariants as question
 

@@ -3,7 +3,7 @@ use Rattle.std.specs.Prelude.{◌≡◌, ◌⊎◌, ℕ, List, [], ◌∷◌, ta
 use Rattle.std.specs.Io.KnownBytes.{Appends, Keeps}
 use Rattle.program_io.specs.Writing.{AppendsPrefix}
 use Rattle.program_io.specs.declared.statuses.TheConstants.{DONE, REFUSED, DEVICE_FAULT}
-use Rattle.path_texts.specs.Known.{IsTextAt, KnownTexts}
+use Rattle.program_io.specs.Known.{IsTextAt, KnownTexts}
 use Rattle.init_words.specs.declared.entries.Entry.{Entry}
 use Rattle.init_words.specs.declared.levels.Level.{Level}
 use Rattle.init_words.specs.declared.levels.Level.TheVariants.{S}
@@ -15,8 +15,8 @@ use Rattle.inittab_text.specs.Tables.{default_level_of}
 use Rattle.inittab_lint.specs.declared.linting.Found.{Found}
 use Rattle.inittab_lint.specs.declared.linting.Found.TheVariants as found
 use Rattle.inittab_lint.specs.Linting.{lint_in}
-use Rattle.view_lines.specs.Changes.{changes_text}
-use Rattle.view_lines.specs.Plans.{plan_text}
+use Rattle.initview_lines.specs.Changes.{changes_text}
+use Rattle.initview_lines.specs.Plans.{plan_text}
 use Rattle.initview_command.specs.declared.asking.TableQuestion.{TableQuestion}
 use Rattle.initview_command.specs.declared.asking.TableQuestion.TheVariants as table
 

@@ -2,25 +2,24 @@
 
 ghost use Rattle.std.specs.Prelude.{◌≡◌, ◌+◌, [], List, map, string_bytes, IfOk};
 ghost use Rattle.text_lines.specs.Numbers.{number_read};
-ghost use Rattle.init_trace.specs.Event.{Event};
+ghost use Rattle.trace_events.specs.Event.{Event};
 ghost use Rattle.trace_view.specs.Viewing.{Viewed};
-ghost use Rattle.trace_timeline.specs.Chart.{chart_text};
-ghost use Rattle.trace_timeline.specs.Marks.{marks_of};
-ghost use Rattle.trace_timeline.specs.Svg.{svg_text};
-ghost use Rattle.trace_timeline.specs.Timelines.{HasMarked};
+ghost use Rattle.initview_timeline.specs.Chart.{chart_text};
+ghost use Rattle.initview_timeline.specs.Marks.{marks_of};
+ghost use Rattle.initview_timeline.specs.Svg.{svg_text};
+ghost use Rattle.initview_timeline.specs.Timelines.{HasMarked};
 ghost use Rattle.initview_command.specs.Charting.{Draws, DrawsOf, chart_form, chart_path, drawing, form_behind, lines_of, path_behind};
 
 use crate::asking::{behind_verb, verb_of};
 use crate::showing::{stop_status, tell_stop};
 use crate::telling::{report_memory, report_unread, report_unwritten, tell};
 use init_words::Memory;
-use path_texts::{PieceTaker, Texts};
+use initview_timeline::{Mark, Timeline, chart_lines, svg_text};
+use program_io::{PieceTaker, Texts};
 use std::alloc::{AllocError, Global};
 use std::io::Write;
 use text_lines::read_below;
-use text_view::Stop;
-use trace_timeline::{Mark, Timeline, chart_lines, svg_text};
-use trace_view::TraceView;
+use trace_view::{Stop, TraceView};
 
 /// How many columns lines have where none are named, at least, and at most.
 pub const WIDTH: u64 = 80;
@@ -113,7 +112,7 @@ struct FileTimeline {
 }
 
 impl PieceTaker for FileTimeline {
-    ghost use Rattle.trace_timeline.specs.Timelines.{HasMarked};
+    ghost use Rattle.initview_timeline.specs.Timelines.{HasMarked};
 
     ghost has_taken = { λ file text. HasMarked file.timeline text };
 

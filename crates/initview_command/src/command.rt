@@ -1,7 +1,7 @@
 //! The words of `initview`, and what it does for them.
 
 ghost use Rattle.std.specs.Prelude.{◌≡◌, true, false, None, Some, codes, map, string_bytes, List, ℕ};
-ghost use Rattle.program_version.specs.VersionLine.{PrintsVersion};
+ghost use Rattle.command_words.specs.VersionLine.{PrintsVersion};
 ghost use Rattle.command_words.specs.CommandLines.{asks_version};
 ghost use Rattle.initview_command.specs.declared.asking.Question.{Question};
 ghost use Rattle.initview_command.specs.declared.asking.TableQuestion.{TableQuestion};
@@ -21,10 +21,8 @@ use crate::growing::GrowingTexts;
 use crate::reloading::{reload_of, reload_paths, reload_trace, show_reload};
 use crate::showing::show_file;
 use crate::tables::show_files;
-use command_words::{is_version, report_refused_words};
-use path_texts::Texts;
-use program_io::REFUSED;
-use program_version::print_version;
+use command_words::{is_version, print_version, report_refused_words};
+use program_io::{REFUSED, Texts};
 use std::alloc::Global;
 use std::io::Write;
 
@@ -94,7 +92,8 @@ pub fn run_words<T: Texts, G: GrowingTexts, W: Write, E: Write>(
         → Reloads (T.text_at texts.now) (reload_trace (map string_bytes words.now))
         (reload_paths (map string_bytes words.now)) asked result
         (W.contents out.old) (W.contents out.new) }
-    ensures answered { (question : TableQuestion) → asks_version (map string_bytes words.now) ≡ false
+    ensures answered { (question : TableQuestion)
+        → asks_version (map string_bytes words.now) ≡ false
         → question_of (map string_bytes words.now) ≡ None
         → chart_form (map string_bytes words.now) ≡ None
         → reload_of (map string_bytes words.now) ≡ None

@@ -1,24 +1,24 @@
 //! A trace in words, while it is written.
 
 ghost use Rattle.std.specs.Prelude.{◌≡◌, ◌^◌, ◌<◌, ◌++◌, [], List, ℕ, length, Option, Some, None, map, reverse, option_map, string_bytes, IfOk, OnOk, OnErr};
-ghost use Rattle.init_trace.specs.Event.{Event};
-ghost use Rattle.init_trace.specs.Lawful.{first_breach};
+ghost use Rattle.trace_events.specs.Event.{Event};
+ghost use Rattle.trace_events.specs.Lawful.{first_breach};
 ghost use Rattle.program_io.specs.declared.statuses.TheConstants.{DEVICE_FAULT};
-ghost use Rattle.text_view.specs.Shown.{IsShown};
-ghost use Rattle.text_view.specs.Views.{HasShown};
-ghost use Rattle.trace_follow.specs.Following.{HasSaid};
+ghost use Rattle.trace_view.specs.Shown.{IsShown};
+ghost use Rattle.trace_view.specs.Views.{HasShown};
+ghost use Rattle.initview_lines.specs.Following.{HasSaid};
 ghost use Rattle.initview_command.specs.Following.{Follows, HasWritten, WritesAll, WritesPart, follow_path};
 
 use crate::growing::GrowingTexts;
 use crate::showing::{stop_status, tell_stop};
 use crate::telling::{report_memory, report_unread, report_unwritten, tell};
 use init_words::Memory;
-use path_texts::{PIECE_LIMIT, READS_LIMIT};
+use initview_lines::take_lines;
+use program_io::{PIECE_LIMIT, PIECES_LIMIT};
 use std::alloc::Global;
 use std::io;
 use std::io::{ErrorKind, Read, Write};
-use text_view::{Stop, TextView};
-use trace_follow::take_lines;
+use trace_view::{Stop, TextView};
 
 /// The path of the trace that the words ask to follow.
 pub(crate) fn follow_path(words: &[String]) -> Option<&str>
@@ -114,7 +114,7 @@ fn write_lines<R: Read, W: Write>(
         (WritesPart (R.remaining from.old) (W.contents out.old) (W.contents out.new)) }
 {
     let mut piece = [0; PIECE_LIMIT];
-    for _ in 0..READS_LIMIT {
+    for _ in 0..PIECES_LIMIT {
         let taken = from.read(&mut piece)?;
         if taken == 0 {
             return Ok(end_of(view));

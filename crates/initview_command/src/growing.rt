@@ -1,10 +1,9 @@
 //! Texts that may still grow while they are read.
 
 ghost use Rattle.std.specs.Prelude.{◌≡◌, IfOk};
-ghost use Rattle.path_texts.specs.Known.{KnownTexts};
+ghost use Rattle.program_io.specs.Known.{KnownTexts};
 
-use path_texts::{KeptTexts, Texts};
-use program_io::open_plain;
+use program_io::{KeptTexts, Texts, open_plain};
 use std::alloc::{Allocator, Global};
 use std::fs::{File, Metadata};
 use std::io::{Cursor, Error, ErrorKind, Read};
@@ -31,7 +30,7 @@ pub trait GrowingTexts {
 /// A text in memory is whole.
 impl<A: Allocator> GrowingTexts for KeptTexts<A> {
     ghost use Rattle.std.specs.Prelude.{List};
-    ghost use Rattle.path_texts.specs.Known.{Kept, text_in};
+    ghost use Rattle.program_io.specs.Known.{Kept, text_in};
 
     ghost text_at = { λ (kept : List Kept) path. text_in kept path };
 

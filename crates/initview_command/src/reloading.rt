@@ -1,27 +1,26 @@
 //! What becomes of what runs where init reads another inittab, asked for and written.
 
 ghost use Rattle.std.specs.Prelude.{◌≡◌, ◌∷◌, [], List, map, string_bytes, IfOk, OnOk};
-ghost use Rattle.init_trace.specs.declared.happenings.Happening.TheVariants.{NewTable};
-ghost use Rattle.init_trace.specs.Event.{Event};
-ghost use Rattle.init_trace.specs.Wishes.{is_level};
-ghost use Rattle.text_view.specs.Views.{HasTaken};
+ghost use Rattle.trace_events.specs.declared.happenings.Happening.TheVariants.{NewTable};
+ghost use Rattle.trace_events.specs.Event.{Event};
+ghost use Rattle.trace_events.specs.Wishes.{is_level};
+ghost use Rattle.trace_view.specs.Views.{HasTaken};
 ghost use Rattle.trace_view.specs.Viewing.{Viewed};
-ghost use Rattle.view_lines.specs.Reloads.{entered, gone_on, reloaded};
+ghost use Rattle.initview_lines.specs.Reloads.{entered, gone_on, reloaded};
 ghost use Rattle.initview_command.specs.Reloading.{Reloads, ReloadsBehind, ReloadsFiles, ReloadsOf, has_trace, reload_behind, reload_of, reload_paths, reload_said, reload_trace, trace_named};
 
 use crate::asking::{behind_option, behind_verb, has_level, level_named, paths_in, verb_of};
 use crate::showing::{FileView, stop_status, tell_stop};
 use crate::tables::{old_and_new, read_files, report_fault};
 use crate::telling::{report_memory, report_unread, report_unwritten, tell};
-use init_trace::{Happening, HappeningIn};
 use init_words::{Level, Memory, Part, Stage};
 use inittab_text::{Table, TableFault};
-use path_texts::Texts;
-use program_io::DEVICE_FAULT;
+use initview_lines::reload_lines;
+use program_io::{DEVICE_FAULT, Texts};
 use std::alloc::Global;
 use std::io::Write;
-use text_view::{Stop, TextView};
-use view_lines::reload_lines;
+use trace_events::{Happening, HappeningIn};
+use trace_view::{Stop, TextView};
 
 /// What is asked of an inittab that init reads behind a trace.
 #[derive(Clone, Copy)]
@@ -264,7 +263,8 @@ fn show_changes<W: Write, E: Write>(
     err: &mut E,
 ) -> u8
     ensures { (past : List Event) → Viewed view.old.viewing past
-        → ReloadsOf past old.now new.now asked stop result (W.contents out.old) (W.contents out.new) }
+        → ReloadsOf past old.now new.now asked stop result
+        (W.contents out.old) (W.contents out.new) }
 {
     let Ok(text) = changes(alloc, old, new, asked, view) else {
         return report_memory(err);

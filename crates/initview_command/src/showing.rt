@@ -1,21 +1,19 @@
 //! What a trace says, written.
 
 ghost use Rattle.std.specs.Prelude.{◌≡◌, List, [], IfOk};
-ghost use Rattle.init_trace.specs.Event.{Event};
+ghost use Rattle.trace_events.specs.Event.{Event};
 ghost use Rattle.trace_view.specs.Viewing.{Viewed};
-ghost use Rattle.text_view.specs.Views.{HasTaken};
+ghost use Rattle.trace_view.specs.Views.{HasTaken};
 ghost use Rattle.initview_command.specs.Showing.{Shows, ShowsOf, lsb_status, row_status, said, status_by, stop_status};
 
 use crate::asking::Question;
 use crate::telling::{report_memory, report_unread, report_unwritten, tell};
 use init_words::{Id, Memory};
-use path_texts::{PieceTaker, Texts};
-use program_io::{DEVICE_FAULT, DONE, REFUSED, UNLAWFUL};
+use initview_lines::{json_lines, left_lines, row_line, status_lines, why_lines};
+use program_io::{DEVICE_FAULT, DONE, PieceTaker, REFUSED, Texts, UNLAWFUL};
 use std::alloc::{AllocError, Global};
 use std::io::Write;
-use text_view::{Stop, TextView};
-use trace_view::{Row, TraceView};
-use view_lines::{json_lines, left_lines, row_line, status_lines, why_lines};
+use trace_view::{Row, Stop, TextView, TraceView};
 
 /// The view of a trace whose text is read in pieces.
 #[derive(Drop)]
@@ -24,7 +22,7 @@ pub(crate) struct FileView {
 }
 
 impl PieceTaker for FileView {
-    ghost use Rattle.text_view.specs.Views.{HasTaken};
+    ghost use Rattle.trace_view.specs.Views.{HasTaken};
 
     ghost has_taken = { λ file text. HasTaken file.view text };
 

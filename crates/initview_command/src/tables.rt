@@ -1,7 +1,7 @@
 //! What is asked of inittabs, written.
 
 ghost use Rattle.std.specs.Prelude.{◌≡◌, ◌++◌, ◌∷◌, ◌⊎◌, [], map, take, drop, string_bytes, ℕ, List, IfSome, IfOk, IfErr, OnOk};
-ghost use Rattle.path_texts.specs.Known.{IsTextAt};
+ghost use Rattle.program_io.specs.Known.{IsTextAt};
 ghost use Rattle.init_words.specs.Parts.{NamedText};
 ghost use Rattle.initview_command.specs.declared.asking.TableQuestion.TheVariants as table_question;
 ghost use Rattle.initview_command.specs.Tables.{Answers, AnswersOf, AreFilesAt, AreNone, FailsBy, IsAnswer, IsRefused, changes_by, found_status, level_asked, plan_by, table_in};
@@ -11,12 +11,11 @@ use crate::telling::{report_memory, report_unread, report_unwritten, tell};
 use init_words::{Level, Part};
 use inittab_lint::{Found, lint_parts};
 use inittab_text::{PartFault, Table, TableFault, read_parts};
-use path_texts::Texts;
-use program_io::{DEVICE_FAULT, DONE, REFUSED};
+use initview_lines::{change_lines, plan_lines};
+use program_io::{DEVICE_FAULT, DONE, REFUSED, Texts};
 use std::alloc::{AllocError, Global};
 use std::io;
 use std::io::Write;
-use view_lines::{change_lines, plan_lines};
 
 /// Reads the file of a path, and adds it to the others.
 fn add_file<T: Texts>(texts: &T, alloc: Global, path: &str, parts: &mut Vec<Part>) -> io::Result<()>
@@ -183,7 +182,8 @@ pub(crate) fn old_and_new<E: Write>(
 ) -> Result<(Table, Table), TableFault>
     ensures tables { IfOk result (λ both. (both.0 ≡ table_in (take 1 parts.now))
         × (both.1 ≡ table_in (drop 1 parts.now))) }
-    ensures fault { IfErr result (FailsBy (AreNone (take 1 parts.now) ⊎ AreNone (drop 1 parts.now))) }
+    ensures fault { IfErr result
+        (FailsBy (AreNone (take 1 parts.now) ⊎ AreNone (drop 1 parts.now))) }
 {
     let old = match table_in(alloc, old_of(parts), err) {
         Ok(table) => table,
@@ -203,7 +203,8 @@ fn diff_answer<E: Write>(
 ) -> Result<(Vec<u8>, u8), TableFault>
     ensures told { IfOk result (λ given.
         IsAnswer (table_question.Diff level) parts.now given.0.items given.1) }
-    ensures fault { IfErr result (FailsBy (AreNone (take 1 parts.now) ⊎ AreNone (drop 1 parts.now))) }
+    ensures fault { IfErr result
+        (FailsBy (AreNone (take 1 parts.now) ⊎ AreNone (drop 1 parts.now))) }
 {
     let (old, new) = match old_and_new(alloc, parts, err) {
         Ok(both) => both,

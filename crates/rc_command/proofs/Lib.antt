@@ -1,2 +1,2 @@
-pub mod Reported
 pub mod ReadWords
+pub mod Reported

@@ -6,11 +6,11 @@ use Rattle.program_io.specs.declared.statuses.TheConstants.{DEVICE_FAULT, REFUSE
 use Rattle.command_words.specs.Faults.{reason_of}
 use Rattle.command_words.specs.declared.faults.WordFault.{WordFault}
 use Rattle.command_words.specs.declared.faults.WordFault.TheVariants.{Usage, Memory}
-use Rattle.rc_command.specs.CommandLine.{command_line, is_set, options_said, read_of, rows_said, said_by, seconds_said}
+use Rattle.rc_command.specs.CommandLine.{command_line, is_set, options_said, rc_read_of, rows_said, rc_said_by, seconds_said}
 use Rattle.rc_command.specs.declared.command.RunOptions.{RunOptions}
 
 pub read_is : (words : List Text) (rows : List Row) → rows ≡ matches_of command_line words → fault_of command_line words ≡ []
-    → read_of words ≡ rows_said rows
+    → rc_read_of words ≡ rows_said rows
 read_is words rows is none =
     ap (λ (faults : List _). if length faults == 0 then rows_said (matches_of command_line words) else None) none ∙ ap rows_said (sym is)
 
@@ -22,7 +22,7 @@ refused_by Memory result none memory is = let wrong = (memory refl).0 in absurd 
 
 -- what words say where they say these seconds
 pub rows_are : (rows : List Row) (sysv : Bool) (options : RunOptions) (seconds : Option ℕ) → seconds_said rows ≡ Some seconds
-    → sysv ≡ is_set (codes "as-sysv") rows → options ≡ options_said seconds rows → rows_said rows ≡ said_by rows sysv options
+    → sysv ≡ is_set (codes "as-sysv") rows → options ≡ options_said seconds rows → rows_said rows ≡ rc_said_by rows sysv options
 rows_are rows sysv options seconds some set same =
-    ap (option_and_then (λ seconds. said_by rows (is_set (codes "as-sysv") rows) (options_said seconds rows))) some
-    ∙ (ap (λ s. said_by rows s (options_said seconds rows)) (sym set) ∙ ap (said_by rows sysv) (sym same))
+    ap (option_and_then (λ seconds. rc_said_by rows (is_set (codes "as-sysv") rows) (options_said seconds rows))) some
+    ∙ (ap (λ s. rc_said_by rows s (options_said seconds rows)) (sym set) ∙ ap (rc_said_by rows sysv) (sym same))

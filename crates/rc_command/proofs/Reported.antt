@@ -4,11 +4,11 @@ use Rattle.std.specs.Io.KnownBytes.{Appends}
 use Rattle.std.proofs.lemmas.Bool.{true≢false}
 use Rattle.program_io.specs.Writing.{AppendsPrefix}
 use Rattle.program_io.specs.declared.statuses.TheConstants.{DEVICE_FAULT, DONE, LIMIT_REACHED}
-use Rattle.child_host.specs.Calls.{HostCall}
-use Rattle.child_host.specs.Record.{Since}
-use Rattle.child_host.proofs.Record.{Since-map}
+use Rattle.host_calls.specs.Calls.{HostCall}
+use Rattle.host_calls.specs.Record.{Since}
+use Rattle.host_calls.proofs.Record.{Since-map}
 use Rattle.init_words.specs.declared.levels.Level.{Level}
-use Rattle.rc_command.specs.CommandLine.{Asked, Said, entering, said_at}
+use Rattle.rc_command.specs.CommandLine.{Asked, RcSaid, entering, said_at}
 use Rattle.rc_command.specs.LevelFiles.{KnownFiles}
 use Rattle.rc_command.specs.declared.command.RunOptions.{RunOptions}
 use Rattle.rc_command.specs.Endings.{AreNames, AsksFor, IsBefore, IsStatusOf, IsWhole, Reports, ReportsFirst, ReportsNames, ReportsPart, RunsAsked, RunsNames, RunsSaid, RunsScripts, ended_text, rc_of, status_of, written}
@@ -23,7 +23,7 @@ use Rattle.rc_driver.specs.Progress.{count_pauses}
 use Rattle.rc_driver.specs.Report.{Output, done_end, is_over, output, report}
 use Rattle.rc_driver.specs.Runs.{LinkRun, RcState, is_failure}
 use Rattle.rc_driver.specs.Sysv.{scripts_by}
-use Rattle.rc_driver.specs.Told.{EndsAt, RunsFrom, RunsLinks}
+use Rattle.rc_driver.specs.Told.{ScriptsEndAt, RunsFrom, RunsLinks}
 use Rattle.rc_driver.proofs.RunLemmas.{writes_ends}
 
 -- a run that none was handed out before
@@ -36,7 +36,7 @@ runs_on : (way : RunWay) (dir : List ℕ) (pauses : ℕ) (failed : Bool) (script
 runs_on way dir pauses failed [] before ended left after calls (is, none, same, no_calls) =
     λ waiting. done_is_not_waiting failed (sym is ∙ waiting)
 runs_on way dir pauses failed (s ∷ scripts) before ended left after calls (inl (at, behind)) =
-    λ waiting. subst (λ e. EndsAt way dir pauses s before e after calls) waiting at
+    λ waiting. subst (λ e. ScriptsEndAt way dir pauses s before e after calls) waiting at
 runs_on way dir pauses failed (s ∷ scripts) before ended left after calls (inr (given, first, later, between, is, ran, line, rest)) =
     runs_on way dir (pauses - count_pauses first) (failed || is_failure given) scripts between ended left after later rest
 
@@ -201,7 +201,7 @@ print_done way path rc new before after ended status ready of prints done =
     by (inr (inr is)) = absurd (not_whole_fault status (of ∙ ap (status_of false) is) (inl done))
 
 -- names that were listed are those of the folders that a command line names
-pub are_names : (names_at : KnownNames) (said : Said) (dir path : List ℕ) (previous names : List (List ℕ)) → dir ≡ said.dir → path ≡ folder_of dir said.new
+pub are_names : (names_at : KnownNames) (said : RcSaid) (dir path : List ℕ) (previous names : List (List ℕ)) → dir ≡ said.dir → path ≡ folder_of dir said.new
     → ArePrevious names_at dir said.previous previous → AreNamesAt names_at path names → AreNames names_at said previous names
 are_names names_at said dir path previous names same at before here = (
   subst (λ d. ArePrevious names_at d said.previous previous) same before,
@@ -209,10 +209,10 @@ are_names names_at said dir path previous names same at before here = (
 )
 
 -- a run of the folders that a command line names
-folder_is : (said : Said) (dir path : List ℕ) → dir ≡ said.dir → path ≡ folder_of dir said.new → path ≡ folder_of said.dir said.new
+folder_is : (said : RcSaid) (dir path : List ℕ) → dir ≡ said.dir → path ≡ folder_of dir said.new → path ≡ folder_of said.dir said.new
 folder_is said dir path same at = at ∙ ap (λ d. folder_of d said.new) same
 
-pub said_reports : (names_at : KnownNames) (said : Said) (dir path listed : List ℕ) (previous names : List (List ℕ)) (before after : Option (List ℕ)) (status : ℕ)
+pub said_reports : (names_at : KnownNames) (said : RcSaid) (dir path listed : List ℕ) (previous names : List (List ℕ)) (before after : Option (List ℕ)) (status : ℕ)
     → dir ≡ said.dir → path ≡ folder_of dir said.new → listed ≡ folder_of dir said.new → ArePrevious names_at dir said.previous previous → AreNamesAt names_at listed names
     → ReportsNames said.options path previous names before status after → Reports names_at said before status after
 said_reports names_at said dir path listed previous names before after status same at there first here all = (
@@ -222,7 +222,7 @@ said_reports names_at said dir path listed previous names before after status sa
   subst (λ p. ReportsNames said.options p previous names before status after) (folder_is said dir path same at) all,
 )
 
-pub said_part : (names_at : KnownNames) (said : Said) (dir path listed : List ℕ) (previous names : List (List ℕ)) (before after : Option (List ℕ))
+pub said_part : (names_at : KnownNames) (said : RcSaid) (dir path listed : List ℕ) (previous names : List (List ℕ)) (before after : Option (List ℕ))
     → dir ≡ said.dir → path ≡ folder_of dir said.new → listed ≡ folder_of dir said.new → ArePrevious names_at dir said.previous previous → AreNamesAt names_at listed names
     → ReportsFirst said.options path previous names before after → ReportsPart names_at said before after
 said_part names_at said dir path listed previous names before after same at there first here part = (
@@ -232,7 +232,7 @@ said_part names_at said dir path listed previous names before after same at ther
   subst (λ p. ReportsFirst said.options p previous names before after) (folder_is said dir path same at) part,
 )
 
-pub said_runs : (names_at : KnownNames) (said : Said) (dir path listed : List ℕ) (previous names : List (List ℕ)) (old new : Option (List HostCall)) (before told after tells : Option (List ℕ)) (status : ℕ)
+pub said_runs : (names_at : KnownNames) (said : RcSaid) (dir path listed : List ℕ) (previous names : List (List ℕ)) (old new : Option (List HostCall)) (before told after tells : Option (List ℕ)) (status : ℕ)
     → dir ≡ said.dir → path ≡ folder_of dir said.new → listed ≡ folder_of dir said.new → ArePrevious names_at dir said.previous previous → AreNamesAt names_at listed names
     → Since old new (RunsNames said.options path previous names before told status after tells)
     → RunsSaid names_at said old new before told status after tells
@@ -262,7 +262,7 @@ known_of file inner told status tells (inl (is, same)) known = subst IsKnown (sy
 known_of file inner told status tells (inr (named, fault, was)) known = inr (inr fault)
 
 -- what is so of the folder, the change and the options that are run is so of what is asked for
-pub asks_for : (file_at : KnownFiles) (asked : Asked) (before : Option Level) (dir : List ℕ) (options : RunOptions) (P : Said → Type 0)
+pub asks_for : (file_at : KnownFiles) (asked : Asked) (before : Option Level) (dir : List ℕ) (options : RunOptions) (P : RcSaid → Type 0)
     → IsBefore file_at asked before → dir ≡ asked.dir
     → options ≡ entering asked.sysv (record { before = before; new = asked.new }) asked.options
     → P (said_at dir (record { before = before; new = asked.new }) options) → AsksFor file_at asked P

@@ -36,7 +36,7 @@ command_line = with_rules (program_app (codes "rc")) (
 
 -- what is run: the folder that holds those of the runlevels, the level before, if there was one, the new level, and the
 -- options
-pub record Said : Type 0 where
+pub record RcSaid : Type 0 where
   pub dir : Text
   pub previous : Option Level
   pub new : Level
@@ -74,12 +74,12 @@ abbrev pub previous_of : Text → Option (Option Level)
 previous_of word = if bytes_eq word (codes "N") then Some None else option_map Some (level_of word)
 
 -- the value that is given to an argument
-abbrev pub value_in : Text → List Row → Text
-value_in id rows = unwrap_or (first_of id rows) []
+abbrev pub rc_value_in : Text → List Row → Text
+rc_value_in id rows = unwrap_or (first_of id rows) []
 
 -- the option without a value is given
 abbrev pub is_set : Text → List Row → Bool
-is_set id rows = bytes_eq (value_in id rows) (codes "true")
+is_set id rows = bytes_eq (rc_value_in id rows) (codes "true")
 
 -- a number of seconds: 1 to the limit
 abbrev pub seconds_read : Text → Option ℕ
@@ -113,11 +113,11 @@ entering sysv passage options =
     if sysv then record options { way = record options.way { levels = Some passage } } else options
 
 -- what is run from the folder at a change of level
-abbrev pub said_at : Text → Passage → RunOptions → Said
+abbrev pub said_at : Text → Passage → RunOptions → RcSaid
 said_at dir passage options = record { dir = dir; previous = passage.before; new = passage.new; options = options }
 
 -- what is run where that was the level before
-abbrev pub run_said : Asked → Option Level → Said
+abbrev pub run_said : Asked → Option Level → RcSaid
 run_said asked before =
     let passage : Passage = record { before = before; new = asked.new } in
     said_at asked.dir passage (entering asked.sysv passage asked.options)
@@ -139,15 +139,16 @@ levels_in (Some file) first None = new_of first
 levels_in (Some file) first (Some second) = None
 
 abbrev pub levels_said : List Row → Option Passage
-levels_said rows = levels_in (first_of (codes "level-file") rows) (value_in (codes "first") rows) (first_of (codes "second") rows)
+levels_said rows =
+    levels_in (first_of (codes "level-file") rows) (rc_value_in (codes "first") rows) (first_of (codes "second") rows)
 
 -- what words and the options say
-abbrev pub said_by : List Row → Bool → RunOptions → Option Asked
-said_by rows sysv options =
-    if is_dir (value_in (codes "dir") rows) then
+abbrev pub rc_said_by : List Row → Bool → RunOptions → Option Asked
+rc_said_by rows sysv options =
+    if is_dir (rc_value_in (codes "dir") rows) then
     option_map
     (λ (levels : Passage). record {
-      dir = value_in (codes "dir") rows;
+      dir = rc_value_in (codes "dir") rows;
       previous = levels.before;
       file = first_of (codes "level-file") rows;
       new = levels.new;
@@ -159,8 +160,9 @@ said_by rows sysv options =
 
 abbrev pub rows_said : List Row → Option Asked
 rows_said rows =
-    option_and_then (λ seconds. said_by rows (is_set (codes "as-sysv") rows) (options_said seconds rows)) (seconds_said rows)
+    option_and_then
+    (λ seconds. rc_said_by rows (is_set (codes "as-sysv") rows) (options_said seconds rows)) (seconds_said rows)
 
 -- what words say; where the command line has a fault in them, nothing
-abbrev pub read_of : List Text → Option Asked
-read_of words = if length (fault_of command_line words) == 0 then rows_said (matches_of command_line words) else None
+abbrev pub rc_read_of : List Text → Option Asked
+rc_read_of words = if length (fault_of command_line words) == 0 then rows_said (matches_of command_line words) else None

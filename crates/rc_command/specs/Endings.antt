@@ -4,8 +4,8 @@ use Rattle.std.specs.List.{list_any}
 use Rattle.std.specs.Io.KnownBytes.{Appends}
 use Rattle.program_io.specs.Writing.{AppendsPrefix}
 use Rattle.program_io.specs.declared.statuses.TheConstants.{DEVICE_FAULT, DONE, LIMIT_REACHED}
-use Rattle.child_host.specs.Calls.{HostCall}
-use Rattle.child_host.specs.Record.{Since}
+use Rattle.host_calls.specs.Calls.{HostCall}
+use Rattle.host_calls.specs.Record.{Since}
 use Rattle.rc_driver.specs.declared.driving.RunEnd.{RunEnd}
 use Rattle.rc_driver.specs.declared.driving.RunEnd.TheVariants as run_end
 use Rattle.rc_driver.specs.declared.runs.RcAnswer.{RcAnswer}
@@ -15,7 +15,7 @@ use Rattle.rc_driver.specs.Runs.{LinkRun, RcState, is_failure}
 use Rattle.rc_driver.specs.Sysv.{scripts_by}
 use Rattle.rc_driver.specs.declared.runs.Passage.{Passage}
 use Rattle.rc_driver.specs.Told.{RunsLinks}
-use Rattle.rc_command.specs.CommandLine.{Asked, Said, read_of, run_said}
+use Rattle.rc_command.specs.CommandLine.{Asked, RcSaid, rc_read_of, run_said}
 use Rattle.rc_command.specs.LevelFiles.{IsBeforeIn, KeepsIn, KnownFiles}
 use Rattle.init_words.specs.declared.levels.Level.{Level}
 use Rattle.rc_command.specs.declared.command.RunOptions.{RunOptions}
@@ -69,12 +69,12 @@ RunsNames options path previous names before told status after tells calls =
     RunsScripts options path (rc_of options.way.levels previous names) before told status after tells calls
 
 -- the names are those in the two folders that a command line names, where they are known
-abbrev pub AreNames : KnownNames → Said → List (List ℕ) → List (List ℕ) → Type 0
+abbrev pub AreNames : KnownNames → RcSaid → List (List ℕ) → List (List ℕ) → Type 0
 AreNames names_at said previous names =
     ArePrevious names_at said.dir said.previous previous × AreNamesAt names_at (folder_of said.dir said.new) names
 
 -- the scripts that a command line asks for were run so, with the calls that are told
-abbrev pub RunsSaid : KnownNames → Said → Option (List HostCall) → Option (List HostCall) → Option (List ℕ)
+abbrev pub RunsSaid : KnownNames → RcSaid → Option (List HostCall) → Option (List HostCall) → Option (List ℕ)
     → Option (List ℕ) → ℕ → Option (List ℕ) → Option (List ℕ) → Type 0
 RunsSaid names_at said old new before told status after tells =
     (previous names : List (List ℕ)) × AreNames names_at said previous names × Since old new (λ calls.
@@ -107,13 +107,13 @@ ReportsFirst options path previous names old new =
     (answers : List RcAnswer) × AppendsPrefix old new (written options path previous names answers)
 
 -- what is written of all scripts of the two folders that a command line names
-abbrev pub Reports : KnownNames → Said → Option (List ℕ) → ℕ → Option (List ℕ) → Type 0
+abbrev pub Reports : KnownNames → RcSaid → Option (List ℕ) → ℕ → Option (List ℕ) → Type 0
 Reports names_at said old status new =
     (previous names : List (List ℕ)) × AreNames names_at said previous names
     × ReportsNames said.options (folder_of said.dir said.new) previous names old status new
 
 -- a prefix of what is written of the first of them
-abbrev pub ReportsPart : KnownNames → Said → Option (List ℕ) → Option (List ℕ) → Type 0
+abbrev pub ReportsPart : KnownNames → RcSaid → Option (List ℕ) → Option (List ℕ) → Type 0
 ReportsPart names_at said old new =
     (previous names : List (List ℕ)) × AreNames names_at said previous names
     × ReportsFirst said.options (folder_of said.dir said.new) previous names old new
@@ -123,15 +123,15 @@ abbrev pub IsBefore : KnownFiles → Asked → Option Level → Type 0
 IsBefore file_at asked before = IsBeforeIn file_at asked.previous asked.file before
 
 -- the level before, and that this is so of what is run behind it
-abbrev pub AsksFor : KnownFiles → Asked → (Said → Type 0) → Type 0
+abbrev pub AsksFor : KnownFiles → Asked → (RcSaid → Type 0) → Type 0
 AsksFor file_at asked P = (before : Option Level) × IsBefore file_at asked before × P (run_said asked before)
 
 -- what words ask for, and that this is so of it
 abbrev pub Says : List (List ℕ) → (Asked → Type 0) → Type 0
-Says words P = (asked : Asked) × (read_of words ≡ Some asked) × P asked
+Says words P = (asked : Asked) × (rc_read_of words ≡ Some asked) × P asked
 
 -- what words ask for, and that this is so of what is run
-abbrev pub Asks : KnownFiles → List (List ℕ) → (Said → Type 0) → Type 0
+abbrev pub Asks : KnownFiles → List (List ℕ) → (RcSaid → Type 0) → Type 0
 Asks file_at words P = Says words (λ asked. AsksFor file_at asked P)
 
 -- the new level stands in the file that is named, where scripts were run; else each file is as it was

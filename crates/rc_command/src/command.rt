@@ -2,10 +2,10 @@
 
 ghost use Rattle.std.specs.Prelude.{◌≡◌, map, option_map, string_bytes, IfErr, IfOk, IsSome};
 ghost use Rattle.clap.specs.Words.{FailsBy, fault_of, first_of, found_of, matches_of, rows_of};
-ghost use Rattle.command_words.specs.CommandLines.{Adds, IsLine};
+ghost use Rattle.command_words.specs.CommandLines.{AddsArgument, IsLine};
 ghost use Rattle.command_words.specs.Faults.{reason_of};
 ghost use Rattle.rc_command.specs.CommandLine.{command_line, entering, is_dir, is_set, last_rule, level_of, levels_of, levels_said, new_of, options_said};
-ghost use Rattle.rc_command.specs.CommandLine.{previous_of, read_of, rows_said, said_by, said_of, seconds_read, seconds_said};
+ghost use Rattle.rc_command.specs.CommandLine.{previous_of, rc_read_of, rows_said, rc_said_by, said_of, seconds_read, seconds_said};
 
 use clap::{Arg, ArgMatches, Command, Error};
 use command_words::{
@@ -51,9 +51,10 @@ pub struct RunOptions {
 
 /// Reads a command line, without the program's name in front.
 pub fn read_words(alloc: Global, words: &[String]) -> Result<Words, WordFault>
-    ensures ok { IfOk result (λ said. read_of (map string_bytes words.now) ≡ Some (said_of said)) }
+    ensures ok { IfOk result (λ said.
+        rc_read_of (map string_bytes words.now) ≡ Some (said_of said)) }
     ensures usage { IfErr result (λ fault. IsSome (reason_of fault)
-        → read_of (map string_bytes words.now) ≡ None) }
+        → rc_read_of (map string_bytes words.now) ≡ None) }
 {
     match parsed(alloc, words) {
         Ok(matches) => read_matches(alloc, &matches),
@@ -80,7 +81,7 @@ fn command<'a>(alloc: Global) -> Result<Command<'a>, AllocError>
 
 /// A command line with a word that may be left out, behind its other arguments. It fails for want of memory alone.
 fn with_last<'a>(alloc: Global, line: Command<'a>, name: &'a str) -> Result<Command<'a>, AllocError>
-    ensures { IfOk result (Adds line.entry (last_rule name.entry.now)) }
+    ensures { IfOk result (AddsArgument line.entry (last_rule name.entry.now)) }
 {
     line.arg(Arg::new(alloc, name))
 }
@@ -239,10 +240,10 @@ fn words_of(
     sysv: bool,
     options: RunOptions,
 ) -> Result<Words, WordFault>
-    ensures ok { IfOk result (λ said. said_by (rows_of (found_of matches.now)) sysv options
+    ensures ok { IfOk result (λ said. rc_said_by (rows_of (found_of matches.now)) sysv options
         ≡ Some (said_of said)) }
     ensures usage { IfErr result (λ fault. IsSome (reason_of fault)
-        → said_by (rows_of (found_of matches.now)) sysv options ≡ None) }
+        → rc_said_by (rows_of (found_of matches.now)) sysv options ≡ None) }
 {
     let dir = value_of(matches, "dir");
     if !is_dir(dir) {

@@ -1,18 +1,17 @@
 //! Where the host of a run of `rc` comes from: the operating system, or one of a test.
 
 ghost use Rattle.std.specs.Prelude.{◌≡◌, [], List, Option, IfOk, OnErr};
-ghost use Rattle.child_host.specs.Calls.{HostCall};
+ghost use Rattle.host_calls.specs.Calls.{HostCall};
 
-use child_host::Host;
+use host_calls::Host;
+use host_system::OsHost;
+use host_telling::{CallList, Noted, Telling, no_calls};
 use init_words::Memory;
-use os_host::OsHost;
-use proof_values::Noted;
 use std::alloc::Global;
 use std::fs::File;
 use std::marker::Model;
 use std::process::Processes;
 use std::rt::{Clock, Files};
-use telling_host::{CallList, Telling, no_calls};
 
 /// The seconds of the longest pause; behind something that happened it is a thousandth of it.
 const PAUSE: &str = "0.1";
@@ -44,7 +43,7 @@ pub struct SystemHosts<R: Processes + Files<File = File> + Clock + Print + Eprin
 impl<R: Processes + Files<File = File> + Clock + Print + Eprint + Clone + Drop> Model
     for SystemHosts<R> {
     ghost use Rattle.std.specs.Prelude.{List};
-    ghost use Rattle.child_host.specs.Calls.{HostCall};
+    ghost use Rattle.host_calls.specs.Calls.{HostCall};
 
     ghost Value = { List HostCall };
 

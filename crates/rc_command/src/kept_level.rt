@@ -22,7 +22,10 @@ impl Model for KeptLevel {
 
     ghost Value = { KeptFile };
 
-    ghost view = { λ k. record { path = string_bytes k.path; text = option_map (λ text. text.items) k.text } };
+    ghost view = { λ k. record {
+      path = string_bytes k.path;
+      text = option_map (λ text. text.items) k.text;
+    } };
 }
 
 impl KeptLevel {

@@ -1,13 +1,13 @@
 //! rc at work: the scripts of two runlevels' links, stopped and started over a host, or printed.
 
 ghost use Rattle.std.specs.Prelude.{◌≡◌, ◌≢◌, ◌⊎◌, ◌↔◌, ℕ, true, false, codes, IfErr, IfOk, IsSome, IsTrue, None, OnOk, List, Option, map, string_bytes};
-ghost use Rattle.child_host.specs.Calls.{HostCall};
-ghost use Rattle.child_host.specs.Record.{Since};
+ghost use Rattle.host_calls.specs.Calls.{HostCall};
+ghost use Rattle.host_calls.specs.Record.{Since};
 ghost use Rattle.command_words.specs.CommandLines.{asks_version};
 ghost use Rattle.command_words.specs.Faults.{ReportsUsage};
 ghost use Rattle.program_io.specs.Writing.{AppendsPrefix};
-ghost use Rattle.program_version.specs.VersionLine.{PrintsVersion};
-ghost use Rattle.rc_command.specs.CommandLine.{read_of, said_at, said_of};
+ghost use Rattle.command_words.specs.VersionLine.{PrintsVersion};
+ghost use Rattle.rc_command.specs.CommandLine.{rc_read_of, said_at, said_of};
 ghost use Rattle.rc_command.specs.Endings.{Asks, AsksFor, IsBefore, IsStatusOf, IsWhole, Keeps, Reports, ReportsFirst, ReportsNames, ReportsPart, RunsAsked, Says};
 ghost use Rattle.rc_command.specs.LevelFiles.{AreSame};
 ghost use Rattle.std.specs.Io.KnownBytes.{Appends};
@@ -18,11 +18,10 @@ use crate::command::{RunOptions, Words, entering, read_words};
 use crate::folders::{Folders, folder_of, previous_names};
 use crate::hosts::ScriptHosts;
 use crate::level_files::{LevelFiles, level_in};
-use child_host::Host;
-use command_words::{is_version, report_word_fault};
+use command_words::{is_version, print_version, report_word_fault};
+use host_calls::Host;
 use init_words::{Level, Memory};
 use program_io::{DEVICE_FAULT, DONE, LIMIT_REACHED, REFUSED, report_no_memory, write_text};
-use program_version::print_version;
 use rc_driver::{Passage, Rc, RunEnd, RunWay, print_links, run_links};
 use std::alloc::Global;
 use std::io;
@@ -77,11 +76,11 @@ where
     E: Write,
     ensures statuses { IsWhole result ⊎ (result ≡ REFUSED) ⊎ (result ≡ LIMIT_REACHED)
         ⊎ (result ≡ DEVICE_FAULT) }
-    ensures refused { result ≡ REFUSED → read_of (map string_bytes words.items) ≡ None }
+    ensures refused { result ≡ REFUSED → rc_read_of (map string_bytes words.items) ≡ None }
     ensures version { asks_version (map string_bytes words.items) ≡ true
         → PrintsVersion (codes "rc") result (W.contents out.old) (W.contents out.new) }
     ensures said { asks_version (map string_bytes words.items) ≡ false → IsWhole result
-        → IsSome (read_of (map string_bytes words.items)) }
+        → IsSome (rc_read_of (map string_bytes words.items)) }
     // The lines of all scripts of the two folders were written, and the status is the one for their ends.
     ensures done { asks_version (map string_bytes words.items) ≡ false → IsWhole result
         → Asks (L.file_at levels.old) (map string_bytes words.items) (λ said. Reports

@@ -5,14 +5,14 @@ use Rattle.std.proofs.lemmas.Option.{none-some, same_Some}
 use Rattle.std.proofs.lemmas.List.Elements.{filter-append}
 use Rattle.init_words.specs.declared.limits.TheConstants.{GRACE}
 use Rattle.init_words.specs.declared.orders.Answer.{Answer}
-use Rattle.init_words.specs.declared.orders.Sig.{Sig}
-use Rattle.init_words.specs.declared.orders.Sig.TheVariants as sig
-use Rattle.child_host.specs.Calls.{HostCall, Adds}
-use Rattle.child_host.specs.Record.{Since}
-use Rattle.child_host.specs.declared.calls.Call.TheVariants as call
-use Rattle.child_host.specs.declared.calls.HostFault.{HostFault}
-use Rattle.child_host.specs.declared.calls.Reply.{Reply}
-use Rattle.child_host.proofs.Record.{Since-map, Since-one, Since-then}
+use Rattle.init_words.specs.declared.orders.SignalKind.{SignalKind}
+use Rattle.init_words.specs.declared.orders.SignalKind.TheVariants as sig
+use Rattle.host_calls.specs.Calls.{HostCall, AddsCall}
+use Rattle.host_calls.specs.Record.{Since}
+use Rattle.host_calls.specs.declared.calls.Call.TheVariants as call
+use Rattle.host_calls.specs.declared.calls.HostFault.{HostFault}
+use Rattle.host_calls.specs.declared.calls.Reply.{Reply}
+use Rattle.host_calls.proofs.Record.{Since-map, Since-one, Since-then}
 use Rattle.rc_driver.specs.declared.progress.Progress.{Progress}
 use Rattle.rc_driver.specs.declared.progress.Progress.TheVariants as progress
 use Rattle.rc_driver.specs.declared.runs.RcAnswer.{RcAnswer}
@@ -26,20 +26,20 @@ use Rattle.rc_driver.specs.Report.{Tells}
 use Rattle.rc_driver.specs.Times.{due_by, due_signal, signal_line, time_lines, timer_at, timer_by}
 
 -- a start
-pub begins : (old new : Option (List HostCall)) (limit : Option ℕ) (id text : List ℕ) (reply : Reply) (now : Progress) → Adds old new (call.Start id text reply) → id ≡ script_id
+pub begins : (old new : Option (List HostCall)) (limit : Option ℕ) (id text : List ℕ) (reply : Reply) (now : Progress) → AddsCall old new (call.Start id text reply) → id ≡ script_id
     → now ≡ by_reply (by_start limit) reply → Since old new (Begins limit text now)
 begins old new limit id text reply now adds of is =
     Since-one old new (call.Start id text reply) (Begins limit text now) adds ((of, refl, refl, is, refl), refl)
 
 -- a look
-pub goes_look : (old new : Option (List HostCall)) (limit : Option ℕ) (id : List ℕ) (reply : Reply) (now : Progress) → Adds old new (call.Look id reply) → id ≡ script_id
+pub goes_look : (old new : Option (List HostCall)) (limit : Option ℕ) (id : List ℕ) (reply : Reply) (now : Progress) → AddsCall old new (call.Look id reply) → id ≡ script_id
     → now ≡ by_reply (by_look limit) reply → Since old new (GoesFurther limit progress.Born now 0)
 goes_look old new limit id reply now adds of is =
     Since-one old new (call.Look id reply) (GoesFurther limit progress.Born now 0) adds (λ time. (refl, λ command earlier ran. (of, ran, is)))
 
 -- a pause, and what came later
-pub goes_pause : (old mid new : Option (List HostCall)) (limit : Option ℕ) (late : Option (List ℕ × Answer)) (before now : Progress) → Adds old mid call.Pause
-    → Adds mid new (call.Late late) → is_waiting before ≡ true → now ≡ by_late limit before late → Since old new (GoesFurther limit before now 1)
+pub goes_pause : (old mid new : Option (List HostCall)) (limit : Option ℕ) (late : Option (List ℕ × Answer)) (before now : Progress) → AddsCall old mid call.Pause
+    → AddsCall mid new (call.Late late) → is_waiting before ≡ true → now ≡ by_late limit before late → Since old new (GoesFurther limit before now 1)
 goes_pause old mid new limit late before now pauses lates waiting is =
     Since-then old mid new (λ xs. xs ≡ call.Pause ∷ []) (λ ys. ys ≡ call.Late late ∷ []) (GoesFurther limit before now 1)
     (Since-one old mid call.Pause (λ xs. xs ≡ call.Pause ∷ []) pauses refl)
@@ -47,7 +47,7 @@ goes_pause old mid new limit late before now pauses lates waiting is =
     (λ xs ys first second. rw (first, second) (λ time. (refl, λ command earlier ran. (before, waiting, ran, is))))
 
 -- a reading of the clock by which no signal is due
-pub goes_clock : (old new : Option (List HostCall)) (limit : Option ℕ) (reading : Result ℕ HostFault) (before now : Timer) → Adds old new (call.Clock reading)
+pub goes_clock : (old new : Option (List HostCall)) (limit : Option ℕ) (reading : Result ℕ HostFault) (before now : Timer) → AddsCall old new (call.Clock reading)
     → due_by limit before reading ≡ None → now ≡ timer_by before reading None
     → Since old new (Goes limit progress.Found before progress.Living now 0)
 goes_clock old new limit reading before now adds due is =
@@ -55,8 +55,8 @@ goes_clock old new limit reading before now adds due is =
     (refl, λ command earlier ran. (refl, before, ran, due, is))
 
 -- one by which a signal is due, and the signal
-pub goes_signal : (old mid new : Option (List HostCall)) (limit : Option ℕ) (reading : Result ℕ HostFault) (id : List ℕ) (signal : Sig) (reply : Reply) (before now : Timer)
-    → Adds old mid (call.Clock reading) → Adds mid new (call.Signal id signal reply) → id ≡ script_id
+pub goes_signal : (old mid new : Option (List HostCall)) (limit : Option ℕ) (reading : Result ℕ HostFault) (id : List ℕ) (signal : SignalKind) (reply : Reply) (before now : Timer)
+    → AddsCall old mid (call.Clock reading) → AddsCall mid new (call.Signal id signal reply) → id ≡ script_id
     → due_by limit before reading ≡ Some signal → now ≡ timer_by before reading (Some signal)
     → Since old new (Goes limit progress.Found before progress.Living now 0)
 goes_signal old mid new limit reading id signal reply before now clocks signals of due is =
@@ -77,7 +77,7 @@ some_of true x y is = same_Some x y is
 some_of false x y is = absurd (none-some y is)
 
 -- a signal that is due is told behind those before
-tells_due : (way : RunWay) (dir link : List ℕ) (seconds now : ℕ) (time : Timer) (signal : Sig) → due_signal seconds time now ≡ Some signal
+tells_due : (way : RunWay) (dir link : List ℕ) (seconds now : ℕ) (time : Timer) (signal : SignalKind) → due_signal seconds time now ≡ Some signal
     → time_lines way dir link (timer_at time now (Some signal)) ≡ signal_line way.seconds dir link signal ∷ time_lines way dir link time
 tells_due way dir link seconds now timer.Unread signal due = absurd (none-some signal due)
 tells_due way dir link seconds now timer.Killed signal due = absurd (none-some signal due)
@@ -88,12 +88,12 @@ tells_due way dir link seconds now (timer.Warned sent) signal due =
     subst (λ g. time_lines way dir link (timer_at (timer.Warned sent) now (Some g)) ≡ signal_line way.seconds dir link g ∷ signal_line way.seconds dir link sig.Term ∷ [])
     (some_of (nat_lt GRACE (now - sent)) sig.Kill signal due) refl
 
-tells_by : (way : RunWay) (dir link : List ℕ) (limit : Option ℕ) (now : ℕ) (time : Timer) (signal : Sig) → due_by limit time (Ok now) ≡ Some signal
+tells_by : (way : RunWay) (dir link : List ℕ) (limit : Option ℕ) (now : ℕ) (time : Timer) (signal : SignalKind) → due_by limit time (Ok now) ≡ Some signal
     → time_lines way dir link (timer_at time now (Some signal)) ≡ signal_line way.seconds dir link signal ∷ time_lines way dir link time
 tells_by way dir link None now time signal due = absurd (none-some signal due)
 tells_by way dir link (Some seconds) now time signal due = tells_due way dir link seconds now time signal due
 
-pub tells_signal : (way : RunWay) (dir link : List ℕ) (limit : Option ℕ) (now : ℕ) (time : Timer) (signal : Sig) (before told tells : Option (List ℕ))
+pub tells_signal : (way : RunWay) (dir link : List ℕ) (limit : Option ℕ) (now : ℕ) (time : Timer) (signal : SignalKind) (before told tells : Option (List ℕ))
     → due_by limit time (Ok now) ≡ Some signal → AppendsPrefix told tells (signal_line way.seconds dir link signal)
     → Tells before told (time_lines way dir link time) → Tells before tells (time_lines way dir link (timer_at time now (Some signal)))
 tells_signal way dir link limit now time signal before told tells due line earlier =

@@ -2,5 +2,5 @@ pub mod CallLemmas
 pub mod OrderLemmas
 pub mod PrintLemmas
 pub mod RunLemmas
-pub mod WritingLemmas
 pub mod ToldLemmas
+pub mod WritingLemmas

@@ -7,8 +7,8 @@ use Rattle.std.proofs.lemmas.Bool.{true≢false}
 use Rattle.std.specs.Io.KnownBytes.{Appends}
 use Rattle.program_io.specs.Writing.{AppendsPrefix}
 use Rattle.program_io.proofs.WritingLemmas.{AppendsPrefix-first, AppendsPrefix-then}
-use Rattle.child_host.specs.Calls.{HostCall}
-use Rattle.child_host.specs.Record.{Since}
+use Rattle.host_calls.specs.Calls.{HostCall}
+use Rattle.host_calls.specs.Record.{Since}
 use Rattle.rc_driver.specs.declared.driving.RunEnd.{RunEnd}
 use Rattle.rc_driver.specs.declared.driving.RunEnd.TheVariants as run_end
 use Rattle.rc_driver.specs.declared.runs.RcAnswer.{RcAnswer}
@@ -17,7 +17,7 @@ use Rattle.rc_driver.specs.declared.runs.RunWay.{RunWay}
 use Rattle.rc_driver.specs.Progress.{count_pauses}
 use Rattle.rc_driver.specs.Report.{Output, TellsStart, WritesEnds, begin_line, done_end, is_over, line_of, lines_of, report}
 use Rattle.rc_driver.specs.Runs.{LinkRun, RcState, is_failure}
-use Rattle.rc_driver.specs.Told.{EndsAt, RunsFrom, RunsLinks}
+use Rattle.rc_driver.specs.Told.{ScriptsEndAt, RunsFrom, RunsLinks}
 
 -- nothing of a text was written
 pub AppendsPrefix-none : (old : Option (List ℕ)) (text : List ℕ) → AppendsPrefix old old text
@@ -49,7 +49,7 @@ lines_told way s given before mid after told wrote =
 
 -- a run that ends at a script has written a part of its lines
 pub stops_part : (way : RunWay) (dir : List ℕ) (pauses : ℕ) (s : LinkRun) (before : Output) (ended : RunEnd) (after : Output) (calls : List HostCall)
-    → EndsAt way dir pauses s before ended after calls → (given : RcAnswer) × AppendsPrefix before.lines after.lines (lines_of way s given)
+    → ScriptsEndAt way dir pauses s before ended after calls → (given : RcAnswer) × AppendsPrefix before.lines after.lines (lines_of way s given)
 stops_part way dir pauses s before (run_end.Limit link) after calls (named, now, time, waiting, ran, count, told, begun) = (
   answer.NotStarted,
   started_part way.verbose (begin_line s) (line_of s answer.NotStarted) before.lines after.lines after.lines begun
@@ -72,7 +72,7 @@ stops_part way dir pauses s before run_end.Waiting after calls at = absurd at
 
 -- it is not over
 pub stops_early : (way : RunWay) (dir : List ℕ) (pauses : ℕ) (s : LinkRun) (before : Output) (ended : RunEnd) (after : Output) (calls : List HostCall)
-    → EndsAt way dir pauses s before ended after calls → is_over ended ≡ false
+    → ScriptsEndAt way dir pauses s before ended after calls → is_over ended ≡ false
 stops_early way dir pauses s before (run_end.Limit link) after calls at = refl
 stops_early way dir pauses s before run_end.Write after calls at = refl
 stops_early way dir pauses s before run_end.Memory after calls at = refl

@@ -4,9 +4,9 @@ use Rattle.std.specs.Borrow.{Bor}
 use Rattle.std.specs.Io.KnownBytes.{Appends}
 use Rattle.std.proofs.lemmas.Bool.{true≢false}
 use Rattle.program_io.specs.Writing.{AppendsPrefix}
-use Rattle.child_host.specs.Calls.{HostCall}
-use Rattle.child_host.specs.Record.{Since}
-use Rattle.child_host.proofs.Record.{Since-map, Since-none, Since-then}
+use Rattle.host_calls.specs.Calls.{HostCall}
+use Rattle.host_calls.specs.Record.{Since}
+use Rattle.host_calls.proofs.Record.{Since-map, Since-none, Since-then}
 use Rattle.rc_driver.specs.declared.driving.RunEnd.{RunEnd}
 use Rattle.rc_driver.specs.declared.driving.RunEnd.TheVariants as run_end
 use Rattle.rc_driver.specs.declared.runs.Arg.{Arg}
@@ -16,7 +16,7 @@ use Rattle.rc_driver.specs.Parts.{Advanced, EndsCommand, EndsEarly, HasRun}
 use Rattle.rc_driver.specs.Progress.{RunsTo, count_pauses}
 use Rattle.rc_driver.specs.Report.{Output, TellsStart, begin_line, command_text, done_end, is_over, line_of, lines_of, output}
 use Rattle.rc_driver.specs.Runs.{LinkRun, RcState, is_failure}
-use Rattle.rc_driver.specs.Told.{EndsAt, RanBy, RunsFrom, RunsLinks}
+use Rattle.rc_driver.specs.Told.{ScriptsEndAt, RanBy, RunsFrom, RunsLinks}
 use Rattle.rc_driver.proofs.RunLemmas.{lines_told, stops_early}
 
 -- the text that started it is the script's
@@ -54,15 +54,15 @@ ends_unwritten old new way dir command pauses still s given before after told te
 -- the line of its start was not written
 pub ends_unbegun : (record_told : Option (List HostCall)) (way : RunWay) (dir : List ℕ) (pauses : ℕ) (s : LinkRun) (before after told : Option (List ℕ)) (ended : RunEnd)
     → (ended ≡ run_end.Write) × (way.verbose ≡ true) × AppendsPrefix before after (begin_line s)
-    → Since record_told record_told (EndsAt way dir pauses s (output before told) ended (output after told))
+    → Since record_told record_told (ScriptsEndAt way dir pauses s (output before told) ended (output after told))
 ends_unbegun record_told way dir pauses s before after told ended (is, verbose, line) =
-    Since-none record_told (EndsAt way dir pauses s (output before told) ended (output after told))
-    (subst (λ e. EndsAt way dir pauses s (output before told) e (output after told) []) (sym is) (inl (verbose, refl, line, refl)))
+    Since-none record_told (ScriptsEndAt way dir pauses s (output before told) ended (output after told))
+    (subst (λ e. ScriptsEndAt way dir pauses s (output before told) e (output after told) []) (sym is) (inl (verbose, refl, line, refl)))
 
 -- a run of a command, behind the line of its script's start
 ends_at : (way : RunWay) (dir command : List ℕ) (pauses : ℕ) (s : LinkRun) (before mid after told tells : Option (List ℕ)) (ended : RunEnd) (calls : List HostCall)
     → command ≡ command_text way dir s → TellsStart way s before mid → EndsCommand way dir command pauses s (output mid told) ended (output after tells) calls
-    → EndsAt way dir pauses s (output before told) ended (output after tells) calls
+    → ScriptsEndAt way dir pauses s (output before told) ended (output after tells) calls
 ends_at way dir command pauses s before mid after told tells (run_end.Limit link) calls same begun (named, (now, time, waiting, ran, count, lines), stays) = (
   named,
   now,
@@ -83,9 +83,9 @@ ends_at way dir command pauses s before mid after told tells run_end.Waiting cal
 pub ends_told : (old new : Option (List HostCall)) (way : RunWay) (dir command : List ℕ) (pauses : ℕ) (s : LinkRun) (before mid after told tells : Option (List ℕ)) (ended : RunEnd)
     → command ≡ command_text way dir s → TellsStart way s before mid
     → Since old new (EndsCommand way dir command pauses s (output mid told) ended (output after tells))
-    → Since old new (EndsAt way dir pauses s (output before told) ended (output after tells))
+    → Since old new (ScriptsEndAt way dir pauses s (output before told) ended (output after tells))
 ends_told old new way dir command pauses s before mid after told tells ended same begun ends =
-    Since-map old new (EndsCommand way dir command pauses s (output mid told) ended (output after tells)) (EndsAt way dir pauses s (output before told) ended (output after tells)) ends
+    Since-map old new (EndsCommand way dir command pauses s (output mid told) ended (output after tells)) (ScriptsEndAt way dir pauses s (output before told) ended (output after tells)) ends
     (λ calls at. ends_at way dir command pauses s before mid after told tells ended calls same begun at)
 
 -- the same where a command was run, whatever came of it
@@ -104,17 +104,17 @@ started_ran (Err ended) old new way dir link command text pauses still told tell
 pub started_ends : (ran : Result RcAnswer RunEnd) (old new : Option (List HostCall)) (way : RunWay) (dir command : List ℕ) (pauses : ℕ) (s : LinkRun) (before mid after told tells : Option (List ℕ))
     → command ≡ command_text way dir s → TellsStart way s before mid
     → IfErr ran (λ ended. Since old new (EndsCommand way dir command pauses s (output mid told) ended (output after tells)))
-    → IfErr ran (λ ended. Since old new (EndsAt way dir pauses s (output before told) ended (output after tells)))
+    → IfErr ran (λ ended. Since old new (ScriptsEndAt way dir pauses s (output before told) ended (output after tells)))
 started_ends (Ok given) old new way dir command pauses s before mid after told tells same begun ends = tt
 started_ends (Err ended) old new way dir command pauses s before mid after told tells same begun ends =
     ends_told old new way dir command pauses s before mid after told tells ended same begun ends
 
 -- a run that ends at its first script
 pub runs_ends : (old new : Option (List HostCall)) (way : RunWay) (dir : List ℕ) (pauses : ℕ) (failed : Bool) (rc now : RcState) (before after : Output) (ended : RunEnd) (s : LinkRun)
-    → rc.waits ≡ false → rc.left ≡ s ∷ now.left → now.waits ≡ true → Since old new (EndsAt way dir pauses s before ended after)
+    → rc.waits ≡ false → rc.left ≡ s ∷ now.left → now.waits ≡ true → Since old new (ScriptsEndAt way dir pauses s before ended after)
     → Since old new (RunsLinks way dir pauses failed rc before ended now after)
 runs_ends old new way dir pauses failed rc now before after ended s ready head waiting ends =
-    Since-map old new (EndsAt way dir pauses s before ended after) (RunsLinks way dir pauses failed rc before ended now after) ends
+    Since-map old new (ScriptsEndAt way dir pauses s before ended after) (RunsLinks way dir pauses failed rc before ended now after) ends
     (λ calls at. record {
       waits = λ is. absurd (true≢false (sym is ∙ ready));
       runs = λ _. subst (λ left. RunsFrom way dir pauses failed left before ended now.left after calls) (sym head) (inl (at, refl));

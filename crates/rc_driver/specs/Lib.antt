@@ -1,10 +1,10 @@
 pub mod Links
+pub mod Parts
+pub mod Printing
+pub mod Progress
 pub mod Report
 pub mod Runs
 pub mod Steps
-pub mod Printing
-pub mod Progress
-pub mod Told
-pub mod Parts
-pub mod Times
 pub mod Sysv
+pub mod Times
+pub mod Told

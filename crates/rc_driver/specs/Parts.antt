@@ -1,6 +1,6 @@
 -- What a part of a script's run adds to its calls.
 use Rattle.std.specs.Prelude.{◌≡◌, ◌+◌, ℕ, Bool, true, false, ◌||◌, List, ◌∷◌, ◌++◌, Option}
-use Rattle.child_host.specs.Calls.{HostCall}
+use Rattle.host_calls.specs.Calls.{HostCall}
 use Rattle.rc_driver.specs.declared.progress.Progress.{Progress}
 use Rattle.rc_driver.specs.declared.progress.Progress.TheVariants as progress
 use Rattle.rc_driver.specs.declared.times.Timer.{Timer}

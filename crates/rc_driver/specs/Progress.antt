@@ -6,10 +6,10 @@ use Rattle.init_words.specs.declared.orders.Answer.TheVariants as given
 use Rattle.rc_driver.specs.declared.times.Timer.{Timer}
 use Rattle.rc_driver.specs.declared.times.Timer.TheVariants as timer
 use Rattle.rc_driver.specs.Times.{due_by, timer_by}
-use Rattle.child_host.specs.Calls.{HostCall}
-use Rattle.child_host.specs.declared.calls.Call.TheVariants as call
-use Rattle.child_host.specs.declared.calls.Reply.{Reply}
-use Rattle.child_host.specs.declared.calls.Reply.TheVariants.{Now, Later}
+use Rattle.host_calls.specs.Calls.{HostCall}
+use Rattle.host_calls.specs.declared.calls.Call.TheVariants as call
+use Rattle.host_calls.specs.declared.calls.Reply.{Reply}
+use Rattle.host_calls.specs.declared.calls.Reply.TheVariants.{Now, Later}
 use Rattle.rc_driver.specs.declared.progress.Progress.{Progress}
 use Rattle.rc_driver.specs.declared.progress.Progress.TheVariants as progress
 use Rattle.rc_driver.specs.declared.runs.RcAnswer.TheVariants as answer

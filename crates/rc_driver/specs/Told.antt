@@ -2,7 +2,7 @@
 use Rattle.std.specs.Prelude.{◌≡◌, ◌⊎◌, ◌≤◌, ◌-◌, ℕ, Bool, true, false, not, ◌||◌, List, [], ◌∷◌, ◌++◌, Option}
 use Rattle.std.specs.Io.KnownBytes.{Appends}
 use Rattle.program_io.specs.Writing.{AppendsPrefix}
-use Rattle.child_host.specs.Calls.{HostCall}
+use Rattle.host_calls.specs.Calls.{HostCall}
 use Rattle.rc_driver.specs.declared.driving.RunEnd.{RunEnd}
 use Rattle.rc_driver.specs.declared.driving.RunEnd.TheVariants as run_end
 use Rattle.rc_driver.specs.declared.progress.Progress.{Progress}
@@ -38,20 +38,21 @@ EndsUnwritten way dir pauses s before after calls =
 
 -- how a run ends at a script. The pauses are used up, and it, which is named, has no end yet; or of one of its lines a
 -- prefix was written; or it was not started for lack of memory
-abbrev pub EndsAt : RunWay → List ℕ → ℕ → LinkRun → Output → RunEnd → Output → List HostCall → Type 0
-EndsAt way dir pauses s before (run_end.Limit link) after calls = (link.now ≡ s.0) × (now : Progress) × (time : Timer)
+abbrev pub ScriptsEndAt : RunWay → List ℕ → ℕ → LinkRun → Output → RunEnd → Output → List HostCall → Type 0
+ScriptsEndAt way dir pauses s before (run_end.Limit link) after calls =
+    (link.now ≡ s.0) × (now : Progress) × (time : Timer)
     × (is_waiting now ≡ true) × RunsTo way.seconds (command_text way dir s) now time calls
     × (count_pauses calls ≡ pauses) × Tells before.told after.told (time_lines way dir s.0 time)
     × TellsStart way s before.lines after.lines
-EndsAt way dir pauses s before run_end.Write after calls = EndsUnwritten way dir pauses s before after calls
-EndsAt way dir pauses s before run_end.Memory after calls = (calls ≡ []) × (after ≡ before)
-EndsAt way dir pauses s before _ after calls = ⊥
+ScriptsEndAt way dir pauses s before run_end.Write after calls = EndsUnwritten way dir pauses s before after calls
+ScriptsEndAt way dir pauses s before run_end.Memory after calls = (calls ≡ []) × (after ≡ before)
+ScriptsEndAt way dir pauses s before _ after calls = ⊥
 
 -- a script ran to the end that the host answered, and its lines were written; the calls behind it, with the pauses that
 -- are left then, whether this one failed, and what was written by then
-abbrev pub GoesOn : RunWay → List ℕ → ℕ → LinkRun → Output → List HostCall
+abbrev pub ScriptsGoOn : RunWay → List ℕ → ℕ → LinkRun → Output → List HostCall
     → (ℕ → Bool → Output → List HostCall → Type 0) → Type 0
-GoesOn way dir pauses s before calls Rest = (given : RcAnswer) × (first later : List HostCall)
+ScriptsGoOn way dir pauses s before calls Rest = (given : RcAnswer) × (first later : List HostCall)
     × (between : Output) × (calls ≡ later ++ first) × Ran way dir pauses s given before.told between.told first
     × Appends before.lines between.lines (lines_of way s given)
     × Rest (pauses - count_pauses first) (is_failure given) between later
@@ -63,8 +64,8 @@ abbrev pub RunsFrom : RunWay → List ℕ → ℕ → Bool → List LinkRun → 
 RunsFrom way dir pauses failed [] before ended left after calls =
     (ended ≡ done_end failed) × (left ≡ []) × (after ≡ before) × (calls ≡ [])
 RunsFrom way dir pauses failed (s ∷ scripts) before ended left after calls =
-    (EndsAt way dir pauses s before ended after calls × (left ≡ scripts))
-    ⊎ GoesOn way dir pauses s before calls
+    (ScriptsEndAt way dir pauses s before ended after calls × (left ≡ scripts))
+    ⊎ ScriptsGoOn way dir pauses s before calls
     (λ still fails between later. RunsFrom way dir still (failed || fails) scripts between ended left after later)
 
 -- a run of the scripts that are left, where one has failed already or none. Where the answer to one that was handed out

@@ -2,15 +2,15 @@
 
 ghost use Rattle.std.specs.Prelude.{◌≡◌, false, None, IfOk, IfErr, IfSome};
 ghost use Rattle.std.specs.Io.KnownBytes.{Appends};
-ghost use Rattle.child_host.specs.Record.{Since};
+ghost use Rattle.host_calls.specs.Record.{Since};
 ghost use Rattle.rc_driver.specs.Parts.{Advanced, EndsCommand, HasRun};
 ghost use Rattle.rc_driver.specs.Report.{WritesEnds, command_text, done_end, line_of, lines_of, output};
-ghost use Rattle.rc_driver.specs.Told.{EndsAt, RunsLinks};
+ghost use Rattle.rc_driver.specs.Told.{ScriptsEndAt, RunsLinks};
 
 use crate::progress::run_script;
 use crate::runs::{Arg, Rc, RcAnswer, RcStep, RunWay, failed_by};
 use crate::writing::{command_of, tell_end, tell_start};
-use child_host::Host;
+use host_calls::Host;
 use std::alloc::Allocator;
 use std::io::Write;
 
@@ -88,9 +88,10 @@ fn run_link<'n, A: Allocator + Copy, H: Host, W: Write, E: Write>(
     ensures ran { IfOk result (λ answer. Since (H.told host.old) (H.told host.new) (HasRun way
         dir.now link.now (command_text way dir.now (link.now, arg)) answer pauses.old pauses.new
         (E.contents err.old) (E.contents err.new))) }
-    ensures ends { IfErr result (λ ended. Since (H.told host.old) (H.told host.new) (EndsAt way
-        dir.now pauses.old (link.now, arg) (output (W.contents out.old) (E.contents err.old))
-        ended (output (W.contents out.new) (E.contents err.new)))) }
+    ensures ends { IfErr result (λ ended. Since (H.told host.old) (H.told host.new)
+        (ScriptsEndAt way dir.now pauses.old (link.now, arg)
+        (output (W.contents out.old) (E.contents err.old)) ended
+        (output (W.contents out.new) (E.contents err.new)))) }
     ensures silent { way.seconds ≡ None → err.new ≡ err.old }
 {
     let Ok(command) = command_of(alloc, way, dir, link, arg) else {

@@ -1,7 +1,7 @@
 //! How far one script has come: ordered, started, looked at, ended.
 
 ghost use Rattle.std.specs.Prelude.{◌≡◌, ℕ, List, Option, None, true, false, IfNone, IfSome};
-ghost use Rattle.child_host.specs.Record.{Since};
+ghost use Rattle.host_calls.specs.Record.{Since};
 ghost use Rattle.rc_driver.specs.Parts.{Begins, EndsEarly, Goes, GoesFurther, HasRun, is_born, is_found};
 ghost use Rattle.rc_driver.specs.Progress.{alive, by_late, by_look, by_start, is_waiting, script_id};
 ghost use Rattle.rc_driver.specs.Report.{Tells};
@@ -10,7 +10,7 @@ ghost use Rattle.rc_driver.specs.Times.{time_lines};
 use crate::runs::{RcAnswer, RunWay};
 use crate::times::{Timer, due_at, timer_at};
 use crate::writing::tell_signal;
-use child_host::{Host, Reply};
+use host_calls::{Host, Reply};
 use init_words::{Answer, Id};
 use std::alloc::Allocator;
 use std::io::Write;

@@ -11,7 +11,7 @@ ghost use Rattle.rc_driver.specs.declared.driving.RunEnd.TheVariants as run_end;
 use crate::driving::RunEnd;
 use crate::runs::{Arg, Passage, RcAnswer, RunWay};
 use crate::times::wait_of;
-use init_words::{Level, Sig, Status};
+use init_words::{Level, SignalKind, Status};
 use itoa::Buffer;
 use program_io::write_text;
 use std::alloc::{AllocError, Allocator};
@@ -225,12 +225,12 @@ pub(crate) fn command_of<A: Allocator + Copy>(
     format!(in alloc; "{levels}{shell}{dir}/{link} {word}")
 }
 
-fn signal_word(signal: Sig) -> &'static [u8]
+fn signal_word(signal: SignalKind) -> &'static [u8]
     ensures { result.now ≡ signal_word signal }
 {
     match signal {
-        Sig::Term => b" s: TERM was sent\n",
-        Sig::Kill => b" s more: KILL was sent\n",
+        SignalKind::Term => b" s: TERM was sent\n",
+        SignalKind::Kill => b" s more: KILL was sent\n",
     }
 }
 
@@ -257,7 +257,7 @@ fn write_wait<E: Write>(err: &mut E, link: &str, seconds: u32) -> io::Result<()>
 }
 
 /// Writes which signal was sent.
-fn write_word<E: Write>(err: &mut E, signal: Sig) -> io::Result<()>
+fn write_word<E: Write>(err: &mut E, signal: SignalKind) -> io::Result<()>
     ensures ok { OnOk result
         (Appends (E.contents err.old) (E.contents err.new) (signal_word signal)) }
     ensures err { OnErr result
@@ -267,7 +267,7 @@ fn write_word<E: Write>(err: &mut E, signal: Sig) -> io::Result<()>
 }
 
 /// Writes the line that tells of a signal, behind what names the folder.
-fn write_late<E: Write>(err: &mut E, link: &str, seconds: u32, signal: Sig) -> io::Result<()>
+fn write_late<E: Write>(err: &mut E, link: &str, seconds: u32, signal: SignalKind) -> io::Result<()>
     ensures ok { OnOk result (Appends (E.contents err.old) (E.contents err.new)
         ((link.now ++ (codes " has not ended after " ++ decimal seconds)) ++ signal_word signal)) }
     ensures err { OnErr result (AppendsPrefix (E.contents err.old) (E.contents err.new)
@@ -284,7 +284,7 @@ fn write_signal<E: Write>(
     dir: &str,
     link: &str,
     seconds: u32,
-    signal: Sig,
+    signal: SignalKind,
 ) -> io::Result<()>
     ensures ok { OnOk result (Appends (E.contents err.old) (E.contents err.new)
         (late_line dir.now link.now seconds signal)) }
@@ -297,7 +297,7 @@ fn write_signal<E: Write>(
 }
 
 /// Tells that a script was sent a signal, by as much of the line as `err` takes.
-fn tell_late<E: Write>(err: &mut E, dir: &str, link: &str, seconds: u32, signal: Sig)
+fn tell_late<E: Write>(err: &mut E, dir: &str, link: &str, seconds: u32, signal: SignalKind)
     ensures { AppendsPrefix (E.contents err.old) (E.contents err.new)
         (late_line dir.now link.now seconds signal) }
 {
@@ -310,7 +310,7 @@ pub(crate) fn tell_signal<E: Write>(
     limit: Option<u32>,
     dir: &str,
     link: &str,
-    signal: Sig,
+    signal: SignalKind,
 )
     ensures { AppendsPrefix (E.contents err.old) (E.contents err.new)
         (signal_line limit dir.now link.now signal) }

@@ -5,7 +5,7 @@ use Rattle.std.specs.Option.{option_map, unwrap_or}
 use Rattle.std.proofs.lemmas.Bool.{true≢false}
 use Rattle.rc_links.specs.declared.needs.Phase.{Phase}
 use Rattle.rc_links.specs.declared.needs.Phase.TheVariants as phase
-use Rattle.link_numbers.specs.Numbering.{InRange}
+use Rattle.rc_numbers.specs.Numbering.{InRange}
 use Rattle.rc_links.specs.ScriptText.{ScriptText}
 use Rattle.rc_links.specs.Scripts.{has_name, named, need, needs_from, needs_of, place_from, place_of, places_of}
 use Rattle.rc_links.proofs.NameLemmas.{cut_at}

@@ -1,5 +1,11 @@
+pub mod ChangeText
+pub mod Changes
+pub mod Entries
+pub mod EntryText
 pub mod FaultTexts
 pub mod Faults
+pub mod FolderText
+pub mod Folders
 pub mod Links
 pub mod Names
 pub mod PlannedText

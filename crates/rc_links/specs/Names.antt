@@ -3,7 +3,7 @@ use Rattle.std.specs.Prelude.{ℕ, Bool, not, ◌==◌, ◌||◌, ◌&&◌, List
 use Rattle.std.specs.Str.{byte}
 use Rattle.std.specs.List.{list_all}
 use Rattle.std.specs.Char.{is_ascii_alphanumeric}
-use Rattle.lsb_header.specs.Forms.{is_empty}
+use Rattle.rc_header.specs.Forms.{is_empty}
 
 -- a letter, a digit, '.', '_' or '-'
 abbrev pub is_name_byte : ℕ → Bool

@@ -3,7 +3,7 @@ use Rattle.std.specs.Prelude.{ℕ, ◌+◌, Bool, false, not, ◌==◌, ◌&&◌
 use Rattle.std.specs.List.{list_any, filter_map}
 use Rattle.std.specs.Option.{option_or}
 use Rattle.std.specs.Str.{bytes_eq}
-use Rattle.lsb_header.specs.HeaderText.{HeaderText}
+use Rattle.rc_header.specs.HeaderText.{HeaderText}
 use Rattle.rc_links.specs.declared.needs.Phase.{Phase}
 use Rattle.rc_links.specs.declared.needs.Phase.TheVariants as phase
 use Rattle.rc_links.specs.ScriptText.{ScriptText}

@@ -2,7 +2,10 @@
 //! cycle of names that rules numbers out (LSB Core 5.0), and the links of the runlevels' folders.
 #![tactic(auto)]
 
+mod changing;
 mod faults;
+mod folder_entries;
+mod folders;
 mod names;
 mod needs;
 mod planning;
@@ -11,8 +14,12 @@ mod printing;
 mod scripts;
 mod tables;
 
+pub use changing::{changes, is_taken};
 pub use faults::PlanFault;
+pub use folder_entries::{FolderEntry, is_same};
+pub use folders::{Act, Change, Folder};
 pub use names::{is_name, is_name_byte};
 pub use planning::plan;
 pub use plans::Plan;
+pub use printing::LEVELS;
 pub use scripts::Script;

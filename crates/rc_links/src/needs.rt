@@ -3,7 +3,7 @@
 ghost use Rattle.std.specs.Prelude.{string_bytes, ◌≡◌, ◌++◌, [], OnOk, IfOk, length, map};
 ghost use Rattle.std.specs.List.{cons_option};
 ghost use Rattle.std.specs.Option.{option_map};
-ghost use Rattle.link_numbers.specs.Numbering.{InRange};
+ghost use Rattle.rc_numbers.specs.Numbering.{InRange};
 ghost use Rattle.rc_links.specs.Scripts.{need, named, needs_of};
 ghost use Rattle.rc_links.specs.Tables.{HasPlaces, needs_by, place_in};
 

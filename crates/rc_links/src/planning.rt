@@ -2,7 +2,7 @@
 
 ghost use Rattle.std.specs.Prelude.{◌≡◌, ◌≤◌, ◌<◌, ◌++◌, ◌∷◌, [], IfOk, IfErr, IfSome, IfNone, None, OnOk, length, map, string_bytes};
 ghost use Rattle.std.specs.List.{AllByRecursion};
-ghost use Rattle.link_numbers.specs.Numbering.{AllBelow, HasNoNumbering, IsCycle};
+ghost use Rattle.rc_numbers.specs.Numbering.{AllBelow, HasNoNumbering, IsCycle};
 ghost use Rattle.rc_links.specs.Faults.{IsAnyDeep, IsRound, IsTooDeep, Round, Says};
 ghost use Rattle.rc_links.specs.Plans.{AreLeast, IsPlan, IsRefused, IsShort, names_at, planned, planned_all};
 ghost use Rattle.rc_links.specs.Scripts.{double_from, needs_of};
@@ -14,7 +14,7 @@ use crate::plans::{Plan, Planned};
 use crate::scripts::Script;
 use crate::tables::{Providers, check_missing, table_of};
 use init_words::Memory;
-use link_numbers::ordered;
+use rc_numbers::ordered;
 use std::alloc::Allocator;
 
 /// The greatest number of a link.

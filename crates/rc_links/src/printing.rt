@@ -7,8 +7,8 @@ use crate::plans::{Plan, Planned};
 use init_words::{Level, Memory};
 use std::alloc::Allocator;
 
-/// The runlevels in the order in which their links are printed.
-const LEVELS: [Level; 11] = [
+/// The runlevels that have a folder of links (LSB Core 5.0), in the order in which their links are printed.
+pub const LEVELS: [Level; 11] = [
     Level::L0,
     Level::L1,
     Level::L2,

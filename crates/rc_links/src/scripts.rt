@@ -2,7 +2,7 @@
 
 ghost use Rattle.std.specs.Prelude.{◌≡◌, string_bytes};
 
-use lsb_header::Header;
+use rc_header::Header;
 use std::alloc::{Allocator, Global};
 use std::marker::Model;
 

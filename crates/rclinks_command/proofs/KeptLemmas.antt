@@ -7,11 +7,11 @@ use Rattle.std.proofs.lemmas.Slice.Eq.{bytes_eq-Decides}
 use Rattle.init_words.specs.declared.levels.Level.{Level}
 use Rattle.init_words.specs.Levels.{same_level}
 use Rattle.init_words.proofs.Same.{same_level-is, same_level-self}
-use Rattle.link_changes.specs.ChangeText.{ChangeText}
-use Rattle.link_changes.specs.Entries.{same_entry}
-use Rattle.link_changes.specs.declared.folders.Act.TheVariants.{Remove}
+use Rattle.rc_links.specs.ChangeText.{ChangeText}
+use Rattle.rc_links.specs.Entries.{same_entry}
+use Rattle.rc_links.specs.declared.folders.Act.TheVariants.{Remove}
 use Rattle.rclinks_command.specs.Folders.{changed, changed_in}
-use Rattle.link_changes.specs.EntryText.{EntryText}
+use Rattle.rc_links.specs.EntryText.{EntryText}
 use Rattle.rclinks_command.specs.KeptLinks.{entries_in, is_kept_at, is_removed}
 use Rattle.rclinks_command.specs.KeptText.{KeptText}
 

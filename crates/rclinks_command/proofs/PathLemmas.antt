@@ -6,7 +6,7 @@ use Rattle.std.proofs.lemmas.Bool.Decides.{eqb_tells, nat_tests}
 use Rattle.std.proofs.lemmas.List.Folds.{list_any_at}
 use Rattle.std.proofs.lemmas.Bool.{true≢false}
 use Rattle.std.proofs.lemmas.Str.{IsUtf8-from_ascii}
-use Rattle.lsb_header.specs.Forms.{is_empty}
+use Rattle.rc_header.specs.Forms.{is_empty}
 use Rattle.rc_links.specs.Names.{is_name, is_name_byte}
 use Rattle.rclinks_command.specs.Files.{is_slash, last_part}
 

@@ -1,7 +1,7 @@
 -- What the paths of scripts give.
 use Rattle.std.proofs.Common.{◌≡◌, inl, inr, ℕ, suc, List, [], ◌∷◌, ◌++◌, length, get_or, slice_get, unwrap_or, None, Some, Contains, refl, ap, sym, subst, append_assoc, arith}
 use Rattle.std.proofs.lemmas.Option.{none-some}
-use Rattle.path_texts.specs.Known.{KnownTexts}
+use Rattle.program_io.specs.Known.{KnownTexts}
 use Rattle.rc_links.specs.ScriptText.{ScriptText}
 use Rattle.rclinks_command.specs.Command.{AreScripts, HasRefused}
 use Rattle.rclinks_command.specs.Files.{IsNoScriptAt, file_status}

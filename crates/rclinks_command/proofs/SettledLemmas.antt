@@ -8,14 +8,14 @@ use Rattle.init_words.specs.declared.levels.Level.{Level}
 use Rattle.init_words.specs.declared.levels.Level.TheVariants.{L0, L1, L2, L3, L4, L5, L6, L7, L8, L9, S}
 use Rattle.init_words.specs.Levels.{same_level}
 use Rattle.init_words.proofs.Same.{same_level-is}
-use Rattle.link_changes.specs.ChangeText.{ChangeText}
-use Rattle.link_changes.specs.Changes.{changes_of, is_missing, is_stale, making, removal, settled}
-use Rattle.link_changes.specs.Entries.{same_entry}
-use Rattle.link_changes.specs.EntryText.{EntryText}
-use Rattle.link_changes.specs.FolderText.{FolderText}
-use Rattle.link_changes.specs.Folders.{change_of}
-use Rattle.link_changes.specs.declared.folders.Act.{Act}
-use Rattle.link_changes.specs.declared.folders.Act.TheVariants.{Make, Remove}
+use Rattle.rc_links.specs.ChangeText.{ChangeText}
+use Rattle.rc_links.specs.Changes.{changes_of, is_missing, is_stale, making, removal, settled}
+use Rattle.rc_links.specs.Entries.{same_entry}
+use Rattle.rc_links.specs.EntryText.{EntryText}
+use Rattle.rc_links.specs.FolderText.{FolderText}
+use Rattle.rc_links.specs.Folders.{change_of}
+use Rattle.rc_links.specs.declared.folders.Act.{Act}
+use Rattle.rc_links.specs.declared.folders.Act.TheVariants.{Make, Remove}
 use Rattle.rc_links.specs.PlannedText.{PlannedText}
 use Rattle.rclinks_command.specs.Folders.{KnownFolders, changed, changed_by, changed_in}
 use Rattle.rclinks_command.specs.Writing.{AreFolders, IsFolder, all_levels, changes_in, planned_at, settled_in, targets_in}

@@ -1,7 +1,7 @@
 -- Changes, one more on, and the folders behind all of them.
 use Rattle.std.proofs.Common.{◌≡◌, ℕ, ◌+◌, ◌<◌, List, [], ◌∷◌, ◌++◌, length, get_or, drop, take, map, Some, sym, ap, ◌∙◌, append_assoc}
 use Rattle.rc_links.proofs.NameLemmas.{cut_at}
-use Rattle.link_changes.specs.ChangeText.{ChangeText}
+use Rattle.rc_links.specs.ChangeText.{ChangeText}
 use Rattle.rc_links.specs.PlannedText.{PlannedText}
 use Rattle.rclinks_command.specs.Folders.{Becomes, KnownFolders, changed_by, changed_in}
 use Rattle.rclinks_command.specs.Writing.{IsWritten, Wants}

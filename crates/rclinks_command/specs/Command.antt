@@ -6,8 +6,8 @@ use Rattle.std.specs.Str.{bytes_eq}
 use Rattle.std.specs.Io.KnownBytes.{Appends}
 use Rattle.std.specs.declared.alloc.Global.{Global}
 use Rattle.program_io.specs.Writing.{AppendsPrefix}
-use Rattle.path_texts.specs.Known.{KnownTexts}
-use Rattle.lsb_header.specs.Forms.{is_empty}
+use Rattle.program_io.specs.Known.{KnownTexts}
+use Rattle.rc_header.specs.Forms.{is_empty}
 use Rattle.rc_links.specs.Links.{plan_text}
 use Rattle.rc_links.specs.PlannedText.{PlannedText}
 use Rattle.rc_links.specs.Plans.{IsPlan, IsRefused}

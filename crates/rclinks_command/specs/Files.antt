@@ -3,11 +3,11 @@ use Rattle.std.specs.Prelude.{◌≡◌, ℕ, Bool, true, false, ◌==◌, if◌
 use Rattle.std.specs.List.{list_any}
 use Rattle.std.specs.IoError.{error_kind}
 use Rattle.std.specs.declared.io.ErrorKind.TheVariants.{OutOfMemory}
-use Rattle.lsb_header.specs.declared.faults.HeaderFault.{HeaderFault}
-use Rattle.lsb_header.specs.declared.faults.HeaderFault.TheVariants as header_fault
-use Rattle.lsb_header.specs.Headers.{header_read}
-use Rattle.lsb_header.specs.Places.{second_line}
-use Rattle.path_texts.specs.Known.{IsTextAt, KnownTexts}
+use Rattle.rc_header.specs.declared.faults.HeaderFault.{HeaderFault}
+use Rattle.rc_header.specs.declared.faults.HeaderFault.TheVariants as header_fault
+use Rattle.rc_header.specs.Headers.{header_read}
+use Rattle.rc_header.specs.Places.{second_line}
+use Rattle.program_io.specs.Known.{IsTextAt, KnownTexts}
 use Rattle.rc_links.specs.Names.{is_name}
 use Rattle.rc_links.specs.ScriptText.{ScriptText}
 use Rattle.rclinks_command.specs.declared.files.FileFault.{FileFault}

@@ -4,11 +4,11 @@ use Rattle.std.specs.List.{filter}
 use Rattle.std.specs.Str.{bytes_eq}
 use Rattle.init_words.specs.declared.levels.Level.{Level}
 use Rattle.init_words.specs.Levels.{same_level}
-use Rattle.link_changes.specs.ChangeText.{ChangeText}
-use Rattle.link_changes.specs.Entries.{same_entry}
-use Rattle.link_changes.specs.EntryText.{EntryText}
-use Rattle.link_changes.specs.declared.folders.Act.{Act}
-use Rattle.link_changes.specs.declared.folders.Act.TheVariants.{Make, Remove}
+use Rattle.rc_links.specs.ChangeText.{ChangeText}
+use Rattle.rc_links.specs.Entries.{same_entry}
+use Rattle.rc_links.specs.EntryText.{EntryText}
+use Rattle.rc_links.specs.declared.folders.Act.{Act}
+use Rattle.rc_links.specs.declared.folders.Act.TheVariants.{Make, Remove}
 
 -- the entries of each runlevel's folder in each directory, where they are known
 abbrev pub KnownFolders : Type 0

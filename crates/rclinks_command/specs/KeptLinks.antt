@@ -4,8 +4,8 @@ use Rattle.std.specs.List.{filter}
 use Rattle.std.specs.Str.{bytes_eq}
 use Rattle.init_words.specs.declared.levels.Level.{Level}
 use Rattle.init_words.specs.Levels.{same_level}
-use Rattle.link_changes.specs.Entries.{same_entry}
-use Rattle.link_changes.specs.EntryText.{EntryText}
+use Rattle.rc_links.specs.Entries.{same_entry}
+use Rattle.rc_links.specs.EntryText.{EntryText}
 use Rattle.rclinks_command.specs.KeptText.{KeptText}
 
 abbrev pub kept_link : List ℕ → Level → EntryText → KeptText

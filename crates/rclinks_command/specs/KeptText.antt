@@ -1,7 +1,7 @@
 -- An entry that is kept in memory.
 use Rattle.std.specs.Prelude.{ℕ, List}
 use Rattle.init_words.specs.declared.levels.Level.{Level}
-use Rattle.link_changes.specs.EntryText.{EntryText}
+use Rattle.rc_links.specs.EntryText.{EntryText}
 
 -- an entry of a runlevel's folder in a directory
 pub record KeptText : Type 0 where

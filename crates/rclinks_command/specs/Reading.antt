@@ -1,6 +1,6 @@
 -- The scripts of paths, some of which may give none.
 use Rattle.std.specs.Prelude.{◌≡◌, ◌⊎◌, ℕ, List, [], ◌∷◌, ◌++◌}
-use Rattle.path_texts.specs.Known.{KnownTexts}
+use Rattle.program_io.specs.Known.{KnownTexts}
 use Rattle.rc_links.specs.ScriptText.{ScriptText}
 use Rattle.rclinks_command.specs.Files.{IsNoScriptAt, IsScriptAt}
 use Rattle.rclinks_command.specs.declared.files.FileFault.{FileFault}

@@ -5,13 +5,13 @@ use Rattle.std.specs.Str.{bytes_eq}
 use Rattle.init_words.specs.declared.levels.Level.{Level}
 use Rattle.init_words.specs.declared.levels.Level.TheVariants.{L0, L1, L2, L3, L4, L5, L6, L7, L8, L9, S}
 use Rattle.init_words.specs.Levels.{level_code}
-use Rattle.link_changes.specs.ChangeText.{ChangeText}
-use Rattle.link_changes.specs.Changes.{changes_of, is_taken, settled}
-use Rattle.link_changes.specs.Entries.{entry_of}
-use Rattle.link_changes.specs.EntryText.{EntryText}
-use Rattle.link_changes.specs.FolderText.{FolderText}
-use Rattle.link_changes.specs.declared.folders.Act.{Act}
-use Rattle.link_changes.specs.declared.folders.Act.TheVariants.{Make, Remove}
+use Rattle.rc_links.specs.ChangeText.{ChangeText}
+use Rattle.rc_links.specs.Changes.{changes_of, is_taken, settled}
+use Rattle.rc_links.specs.Entries.{entry_of}
+use Rattle.rc_links.specs.EntryText.{EntryText}
+use Rattle.rc_links.specs.FolderText.{FolderText}
+use Rattle.rc_links.specs.declared.folders.Act.{Act}
+use Rattle.rc_links.specs.declared.folders.Act.TheVariants.{Make, Remove}
 use Rattle.rc_links.specs.Links.{linked_name, links_at}
 use Rattle.rc_links.specs.PlannedText.{PlannedText}
 use Rattle.rclinks_command.specs.Folders.{Becomes, KnownFolders, changed_by}

@@ -1,15 +1,14 @@
 //! The scripts and facility files that paths lead to.
 
 ghost use Rattle.std.specs.Prelude.{◌≡◌, true, false, None, Err, IfOk, IfErr, IfSome, string_bytes};
-ghost use Rattle.lsb_header.specs.Headers.{frame_fault};
+ghost use Rattle.rc_header.specs.Headers.{frame_fault};
 ghost use Rattle.rc_links.specs.Names.{is_name};
 ghost use Rattle.rclinks_command.specs.Files.{IsNoScript, IsNoScriptAt, IsScriptAt, IsScriptOf, file_status, last_part, refusal_of};
 
 use crate::remarks::tell_odd_lines;
 use init_words::Memory;
-use lsb_header::{HeaderFault, second_line};
-use path_texts::Texts;
-use program_io::{DEVICE_FAULT, REFUSED};
+use program_io::{DEVICE_FAULT, REFUSED, Texts};
+use rc_header::{HeaderFault, second_line};
 use rc_links::{Script, is_name};
 use std::alloc::Global;
 use std::io::Write;
@@ -115,7 +114,7 @@ pub fn script_in(alloc: Global, name: &[u8], text: &[u8]) -> Result<Script, File
     if !is_name(name) {
         return Err(FileFault::Name);
     }
-    match lsb_header::read(alloc, text) {
+    match rc_header::read(alloc, text) {
         Ok(header) => Ok(Script::new(name_of(alloc, name)?, header)),
         Err(fault) => Err(refusal_of(text, fault)),
     }

@@ -4,7 +4,7 @@ ghost use Rattle.std.specs.Prelude.{◌≡◌, IfOk, IfSome, OnOk, OnErr, string
 ghost use Rattle.rclinks_command.specs.Folders.{Becomes, KnownFolders, Stays, changed_in};
 
 use init_words::Level;
-use link_changes::{Act, Change, FolderEntry};
+use rc_links::{Act, Change, FolderEntry};
 use std::alloc::{AllocError, Allocator, Global};
 use std::fs::{DirEntry, read_dir, read_link};
 use std::io::ErrorKind;

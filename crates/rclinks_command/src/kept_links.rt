@@ -2,12 +2,12 @@
 
 ghost use Rattle.std.specs.Prelude.{◌≡◌, ◌++◌, ◌∷◌, [], not, map, IfOk, OnOk, OnErr};
 ghost use Rattle.std.specs.List.{filter};
-ghost use Rattle.link_changes.specs.Entries.{entry_of};
+ghost use Rattle.rc_links.specs.Entries.{entry_of};
 ghost use Rattle.rclinks_command.specs.KeptLinks.{entries_in, is_kept_at, is_removed, kept_link};
 
 use crate::folders::LinkFolders;
 use init_words::Level;
-use link_changes::{Act, Change, FolderEntry, is_same};
+use rc_links::{Act, Change, FolderEntry, is_same};
 use std::alloc::{AllocError, Global};
 use std::io;
 use std::marker::Model;

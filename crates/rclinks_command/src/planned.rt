@@ -2,32 +2,16 @@
 
 ghost use Rattle.std.specs.Prelude.{◌≡◌, IfOk, IfErr};
 ghost use Rattle.std.specs.List.{list_any};
-ghost use Rattle.link_changes.specs.Changes.{targets_of, is_taken};
+ghost use Rattle.rc_links.specs.Changes.{targets_of, is_taken};
 ghost use Rattle.rc_links.specs.Links.{linked_name};
 ghost use Rattle.rclinks_command.specs.Writing.{AreFolders, IsFolder, all_levels, has_taken, link_entry, planned_at, target_of, targets_in};
 
 use crate::folders::LinkFolders;
 use init_words::{Level, Memory};
-use link_changes::{Folder, FolderEntry, is_taken};
 use program_io::{DEVICE_FAULT, report_no_memory};
-use rc_links::Plan;
+use rc_links::{Folder, FolderEntry, LEVELS, Plan, is_taken};
 use std::alloc::Global;
 use std::io::Write;
-
-/// The runlevels that have a folder.
-const LEVELS: [Level; 11] = [
-    Level::L0,
-    Level::L1,
-    Level::L2,
-    Level::L3,
-    Level::L4,
-    Level::L5,
-    Level::L6,
-    Level::L7,
-    Level::L8,
-    Level::L9,
-    Level::S,
-];
 
 /// Where the link of a script leads.
 fn target_of(alloc: Global, name: &[u8]) -> Result<Vec<u8>, Memory>

@@ -6,7 +6,7 @@ ghost use Rattle.rclinks_command.specs.Reading.{Reads, ReadsOne};
 use crate::files::{FileFault, script_of};
 use crate::remarks::tell_odd_header;
 use init_words::Memory;
-use path_texts::Texts;
+use program_io::Texts;
 use rc_links::Script;
 use std::alloc::Global;
 use std::io::Write;

@@ -1,7 +1,7 @@
 //! Warnings: what stands in a header and counts for nothing.
 
 use init_words::Level;
-use lsb_header::{Header, Keyword, begun, block_line, known_of};
+use rc_header::{Header, Keyword, begun, block_line, known_of};
 use std::io::Write;
 use std::str;
 use text_lines::next_word;

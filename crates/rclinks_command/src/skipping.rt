@@ -19,7 +19,8 @@ fn leave_out<'w>(
     outs: &mut Vec<Script>,
 ) -> Result<(), Memory>
     requires { place < length scripts.old.items }
-    ensures { scripts.new.items ≡ take place scripts.old.items ++ drop (place + 1) scripts.old.items }
+    ensures { scripts.new.items
+        ≡ take place scripts.old.items ++ drop (place + 1) scripts.old.items }
 {
     if place < paths.len() {
         paths.remove(place);

@@ -7,9 +7,8 @@ ghost use Rattle.rclinks_command.specs.Writing.{IsTaken, IsWritten, IsWrittenPar
 use crate::folders::LinkFolders;
 use crate::planned::{folders_in, targets_in, tell_taken};
 use init_words::Memory;
-use link_changes::{Act, Change, changes};
 use program_io::{DEVICE_FAULT, DONE, REFUSED, report_no_memory, write_text};
-use rc_links::Plan;
+use rc_links::{Act, Change, Plan, changes};
 use std::alloc::Global;
 use std::io;
 use std::io::Write;

@@ -1,2 +1,2 @@
-pub mod WindowLemmas
 pub mod PastLemmas
+pub mod WindowLemmas

@@ -1,3 +1,3 @@
+pub mod Past
 pub mod State
 pub mod Window
-pub mod Past

@@ -4,18 +4,18 @@ use Rattle.std.specs.Prelude.{nat_le, nat_lt, unwrap_or}
 use Rattle.std.proofs.lemmas.Bool.{and_parts, cases_lt, leb-true, ltb-true}
 use Rattle.std.proofs.lemmas.List.{get_or-map, get_or_append_left, length-map, map-append, take-append-drop}
 use Rattle.std.proofs.Math.Seq.{get_or-append_seam}
-use Rattle.init_trace.specs.declared.happenings.Handed.{Handed as HandOver}
-use Rattle.init_trace.specs.declared.happenings.Handed.TheVariants as handed
+use Rattle.trace_events.specs.declared.happenings.Handed.{Handed as HandOver}
+use Rattle.trace_events.specs.declared.happenings.Handed.TheVariants as handed
 use Rattle.core_model.specs.Parts.{SavedState, state_of}
 use Rattle.core_model.specs.Rebuilding.{core_of}
 use Rattle.core_model.specs.Rules.{IsFit}
 use Rattle.core_model.specs.State.{CoreState}
 use Rattle.core_model.specs.Steps.{after_handed_on}
 use Rattle.core_model.proofs.Rebuilt.{core_is}
-use Rattle.state_text.specs.Refused.{IsTextOf}
-use Rattle.state_text.proofs.Ends.{no_prefix}
-use Rattle.state_text.proofs.Prefixes.{one_state}
-use Rattle.simulated_system.specs.declared.objections.Objection.{Objection}
+use Rattle.core_text.specs.Refused.{IsTextOf}
+use Rattle.core_text.proofs.Ends.{no_prefix}
+use Rattle.core_text.proofs.Prefixes.{one_state}
+use Rattle.simulator.specs.declared.objections.Objection.{Objection}
 use Rattle.simulator.specs.Handing.{after_hand, has_next, is_made, kept_texts, objection_handed, taken_of, text_made}
 use Rattle.simulator.specs.Texts.{AreMade, HasTexts, IsForeign, IsOfGeneration, IsTakenOver}
 

@@ -2,40 +2,40 @@
 use Rattle.std.proofs.Common.{OnOk, Result, Ok, Err, IfOk, Bool, true, false, ◌&&◌, cond, ◌≡◌, ◌≢◌, ◌++◌, ℕ, List, ◌∷◌, Option, Some, None, is_some, is_none, refl, sym, ap, ◌∙◌, append_assoc, subst, length, inr}
 use Rattle.std.specs.Prelude.{nat_lt}
 use Rattle.std.proofs.lemmas.Bool.{false≢true, and_parts, and_from}
-use Rattle.initctl_frame.specs.declared.requests.Got.{Got as Request}
+use Rattle.initctl_frame.specs.declared.requests.HeardRequest.{HeardRequest as Request}
 use Rattle.inittab_text.specs.Tables.{is_distinct}
 use Rattle.inittab_text.proofs.Entries.{table_parts}
 use Rattle.init_words.specs.declared.entries.Entry.{Entry}
-use Rattle.init_trace.specs.declared.happenings.Happening.TheVariants as event
-use Rattle.init_trace.specs.declared.happenings.Handed.{Handed as HandOver}
-use Rattle.init_trace.specs.declared.happenings.Handed.TheVariants as handed
-use Rattle.init_trace.specs.declared.steps.Goal.{Goal}
-use Rattle.init_trace.specs.Event.{Event}
-use Rattle.init_trace.specs.Range.{is_in_range, are_in_range}
-use Rattle.init_trace.specs.Past.{is_untold, is_quiet}
-use Rattle.init_trace.specs.Answered.{answered_of}
-use Rattle.init_trace.specs.Due.{due, first}
+use Rattle.trace_events.specs.declared.happenings.Happening.TheVariants as event
+use Rattle.trace_events.specs.declared.happenings.Handed.{Handed as HandOver}
+use Rattle.trace_events.specs.declared.happenings.Handed.TheVariants as handed
+use Rattle.trace_events.specs.declared.steps.Goal.{Goal}
+use Rattle.trace_events.specs.Event.{Event}
+use Rattle.trace_events.specs.Range.{is_in_range, are_in_range}
+use Rattle.trace_events.specs.Past.{is_untold, is_quiet}
+use Rattle.trace_events.specs.Answered.{answered_of}
+use Rattle.trace_events.specs.Due.{due, first}
 use Rattle.trace_text.specs.Lines.{event_text}
-use Rattle.init_trace.specs.Run.{is_run, is_rest, is_reread}
-use Rattle.init_trace.specs.Sound.{may_come, is_sound}
+use Rattle.trace_events.specs.Run.{is_run, is_rest, is_reread}
+use Rattle.trace_events.specs.Sound.{may_come, is_sound}
 use Rattle.trace_laws.proofs.Runs.{run_sound}
 use Rattle.trace_laws.proofs.Told.{answered_untold}
-use Rattle.child_table.specs.Lists as lists
+use Rattle.core_records.specs.Lists as lists
 use Rattle.core_model.specs.State.{CoreState}
 use Rattle.core_model.specs.Fit.{FitsAll, is_act}
 use Rattle.core_model.proofs.Fitted.{fit_records, all_on}
 use Rattle.core_model.proofs.Reading.{quiet_same}
 use Rattle.core_model.proofs.Hearing.{fits_act}
-use Rattle.simulated_system.specs.declared.objections.Objection.{Objection}
-use Rattle.simulated_system.specs.declared.objections.Objection.TheVariants as objection
-use Rattle.simulated_system.specs.State.{SystemState}
-use Rattle.simulated_system.specs.Objections.{unless}
-use Rattle.simulated_system.specs.Follows.{Follows}
-use Rattle.simulated_system.proofs.Allowing.{none_may}
+use Rattle.simulator.specs.declared.objections.Objection.{Objection}
+use Rattle.simulator.specs.declared.objections.Objection.TheVariants as objection
+use Rattle.simulator.specs.State.{SystemState}
+use Rattle.simulator.specs.Objections.{unless}
+use Rattle.simulator.specs.Follows.{Follows}
+use Rattle.simulator.proofs.Allowing.{none_may}
 use Rattle.simulator.specs.declared.running.SimFault.{SimFault}
 use Rattle.simulator.specs.declared.running.SimFault.TheVariants as fault
 use Rattle.simulator.specs.Handing.{are_handed, made_in, may_hand, has_next, is_made, text_at, text_made}
-use Rattle.simulator.specs.Moments.{LastsTo, Moment, AtRest, IsReadyFor, GoesOn, HearsLine, HeardBreaks, HeardEnds}
+use Rattle.simulator.specs.Moments.{LastsTo, Moment, AtRest, IsReadyFor, SimulationGoesOn, HearsLine, HeardBreaks, HeardEnds}
 use Rattle.simulator.specs.Said.{is_scripted, may_be_scripted, objection_in, objection_now, IsObjected, heard}
 use Rattle.simulator.specs.Simulation.{past_text}
 use Rattle.simulator.proofs.Moves.{first_more, handed_part, heard_more, run_hears, said_parts, past_text-more}
@@ -191,7 +191,7 @@ hears_one goal past happening runs ranged may =
     }
 
 -- a happening was heard, and init went on
-pub hears_goes : (goal : Goal) (past mid next : List Event) (said more after : List ℕ) → HearsLine goal past mid said more → GoesOn mid next after → HearsLine goal past next said (more ++ after)
+pub hears_goes : (goal : Goal) (past mid next : List Event) (said more after : List ℕ) → HearsLine goal past mid said more → SimulationGoesOn mid next after → HearsLine goal past next said (more ++ after)
 hears_goes goal past mid next said more after hears goes = record {
   opens = goes.opens ∙ hears.opens;
   handed = λ before. goes.handed goal ∙ hears.handed before;

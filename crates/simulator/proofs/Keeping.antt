@@ -7,30 +7,30 @@ use Rattle.init_words.specs.declared.orders.Answer.{Answer}
 use Rattle.init_words.specs.declared.stages.Stage.{Stage}
 use Rattle.init_words.specs.declared.stages.Stage.TheVariants as stage
 use Rattle.init_words.specs.Levels.{same_level}
-use Rattle.initctl_frame.specs.declared.requests.Got.{Got as Request}
-use Rattle.initctl_frame.specs.declared.requests.Got.TheVariants as got
-use Rattle.init_trace.specs.declared.happenings.Happening.TheVariants as event
-use Rattle.init_trace.specs.declared.happenings.Handed.{Handed as HandOver}
-use Rattle.init_trace.specs.declared.happenings.Handed.TheVariants as handed
-use Rattle.init_trace.specs.declared.steps.Goal.{Goal}
-use Rattle.init_trace.specs.declared.steps.Step.{Step}
-use Rattle.init_trace.specs.declared.steps.Step.TheVariants.{Enter, Call, Power, Reread, Order, Hold, Settle, Reexec, Idle}
-use Rattle.init_trace.specs.Event.{Event}
-use Rattle.init_trace.specs.Past.{stage_of}
-use Rattle.init_trace.specs.Range.{is_request}
-use Rattle.init_trace.specs.Wishes.{in_run, level_wish}
-use Rattle.core_model.specs.declared.parts.Heads.{Heads}
+use Rattle.initctl_frame.specs.declared.requests.HeardRequest.{HeardRequest as Request}
+use Rattle.initctl_frame.specs.declared.requests.HeardRequest.TheVariants as got
+use Rattle.trace_events.specs.declared.happenings.Happening.TheVariants as event
+use Rattle.trace_events.specs.declared.happenings.Handed.{Handed as HandOver}
+use Rattle.trace_events.specs.declared.happenings.Handed.TheVariants as handed
+use Rattle.trace_events.specs.declared.steps.Goal.{Goal}
+use Rattle.trace_events.specs.declared.steps.Step.{Step}
+use Rattle.trace_events.specs.declared.steps.Step.TheVariants.{Enter, Call, Power, Reread, Order, Hold, Settle, Reexec, Idle}
+use Rattle.trace_events.specs.Event.{Event}
+use Rattle.trace_events.specs.Past.{stage_of}
+use Rattle.trace_events.specs.Range.{is_request}
+use Rattle.trace_events.specs.Wishes.{in_run, level_wish}
+use Rattle.core_model.specs.declared.parts.CoreFields.{CoreFields}
 use Rattle.core_model.specs.Decide.{decide}
 use Rattle.core_model.specs.Fit.{FitsAll, lasts_of, core_read, with_step}
 use Rattle.core_model.specs.State.{CoreState}
 use Rattle.core_model.specs.Steps.{wished, heard_in, after_step, after_adopt, after_clock, after_got, after_not_read, after_round, after_told}
 use Rattle.core_model.proofs.Fitted.{own_read}
-use Rattle.state_text.specs.Range.{has_short_seconds}
-use Rattle.reexec_state.proofs.Lasting.{step_lasts, request_lasts}
+use Rattle.core_text.specs.Range.{has_short_seconds}
+use Rattle.core_handover.proofs.Lasting.{step_lasts, request_lasts}
 use Rattle.simulator.specs.Handing.{made_in, kept_goal, kept_at, after_hand}
 use Rattle.simulator.specs.Moments.{LastsTo}
 use Rattle.simulator.specs.Said.{is_scripted}
-use Rattle.reexec_state.proofs.Generations.{request_same}
+use Rattle.core_handover.proofs.Generations.{request_same}
 
 -- what init keeps is what the trace says of it
 pub kept_is : (core : CoreState) (goal : Goal) (past : List Event) → FitsAll core goal past → LastsTo core goal past → core ≡ kept_at goal past
@@ -75,7 +75,7 @@ lasts_step core new s decides is goal past fits lasts = lasts_as new (after_step
 
 -- ---- behind what is heard
 
-heard_goal : (now : Option Stage) (wish : Goal) (heads : Heads) → (heard_in now wish heads).goal ≡ cond (in_run now) heads.goal wish
+heard_goal : (now : Option Stage) (wish : Goal) (heads : CoreFields) → (heard_in now wish heads).goal ≡ cond (in_run now) heads.goal wish
 heard_goal None wish heads = refl
 heard_goal (Some stage.Sysinit) wish heads = refl
 heard_goal (Some stage.Boot) wish heads = refl

@@ -1,8 +1,11 @@
+pub mod Allowing
 pub mod Foreign
 pub mod Hearing
 pub mod Keeping
 pub mod Moves
+pub mod Numbers
 pub mod Only
 pub mod Opening
 pub mod Rereading
+pub mod Taking
 pub mod Whole

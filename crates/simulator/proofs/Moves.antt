@@ -3,28 +3,28 @@ use Rattle.std.proofs.Common.{Result, Ok, Err, IfErr, Bool, true, false, ◌&&�
 use Rattle.std.specs.Io.KnownBytes.{Appends}
 use Rattle.std.proofs.KnownBytes.{Appends-nil, Appends-trans}
 use Rattle.std.proofs.lemmas.Bool.{false≢true, and_parts}
-use Rattle.init_trace.specs.declared.happenings.Happening.TheVariants as event
-use Rattle.init_trace.specs.declared.steps.Step.{Step}
-use Rattle.init_trace.specs.declared.steps.Step.TheVariants.{Enter, Call, Power, Reread, Order, Hold, Settle, Reexec, Idle}
-use Rattle.init_trace.specs.declared.steps.Goal.{Goal}
-use Rattle.init_trace.specs.Event.{Event}
-use Rattle.init_trace.specs.Due.{due, first}
+use Rattle.trace_events.specs.declared.happenings.Happening.TheVariants as event
+use Rattle.trace_events.specs.declared.steps.Step.{Step}
+use Rattle.trace_events.specs.declared.steps.Step.TheVariants.{Enter, Call, Power, Reread, Order, Hold, Settle, Reexec, Idle}
+use Rattle.trace_events.specs.declared.steps.Goal.{Goal}
+use Rattle.trace_events.specs.Event.{Event}
+use Rattle.trace_events.specs.Due.{due, first}
 use Rattle.trace_text.specs.Lines.{event_text, trace_text}
-use Rattle.init_trace.specs.Run.{is_run, is_next, is_rest, is_reread}
-use Rattle.init_trace.specs.Sound.{may_come, is_sound}
+use Rattle.trace_events.specs.Run.{is_run, is_next, is_rest, is_reread}
+use Rattle.trace_events.specs.Sound.{may_come, is_sound}
 use Rattle.trace_laws.proofs.Runs.{first_due, same_step-self, run_sound}
 use Rattle.std.proofs.lemmas.Grind.{reverse_onto}
 use Rattle.std.proofs.lemmas.List.{append-nil}
 use Rattle.core_model.specs.State.{CoreState}
 use Rattle.core_model.specs.Fit.{FitsAll, StillFits, OnEachTrace, with_step}
 use Rattle.core_model.proofs.Fitted.{all_on}
-use Rattle.simulated_system.specs.State.{SystemState}
-use Rattle.simulated_system.specs.Follows.{Follows}
+use Rattle.simulator.specs.State.{SystemState}
+use Rattle.simulator.specs.Follows.{Follows}
 use Rattle.simulator.specs.declared.running.SimFault.{SimFault}
 use Rattle.simulator.specs.declared.running.SimFault.TheVariants as fault
 use Rattle.simulator.specs.Faults.{Leaves}
 use Rattle.simulator.specs.Handing.{are_handed, may_hand}
-use Rattle.simulator.specs.Moments.{LastsTo, Moment, AtRest, GoesOn}
+use Rattle.simulator.specs.Moments.{LastsTo, Moment, AtRest, SimulationGoesOn}
 use Rattle.simulator.specs.Said.{is_scripted, may_be_scripted, first_table, heard}
 use Rattle.simulator.specs.Simulation.{past_text}
 
@@ -137,7 +137,7 @@ pub past_text-more : (happening : Event) (past : List Event) → past_text (happ
 past_text-more happening past = ap trace_text (reverse_onto past happening []) ∙ trace_text-append (reverse past) (happening ∷ []) ∙ ap (λ text. past_text past ++ text) (append-nil (event_text happening))
 
 -- the trace went on by a step of init
-pub goes_step : (goal : Goal) (s : Step) (happening : Event) (past next : List Event) (more : List ℕ) → is_run goal next ≡ true → with_step s next ≡ happening ∷ next → GoesOn past next more → GoesOn past (happening ∷ next) (more ++ event_text happening)
+pub goes_step : (goal : Goal) (s : Step) (happening : Event) (past next : List Event) (more : List ℕ) → is_run goal next ≡ true → with_step s next ≡ happening ∷ next → SimulationGoesOn past next more → SimulationGoesOn past (happening ∷ next) (more ++ event_text happening)
 goes_step goal s happening past next more runs added goes = record {
   opens = ap first_table (sym added) ∙ step_first goal s next runs ∙ goes.opens;
   handed = λ of. ap (are_handed of) (sym added) ∙ step_handed of s next ∙ goes.handed of;
@@ -151,7 +151,7 @@ more_run goal past happening s is added runs = subst (λ t. is_run goal t ≡ tr
 
 -- init went on from a moment to another, and wrote what it did
 abbrev pub WentOn : Goal → List Event → CoreState → SystemState → Option (List ℕ) → Option (List ℕ) → Type 0
-WentOn goal past core side old new = (next : List Event) × (more : List ℕ) × Moment goal next core side × GoesOn past next more × Appends old new more
+WentOn goal past core side old new = (next : List Event) × (more : List ℕ) × Moment goal next core side × SimulationGoesOn past next more × Appends old new more
 
 -- a step of the core and of the system's side
 module _ (core new_core : CoreState) (side new_side : SystemState) (s : Step) (happening : Event) (due_now : OnEachTrace core (λ goal past. s ≡ first (due goal past)))

@@ -13,18 +13,18 @@ use Rattle.init_words.specs.Levels.{same_letter}
 use Rattle.init_words.specs.Orders.{same_ask, same_power, same_stage}
 use Rattle.init_words.specs.Ids.{same_id}
 use Rattle.init_words.proofs.Same.{same_ask-is, same_id-is, same_level-is}
-use Rattle.init_trace.specs.declared.happenings.Happening.TheVariants as event
-use Rattle.init_trace.specs.declared.steps.Goal.{Goal}
-use Rattle.init_trace.specs.declared.steps.Step.{Step}
-use Rattle.init_trace.specs.declared.steps.Step.TheVariants.{Enter, Call, Power, Reread, Order, Hold, Settle, Reexec, Idle}
-use Rattle.init_trace.specs.Due.{due, first, same_step}
-use Rattle.init_trace.specs.Event.{Event}
-use Rattle.init_trace.specs.Run.{is_next, is_rest, is_reread, is_run, step_in}
-use Rattle.init_trace.specs.Sound.{may_come}
+use Rattle.trace_events.specs.declared.happenings.Happening.TheVariants as event
+use Rattle.trace_events.specs.declared.steps.Goal.{Goal}
+use Rattle.trace_events.specs.declared.steps.Step.{Step}
+use Rattle.trace_events.specs.declared.steps.Step.TheVariants.{Enter, Call, Power, Reread, Order, Hold, Settle, Reexec, Idle}
+use Rattle.trace_events.specs.Due.{due, first, same_step}
+use Rattle.trace_events.specs.Event.{Event}
+use Rattle.trace_events.specs.Run.{is_next, is_rest, is_reread, is_run, step_in}
+use Rattle.trace_events.specs.Sound.{may_come}
 use Rattle.core_model.specs.Fit.{with_step}
 use Rattle.simulator.specs.Said.{first_table, heard, is_scripted}
 use Rattle.std.proofs.lemmas.Grind.{reverse_onto}
-use Rattle.init_trace.specs.Range.{is_in_range, are_in_range}
+use Rattle.trace_events.specs.Range.{is_in_range, are_in_range}
 use Rattle.trace_text.proofs.ReadTexts.{are_in_range-push, one_trace}
 use Rattle.simulator.specs.Simulation.{Rested, Scenario, goal_in, heard_text, past_text}
 use Rattle.simulator.proofs.Moves.{first_more, heard_more}

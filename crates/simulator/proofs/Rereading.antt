@@ -6,22 +6,22 @@ use Rattle.init_words.specs.declared.entries.Entry.{Entry}
 use Rattle.init_words.specs.declared.levels.Letter.{Letter}
 use Rattle.init_words.specs.declared.stages.Stage.{Stage}
 use Rattle.init_words.specs.declared.stages.Stage.TheVariants as stage
-use Rattle.init_words.specs.declared.orders.Ask.{Ask}
-use Rattle.init_words.specs.declared.orders.Ask.TheVariants.{Start, Look}
+use Rattle.init_words.specs.declared.orders.OrderKind.{OrderKind}
+use Rattle.init_words.specs.declared.orders.OrderKind.TheVariants.{Start, Look}
 use Rattle.init_words.specs.declared.orders.PowerKind.{PowerKind}
 use Rattle.init_words.specs.Actions.{is_limited}
 use Rattle.init_words.proofs.Tests.{both_ways}
-use Rattle.init_trace.specs.declared.steps.Step.{Step}
-use Rattle.init_trace.specs.declared.steps.Step.TheVariants.{Call, Power, Order, Hold, Settle, Reexec}
-use Rattle.init_trace.specs.declared.steps.Goal.{Goal}
-use Rattle.init_trace.specs.Event.{Event}
-use Rattle.init_trace.specs.Past.{stage_of, table_of, Child, is_of, open_of, is_quiet, is_idle, known_children}
-use Rattle.init_trace.specs.Wanted.{is_owed}
-use Rattle.init_trace.specs.Spells.{stop_due}
-use Rattle.init_trace.specs.Timing.{is_held, is_full}
-use Rattle.init_trace.specs.Wishes.{in_run, goal_of, wants_reexec, level_wish, keeps_power, keeps_letter, powers, letters, wish_stands}
-use Rattle.init_trace.specs.Due.{step_if, steps_if, none_excluded, due_first, due_reexec, due_reread, due_level, enter_level, due_news, power_steps, letter_steps, due_stops, stops_among, stops_of, stop_step, due_starts, starts_among, start_steps, can_start, due_stage, next_stage, is_over, due_settle, settle_step, is_announced, is_settled, due_looks, looks_among, can_look, record_ids, due, first}
-use Rattle.init_trace.specs.Run.{is_reread}
+use Rattle.trace_events.specs.declared.steps.Step.{Step}
+use Rattle.trace_events.specs.declared.steps.Step.TheVariants.{Call, Power, Order, Hold, Settle, Reexec}
+use Rattle.trace_events.specs.declared.steps.Goal.{Goal}
+use Rattle.trace_events.specs.Event.{Event}
+use Rattle.trace_events.specs.Past.{stage_of, table_of, Child, is_of, open_of, is_quiet, is_idle, known_children}
+use Rattle.trace_events.specs.Wanted.{is_owed}
+use Rattle.trace_events.specs.Spells.{stop_due}
+use Rattle.trace_events.specs.Timing.{is_held, is_full}
+use Rattle.trace_events.specs.Wishes.{in_run, goal_of, wants_reexec, level_wish, keeps_power, keeps_letter, powers, letters, wish_stands}
+use Rattle.trace_events.specs.Due.{step_if, steps_if, none_excluded, due_first, due_reexec, due_reread, due_level, enter_level, due_news, power_steps, letter_steps, due_stops, stops_among, stops_of, stop_step, due_starts, starts_among, start_steps, can_start, due_stage, next_stage, is_over, due_settle, settle_step, is_announced, is_settled, due_looks, looks_among, can_look, record_ids, due, first}
+use Rattle.trace_events.specs.Run.{is_reread}
 
 -- none of the steps is to read inittab
 abbrev HasNone : List Step → Type 0
@@ -59,7 +59,7 @@ none_letter : (called : List Letter) (past : List Event) → HasNone (letter_ste
 none_letter [] past = refl
 none_letter (letter ∷ called) past = none_append (step_if (keeps_letter letter past) (Call letter)) (letter_steps called past) (none_one (keeps_letter letter past) (Call letter) refl) (none_letter called past)
 
-none_stop : (id : List ℕ) (o : Option Ask) → HasNone (stop_step id o)
+none_stop : (id : List ℕ) (o : Option OrderKind) → HasNone (stop_step id o)
 none_stop id None = refl
 none_stop id (Some ask) = refl
 

@@ -6,24 +6,24 @@ use Rattle.std.proofs.lemmas.List.{append-nil}
 use Rattle.init_words.specs.declared.entries.Entry.{Entry}
 use Rattle.inittab_text.specs.Reading.{table_of_text}
 use Rattle.inittab_text.proofs.Distinct.{distinct_text}
-use Rattle.init_trace.specs.declared.happenings.Happening.TheVariants.{NewTable}
-use Rattle.init_trace.specs.declared.steps.Goal.{Goal}
-use Rattle.init_trace.specs.Event.{Event}
+use Rattle.trace_events.specs.declared.happenings.Happening.TheVariants.{NewTable}
+use Rattle.trace_events.specs.declared.steps.Goal.{Goal}
+use Rattle.trace_events.specs.Event.{Event}
 use Rattle.trace_text.specs.Lines.{event_text}
-use Rattle.init_trace.specs.Range.{is_in_range, are_in_range}
+use Rattle.trace_events.specs.Range.{is_in_range, are_in_range}
 use Rattle.trace_text.specs.Texts.{line_count, BeginsNone}
 use Rattle.trace_text.proofs.ReadTexts.{counted_on}
 use Rattle.text_lines.specs.Lines.{newlines}
-use Rattle.init_trace.specs.Run.{is_run}
+use Rattle.trace_events.specs.Run.{is_run}
 use Rattle.core_model.specs.State.{CoreState}
 use Rattle.core_model.specs.Fit.{FitsAll}
-use Rattle.simulated_system.specs.State.{SystemState}
-use Rattle.simulated_system.specs.Follows.{Follows}
+use Rattle.simulator.specs.State.{SystemState}
+use Rattle.simulator.specs.Follows.{Follows}
 use Rattle.simulator.specs.declared.running.SimFault.{SimFault}
 use Rattle.simulator.specs.declared.running.SimFault.TheVariants as fault
 use Rattle.simulator.specs.Faults.{Leaves}
 use Rattle.simulator.proofs.Opening.{OpeningEnds}
-use Rattle.simulator.specs.Moments.{LastsTo, Moment, GoesOn, HearsLine, ComesToRest, Breaks, FromRest, HeardOne, HeardBreaks, HeardEnds, SoFar, opening_text}
+use Rattle.simulator.specs.Moments.{LastsTo, Moment, SimulationGoesOn, HearsLine, ComesToRest, Breaks, FromRest, HeardOne, HeardBreaks, HeardEnds, SoFar, opening_text}
 use Rattle.simulator.specs.Simulation.{Scenario, table_in, goal_in, script_in, past_text, heard_text, RunOver, Broken, Ends, Done}
 use Rattle.simulator.proofs.Moves.{leaves_behind, memory_after}
 
@@ -44,7 +44,7 @@ first_run : (s : Scenario) → RunOver s (script_in s) (opening s)
 first_run s = record { runs = distinct_text s.inittab; handed = refl; opens = refl; are = refl; hears = refl }
 
 -- nothing was heard yet, and init went on
-run_first : (s : Scenario) (next : List Event) (more : List ℕ) → is_run (goal_in s) next ≡ true → GoesOn (opening s) next more → RunOver s (script_in s) next
+run_first : (s : Scenario) (next : List Event) (more : List ℕ) → is_run (goal_in s) next ≡ true → SimulationGoesOn (opening s) next more → RunOver s (script_in s) next
 run_first s next more runs goes = record {
   runs = runs;
   handed = goes.handed (goal_in s);

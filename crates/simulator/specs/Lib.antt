@@ -1,6 +1,10 @@
 pub mod Faults
+pub mod Follows
 pub mod Handing
 pub mod Moments
+pub mod Objections
 pub mod Said
 pub mod Simulation
+pub mod State
+pub mod Steps
 pub mod Texts

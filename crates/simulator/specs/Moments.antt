@@ -1,21 +1,21 @@
 -- A moment of a simulated run, and what init's own steps make of it.
 use Rattle.std.specs.Prelude.{◌≡◌, ◌⊎◌, ℕ, Bool, true, false, ◌+◌, List, [], ◌∷◌, ◌++◌, Option}
 use Rattle.std.specs.Io.KnownBytes.{Appends, Keeps}
-use Rattle.init_trace.specs.declared.steps.Goal.{Goal}
-use Rattle.init_trace.specs.Event.{Event}
+use Rattle.trace_events.specs.declared.steps.Goal.{Goal}
+use Rattle.trace_events.specs.Event.{Event}
 use Rattle.inittab_text.specs.Reading.{table_of_text}
-use Rattle.init_trace.specs.declared.happenings.Happening.TheVariants.{NewTable, Handed}
+use Rattle.trace_events.specs.declared.happenings.Happening.TheVariants.{NewTable, Handed}
 use Rattle.trace_text.specs.Lines.{event_text}
-use Rattle.init_trace.specs.Range.{are_in_range}
+use Rattle.trace_events.specs.Range.{are_in_range}
 use Rattle.text_lines.specs.Lines.{newlines}
-use Rattle.init_trace.specs.Due.{due, first}
-use Rattle.init_trace.specs.Run.{is_run, is_rest, is_reread}
-use Rattle.child_table.specs.Lists.{is_quiet}
+use Rattle.trace_events.specs.Due.{due, first}
+use Rattle.trace_events.specs.Run.{is_run, is_rest, is_reread}
+use Rattle.core_records.specs.Lists.{is_quiet}
 use Rattle.core_model.specs.State.{CoreState}
 use Rattle.core_model.specs.Fit.{FitsAll}
-use Rattle.state_text.specs.Range.{has_short_seconds}
-use Rattle.simulated_system.specs.State.{SystemState}
-use Rattle.simulated_system.specs.Follows.{Follows}
+use Rattle.core_text.specs.Range.{has_short_seconds}
+use Rattle.simulator.specs.State.{SystemState}
+use Rattle.simulator.specs.Follows.{Follows}
 use Rattle.simulator.specs.declared.running.SimFault.{SimFault}
 use Rattle.simulator.specs.declared.running.SimFault.TheVariants as fault
 use Rattle.simulator.specs.Faults.{Leaves}
@@ -47,7 +47,7 @@ FromMoment core side P = (goal : Goal) (past : List Event) → Moment goal past 
 
 -- the trace went on from past to next: it begins with the same table, nothing was heard and nothing handed over, and
 -- this text is more
-pub record GoesOn (past next : List Event) (more : List ℕ) : Type 0 where
+pub record SimulationGoesOn (past next : List Event) (more : List ℕ) : Type 0 where
   pub opens : first_table next ≡ first_table past
   pub handed : (goal : Goal) → are_handed goal next ≡ are_handed goal past
   pub hears : heard next ≡ heard past
@@ -70,13 +70,14 @@ FromRest rereads core side P =
 -- init went on until it rests, and wrote what it did
 abbrev pub ComesToRest : Goal → List Event → Bool → CoreState → SystemState → Option (List ℕ) → Option (List ℕ) → Type 0
 ComesToRest goal past rereads core side old new =
-    (next : List Event) × (more : List ℕ) × AtRest goal next rereads core side × GoesOn past next more
+    (next : List Event) × (more : List ℕ) × AtRest goal next rereads core side × SimulationGoesOn past next more
     × Appends old new more
 
 -- init went on, and was writing what it did when the fault came
 abbrev pub Breaks : Goal → List Event → SimFault → Option (List ℕ) → Option (List ℕ) → Type 0
 Breaks goal past f old new =
-    (next : List Event) × (more : List ℕ) × (is_run goal next ≡ true) × GoesOn past next more × Leaves f old new more
+    (next : List Event) × (more : List ℕ) × (is_run goal next ≡ true) × SimulationGoesOn past next more
+    × Leaves f old new more
 
 -- a table is adopted where no start and no signal is open in the core, and a hand-over is made where it can be
 abbrev pub IsReadyFor : Event → CoreState → Type 0

@@ -1,18 +1,18 @@
 -- What a script may say where, and what was heard of it.
 use Rattle.std.specs.Prelude.{◌≡◌, ℕ, Bool, true, ◌&&◌, if◌then◌else◌, List, [], ◌∷◌, length, Option, Some}
 use Rattle.init_words.specs.declared.entries.Entry.{Entry}
-use Rattle.init_trace.specs.declared.happenings.Happening.TheVariants.{NewTable, NotRead, Handed}
-use Rattle.init_trace.specs.declared.steps.Goal.{Goal}
-use Rattle.init_trace.specs.Event.{Event}
-use Rattle.init_trace.specs.Due.{due, first}
-use Rattle.init_trace.specs.Run.{is_next, is_reread}
-use Rattle.init_trace.specs.Sound.{may_come}
-use Rattle.simulated_system.specs.declared.objections.Objection.{Objection}
-use Rattle.simulated_system.specs.declared.objections.Objection.TheVariants as objection
-use Rattle.simulated_system.specs.State.{SystemState}
-use Rattle.simulated_system.specs.Steps.{is_script}
-use Rattle.simulated_system.specs.Objections.{unless, objection_to}
-use Rattle.simulated_system.specs.Follows.{Follows}
+use Rattle.trace_events.specs.declared.happenings.Happening.TheVariants.{NewTable, NotRead, Handed}
+use Rattle.trace_events.specs.declared.steps.Goal.{Goal}
+use Rattle.trace_events.specs.Event.{Event}
+use Rattle.trace_events.specs.Due.{due, first}
+use Rattle.trace_events.specs.Run.{is_next, is_reread}
+use Rattle.trace_events.specs.Sound.{may_come}
+use Rattle.simulator.specs.declared.objections.Objection.{Objection}
+use Rattle.simulator.specs.declared.objections.Objection.TheVariants as objection
+use Rattle.simulator.specs.State.{SystemState}
+use Rattle.simulator.specs.Steps.{is_script}
+use Rattle.simulator.specs.Objections.{unless, objection_to}
+use Rattle.simulator.specs.Follows.{Follows}
 use Rattle.simulator.specs.Handing.{made_in, text_at, may_hand, objection_handed}
 
 -- a happening that a script may have: one of the system or of the edge, or another table

@@ -6,15 +6,15 @@ use Rattle.init_words.specs.declared.levels.Level.{Level}
 use Rattle.text_lines.specs.Lines.{ended, newlines}
 use Rattle.inittab_text.specs.Reading.{table_of_text}
 use Rattle.inittab_text.specs.declared.reading.TheConstants.{TEXT_LIMIT}
-use Rattle.init_trace.specs.declared.steps.Goal.{Goal}
-use Rattle.init_trace.specs.Event.{Event}
-use Rattle.init_trace.specs.Due.{due, first}
+use Rattle.trace_events.specs.declared.steps.Goal.{Goal}
+use Rattle.trace_events.specs.Event.{Event}
+use Rattle.trace_events.specs.Due.{due, first}
 use Rattle.trace_text.specs.Lines.{event_text, trace_text}
-use Rattle.init_trace.specs.Range.{is_in_range, are_in_range}
+use Rattle.trace_events.specs.Range.{is_in_range, are_in_range}
 use Rattle.trace_text.specs.Texts.{BeginsNone}
-use Rattle.init_trace.specs.Run.{is_run, is_rest}
+use Rattle.trace_events.specs.Run.{is_run, is_rest}
 use Rattle.core_model.specs.State.{opening_goal}
-use Rattle.simulated_system.specs.declared.objections.Objection.{Objection}
+use Rattle.simulator.specs.declared.objections.Objection.{Objection}
 use Rattle.simulator.specs.declared.running.SimFault.{SimFault}
 use Rattle.simulator.specs.declared.running.SimFault.TheVariants as fault
 use Rattle.simulator.specs.Faults.{Leaves}
@@ -67,8 +67,8 @@ abbrev pub Done : Scenario → Option (List ℕ) → Option (List ℕ) → Type 
 Done s old new = (past : List Event) × Rested s [] past × Appends old new (past_text past)
 
 -- the run over the lines before the n-th was written, counted from 1, and the rest from the n-th on is such
-abbrev pub EndsAt : Scenario → ℕ → (List ℕ → List Event → Type 0) → Option (List ℕ) → Option (List ℕ) → Type 0
-EndsAt s n such old new =
+abbrev pub SimulationEndsAt : Scenario → ℕ → (List ℕ → List Event → Type 0) → Option (List ℕ) → Option (List ℕ) → Type 0
+SimulationEndsAt s n such old new =
     (rest : List ℕ) × (past : List Event) × (n ≡ newlines (heard_text past) + 1)
     × Rested s rest past × Appends old new (past_text past) × such rest past
 
@@ -94,7 +94,7 @@ IsTooLong inittab = TEXT_LIMIT < length inittab
 -- how a run ends that doesn't reach the end of its script
 abbrev pub Ends : Scenario → SimFault → Option (List ℕ) → Option (List ℕ) → Type 0
 Ends s fault.Table old new = IsTooLong s.inittab × Keeps old new
-Ends s (fault.Script n) old new = EndsAt s n IsUnread old new
-Ends s (fault.Forbidden n why) old new = EndsAt s n (IsForbidden (goal_in s) why) old new
+Ends s (fault.Script n) old new = SimulationEndsAt s n IsUnread old new
+Ends s (fault.Forbidden n why) old new = SimulationEndsAt s n (IsForbidden (goal_in s) why) old new
 Ends s fault.Write old new = Broken s fault.Write old new
 Ends s fault.Memory old new = Broken s fault.Memory old new

@@ -1,26 +1,26 @@
 //! The hand-overs of a script: init's state is written, carried and taken over as when init re-executes itself.
 
 ghost use Rattle.std.specs.Prelude.{◌≡◌, ◌+◌, ◌∷◌, length, map, true, IfOk, IfSome, None, OnOk, unwrap_or};
-ghost use Rattle.init_trace.specs.declared.happenings.Happening.TheVariants as happening;
-ghost use Rattle.init_trace.specs.declared.happenings.Handed.{Handed};
+ghost use Rattle.trace_events.specs.declared.happenings.Happening.TheVariants as happening;
+ghost use Rattle.trace_events.specs.declared.happenings.Handed.{Handed};
 ghost use Rattle.core_model.specs.Fit.{StillFits, OnEachTrace};
 ghost use Rattle.core_model.specs.Parts.{state_of};
 ghost use Rattle.core_model.specs.Rules.{IsFit};
 ghost use Rattle.core_model.specs.Steps.{after_handed_on};
-ghost use Rattle.state_text.specs.Range.{has_short_seconds};
-ghost use Rattle.state_text.specs.Refused.{IsTextOf};
+ghost use Rattle.core_text.specs.Range.{has_short_seconds};
+ghost use Rattle.core_text.specs.Refused.{IsTextOf};
 ghost use Rattle.simulator.specs.Handing.{after_hand, comes_back, has_next, is_made, kept_texts};
 ghost use Rattle.simulator.specs.Handing.{objection_handed, taken_of, text_made};
 ghost use Rattle.simulator.specs.Texts.{AreMade, CanHand, HasTexts, IsTakenOver};
 
-use core_model::Heads;
-use init_trace::Handed;
+use crate::objections::Objection;
+use core_handover::{StateFault, hand_over, take_over};
+use core_model::CoreFields;
+use core_steps::Core;
+use core_text::write_state;
 use init_words::Memory;
-use level_core::Core;
-use reexec_state::{Over, hand_over, take_over};
-use simulated_system::Objection;
-use state_text::write_state;
 use std::alloc::Allocator;
+use trace_events::Handed;
 
 /// After this generation there is another.
 fn has_next(generation: u64) -> bool
@@ -41,7 +41,7 @@ fn size_made<A: Allocator + Copy>(alloc: A, core: &Core<A>) -> Result<u64, Memor
     requires { has_next core.now.heads.generation ≡ true }
     ensures { IfOk result (λ size. size ≡ length (text_made core.now)) }
 {
-    let heads = Heads {
+    let heads = CoreFields {
         generation: core.generation() + 1,
         reexec: false,
         ..core.heads()
@@ -89,7 +89,7 @@ fn make_text<A: Allocator + Copy>(alloc: A, core: &mut Core<A>) -> Result<Vec<u8
 {
     match hand_over(alloc, core) {
         Ok(text) => Ok(text),
-        Err(Over::Memory) => Err(Memory),
+        Err(StateFault::Memory) => Err(Memory),
         Err(_) => unreachable!(),
     }
 }
@@ -105,7 +105,7 @@ fn taken<A: Allocator + Copy>(
 {
     match take_over(alloc, back, generation) {
         Ok(taken) => Ok(Some(taken)),
-        Err(Over::Memory) => Err(Memory),
+        Err(StateFault::Memory) => Err(Memory),
         Err(_) => Ok(None),
     }
 }

@@ -1,8 +1,8 @@
 //! Laws of simulated runs.
 
 ghost use Rattle.std.specs.Prelude.{◌≡◌, ℕ, List, None};
-ghost use Rattle.init_trace.specs.Event.{Event};
-ghost use Rattle.init_trace.specs.Lawful.{first_breach};
+ghost use Rattle.trace_events.specs.Event.{Event};
+ghost use Rattle.trace_events.specs.Lawful.{first_breach};
 ghost use Rattle.simulator.specs.Simulation.{Rested, RunOver, Scenario};
 
 /// What is simulated keeps the laws: the trace of a run over a script, and over each part of one, has no breach. And

@@ -2,14 +2,14 @@
 
 ghost use Rattle.std.specs.Prelude.{◌≡◌, ◌<◌, length, map, List, [], ◌∷◌, false, true, IfOk, IfSome, IfNone, IfErr, OnOk};
 ghost use Rattle.std.specs.Io.KnownBytes.{Appends};
-ghost use Rattle.init_trace.specs.Event.{Event};
+ghost use Rattle.trace_events.specs.Event.{Event};
 ghost use Rattle.trace_text.specs.Lines.{event_text};
-ghost use Rattle.init_trace.specs.Range.{is_in_range};
-ghost use Rattle.init_trace.specs.Run.{is_rest, is_reread};
-ghost use Rattle.init_trace.specs.declared.happenings.Happening.TheVariants.{NewTable};
+ghost use Rattle.trace_events.specs.Range.{is_in_range};
+ghost use Rattle.trace_events.specs.Run.{is_rest, is_reread};
+ghost use Rattle.trace_events.specs.declared.happenings.Happening.TheVariants.{NewTable};
 ghost use Rattle.init_words.specs.declared.levels.Level.{Level};
 ghost use Rattle.inittab_text.specs.Reading.{table_of_text};
-ghost use Rattle.child_table.specs.Lists.{is_quiet};
+ghost use Rattle.core_records.specs.Lists.{is_quiet};
 ghost use Rattle.core_model.specs.State.{opening_goal};
 ghost use Rattle.core_model.specs.Fit.{FitsAll, StillFits, OnEachTrace, with_step};
 ghost use Rattle.core_model.specs.Steps.{after_adopt};
@@ -21,17 +21,18 @@ ghost use Rattle.simulator.specs.Said.{may_be_scripted, objection_in};
 ghost use Rattle.simulator.specs.Simulation.{Done, Ends, IsTooLong, scenario};
 
 use crate::handing::{hand, objection_handed};
+use crate::objections::Objection;
+use crate::simulated::SimulatedSystem;
 use crate::writers::WritesOn;
-use init_trace::{Happening, HappeningIn, Step};
+use core_steps::Core;
 use init_words::{Level, Memory, Refusal};
 use inittab_text::{Table, TableFault};
-use level_core::Core;
-use simulated_system::{Objection, SimulatedSystem};
 use std::alloc::{AllocError, Allocator};
 use std::error::Error;
 use std::io::Write;
 use std::{fmt, io};
 use text_lines::ended;
+use trace_events::{Happening, HappeningIn, Step};
 use trace_text::{first_happening, line_count, print_table};
 
 /// Why a simulated run ended before its script did.
@@ -238,7 +239,7 @@ fn pass_on<A: Allocator + Copy>(
             }
         }
         Happening::Clock(reading) => core.clock(*reading),
-        Happening::Nudge => core.nudge(),
+        Happening::Nudge => core.begin_round(),
         Happening::Got(request) => core.got(*request),
         Happening::Handed(how) => hand(alloc, core, made, *how)?,
         _ => {}
@@ -327,7 +328,8 @@ fn open_core<A: Allocator + Copy>(
     level: Option<Level>,
 ) -> Result<Core<A>, SimFault>
     ensures table { IfOk result (λ core. core.table ≡ table_of_text inittab.now) }
-    ensures fits { IfOk result (λ core. FitsAll core (opening_goal level (table_of_text inittab.now))
+    ensures fits { IfOk result (λ core. FitsAll core
+        (opening_goal level (table_of_text inittab.now))
         (NewTable (table_of_text inittab.now) ∷ [])) }
     ensures lasts { IfOk result (λ core.
         LastsTo core (opening_goal level (table_of_text inittab.now))

@@ -16,7 +16,8 @@ pub trait WritesOn<W: Write> {
     /// Writes all of the text. Where the writer fails, a prefix of the text is written, but not the whole.
     fn put(out: &mut W, text: &[u8]) -> io::Result<()>
         ensures ok { OnOk result (Appends (W.contents out.old) (W.contents out.new) text.now) }
-        ensures err { OnErr result (AppendsFront (W.contents out.old) (W.contents out.new) text.now) }
+        ensures err { OnErr result
+            (AppendsFront (W.contents out.old) (W.contents out.new) text.now) }
         ensures failed { OnErr result (has_failed out.new ≡ true) };
 }
 

@@ -2,7 +2,7 @@
 use Rattle.std.specs.Prelude.{◌≡◌, ℕ, ◌%◌, if◌then◌else◌, List, length, ◌++◌, Option, Some, IfSome, option_map}
 use Rattle.std.specs.Str.{bytes_eq}
 use Rattle.initctl_frame.specs.declared.frames.TheConstants.{BLOCK}
-use Rattle.telinit_command.specs.CommandLine.{Said, read_of}
+use Rattle.telinit_command.specs.CommandLine.{TelinitSaid, telinit_read_of}
 use Rattle.telinit_command.specs.Frames.{frame_for}
 
 -- the bytes of the channel at each path, where they are known
@@ -30,7 +30,8 @@ IsWholeAt path old = IfSome (old path) (λ bytes. length bytes % BLOCK ≡ 0)
 -- the request that words ask for, and the channel that they name
 abbrev pub IsAsked : List (List ℕ) → List ℕ → List ℕ → Type 0
 IsAsked words path block =
-    (said : Said) × (read_of words ≡ Some said) × (path ≡ said.path) × (frame_for said.sign said.secs ≡ Some block)
+    (said : TelinitSaid) × (telinit_read_of words ≡ Some said) × (path ≡ said.path)
+    × (frame_for said.sign said.secs ≡ Some block)
 
 -- the channel that the words name, of whole requests, has gained the one that they ask for
 abbrev pub Asks : List (List ℕ) → KnownBytes → KnownBytes → Type 0

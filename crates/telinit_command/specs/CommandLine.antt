@@ -14,29 +14,29 @@ command_line = with_rules (program_app (codes "telinit")) (
     ∷ [])
 
 -- the value that the words give an argument, or its default
-abbrev pub value_in : List Text → Text → Text
-value_in words id = unwrap_or (first_of id (matches_of command_line words)) []
+abbrev pub telinit_value_in : List Text → Text → Text
+telinit_value_in words id = unwrap_or (first_of id (matches_of command_line words)) []
 
 -- seconds, path and sign
-pub record Said : Type 0 where
+pub record TelinitSaid : Type 0 where
   pub secs : ℕ
   pub path : Text
   pub sign : Text
 
 -- what words say that the command line takes: their values or the defaults, where the seconds are 0 to 3,600
-abbrev pub said_by : List Text → Option Said
-said_by words =
+abbrev pub telinit_said_by : List Text → Option TelinitSaid
+telinit_said_by words =
     option_map (λ secs. record {
       secs = secs;
-      path = value_in words (codes "initctl");
-      sign = value_in words (codes "sign");
+      path = telinit_value_in words (codes "initctl");
+      sign = telinit_value_in words (codes "sign");
     })
-    (seconds_read (value_in words (codes "secs")))
+    (seconds_read (telinit_value_in words (codes "secs")))
 
 -- what words say; where the command line has a fault in them, nothing
-abbrev pub read_of : List Text → Option Said
-read_of words = if length (fault_of command_line words) == 0 then said_by words else None
+abbrev pub telinit_read_of : List Text → Option TelinitSaid
+telinit_read_of words = if length (fault_of command_line words) == 0 then telinit_said_by words else None
 
 -- the request block that words ask for
 abbrev pub block_said : List Text → Option (List ℕ)
-block_said words = option_and_then (λ said. frame_for said.sign said.secs) (read_of words)
+block_said words = option_and_then (λ said. frame_for said.sign said.secs) (telinit_read_of words)

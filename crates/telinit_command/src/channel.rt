@@ -6,9 +6,8 @@ ghost use Rattle.telinit_command.specs.Channels.{AreSame, HasGained, HasGainedFr
 ghost use Rattle.telinit_command.specs.Notes.{IsTold, Reading, made_note, reading_note, unknown_note};
 
 use crate::channels::Channels;
-use channel_files::REQUEST;
 use initctl_frame::BLOCK;
-use program_io::write_text;
+use program_io::{REQUEST, write_text};
 use std::alloc::{AllocError, Global};
 use std::io;
 use std::io::Write;

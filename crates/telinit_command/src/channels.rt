@@ -3,8 +3,8 @@
 ghost use Rattle.std.specs.Prelude.{◌≡◌, length, IfOk, IfSome, OnOk, OnErr, None};
 ghost use Rattle.telinit_command.specs.Channels.{AreSame, HasGained, HasGainedFront, KnownBytes};
 
-use channel_files::Channel;
 use initctl_frame::BLOCK;
+use program_io::Channel;
 use std::fs::File;
 use std::io;
 use std::io::{Error, ErrorKind};

@@ -4,7 +4,7 @@ ghost use Rattle.std.specs.Prelude.{◌≡◌, map, string_bytes, IfErr, IfOk, I
 ghost use Rattle.clap.specs.Words.{FailsBy, fault_of, found_of, matches_of, rows_of};
 ghost use Rattle.command_words.specs.CommandLines.{IsLine};
 ghost use Rattle.command_words.specs.Faults.{reason_of};
-ghost use Rattle.telinit_command.specs.CommandLine.{command_line, read_of};
+ghost use Rattle.telinit_command.specs.CommandLine.{command_line, telinit_read_of};
 
 use crate::seconds::read_grace;
 use clap::{ArgMatches, Command, Error};
@@ -28,14 +28,14 @@ pub struct Words {
 /// Reads a command line, without the program's name in front.
 pub fn read_words(alloc: Global, words: Vec<String>) -> Result<Words, WordFault>
     // What it reads is what the words say, with the defaults for what they leave out.
-    ensures ok { IfOk result (λ said. read_of (map string_bytes words.items)
+    ensures ok { IfOk result (λ said. telinit_read_of (map string_bytes words.items)
         ≡ Some (record {
           secs = said.secs;
           path = string_bytes said.path;
           sign = string_bytes said.sign;
         })) }
     ensures usage { IfErr result (λ fault. IsSome (reason_of fault)
-        → read_of (map string_bytes words.items) ≡ None) }
+        → telinit_read_of (map string_bytes words.items) ≡ None) }
 {
     let matches = match parsed(alloc, words.as_slice()) {
         Ok(matches) => matches,

@@ -3,19 +3,18 @@
 ghost use Rattle.std.specs.Prelude.{◌≡◌, ◌⊎◌, true, false, codes, map, string_bytes, IfSome, IsSome, IsNone};
 ghost use Rattle.command_words.specs.CommandLines.{asks_version};
 ghost use Rattle.command_words.specs.Faults.{ReportsUsage};
-ghost use Rattle.program_version.specs.VersionLine.{PrintsVersion};
+ghost use Rattle.command_words.specs.VersionLine.{PrintsVersion};
 ghost use Rattle.telinit_command.specs.Channels.{AreSame, Asks, AsksPartly, HasGained, HasGainedFront, IsWholeAt};
-ghost use Rattle.telinit_command.specs.CommandLine.{block_said, read_of};
+ghost use Rattle.telinit_command.specs.CommandLine.{block_said, telinit_read_of};
 ghost use Rattle.telinit_command.specs.Notes.{IsTold};
 
 use crate::channel::{ChannelFault, append_block};
 use crate::channels::Channels;
 use crate::command::read_words;
 use crate::frame::frame_of;
-use command_words::{is_version, report_refused_words, report_word_fault};
+use command_words::{is_version, print_version, report_refused_words, report_word_fault};
 use initctl_frame::BLOCK;
 use program_io::{DEVICE_FAULT, DONE, REFUSED, report_no_memory};
-use program_version::print_version;
 use std::alloc::{AllocError, Global};
 use std::io::Write;
 
@@ -59,7 +58,7 @@ pub fn run_words<C: Channels, W: Write, E: Write>(
         → PrintsVersion (codes "telinit") result (W.contents out.old) (W.contents out.new) }
     // What is told of a channel that a block was appended to.
     ensures told { result ≡ DONE → (err.new ≡ err.old)
-        ⊎ IfSome (read_of (map string_bytes words.items))
+        ⊎ IfSome (telinit_read_of (map string_bytes words.items))
         (λ said. IsTold said.path (E.contents err.old) (E.contents err.new)) }
     ensures report { result ≡ REFUSED
         → ReportsUsage (codes "telinit") USAGE.now (E.contents err.old) (E.contents err.new) }

@@ -1,7 +1,7 @@
 //! Whose end a core awaits, as text: `ID NUMBER WHY`, parted by `, `, in its order; `none` where there is none.
 
-use awaited_children::{Awaited, AwaitedChildren, Why};
-use level_core::Core;
+use core_steps::Core;
+use core_waiting::{Awaited, AwaitedChildren, Why};
 use std::alloc::Allocator;
 
 fn why_text(why: Why) -> &'static str {

@@ -3,8 +3,8 @@
 use crate::awaited::awaits;
 use crate::runs::is_run;
 use crate::steps::add_steps;
-use init_words::{Answer, ChildNo, Id, Level};
-use level_core::Core;
+use core_steps::Core;
+use init_words::{Answer, ChildNumber, Id, Level};
 use linked_list_allocator::LocalHeap;
 use std::alloc::{AllocError, Global};
 use std::test::Fail;
@@ -116,7 +116,7 @@ fn begun<'a>(alloc: Global, heap: &'a LocalHeap) -> Option<Core<&'a LocalHeap>> 
     let mut steps = Vec::new(alloc);
     add_steps(alloc, &mut steps, &mut core).ok()?;
     for (id, number) in [(b"a", 7u32), (b"b", 8)] {
-        core.answer(Id::read(id)?, Answer::Born(ChildNo(number)))
+        core.answer(Id::read(id)?, Answer::Born(ChildNumber(number)))
             .ok()?;
     }
     Some(core)

@@ -2,9 +2,9 @@
 //! call with room again succeeds.
 
 use crate::steps::add_steps;
-use init_words::{Answer, ChildNo, Id, Memory, Refusal};
+use core_steps::Core;
+use init_words::{Answer, ChildNumber, Id, Memory, Refusal};
 use inittab_text::Table;
-use level_core::Core;
 use linked_list_allocator::LocalHeap;
 use std::alloc::Global;
 use std::test::Fail;
@@ -45,7 +45,7 @@ fn is_begun(alloc: Global, core: &mut Core<&LocalHeap>, id: Id) -> bool {
         core,
         (2, 2),
         b"enter sysinit 5 / enter S 5 / ask a start",
-    ) && core.answer(id, Answer::Born(ChildNo(700))) == Ok(())
+    ) && core.answer(id, Answer::Born(ChildNumber(700))) == Ok(())
 }
 
 /// Whether an adoption is refused while the filler stands; none where there is no room for the filler.

@@ -1,9 +1,9 @@
 //! Growths are refused in turn, on heaps of more and more room. A refused call leaves the records as they were, and one
 //! with room again succeeds.
 
-use crate::shown::add_slots;
-use child_table::{Slot, Slots};
-use init_words::{Act, Answer, Ask, ChildNo, Id, Level, Memory, Stage};
+use crate::shown::add_records;
+use core_records::{Record, Records};
+use init_words::{Act, Answer, ChildNumber, Id, Level, Memory, OrderKind, Stage};
 use inittab_text::Table;
 use linked_list_allocator::LocalHeap;
 use respawn_limit::CLOCK_LIMIT;
@@ -30,13 +30,13 @@ fn table_of<'a>(heap: &'a LocalHeap, text: &[u8]) -> Result<Table<&'a LocalHeap>
     }
 }
 
-fn shows(alloc: Global, slots: &Slots<&LocalHeap>, want: &[u8]) -> Result<bool, Memory> {
+fn shows(alloc: Global, slots: &Records<&LocalHeap>, want: &[u8]) -> Result<bool, Memory> {
     let mut text = Vec::new(alloc);
-    add_slots(&mut text, slots)?;
+    add_records(&mut text, slots)?;
     Ok(text.as_slice() == want)
 }
 
-fn number_of(slots: &Slots<&LocalHeap>, id: &Id) -> Option<ChildNo> {
+fn number_of(slots: &Records<&LocalHeap>, id: &Id) -> Option<ChildNumber> {
     slots.by_id(id)?.child()
 }
 
@@ -48,18 +48,18 @@ struct Ids {
 }
 
 /// The children have their numbers, and the first has so many starts in its limit of respawns.
-fn are_kept(slots: &Slots<&LocalHeap>, ids: &Ids, starts: usize) -> bool {
+fn are_kept(slots: &Records<&LocalHeap>, ids: &Ids, starts: usize) -> bool {
     let Ids { first, second } = *ids;
     number_of(slots, &first) == Some(FIRST)
         && number_of(slots, &second) == Some(SECOND)
         && matches!(slots.by_id(&first), Some(slot) if slot.starts().len() == starts)
 }
 
-const FIRST: ChildNo = ChildNo(4_294_967_295);
+const FIRST: ChildNumber = ChildNumber(4_294_967_295);
 
-const SECOND: ChildNo = ChildNo(701);
+const SECOND: ChildNumber = ChildNumber(701);
 
-fn is_ordered(slots: &mut Slots<&LocalHeap>, id: Id, ask: Ask) -> bool {
+fn is_ordered(slots: &mut Records<&LocalHeap>, id: Id, ask: OrderKind) -> bool {
     if slots.len() == 0 || !slots.can_ask(&id, ask, CLOCK_LIMIT) {
         return false;
     }
@@ -67,24 +67,29 @@ fn is_ordered(slots: &mut Slots<&LocalHeap>, id: Id, ask: Ask) -> bool {
     true
 }
 
-fn is_born(slots: &mut Slots<&LocalHeap>, id: Id, number: ChildNo) -> bool {
-    is_ordered(slots, id, Ask::Start) && slots.told(id, Answer::Born(number), CLOCK_LIMIT) == Ok(())
+fn is_born(slots: &mut Records<&LocalHeap>, id: Id, number: ChildNumber) -> bool {
+    is_ordered(slots, id, OrderKind::Start)
+        && slots.told(id, Answer::Born(number), CLOCK_LIMIT) == Ok(())
 }
 
 /// Two children that another level excludes, and the signal to one.
-fn is_begun<'a>(slots: &mut Slots<&'a LocalHeap>, table: &Table<&'a LocalHeap>, ids: &Ids) -> bool {
+fn is_begun<'a>(
+    slots: &mut Records<&'a LocalHeap>,
+    table: &Table<&'a LocalHeap>,
+    ids: &Ids,
+) -> bool {
     let Ids { first, second } = *ids;
     if !is_born(slots, first, FIRST) || !is_born(slots, second, SECOND) {
         return false;
     }
     slots.judge(table, Stage::Run(Level::L4));
-    is_ordered(slots, second, Ask::Term)
+    is_ordered(slots, second, OrderKind::Term)
 }
 
 /// Whether an adoption is refused while the filler stands.
 fn is_refused<'a>(
     heap: &'a LocalHeap,
-    slots: &mut Slots<&'a LocalHeap>,
+    slots: &mut Records<&'a LocalHeap>,
     table: &Table<&'a LocalHeap>,
 ) -> Result<bool, Memory> {
     let _filler: Vec<u8, &LocalHeap> = Vec::with_capacity(heap, FILLER)?;
@@ -105,7 +110,7 @@ enum Refused {
 fn refused_then_made<'a>(
     alloc: Global,
     heap: &'a LocalHeap,
-    slots: &mut Slots<&'a LocalHeap>,
+    slots: &mut Records<&'a LocalHeap>,
     table: &Table<&'a LocalHeap>,
     ids: &Ids,
 ) -> Result<Refused, Memory> {
@@ -128,7 +133,7 @@ fn refused_on(alloc: Global, heap: &LocalHeap, ids: &Ids) -> Refused {
     let (Ok(before), Ok(after)) = (table_of(heap, BEFORE), table_of(heap, AFTER)) else {
         return Refused::Tables;
     };
-    let mut slots = match Slots::new(heap, &before) {
+    let mut slots = match Records::new(heap, &before) {
         Ok(slots) => slots,
         Err(Memory) => return Refused::New,
     };
@@ -177,7 +182,7 @@ fn is_rebuilt(alloc: Global, room: usize) -> Result<Option<bool>, Memory> {
         return Ok(None);
     };
     let act = Some(Act::Respawn);
-    let slot = Slot::of(
+    let slot = Record::of(
         id,
         act,
         None,
@@ -195,7 +200,7 @@ fn is_rebuilt(alloc: Global, room: usize) -> Result<Option<bool>, Memory> {
     if given.push(slot).is_err() {
         return Ok(None);
     }
-    Ok(Some(Slots::rebuilt(&heap, given).is_ok()))
+    Ok(Some(Records::rebuilt(&heap, given).is_ok()))
 }
 
 #[test]

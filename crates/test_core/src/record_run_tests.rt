@@ -1,8 +1,8 @@
 //! Runs of calls on the records. The cases are rows of calls, and of what the records are after them.
 
-use crate::shown::add_slots;
-use child_table::Slots;
-use init_words::{Answer, Ask, ChildNo, Id, Level, Memory, Refusal, Stage, Status};
+use crate::shown::add_records;
+use core_records::Records;
+use init_words::{Answer, ChildNumber, Id, Level, Memory, OrderKind, Refusal, Stage, Status};
 use inittab_text::{Table, TableFault};
 use respawn_limit::CLOCK_LIMIT;
 use std::alloc::Global;
@@ -33,7 +33,7 @@ impl Told {
 
 /// A call about an id, or about all.
 enum Call {
-    Ask(&'static [u8], Ask),
+    Ask(&'static [u8], OrderKind),
     Born(&'static [u8], u32),
     Told(&'static [u8], Told),
     /// A signal was sent at a time.
@@ -70,14 +70,14 @@ fn table_of(alloc: Global, text: &[u8]) -> Result<Table, TableFault> {
     Ok(table)
 }
 
-fn adopt(alloc: Global, slots: &mut Slots, text: &[u8]) -> bool {
+fn adopt(alloc: Global, slots: &mut Records, text: &[u8]) -> bool {
     match table_of(alloc, text) {
         Ok(table) => slots.adopt(&table).is_ok(),
         Err(_) => false,
     }
 }
 
-fn judge(alloc: Global, slots: &mut Slots, text: &[u8], stage: Stage) -> bool {
+fn judge(alloc: Global, slots: &mut Records, text: &[u8], stage: Stage) -> bool {
     match table_of(alloc, text) {
         Ok(table) => {
             slots.judge(&table, stage);
@@ -87,7 +87,7 @@ fn judge(alloc: Global, slots: &mut Slots, text: &[u8], stage: Stage) -> bool {
     }
 }
 
-fn is_asked(slots: &mut Slots, id: Id, ask: Ask) -> bool {
+fn is_asked(slots: &mut Records, id: Id, ask: OrderKind) -> bool {
     if slots.len() == 0 || !slots.can_ask(&id, ask, CLOCK_LIMIT) {
         return false;
     }
@@ -95,11 +95,11 @@ fn is_asked(slots: &mut Slots, id: Id, ask: Ask) -> bool {
     true
 }
 
-fn is_hit(slots: &mut Slots, id: Id, time: u64) -> bool {
+fn is_hit(slots: &mut Records, id: Id, time: u64) -> bool {
     time <= CLOCK_LIMIT && slots.told(id, Answer::Hit, time) == Ok(())
 }
 
-fn is_called(slots: &mut Slots, id: Id) -> bool {
+fn is_called(slots: &mut Records, id: Id) -> bool {
     if slots.by_id(&id).is_none() {
         return false;
     }
@@ -108,11 +108,11 @@ fn is_called(slots: &mut Slots, id: Id) -> bool {
 }
 
 /// Makes a call about an id, and gives whether it is answered so; none where it is about no id.
-fn make_one(slots: &mut Slots, call: &Call) -> Option<bool> {
+fn make_one(slots: &mut Records, call: &Call) -> Option<bool> {
     Some(match *call {
         Call::Ask(id, order) => is_asked(slots, Id::read(id)?, order),
         Call::Born(id, number) => {
-            let born = Answer::Born(ChildNo(number));
+            let born = Answer::Born(ChildNumber(number));
             slots.told(Id::read(id)?, born, CLOCK_LIMIT) == Ok(())
         }
         Call::Told(id, ref told) => {
@@ -128,10 +128,10 @@ fn make_one(slots: &mut Slots, call: &Call) -> Option<bool> {
 }
 
 /// Makes a call, and gives whether it is answered so.
-fn is_made(alloc: Global, slots: &mut Slots, call: &Call) -> bool {
+fn is_made(alloc: Global, slots: &mut Records, call: &Call) -> bool {
     match *call {
         Call::Nudge => {
-            slots.nudge();
+            slots.begin_round();
             true
         }
         Call::Enter => {
@@ -147,7 +147,7 @@ fn is_made(alloc: Global, slots: &mut Slots, call: &Call) -> bool {
     }
 }
 
-fn are_made(alloc: Global, slots: &mut Slots, calls: &[Call]) -> bool {
+fn are_made(alloc: Global, slots: &mut Records, calls: &[Call]) -> bool {
     for call in calls {
         if !is_made(alloc, slots, call) {
             return false;
@@ -156,20 +156,20 @@ fn are_made(alloc: Global, slots: &mut Slots, calls: &[Call]) -> bool {
     true
 }
 
-fn slots_of(alloc: Global, text: &[u8]) -> Result<Slots, Fail> {
+fn records_of(alloc: Global, text: &[u8]) -> Result<Records, Fail> {
     let table = table_of(alloc, text)?;
-    Ok(Slots::new(alloc, &table)?)
+    Ok(Records::new(alloc, &table)?)
 }
 
-fn text_of(alloc: Global, slots: &Slots) -> Result<Vec<u8>, Memory> {
+fn text_of(alloc: Global, slots: &Records) -> Result<Vec<u8>, Memory> {
     let mut text = Vec::new(alloc);
-    add_slots(&mut text, slots)?;
+    add_records(&mut text, slots)?;
     Ok(text)
 }
 
 /// The calls are answered so, and the records are these after them.
 fn comes_to(alloc: Global, table: &[u8], calls: &[Call], want: &[u8]) -> Result<bool, Fail> {
-    let mut slots = slots_of(alloc, table)?;
+    let mut slots = records_of(alloc, table)?;
     Ok(are_made(alloc, &mut slots, calls) && text_of(alloc, &slots)?.as_slice() == want)
 }
 
@@ -182,7 +182,7 @@ const RUNS: &[(&[u8], &[Call], &[u8])] = &[
         &[
             Call::Refused(b"a", Told::Alive, Refusal::NotAsked),
             Call::Refused(b"z", Told::Alive, Refusal::NotAsked),
-            Call::Ask(b"a", Ask::Start),
+            Call::Ask(b"a", OrderKind::Start),
             Call::Refused(b"a", Told::Hit, Refusal::WrongAnswer),
             Call::Quiet(false),
         ],
@@ -191,17 +191,20 @@ const RUNS: &[(&[u8], &[Call], &[u8])] = &[
     // A failed start counts as asked.
     (
         BOTH,
-        &[Call::Ask(b"b", Ask::Start), Call::Told(b"b", Told::NotBorn)],
+        &[
+            Call::Ask(b"b", OrderKind::Start),
+            Call::Told(b"b", Told::NotBorn),
+        ],
         b"a --------/b ---a----/",
     ),
     // A failed look forgets nothing, and looks leave the point quiet.
     (
         BOTH,
         &[
-            Call::Ask(b"a", Ask::Start),
+            Call::Ask(b"a", OrderKind::Start),
             Call::Born(b"a", 700),
             Call::Nudge,
-            Call::Ask(b"a", Ask::Look),
+            Call::Ask(b"a", OrderKind::Look),
             Call::Quiet(true),
             Call::Told(b"a", Told::NoLook),
         ],
@@ -211,11 +214,11 @@ const RUNS: &[(&[u8], &[Call], &[u8])] = &[
     (
         BOTH,
         &[
-            Call::Ask(b"a", Ask::Start),
-            Call::Ask(b"b", Ask::Start),
+            Call::Ask(b"a", OrderKind::Start),
+            Call::Ask(b"b", OrderKind::Start),
             Call::Born(b"a", 700),
             Call::Nudge,
-            Call::Ask(b"a", Ask::Look),
+            Call::Ask(b"a", OrderKind::Look),
             Call::Born(b"b", 700),
             Call::Told(b"a", Told::Ended(Status::Exit(0))),
         ],
@@ -225,10 +228,10 @@ const RUNS: &[(&[u8], &[Call], &[u8])] = &[
     (
         BOTH,
         &[
-            Call::Ask(b"a", Ask::Start),
+            Call::Ask(b"a", OrderKind::Start),
             Call::Born(b"a", 700),
             Call::Judge(BOTH, ONE),
-            Call::Ask(b"a", Ask::Term),
+            Call::Ask(b"a", OrderKind::Term),
             Call::Told(b"a", Told::Miss),
         ],
         b"a 0-da--m-/b --------/",
@@ -236,12 +239,12 @@ const RUNS: &[(&[u8], &[Call], &[u8])] = &[
     (
         BOTH,
         &[
-            Call::Ask(b"a", Ask::Start),
+            Call::Ask(b"a", OrderKind::Start),
             Call::Born(b"a", 700),
             Call::Judge(BOTH, ONE),
-            Call::Ask(b"a", Ask::Term),
+            Call::Ask(b"a", OrderKind::Term),
             Call::Told(b"a", Told::Hit),
-            Call::Ask(b"a", Ask::Kill),
+            Call::Ask(b"a", OrderKind::Kill),
             Call::Told(b"a", Told::Hit),
         ],
         b"a 0-ka----/b --------/",
@@ -250,10 +253,10 @@ const RUNS: &[(&[u8], &[Call], &[u8])] = &[
     (
         BOTH,
         &[
-            Call::Ask(b"a", Ask::Start),
+            Call::Ask(b"a", OrderKind::Start),
             Call::Born(b"a", 700),
             Call::Judge(BOTH, ONE),
-            Call::Ask(b"a", Ask::Term),
+            Call::Ask(b"a", OrderKind::Term),
             Call::Told(b"a", Told::Miss),
             Call::Judge(BOTH, THREE),
         ],
@@ -263,9 +266,9 @@ const RUNS: &[(&[u8], &[Call], &[u8])] = &[
     (
         BOTH,
         &[
-            Call::Ask(b"a", Ask::Start),
+            Call::Ask(b"a", OrderKind::Start),
             Call::Born(b"a", 700),
-            Call::Ask(b"b", Ask::Start),
+            Call::Ask(b"b", OrderKind::Start),
             Call::Adopt(OTHERS),
             Call::Judge(OTHERS, THREE),
         ],
@@ -274,11 +277,11 @@ const RUNS: &[(&[u8], &[Call], &[u8])] = &[
     (
         BOTH,
         &[
-            Call::Ask(b"a", Ask::Start),
+            Call::Ask(b"a", OrderKind::Start),
             Call::Born(b"a", 700),
             Call::Adopt(OTHERS),
             Call::Nudge,
-            Call::Ask(b"a", Ask::Look),
+            Call::Ask(b"a", OrderKind::Look),
             Call::Told(b"a", Told::Ended(Status::Killed)),
         ],
         b"b --------/c --------/",
@@ -287,7 +290,7 @@ const RUNS: &[(&[u8], &[Call], &[u8])] = &[
     (
         BOTH,
         &[
-            Call::Ask(b"a", Ask::Start),
+            Call::Ask(b"a", OrderKind::Start),
             Call::Born(b"a", 700),
             Call::Adopt(ONCE),
             Call::Judge(ONCE, THREE),
@@ -298,12 +301,16 @@ const RUNS: &[(&[u8], &[Call], &[u8])] = &[
     (BOTH, &[Call::Called(b"a")], b"a ----c---/b --------/"),
     (
         BOTH,
-        &[Call::Called(b"a"), Call::Ask(b"b", Ask::Start), Call::Enter],
+        &[
+            Call::Called(b"a"),
+            Call::Ask(b"b", OrderKind::Start),
+            Call::Enter,
+        ],
         b"a --------/b -s------/",
     ),
     (
         BOTH,
-        &[Call::Called(b"b"), Call::Ask(b"b", Ask::Start)],
+        &[Call::Called(b"b"), Call::Ask(b"b", OrderKind::Start)],
         b"a --------/b -s-a----/",
     ),
 ];
@@ -319,12 +326,12 @@ const STOPS: &[(&[u8], &[Call], &[u8])] = &[
     (
         BOTH,
         &[
-            Call::Ask(b"a", Ask::Start),
+            Call::Ask(b"a", OrderKind::Start),
             Call::Born(b"a", 700),
             Call::Due(false),
             Call::Judge(BOTH, ONE),
             Call::Due(true),
-            Call::Ask(b"a", Ask::Term),
+            Call::Ask(b"a", OrderKind::Term),
             Call::Due(true),
             Call::FirstTermed(None),
             Call::Hit(b"a", 30),
@@ -337,24 +344,24 @@ const STOPS: &[(&[u8], &[Call], &[u8])] = &[
     (
         BOTH,
         &[
-            Call::Ask(b"a", Ask::Start),
-            Call::Ask(b"b", Ask::Start),
+            Call::Ask(b"a", OrderKind::Start),
+            Call::Ask(b"b", OrderKind::Start),
             Call::Born(b"a", 700),
             Call::Born(b"b", 701),
             Call::Judge(BOTH, ONE),
-            Call::Ask(b"a", Ask::Term),
-            Call::Ask(b"b", Ask::Term),
+            Call::Ask(b"a", OrderKind::Term),
+            Call::Ask(b"b", OrderKind::Term),
             Call::Hit(b"a", 30),
             Call::Due(true),
             Call::Hit(b"b", 40),
             Call::Due(false),
             Call::FirstTermed(Some(30)),
-            Call::Ask(b"a", Ask::Kill),
+            Call::Ask(b"a", OrderKind::Kill),
             Call::FirstTermed(Some(30)),
             Call::Hit(b"a", 50),
             Call::FirstTermed(Some(40)),
             Call::Nudge,
-            Call::Ask(b"b", Ask::Look),
+            Call::Ask(b"b", OrderKind::Look),
             Call::Told(b"b", Told::Ended(Status::Killed)),
             Call::FirstTermed(None),
         ],
@@ -364,13 +371,13 @@ const STOPS: &[(&[u8], &[Call], &[u8])] = &[
     (
         BOTH,
         &[
-            Call::Ask(b"a", Ask::Start),
-            Call::Ask(b"b", Ask::Start),
+            Call::Ask(b"a", OrderKind::Start),
+            Call::Ask(b"b", OrderKind::Start),
             Call::Born(b"a", 700),
             Call::Born(b"b", 701),
             Call::Judge(BOTH, ONE),
-            Call::Ask(b"a", Ask::Term),
-            Call::Ask(b"b", Ask::Term),
+            Call::Ask(b"a", OrderKind::Term),
+            Call::Ask(b"b", OrderKind::Term),
             Call::Hit(b"a", 40),
             Call::FirstTermed(Some(40)),
             Call::Hit(b"b", 30),
@@ -387,15 +394,15 @@ const STOPS: &[(&[u8], &[Call], &[u8])] = &[
     (
         BOTH,
         &[
-            Call::Ask(b"a", Ask::Start),
+            Call::Ask(b"a", OrderKind::Start),
             Call::Born(b"a", 700),
             Call::Judge(BOTH, ONE),
-            Call::Ask(b"a", Ask::Term),
+            Call::Ask(b"a", OrderKind::Term),
             Call::Hit(b"a", 30),
             Call::Adopt(OTHERS),
             Call::FirstTermed(Some(30)),
             Call::Nudge,
-            Call::Ask(b"a", Ask::Look),
+            Call::Ask(b"a", OrderKind::Look),
             Call::Told(b"a", Told::Ended(Status::Killed)),
             Call::FirstTermed(None),
         ],

@@ -6,11 +6,11 @@
 
 use crate::awaited::awaits;
 use crate::steps::{add, add_steps};
-use init_trace::{Happening, HappeningIn};
-use init_words::{Answer, ChildNo, Id, Level, Memory, Refusal, Stage};
+use core_steps::Core;
+use init_words::{Answer, ChildNumber, Id, Level, Memory, Refusal, Stage};
 use inittab_text::Table;
-use level_core::Core;
 use std::alloc::{AllocError, Global};
+use trace_events::{Happening, HappeningIn};
 use trace_text::first_happening;
 
 /// Whether the steps are to be taken: not yet, from the last call on, or no more.
@@ -51,7 +51,7 @@ fn tell(core: &mut Core, call: &HappeningIn<Global>) -> bool {
     match *call {
         Happening::NotRead => core.not_read(),
         Happening::Clock(reading) => core.clock(reading),
-        Happening::Nudge => core.nudge(),
+        Happening::Nudge => core.begin_round(),
         Happening::Got(request) => core.got(request),
         Happening::Handed(_) => core.not_handed(),
         _ => return false,

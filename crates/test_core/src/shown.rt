@@ -1,16 +1,16 @@
 //! Records as text.
 
-use child_table::{Slot, Slots, Stop};
-use init_words::{Ask, Memory};
+use core_records::{Record, Records, Stop};
+use init_words::{Memory, OrderKind};
 use std::alloc::Allocator;
 
-fn order_code(order: Option<Ask>) -> u8 {
+fn order_code(order: Option<OrderKind>) -> u8 {
     match order {
         None => b'-',
-        Some(Ask::Start) => b's',
-        Some(Ask::Look) => b'l',
-        Some(Ask::Term) => b't',
-        Some(Ask::Kill) => b'k',
+        Some(OrderKind::Start) => b's',
+        Some(OrderKind::Look) => b'l',
+        Some(OrderKind::Term) => b't',
+        Some(OrderKind::Kill) => b'k',
     }
 }
 
@@ -28,7 +28,7 @@ fn flag_code(flag: bool, code: u8) -> u8 {
 }
 
 /// The last digit of the child's number.
-fn child_code(slot: &Slot) -> u8 {
+fn child_code(slot: &Record) -> u8 {
     match slot.child() {
         None => b'-',
         Some(number) => b'0' + (number.0 % 10) as u8,
@@ -37,7 +37,7 @@ fn child_code(slot: &Slot) -> u8 {
 
 /// Adds a record: its id, its child, its order and its stop, what is on of asked, called, look and missed, and whether
 /// the table has it.
-fn add_slot(text: &mut Vec<u8>, slot: &Slot) -> Result<(), Memory> {
+fn add_record(text: &mut Vec<u8>, slot: &Record) -> Result<(), Memory> {
     text.extend_from_slice(slot.id().as_bytes())?;
     text.extend_from_slice(&[
         b' ',
@@ -55,10 +55,13 @@ fn add_slot(text: &mut Vec<u8>, slot: &Slot) -> Result<(), Memory> {
 }
 
 /// Adds the records in their order.
-pub(crate) fn add_slots<A: Allocator>(text: &mut Vec<u8>, slots: &Slots<A>) -> Result<(), Memory> {
+pub(crate) fn add_records<A: Allocator>(
+    text: &mut Vec<u8>,
+    slots: &Records<A>,
+) -> Result<(), Memory> {
     for place in 0..slots.len() {
         if let Some(slot) = slots.at(place) {
-            add_slot(text, slot)?;
+            add_record(text, slot)?;
         }
     }
     Ok(())

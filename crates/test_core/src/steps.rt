@@ -1,9 +1,9 @@
 //! The steps of a core as text: lines of a trace, parted by ` / `.
 
-use init_trace::{Happening, HappeningIn};
+use core_steps::{Core, Step};
 use init_words::Memory;
-use level_core::{Core, Step};
 use std::alloc::{Allocator, Global};
+use trace_events::{Happening, HappeningIn};
 
 pub(crate) fn add(text: &mut Vec<u8>, line: &[u8]) -> Result<(), Memory> {
     if !text.is_empty() {

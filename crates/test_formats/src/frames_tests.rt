@@ -2,7 +2,7 @@
 
 use init_words::{Letter, Level, PowerKind};
 use initctl_frame::{
-    BLOCK, Blocks, Cause, Got, Request, Sign, decode, encode, meaning, read_pieces,
+    BLOCK, Blocks, Cause, HeardRequest, Request, Sign, decode, encode, meaning, read_pieces,
 };
 use std::test::Fail;
 
@@ -31,27 +31,27 @@ fn block_of_ints(command: i32, runlevel: i32, sleeptime: i32) -> [u8; BLOCK] {
 }
 
 /// Command, runlevel and sleeptime, and what their block asks for.
-const ROWS: &[(i32, i32, i32, Got)] = &[
-    (0, 113, 5, Got::Nothing(Cause::LeftOut)),
-    (2, 113, 5, Got::Power(PowerKind::Fail)),
-    (3, 113, 5, Got::Power(PowerKind::FailNow)),
-    (4, 113, 5, Got::Power(PowerKind::Ok)),
-    (5, 113, 5, Got::Nothing(Cause::LeftOut)),
-    (6, 113, 5, Got::Nothing(Cause::LeftOut)),
-    (7, 113, 5, Got::Nothing(Cause::LeftOut)),
-    (8, 113, 5, Got::Nothing(Cause::Unknown)),
-    (12345, 113, 5, Got::Nothing(Cause::LeftOut)),
-    (-1, 113, 5, Got::Nothing(Cause::Unknown)),
-    (1, 120, 5, Got::Nothing(Cause::Character)),
-    (1, -1, 5, Got::Nothing(Cause::Character)),
-    (1, 307, 5, Got::Nothing(Cause::Character)),
-    (1, 51, -1, Got::Level(Level::L3, 0)),
-    (1, 51, 9999, Got::Level(Level::L3, 3600)),
-    (1, 51, 3600, Got::Level(Level::L3, 3600)),
-    (1, 115, 7, Got::Level(Level::S, 7)),
-    (1, 98, 7, Got::Call(Letter::B)),
-    (1, 81, 7, Got::Reload),
-    (1, 117, 7, Got::Reexec),
+const ROWS: &[(i32, i32, i32, HeardRequest)] = &[
+    (0, 113, 5, HeardRequest::Nothing(Cause::LeftOut)),
+    (2, 113, 5, HeardRequest::Power(PowerKind::Fail)),
+    (3, 113, 5, HeardRequest::Power(PowerKind::FailNow)),
+    (4, 113, 5, HeardRequest::Power(PowerKind::Ok)),
+    (5, 113, 5, HeardRequest::Nothing(Cause::LeftOut)),
+    (6, 113, 5, HeardRequest::Nothing(Cause::LeftOut)),
+    (7, 113, 5, HeardRequest::Nothing(Cause::LeftOut)),
+    (8, 113, 5, HeardRequest::Nothing(Cause::Unknown)),
+    (12345, 113, 5, HeardRequest::Nothing(Cause::LeftOut)),
+    (-1, 113, 5, HeardRequest::Nothing(Cause::Unknown)),
+    (1, 120, 5, HeardRequest::Nothing(Cause::Character)),
+    (1, -1, 5, HeardRequest::Nothing(Cause::Character)),
+    (1, 307, 5, HeardRequest::Nothing(Cause::Character)),
+    (1, 51, -1, HeardRequest::Level(Level::L3, 0)),
+    (1, 51, 9999, HeardRequest::Level(Level::L3, 3600)),
+    (1, 51, 3600, HeardRequest::Level(Level::L3, 3600)),
+    (1, 115, 7, HeardRequest::Level(Level::S, 7)),
+    (1, 98, 7, HeardRequest::Call(Letter::B)),
+    (1, 81, 7, HeardRequest::Reload),
+    (1, 117, 7, HeardRequest::Reexec),
 ];
 
 #[test]
@@ -62,7 +62,7 @@ fn ints_are_read(rt: HostRuntime) {
     }
 }
 
-fn is_written(request: &Request, ints: &[u8; 16], want: Got) -> bool {
+fn is_written(request: &Request, ints: &[u8; 16], want: HeardRequest) -> bool {
     encode(request) == block_of(ints) && meaning(request) == want
 }
 
@@ -70,11 +70,11 @@ fn is_reload_written() -> bool {
     let Some(sign) = Sign::read(b'q') else {
         return false;
     };
-    sign.code() == b'q' && is_written(&Request::Runlvl(sign, 5), &RELOAD, Got::Reload)
+    sign.code() == b'q' && is_written(&Request::Runlvl(sign, 5), &RELOAD, HeardRequest::Reload)
 }
 
 fn is_power_written() -> bool {
-    let back = Got::Power(PowerKind::Ok);
+    let back = HeardRequest::Power(PowerKind::Ok);
     is_written(&Request::Power(PowerKind::Ok), &POWER_BACK, back)
 }
 
@@ -85,27 +85,36 @@ fn requests_are_written(rt: HostRuntime) {
 
 /// Whether of the piece the given number of bytes are taken, this is got, and the given number of bytes of a block are
 /// kept then.
-fn is_fed(blocks: &mut Blocks, piece: &[u8], want: (usize, Option<Got>), rest: usize) -> bool {
+fn is_fed(
+    blocks: &mut Blocks,
+    piece: &[u8],
+    want: (usize, Option<HeardRequest>),
+    rest: usize,
+) -> bool {
     let fed = blocks.feed(piece);
     fed == want && blocks.rest() == rest
 }
 
 /// What a reader takes of these pieces, one after the other; its copy goes on after the third.
-const PIECES: &[(&[u8], (usize, Option<Got>), usize)] = &[
+const PIECES: &[(&[u8], (usize, Option<HeardRequest>), usize)] = &[
     (&[], (0, None), 0),
     (&RELOAD, (16, None), 16),
     (&[0; 367], (367, None), 383),
-    (&[0], (1, Some(Got::Reload)), 0),
-    (&[0; 384], (384, Some(Got::Nothing(Cause::Magic))), 0),
+    (&[0], (1, Some(HeardRequest::Reload)), 0),
+    (
+        &[0; 384],
+        (384, Some(HeardRequest::Nothing(Cause::Magic))),
+        0,
+    ),
 ];
 
 /// What the reader's copy takes next.
-const NEXT_OF_COPY: &[(&[u8], (usize, Option<Got>), usize)] = &[
+const NEXT_OF_COPY: &[(&[u8], (usize, Option<HeardRequest>), usize)] = &[
     (&[], (0, None), 383),
-    (&[0; 384], (1, Some(Got::Reload)), 0),
+    (&[0; 384], (1, Some(HeardRequest::Reload)), 0),
 ];
 
-fn are_fed(blocks: &mut Blocks, pieces: &[(&[u8], (usize, Option<Got>), usize)]) -> bool {
+fn are_fed(blocks: &mut Blocks, pieces: &[(&[u8], (usize, Option<HeardRequest>), usize)]) -> bool {
     for (piece, want, rest) in pieces {
         if !is_fed(blocks, piece, *want, *rest) {
             return false;
@@ -120,7 +129,14 @@ fn a_block_comes_in_pieces(rt: HostRuntime) -> Result<(), Fail> {
     assert!(rt; are_fed(&mut blocks, &PIECES[..3]));
     let mut copy = blocks.clone()?;
     assert!(rt; are_fed(&mut blocks, &PIECES[3..]));
-    assert!(rt; is_fed(&mut blocks, &block_of(&RELOAD), (384, Some(Got::Reload)), 0));
+    assert!(rt;
+        is_fed(
+            &mut blocks,
+            &block_of(&RELOAD),
+            (384, Some(HeardRequest::Reload)),
+            0
+        )
+    );
     assert!(rt; are_fed(&mut copy, NEXT_OF_COPY));
     Ok(())
 }
@@ -135,20 +151,20 @@ fn three_blocks() -> [u8; 1152] {
     bytes
 }
 
-const THREE_GOT: [Got; 4] = [
-    Got::Reload,
-    Got::Nothing(Cause::Magic),
-    Got::Level(Level::L3, 5),
-    Got::Reexec,
+const THREE_GOT: [HeardRequest; 4] = [
+    HeardRequest::Reload,
+    HeardRequest::Nothing(Cause::Magic),
+    HeardRequest::Level(Level::L3, 5),
+    HeardRequest::Reexec,
 ];
 
 fn are_got(pieces: &[&[u8]]) -> bool {
-    let mut room = [Got::Reexec; 4];
+    let mut room = [HeardRequest::Reexec; 4];
     read_pieces(pieces, &mut room) == 3 && room == THREE_GOT
 }
 
 /// Whether the blocks are got however they are cut in three.
-fn are_got_of_cuts(bytes: &[u8; 1152]) -> bool {
+fn are_heard_of_cuts(bytes: &[u8; 1152]) -> bool {
     for first in 0..1153 {
         for second in first..1153 {
             if !are_got(&[&bytes[..first], &bytes[first..second], &bytes[second..]]) {
@@ -161,13 +177,13 @@ fn are_got_of_cuts(bytes: &[u8; 1152]) -> bool {
 
 #[test]
 fn cuts_change_nothing(rt: HostRuntime) {
-    assert!(rt; are_got_of_cuts(&three_blocks()));
+    assert!(rt; are_heard_of_cuts(&three_blocks()));
 }
 
 fn is_first_alone() -> bool {
     let reload = block_of(&RELOAD);
-    let mut room = [Got::Reexec];
-    read_pieces(&[&reload, &reload], &mut room) == 1 && room == [Got::Reload]
+    let mut room = [HeardRequest::Reexec];
+    read_pieces(&[&reload, &reload], &mut room) == 1 && room == [HeardRequest::Reload]
 }
 
 #[test]
@@ -176,7 +192,7 @@ fn requests_past_the_room_are_left_out(rt: HostRuntime) {
 }
 
 /// The block is one request, whatever its bytes are, and nothing of it is kept.
-fn is_one(block: &[u8; BLOCK], want: Got) -> bool {
+fn is_one(block: &[u8; BLOCK], want: HeardRequest) -> bool {
     is_fed(&mut Blocks::new(), block, (BLOCK, Some(want)), 0)
 }
 
@@ -197,7 +213,7 @@ fn are_ones(byte: u8) -> bool {
             return false;
         }
     }
-    is_one(&[byte; BLOCK], Got::Nothing(Cause::Magic))
+    is_one(&[byte; BLOCK], HeardRequest::Nothing(Cause::Magic))
 }
 
 #[test]

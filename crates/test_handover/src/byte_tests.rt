@@ -2,10 +2,10 @@
 //! as it stands, or refused by the first check that fails.
 
 use crate::texts::{STARTED, STARTED_NOW};
+use core_handover::StateFault::{self, Cut, Generation, Line, Unfit, Version};
+use core_handover::{hand_over, take_over};
+use core_steps::Core;
 use init_words::Memory;
-use level_core::Core;
-use reexec_state::Over::{self, Cut, Generation, Line, Unfit, Version};
-use reexec_state::{hand_over, take_over};
 use std::alloc::Global;
 use std::process::Abort;
 use std::test::Fail;
@@ -30,7 +30,7 @@ use Bytes::{FirstOfId, InProcess, OfId, Others, Process, These};
 
 /// A line, counted from 1, with its columns, counted from 0: other bytes there, and what is answered. Of two rows with
 /// the byte the first holds.
-type Row = (usize, usize, usize, Bytes, Option<Over>);
+type Row = (usize, usize, usize, Bytes, Option<StateFault>);
 
 const ALL: usize = 99;
 
@@ -233,7 +233,7 @@ fn has(bytes: Bytes, byte: u8) -> bool {
 }
 
 /// What is answered where the byte stands at this line and column. A row's columns are counted with its ends.
-fn wanted(part: &Part, line: usize, column: usize, byte: u8) -> Option<Over> {
+fn wanted(part: &Part, line: usize, column: usize, byte: u8) -> Option<StateFault> {
     for (own, first, last, bytes, want) in part.heads.iter().chain(part.records) {
         if *own == line && *first <= column && column <= *last && has(*bytes, byte) {
             return *want;
@@ -301,7 +301,7 @@ fn is_again(again: &[u8], text: &[u8], behind: &[u8]) -> bool {
 }
 
 /// What is answered to the text; and where it is taken over, whether it is handed over again as it stands.
-fn answer(alloc: Global, text: &[u8], behind: &str) -> Result<(Option<Over>, bool), Memory> {
+fn answer(alloc: Global, text: &[u8], behind: &str) -> Result<(Option<StateFault>, bool), Memory> {
     let mut core = match take_over(alloc, text, 1) {
         Ok(core) => core,
         Err(why) => return Ok((Some(why), true)),
@@ -427,7 +427,7 @@ fn each_byte_of_ends_is_changed(rt: HostRuntime) -> Result<(), Fail> {
 }
 
 /// A text, the generation that is asked for, and what is answered.
-const WHOLE: &[(&str, u64, Option<Over>)] = &[
+const WHOLE: &[(&str, u64, Option<StateFault>)] = &[
     (STARTED, 1, None),
     (STARTED_NOW, 1, None),
     (OPENING_NOW, 1, None),
@@ -470,7 +470,7 @@ fn each_front_is_cut(rt: HostRuntime) -> Result<(), Fail> {
 }
 
 /// A line of the text, what stands in its place, and what is answered.
-const LINES: &[(&str, &str, Option<Over>)] = &[
+const LINES: &[(&str, &str, Option<StateFault>)] = &[
     // A number and no action.
     (
         "slot b - - start - 1000 - -",

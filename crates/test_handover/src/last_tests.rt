@@ -1,8 +1,8 @@
 //! How the last children ended, handed over and taken over.
 
-use init_words::{Answer, ChildNo, Id, Status};
-use level_core::Core;
-use reexec_state::{Over, hand_over, take_over};
+use core_handover::{StateFault, hand_over, take_over};
+use core_steps::Core;
+use init_words::{Answer, ChildNumber, Id, Status};
 use std::alloc::Global;
 use std::test::Fail;
 
@@ -36,10 +36,10 @@ fn ended(alloc: Global) -> Result<Core, Fail> {
     let mut core = Core::new(alloc, table, None)?;
     let first = id_of(b"a")?;
     step(&mut core, 5);
-    core.answer(first, Answer::Born(ChildNo(700)))?;
-    core.nudge();
+    core.answer(first, Answer::Born(ChildNumber(700)))?;
+    core.begin_round();
     step(&mut core, 1);
-    core.answer(id_of(b"b")?, Answer::Born(ChildNo(700)))?;
+    core.answer(id_of(b"b")?, Answer::Born(ChildNumber(700)))?;
     core.answer(first, Answer::Ended(Status::Exit(0)))?;
     step(&mut core, 1);
     Ok(core)
@@ -68,15 +68,15 @@ fn a_last_status_is_handed_over(rt: HostRuntime) -> Result<(), Fail> {
 }
 
 /// A version, the records, what is answered, and the last status of `a`.
-const TAKEN: &[(u64, &str, Option<Over>, Option<Status>)] = &[
+const TAKEN: &[(u64, &str, Option<StateFault>, Option<Status>)] = &[
     (2, SLOTS, None, Some(Status::Exit(0))),
     (1, OLD_SLOTS, None, None),
-    (2, OLD_SLOTS, Some(Over::Line(12)), None),
-    (1, SLOTS, Some(Over::Line(12)), None),
+    (2, OLD_SLOTS, Some(StateFault::Line(12)), None),
+    (1, SLOTS, Some(StateFault::Line(12)), None),
 ];
 
 /// Why the text is not taken over, and the last status of `a` where it is.
-fn answer(alloc: Global, text: &str) -> Result<(Option<Over>, Option<Status>), Fail> {
+fn answer(alloc: Global, text: &str) -> Result<(Option<StateFault>, Option<Status>), Fail> {
     match take_over(alloc, text.as_bytes(), 1) {
         Ok(core) => Ok((None, last_of(&core, b"a")?)),
         Err(why) => Ok((Some(why), None)),

@@ -1,10 +1,10 @@
 //! One line of a text is replaced by others, and the text is read or refused.
 
 use crate::texts::{STARTED, STARTED_NOW, is_answered};
-use state_text::Over::{self, Cut, Generation, Line, Version};
+use core_text::StateFault::{self, Cut, Generation, Line, Version};
 
 /// The number of a line, what stands in its place, and why the text is refused.
-const HEADS: &[(usize, &str, Over)] = &[
+const HEADS: &[(usize, &str, StateFault)] = &[
     // Each version has lines of its own.
     (1, "initd-state 2", Line(12)),
     (1, "initd-state 3", Version),
@@ -143,7 +143,7 @@ const HEADS: &[(usize, &str, Over)] = &[
     (7, "wish 00 - 000 000\nwish 00 - 000 000", Line(8)),
 ];
 
-const TABLES: &[(usize, &str, Over)] = &[
+const TABLES: &[(usize, &str, StateFault)] = &[
     (8, "", Line(8)),
     (8, "table", Line(8)),
     (8, "table ", Line(8)),
@@ -192,7 +192,7 @@ const TABLES: &[(usize, &str, Over)] = &[
     (11, "b:3:once:y\nc:3:once:y", Line(12)),
 ];
 
-const SLOTS: &[(usize, &str, Over)] = &[
+const SLOTS: &[(usize, &str, StateFault)] = &[
     (12, "table 3", Line(12)),
     (12, "id:3:initdefault:", Line(12)),
     (13, "b:3:once:y", Line(13)),
@@ -290,7 +290,7 @@ const SLOTS: &[(usize, &str, Over)] = &[
     (14, "slot b - - start - 1000 - 0,", Line(14)),
 ];
 
-const ENDS: &[(usize, &str, Over)] = &[
+const ENDS: &[(usize, &str, StateFault)] = &[
     // A line of a record too few, and one too many.
     (12, "", Line(14)),
     (13, "", Line(14)),
@@ -403,7 +403,7 @@ fn read_lines(rt: HostRuntime) {
 }
 
 /// The same of a text of version 2.
-const LASTS: &[(usize, &str, Option<Over>)] = &[
+const LASTS: &[(usize, &str, Option<StateFault>)] = &[
     (1, "initd-state 1", Some(Line(12))),
     (13, "slot a - - start - 1000 - 0", Some(Line(13))),
     (13, "slot a - - start - 1000 - 0 ", Some(Line(13))),

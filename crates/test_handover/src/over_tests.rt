@@ -1,10 +1,10 @@
 //! States and their texts, worked out by hand.
 
 use crate::states::{INITTAB, SETTLED, settle};
-use init_words::{Answer, Ask, Id, Letter, Level, Stage, Status};
-use initctl_frame::Got;
-use level_core::{Core, Step};
-use reexec_state::{Over, generation_of, hand_over, take_over};
+use core_handover::{StateFault, generation_of, hand_over, take_over};
+use core_steps::{Core, Step};
+use init_words::{Answer, Id, Letter, Level, OrderKind, Stage, Status};
+use initctl_frame::HeardRequest;
 use std::alloc::Global;
 use std::process::Abort;
 use std::test::Fail;
@@ -107,7 +107,7 @@ const STATES: &[(&str, &str, bool)] = &[
 ];
 
 /// Why a text is not taken over, if it isn't.
-fn refused(alloc: Global, text: &[u8], generation: u64) -> Option<Over> {
+fn refused(alloc: Global, text: &[u8], generation: u64) -> Option<StateFault> {
     match take_over(alloc, text, generation) {
         Ok(_) => None,
         Err(why) => Some(why),
@@ -120,7 +120,7 @@ fn states(rt: HostRuntime) -> Result<(), Fail> {
         let text = format!(in rt.alloc();
             "initd-state 1\ngeneration 1\nclock 7\n{heads}{TABLE}{slots}"
         )?;
-        let want = if *fits { None } else { Some(Over::Unfit) };
+        let want = if *fits { None } else { Some(StateFault::Unfit) };
         assert!(rt; refused(rt.alloc(), text.as_bytes(), 1) == want, "{text}");
     }
     Ok(())
@@ -131,7 +131,7 @@ fn settled(alloc: Global) -> Result<Core, Fail> {
     let (table, _) = inittab_text::read(alloc, INITTAB)?;
     let mut core = Core::new(alloc, table, Some(Level::L3))?;
     settle(&mut core)?;
-    core.got(Got::Reexec);
+    core.got(HeardRequest::Reexec);
     Ok(core)
 }
 
@@ -163,8 +163,8 @@ fn taken_over(rt: HostRuntime) -> Result<(), Fail> {
 #[test]
 fn other_texts(rt: HostRuntime) -> Result<(), Fail> {
     let text = format!(in rt.alloc(); "initd-state 2\ngeneration 1\n{SETTLED}")?;
-    assert!(rt; refused(rt.alloc(), text.as_bytes(), 2) == Some(Over::Generation));
-    assert!(rt; refused(rt.alloc(), b"initd-state 1\ngeneration 1\n", 1) == Some(Over::Cut));
+    assert!(rt; refused(rt.alloc(), text.as_bytes(), 2) == Some(StateFault::Generation));
+    assert!(rt; refused(rt.alloc(), b"initd-state 1\ngeneration 1\n", 1) == Some(StateFault::Cut));
     Ok(())
 }
 
@@ -172,7 +172,7 @@ fn other_texts(rt: HostRuntime) -> Result<(), Fail> {
 fn last_generation(rt: HostRuntime) -> Result<(), Fail> {
     let text = format!(in rt.alloc(); "initd-state 2\ngeneration {}\n{SETTLED}", u64::MAX)?;
     let mut core = take_over(rt.alloc(), text.as_bytes(), u64::MAX)?;
-    assert!(rt; hand_over(rt.alloc(), &mut core) == Err(Over::Worn));
+    assert!(rt; hand_over(rt.alloc(), &mut core) == Err(StateFault::Worn));
     assert!(rt; core.generation() == u64::MAX);
     Ok(())
 }
@@ -216,7 +216,7 @@ const CALLED: &[(&str, bool)] = &[
 fn records_of_a_called_entry(rt: HostRuntime) -> Result<(), Fail> {
     for (slot, fits) in CALLED {
         let text = format!(in rt.alloc(); "{ON_CALL}{slot}\nend 10\n")?;
-        let want = if *fits { None } else { Some(Over::Unfit) };
+        let want = if *fits { None } else { Some(StateFault::Unfit) };
         assert!(rt; refused(rt.alloc(), text.as_bytes(), 1) == want, "{slot}");
     }
     Ok(())
@@ -224,14 +224,14 @@ fn records_of_a_called_entry(rt: HostRuntime) -> Result<(), Fail> {
 
 /// Calls the letter of the entry.
 fn is_called(core: &mut Core) -> bool {
-    core.got(Got::Call(Letter::A));
+    core.got(HeardRequest::Call(Letter::A));
     matches!(core.next(), Step::Call(Letter::A))
 }
 
 /// The step after the end of its child, which a look found.
 fn after_the_end(core: &mut Core) -> Option<Step> {
-    core.nudge();
-    if !matches!(core.next(), Step::Order(_, Ask::Look)) {
+    core.begin_round();
+    if !matches!(core.next(), Step::Order(_, OrderKind::Look)) {
         return None;
     }
     core.answer(Id::read(b"d")?, Answer::Ended(Status::Exit(0)))
@@ -251,6 +251,11 @@ fn a_child_that_lived_on_is_called_again(rt: HostRuntime) -> Result<(), Fail> {
     assert!(rt; matches!(after_the_end(&mut core), Some(Step::Idle)));
     let mut core = lived_on(rt.alloc())?;
     assert!(rt; is_called(&mut core));
-    assert!(rt; matches!(after_the_end(&mut core), Some(Step::Order(_, Ask::Start))));
+    assert!(rt;
+        matches!(
+            after_the_end(&mut core),
+            Some(Step::Order(_, OrderKind::Start))
+        )
+    );
     Ok(())
 }

@@ -1,11 +1,11 @@
 //! Growths are refused in turn, on heaps of more and more room. A refused hand-over leaves the core as it was.
 
 use crate::states::SETTLED;
+use core_handover::{StateFault, hand_over, take_over};
+use core_steps::{Core, Rebuild};
+use core_text::read_state;
 use init_words::Refusal;
-use level_core::{Core, Rebuild};
 use linked_list_allocator::LocalHeap;
-use reexec_state::{Over, hand_over, take_over};
-use state_text::read_state;
 use std::alloc::{Allocator, Global};
 use std::test::Fail;
 
@@ -60,7 +60,7 @@ fn hands_on(alloc: Global, room: usize) -> Result<bool, Fail> {
     let given = hand_over(&heap, &mut core);
     match given {
         Ok(text) if is_again(&text, BUSY_AGAIN) => Ok(true),
-        Err(Over::Memory) if hands_over(alloc, &mut core, BUSY_AGAIN) => Ok(false),
+        Err(StateFault::Memory) if hands_over(alloc, &mut core, BUSY_AGAIN) => Ok(false),
         _ => Err(Fail::from("another text")),
     }
 }
@@ -93,7 +93,7 @@ fn is_taken(alloc: Global, text: &str, room: usize) -> Result<bool, Fail> {
     let heap = LocalHeap::new(alloc, room)?;
     match take_over(&heap, text.as_bytes(), 1) {
         Ok(_) => Ok(true),
-        Err(Over::Memory) => Ok(false),
+        Err(StateFault::Memory) => Ok(false),
         Err(_) => Err(Fail::from("another refusal")),
     }
 }

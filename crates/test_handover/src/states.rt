@@ -1,7 +1,7 @@
 //! A state that init comes to, and its text.
 
-use init_words::{Answer, Ask, ChildNo, Refusal, Status};
-use level_core::{Core, Step};
+use core_steps::{Core, Step};
+use init_words::{Answer, ChildNumber, OrderKind, Refusal, Status};
 
 pub(crate) const INITTAB: &[u8] = b"w:3:wait:a\nr:3:respawn:b\n";
 
@@ -9,17 +9,17 @@ pub(crate) const INITTAB: &[u8] = b"w:3:wait:a\nr:3:respawn:b\n";
 pub(crate) const SETTLED: &str = "clock 7\nstage 3 5\ngoal 3 5\nflags 11\nwish 00 - 000 000\n\
     table 2\nw:3:wait:a\nr:3:respawn:b\nslot w - - - - 1000 - - exit:0\nslot r 700 respawn - - 1000 - 7 -\nend 12\n";
 
-fn answer_to(ask: Ask) -> Answer {
+fn answer_to(ask: OrderKind) -> Answer {
     match ask {
-        Ask::Start => Answer::Born(ChildNo(700)),
-        Ask::Look | Ask::Term | Ask::Kill => Answer::Ended(Status::Exit(0)),
+        OrderKind::Start => Answer::Born(ChildNumber(700)),
+        OrderKind::Look | OrderKind::Term | OrderKind::Kill => Answer::Ended(Status::Exit(0)),
     }
 }
 
 fn take(core: &mut Core, step: &Step) -> Result<(), Refusal> {
     match *step {
         Step::Order(id, ask) => core.answer(id, answer_to(ask))?,
-        Step::Idle => core.nudge(),
+        Step::Idle => core.begin_round(),
         _ => {}
     }
     Ok(())

@@ -1,13 +1,13 @@
 //! Texts that are cut short, texts of other shapes, and which check comes first.
 
 use crate::texts::{OPENING, STARTED, STARTED_NOW, refusal};
-use state_text::Over::{self, Cut, Generation, Line, Version};
+use core_text::StateFault::{self, Cut, Generation, Line, Version};
 use std::alloc::Global;
 use std::fmt::Write;
 use std::test::Fail;
 
 /// A text, the generation that is asked for, and why it is refused.
-const TEXTS: &[(&str, u64, Over)] = &[
+const TEXTS: &[(&str, u64, StateFault)] = &[
     (STARTED, 2, Generation),
     (STARTED, 0, Generation),
     ("", 0, Cut),
@@ -104,14 +104,14 @@ fn add_entries(text: &mut String, version: u64, entries: u64) -> Result<(), Fail
     Ok(())
 }
 
-fn entries_answered(alloc: Global, version: u64, entries: u64) -> Result<Option<Over>, Fail> {
+fn entries_answered(alloc: Global, version: u64, entries: u64) -> Result<Option<StateFault>, Fail> {
     let mut text = String::new(alloc);
     add_entries(&mut text, version, entries)?;
     Ok(refusal(alloc, text.as_bytes(), 1))
 }
 
 /// A version, and how many entries there are: the first that is too many is refused.
-const LARGEST: &[(u64, u64, Option<Over>)] = &[
+const LARGEST: &[(u64, u64, Option<StateFault>)] = &[
     (1, 512, None),
     (1, 513, Some(Line(521))),
     (2, 513, None),

@@ -1,4 +1,4 @@
-use state_text::{Over, read_state};
+use core_text::{StateFault, read_state};
 use std::alloc::{AllocError, Global};
 
 /// The state of an init with two starts under way, in runlevel 3, that was re-executed once.
@@ -50,7 +50,7 @@ end 8
 ";
 
 /// Why a text of this generation is refused, none where it is read.
-pub(crate) fn refusal(alloc: Global, text: &[u8], generation: u64) -> Option<Over> {
+pub(crate) fn refusal(alloc: Global, text: &[u8], generation: u64) -> Option<StateFault> {
     read_state(alloc, text, generation).err()
 }
 
@@ -73,7 +73,7 @@ pub(crate) fn is_answered(
     whole: &str,
     number: usize,
     lines: &str,
-    want: Option<Over>,
+    want: Option<StateFault>,
 ) -> bool {
     match replaced(alloc, whole, number, lines) {
         Ok(text) => refusal(alloc, text.as_bytes(), 1) == want,

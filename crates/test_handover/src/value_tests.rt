@@ -1,15 +1,15 @@
 //! What is written of a core, and the values that a text is read as.
 
 use crate::texts::STARTED;
-use child_table::Stop;
-use core_model::{Heads, News, Parts, Record};
-use init_trace::Goal;
-use init_words::{Act, Ask, ChildNo, Level, Memory, Stage, Status};
+use core_model::{CoreFields, News, Parts, PlainRecord};
+use core_records::Stop;
+use core_steps::Core;
+use core_text::{StateFault, generation_of, read_state, write_state};
+use init_words::{Act, ChildNumber, Level, Memory, OrderKind, Stage, Status};
 use inittab_text::Table;
-use level_core::Core;
-use state_text::{Over, generation_of, read_state, write_state};
 use std::alloc::Global;
 use std::test::Fail;
+use trace_events::Goal;
 
 const TABLE: &str = "id:3:initdefault:\na:3:respawn:x\nb:3:once:y\n";
 
@@ -36,7 +36,7 @@ struct Kept {
     id: &'static str,
     child: Option<u32>,
     act: Option<Act>,
-    order: Option<Ask>,
+    order: Option<OrderKind>,
     stop: Option<Stop>,
     flags: [bool; 4],
     held_until: Option<u64>,
@@ -60,7 +60,7 @@ const STARTED_RECORDS: &[Kept] = &[
         id: "a",
         child: None,
         act: None,
-        order: Some(Ask::Start),
+        order: Some(OrderKind::Start),
         stop: None,
         flags: [true, false, false, false],
         held_until: None,
@@ -71,7 +71,7 @@ const STARTED_RECORDS: &[Kept] = &[
         id: "b",
         child: None,
         act: None,
-        order: Some(Ask::Start),
+        order: Some(OrderKind::Start),
         stop: None,
         flags: [true, false, false, false],
         held_until: None,
@@ -113,7 +113,7 @@ const BUSY_RECORDS: &[Kept] = &[
         id: "p",
         child: Some(4_294_967_295),
         act: Some(Act::Powerokwait),
-        order: Some(Ask::Look),
+        order: Some(OrderKind::Look),
         stop: Some(Stop::Termed(690)),
         flags: [false, true, true, true],
         held_until: Some(1000),
@@ -124,7 +124,7 @@ const BUSY_RECORDS: &[Kept] = &[
         id: "old",
         child: Some(0),
         act: Some(Act::Boot),
-        order: Some(Ask::Kill),
+        order: Some(OrderKind::Kill),
         stop: Some(Stop::Due),
         flags: [true, false, false, false],
         held_until: None,
@@ -135,7 +135,7 @@ const BUSY_RECORDS: &[Kept] = &[
         id: "~",
         child: Some(7),
         act: Some(Act::Off),
-        order: Some(Ask::Term),
+        order: Some(OrderKind::Term),
         stop: Some(Stop::Killed(18_446_744_073_709_551_615)),
         flags: [false, false, false, true],
         held_until: Some(0),
@@ -144,7 +144,7 @@ const BUSY_RECORDS: &[Kept] = &[
     },
 ];
 
-const BUSY_HEADS: Heads = Heads {
+const BUSY_HEADS: CoreFields = CoreFields {
     generation: 18_446_744_073_709_551_615,
     time: 700,
     stage: Some(Stage::Run(Level::S)),
@@ -182,8 +182,8 @@ fn started(alloc: Global) -> Result<Core, Fail> {
 }
 
 /// The heads of that core.
-fn started_heads() -> Heads {
-    Heads {
+fn started_heads() -> CoreFields {
+    CoreFields {
         generation: 1,
         time: 0,
         stage: Some(Stage::Run(Level::L3)),
@@ -202,8 +202,8 @@ fn started_heads() -> Heads {
 }
 
 /// What the core tells of its heads, and the rest by hand.
-fn heads_of(core: &Core) -> Heads {
-    Heads {
+fn heads_of(core: &Core) -> CoreFields {
+    CoreFields {
         time: core.time(),
         stage: core.stage(),
         goal: core.goal(),
@@ -211,59 +211,59 @@ fn heads_of(core: &Core) -> Heads {
     }
 }
 
-fn text_of(alloc: Global, heads: &Heads, core: &Core) -> Result<Vec<u8>, Memory> {
+fn text_of(alloc: Global, heads: &CoreFields, core: &Core) -> Result<Vec<u8>, Memory> {
     write_state(alloc, heads, core.table(), core.slots().as_slice())
 }
 
-fn is_written(alloc: Global, heads: &Heads, core: &Core, want: &str) -> Result<bool, Memory> {
+fn is_written(alloc: Global, heads: &CoreFields, core: &Core, want: &str) -> Result<bool, Memory> {
     Ok(text_of(alloc, heads, core)?.as_slice() == want.as_bytes())
 }
 
-fn is_timed(heads: &Heads, want: &Heads) -> bool {
+fn is_timed(heads: &CoreFields, want: &CoreFields) -> bool {
     (heads.generation, heads.time, heads.grace) == (want.generation, want.time, want.grace)
 }
 
-fn is_placed(heads: &Heads, want: &Heads) -> bool {
+fn is_placed(heads: &CoreFields, want: &CoreFields) -> bool {
     heads.stage == want.stage && heads.goal == want.goal
 }
 
-fn flags_of(heads: &Heads) -> [bool; 4] {
+fn flags_of(heads: &CoreFields) -> [bool; 4] {
     [heads.booted, heads.announced, heads.reread, heads.reexec]
 }
 
-fn is_wished(heads: &Heads, want: &Heads) -> bool {
+fn is_wished(heads: &CoreFields, want: &CoreFields) -> bool {
     heads.level_wish == want.level_wish && heads.news == want.news
 }
 
-fn are_heads(heads: &Heads, want: &Heads) -> bool {
+fn are_heads(heads: &CoreFields, want: &CoreFields) -> bool {
     is_timed(heads, want)
         && is_placed(heads, want)
         && flags_of(heads) == flags_of(want)
         && is_wished(heads, want)
 }
 
-fn number_of(record: &Record) -> Option<u32> {
-    let ChildNo(number) = record.child?;
+fn number_of(record: &PlainRecord) -> Option<u32> {
+    let ChildNumber(number) = record.child?;
     Some(number)
 }
 
-fn is_born(record: &Record, kept: &Kept) -> bool {
+fn is_born(record: &PlainRecord, kept: &Kept) -> bool {
     record.id.as_bytes() == kept.id.as_bytes()
         && number_of(record) == kept.child
         && record.act == kept.act
 }
 
-fn is_ordered(record: &Record, kept: &Kept) -> bool {
+fn is_ordered(record: &PlainRecord, kept: &Kept) -> bool {
     record.order == kept.order && record.stop == kept.stop
 }
 
-fn is_timely(record: &Record, kept: &Kept) -> bool {
+fn is_timely(record: &PlainRecord, kept: &Kept) -> bool {
     record.held_until == kept.held_until
         && record.starts.as_slice() == kept.starts
         && record.last == kept.last
 }
 
-fn is_kept(record: &Record, kept: &Kept) -> bool {
+fn is_kept(record: &PlainRecord, kept: &Kept) -> bool {
     let flags = [record.asked, record.called, record.look, record.missed];
     is_born(record, kept)
         && is_ordered(record, kept)
@@ -271,7 +271,7 @@ fn is_kept(record: &Record, kept: &Kept) -> bool {
         && is_timely(record, kept)
 }
 
-fn are_kept(records: &[Record], kept: &[Kept]) -> bool {
+fn are_kept(records: &[PlainRecord], kept: &[Kept]) -> bool {
     records.len() == kept.len()
         && records
             .iter()
@@ -288,17 +288,17 @@ fn is_table(alloc: Global, parts: &Parts, lines: &str) -> Result<bool, Memory> {
     Ok(text.as_slice() == lines.as_bytes())
 }
 
-fn are_parts(parts: &Parts, heads: &Heads, kept: &[Kept]) -> bool {
+fn are_parts(parts: &Parts, heads: &CoreFields, kept: &[Kept]) -> bool {
     are_heads(&parts.heads, heads) && are_kept(parts.records.as_slice(), kept)
 }
 
 fn is_said(
     alloc: Global,
     text: &str,
-    heads: &Heads,
+    heads: &CoreFields,
     table: &str,
     kept: &[Kept],
-) -> Result<bool, Over> {
+) -> Result<bool, StateFault> {
     let parts = read_state(alloc, text.as_bytes(), heads.generation)?;
     Ok(are_parts(&parts, heads, kept) && is_table(alloc, &parts, table)?)
 }

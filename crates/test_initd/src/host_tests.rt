@@ -2,13 +2,12 @@
 
 ghost use Rattle.std.specs.Prelude.{option_and_then};
 
-use channel_files::ChannelLock;
-use child_host::{Call, Host, Reply};
-use init_words::{Answer, ChildNo, Memory, Status};
+use host_calls::{Call, Host, Reply};
+use host_scripted::MemoryHost;
+use init_words::{Answer, ChildNumber, Memory, Status};
 use initd_command::{Hosts, run_words};
 use initd_options::RunWords;
-use memory_host::MemoryHost;
-use path_texts::KeptTexts;
+use program_io::{ChannelLock, KeptTexts};
 use std::alloc::Global;
 use std::test::Fail;
 use test_support::line_words;
@@ -123,7 +122,7 @@ fn counts_of(calls: &[Call]) -> (usize, usize, usize) {
 fn host_of(alloc: Global, row: &Row) -> Result<MemoryHost, Memory> {
     let mut host = MemoryHost::new(alloc);
     host.give_start(match row.born {
-        Some(number) => Reply::Now(Answer::Born(ChildNo(number))),
+        Some(number) => Reply::Now(Answer::Born(ChildNumber(number))),
         None => Reply::Later,
     })?;
     if let Some(code) = row.ended {

@@ -1,15 +1,15 @@
 //! A run that is judged, over a host that breaks a law: the state that init hands itself comes back without a child, so
 //! that a second one of its entry is born.
 
-use child_host::{Bytes, Reply};
-use init_words::{Answer, ChildNo};
+use host_calls::{Bytes, Reply};
+use host_scripted::MemoryHost;
+use init_turns::Opening;
+use init_words::{Answer, ChildNumber};
 use initctl_frame::{Request, Sign, encode};
 use initd_command::make_turns;
 use initd_options::{Words, read_words};
-use memory_host::MemoryHost;
 use std::alloc::Global;
 use std::test::Fail;
-use supervisor::Opening;
 use test_support::line_words;
 use trace_log::ListLog;
 
@@ -21,8 +21,8 @@ const FORGED: &[u8] =
 
 /// In the first turn a child is born; in the second init is asked to re-execute itself, and a child is born again.
 fn give(alloc: Global, host: &mut MemoryHost) -> Result<(), Fail> {
-    host.give_start(Reply::Now(Answer::Born(ChildNo(10))))?;
-    host.give_start(Reply::Now(Answer::Born(ChildNo(11))))?;
+    host.give_start(Reply::Now(Answer::Born(ChildNumber(10))))?;
+    host.give_start(Reply::Now(Answer::Born(ChildNumber(11))))?;
     host.give_bytes(Ok(Bytes::copy_of(alloc, b"")?))?;
     let Some(sign) = Sign::read(b'u') else {
         return Err(Fail::from("no sign"));

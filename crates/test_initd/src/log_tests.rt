@@ -1,16 +1,16 @@
 //! Turns over a log: what is left of it behind them.
 
-use brief_log::BriefLog;
-use child_host::Reply;
-use init_words::{Answer, ChildNo};
+use host_calls::Reply;
+use host_scripted::MemoryHost;
+use init_turns::Opening;
+use init_words::{Answer, ChildNumber};
 use initd_command::make_turns;
 use initd_options::{Words, read_words};
-use memory_host::MemoryHost;
 use std::alloc::Global;
 use std::test::Fail;
-use supervisor::Opening;
 use test_support::line_words;
 use trace_log::{EndedLog, StreamLog};
+use trace_log_wrappers::BriefLog;
 
 const INITTAB: &[u8] = b"r:3:respawn:x\n";
 
@@ -27,7 +27,7 @@ const BRIEF: &[u8] =
 
 fn host_of(alloc: Global) -> Result<MemoryHost, Fail> {
     let mut host = MemoryHost::new(alloc);
-    host.give_start(Reply::Now(Answer::Born(ChildNo(10))))?;
+    host.give_start(Reply::Now(Answer::Born(ChildNumber(10))))?;
     host.give_look(Reply::Now(Answer::Alive))?;
     host.give_look(Reply::Now(Answer::Alive))?;
     Ok(host)

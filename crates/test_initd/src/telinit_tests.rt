@@ -2,9 +2,9 @@
 //! its words. What else it answers to a command line: tools/pages.d/telinit.
 
 use crate::one_channel::OneChannel;
+use command_words::{KIT, VERSION};
 use initctl_frame::BLOCK;
 use program_io::{report_unread_words, unread_status};
-use program_version::{KIT, VERSION};
 use std::alloc::Global;
 use std::io;
 use std::io::ErrorKind;
@@ -20,11 +20,6 @@ const VERSIONS: &[(usize, u8, &str)] = &[
     (0, 4, "telinit: cannot write\n"),
 ];
 
-/// The bytes are the line of the version, as much of it as there was room for.
-fn is_version(taken: &[u8], line: &str, room: usize) -> bool {
-    line.as_bytes().starts_with(taken) && taken.len() == line.len().min(room)
-}
-
 fn is_written(
     rt: &HostRuntime,
     alloc: Global,
@@ -37,7 +32,7 @@ fn is_written(
     let mut err: Vec<u8> = Vec::new(alloc);
     run_words(&mut OsChannels::new(rt), alloc, words, &mut out, &mut err) == status
         && err.as_slice() == report.as_bytes()
-        && is_version(out.taken.as_slice(), line, room)
+        && out.has_line(line)
 }
 
 #[test]

@@ -1,12 +1,12 @@
 //! What a run reports that init waits for at the limit of turns, over hosts that answer late, or never.
 
-use child_host::Reply;
-use init_words::{Answer, ChildNo};
+use host_calls::Reply;
+use host_scripted::MemoryHost;
+use init_turns::Opening;
+use init_words::{Answer, ChildNumber};
 use initd_command::make_turns;
 use initd_options::{Words, read_words};
-use memory_host::MemoryHost;
 use std::test::Fail;
-use supervisor::Opening;
 use test_support::line_words;
 use trace_log::ListLog;
 
@@ -34,7 +34,7 @@ const WAITS: &[(&[u8], &[Option<u32>], &[u8])] = &[
 /// The reply to a start: a birth with this number, or one that comes later.
 fn reply_of(number: Option<u32>) -> Reply {
     match number {
-        Some(number) => Reply::Now(Answer::Born(ChildNo(number))),
+        Some(number) => Reply::Now(Answer::Born(ChildNumber(number))),
         None => Reply::Later,
     }
 }

@@ -2,7 +2,7 @@
 //! tools/pages.d/initd-lines.
 
 use initd_command::{OsHosts, run_words};
-use path_texts::{KeptTexts, Texts};
+use program_io::{KeptTexts, Texts};
 use std::alloc::{AllocError, Global};
 use std::fs;
 use std::fs::File;

@@ -1,6 +1,6 @@
 //! The command line of rc, with real children.
 
-use program_version::{KIT, VERSION};
+use command_words::{KIT, VERSION};
 use rc_command::{SystemFiles, SystemHosts, run_words};
 use std::alloc::Global;
 use std::fs;
@@ -255,11 +255,6 @@ fn refused_words_are_named(rt: HostRuntime) -> Result<(), Fail> {
 /// The room of a writer, and the status and the report of a run that writes the version there.
 const VERSIONS: &[(usize, u8, &str)] = &[(100, 0, ""), (7, 4, "rc: cannot write\n")];
 
-/// The bytes are the line of the version, as much of it as there was room for.
-fn is_version(taken: &[u8], line: &str, room: usize) -> bool {
-    line.as_bytes().starts_with(taken) && taken.len() == line.len().min(room)
-}
-
 fn version_is_written<R>(
     rt: &R,
     hosts: &mut SystemHosts<R>,
@@ -283,11 +278,7 @@ where
         &mut out,
         &mut err,
     );
-    assert!(rt;
-        ended == status
-            && err.as_slice() == report.as_bytes()
-            && is_version(out.taken.as_slice(), line, room)
-    );
+    assert!(rt; ended == status && err.as_slice() == report.as_bytes() && out.has_line(line));
 }
 
 #[test]

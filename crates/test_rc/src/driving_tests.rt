@@ -1,8 +1,8 @@
 //! Runs over a scripted host.
 
-use child_host::{Call, HostFault, Reply};
-use init_words::{Answer, ChildNo, Id, Level, Sig, Status};
-use memory_host::MemoryHost;
+use host_calls::{Call, HostFault, Reply};
+use host_scripted::MemoryHost;
+use init_words::{Answer, ChildNumber, Id, Level, SignalKind, Status};
 use rc_driver::{Passage, Rc, RcStep, RunEnd, RunWay, print_links, run_links};
 use std::alloc::Global;
 use std::process::Abort;
@@ -116,7 +116,7 @@ const ROWS: &[Row] = &[
 
 fn answer_of(letter: u8) -> Answer {
     match letter {
-        b'b' => Answer::Born(ChildNo(7)),
+        b'b' => Answer::Born(ChildNumber(7)),
         b'n' => Answer::NotBorn,
         b'e' => Answer::Ended(Status::Exit(0)),
         b't' => Answer::Ended(Status::Exit(3)),
@@ -180,8 +180,8 @@ fn letter_of(call: &Call) -> u8 {
         Call::Late(_) => b'A',
         Call::Pause => b'P',
         Call::Clock(_) => b'C',
-        Call::Signal(_, Sig::Term, _) => b'T',
-        Call::Signal(_, Sig::Kill, _) => b'K',
+        Call::Signal(_, SignalKind::Term, _) => b'T',
+        Call::Signal(_, SignalKind::Kill, _) => b'K',
         _ => b'?',
     }
 }

@@ -1,10 +1,10 @@
 //! Growths are refused in turn, on heaps of more and more room, until a call meets no refusal: what is answered is lack
 //! of memory, and what was written is a front of the lines.
 
-use child_host::Reply;
-use init_words::{Answer, ChildNo, Level, Memory, Status};
+use host_calls::Reply;
+use host_scripted::MemoryHost;
+use init_words::{Answer, ChildNumber, Level, Memory, Status};
 use linked_list_allocator::LocalHeap;
-use memory_host::MemoryHost;
 use rc_driver::{Arg, Passage, Rc, RcStep, RunEnd, RunWay, run_links};
 use std::alloc::Global;
 use std::process::Abort;
@@ -41,7 +41,7 @@ fn names_of(alloc: Global, names: &[&str]) -> Result<Vec<String>, Fail> {
 fn host_of(alloc: Global) -> Result<MemoryHost, Memory> {
     let mut host = MemoryHost::new(alloc);
     for _ in 0..3 {
-        host.give_start(Reply::Now(Answer::Born(ChildNo(7))))?;
+        host.give_start(Reply::Now(Answer::Born(ChildNumber(7))))?;
         host.give_look(Reply::Now(Answer::Ended(Status::Exit(0))))?;
     }
     Ok(host)

@@ -3,9 +3,9 @@
 ghost use Rattle.std.specs.Prelude.{option_and_then};
 
 use crate::driving_tests::{are_calls, give_looks, give_starts};
-use child_host::Host;
+use host_calls::Host;
+use host_scripted::MemoryHost;
 use init_words::{Level, Memory};
-use memory_host::MemoryHost;
 use rc_command::{KeptFolders, KeptLevel, ScriptHosts, run_words};
 use std::alloc::Global;
 use std::test::Fail;

@@ -1,8 +1,8 @@
 //! Lists of names run over a scripted host, and folders that are kept in memory.
 
-use child_host::Reply;
-use init_words::{Answer, ChildNo, Status};
-use memory_host::MemoryHost;
+use host_calls::Reply;
+use host_scripted::MemoryHost;
+use init_words::{Answer, ChildNumber, Status};
 use rc_command::{
     Folders, KeptFolders, KeptLevel, LevelFiles, RunOptions, SystemFiles, SystemHosts, run_names,
     run_words,
@@ -81,7 +81,7 @@ const ROWS: &[Row] = &[
 fn host_of(alloc: Global, ends: usize) -> Result<MemoryHost, Fail> {
     let mut host = MemoryHost::new(alloc);
     for _ in 0..ends {
-        host.give_start(Reply::Now(Answer::Born(ChildNo(7))))?;
+        host.give_start(Reply::Now(Answer::Born(ChildNumber(7))))?;
         host.give_look(Reply::Now(Answer::Ended(Status::Exit(0))))?;
     }
     Ok(host)

@@ -1,8 +1,8 @@
 //! Runs of rclinks. The cases are rows of the words, the status, what is written on standard output, and what is told
 //! on standard error.
 
-use path_texts::Texts;
-use program_version::{KIT, VERSION};
+use command_words::{KIT, VERSION};
+use program_io::Texts;
 use rclinks_command::{KeptLinks, run_words};
 use std::alloc::Global;
 use std::fs;
@@ -391,11 +391,6 @@ const VERSIONS: &[(usize, bool, u8, &str)] = &[
     (7, false, 4, "rclinks: cannot write\n"),
 ];
 
-/// The bytes are the line of the version, as much of it as there was room for.
-fn is_version(taken: &[u8], line: &str, room: usize) -> bool {
-    line.as_bytes().starts_with(taken) && taken.len() == line.len().min(room)
-}
-
 fn version_is_written<T: Texts>(
     rt: &impl Abort,
     texts: &T,
@@ -415,11 +410,7 @@ fn version_is_written<T: Texts>(
         &mut out,
         &mut err,
     );
-    assert!(rt;
-        ended == status
-            && err.as_slice() == report.as_bytes()
-            && is_version(out.taken.as_slice(), line, room)
-    );
+    assert!(rt; ended == status && err.as_slice() == report.as_bytes() && out.has_line(line));
 }
 
 #[test]

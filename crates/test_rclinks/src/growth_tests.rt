@@ -2,9 +2,8 @@
 //! of memory.
 
 use init_words::{Level, Memory};
-use link_changes::{Change, Folder, FolderEntry};
 use linked_list_allocator::LocalHeap;
-use rc_links::{PlanFault, Script};
+use rc_links::{Change, Folder, FolderEntry, PlanFault, Script};
 use std::alloc::{Allocator, Global};
 use std::process::Abort;
 use std::test::Fail;
@@ -24,7 +23,7 @@ const LINKS: &[u8] =
 
 /// The script of a name and a header; None where there is no room for it.
 fn script<A: Allocator + Copy>(alloc: A, name: &str, header: &[u8]) -> Option<Script<A>> {
-    let header = lsb_header::read(alloc, header).ok()?;
+    let header = rc_header::read(alloc, header).ok()?;
     Some(Script::new(String::from_str(alloc, name).ok()?, header))
 }
 
@@ -128,7 +127,7 @@ fn targets_of<A: Allocator + Copy>(alloc: A) -> Option<Vec<Vec<u8, A>, A>> {
 fn changes_on<A: Allocator + Copy>(alloc: A) -> Option<Result<Vec<Change<A>, A>, Memory>> {
     let folders = folders_of(alloc)?;
     let targets = targets_of(alloc)?;
-    Some(link_changes::changes(alloc, &targets, &folders))
+    Some(rc_links::changes(alloc, &targets, &folders))
 }
 
 #[test]

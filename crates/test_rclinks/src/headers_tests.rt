@@ -2,7 +2,7 @@
 
 use init_words::{Level, Memory};
 use linked_list_allocator::LocalHeap;
-use lsb_header::{Header, HeaderFault, Keyword, second_line};
+use rc_header::{Header, HeaderFault, Keyword, second_line};
 use std::alloc::{Allocator, Global};
 use std::fmt::Display;
 use std::process::Abort;
@@ -80,7 +80,7 @@ fn between(alloc: Global, front: &[u8], lines: &[u8], back: &[u8]) -> Result<Vec
 
 /// The text is read as a header of which this is shown.
 fn is_read(rt: &impl Abort, alloc: Global, text: &[u8], want: &[u8]) -> Result<(), Fail> {
-    let header = lsb_header::read(alloc, text)?;
+    let header = rc_header::read(alloc, text)?;
     has_shown(rt, alloc, &header, want)
 }
 
@@ -106,7 +106,7 @@ fn is_fault(
     want: Option<HeaderFault>,
 ) -> Result<(), Fail> {
     let text = between(alloc, front, lines, back)?;
-    assert!(rt; lsb_header::read(alloc, text.as_slice()).err() == want);
+    assert!(rt; rc_header::read(alloc, text.as_slice()).err() == want);
     Ok(())
 }
 
@@ -229,7 +229,7 @@ fn doubled(alloc: Global, word: &str) -> Result<Vec<u8>, Memory> {
 /// The keyword stands twice in the text, the second time in line 12.
 fn is_second(rt: &impl Abort, alloc: Global, text: &[u8], keyword: Keyword) {
     assert!(rt;
-        lsb_header::read(alloc, text).err() == Some(HeaderFault::Twice(keyword))
+        rc_header::read(alloc, text).err() == Some(HeaderFault::Twice(keyword))
             && second_line(text, keyword) == Some(12)
     );
 }
@@ -461,7 +461,7 @@ fn shown_with(
     room: usize,
 ) -> Result<Result<Vec<u8>, HeaderFault>, Fail> {
     let heap = LocalHeap::new(alloc, room)?;
-    match lsb_header::read(&heap, text) {
+    match rc_header::read(&heap, text) {
         Ok(header) => Ok(Ok(shown(alloc, &header)?)),
         Err(fault) => Ok(Err(fault)),
     }

@@ -2,7 +2,7 @@
 
 use crate::command_tests::{NET, ROOM, Row, is_run};
 use linked_list_allocator::LocalHeap;
-use path_texts::{KeptTexts, Texts};
+use program_io::{KeptTexts, Texts};
 use std::alloc::{AllocError, Global};
 use std::io;
 use std::io::ErrorKind;

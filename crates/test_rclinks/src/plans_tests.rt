@@ -8,7 +8,7 @@ use std::test::Fail;
 
 /// A script of this name and header.
 fn headed(alloc: Global, name: &str, header: &[u8]) -> Result<Script, Fail> {
-    let header = lsb_header::read(alloc, header)?;
+    let header = rc_header::read(alloc, header)?;
     Ok(Script::new(String::from_str(alloc, name)?, header))
 }
 

@@ -1,7 +1,7 @@
 //! Runs of rclinks over folders that are kept in memory, and over those of the system.
 
 use init_words::Level;
-use path_texts::KeptTexts;
+use program_io::KeptTexts;
 use rclinks_command::{KeptLinks, LinkFolders, SystemFolders, run_words};
 use std::alloc::{AllocError, Global};
 use std::fs;

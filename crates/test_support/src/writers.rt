@@ -24,6 +24,12 @@ impl Slow {
             is_stuck,
         }
     }
+
+    /// It took of the line what it has room for, and nothing else.
+    pub fn has_line(&self, line: &str) -> bool {
+        let taken = self.taken.as_slice();
+        line.as_bytes().starts_with(taken) && taken.len() == line.len().min(self.room)
+    }
 }
 
 impl Write for Slow {

@@ -2,13 +2,13 @@
 //! of memory, and what was written is a front of the trace.
 
 use crate::texts::lines;
-use init_trace::happening_copy;
 use init_words::Memory;
 use linked_list_allocator::LocalHeap;
 use simulator::{SimFault, Untold, simulate};
 use std::alloc::Global;
 use std::process::Abort;
 use std::test::Fail;
+use trace_events::happening_copy;
 
 /// From one heap to the next there is less more room than the least growth takes, so that each growth is refused on
 /// some heap.

@@ -3,6 +3,12 @@
 #![tactic(auto)]
 
 #[cfg(test)]
+mod brief_fault_tests;
+#[cfg(test)]
+mod brief_logs;
+#[cfg(test)]
+mod brief_tests;
+#[cfg(test)]
 mod growth_tests;
 #[cfg(test)]
 mod line_tests;

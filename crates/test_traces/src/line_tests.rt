@@ -1,7 +1,7 @@
 use crate::texts::{first_line, has_lines, holds};
-use init_trace::HappeningIn;
 use std::alloc::Global;
 use std::process::Abort;
+use trace_events::HappeningIn;
 use trace_text::{ReadFault, print_table};
 
 /// Texts of traces, and texts that are none with the number of the line at which no happening begins.

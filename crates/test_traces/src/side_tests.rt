@@ -1,14 +1,14 @@
 use crate::texts::{first_line, is_said};
-use init_trace::HappeningIn;
-use init_words::{Answer, Ask, ChildNo, Id, Status};
-use simulated_system::{Objection, SimulatedSystem};
+use init_words::{Answer, ChildNumber, Id, OrderKind, Status};
+use simulator::{Objection, SimulatedSystem};
 use std::alloc::Global;
 use std::process::Abort;
+use trace_events::HappeningIn;
 
 /// What is done with the system's side, or asked of it.
 enum Turn {
     /// It takes an order of an id.
-    Order(&'static [u8], Ask),
+    Order(&'static [u8], OrderKind),
     /// A script line is allowed, and taken in, or it is not.
     Line(&'static str, bool),
     /// This is objected to a script line.
@@ -19,7 +19,7 @@ enum Turn {
     Ended(&'static [u8], Option<u8>),
 }
 
-fn order(side: &mut SimulatedSystem, id: &[u8], ask: Ask) -> bool {
+fn order(side: &mut SimulatedSystem, id: &[u8], ask: OrderKind) -> bool {
     let Some(id) = Id::read(id) else {
         return false;
     };
@@ -73,7 +73,7 @@ fn goes(alloc: Global, side: &mut SimulatedSystem, turn: &Turn) -> bool {
         Turn::Order(id, ask) => order(side, id, *ask),
         Turn::Line(line, is_allowed) => step_line(alloc, side, line) == Some(*is_allowed),
         Turn::Refused(line, text) => objects(alloc, side, line, text),
-        Turn::Born(id, number) => answer(side, id) == Some(Answer::Born(ChildNo(*number))),
+        Turn::Born(id, number) => answer(side, id) == Some(Answer::Born(ChildNumber(*number))),
         Turn::Ended(id, code) => answer(side, id) == Some(Answer::Ended(status(*code))),
     }
 }
@@ -88,21 +88,21 @@ fn follow(rt: &impl Abort, alloc: Global, turns: &[Turn]) {
 /// The children born for a and b take the number 7 in turn: it is free only once the first is reaped.
 const IN_TURN: &[Turn] = &[
     Turn::Line("birth a 7", false),
-    Turn::Order(b"a", Ask::Start),
+    Turn::Order(b"a", OrderKind::Start),
     Turn::Line("birth a 7", true),
     Turn::Line("nobirth a", false),
     Turn::Born(b"a", 7),
     Turn::Line("told a", true),
     Turn::Line("told a", false),
-    Turn::Order(b"a", Ask::Look),
+    Turn::Order(b"a", OrderKind::Look),
     Turn::Line("reaped a 7 killed", false),
     Turn::Line("nolook a", true),
     Turn::Line("told a", true),
     Turn::Line("death 7", true),
     Turn::Line("death 7", false),
-    Turn::Order(b"b", Ask::Start),
+    Turn::Order(b"b", OrderKind::Start),
     Turn::Line("birth b 7", false),
-    Turn::Order(b"a", Ask::Look),
+    Turn::Order(b"a", OrderKind::Look),
     Turn::Line("reaped a 7 killed", true),
     Turn::Ended(b"a", None),
     Turn::Line("birth b 7", true),
@@ -111,15 +111,15 @@ const IN_TURN: &[Turn] = &[
 
 /// Two children live at once: one is reaped while the other lives, and then the other.
 const AT_ONCE: &[Turn] = &[
-    Turn::Order(b"a", Ask::Start),
-    Turn::Order(b"b", Ask::Start),
+    Turn::Order(b"a", OrderKind::Start),
+    Turn::Order(b"b", OrderKind::Start),
     Turn::Line("birth a 7", true),
     Turn::Line("birth b 7", false),
     Turn::Line("birth b 8", true),
     Turn::Line("told a", true),
     Turn::Line("told b", true),
-    Turn::Order(b"a", Ask::Look),
-    Turn::Order(b"b", Ask::Look),
+    Turn::Order(b"a", OrderKind::Look),
+    Turn::Order(b"b", OrderKind::Look),
     Turn::Line("death 7", true),
     Turn::Line("reaped b 7 exit 0", false),
     Turn::Line("reaped b 8 exit 0", false),
@@ -138,8 +138,8 @@ const OBJECTIONS: &[Turn] = &[
     Turn::Refused("nobirth a", "no start of a is open"),
     Turn::Refused("told a", "nothing is to be told of a"),
     Turn::Refused("death 7", "no living child has the number 7"),
-    Turn::Order(b"a", Ask::Start),
-    Turn::Order(b"b~!c", Ask::Start),
+    Turn::Order(b"a", OrderKind::Start),
+    Turn::Order(b"b~!c", OrderKind::Start),
     Turn::Refused("still a", "no look of a is open"),
     Turn::Line("birth a 4294967295", true),
     Turn::Refused("nobirth a", "no start of a is open"),
@@ -150,7 +150,7 @@ const OBJECTIONS: &[Turn] = &[
     Turn::Line("told a", true),
     Turn::Refused("reaped a 4294967295 exit 0", "no look of a is open"),
     Turn::Refused("nolook a", "no look of a is open"),
-    Turn::Order(b"a", Ask::Look),
+    Turn::Order(b"a", OrderKind::Look),
     Turn::Refused(
         "reaped a 4294967295 exit 0",
         "a has no dead child with the number 4294967295",
@@ -170,11 +170,11 @@ const OBJECTIONS: &[Turn] = &[
     Turn::Line("told a", true),
     Turn::Refused("hit a", "no term or kill of a is open"),
     Turn::Refused("miss b~!c", "no term or kill of b~!c is open"),
-    Turn::Order(b"a", Ask::Term),
+    Turn::Order(b"a", OrderKind::Term),
     Turn::Line("hit a", true),
     Turn::Refused("miss a", "no term or kill of a is open"),
     Turn::Line("told a", true),
-    Turn::Order(b"a", Ask::Kill),
+    Turn::Order(b"a", OrderKind::Kill),
     Turn::Line("miss a", true),
     Turn::Refused("enter S 5", "this is a step of init itself"),
     Turn::Refused("call A", "this is a step of init itself"),

@@ -1,7 +1,7 @@
-use init_trace::HappeningIn;
-use simulated_system::Objection;
+use simulator::Objection;
 use std::alloc::{AllocError, Global};
 use std::process::Abort;
+use trace_events::HappeningIn;
 use trace_text::first_happening;
 
 /// A text of lines from one in which ` / ` stands for line ends.

@@ -2,12 +2,12 @@
 
 use crate::pieces::judged_in_pieces;
 use crate::texts::add_line;
-use brief_log::BriefLog;
-use init_trace::HappeningIn;
 use init_words::Memory;
 use std::alloc::{AllocError, Global};
 use trace_check::{Law, Verdict};
+use trace_events::HappeningIn;
 use trace_log::{EndedLog, ListLog, Log};
+use trace_log_wrappers::BriefLog;
 use trace_text::ReadFault;
 
 /// What is done to a line of a trace.

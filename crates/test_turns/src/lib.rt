@@ -2,11 +2,11 @@
 #![tactic(auto)]
 
 #[cfg(test)]
-mod gifts;
-#[cfg(test)]
 mod log_tests;
 #[cfg(test)]
 mod reexec_tests;
+#[cfg(test)]
+mod replies;
 #[cfg(test)]
 mod request_tests;
 #[cfg(test)]

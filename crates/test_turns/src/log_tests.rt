@@ -1,19 +1,19 @@
 //! A log that fails at each place: it has a prefix of the trace, and init goes on.
 
-use crate::gifts::give_all;
+use crate::replies::give_all;
 use crate::runs::core_of;
-use child_host::Host;
-use init_trace::HappeningIn;
+use core_steps::Core;
+use host_calls::Host;
+use host_scripted::MemoryHost;
+use init_turns::{Served, Unwatched};
 use init_words::{Id, Status};
-use level_core::Core;
 use linked_list_allocator::LocalHeap;
-use memory_host::MemoryHost;
-use run_notes::{LastEnd, NotedLog};
 use std::alloc::Global;
 use std::test::Fail;
-use supervisor::{Served, Unwatched};
 use test_support::Slow;
+use trace_events::HappeningIn;
 use trace_log::{ListLog, Log, StreamLog};
+use trace_log_wrappers::{LastEnd, NotedLog};
 
 const INITTAB: &str = "id:3:initdefault:|r:3:respawn:serv";
 
@@ -42,7 +42,7 @@ fn served_by<L: Log>(
     log: &mut L,
 ) -> Option<Served> {
     let mut watch = Unwatched {};
-    let served = supervisor::serve(alloc, core, host, log, 9, true, &mut watch);
+    let served = init_turns::serve(alloc, core, host, log, 9, true, &mut watch);
     let Unwatched {} = watch;
     if host.faults() != 1 || made(host) != 31 {
         return None;

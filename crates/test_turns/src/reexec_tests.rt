@@ -8,7 +8,7 @@ const ROWS: &[Row] = &[
     // It is taken over, before inittab is read again.
     Row {
         inittab: "# none",
-        gifts: "bytes q u",
+        replies: "bytes q u",
         limit: (1, true),
         ended: (1, true),
         faults: 0,
@@ -17,7 +17,7 @@ const ROWS: &[Row] = &[
     // It does not come back.
     Row {
         inittab: "# none",
-        gifts: "bytes q u / carry fails",
+        replies: "bytes q u / carry fails",
         limit: (1, true),
         ended: (1, true),
         faults: 1,
@@ -26,7 +26,7 @@ const ROWS: &[Row] = &[
     // Its first lines come back.
     Row {
         inittab: "# none",
-        gifts: "bytes q u / carry initd-state 2|generation 1|clock 0",
+        replies: "bytes q u / carry initd-state 2|generation 1|clock 0",
         limit: (1, true),
         ended: (1, true),
         faults: 0,
@@ -35,7 +35,7 @@ const ROWS: &[Row] = &[
     // What comes back is cut, and no part of it.
     Row {
         inittab: "# none",
-        gifts: "bytes q u / carry initd-state 2|generation 1|clock 9",
+        replies: "bytes q u / carry initd-state 2|generation 1|clock 9",
         limit: (1, true),
         ended: (1, true),
         faults: 0,
@@ -44,7 +44,7 @@ const ROWS: &[Row] = &[
     // A text of another generation comes back.
     Row {
         inittab: "# none",
-        gifts: "bytes q u / carry initd-state 2|generation 7|clock 0|stage sysinit 5|goal S 5|flags 00|\
+        replies: "bytes q u / carry initd-state 2|generation 7|clock 0|stage sysinit 5|goal S 5|flags 00|\
                 wish 10 - 000 000|table 0|end 8",
         limit: (1, true),
         ended: (1, true),
@@ -54,7 +54,7 @@ const ROWS: &[Row] = &[
     // It was changed: to another version, to a line that is none, and to a state that is none of init's.
     Row {
         inittab: "# none",
-        gifts: "bytes q u / carry initd-state 9|generation 1|clock 0|stage sysinit 5|goal S 5|flags 00|\
+        replies: "bytes q u / carry initd-state 9|generation 1|clock 0|stage sysinit 5|goal S 5|flags 00|\
                 wish 10 - 000 000|table 0|end 8",
         limit: (1, true),
         ended: (1, true),
@@ -63,7 +63,7 @@ const ROWS: &[Row] = &[
     },
     Row {
         inittab: "# none",
-        gifts: "bytes q u / carry initd-state 2|generation 1|clock 0|stage sysinit 5|goal S 5|flags 00|\
+        replies: "bytes q u / carry initd-state 2|generation 1|clock 0|stage sysinit 5|goal S 5|flags 00|\
                 wish 10 - 000 000|table 0|end 9",
         limit: (1, true),
         ended: (1, true),
@@ -72,7 +72,7 @@ const ROWS: &[Row] = &[
     },
     Row {
         inittab: "# none",
-        gifts: "bytes q u / carry initd-state 2|generation 1|clock 0|stage sysinit 5|goal S 5|flags 01|\
+        replies: "bytes q u / carry initd-state 2|generation 1|clock 0|stage sysinit 5|goal S 5|flags 01|\
                 wish 10 - 000 000|table 0|end 8",
         limit: (1, true),
         ended: (1, true),
@@ -82,7 +82,7 @@ const ROWS: &[Row] = &[
     // The second time the text of the first comes back, and the third time its own.
     Row {
         inittab: "# none",
-        gifts: "bytes u / bytes / bytes u / bytes / bytes u / carry fails / \
+        replies: "bytes u / bytes / bytes u / bytes / bytes u / carry fails / \
                 carry initd-state 2|generation 1|clock 0|stage sysinit 5|goal S 5|flags 00|wish 00 - 000 000|table 0|end 8",
         limit: (3, false),
         ended: (3, true),
@@ -93,7 +93,7 @@ const ROWS: &[Row] = &[
     // A child, and the order about it that is open, are not lost.
     Row {
         inittab: "r:S:respawn:x",
-        gifts: "start birth 10 / bytes / bytes u / look later / late / late / late r exit 3 / start birth 11",
+        replies: "start birth 10 / bytes / bytes u / look later / late / late / late r exit 3 / start birth 11",
         limit: (3, false),
         ended: (3, false),
         faults: 0,
@@ -103,7 +103,7 @@ const ROWS: &[Row] = &[
     },
     Row {
         inittab: "r:S:respawn:x",
-        gifts: "start birth 10 / bytes / bytes / bytes u / look later / late / late / late / late r exit 3 / start birth 11",
+        replies: "start birth 10 / bytes / bytes / bytes u / look later / late / late / late / late r exit 3 / start birth 11",
         limit: (4, false),
         ended: (4, false),
         faults: 0,

@@ -2,17 +2,17 @@
 
 use crate::runs::{Bench, serve_on};
 use crate::trials::{Trial, passes};
-use init_trace::{Happening, HappeningIn};
 use init_words::Level;
-use initctl_frame::{Blocks, Cause, Got};
+use initctl_frame::{Blocks, Cause, HeardRequest};
 use std::alloc::{Allocator, Global};
 use std::fmt::Write;
+use trace_events::{Happening, HappeningIn};
 
 /// The requests of a good block, a bad one and a good one: `q bad 2`.
-const REQUESTS: &[Got] = &[
-    Got::Reload,
-    Got::Nothing(Cause::Magic),
-    Got::Level(Level::L2, 5),
+const REQUESTS: &[HeardRequest] = &[
+    HeardRequest::Reload,
+    HeardRequest::Nothing(Cause::Magic),
+    HeardRequest::Level(Level::L2, 5),
 ];
 
 /// The log has the first requests, the given number of them, and no others.
@@ -35,7 +35,7 @@ fn hears_whole_blocks<A: Allocator + Copy>(
     blocks: &mut Blocks,
     heard: usize,
 ) -> bool {
-    supervisor::turn(bench.own, bench.core, bench.host, blocks, bench.log);
+    init_turns::turn(bench.own, bench.core, bench.host, blocks, bench.log);
     blocks.rest() == heard % 384 && has_requests(bench.log.list(), heard / 384)
 }
 
@@ -46,9 +46,9 @@ pub(crate) fn hears_parts<A: Allocator + Copy>(bench: &mut Bench<A>, place: usiz
 }
 
 fn is_cut(own: Global, place: usize) -> bool {
-    let gifts = format!(in own; "piece 0 {place} q bad 2 / bytes / piece {place} 1152 q bad 2");
-    match &gifts {
-        Ok(gifts) => passes(own, "# none", gifts.as_str(), &Trial::Parts(place)),
+    let replies = format!(in own; "piece 0 {place} q bad 2 / bytes / piece {place} 1152 q bad 2");
+    match &replies {
+        Ok(replies) => passes(own, "# none", replies.as_str(), &Trial::Parts(place)),
         Err(_) => false,
     }
 }
@@ -61,19 +61,19 @@ fn a_turn_hears_the_blocks_that_came_whole(rt: HostRuntime) {
 }
 
 /// Adds the bytes from a place on, so many, in a turn of their own.
-fn add_piece(gifts: &mut String, from: usize, length: usize) -> bool {
+fn add_piece(replies: &mut String, from: usize, length: usize) -> bool {
     let to = from.saturating_add(length).min(1152);
-    write!(gifts, "piece {from} {to} q bad 2 / bytes / ").is_ok()
+    write!(replies, "piece {from} {to} q bad 2 / bytes / ").is_ok()
 }
 
 /// Adds the bytes in pieces of one length, each in a turn of its own.
-fn add_pieces(gifts: &mut String, length: usize) -> bool {
+fn add_pieces(replies: &mut String, length: usize) -> bool {
     for from in (0..1152usize).step_by(length.max(1)) {
-        if !add_piece(gifts, from, length) {
+        if !add_piece(replies, from, length) {
             return false;
         }
     }
-    gifts.push_str("bytes").is_ok()
+    replies.push_str("bytes").is_ok()
 }
 
 /// All requests are heard in the given number of turns.
@@ -83,8 +83,9 @@ pub(crate) fn hears_all<A: Allocator + Copy>(bench: &mut Bench<A>, turns: u64) -
 }
 
 fn are_served(own: Global, length: usize, turns: u64) -> bool {
-    let mut gifts = String::new(own);
-    add_pieces(&mut gifts, length) && passes(own, "# none", gifts.as_str(), &Trial::Heard(turns))
+    let mut replies = String::new(own);
+    add_pieces(&mut replies, length)
+        && passes(own, "# none", replies.as_str(), &Trial::Heard(turns))
 }
 
 /// Lengths of pieces, and how many turns they take.

@@ -1,15 +1,15 @@
 //! Lack of memory within a turn.
 
-use crate::gifts::give_all;
+use crate::replies::give_all;
 use crate::runs::{Row, core_of};
 use crate::trials::{Trial, passes_over};
-use child_host::{Call, Host};
-use level_core::Core;
+use core_steps::Core;
+use host_calls::{Call, Host};
+use host_scripted::MemoryHost;
+use init_turns::{Opening, Unwatched};
 use linked_list_allocator::LocalHeap;
-use memory_host::MemoryHost;
 use std::alloc::{Allocator, Global};
 use std::test::Fail;
-use supervisor::{Opening, Unwatched};
 use trace_log::ListLog;
 
 /// Takes what a heap has left in blocks of one size, up to 64 of them.
@@ -54,7 +54,7 @@ fn fill<'a>(
 /// A run whose host can tell none of its calls.
 const UNTOLD: &Row = &Row {
     inittab: "id:3:initdefault:|r:3:respawn:serv",
-    gifts: "start birth 10 / bytes / bytes 1 / table r:3:respawn:serv / look still / look killed",
+    replies: "start birth 10 / bytes / bytes 1 / table r:3:respawn:serv / look still / look killed",
     limit: (9, true),
     ended: (3, true),
     faults: 0,
@@ -77,7 +77,7 @@ fn is_run_untold<'a>(
 }
 
 fn is_untold<'a>(own: Global, heap: &'a LocalHeap, host: &mut MemoryHost<&'a LocalHeap>) -> bool {
-    give_all(own, heap, host, UNTOLD.gifts)
+    give_all(own, heap, host, UNTOLD.replies)
         && is_run_untold(own, heap, host)
         && host.calls().is_none()
 }
@@ -128,7 +128,7 @@ fn turn_text<A: Allocator + Copy>(
 ) -> Option<Vec<u8>> {
     let mut log = ListLog::new(own);
     let mut watch = Unwatched {};
-    supervisor::serve(alloc, core, host, &mut log, 1, false, &mut watch);
+    init_turns::serve(alloc, core, host, &mut log, 1, false, &mut watch);
     let Unwatched {} = watch;
     trace_text::print(own, log.list()).ok()
 }
@@ -189,11 +189,11 @@ fn begins<A: Allocator + Copy>(
     alloc: A,
     core: &mut Core<A>,
     host: &mut MemoryHost,
-    gifts: &str,
+    replies: &str,
 ) -> bool {
     give_all(own, own, host, "start birth 10 / bytes")
         && turn_text(own, alloc, core, host).is_some()
-        && give_all(own, own, host, gifts)
+        && give_all(own, own, host, replies)
 }
 
 /// Reads inittab again with so much room left.

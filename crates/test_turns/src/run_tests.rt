@@ -11,7 +11,7 @@ const ROWS: &[Row] = &[
     // No turn is nothing.
     Row {
         inittab: "# none",
-        gifts: "",
+        replies: "",
         limit: (0, false),
         ended: (0, false),
         faults: 0,
@@ -20,7 +20,7 @@ const ROWS: &[Row] = &[
     // A start fails, the next is answered late.
     Row {
         inittab: "id:3:initdefault:|w:3:wait:prep|r:3:respawn:serv",
-        gifts: "start nobirth / start later / late / late r birth 11 / look still",
+        replies: "start nobirth / start later / late / late r birth 11 / look still",
         limit: (2, false),
         ended: (2, false),
         faults: 1,
@@ -30,7 +30,7 @@ const ROWS: &[Row] = &[
     // A start at boot that fails is not made again, and all stages are gone through in a turn.
     Row {
         inittab: "id:3:initdefault:|s::sysinit:prep",
-        gifts: "",
+        replies: "",
         limit: (1, true),
         ended: (1, true),
         faults: 1,
@@ -39,7 +39,7 @@ const ROWS: &[Row] = &[
     // Waited entries come one after another.
     Row {
         inittab: "id:3:initdefault:|a:3:wait:one|b:3:wait:two|c:3:once:+three x",
-        gifts: "start birth 1 / start birth 2 / start birth 3 / look exit 0 / look still / look killed / look exit 7",
+        replies: "start birth 1 / start birth 2 / start birth 3 / look exit 0 / look still / look killed / look exit 7",
         limit: (100, true),
         ended: (5, true),
         faults: 0,
@@ -52,7 +52,7 @@ const ROWS: &[Row] = &[
     // Respawned too fast.
     Row {
         inittab: "r:S:respawn:x",
-        gifts: "clock 7",
+        replies: "clock 7",
         limit: (1, true),
         ended: (1, false),
         faults: 10,
@@ -65,7 +65,7 @@ const ROWS: &[Row] = &[
     // All requests that came, before the round; one of them is no block.
     Row {
         inittab: "id:3:initdefault:|d:B:ondemand:x",
-        gifts: "bytes q b bad B 2 / table id:3:initdefault:|d:B:ondemand:x / start birth 5",
+        replies: "bytes q b bad B 2 / table id:3:initdefault:|d:B:ondemand:x / start birth 5",
         limit: (1, true),
         ended: (1, false),
         faults: 0,
@@ -76,7 +76,7 @@ const ROWS: &[Row] = &[
     // Of three files one lost its entry: its child alone is stopped.
     Row {
         inittab: "id:3:initdefault:|a:3:respawn:one|b:3:respawn:two|c:3:respawn:three",
-        gifts: "start birth 1 / start birth 2 / start birth 3 / bytes / bytes q / \
+        replies: "start birth 1 / start birth 2 / start birth 3 / bytes / bytes q / \
                 table id:3:initdefault:|a:3:respawn:one + b:3:respawn:two + # none / \
                 signal hit / look still / look still / look exit 0",
         limit: (2, false),
@@ -91,7 +91,7 @@ const ROWS: &[Row] = &[
     // An inittab without files is a table without entries; one of too many is not read.
     Row {
         inittab: "# none",
-        gifts: "bytes q / bytes / bytes q / table none / table many",
+        replies: "bytes q / bytes / bytes q / table none / table many",
         limit: (2, false),
         ended: (2, true),
         faults: 0,
@@ -101,7 +101,7 @@ const ROWS: &[Row] = &[
     // A turn takes no more than ten blocks and two thirds.
     Row {
         inittab: "# none",
-        gifts: "bytes q q q q q q q q q q q b",
+        replies: "bytes q q q q q q q q q q q b",
         limit: (2, false),
         ended: (2, true),
         faults: 0,
@@ -112,7 +112,7 @@ const ROWS: &[Row] = &[
     // Nor more late answers than 4,096.
     Row {
         inittab: "r:S:respawn:x",
-        gifts: "start later / late / lates 4096 / late r birth 11",
+        replies: "start later / late / lates 4096 / late r birth 11",
         limit: (3, true),
         ended: (3, false),
         faults: 0,
@@ -122,7 +122,7 @@ const ROWS: &[Row] = &[
     // Late answers that were not asked for are nothing, nor those of another kind.
     Row {
         inittab: "r:S:respawn:x",
-        gifts: "start birth 10 / look later / late / late / lates 1 / late r hit / late r birth 12 / late r still / \
+        replies: "start birth 10 / look later / late / late / lates 1 / late r hit / late r birth 12 / late r still / \
                 late r still / late r exit 1",
         limit: (3, false),
         ended: (3, false),
@@ -134,7 +134,7 @@ const ROWS: &[Row] = &[
     // An end that comes late.
     Row {
         inittab: "r:S:respawn:x",
-        gifts: "start birth 10 / start birth 11 / look later / late / late / late r exit 3",
+        replies: "start birth 10 / start birth 11 / look later / late / late / late r exit 3",
         limit: (3, false),
         ended: (3, false),
         faults: 0,
@@ -145,7 +145,7 @@ const ROWS: &[Row] = &[
     // A signal that is told late: the grace counts from there.
     Row {
         inittab: "id:3:initdefault:|r:3:respawn:x",
-        gifts: "clock 100 / clock 101 / clock 110 / clock 114 / clock 115 / bytes / bytes 1 / table r:3:respawn:x / \
+        replies: "clock 100 / clock 101 / clock 110 / clock 114 / clock 115 / bytes / bytes 1 / table r:3:respawn:x / \
                 start birth 10 / signal later / signal hit / late / late / late r hit / look still / look still / look killed",
         limit: (9, true),
         ended: (5, true),
@@ -168,7 +168,7 @@ const FAILING: &[Row] = &[
     // No call.
     Row {
         inittab: "id:3:initdefault:|r:3:respawn:serv",
-        gifts: "start birth 10 / clock 100 / clock 101 / clock 106 / clock 107 / bytes / bytes 1 / \
+        replies: "start birth 10 / clock 100 / clock 101 / clock 106 / clock 107 / bytes / bytes 1 / \
                 table id:3:initdefault:|r:3:respawn:serv / signal hit / signal hit / look still / look still / look killed",
         limit: (9, true),
         ended: (4, true),
@@ -182,7 +182,7 @@ const FAILING: &[Row] = &[
     // The start.
     Row {
         inittab: "id:3:initdefault:|r:3:respawn:serv",
-        gifts: "start nobirth / start birth 10 / clock 100 / clock 101 / clock 106 / clock 107 / bytes / bytes 1 / \
+        replies: "start nobirth / start birth 10 / clock 100 / clock 101 / clock 106 / clock 107 / bytes / bytes 1 / \
                 table id:3:initdefault:|r:3:respawn:serv / signal hit / signal hit / look still / look still / look killed",
         limit: (9, true),
         ended: (4, true),
@@ -197,7 +197,7 @@ const FAILING: &[Row] = &[
     // The first look.
     Row {
         inittab: "id:3:initdefault:|r:3:respawn:serv",
-        gifts: "start birth 10 / clock 100 / clock 101 / clock 106 / clock 107 / bytes / bytes 1 / \
+        replies: "start birth 10 / clock 100 / clock 101 / clock 106 / clock 107 / bytes / bytes 1 / \
                 table id:3:initdefault:|r:3:respawn:serv / signal hit / signal hit / look nolook / look still / look killed",
         limit: (9, true),
         ended: (4, true),
@@ -211,7 +211,7 @@ const FAILING: &[Row] = &[
     // The first signal.
     Row {
         inittab: "id:3:initdefault:|r:3:respawn:serv",
-        gifts: "start birth 10 / clock 100 / clock 101 / clock 106 / clock 107 / bytes / bytes 1 / \
+        replies: "start birth 10 / clock 100 / clock 101 / clock 106 / clock 107 / bytes / bytes 1 / \
                 table id:3:initdefault:|r:3:respawn:serv / signal miss / signal hit / look still / look still / look killed",
         limit: (9, true),
         ended: (4, true),
@@ -225,7 +225,7 @@ const FAILING: &[Row] = &[
     // The second signal.
     Row {
         inittab: "id:3:initdefault:|r:3:respawn:serv",
-        gifts: "start birth 10 / clock 100 / clock 101 / clock 106 / clock 107 / bytes / bytes 1 / \
+        replies: "start birth 10 / clock 100 / clock 101 / clock 106 / clock 107 / bytes / bytes 1 / \
                 table id:3:initdefault:|r:3:respawn:serv / signal hit / signal miss / look still / look still / look killed",
         limit: (9, true),
         ended: (4, true),
@@ -239,7 +239,7 @@ const FAILING: &[Row] = &[
     // The second reading: the time stays, and the grace counts from it.
     Row {
         inittab: "id:3:initdefault:|r:3:respawn:serv",
-        gifts: "start birth 10 / clock 100 / clock fails / clock 105 / clock 107 / bytes / bytes 1 / \
+        replies: "start birth 10 / clock 100 / clock fails / clock 105 / clock 107 / bytes / bytes 1 / \
                 table id:3:initdefault:|r:3:respawn:serv / signal hit / signal hit / look still / look still / look killed",
         limit: (9, true),
         ended: (4, true),
@@ -253,7 +253,7 @@ const FAILING: &[Row] = &[
     // The bytes, within a block, whose cut stays.
     Row {
         inittab: "id:3:initdefault:|r:3:respawn:serv",
-        gifts: "start birth 10 / clock 100 / clock 101 / clock 106 / clock 111 / bytes / piece 0 200 1 / bytes fails / \
+        replies: "start birth 10 / clock 100 / clock 101 / clock 106 / clock 111 / bytes / piece 0 200 1 / bytes fails / \
                 piece 200 384 1 / table id:3:initdefault:|r:3:respawn:serv / signal hit / signal hit / look still / \
                 look still / look killed",
         limit: (9, true),
@@ -268,7 +268,7 @@ const FAILING: &[Row] = &[
     // The answer to the first look, which comes late.
     Row {
         inittab: "id:3:initdefault:|r:3:respawn:serv",
-        gifts: "start birth 10 / clock 100 / clock 101 / clock 106 / clock 107 / bytes / bytes 1 / \
+        replies: "start birth 10 / clock 100 / clock 101 / clock 106 / clock 107 / bytes / bytes 1 / \
                 table id:3:initdefault:|r:3:respawn:serv / signal hit / signal hit / look later / late / late / \
                 late r nolook / look still / look killed",
         limit: (9, true),
@@ -283,7 +283,7 @@ const FAILING: &[Row] = &[
     // The text of init's state, while the child runs.
     Row {
         inittab: "id:3:initdefault:|r:3:respawn:serv",
-        gifts: "start birth 10 / clock 100 / clock 101 / clock 106 / clock 111 / bytes / bytes u / bytes / bytes 1 / carry fails / \
+        replies: "start birth 10 / clock 100 / clock 101 / clock 106 / clock 111 / bytes / bytes u / bytes / bytes 1 / carry fails / \
                 table id:3:initdefault:|r:3:respawn:serv / signal hit / signal hit / look still / look still / look killed",
         limit: (9, true),
         ended: (4, true),
@@ -297,7 +297,7 @@ const FAILING: &[Row] = &[
     // The inittab,
     Row {
         inittab: "id:3:initdefault:|r:3:respawn:serv",
-        gifts: "start birth 10 / clock 100 / clock 101 / clock 106 / clock 107 / bytes / bytes 1 / \
+        replies: "start birth 10 / clock 100 / clock 101 / clock 106 / clock 107 / bytes / bytes 1 / \
                 table fails / signal hit / signal hit / look still / look still / look killed",
         limit: (9, true),
         ended: (4, true),
@@ -311,7 +311,7 @@ const FAILING: &[Row] = &[
     // and its reading.
     Row {
         inittab: "id:3:initdefault:|r:3:respawn:serv",
-        gifts: "start birth 10 / clock 100 / clock 101 / clock 106 / clock 107 / bytes / bytes 1 / \
+        replies: "start birth 10 / clock 100 / clock 101 / clock 106 / clock 107 / bytes / bytes 1 / \
                 table long / signal hit / signal hit / look still / look still / look killed",
         limit: (9, true),
         ended: (4, true),
@@ -379,9 +379,9 @@ const CALLS: &[(&str, &str, Calls)] = &[
 
 #[test]
 fn calls_come_in_their_order(rt: HostRuntime) {
-    for (inittab, gifts, calls) in CALLS {
+    for (inittab, replies, calls) in CALLS {
         assert!(rt;
-            passes(rt.alloc(), inittab, gifts, &Trial::Made(calls)),
+            passes(rt.alloc(), inittab, replies, &Trial::Made(calls)),
             "{}",
             calls.want
         );
@@ -390,7 +390,7 @@ fn calls_come_in_their_order(rt: HostRuntime) {
 
 /// A turn ends where no step is due.
 pub(crate) fn is_idle<A: Allocator + Copy>(bench: &mut Bench<A>) -> bool {
-    supervisor::turn(
+    init_turns::turn(
         bench.own,
         bench.core,
         bench.host,

@@ -1,18 +1,18 @@
 //! Runs of init over a scripted host, whose traces are text, their lines parted by ` / `.
 
-use child_host::{Call, CallIn, Host};
-use init_trace::{Happening, HappeningIn};
-use level_core::Core;
-use memory_host::MemoryHost;
+use core_steps::Core;
+use host_calls::{Call, CallIn, Host};
+use host_scripted::MemoryHost;
+use init_turns::{Served, Unwatched};
 use std::alloc::{Allocator, Global};
-use supervisor::{Served, Unwatched};
 use trace_check::Verdict;
+use trace_events::{Happening, HappeningIn};
 use trace_log::{ListLog, Log};
 
 /// A run over an inittab, its lines parted by `|`, and a host that is given so much.
 pub(crate) struct Row {
     pub(crate) inittab: &'static str,
-    pub(crate) gifts: &'static str,
+    pub(crate) replies: &'static str,
     /// How many turns it may make, and whether it ends where it is drained.
     pub(crate) limit: (u64, bool),
     /// How many turns it made, and whether it is drained.
@@ -114,7 +114,7 @@ pub(crate) fn serve_on<A: Allocator + Copy>(
     drain: bool,
 ) -> Served {
     let mut watch = Unwatched {};
-    let served = supervisor::serve(
+    let served = init_turns::serve(
         bench.own, bench.core, bench.host, bench.log, turns, drain, &mut watch,
     );
     let Unwatched {} = watch;

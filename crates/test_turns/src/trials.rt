@@ -1,11 +1,11 @@
 //! What is tried with a core, a host and a log.
 
-use crate::gifts::give_all;
+use crate::replies::give_all;
 use crate::request_tests::{hears_all, hears_parts};
 use crate::run_tests::is_idle;
 use crate::runs::{Bench, Calls, Row, are_made, core_of, is_run};
-use level_core::Core;
-use memory_host::MemoryHost;
+use core_steps::Core;
+use host_scripted::MemoryHost;
 use std::alloc::{Allocator, Global};
 use std::test::Fail;
 use trace_log::ListLog;
@@ -66,15 +66,15 @@ pub(crate) fn passes_over<A: Allocator + Copy>(
 }
 
 /// The trial passes with a core over an inittab and with a host that is given so much.
-pub(crate) fn passes(own: Global, inittab: &str, gifts: &str, trial: &Trial) -> bool {
+pub(crate) fn passes(own: Global, inittab: &str, replies: &str, trial: &Trial) -> bool {
     let mut host = MemoryHost::new(own);
-    give_all(own, own, &mut host, gifts) && passes_over(own, &mut host, inittab, trial)
+    give_all(own, own, &mut host, replies) && passes_over(own, &mut host, inittab, trial)
 }
 
 /// The runs of the rows are as they say.
 pub(crate) fn are_run(own: Global, rows: &[Row]) -> Result<(), Fail> {
     for row in rows {
-        if !passes(own, row.inittab, row.gifts, &Trial::Run(row)) {
+        if !passes(own, row.inittab, row.replies, &Trial::Run(row)) {
             return Err(Fail::from(row.trace));
         }
     }

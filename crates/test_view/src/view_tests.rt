@@ -2,7 +2,7 @@
 //! kept at the path `t`, the words, the exit status, what is written, and how what is told begins.
 
 use initview_command::run_words;
-use path_texts::KeptTexts;
+use program_io::KeptTexts;
 use std::alloc::{AllocError, Global};
 use std::process::Abort;
 use std::str;

@@ -1,17 +1,17 @@
 -- Two traces off which init reads the same, and that they stay so behind each happening.
 use Rattle.std.proofs.Common.{◌≡◌, refl, sym, ◌∙◌, ap, ℕ, Bool, true, false, not, ◌&&◌, ◌||◌, cond, max, min, List, [], ◌∷◌, ◌++◌, filter, map, Some, None}
 use Rattle.std.proofs.lemmas.Bool.{and_parts, and_from}
-use Rattle.init_words.specs.declared.orders.Ask.TheVariants.{Start, Look}
+use Rattle.init_words.specs.declared.orders.OrderKind.TheVariants.{Start, Look}
 use Rattle.init_words.specs.Ids.{same_id}
 use Rattle.inittab_text.specs.Tables.{act_of, entry_of}
 use Rattle.respawn_limit.specs.declared.TheConstants.{CLOCK_LIMIT}
-use Rattle.init_trace.specs.declared.happenings.Happening.TheVariants.{NewTable, Enter, Asked, Hold, Birth, Hit, Miss, Told, Clock, Nudge}
-use Rattle.init_trace.specs.Event.{Event, act_in}
-use Rattle.init_trace.specs.Past.{table_of, stage_of, time_of, Child, is_of, newborn, unreaped_children, kept_children, known_children, open_of, undone_by, undone_of, untold_by, is_untold, Open, open_orders}
-use Rattle.init_trace.specs.Wanted.{may_live, is_excluded}
-use Rattle.init_trace.specs.Spells.{untold_hits, has_untold_miss, told_at, tells_hits, is_birth_of, in_spell, spell_hits, tells_miss, is_missed}
-use Rattle.init_trace.specs.Timing.{start_times, hold_times}
-use Rattle.init_trace.specs.Due.{wants_look}
+use Rattle.trace_events.specs.declared.happenings.Happening.TheVariants.{NewTable, Enter, Asked, Hold, Birth, Hit, Miss, Told, Clock, Nudge}
+use Rattle.trace_events.specs.Event.{Event, act_in}
+use Rattle.trace_events.specs.Past.{table_of, stage_of, time_of, Child, is_of, newborn, unreaped_children, kept_children, known_children, open_of, undone_by, undone_of, untold_by, is_untold, Open, open_orders}
+use Rattle.trace_events.specs.Wanted.{may_live, is_excluded}
+use Rattle.trace_events.specs.Spells.{untold_hits, has_untold_miss, told_at, tells_hits, is_birth_of, in_spell, spell_hits, tells_miss, is_missed}
+use Rattle.trace_events.specs.Timing.{start_times, hold_times}
+use Rattle.trace_events.specs.Due.{wants_look}
 use Rattle.trace_laws.proofs.Orders.{told_same, told_other, same_has}
 use Rattle.trace_brief.specs.Readings.{is_lasting, lasting_events}
 use Rattle.trace_brief.proofs.Lasting.{table_lasting, stage_lasting, unreaped_lasting}

@@ -6,22 +6,22 @@ use Rattle.std.proofs.lemmas.Bool.{and_parts, and_from, or_parts, not-true}
 use Rattle.init_words.specs.declared.entries.Entry.{Entry}
 use Rattle.init_words.specs.declared.levels.Level.{Level}
 use Rattle.init_words.specs.declared.levels.Mark.TheVariants.{At}
-use Rattle.init_words.specs.declared.orders.Ask.TheVariants.{Start, Look, Term, Kill}
+use Rattle.init_words.specs.declared.orders.OrderKind.TheVariants.{Start, Look, Term, Kill}
 use Rattle.init_words.specs.Ids.{same_id}
 use Rattle.init_words.specs.Actions.{is_limited, served_by}
 use Rattle.init_words.specs.Levels.{names}
 use Rattle.inittab_text.specs.Tables.{entry_of, act_of}
-use Rattle.init_trace.specs.declared.happenings.Happening.TheVariants.{Asked, Hold, Settle, Birth, NoBirth, Reaped, Still, NoLook, Hit, Miss, Told, Clock, Nudge}
-use Rattle.init_trace.specs.Event.{Event}
-use Rattle.init_trace.specs.Past.{table_of, stage_of, grace_of, time_of, Child, is_of, has_child, unreaped_children, kept_children, open_of, is_untold}
-use Rattle.init_trace.specs.Wanted.{starts_in, is_asked, is_owed, entries_before, is_excluded}
-use Rattle.init_trace.specs.Spells.{is_ripe, spell_hits}
-use Rattle.init_trace.specs.Timing.{is_held, is_full}
-use Rattle.init_trace.specs.Wishes.{is_level}
-use Rattle.init_trace.specs.Due.{is_served, is_settled}
-use Rattle.init_trace.specs.Lawful.{is_alone, is_placed, is_in_turn, are_spared, is_limited_id, is_free, is_due_hold, may_term, may_kill, broken, is_lawful, Fault, breach_at, earlier, first_breach}
-use Rattle.init_trace.specs.declared.steps.Goal.{Goal}
-use Rattle.init_trace.specs.Sound.{may_come, is_sound}
+use Rattle.trace_events.specs.declared.happenings.Happening.TheVariants.{Asked, Hold, Settle, Birth, NoBirth, Reaped, Still, NoLook, Hit, Miss, Told, Clock, Nudge}
+use Rattle.trace_events.specs.Event.{Event}
+use Rattle.trace_events.specs.Past.{table_of, stage_of, grace_of, time_of, Child, is_of, has_child, unreaped_children, kept_children, open_of, is_untold}
+use Rattle.trace_events.specs.Wanted.{starts_in, is_asked, is_owed, entries_before, is_excluded}
+use Rattle.trace_events.specs.Spells.{is_ripe, spell_hits}
+use Rattle.trace_events.specs.Timing.{is_held, is_full}
+use Rattle.trace_events.specs.Wishes.{is_level}
+use Rattle.trace_events.specs.Due.{is_served, is_settled}
+use Rattle.trace_events.specs.Lawful.{is_alone, is_placed, is_in_turn, are_spared, is_limited_id, is_free, is_due_hold, may_term, may_kill, broken, is_lawful, Fault, breach_at, earlier, first_breach}
+use Rattle.trace_events.specs.declared.steps.Goal.{Goal}
+use Rattle.trace_events.specs.Sound.{may_come, is_sound}
 use Rattle.trace_laws.proofs.Keeps.{asked_free, free_told, sound_holds, sound_ind}
 use Rattle.init_words.proofs.Same.{same_id-is}
 use Rattle.init_words.proofs.Tests.{any_same, is_none-is}

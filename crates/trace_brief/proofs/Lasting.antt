@@ -5,21 +5,21 @@ use Rattle.init_words.specs.declared.entries.Entry.{Entry}
 use Rattle.init_words.specs.declared.levels.Letter.{Letter}
 use Rattle.init_words.specs.declared.levels.Mark.TheVariants.{OnCall}
 use Rattle.init_words.specs.declared.stages.Stage.TheVariants.{Boot}
-use Rattle.init_words.specs.declared.orders.Ask.TheVariants.{Start, Look}
+use Rattle.init_words.specs.declared.orders.OrderKind.TheVariants.{Start, Look}
 use Rattle.init_words.specs.declared.orders.PowerKind.{PowerKind}
 use Rattle.init_words.specs.Ids.{same_id}
 use Rattle.init_words.specs.Actions.{is_called_by, is_ondemand, stays_called}
 use Rattle.init_words.specs.Levels.{names, same_letter}
 use Rattle.init_words.specs.Orders.{same_power}
 use Rattle.inittab_text.specs.Tables.{has_id, ids_of}
-use Rattle.initctl_frame.specs.declared.requests.Got.TheVariants as got
-use Rattle.init_trace.specs.declared.happenings.Happening.TheVariants.{NewTable, NotRead, Enter, Call, Power, Asked, Settle, Birth, Death, Reaped, Got, Handed}
-use Rattle.init_trace.specs.declared.steps.Goal.{Goal}
-use Rattle.init_trace.specs.Event.{Event}
-use Rattle.init_trace.specs.Past.{table_of, stage_of, grace_of, is_child, unreaped_children, is_dead}
-use Rattle.init_trace.specs.Wanted.{brings, is_asked, is_called, starts_in}
-use Rattle.init_trace.specs.Wishes.{is_level, goal_of, wants_reexec, wants_reread, heard_level, keeps_power, keeps_letter, was_booted}
-use Rattle.init_trace.specs.Due.{left_ids, is_announced}
+use Rattle.initctl_frame.specs.declared.requests.HeardRequest.TheVariants as got
+use Rattle.trace_events.specs.declared.happenings.Happening.TheVariants.{NewTable, NotRead, Enter, Call, Power, Asked, Settle, Birth, Death, Reaped, Got, Handed}
+use Rattle.trace_events.specs.declared.steps.Goal.{Goal}
+use Rattle.trace_events.specs.Event.{Event}
+use Rattle.trace_events.specs.Past.{table_of, stage_of, grace_of, is_child, unreaped_children, is_dead}
+use Rattle.trace_events.specs.Wanted.{brings, is_asked, is_called, starts_in}
+use Rattle.trace_events.specs.Wishes.{is_level, goal_of, wants_reexec, wants_reread, heard_level, keeps_power, keeps_letter, was_booted}
+use Rattle.trace_events.specs.Due.{left_ids, is_announced}
 use Rattle.trace_brief.specs.Readings.{lasting_events}
 
 pub table_lasting : (past : List Event) → table_of past ≡ table_of (lasting_events past)

@@ -8,14 +8,14 @@ use Rattle.init_words.specs.declared.levels.Level.TheVariants as level
 use Rattle.init_words.specs.declared.levels.Mark.{Mark}
 use Rattle.init_words.specs.declared.levels.Mark.TheVariants.{At}
 use Rattle.init_words.specs.declared.stages.Stage.TheVariants as stage
-use Rattle.init_words.specs.declared.orders.Ask.TheVariants.{Start, Look, Term, Kill}
+use Rattle.init_words.specs.declared.orders.OrderKind.TheVariants.{Start, Look, Term, Kill}
 use Rattle.init_words.specs.declared.children.Status.TheVariants.{Exit}
-use Rattle.initctl_frame.specs.declared.requests.Got.TheVariants as got
-use Rattle.init_trace.specs.declared.happenings.Happening.TheVariants.{NewTable, NotRead, Enter, Asked, Settle, Birth, Death, Reaped, Still, Hit, Miss, Told, Clock, Nudge, Got}
-use Rattle.init_trace.specs.declared.steps.Goal.{Goal}
-use Rattle.init_trace.specs.Event.{Event}
-use Rattle.init_trace.specs.Sound.{is_sound}
-use Rattle.init_trace.specs.Lawful.{is_lawful}
+use Rattle.initctl_frame.specs.declared.requests.HeardRequest.TheVariants as got
+use Rattle.trace_events.specs.declared.happenings.Happening.TheVariants.{NewTable, NotRead, Enter, Asked, Settle, Birth, Death, Reaped, Still, Hit, Miss, Told, Clock, Nudge, Got}
+use Rattle.trace_events.specs.declared.steps.Goal.{Goal}
+use Rattle.trace_events.specs.Event.{Event}
+use Rattle.trace_events.specs.Sound.{is_sound}
+use Rattle.trace_events.specs.Lawful.{is_lawful}
 use Rattle.trace_brief.specs.Brief.{brief_of}
 
 abbrev entry : List ℕ → List Mark → Act → List ℕ → Entry

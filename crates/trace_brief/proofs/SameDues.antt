@@ -11,23 +11,23 @@ use Rattle.init_words.specs.declared.levels.Letter.{Letter}
 use Rattle.init_words.specs.declared.levels.Mark.TheVariants.{At}
 use Rattle.init_words.specs.declared.stages.Stage.{Stage}
 use Rattle.init_words.specs.declared.stages.Stage.TheVariants.{Sysinit, Boot, Run}
-use Rattle.init_words.specs.declared.orders.Ask.TheVariants.{Start, Look}
+use Rattle.init_words.specs.declared.orders.OrderKind.TheVariants.{Start, Look}
 use Rattle.init_words.specs.declared.orders.PowerKind.{PowerKind}
 use Rattle.init_words.specs.Levels.{names, same_level}
 use Rattle.init_words.specs.Orders.{same_ask}
 use Rattle.init_words.specs.Actions.{is_limited, wanted_by, served_by}
 use Rattle.init_words.specs.Entries.{waited_of}
 use Rattle.inittab_text.specs.Tables.{ids_of}
-use Rattle.init_trace.specs.declared.steps.Step.{Step}
-use Rattle.init_trace.specs.declared.steps.Step.TheVariants as step
-use Rattle.init_trace.specs.declared.steps.Goal.{Goal}
-use Rattle.init_trace.specs.Event.{Event}
-use Rattle.init_trace.specs.Past.{table_of, stage_of, grace_of, time_of, Child, is_of, has_child, kept_children, known_children, open_of, Open, is_quiet, is_idle}
-use Rattle.init_trace.specs.Wanted.{starts_in, starts_now, is_order, is_asked, is_called, nothing_runs, is_wanted, is_owed, is_excluded}
-use Rattle.init_trace.specs.Spells.{spell_hits, is_missed, stop_by, stop_due}
-use Rattle.init_trace.specs.Timing.{is_held, is_full}
-use Rattle.init_trace.specs.Wishes.{is_level, in_run, goal_of, wants_reexec, wants_reread, heard_level, other_than, level_wish, keeps_power, keeps_letter, powers, letters, keeps_news, wish_stands, was_booted}
-use Rattle.init_trace.specs.Due.{step_if, steps_if, none_excluded, due_first, due_reexec, due_reread, enter_level, due_level, power_steps, letter_steps, due_news, left_ids, record_ids, stop_step, stops_of, stops_among, due_stops, can_start, start_steps, starts_among, due_starts, is_over, next_stage, due_stage, is_announced, is_served, is_settled, settle_step, due_settle, wants_look, can_look, looks_among, due_looks, same_step, is_due}
+use Rattle.trace_events.specs.declared.steps.Step.{Step}
+use Rattle.trace_events.specs.declared.steps.Step.TheVariants as step
+use Rattle.trace_events.specs.declared.steps.Goal.{Goal}
+use Rattle.trace_events.specs.Event.{Event}
+use Rattle.trace_events.specs.Past.{table_of, stage_of, grace_of, time_of, Child, is_of, has_child, kept_children, known_children, open_of, Open, is_quiet, is_idle}
+use Rattle.trace_events.specs.Wanted.{starts_in, starts_now, is_order, is_asked, is_called, nothing_runs, is_wanted, is_owed, is_excluded}
+use Rattle.trace_events.specs.Spells.{spell_hits, is_missed, stop_by, stop_due}
+use Rattle.trace_events.specs.Timing.{is_held, is_full}
+use Rattle.trace_events.specs.Wishes.{is_level, in_run, goal_of, wants_reexec, wants_reread, heard_level, other_than, level_wish, keeps_power, keeps_letter, powers, letters, keeps_news, wish_stands, was_booted}
+use Rattle.trace_events.specs.Due.{step_if, steps_if, none_excluded, due_first, due_reexec, due_reread, enter_level, due_level, power_steps, letter_steps, due_news, left_ids, record_ids, stop_step, stops_of, stops_among, due_stops, can_start, start_steps, starts_among, due_starts, is_over, next_stage, due_stage, is_announced, is_served, is_settled, settle_step, due_settle, wants_look, can_look, looks_among, due_looks, same_step, is_due}
 use Rattle.init_words.proofs.Tests.{same_tests, or_either, any_same}
 use Rattle.trace_laws.proofs.Orders.{same_has}
 use Rattle.trace_laws.proofs.Settling.{same_any}

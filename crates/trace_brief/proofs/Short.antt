@@ -1,9 +1,9 @@
 -- A brief form cannot be shortened.
 use Rattle.std.proofs.Common.{◌≡◌, refl, ◌∙◌, ap, ℕ, Bool, true, false, not, ◌&&◌, cond, max, List, [], ◌∷◌, length, arith}
-use Rattle.init_words.specs.declared.orders.Ask.TheVariants.{Look}
+use Rattle.init_words.specs.declared.orders.OrderKind.TheVariants.{Look}
 use Rattle.init_words.specs.Ids.{same_id}
-use Rattle.init_trace.specs.declared.happenings.Happening.TheVariants.{Asked, Still, Told, Clock, Nudge}
-use Rattle.init_trace.specs.Event.{Event}
+use Rattle.trace_events.specs.declared.happenings.Happening.TheVariants.{Asked, Still, Told, Clock, Nudge}
+use Rattle.trace_events.specs.Event.{Event}
 use Rattle.trace_brief.specs.Brief.{in_look, with_telling, with_early_reading, with_round, with_event, brief_of, IsBrief}
 
 abbrev tail_of : List Event → List Event

@@ -4,18 +4,18 @@ use Rattle.std.specs.List.{list_any}
 use Rattle.std.specs.Option.{option_map_or}
 use Rattle.std.proofs.lemmas.Bool.{false≢true, and_parts, or_parts}
 use Rattle.std.proofs.lemmas.Option.{none-some}
-use Rattle.init_words.specs.declared.orders.Ask.{Ask}
-use Rattle.init_words.specs.declared.orders.Ask.TheVariants.{Start, Look}
+use Rattle.init_words.specs.declared.orders.OrderKind.{OrderKind}
+use Rattle.init_words.specs.declared.orders.OrderKind.TheVariants.{Start, Look}
 use Rattle.init_words.specs.Ids.{same_id}
 use Rattle.respawn_limit.specs.declared.TheConstants.{CLOCK_LIMIT}
-use Rattle.init_trace.specs.declared.happenings.Happening.TheVariants.{Asked, Still, Told, Clock, Nudge}
-use Rattle.init_trace.specs.declared.steps.Goal.{Goal}
-use Rattle.init_trace.specs.Event.{Event}
-use Rattle.init_trace.specs.Past.{time_of, Child, is_of, unreaped_children, kept_children, known_children, open_of, undone_of, is_untold, Open, open_orders}
-use Rattle.init_trace.specs.Wanted.{is_order, is_excluded}
-use Rattle.init_trace.specs.Spells.{untold_hits, has_untold_miss, told_at, spell_hits, is_missed}
-use Rattle.init_trace.specs.Due.{wants_look}
-use Rattle.init_trace.specs.Sound.{may_come, is_sound}
+use Rattle.trace_events.specs.declared.happenings.Happening.TheVariants.{Asked, Still, Told, Clock, Nudge}
+use Rattle.trace_events.specs.declared.steps.Goal.{Goal}
+use Rattle.trace_events.specs.Event.{Event}
+use Rattle.trace_events.specs.Past.{time_of, Child, is_of, unreaped_children, kept_children, known_children, open_of, undone_of, is_untold, Open, open_orders}
+use Rattle.trace_events.specs.Wanted.{is_order, is_excluded}
+use Rattle.trace_events.specs.Spells.{untold_hits, has_untold_miss, told_at, spell_hits, is_missed}
+use Rattle.trace_events.specs.Due.{wants_look}
+use Rattle.trace_events.specs.Sound.{may_come, is_sound}
 use Rattle.init_words.proofs.Same.{same_id-is, same_id-self}
 use Rattle.init_words.proofs.Tests.{filter_within}
 use Rattle.trace_laws.proofs.Orders.{undone_is_open, open_listed, told_same, told_other, told_known}
@@ -36,7 +36,7 @@ pub record Free (id : List ℕ) (past : List Event) : Type 0 where
 
 pub undone_none : (id : List ℕ) (past : List Event) → open_of id past ≡ None → undone_of id past ≡ None
 undone_none id past free = split (undone_of id past) refl where
-  split : (o : Option Ask) → undone_of id past ≡ o → o ≡ None
+  split : (o : Option OrderKind) → undone_of id past ≡ o → o ≡ None
   split None is = refl
   split (Some ask) is = absurd (none-some ask (sym free ∙ undone_is_open id ask past is))
 
@@ -67,11 +67,12 @@ look_kept id i there before own = split (same_id id i) refl where
   split true same = told_same id i there before same ∙ own same
   split false differ = told_other id i there before differ
 
-look_order : (b : Bool) (o : Option Ask) → (b ≡ true → o ≡ None) → cond b None (cond b (Some Look) o) ≡ o
+look_order : (b : Bool) (o : Option OrderKind) → (b ≡ true → o ≡ None) → cond b None (cond b (Some Look) o) ≡ o
 look_order true o free = sym (free refl)
 look_order false o free = refl
 
-look_undone : (b : Bool) (o : Option Ask) → (b ≡ true → o ≡ None) → cond b None (cond b None (cond b (Some Look) o)) ≡ o
+look_undone : (b : Bool) (o : Option OrderKind) → (b ≡ true → o ≡ None)
+    → cond b None (cond b None (cond b (Some Look) o)) ≡ o
 look_undone true o free = sym (free refl)
 look_undone false o free = refl
 
@@ -83,12 +84,12 @@ look_misses : (b c : Bool) → (b ≡ true → c ≡ false) → (not b && c) ≡
 look_misses true c free = sym (free refl)
 look_misses false c free = refl
 
-look_hits : (b : Bool) (hits : List (Option Ask)) → (b ≡ true → hits ≡ []) → cond b [] hits ≡ hits
+look_hits : (b : Bool) (hits : List (Option OrderKind)) → (b ≡ true → hits ≡ []) → cond b [] hits ≡ hits
 look_hits true hits free = sym (free refl)
 look_hits false hits free = refl
 
 look_listed : (id : List ℕ) (past : List Event) → open_of id past ≡ None → open_orders (Told id ∷ Still id ∷ Asked id Look ∷ past) ≡ open_orders past
-look_listed id past free = rw (same_id-self id) (filter_within others others (λ order own. own) (open_orders past) ∙ filter_all id (open_orders past) (open_listed (λ ask. true) id past ∙ ap (λ o. option_map_or (λ (ask : Ask). true) o false) free)) where
+look_listed id past free = rw (same_id-self id) (filter_within others others (λ order own. own) (open_orders past) ∙ filter_all id (open_orders past) (open_listed (λ ask. true) id past ∙ ap (λ o. option_map_or (λ (ask : OrderKind). true) o false) free)) where
   others : Open → Bool
   others order = not (same_id id order.id)
 

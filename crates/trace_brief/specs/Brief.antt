@@ -1,10 +1,10 @@
 -- The brief form of a trace. Left out are the looks that found nothing; and of readings of the clock and rounds with
 -- nothing else between them, all but the greatest reading and one round.
 use Rattle.std.specs.Prelude.{◌≡◌, ℕ, Bool, true, false, not, ◌&&◌, if◌then◌else◌, max, List, [], ◌∷◌}
-use Rattle.init_words.specs.declared.orders.Ask.TheVariants.{Look}
+use Rattle.init_words.specs.declared.orders.OrderKind.TheVariants.{Look}
 use Rattle.init_words.specs.Ids.{same_id}
-use Rattle.init_trace.specs.declared.happenings.Happening.TheVariants.{Asked, Still, Told, Clock, Nudge}
-use Rattle.init_trace.specs.Event.{Event}
+use Rattle.trace_events.specs.declared.happenings.Happening.TheVariants.{Asked, Still, Told, Clock, Nudge}
+use Rattle.trace_events.specs.Event.{Event}
 
 -- the newest happening is the order of a look, or that a look found nothing
 abbrev pub in_look : List Event → Bool

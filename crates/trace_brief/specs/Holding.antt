@@ -1,9 +1,9 @@
 -- What a log of brief traces holds back, since a later happening may leave it out or change it, and what it writes.
 use Rattle.std.specs.Prelude.{ℕ, Bool, true, false, not, ◌&&◌, ◌≡◌, if◌then◌else◌, max, List, [], ◌∷◌, ◌++◌, Option, Some, None, is_none, is_some}
-use Rattle.init_words.specs.declared.orders.Ask.TheVariants.{Look}
+use Rattle.init_words.specs.declared.orders.OrderKind.TheVariants.{Look}
 use Rattle.init_words.specs.Ids.{same_id}
-use Rattle.init_trace.specs.declared.happenings.Happening.TheVariants.{Asked, Still, Told, Clock, Nudge}
-use Rattle.init_trace.specs.Event.{Event}
+use Rattle.trace_events.specs.declared.happenings.Happening.TheVariants.{Asked, Still, Told, Clock, Nudge}
+use Rattle.trace_events.specs.Event.{Event}
 use Rattle.trace_brief.specs.declared.held.Held.{Held}
 use Rattle.trace_brief.specs.declared.held.HeldLook.{HeldLook}
 use Rattle.trace_brief.specs.declared.held.HeldLook.TheVariants.{Ordered, FoundNothing}

@@ -1,3 +1,3 @@
 pub mod Brief
-pub mod Readings
 pub mod Holding
+pub mod Readings

@@ -1,13 +1,13 @@
 -- What a brief form never changes, when the looks of a trace are free, which law a trace breaks first, and what it is
 -- to read the same off a trace and its brief form.
 use Rattle.std.specs.Prelude.{◌≡◌, ℕ, Bool, IsTrue, true, false, not, ◌&&◌, List, [], ◌∷◌, filter, Option, Some, None, is_none}
-use Rattle.init_words.specs.declared.orders.Ask.TheVariants.{Look}
-use Rattle.init_trace.specs.declared.happenings.Happening.TheVariants.{Asked, Still, Told, Clock, Nudge}
-use Rattle.init_trace.specs.declared.steps.Goal.{Goal}
-use Rattle.init_trace.specs.Event.{Event}
-use Rattle.init_trace.specs.Past.{open_of, is_untold}
-use Rattle.init_trace.specs.Sound.{is_sound}
-use Rattle.init_trace.specs.Lawful.{Fault, first_breach}
+use Rattle.init_words.specs.declared.orders.OrderKind.TheVariants.{Look}
+use Rattle.trace_events.specs.declared.happenings.Happening.TheVariants.{Asked, Still, Told, Clock, Nudge}
+use Rattle.trace_events.specs.declared.steps.Goal.{Goal}
+use Rattle.trace_events.specs.Event.{Event}
+use Rattle.trace_events.specs.Past.{open_of, is_untold}
+use Rattle.trace_events.specs.Sound.{is_sound}
+use Rattle.trace_events.specs.Lawful.{Fault, first_breach}
 use Rattle.trace_brief.specs.Brief.{brief_of}
 
 -- the happening is never left out: it is no look, telling, reading of the clock or round

@@ -4,9 +4,9 @@ ghost use Rattle.std.specs.Prelude.{◌≡◌, None, Some, false, if◌then◌el
 ghost use Rattle.init_words.specs.Ids.{same_id};
 ghost use Rattle.trace_brief.specs.Holding.{held_back, held_back_by, held_behind, is_bare, greater_reading};
 
-use init_trace::{Happening, HappeningIn};
-use init_words::{Ask, Id};
+use init_words::{Id, OrderKind};
 use std::alloc::Allocator;
+use trace_events::{Happening, HappeningIn};
 
 /// A look that is held back: it is left out where its telling comes next.
 #[derive(Clone, Copy)]
@@ -82,7 +82,7 @@ impl Held {
                 round: true,
                 ..*self
             }),
-            Happening::Asked(id, Ask::Look) => {
+            Happening::Asked(id, OrderKind::Look) => {
                 if self.is_bare() && self.within {
                     None
                 } else {
@@ -128,7 +128,7 @@ impl Held {
                 look: None,
                 within: true,
             },
-            Happening::Asked(_, Ask::Look) | Happening::Still(_) => Held {
+            Happening::Asked(_, OrderKind::Look) | Happening::Still(_) => Held {
                 within: true,
                 ..Held::new()
             },

@@ -6,13 +6,13 @@
 mod held;
 
 ghost use Rattle.std.specs.Prelude.{◌≡◌, ℕ, IsTrue, false, List, [], ◌∷◌, ◌++◌, None};
-ghost use Rattle.init_trace.specs.declared.steps.Goal.{Goal};
-ghost use Rattle.init_trace.specs.Event.{Event};
-ghost use Rattle.init_trace.specs.Past.{Child, time_of, unreaped_children, has_child, known_children, open_orders};
-ghost use Rattle.init_trace.specs.Spells.{stop_due};
-ghost use Rattle.init_trace.specs.Timing.{is_held, is_full};
-ghost use Rattle.init_trace.specs.Sound.{is_sound};
-ghost use Rattle.init_trace.specs.Lawful.{is_lawful, first_breach};
+ghost use Rattle.trace_events.specs.declared.steps.Goal.{Goal};
+ghost use Rattle.trace_events.specs.Event.{Event};
+ghost use Rattle.trace_events.specs.Past.{Child, time_of, unreaped_children, has_child, known_children, open_orders};
+ghost use Rattle.trace_events.specs.Spells.{stop_due};
+ghost use Rattle.trace_events.specs.Timing.{is_held, is_full};
+ghost use Rattle.trace_events.specs.Sound.{is_sound};
+ghost use Rattle.trace_events.specs.Lawful.{is_lawful, first_breach};
 ghost use Rattle.trace_brief.specs.Readings.{are_looks_free, lasting_events, first_broken, ReadsSame};
 ghost use Rattle.trace_brief.specs.Brief.{brief_of, IsBrief};
 ghost use Rattle.trace_brief.specs.declared.held.Held.{Held};

@@ -6,12 +6,12 @@ use Rattle.init_words.specs.declared.stages.Stage.{Stage}
 use Rattle.init_words.specs.declared.children.Status.{Status}
 use Rattle.init_words.specs.Ids.{same_id}
 use Rattle.inittab_text.specs.Tables.{entry_of, act_of}
-use Rattle.init_trace.specs.declared.happenings.Happening.TheVariants.{NewTable, Enter, Birth, Reaped, Told, Nudge}
-use Rattle.init_trace.specs.Event.{Event}
-use Rattle.init_trace.specs.Past.{table_of, stage_of, time_of, Child, is_of, is_child, has_child, newborn, unreaped_children}
-use Rattle.init_trace.specs.Wanted.{is_excluded, may_live}
-use Rattle.init_trace.specs.Spells.{Signal, untold_hits, spell_hits, told_at}
-use Rattle.init_trace.specs.Lawful.{broken}
+use Rattle.trace_events.specs.declared.happenings.Happening.TheVariants.{NewTable, Enter, Birth, Reaped, Told, Nudge}
+use Rattle.trace_events.specs.Event.{Event}
+use Rattle.trace_events.specs.Past.{table_of, stage_of, time_of, Child, is_of, is_child, has_child, newborn, unreaped_children}
+use Rattle.trace_events.specs.Wanted.{is_excluded, may_live}
+use Rattle.trace_events.specs.Spells.{Signal, untold_hits, spell_hits, told_at}
+use Rattle.trace_events.specs.Lawful.{broken}
 use Rattle.init_words.proofs.Same.{same_id-is, same_id-self, same_id-sym}
 use Rattle.init_words.proofs.Tests.{not_from, and_true, and_false}
 use Rattle.trace_laws.proofs.Spells.{is_still, spell_still, spell_nudge, spell_enter, spell_table, spell_birth, spell_told}

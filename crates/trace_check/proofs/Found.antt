@@ -6,7 +6,7 @@ use Rattle.std.proofs.lemmas.Bool.{and_parts, or_parts, not-true}
 use Rattle.init_words.specs.declared.entries.Entry.{Entry}
 use Rattle.init_words.specs.Ids.{same_id}
 use Rattle.inittab_text.specs.Tables.{has_id, entry_of, is_distinct}
-use Rattle.init_trace.specs.Wanted.{entries_before}
+use Rattle.trace_events.specs.Wanted.{entries_before}
 use Rattle.init_words.proofs.Same.{same_id-is, same_id-self, same_id-sym}
 use Rattle.init_words.proofs.Tests.{falsely, any_less}
 use Rattle.init_words.proofs.Tests.{or_none}

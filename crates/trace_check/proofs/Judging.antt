@@ -9,20 +9,20 @@ use Rattle.respawn_limit.specs.declared.TheConstants.{HOLD, STARTS, WINDOW}
 use Rattle.init_words.specs.declared.entries.Entry.{Entry}
 use Rattle.init_words.specs.declared.levels.Level.{Level}
 use Rattle.init_words.specs.declared.levels.Mark.TheVariants.{At}
-use Rattle.init_words.specs.declared.orders.Ask.TheVariants.{Start, Term, Kill}
+use Rattle.init_words.specs.declared.orders.OrderKind.TheVariants.{Start, Term, Kill}
 use Rattle.init_words.specs.Ids.{same_id}
 use Rattle.init_words.specs.Levels.{names}
 use Rattle.init_words.specs.Actions.{served_by}
 use Rattle.inittab_text.specs.Tables.{entry_of, is_distinct}
-use Rattle.init_trace.specs.declared.happenings.Happening.TheVariants.{Asked, Hold, Settle, Birth}
-use Rattle.init_trace.specs.Event.{Event}
-use Rattle.init_trace.specs.Past.{table_of, stage_of, grace_of, time_of, Child, is_of, has_child, unreaped_children}
-use Rattle.init_trace.specs.Wanted.{starts_in, is_asked, is_called, is_wanted, is_owed, is_excluded, may_live, entries_before}
-use Rattle.init_trace.specs.Wishes.{is_level}
-use Rattle.init_trace.specs.Spells.{is_ripe, spell_hits}
-use Rattle.init_trace.specs.Timing.{start_times, hold_times, is_held, is_full}
-use Rattle.init_trace.specs.Due.{is_served, is_settled}
-use Rattle.init_trace.specs.Lawful.{is_placed, is_in_turn, is_limited_id, is_free, is_due_hold, may_term, may_kill, broken}
+use Rattle.trace_events.specs.declared.happenings.Happening.TheVariants.{Asked, Hold, Settle, Birth}
+use Rattle.trace_events.specs.Event.{Event}
+use Rattle.trace_events.specs.Past.{table_of, stage_of, grace_of, time_of, Child, is_of, has_child, unreaped_children}
+use Rattle.trace_events.specs.Wanted.{starts_in, is_asked, is_called, is_wanted, is_owed, is_excluded, may_live, entries_before}
+use Rattle.trace_events.specs.Wishes.{is_level}
+use Rattle.trace_events.specs.Spells.{is_ripe, spell_hits}
+use Rattle.trace_events.specs.Timing.{start_times, hold_times, is_held, is_full}
+use Rattle.trace_events.specs.Due.{is_served, is_settled}
+use Rattle.trace_events.specs.Lawful.{is_placed, is_in_turn, is_limited_id, is_free, is_due_hold, may_term, may_kill, broken}
 use Rattle.init_words.proofs.Same.{same_id-is, same_id-self}
 use Rattle.init_words.proofs.Tests.{same_tests, any_less, any_same, Passing, passing, found_any, and_three}
 use Rattle.trace_laws.proofs.Lone.{is_lone, lone_any}

@@ -6,17 +6,17 @@ use Rattle.std.proofs.lemmas.Bool.{not_from_true}
 use Rattle.std.proofs.lemmas.List.Folds.{list_any-append}
 use Rattle.respawn_limit.specs.declared.TheConstants.{STARTS}
 use Rattle.init_words.specs.declared.entries.Entry.{Entry}
-use Rattle.init_words.specs.declared.orders.Ask.{Ask}
-use Rattle.init_words.specs.declared.orders.Ask.TheVariants.{Start, Term}
+use Rattle.init_words.specs.declared.orders.OrderKind.{OrderKind}
+use Rattle.init_words.specs.declared.orders.OrderKind.TheVariants.{Start, Term}
 use Rattle.init_words.specs.Ids.{same_id}
 use Rattle.init_words.specs.Actions.{stays_called}
 use Rattle.inittab_text.specs.Tables.{has_id, entry_of, is_distinct}
-use Rattle.init_trace.specs.declared.happenings.Happening.TheVariants.{NewTable, Enter, Call, Power, Asked, Hold, Birth, Hit, Told, Clock}
-use Rattle.init_trace.specs.Event.{Event}
-use Rattle.init_trace.specs.Past.{table_of, stage_of, grace_of, time_of, Child, is_of, has_child, open_of, unreaped_children, kept_children}
-use Rattle.init_trace.specs.Wanted.{is_order, is_asked, is_called, starts_in}
-use Rattle.init_trace.specs.Spells.{untold_hits}
-use Rattle.init_trace.specs.Timing.{start_times, hold_times}
+use Rattle.trace_events.specs.declared.happenings.Happening.TheVariants.{NewTable, Enter, Call, Power, Asked, Hold, Birth, Hit, Told, Clock}
+use Rattle.trace_events.specs.Event.{Event}
+use Rattle.trace_events.specs.Past.{table_of, stage_of, grace_of, time_of, Child, is_of, has_child, open_of, unreaped_children, kept_children}
+use Rattle.trace_events.specs.Wanted.{is_order, is_asked, is_called, starts_in}
+use Rattle.trace_events.specs.Spells.{untold_hits}
+use Rattle.trace_events.specs.Timing.{start_times, hold_times}
 use Rattle.init_words.proofs.Same.{same_id-is, same_id-apart}
 use Rattle.init_words.proofs.Tests.{not_from, or_false, and_false, any_within, any_without}
 use Rattle.trace_laws.proofs.Tests.{never}
@@ -98,11 +98,11 @@ called_step (Asked i Start) id past distinct = start_ends id i (λ e. is_called 
 called_step _ id past distinct = refl
 
 -- the Hits that are not told, where an id's are forgotten, or one is added
-forgotten : (b : Bool) (hits : List (Option Ask)) → (not b && list_any (is_order Term) hits) ≡ list_any (is_order Term) (cond b [] hits)
+forgotten : (b : Bool) (hits : List (Option OrderKind)) → (not b && list_any (is_order Term) hits) ≡ list_any (is_order Term) (cond b [] hits)
 forgotten true hits = refl
 forgotten false hits = refl
 
-pub sent_step : (open_order : List ℕ → Option Ask) (happening : Event) (id : List ℕ) (past : List Event) → ((i : List ℕ) → open_order i ≡ open_of i past) → sent_after open_order happening id (has_sent id past) ≡ has_sent id (happening ∷ past)
+pub sent_step : (open_order : List ℕ → Option OrderKind) (happening : Event) (id : List ℕ) (past : List Event) → ((i : List ℕ) → open_order i ≡ open_of i past) → sent_after open_order happening id (has_sent id past) ≡ has_sent id (happening ∷ past)
 sent_step open_order (Birth i n) id past orders = forgotten (same_id id i) (untold_hits id past)
 sent_step open_order (Told i) id past orders = forgotten (same_id id i) (untold_hits id past)
 sent_step open_order (Hit i) id past orders = split (same_id id i) refl where

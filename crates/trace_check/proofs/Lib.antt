@@ -1,11 +1,11 @@
-pub mod Walks
-pub mod Lookups
-pub mod Lone
-pub mod Found
-pub mod Windows
-pub mod Terms
-pub mod Keeping
 pub mod Bearing
+pub mod Found
 pub mod Judging
+pub mod Keeping
+pub mod Lone
+pub mod Lookups
 pub mod Passing
-mod Rows
+pub mod Rows
+pub mod Terms
+pub mod Walks
+pub mod Windows

@@ -4,8 +4,8 @@ use Rattle.std.specs.List.{list_any}
 use Rattle.std.specs.Option.{option_map_or}
 use Rattle.std.proofs.lemmas.Bool.{or_left, or_right}
 use Rattle.std.proofs.lemmas.Option.{none-some, same_Some}
-use Rattle.init_trace.specs.Event.{Event}
-use Rattle.init_trace.specs.Past.{Child, is_of, unreaped_children}
+use Rattle.trace_events.specs.Event.{Event}
+use Rattle.trace_events.specs.Past.{Child, is_of, unreaped_children}
 use Rattle.init_words.proofs.Same.{same_id-is}
 use Rattle.init_words.proofs.Tests.{find_none}
 use Rattle.trace_laws.proofs.Lone.{none_filtered, is_lone}

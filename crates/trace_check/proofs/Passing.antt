@@ -2,9 +2,9 @@
 use Rattle.std.proofs.Common.{◌≡◌, ◌<◌, ◌≤◌, refl, sym, ◌∙◌, ap, subst, ℕ, ◌+◌, true, List, [], ◌∷◌, ◌++◌, length, reverse, take, take_all, drop, get_or, is_some, arith, Option, Some, None}
 use Rattle.std.proofs.lemmas.List.{take_more, reverse-append, length-reverse, length-take-le, take-append-drop}
 use Rattle.inittab_text.specs.Tables.{is_distinct}
-use Rattle.init_trace.specs.Event.{Event}
-use Rattle.init_trace.specs.Past.{table_of, stage_of, time_of, is_of, unreaped_children}
-use Rattle.init_trace.specs.Lawful.{broken, Fault, breach_at, earlier, first_breach}
+use Rattle.trace_events.specs.Event.{Event}
+use Rattle.trace_events.specs.Past.{table_of, stage_of, time_of, is_of, unreaped_children}
+use Rattle.trace_events.specs.Lawful.{broken, Fault, breach_at, earlier, first_breach}
 use Rattle.trace_laws.proofs.Lone.{is_lone}
 use Rattle.trace_check.specs.State.{JudgeState, at, among, times_at}
 use Rattle.trace_check.specs.After.{TakesIn, table_after, stage_after, grace_after, time_after, order_after, kept_after, asked_after, called_after, sent_after, starts_after, hold_after, term_after}

@@ -8,10 +8,10 @@ use Rattle.init_words.specs.declared.levels.Level.TheVariants as level
 use Rattle.init_words.specs.declared.levels.Letter.TheVariants as letter
 use Rattle.init_words.specs.declared.levels.Mark.TheVariants.{At, OnCall}
 use Rattle.init_words.specs.declared.stages.Stage.TheVariants.{Run}
-use Rattle.init_words.specs.declared.orders.Ask.TheVariants.{Start, Term, Kill}
-use Rattle.init_trace.specs.declared.happenings.Happening.TheVariants.{NewTable, Enter, Call, Asked, Hold, Settle, Birth, Hit, Told, Clock}
-use Rattle.init_trace.specs.Event.{Event}
-use Rattle.init_trace.specs.Lawful.{Fault, first_breach}
+use Rattle.init_words.specs.declared.orders.OrderKind.TheVariants.{Start, Term, Kill}
+use Rattle.trace_events.specs.declared.happenings.Happening.TheVariants.{NewTable, Enter, Call, Asked, Hold, Settle, Birth, Hit, Told, Clock}
+use Rattle.trace_events.specs.Event.{Event}
+use Rattle.trace_events.specs.Lawful.{Fault, first_breach}
 
 abbrev entry : List ℕ → Level → Act → Entry
 entry id at action = record { id = id; levels = record { items = At at ∷ [] }; act = action; process = record { items = codes "x" } }

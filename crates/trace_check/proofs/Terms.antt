@@ -3,10 +3,10 @@ use Rattle.std.proofs.Common.{◌≡◌, ◌+◌, ◌-◌, refl, ◌∙◌, ap, 
 use Rattle.std.specs.List.{list_any}
 use Rattle.std.specs.Option.{option_map_or}
 use Rattle.std.proofs.lemmas.Bool.Decides.{nat_tests}
-use Rattle.init_words.specs.declared.orders.Ask.{Ask}
-use Rattle.init_words.specs.declared.orders.Ask.TheVariants.{Term}
-use Rattle.init_trace.specs.Wanted.{is_order}
-use Rattle.init_trace.specs.Spells.{Signal, told_at, is_ripe}
+use Rattle.init_words.specs.declared.orders.OrderKind.{OrderKind}
+use Rattle.init_words.specs.declared.orders.OrderKind.TheVariants.{Term}
+use Rattle.trace_events.specs.Wanted.{is_order}
+use Rattle.trace_events.specs.Spells.{Signal, told_at, is_ripe}
 use Rattle.init_words.proofs.Tests.{or_false}
 use Rattle.trace_check.specs.After.{earliest}
 use Rattle.trace_check.specs.Reading.{least_term}
@@ -16,7 +16,7 @@ earliest_twice time None = omega arith
 earliest_twice time (Some other) = omega arith
 
 -- orders that are told at a time before those in the spell
-pub told_terms : (time : ℕ) (orders : List (Option Ask)) (signals : List Signal) → least_term (map (told_at time) orders ++ signals) ≡ cond (list_any (is_order Term) orders) (Some (earliest time (least_term signals))) (least_term signals)
+pub told_terms : (time : ℕ) (orders : List (Option OrderKind)) (signals : List Signal) → least_term (map (told_at time) orders ++ signals) ≡ cond (list_any (is_order Term) orders) (Some (earliest time (least_term signals))) (least_term signals)
 told_terms time [] signals = refl
 told_terms time (order ∷ orders) signals = split (is_order Term order) (list_any (is_order Term) orders) (told_terms time orders signals) where
   rest : Option ℕ

@@ -5,7 +5,7 @@ use Rattle.std.proofs.lemmas.List.Folds.{list_any_more}
 use Rattle.std.proofs.lemmas.Option.{slice_get_within, get_or_from_slice_get}
 use Rattle.init_words.specs.declared.entries.Entry.{Entry}
 use Rattle.init_words.specs.Ids.{same_id}
-use Rattle.init_trace.specs.Wanted.{entries_before}
+use Rattle.trace_events.specs.Wanted.{entries_before}
 use Rattle.inittab_text.proofs.Entries.{drop-slice_get}
 
 pub any_taken : {X : Type 0} (p : X → Bool) (xs : List X) (i : ℕ) (x : X) → slice_get xs i ≡ Some x → list_any p (take (i + 1) xs) ≡ (list_any p (take i xs) || p x)

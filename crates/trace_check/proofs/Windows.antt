@@ -6,10 +6,10 @@ use Rattle.std.proofs.lemmas.Bool.{ltb-true, lt-ltb, or_left}
 use Rattle.std.proofs.lemmas.Bool.Decides.{nat_tests}
 use Rattle.respawn_limit.specs.declared.TheConstants.{HOLD, STARTS, WINDOW, CLOCK_LIMIT}
 use Rattle.init_words.specs.Ids.{same_id}
-use Rattle.init_trace.specs.declared.happenings.Happening.TheVariants.{NewTable, Enter, Hold, Clock}
-use Rattle.init_trace.specs.Event.{Event}
-use Rattle.init_trace.specs.Past.{time_of}
-use Rattle.init_trace.specs.Timing.{start_times, hold_times, is_held, is_full}
+use Rattle.trace_events.specs.declared.happenings.Happening.TheVariants.{NewTable, Enter, Hold, Clock}
+use Rattle.trace_events.specs.Event.{Event}
+use Rattle.trace_events.specs.Past.{time_of}
+use Rattle.trace_events.specs.Timing.{start_times, hold_times, is_held, is_full}
 use Rattle.init_words.proofs.Tests.{same_tests, or_either}
 use Rattle.trace_check.specs.Reading.{newest}
 use Rattle.trace_laws.proofs.Pace.{Falling, falls_below, starts_fall, is_young, old_later}

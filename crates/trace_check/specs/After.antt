@@ -6,15 +6,15 @@ use Rattle.respawn_limit.specs.declared.TheConstants.{CLOCK_LIMIT, STARTS}
 use Rattle.init_words.specs.declared.entries.Entry.{Entry}
 use Rattle.init_words.specs.declared.levels.Mark.TheVariants.{OnCall}
 use Rattle.init_words.specs.declared.stages.Stage.{Stage}
-use Rattle.init_words.specs.declared.orders.Ask.{Ask}
-use Rattle.init_words.specs.declared.orders.Ask.TheVariants.{Start, Term}
+use Rattle.init_words.specs.declared.orders.OrderKind.{OrderKind}
+use Rattle.init_words.specs.declared.orders.OrderKind.TheVariants.{Start, Term}
 use Rattle.init_words.specs.Ids.{same_id}
 use Rattle.init_words.specs.Levels.{names}
 use Rattle.init_words.specs.Actions.{is_called_by, is_ondemand, stays_called}
 use Rattle.inittab_text.specs.Tables.{has_id, entry_of, act_of}
-use Rattle.init_trace.specs.declared.happenings.Happening.TheVariants.{NewTable, Enter, Call, Power, Asked, Hold, Birth, Reaped, Hit, Told, Clock}
-use Rattle.init_trace.specs.Event.{Event}
-use Rattle.init_trace.specs.Wanted.{starts_in, is_order, same_acts, may_live}
+use Rattle.trace_events.specs.declared.happenings.Happening.TheVariants.{NewTable, Enter, Call, Power, Asked, Hold, Birth, Reaped, Hit, Told, Clock}
+use Rattle.trace_events.specs.Event.{Event}
+use Rattle.trace_events.specs.Wanted.{starts_in, is_order, same_acts, may_live}
 use Rattle.trace_check.specs.declared.children.UnreapedChild.{UnreapedChild}
 use Rattle.trace_check.specs.State.{JudgeState, at, among, times_at}
 
@@ -35,7 +35,7 @@ time_after (Clock reading) time = max (min reading CLOCK_LIMIT) time
 time_after _ time = time
 
 -- the open order of an id
-abbrev pub order_after : Event → List ℕ → Option Ask → Option Ask
+abbrev pub order_after : Event → List ℕ → Option OrderKind → Option OrderKind
 order_after (Asked i ask) id before = if same_id id i then Some ask else before
 order_after (Told i) id before = if same_id id i then None else before
 order_after _ id before = before
@@ -82,7 +82,7 @@ called_after table stage (Asked i Start) id before = (stays_called_in table id |
 called_after table stage _ id before = before
 
 -- a TERM of the id was sent and is not told, where `open_order` says the open order of each
-abbrev pub sent_after : (List ℕ → Option Ask) → Event → List ℕ → Bool → Bool
+abbrev pub sent_after : (List ℕ → Option OrderKind) → Event → List ℕ → Bool → Bool
 sent_after open_order (Birth i n) id before = not (same_id id i) && before
 sent_after open_order (Told i) id before = not (same_id id i) && before
 sent_after open_order (Hit i) id before = same_id id i && is_order Term (open_order i) || before

@@ -1,6 +1,6 @@
 -- A verdict, as the breach that it names.
 use Rattle.std.specs.Prelude.{ℕ, Option, Some, None}
-use Rattle.init_trace.specs.Lawful.{Fault}
+use Rattle.trace_events.specs.Lawful.{Fault}
 use Rattle.trace_check.specs.declared.laws.Law.{Law}
 use Rattle.trace_check.specs.declared.pass.Verdict.{Verdict}
 use Rattle.trace_check.specs.declared.pass.Verdict.TheVariants.{Lawful, Breach}

@@ -7,15 +7,15 @@ use Rattle.respawn_limit.specs.declared.TheConstants.{HOLD, STARTS, WINDOW}
 use Rattle.init_words.specs.declared.entries.Entry.{Entry}
 use Rattle.init_words.specs.declared.levels.Level.{Level}
 use Rattle.init_words.specs.declared.levels.Mark.TheVariants.{At}
-use Rattle.init_words.specs.declared.orders.Ask.TheVariants.{Start, Term, Kill}
+use Rattle.init_words.specs.declared.orders.OrderKind.TheVariants.{Start, Term, Kill}
 use Rattle.init_words.specs.Levels.{names}
 use Rattle.init_words.specs.Actions.{wanted_by, is_limited, served_by}
 use Rattle.init_words.specs.Entries.{waited_of}
 use Rattle.inittab_text.specs.Tables.{entry_of, act_of}
-use Rattle.init_trace.specs.declared.happenings.Happening.TheVariants.{Asked, Hold, Settle, Birth}
-use Rattle.init_trace.specs.Event.{Event}
-use Rattle.init_trace.specs.Wanted.{starts_in, is_order, entries_before}
-use Rattle.init_trace.specs.Wishes.{is_level}
+use Rattle.trace_events.specs.declared.happenings.Happening.TheVariants.{Asked, Hold, Settle, Birth}
+use Rattle.trace_events.specs.Event.{Event}
+use Rattle.trace_events.specs.Wanted.{starts_in, is_order, entries_before}
+use Rattle.trace_events.specs.Wishes.{is_level}
 use Rattle.trace_check.specs.State.{JudgeState, at, among, times_at}
 use Rattle.trace_check.specs.After.{excludes}
 

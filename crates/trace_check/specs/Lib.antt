@@ -1,7 +1,7 @@
-pub mod State
 pub mod After
-pub mod Flaws
-pub mod Laws
 pub mod Faults
-pub mod Reading
+pub mod Flaws
 pub mod Judging
+pub mod Laws
+pub mod Reading
+pub mod State

@@ -3,7 +3,7 @@ use Rattle.std.specs.Prelude.{ℕ, Bool, List, [], Option, Some, None}
 use Rattle.std.specs.Map.{lookup}
 use Rattle.std.specs.List.{list_any}
 use Rattle.init_words.specs.declared.stages.Stage.{Stage}
-use Rattle.init_words.specs.declared.orders.Ask.{Ask}
+use Rattle.init_words.specs.declared.orders.OrderKind.{OrderKind}
 use Rattle.init_words.specs.Ids.{same_id}
 use Rattle.trace_check.specs.declared.children.UnreapedChild.{UnreapedChild}
 
@@ -30,7 +30,7 @@ pub record JudgeState : Type 0 where
   pub stage : Option Stage
   pub grace : ℕ
   pub time : ℕ
-  pub orders : List (List ℕ × Ask)
+  pub orders : List (List ℕ × OrderKind)
   pub kept : List (List ℕ)
   pub asked : List (List ℕ)
   pub called : List (List ℕ)

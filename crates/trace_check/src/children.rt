@@ -7,15 +7,15 @@ ghost use Rattle.trace_check.specs.After.{is_numbered, child_after};
 
 use crate::maps::{ById, put};
 use crate::tables::act;
-use init_trace::{Happening, HappeningIn};
-use init_words::{Act, ChildNo};
+use init_words::{Act, ChildNumber};
 use inittab_text::Table;
 use std::alloc::Allocator;
+use trace_events::{Happening, HappeningIn};
 
 /// An unreaped child: its number, and the action that its id had when it was born.
 #[derive(Clone, Copy)]
 pub(crate) struct UnreapedChild {
-    pub(crate) number: ChildNo,
+    pub(crate) number: ChildNumber,
     pub(crate) act: Option<Act>,
 }
 
@@ -47,7 +47,7 @@ pub(crate) fn take_child<A: Allocator, B: Allocator>(
 }
 
 /// There is a child, and it has this number.
-pub(crate) fn is_numbered(child: Option<&UnreapedChild>, number: ChildNo) -> bool
+pub(crate) fn is_numbered(child: Option<&UnreapedChild>, number: ChildNumber) -> bool
     ensures { result ≡ is_numbered number (option_copied child.entry) }
 {
     match child {

@@ -9,11 +9,11 @@ use crate::laws::Law;
 use crate::parts::is_open;
 use crate::spells::excludes;
 use crate::tables::{act, entry_at, starts_in};
-use init_trace::{Happening, HappeningIn};
-use init_words::{Ask, Entry, Id, Level, Stage, waited};
+use init_words::{Entry, Id, Level, OrderKind, Stage, waited};
 use inittab_text::Table;
 use respawn_limit::HOLD;
 use std::alloc::Allocator;
+use trace_events::{Happening, HappeningIn};
 
 /// The respawn limit holds for the id's entry (init(8)).
 fn is_limited<B: Allocator>(table: &Table<B>, id: &Id) -> bool
@@ -28,7 +28,7 @@ fn is_limited<B: Allocator>(table: &Table<B>, id: &Id) -> bool
 impl<A: Allocator> Judge<A> {
     ghost use Rattle.std.specs.Map.{keys_of};
     ghost use Rattle.std.specs.List.{list_any, list_all};
-    ghost use Rattle.init_trace.specs.Wishes.{is_level};
+    ghost use Rattle.trace_events.specs.Wishes.{is_level};
     ghost use Rattle.trace_check.specs.Flaws.{is_alive, is_excluded_in, none_excluded_in, is_placed_in, is_starting, is_wanted_in, is_owed_in, is_in_turn_in, first_owed_in, is_held_in, is_full_in, is_free_in, is_due_hold_in, is_served_in, is_settled_in, is_over_in, may_kill_in, flaw_of_birth, flaw_in};
 
     /// The least law that the happening breaks, where `table` is in force before it.
@@ -42,13 +42,19 @@ impl<A: Allocator> Judge<A> {
         match happening {
             Happening::Birth(id, _) => self.flaw_of_birth(table, id),
             Happening::Settle(level) => unless(self.is_settled(*level, table), Law::NotSettled),
-            Happening::Asked(id, Ask::Start) => unless(self.is_free(table, id), Law::RespawnLimit),
+            Happening::Asked(id, OrderKind::Start) => unless(
+                self.is_free(table, id),
+                Law::RespawnLimit,
+            ),
             Happening::Hold(id) => unless(self.is_due_hold(table, id), Law::RespawnLimit),
-            Happening::Asked(id, Ask::Term) => unless(
+            Happening::Asked(id, OrderKind::Term) => unless(
                 self.is_excluded(table, id),
                 Law::SignalNotDue,
             ),
-            Happening::Asked(id, Ask::Kill) => unless(self.may_kill(table, id), Law::SignalNotDue),
+            Happening::Asked(id, OrderKind::Kill) => unless(
+                self.may_kill(table, id),
+                Law::SignalNotDue,
+            ),
             _ => None,
         }
     }
@@ -106,7 +112,7 @@ impl<A: Allocator> Judge<A> {
     fn is_starting(&self, id: &Id) -> bool
         ensures { result ≡ is_starting self.now id.now }
     {
-        is_open(&self.orders, id, Ask::Start)
+        is_open(&self.orders, id, OrderKind::Start)
     }
 
     pub(crate) fn is_wanted(&self, entry: &Entry) -> bool

@@ -9,11 +9,11 @@ use crate::parts::{
     grace_after, stage_after, take_asked, take_called, take_kept, take_order, take_sent, time_after,
 };
 use crate::spells::take_term;
-use init_trace::HappeningIn;
-use init_words::{Ask, Memory, Stage};
+use init_words::{Memory, OrderKind, Stage};
 use inittab_text::Table;
 use std::alloc::Allocator;
 use std::marker::Model;
+use trace_events::HappeningIn;
 
 /// What the checker keeps between two happenings: all that the laws ask of the past but the table.
 #[derive(Drop)]
@@ -21,7 +21,7 @@ pub(crate) struct Judge<A: Allocator> {
     pub(crate) stage: Option<Stage>,
     pub(crate) grace: u16,
     pub(crate) time: u64,
-    pub(crate) orders: ById<Ask, A>,
+    pub(crate) orders: ById<OrderKind, A>,
     pub(crate) kept: Ids<A>,
     pub(crate) asked: Ids<A>,
     pub(crate) called: Ids<A>,

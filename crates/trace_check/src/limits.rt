@@ -10,11 +10,11 @@ ghost use Rattle.trace_check.specs.After.{starts_after, hold_after};
 
 use crate::maps::{ById, forget_all, put};
 use arrayvec::ArrayVec;
-use init_trace::{Happening, HappeningIn};
-use init_words::{Ask, Id};
+use init_words::{Id, OrderKind};
 use respawn_limit::{STARTS, WINDOW};
 use std::alloc::Allocator;
 use std::marker::Model;
+use trace_events::{Happening, HappeningIn};
 
 /// The times of the last ten starts of an id, the newest first, in seconds.
 #[derive(Drop)]
@@ -72,7 +72,7 @@ pub(crate) fn take_start<A: Allocator + Copy, B: Allocator>(
 {
     match happening {
         Happening::Enter(..) | Happening::NewTable(_) => forget_all(starts),
-        Happening::Asked(id, Ask::Start) => note_start(starts, *id, time),
+        Happening::Asked(id, OrderKind::Start) => note_start(starts, *id, time),
         _ => {}
     }
 }

@@ -5,18 +5,18 @@ ghost use Rattle.indexmap.specs.IndexMap.{spare};
 ghost use Rattle.indexmap.specs.IndexSet.{spare as set_spare};
 ghost use Rattle.inittab_text.specs.Tables.{has_id};
 ghost use Rattle.std.specs.List.{list_any};
-ghost use Rattle.init_trace.specs.Wanted.{is_order, starts_in};
+ghost use Rattle.trace_events.specs.Wanted.{is_order, starts_in};
 ghost use Rattle.trace_check.specs.State.{at, among};
 ghost use Rattle.trace_check.specs.After.{stage_after, grace_after, time_after, order_after, kept_after, is_changed, asked_after, is_named, is_named_at, stays_called_in, called_after, sent_after};
 
 use crate::children::UnreapedChild;
 use crate::maps::{ById, Ids, add, add_if, drop_if, forget_ids, put, room_for, set_if};
 use crate::tables::{act, entry_at, is_changed, starts_in};
-use init_trace::{Happening, HappeningIn};
-use init_words::{Ask, Entry, Id, Mark, Memory, Stage, names};
+use init_words::{Entry, Id, Mark, Memory, OrderKind, Stage, names};
 use inittab_text::Table;
 use respawn_limit::CLOCK_LIMIT;
 use std::alloc::Allocator;
+use trace_events::{Happening, HappeningIn};
 
 pub(crate) fn stage_after<B: Allocator>(
     happening: &HappeningIn<B>,
@@ -50,7 +50,7 @@ pub(crate) fn time_after<B: Allocator>(happening: &HappeningIn<B>, time: u64) ->
 
 /// The open orders, where there is room for one more.
 pub(crate) fn take_order<A: Allocator, B: Allocator>(
-    orders: &mut ById<Ask, A>,
+    orders: &mut ById<OrderKind, A>,
     happening: &HappeningIn<B>,
 )
     requires { 0 < spare orders.old }
@@ -97,7 +97,7 @@ pub(crate) fn take_asked<A: Allocator + Copy, B: Allocator>(
     match happening {
         Happening::Enter(..) => forget_ids(asked),
         Happening::NewTable(next) => drop_brought(asked, table, next),
-        Happening::Asked(id, Ask::Start) => add(asked, *id),
+        Happening::Asked(id, OrderKind::Start) => add(asked, *id),
         _ => {}
     }
 }
@@ -161,7 +161,7 @@ pub(crate) fn take_called<A: Allocator + Copy, B: Allocator>(
             Ok(())
         }
         Happening::Power(_) | Happening::Call(_) => add_named(called, table, stage, happening),
-        Happening::Asked(id, Ask::Start) => {
+        Happening::Asked(id, OrderKind::Start) => {
             drop_if(called, id, !stays_called(table, id));
             Ok(())
         }
@@ -190,7 +190,7 @@ fn add_named<A: Allocator, B: Allocator>(
 /// The ids of which a sent TERM is not told, where there is room for one more.
 pub(crate) fn take_sent<A: Allocator, B: Allocator>(
     sent: &mut Ids<A>,
-    orders: &ById<Ask, A>,
+    orders: &ById<OrderKind, A>,
     happening: &HappeningIn<B>,
 )
     requires { 0 < set_spare sent.old }
@@ -201,13 +201,13 @@ pub(crate) fn take_sent<A: Allocator, B: Allocator>(
         Happening::Birth(id, _) | Happening::Told(id) => {
             sent.swap_remove(id);
         }
-        Happening::Hit(id) => add_if(sent, id, is_open(orders, id, Ask::Term)),
+        Happening::Hit(id) => add_if(sent, id, is_open(orders, id, OrderKind::Term)),
         _ => {}
     }
 }
 
 /// The open order of the id is of this kind.
-pub(crate) fn is_open<A: Allocator>(orders: &ById<Ask, A>, id: &Id, ask: Ask) -> bool
+pub(crate) fn is_open<A: Allocator>(orders: &ById<OrderKind, A>, id: &Id, ask: OrderKind) -> bool
     ensures { result ≡ is_order ask (at id.now orders.now.entries) }
 {
     match orders.get(id) {

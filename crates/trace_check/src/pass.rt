@@ -1,15 +1,15 @@
 //! A whole trace, judged in one pass.
 
 ghost use Rattle.std.specs.Prelude.{◌≡◌, IfOk, reverse, []};
-ghost use Rattle.init_trace.specs.Lawful.{first_breach};
+ghost use Rattle.trace_events.specs.Lawful.{first_breach};
 ghost use Rattle.trace_check.specs.Faults.{fault_of};
 ghost use Rattle.trace_check.specs.Judging.{Judged};
 
 use crate::laws::Law;
 use crate::trace_judges::TraceJudge;
-use init_trace::HappeningIn;
 use init_words::Memory;
 use std::alloc::Allocator;
+use trace_events::HappeningIn;
 
 /// What the checker says of a trace.
 #[derive(Clone, Copy, PartialEq, Eq)]

@@ -1,17 +1,17 @@
 //! What the judge reads off the past that it has judged.
 
 ghost use Rattle.std.specs.Prelude.{◌≡◌, true, List, find, option_copied, Some};
-ghost use Rattle.init_trace.specs.Event.{Event};
-ghost use Rattle.init_trace.specs.Past.{table_of, stage_of, grace_of, time_of, open_of, unreaped_children};
-ghost use Rattle.init_trace.specs.Due.{is_settled};
-ghost use Rattle.init_trace.specs.Timing.{hold_times, is_held, is_full};
-ghost use Rattle.init_trace.specs.Wanted.{is_wanted, is_owed, entries_before};
+ghost use Rattle.trace_events.specs.Event.{Event};
+ghost use Rattle.trace_events.specs.Past.{table_of, stage_of, grace_of, time_of, open_of, unreaped_children};
+ghost use Rattle.trace_events.specs.Due.{is_settled};
+ghost use Rattle.trace_events.specs.Timing.{hold_times, is_held, is_full};
+ghost use Rattle.trace_events.specs.Wanted.{is_wanted, is_owed, entries_before};
 ghost use Rattle.inittab_text.specs.Tables.{entry_of, is_distinct};
 ghost use Rattle.trace_check.specs.Judging.{Judged};
 ghost use Rattle.trace_check.specs.Reading.{newest, child_of, term_of};
 
 use crate::trace_judges::TraceJudge;
-use init_words::{Ask, Entry, Id, Level, Stage};
+use init_words::{Entry, Id, Level, OrderKind, Stage};
 use inittab_text::Table;
 use std::alloc::Allocator;
 
@@ -49,7 +49,7 @@ impl<A: Allocator> TraceJudge<A> {
     }
 
     /// The open order of an id.
-    pub fn order(&self, id: &Id) -> Option<Ask>
+    pub fn order(&self, id: &Id) -> Option<OrderKind>
         ensures { (past : List Event) → Judged self.now past → result ≡ open_of id.now past }
     {
         self.judge.orders.get(id).copied()

@@ -9,10 +9,10 @@ ghost use Rattle.trace_check.specs.After.{spares, excludes, earliest, term_after
 use crate::children::{UnreapedChild, is_numbered};
 use crate::maps::{ById, Ids, put};
 use crate::tables::may_live;
-use init_trace::{Happening, HappeningIn};
 use init_words::{Id, Stage};
 use inittab_text::Table;
 use std::alloc::Allocator;
+use trace_events::{Happening, HappeningIn};
 
 /// The child of the id may live by this table and in this stage.
 fn spares<A: Allocator, B: Allocator>(

@@ -4,13 +4,13 @@ ghost use Rattle.std.specs.Prelude.{◌≡◌, ◌<◌, length, slice_get, optio
 ghost use Rattle.std.specs.Option.{option_map_or};
 ghost use Rattle.init_words.specs.declared.entries.Entry.{Entry};
 ghost use Rattle.inittab_text.specs.Tables.{act_of};
-ghost use Rattle.init_trace.specs.Wanted.{same_acts, starts_in, may_live};
+ghost use Rattle.trace_events.specs.Wanted.{same_acts, starts_in, may_live};
 ghost use Rattle.trace_check.specs.After.{table_after, is_changed};
 
-use init_trace::{Happening, HappeningIn};
 use init_words::{Act, Entry, Id, Memory, Stage, lives, starts};
 use inittab_text::Table;
 use std::alloc::Allocator;
+use trace_events::{Happening, HappeningIn};
 
 /// The entry at a place below the length.
 pub(crate) fn entry_at<B: Allocator>(table: &Table<B>, place: usize) -> &Entry

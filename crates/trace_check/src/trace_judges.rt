@@ -1,19 +1,19 @@
 //! The judge of a trace that comes one happening after another.
 
 ghost use Rattle.std.specs.Prelude.{◌≡◌, List, option_map, IfOk, OnErr};
-ghost use Rattle.init_trace.specs.Event.{Event};
-ghost use Rattle.init_trace.specs.Lawful.{broken};
+ghost use Rattle.trace_events.specs.Event.{Event};
+ghost use Rattle.trace_events.specs.Lawful.{broken};
 ghost use Rattle.trace_check.specs.Laws.{law_number};
 ghost use Rattle.trace_check.specs.Judging.{unjudged, Judged, TakesNext};
 
 use crate::judge::Judge;
 use crate::laws::Law;
 use crate::tables::{put_brought, table_brought};
-use init_trace::HappeningIn;
 use init_words::Memory;
 use inittab_text::Table;
 use std::alloc::{Allocator, Global};
 use std::marker::Model;
+use trace_events::HappeningIn;
 
 /// A judge of a trace that comes one happening after another, the oldest first. It keeps what the laws ask of the
 /// past, by the ids of the table and of the living children, and never the past itself.

@@ -2,15 +2,15 @@
 use Rattle.std.proofs.Common.{◌≡◌, refl, sym, ◌∙◌, ap, ℕ, Bool, true, false, not, ◌&&◌, ◌||◌, ◌==◌, List, [], ◌∷◌, ◌++◌, filter}
 use Rattle.std.specs.List.{list_any}
 use Rattle.std.proofs.lemmas.Bool.{and_parts, and_from, or_parts, not_from_true, eqb-true, eq-eqb}
-use Rattle.init_words.specs.declared.orders.Ask.TheVariants.{Look}
+use Rattle.init_words.specs.declared.orders.OrderKind.TheVariants.{Look}
 use Rattle.init_words.specs.Ids.{same_id}
-use Rattle.init_trace.specs.declared.happenings.Happening.TheVariants.{Birth, NoBirth, Reaped, Still, NoLook, Hit, Miss, Told}
-use Rattle.init_trace.specs.declared.steps.Goal.{Goal}
-use Rattle.init_trace.specs.Event.{Event}
-use Rattle.init_trace.specs.Past.{Child, is_of, is_child, undone_of, is_untold, unreaped_children, known_children}
-use Rattle.init_trace.specs.Wanted.{is_order}
-use Rattle.init_trace.specs.Sound.{may_come, is_sound}
-use Rattle.init_trace.specs.Agreement.{has_untold_birth, has_untold_end, is_unreaped, is_known, Agrees}
+use Rattle.trace_events.specs.declared.happenings.Happening.TheVariants.{Birth, NoBirth, Reaped, Still, NoLook, Hit, Miss, Told}
+use Rattle.trace_events.specs.declared.steps.Goal.{Goal}
+use Rattle.trace_events.specs.Event.{Event}
+use Rattle.trace_events.specs.Past.{Child, is_of, is_child, undone_of, is_untold, unreaped_children, known_children}
+use Rattle.trace_events.specs.Wanted.{is_order}
+use Rattle.trace_events.specs.Sound.{may_come, is_sound}
+use Rattle.trace_events.specs.Agreement.{has_untold_birth, has_untold_end, is_unreaped, is_known, Agrees}
 use Rattle.init_words.proofs.Same.{same_id-is, same_id-from}
 use Rattle.init_words.proofs.Tests.{or_true, falsely, any_within, any_without, not_from}
 use Rattle.trace_laws.proofs.Tests.{is_order-is}

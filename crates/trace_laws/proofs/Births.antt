@@ -3,13 +3,13 @@ use Rattle.std.proofs.Common.{◌≡◌, ◌≤◌, refl, sym, ◌∙◌, ap, �
 use Rattle.std.specs.List.{list_any}
 use Rattle.std.proofs.lemmas.Bool.{false≢true, and_parts}
 use Rattle.init_words.specs.Ids.{same_id}
-use Rattle.init_trace.specs.declared.happenings.Happening.TheVariants.{NewTable, Birth, Reaped}
-use Rattle.init_trace.specs.declared.steps.Goal.{Goal}
-use Rattle.init_trace.specs.Event.{Event}
-use Rattle.init_trace.specs.Past.{Child, is_of, is_child, has_child, newborn, unreaped_children, kept_children}
-use Rattle.init_trace.specs.Wanted.{is_owed_before, is_excluded}
-use Rattle.init_trace.specs.Sound.{may_come, is_sound}
-use Rattle.init_trace.specs.Lawful.{is_alone, is_placed, is_in_turn, are_spared}
+use Rattle.trace_events.specs.declared.happenings.Happening.TheVariants.{NewTable, Birth, Reaped}
+use Rattle.trace_events.specs.declared.steps.Goal.{Goal}
+use Rattle.trace_events.specs.Event.{Event}
+use Rattle.trace_events.specs.Past.{Child, is_of, is_child, has_child, newborn, unreaped_children, kept_children}
+use Rattle.trace_events.specs.Wanted.{is_owed_before, is_excluded}
+use Rattle.trace_events.specs.Sound.{may_come, is_sound}
+use Rattle.trace_events.specs.Lawful.{is_alone, is_placed, is_in_turn, are_spared}
 use Rattle.init_words.proofs.Same.{same_id-is}
 use Rattle.init_words.proofs.Tests.{falsely, not_from, filter_none}
 use Rattle.trace_laws.proofs.Orders.{unreaped_kept}

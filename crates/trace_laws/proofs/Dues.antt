@@ -8,29 +8,29 @@ use Rattle.init_words.specs.declared.levels.Level.{Level}
 use Rattle.init_words.specs.declared.levels.Letter.{Letter}
 use Rattle.init_words.specs.declared.stages.Stage.{Stage}
 use Rattle.init_words.specs.declared.stages.Stage.TheVariants as stage
-use Rattle.init_words.specs.declared.orders.Ask.{Ask}
-use Rattle.init_words.specs.declared.orders.Ask.TheVariants.{Start, Look, Term, Kill}
+use Rattle.init_words.specs.declared.orders.OrderKind.{OrderKind}
+use Rattle.init_words.specs.declared.orders.OrderKind.TheVariants.{Start, Look, Term, Kill}
 use Rattle.init_words.specs.declared.orders.PowerKind.{PowerKind}
 use Rattle.init_words.specs.Ids.{same_id}
 use Rattle.init_words.specs.Orders.{same_ask}
 use Rattle.init_words.specs.Entries.{waited_of}
 use Rattle.inittab_text.specs.Tables.{has_id, entry_of, is_distinct}
-use Rattle.init_trace.specs.declared.steps.Step.{Step}
-use Rattle.init_trace.specs.declared.steps.Step.TheVariants.{Enter, Call, Power, Reread, Order, Hold, Settle, Reexec, Idle}
-use Rattle.init_trace.specs.declared.steps.Goal.{Goal}
-use Rattle.init_trace.specs.Event.{Event}
-use Rattle.init_trace.specs.Past.{table_of, stage_of, grace_of, time_of, Child, is_of, has_child, open_of, is_quiet, is_idle, kept_children, known_children}
-use Rattle.init_trace.specs.Wanted.{is_wanted, is_owed, is_excluded, entries_before}
-use Rattle.init_trace.specs.Spells.{Signal, is_ripe, stop_by, stop_due, is_missed, spell_hits}
-use Rattle.init_trace.specs.Timing.{is_held, is_full}
-use Rattle.init_trace.specs.Wishes.{level_wish, goal_of, wants_reexec, wants_reread, keeps_power, keeps_letter, powers, letters, wish_stands, in_run}
+use Rattle.trace_events.specs.declared.steps.Step.{Step}
+use Rattle.trace_events.specs.declared.steps.Step.TheVariants.{Enter, Call, Power, Reread, Order, Hold, Settle, Reexec, Idle}
+use Rattle.trace_events.specs.declared.steps.Goal.{Goal}
+use Rattle.trace_events.specs.Event.{Event}
+use Rattle.trace_events.specs.Past.{table_of, stage_of, grace_of, time_of, Child, is_of, has_child, open_of, is_quiet, is_idle, kept_children, known_children}
+use Rattle.trace_events.specs.Wanted.{is_wanted, is_owed, is_excluded, entries_before}
+use Rattle.trace_events.specs.Spells.{Signal, is_ripe, stop_by, stop_due, is_missed, spell_hits}
+use Rattle.trace_events.specs.Timing.{is_held, is_full}
+use Rattle.trace_events.specs.Wishes.{level_wish, goal_of, wants_reexec, wants_reread, keeps_power, keeps_letter, powers, letters, wish_stands, in_run}
 use Rattle.init_words.specs.Actions.{is_limited}
 use Rattle.init_words.proofs.Same.{same_id-is, same_id-self, same_ask-is, same_level-is}
 use Rattle.init_words.proofs.Tests.{both_ways, or_either, is_none-is}
-use Rattle.init_trace.specs.Due.{step_if, steps_if, none_excluded, due_first, due_reexec, due_reread, enter_level, due_level, power_steps, letter_steps, due_news, record_ids, stop_step, stops_of, stops_among, due_stops, can_start, start_steps, starts_among, due_starts, is_over, next_stage, due_stage, is_announced, is_settled, settle_step, due_settle, can_look, wants_look, looks_among, due_looks, due, same_step, is_due}
+use Rattle.trace_events.specs.Due.{step_if, steps_if, none_excluded, due_first, due_reexec, due_reread, enter_level, due_level, power_steps, letter_steps, due_news, record_ids, stop_step, stops_of, stops_among, due_stops, can_start, start_steps, starts_among, due_starts, is_over, next_stage, due_stage, is_announced, is_settled, settle_step, due_settle, can_look, wants_look, looks_among, due_looks, due, same_step, is_due}
 
 -- the order is a signal
-abbrev pub is_signal : Ask → Bool
+abbrev pub is_signal : OrderKind → Bool
 is_signal Term = true
 is_signal Kill = true
 is_signal _ = false
@@ -61,7 +61,7 @@ pub record MayLook (id : List ℕ) (past : List Event) : Type 0 where
   pub there : has_child id (known_children past) ≡ true
   pub unasked : open_of id past ≡ None
 
-pub record MayStop (id : List ℕ) (ask : Ask) (past : List Event) : Type 0 where
+pub record MayStop (id : List ℕ) (ask : OrderKind) (past : List Event) : Type 0 where
   pub child : Child
   pub own : is_of id child ≡ true
   pub due : stop_due child past ≡ Some ask
@@ -72,7 +72,7 @@ pub record MaySettle (level : Level) (past : List Event) : Type 0 where
   pub idle : is_idle past ≡ true
   pub settled : is_settled level (known_children past) past ≡ true
 
-abbrev pub OrderFacts : List Entry → List Event → List ℕ → Ask → Type 0
+abbrev pub OrderFacts : List Entry → List Event → List ℕ → OrderKind → Type 0
 OrderFacts es past id Start = MayStart id es past
 OrderFacts es past id Look = MayLook id past
 OrderFacts es past id Term = MayStop id Term past
@@ -130,7 +130,7 @@ calls past [] quiet = tt
 calls past (letter ∷ rest) quiet = each_append (Facts past) (step_if (keeps_letter letter past) (Call letter)) (letter_steps rest past) (each_step_if (Facts past) (keeps_letter letter past) (Call letter) (λ _. quiet)) (calls past rest quiet)
 
 -- 6
-stop_signal : (b : Bool) (grace now : ℕ) (hits : List Signal) (ask : Ask) → cond b (stop_by grace now hits) None ≡ Some ask → is_signal ask ≡ true
+stop_signal : (b : Bool) (grace now : ℕ) (hits : List Signal) (ask : OrderKind) → cond b (stop_by grace now hits) None ≡ Some ask → is_signal ask ≡ true
 stop_signal false grace now hits ask h = absurd (none-some ask h)
 stop_signal true grace now [] ask h = ap is_signal (sym (same_Some Term ask h))
 stop_signal true grace now (signal ∷ []) ask h = ripe (is_ripe grace now signal) h where
@@ -139,7 +139,7 @@ stop_signal true grace now (signal ∷ []) ask h = ripe (is_ripe grace now signa
   ripe false h = absurd (none-some ask h)
 stop_signal true grace now (signal ∷ more ∷ rest) ask h = absurd (none-some ask h)
 
-stop_facts : (id : List ℕ) (past : List Event) (ask : Ask) → is_signal ask ≡ true → MayStop id ask past → OrderFacts (table_of past) past id ask
+stop_facts : (id : List ℕ) (past : List Event) (ask : OrderKind) → is_signal ask ≡ true → MayStop id ask past → OrderFacts (table_of past) past id ask
 stop_facts id past Start h may = absurd (false≢true h)
 stop_facts id past Look h may = absurd (false≢true h)
 stop_facts id past Term h may = may
@@ -148,7 +148,7 @@ stop_facts id past Kill h may = may
 stops : (id : List ℕ) (past : List Event) → open_of id past ≡ None → (children : List Child) → ((q : Child → Bool) → list_any q children ≡ true → list_any q (known_children past) ≡ true) → Each (Facts past) (stops_of id children past)
 stops id past unasked [] within = tt
 stops id past unasked (child ∷ children) within = each_append (Facts past) (steps_if (is_of id child) (stop_step id (stop_due child past))) (stops_of id children past) (each_steps_if (Facts past) (is_of id child) (stop_step id (stop_due child past)) (λ own. step own (stop_due child past) refl)) (stops id past unasked children (λ q h. within q (or_right (q child) (list_any q children) h))) where
-  step : is_of id child ≡ true → (o : Option Ask) → stop_due child past ≡ o → Each (Facts past) (stop_step id o)
+  step : is_of id child ≡ true → (o : Option OrderKind) → stop_due child past ≡ o → Each (Facts past) (stop_step id o)
   step own None h = tt
   step own (Some ask) h = (stop_facts id past ask (stop_signal (is_excluded past child && not (is_missed child past)) (grace_of past) (time_of past) (spell_hits child past) ask h) (record { child = child; own = own; due = h; unasked = unasked; within = λ q here. within q (or_left (q child) (list_any q children) here) }), tt)
 
@@ -176,7 +176,7 @@ run_later id e es past free may = record {
   before true = refl
   before false = or_from (is_owed e past) (list_any (λ x. is_owed x past) (entries_before id es)) free may.ahead
 
-order_later : (e : Entry) (es : List Entry) (past : List Event) → is_owed e past ≡ false → (id : List ℕ) (ask : Ask) → OrderFacts es past id ask → OrderFacts (e ∷ es) past id ask
+order_later : (e : Entry) (es : List Entry) (past : List Event) → is_owed e past ≡ false → (id : List ℕ) (ask : OrderKind) → OrderFacts es past id ask → OrderFacts (e ∷ es) past id ask
 unfolding run_later
 order_later e es past free id Start may = record { run = run_later id e es past free may.run; spared = may.spared; free = may.free }
 order_later e es past free id Look may = may
@@ -322,10 +322,10 @@ dues goal past = join (rank1 ++ rank2 ++ rank3 ++ rank4 ++ rank5 ++ rank6 ++ ran
   facts10 : Each (Facts past) (due_looks past)
   facts10 = looks past (record_ids past)
 
-order_same : (past : List Event) (id : List ℕ) (ask : Ask) (i : List ℕ) (given : Ask) → id ≡ i → ask ≡ given → OrderFacts (table_of past) past i given → OrderFacts (table_of past) past id ask
+order_same : (past : List Event) (id : List ℕ) (ask : OrderKind) (i : List ℕ) (given : OrderKind) → id ≡ i → ask ≡ given → OrderFacts (table_of past) past i given → OrderFacts (table_of past) past id ask
 order_same past id ask i given is same may =
     let P : List ℕ → Type 0 = λ x. OrderFacts (table_of past) past x ask in
-    let Q : Ask → Type 0 = λ x. OrderFacts (table_of past) past i x in
+    let Q : OrderKind → Type 0 = λ x. OrderFacts (table_of past) past i x in
     subst P (sym is) (subst Q (sym same) may)
 
 same_facts : (past : List Event) (x y : Step) → same_step x y ≡ true → Facts past y → Facts past x

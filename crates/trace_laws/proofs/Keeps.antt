@@ -11,25 +11,25 @@ use Rattle.init_words.specs.declared.levels.Mark.{Mark}
 use Rattle.init_words.specs.declared.stages.Stage.{Stage}
 use Rattle.init_words.specs.declared.stages.Stage.TheVariants as stage
 use Rattle.init_words.specs.declared.children.Status.{Status}
-use Rattle.init_words.specs.declared.orders.Ask.{Ask}
-use Rattle.init_words.specs.declared.orders.Ask.TheVariants.{Start, Look, Term, Kill}
+use Rattle.init_words.specs.declared.orders.OrderKind.{OrderKind}
+use Rattle.init_words.specs.declared.orders.OrderKind.TheVariants.{Start, Look, Term, Kill}
 use Rattle.init_words.specs.Ids.{same_id}
 use Rattle.init_words.specs.Orders.{same_ask}
 use Rattle.init_words.specs.Actions.{starts_by, lives_by, waited_by, stays_called, wanted_by}
 use Rattle.init_words.specs.Entries.{waited_of}
 use Rattle.inittab_text.specs.Tables.{has_id, entry_of, act_of, is_distinct}
-use Rattle.init_trace.specs.declared.happenings.Happening.TheVariants.{NewTable, Enter, Call, Power, Asked, Birth, NoBirth, Reaped, Still, NoLook, Hit, Miss, Told}
-use Rattle.init_trace.specs.declared.steps.Step.TheVariants as step
-use Rattle.init_trace.specs.declared.steps.Goal.{Goal}
-use Rattle.init_trace.specs.Event.{Event}
-use Rattle.init_trace.specs.Past.{table_of, stage_of, grace_of, time_of, Child, is_of, is_child, has_number, has_child, open_of, undone_of, is_untold, is_quiet, is_dead, newborn, unreaped_children, kept_children, known_children}
-use Rattle.init_trace.specs.Wanted.{starts_in, is_order, is_asked, is_called, is_wanted, is_owed, entries_before, is_owed_before, may_live, is_excluded}
-use Rattle.init_trace.specs.Spells.{stop_due, stop_by, is_missed, spell_hits}
-use Rattle.init_trace.specs.Lawful.{is_placed, may_term}
-use Rattle.init_trace.specs.Due.{is_due}
+use Rattle.trace_events.specs.declared.happenings.Happening.TheVariants.{NewTable, Enter, Call, Power, Asked, Birth, NoBirth, Reaped, Still, NoLook, Hit, Miss, Told}
+use Rattle.trace_events.specs.declared.steps.Step.TheVariants as step
+use Rattle.trace_events.specs.declared.steps.Goal.{Goal}
+use Rattle.trace_events.specs.Event.{Event}
+use Rattle.trace_events.specs.Past.{table_of, stage_of, grace_of, time_of, Child, is_of, is_child, has_number, has_child, open_of, undone_of, is_untold, is_quiet, is_dead, newborn, unreaped_children, kept_children, known_children}
+use Rattle.trace_events.specs.Wanted.{starts_in, is_order, is_asked, is_called, is_wanted, is_owed, entries_before, is_owed_before, may_live, is_excluded}
+use Rattle.trace_events.specs.Spells.{stop_due, stop_by, is_missed, spell_hits}
+use Rattle.trace_events.specs.Lawful.{is_placed, may_term}
+use Rattle.trace_events.specs.Due.{is_due}
 use Rattle.init_words.proofs.Same.{same_id-is, same_id-self, same_id-apart, same_act-self}
 use Rattle.init_words.proofs.Tests.{both_ways, falsely, or_either, not_from, or_true, any_less, any_within}
-use Rattle.init_trace.specs.Sound.{may_come, is_sound}
+use Rattle.trace_events.specs.Sound.{may_come, is_sound}
 use Rattle.trace_laws.proofs.Tests.{is_order-is}
 use Rattle.trace_laws.proofs.Orders.{cleared, undone_is_open, quiet_looks, told_known, unreaped_kept, kept_before_told, same_of}
 use Rattle.trace_laws.proofs.Dues.{is_signal, MayRun, MayStart, MayStop, due_facts}
@@ -45,12 +45,12 @@ pub record Holds (past : List Event) : Type 0 where
   pub distinct : is_distinct (table_of past) ≡ true
   pub dawn : stage_of past ≡ None → list_any (λ (child : Child). true) (kept_children past) ≡ false
   pub told : (id : List ℕ) → is_untold id past ≡ true → is_some (open_of id past) ≡ true
-  pub done : (id : List ℕ) (ask : Ask) → undone_of id past ≡ Some ask → is_untold id past ≡ false
+  pub done : (id : List ℕ) (ask : OrderKind) → undone_of id past ≡ Some ask → is_untold id past ≡ false
   pub ready : (id : List ℕ) → undone_of id past ≡ Some Start → Ready id past
-  pub stopping : (id : List ℕ) (ask : Ask) → undone_of id past ≡ Some ask → is_signal ask ≡ true → may_term id past ≡ true
+  pub stopping : (id : List ℕ) (ask : OrderKind) → undone_of id past ≡ Some ask → is_signal ask ≡ true → may_term id past ≡ true
 
 -- an order that is due is of an id with no open order
-pub asked_free : (goal : Goal) (i : List ℕ) (ask : Ask) (past : List Event) → is_due goal (step.Order i ask) past ≡ true → open_of i past ≡ None
+pub asked_free : (goal : Goal) (i : List ℕ) (ask : OrderKind) (past : List Event) → is_due goal (step.Order i ask) past ≡ true → open_of i past ≡ None
 asked_free goal i Start past h = (due_facts goal past (step.Order i Start) h).run.unasked
 asked_free goal i Look past h = (due_facts goal past (step.Order i Look) h).unasked
 asked_free goal i Term past h = (due_facts goal past (step.Order i Term) h).unasked
@@ -60,7 +60,7 @@ asked_free goal i Kill past h = (due_facts goal past (step.Order i Kill) h).unas
 pub free_told : (id : List ℕ) (past : List Event) → ((x : List ℕ) → is_untold x past ≡ true → is_some (open_of x past) ≡ true) → open_of id past ≡ None → is_untold id past ≡ false
 free_told id past told free = falsely (is_untold id past) (is_some (open_of id past)) (told id) (ap is_some free)
 
-signal_busy : (ask : Ask) → is_signal ask ≡ true → same_ask Look ask ≡ false
+signal_busy : (ask : OrderKind) → is_signal ask ≡ true → same_ask Look ask ≡ false
 signal_busy Term h = refl
 signal_busy Kill h = refl
 signal_busy Start h = absurd (false≢true h)
@@ -70,11 +70,11 @@ signal_busy Look h = absurd (false≢true h)
 no_start : {P : Type 0} (id : List ℕ) (past : List Event) → is_quiet past ≡ true → undone_of id past ≡ Some Start → P
 no_start id past quiet is = absurd (false≢true (quiet_looks id Start past quiet (undone_is_open id Start past is)))
 
-no_signal : {P : Type 0} (id : List ℕ) (ask : Ask) (past : List Event) → is_quiet past ≡ true → undone_of id past ≡ Some ask → is_signal ask ≡ true → P
+no_signal : {P : Type 0} (id : List ℕ) (ask : OrderKind) (past : List Event) → is_quiet past ≡ true → undone_of id past ≡ Some ask → is_signal ask ≡ true → P
 no_signal id ask past quiet is signal = both_ways (same_ask Look ask) (quiet_looks id ask past quiet (undone_is_open id ask past is)) (signal_busy ask signal)
 
 -- an act is done on an order that was open
-pub undone_some : (ask : Ask) (id : List ℕ) (past : List Event) → is_order ask (undone_of id past) ≡ true → is_some (open_of id past) ≡ true
+pub undone_some : (ask : OrderKind) (id : List ℕ) (past : List Event) → is_order ask (undone_of id past) ≡ true → is_some (open_of id past) ≡ true
 undone_some ask id past h = ap is_some (undone_is_open id ask past (is_order-is ask (undone_of id past) h))
 
 -- a birth came on an undone Start, a reaping on an undone Look
@@ -114,10 +114,10 @@ told_keeps goal (Miss i) past may id before h = act_told id i past before (signa
 told_keeps goal (_) past may id before h = before h
 
 -- the field done
-act_done : (id i : List ℕ) (ask : Ask) (past : List Event) → (undone_of id past ≡ Some ask → is_untold id past ≡ false) → cond (same_id id i) None (undone_of id past) ≡ Some ask → (same_id id i || is_untold id past) ≡ false
+act_done : (id i : List ℕ) (ask : OrderKind) (past : List Event) → (undone_of id past ≡ Some ask → is_untold id past ≡ false) → cond (same_id id i) None (undone_of id past) ≡ Some ask → (same_id id i || is_untold id past) ≡ false
 act_done id i ask past before h = cleared (same_id id i) (undone_of id past) ask (λ differ is. or_from (same_id id i) (is_untold id past) differ (before is)) h
 
-done_keeps : (goal : Goal) (happening : Event) (past : List Event) → may_come goal happening past ≡ true → ((x : List ℕ) → is_untold x past ≡ true → is_some (open_of x past) ≡ true) → (id : List ℕ) (ask : Ask) → (undone_of id past ≡ Some ask → is_untold id past ≡ false) → undone_of id (happening ∷ past) ≡ Some ask → is_untold id (happening ∷ past) ≡ false
+done_keeps : (goal : Goal) (happening : Event) (past : List Event) → may_come goal happening past ≡ true → ((x : List ℕ) → is_untold x past ≡ true → is_some (open_of x past) ≡ true) → (id : List ℕ) (ask : OrderKind) → (undone_of id past ≡ Some ask → is_untold id past ≡ false) → undone_of id (happening ∷ past) ≡ Some ask → is_untold id (happening ∷ past) ≡ false
 done_keeps goal (Asked i given) past may told id ask before h = at_id (same_id id i) refl h where
   at_id : (b : Bool) → same_id id i ≡ b → cond b (Some given) (undone_of id past) ≡ Some ask → is_untold id past ≡ false
   at_id true same h = free_told id past told (ap (λ x. open_of x past) (same_id-is id i same) ∙ asked_free goal i given past may)
@@ -194,14 +194,15 @@ born_owed action false child start starts fresh called f h = h
 owed_birth : (e : Entry) (i : List ℕ) (n : ℕ) (past : List Event) → open_of i past ≡ Some Start → is_owed e (Birth i n ∷ past) ≡ true → is_owed e past ≡ true
 owed_birth e i n past started h = born_owed e.act (same_id e.id i) (has_child e.id (kept_children past)) (is_order Start (open_of e.id past)) (starts_in e (stage_of past)) (not (is_asked e.id past)) (is_called e past) (λ same. ap (is_order Start) (ap (λ x. open_of x past) (same_id-is e.id i same) ∙ started)) h
 
-order_cleared : (b : Bool) (ask : Ask) (o : Option Ask) → is_order ask (cond b None o) ≡ true → is_order ask o ≡ true
+order_cleared : (b : Bool) (ask : OrderKind) (o : Option OrderKind) → is_order ask (cond b None o) ≡ true
+    → is_order ask o ≡ true
 order_cleared true ask o h = absurd (false≢true h)
 order_cleared false ask o h = h
 
 owed_told : (e : Entry) (i : List ℕ) (past : List Event) → is_owed e (Told i ∷ past) ≡ true → is_owed e past ≡ true
 owed_told e i past h = owed_less e.act (has_child e.id (kept_children (Told i ∷ past))) (is_order Start (cond (same_id e.id i) None (open_of e.id past))) (has_child e.id (kept_children past)) (is_order Start (open_of e.id past)) (starts_in e (stage_of past)) (not (is_asked e.id past)) (is_called e past) (kept_before_told (is_of e.id) i past) (order_cleared (same_id e.id i) Start (open_of e.id past)) h
 
-owed_order : (e : Entry) (b : Bool) (ask : Ask) (past : List Event) → same_ask Start ask ≡ false → owed_by e.act (has_child e.id (kept_children past)) (is_order Start (cond b (Some ask) (open_of e.id past))) (starts_in e (stage_of past)) (not (is_asked e.id past)) (is_called e past) ≡ true → is_owed e past ≡ true
+owed_order : (e : Entry) (b : Bool) (ask : OrderKind) (past : List Event) → same_ask Start ask ≡ false → owed_by e.act (has_child e.id (kept_children past)) (is_order Start (cond b (Some ask) (open_of e.id past))) (starts_in e (stage_of past)) (not (is_asked e.id past)) (is_called e past) ≡ true → is_owed e past ≡ true
 owed_order e b ask past other h = owed_less e.act (has_child e.id (kept_children past)) (is_order Start (cond b (Some ask) (open_of e.id past))) (has_child e.id (kept_children past)) (is_order Start (open_of e.id past)) (starts_in e (stage_of past)) (not (is_asked e.id past)) (is_called e past) (λ c. c) (at_id b) h where
   at_id : (b : Bool) → is_order Start (cond b (Some ask) (open_of e.id past)) ≡ true → is_order Start (open_of e.id past) ≡ true
   at_id true h = both_ways (same_ask Start ask) h other
@@ -256,11 +257,11 @@ ready_start : (i : List ℕ) (past : List Event) → is_distinct (table_of past)
 ready_start i past distinct may = record { childless = may.run.childless; placed = run_placed i past may.run distinct; ahead = ahead_less i (Asked i Start) past distinct (λ e found. owed_asked e i past (run_wanted i past may.run distinct e found)) may.run.ahead; spared = may.spared }
 
 -- the field ready
-pub start_stays : (b : Bool) (ask : Ask) (o : Option Ask) → same_ask Start ask ≡ false → cond b (Some ask) o ≡ Some Start → o ≡ Some Start
+pub start_stays : (b : Bool) (ask : OrderKind) (o : Option OrderKind) → same_ask Start ask ≡ false → cond b (Some ask) o ≡ Some Start → o ≡ Some Start
 start_stays true ask o other h = both_ways (same_ask Start ask) (ap (same_ask Start) (same_Some ask Start h)) other
 start_stays false ask o other h = h
 
-ready_asked : (goal : Goal) (i : List ℕ) (ask : Ask) (past : List Event) → is_due goal (step.Order i ask) past ≡ true → is_distinct (table_of past) ≡ true → (id : List ℕ) → (undone_of id past ≡ Some Start → Ready id past) → undone_of id (Asked i ask ∷ past) ≡ Some Start → Ready id (Asked i ask ∷ past)
+ready_asked : (goal : Goal) (i : List ℕ) (ask : OrderKind) (past : List Event) → is_due goal (step.Order i ask) past ≡ true → is_distinct (table_of past) ≡ true → (id : List ℕ) → (undone_of id past ≡ Some Start → Ready id past) → undone_of id (Asked i ask ∷ past) ≡ Some Start → Ready id (Asked i ask ∷ past)
 ready_asked goal i Start past may distinct id before h = at_id (same_id id i) refl h where
   order : MayStart i (table_of past) past
   order = due_facts goal past (step.Order i Start) may
@@ -329,26 +330,26 @@ ready_keeps goal (Miss i) past may holds id h = same_ready id (Miss i) past refl
 ready_keeps goal happening past may holds id h = same_ready id happening past refl refl refl refl (holds.ready id h)
 
 -- the field stopping
-pub stop_excluded : (child : Child) (ask : Ask) (past : List Event) → stop_due child past ≡ Some ask → is_excluded past child ≡ true
+pub stop_excluded : (child : Child) (ask : OrderKind) (past : List Event) → stop_due child past ≡ Some ask → is_excluded past child ≡ true
 stop_excluded child ask past h = at_child (is_excluded past child) (is_missed child past) (stop_by (grace_of past) (time_of past) (spell_hits child past)) h where
-  at_child : (b c : Bool) (o : Option Ask) → cond (b && not c) o None ≡ Some ask → b ≡ true
+  at_child : (b c : Bool) (o : Option OrderKind) → cond (b && not c) o None ≡ Some ask → b ≡ true
   at_child true c o h = refl
   at_child false c o h = absurd (none-some ask h)
 
 -- a child that a signal is due to is known, so unreaped where no order of its id is open
-pub stop_unreaped : (id : List ℕ) (ask : Ask) (past : List Event) → ((x : List ℕ) → is_untold x past ≡ true → is_some (open_of x past) ≡ true) → (may : MayStop id ask past) → (p : Child → Bool) → p may.child ≡ true → list_any (λ child. is_of id child && p child) (unreaped_children past) ≡ true
+pub stop_unreaped : (id : List ℕ) (ask : OrderKind) (past : List Event) → ((x : List ℕ) → is_untold x past ≡ true → is_some (open_of x past) ≡ true) → (may : MayStop id ask past) → (p : Child → Bool) → p may.child ≡ true → list_any (λ child. is_of id child && p child) (unreaped_children past) ≡ true
 stop_unreaped id ask past told may p holds = sym (same_of id p (known_children past) (unreaped_children past) (told_known id past (free_told id past told may.unasked))) ∙ may.within (λ child. is_of id child && p child) (and_from (is_of id may.child) (p may.child) may.own holds)
 
-stop_may : (id : List ℕ) (ask : Ask) (past : List Event) → ((x : List ℕ) → is_untold x past ≡ true → is_some (open_of x past) ≡ true) → MayStop id ask past → may_term id past ≡ true
+stop_may : (id : List ℕ) (ask : OrderKind) (past : List Event) → ((x : List ℕ) → is_untold x past ≡ true → is_some (open_of x past) ≡ true) → MayStop id ask past → may_term id past ≡ true
 stop_may id ask past told may = stop_unreaped id ask past told may (is_excluded past) (stop_excluded may.child ask past may.due)
 
-pub asked_may_term : (goal : Goal) (i : List ℕ) (ask : Ask) (past : List Event) → is_due goal (step.Order i ask) past ≡ true → ((x : List ℕ) → is_untold x past ≡ true → is_some (open_of x past) ≡ true) → is_signal ask ≡ true → may_term i past ≡ true
+pub asked_may_term : (goal : Goal) (i : List ℕ) (ask : OrderKind) (past : List Event) → is_due goal (step.Order i ask) past ≡ true → ((x : List ℕ) → is_untold x past ≡ true → is_some (open_of x past) ≡ true) → is_signal ask ≡ true → may_term i past ≡ true
 asked_may_term goal i Term past may told signal = stop_may i Term past told (due_facts goal past (step.Order i Term) may)
 asked_may_term goal i Kill past may told signal = stop_may i Kill past told (due_facts goal past (step.Order i Kill) may)
 asked_may_term goal i Start past may told signal = absurd (false≢true signal)
 asked_may_term goal i Look past may told signal = absurd (false≢true signal)
 
-stop_keeps : (goal : Goal) (happening : Event) (past : List Event) → may_come goal happening past ≡ true → Holds past → (id : List ℕ) (ask : Ask) → undone_of id (happening ∷ past) ≡ Some ask → is_signal ask ≡ true → may_term id (happening ∷ past) ≡ true
+stop_keeps : (goal : Goal) (happening : Event) (past : List Event) → may_come goal happening past ≡ true → Holds past → (id : List ℕ) (ask : OrderKind) → undone_of id (happening ∷ past) ≡ Some ask → is_signal ask ≡ true → may_term id (happening ∷ past) ≡ true
 stop_keeps goal (NewTable table) past may holds id ask h signal = no_signal id ask past (and_parts (is_quiet past) (is_distinct table) may).0 h signal
 stop_keeps goal (Enter s grace) past may holds id ask h signal = elim (due_facts goal past (step.Enter s grace) may) [ inl quiet ↦ no_signal id ask past quiet h signal | inr dawn ↦ absurd (none_there (holds.dawn dawn)) ] where
   none_there : list_any (λ (child : Child). true) (kept_children past) ≡ false → ⊥

@@ -3,19 +3,19 @@ use Rattle.std.proofs.Common.{◌≡◌, ◌≤◌, ◌+◌, refl, sym, ◌∙�
 use Rattle.std.specs.List.{list_any, list_all}
 use Rattle.std.proofs.lemmas.Bool.{false≢true, and_parts, and_from, or_left, or_parts, le-leb, leb-true}
 use Rattle.std.proofs.lemmas.List.Elements.{filter-append}
-use Rattle.init_words.specs.declared.orders.Ask.{Ask}
-use Rattle.init_words.specs.declared.orders.Ask.TheVariants.{Start, Look, Term, Kill}
+use Rattle.init_words.specs.declared.orders.OrderKind.{OrderKind}
+use Rattle.init_words.specs.declared.orders.OrderKind.TheVariants.{Start, Look, Term, Kill}
 use Rattle.init_words.specs.Ids.{same_id}
-use Rattle.init_trace.specs.declared.happenings.Happening.TheVariants.{Asked, Birth, NoBirth, Reaped, Still, NoLook, Hit, Miss, Told}
-use Rattle.init_trace.specs.declared.steps.Goal.{Goal}
-use Rattle.init_trace.specs.declared.steps.Step.TheVariants as step
-use Rattle.init_trace.specs.Event.{Event}
-use Rattle.init_trace.specs.Past.{Child, grace_of, time_of, is_of, is_child, open_of, undone_of, is_untold, newborn, unreaped_children}
-use Rattle.init_trace.specs.Wanted.{is_order, is_excluded}
-use Rattle.init_trace.specs.Spells.{Signal, untold_hits, told_at, in_spell, spell_hits}
-use Rattle.init_trace.specs.Due.{is_due}
-use Rattle.init_trace.specs.Sound.{may_come, is_sound}
-use Rattle.init_trace.specs.Bounds.{kills_once}
+use Rattle.trace_events.specs.declared.happenings.Happening.TheVariants.{Asked, Birth, NoBirth, Reaped, Still, NoLook, Hit, Miss, Told}
+use Rattle.trace_events.specs.declared.steps.Goal.{Goal}
+use Rattle.trace_events.specs.declared.steps.Step.TheVariants as step
+use Rattle.trace_events.specs.Event.{Event}
+use Rattle.trace_events.specs.Past.{Child, grace_of, time_of, is_of, is_child, open_of, undone_of, is_untold, newborn, unreaped_children}
+use Rattle.trace_events.specs.Wanted.{is_order, is_excluded}
+use Rattle.trace_events.specs.Spells.{Signal, untold_hits, told_at, in_spell, spell_hits}
+use Rattle.trace_events.specs.Due.{is_due}
+use Rattle.trace_events.specs.Sound.{may_come, is_sound}
+use Rattle.trace_events.specs.Bounds.{kills_once}
 use Rattle.init_words.proofs.Same.{same_id-is, same_id-self, same_id-sym}
 use Rattle.init_words.proofs.Tests.{both_ways, or_either, any_less, all_less, all_fail}
 use Rattle.trace_laws.proofs.Tests.{is_order-is}
@@ -33,7 +33,7 @@ killing signal = is_order Kill signal.order
 abbrev told_kills : Child → List Event → ℕ
 told_kills child past = length (filter killing (spell_hits child past))
 
-abbrev coming : Option Ask → ℕ
+abbrev coming : Option OrderKind → ℕ
 coming order = cond (is_order Kill order) 1 0
 
 abbrev other_kills : List ℕ → List Event → ℕ
@@ -54,7 +54,7 @@ spell_same : (b : Bool) (old : List Signal) → length (filter killing (cond b (
 spell_same false old = omega arith
 spell_same true old = le_refl (length (filter killing old))
 
-told_same_kills : (now : ℕ) (orders : List (Option Ask)) → length (filter killing (map (told_at now) orders)) ≡ length (filter (is_order Kill) orders)
+told_same_kills : (now : ℕ) (orders : List (Option OrderKind)) → length (filter killing (map (told_at now) orders)) ≡ length (filter (is_order Kill) orders)
 told_same_kills now [] = refl
 told_same_kills now (order ∷ orders) = split (is_order Kill order) (told_same_kills now orders) where
   split : (b : Bool) → length (filter killing (map (told_at now) orders)) ≡ length (filter (is_order Kill) orders) → length (cond b (told_at now order ∷ filter killing (map (told_at now) orders)) (filter killing (map (told_at now) orders))) ≡ length (cond b (order ∷ filter (is_order Kill) orders) (filter (is_order Kill) orders))
@@ -62,27 +62,27 @@ told_same_kills now (order ∷ orders) = split (is_order Kill order) (told_same_
   split false same = same
 
 -- an act done on an order that was not given: nothing new is under way
-act_less : (b : Bool) (n : ℕ) (order : Option Ask) → n + coming (cond b None order) ≤ n + coming order
+act_less : (b : Bool) (n : ℕ) (order : Option OrderKind) → n + coming (cond b None order) ≤ n + coming order
 act_less true n order = omega arith
 act_less false n order = le_refl (n + coming order)
 
-born_less : (b : Bool) (orders : List (Option Ask)) (order : Option Ask) → length (filter (is_order Kill) (cond b [] orders)) + coming (cond b None order) ≤ length (filter (is_order Kill) orders) + coming order
+born_less : (b : Bool) (orders : List (Option OrderKind)) (order : Option OrderKind) → length (filter (is_order Kill) (cond b [] orders)) + coming (cond b None order) ≤ length (filter (is_order Kill) orders) + coming order
 born_less true orders order = omega arith
 born_less false orders order = le_refl (length (filter (is_order Kill) orders) + coming order)
 
-asked_less : (b : Bool) (n : ℕ) (ask : Ask) (order : Option Ask) → is_order Kill (Some ask) ≡ false → n + coming (cond b (Some ask) order) ≤ n + coming order
+asked_less : (b : Bool) (n : ℕ) (ask : OrderKind) (order : Option OrderKind) → is_order Kill (Some ask) ≡ false → n + coming (cond b (Some ask) order) ≤ n + coming order
 asked_less true n ask order other = rw other (omega arith)
 asked_less false n ask order other = le_refl (n + coming order)
 
 -- a Hit is of the order that was undone
-hit_less : (b : Bool) (orders : List (Option Ask)) (left given : Option Ask) → (b ≡ true → left ≡ given) → length (filter (is_order Kill) (cond b (given ∷ orders) orders)) + coming (cond b None left) ≤ length (filter (is_order Kill) orders) + coming left
+hit_less : (b : Bool) (orders : List (Option OrderKind)) (left given : Option OrderKind) → (b ≡ true → left ≡ given) → length (filter (is_order Kill) (cond b (given ∷ orders) orders)) + coming (cond b None left) ≤ length (filter (is_order Kill) orders) + coming left
 hit_less false orders left given is = le_refl (length (filter (is_order Kill) orders) + coming left)
 hit_less true orders left given is = rw (is refl) (split (is_order Kill given)) where
   split : (b : Bool) → length (cond b (given ∷ filter (is_order Kill) orders) (filter (is_order Kill) orders)) + 0 ≤ length (filter (is_order Kill) orders) + cond b 1 0
   split true = omega arith
   split false = omega arith
 
-told_less : (b c : Bool) (now : ℕ) (orders : List (Option Ask)) (left : Option Ask) (old : List Signal) → length (filter killing (cond c (cond b (map (told_at now) orders) [] ++ old) [])) + (length (filter (is_order Kill) (cond b [] orders)) + coming (cond b None left)) ≤ length (filter killing old) + (length (filter (is_order Kill) orders) + coming left)
+told_less : (b c : Bool) (now : ℕ) (orders : List (Option OrderKind)) (left : Option OrderKind) (old : List Signal) → length (filter killing (cond c (cond b (map (told_at now) orders) [] ++ old) [])) + (length (filter (is_order Kill) (cond b [] orders)) + coming (cond b None left)) ≤ length (filter killing old) + (length (filter (is_order Kill) orders) + coming left)
 told_less true c now orders left old =
     let told = spell_less c (map (told_at now) orders) old in
     let same = told_same_kills now orders in
@@ -91,7 +91,7 @@ told_less false c now orders left old = add_less _ _ _ _ (spell_same c old) (le_
 
 undone_given : (id : List ℕ) (past : List Event) → (is_order Term (undone_of id past) || is_order Kill (undone_of id past)) ≡ true → undone_of id past ≡ open_of id past
 undone_given id past h = or_either (is_order Term (undone_of id past)) (is_order Kill (undone_of id past)) h (given Term) (given Kill) where
-  given : (ask : Ask) → is_order ask (undone_of id past) ≡ true → undone_of id past ≡ open_of id past
+  given : (ask : OrderKind) → is_order ask (undone_of id past) ≡ true → undone_of id past ≡ open_of id past
   given ask is = let order = is_order-is ask (undone_of id past) is in order ∙ sym (undone_is_open id ask past order)
 
 -- every happening but the order of a KILL keeps the count of a child's from rising
@@ -181,7 +181,7 @@ kill_first goal i past due sound = one_all (is_of i) (no_kill past) (unreaped_ch
   none : no_kill past may.child ≡ true
   none = ap (λ hits. nat_le (length (filter killing hits)) 0) one.only ∙ ap (λ order. nat_le (length (cond (is_order Kill order) (one.signal ∷ []) [])) 0) term
 
-killed_less : (b c : Bool) (orders : List (Option Ask)) (left : Option Ask) (old : List Signal) → (b ≡ true → orders ≡ []) → length (filter killing old) + (length (filter (is_order Kill) orders) + coming left) ≤ 1 → (not b || nat_le (length (filter killing old)) 0) ≡ true → length (filter killing (cond c ([] ++ old) [])) + (length (filter (is_order Kill) orders) + coming (cond b (Some Kill) left)) ≤ 1
+killed_less : (b c : Bool) (orders : List (Option OrderKind)) (left : Option OrderKind) (old : List Signal) → (b ≡ true → orders ≡ []) → length (filter killing old) + (length (filter (is_order Kill) orders) + coming left) ≤ 1 → (not b || nat_le (length (filter killing old)) 0) ≡ true → length (filter killing (cond c ([] ++ old) [])) + (length (filter (is_order Kill) orders) + coming (cond b (Some Kill) left)) ≤ 1
 killed_less true c orders left old free few none =
     let told = spell_same c old in
     let first = leb-true (length (filter killing old)) 0 none in
@@ -189,7 +189,7 @@ killed_less true c orders left old free few none =
 killed_less false c orders left old free few none = le_trans (add_less _ _ _ _ (spell_same c old) (le_refl (length (filter (is_order Kill) orders) + coming left))) few
 
 -- a child that is born begins with none
-begun_none : (b c : Bool) (orders : List (Option Ask)) (left : Option Ask) (old : List Signal) → b ≡ true → length (filter killing (cond (c && not b) ([] ++ old) [])) + (length (filter (is_order Kill) (cond b [] orders)) + coming (cond b None left)) ≤ 1
+begun_none : (b c : Bool) (orders : List (Option OrderKind)) (left : Option OrderKind) (old : List Signal) → b ≡ true → length (filter killing (cond (c && not b) ([] ++ old) [])) + (length (filter (is_order Kill) (cond b [] orders)) + coming (cond b None left)) ≤ 1
 begun_none true true orders left old h = lit≤ tt
 begun_none true false orders left old h = lit≤ tt
 begun_none false c orders left old h = absurd (false≢true h)

@@ -3,21 +3,21 @@ use Rattle.std.proofs.Common.{is_none, ◌≡◌, ◌≤◌, refl, sym, ◌∙�
 use Rattle.std.specs.List.{list_any}
 use Rattle.std.proofs.lemmas.Bool.{and_right, false≢true, and_parts, and_from}
 use Rattle.init_words.specs.declared.entries.Entry.{Entry}
-use Rattle.init_words.specs.declared.orders.Ask.{Ask}
-use Rattle.init_words.specs.declared.orders.Ask.TheVariants.{Start, Look, Term, Kill}
+use Rattle.init_words.specs.declared.orders.OrderKind.{OrderKind}
+use Rattle.init_words.specs.declared.orders.OrderKind.TheVariants.{Start, Look, Term, Kill}
 use Rattle.init_words.specs.Ids.{same_id}
 use Rattle.init_words.specs.Entries.{waited_of}
 use Rattle.inittab_text.specs.Tables.{is_distinct}
-use Rattle.init_trace.specs.declared.happenings.Happening.TheVariants.{NewTable, Enter, Birth, Told}
-use Rattle.init_trace.specs.declared.steps.Goal.{Goal}
-use Rattle.init_trace.specs.declared.steps.Step.TheVariants as step
-use Rattle.init_trace.specs.Event.{Event}
-use Rattle.init_trace.specs.Past.{Child, is_of, has_child, open_of, is_quiet, newborn, unreaped_children, kept_children, known_children}
+use Rattle.trace_events.specs.declared.happenings.Happening.TheVariants.{NewTable, Enter, Birth, Told}
+use Rattle.trace_events.specs.declared.steps.Goal.{Goal}
+use Rattle.trace_events.specs.declared.steps.Step.TheVariants as step
+use Rattle.trace_events.specs.Event.{Event}
+use Rattle.trace_events.specs.Past.{Child, is_of, has_child, open_of, is_quiet, newborn, unreaped_children, kept_children, known_children}
 use Rattle.init_words.specs.Actions.{wanted_by}
-use Rattle.init_trace.specs.Wanted.{starts_now, is_order, is_asked, is_called, is_wanted, is_owed, is_excluded}
-use Rattle.init_trace.specs.Due.{can_start}
+use Rattle.trace_events.specs.Wanted.{starts_now, is_order, is_asked, is_called, is_wanted, is_owed, is_excluded}
+use Rattle.trace_events.specs.Due.{can_start}
 use Rattle.init_words.proofs.Tests.{or_true, both_ways, same_tests, or_either, any_less}
-use Rattle.init_trace.specs.Sound.{may_come, is_sound}
+use Rattle.trace_events.specs.Sound.{may_come, is_sound}
 use Rattle.trace_laws.proofs.Orders.{quiet_looks, known_kept, told_any, told_finds, told_same, told_other, same_has}
 use Rattle.trace_laws.proofs.Dues.{due_facts}
 use Rattle.trace_laws.proofs.Keeps.{born_ready, sound_holds, sound_ind, placed_spared}
@@ -28,7 +28,7 @@ use Rattle.trace_laws.proofs.Told.{kept_known}
 -- at a quiet point no Start is open
 pub quiet_start : (id : List ℕ) (past : List Event) → is_quiet past ≡ true → is_order Start (open_of id past) ≡ false
 quiet_start id past quiet = read (open_of id past) refl where
-  read : (o : Option Ask) → open_of id past ≡ o → is_order Start o ≡ false
+  read : (o : Option OrderKind) → open_of id past ≡ o → is_order Start o ≡ false
   read None is = refl
   read (Some Start) is = absurd (false≢true (quiet_looks id Start past quiet is))
   read (Some Look) is = refl
@@ -65,7 +65,7 @@ owed_known goal past sound e = ap (λ busy. waited_of e && (busy || is_wanted e 
 
 pub can_start_known : (goal : Goal) (past : List Event) → is_sound goal past ≡ true → (e : Entry) → can_start e past ≡ (is_wanted e past && not (has_child e.id (known_children past)) && is_none (open_of e.id past))
 can_start_known goal past sound e = read (open_of e.id past) refl where
-  read : (o : Option Ask) → open_of e.id past ≡ o → (is_wanted e past && not (has_child e.id (kept_children past)) && is_none o) ≡ (is_wanted e past && not (has_child e.id (known_children past)) && is_none o)
+  read : (o : Option OrderKind) → open_of e.id past ≡ o → (is_wanted e past && not (has_child e.id (kept_children past)) && is_none o) ≡ (is_wanted e past && not (has_child e.id (known_children past)) && is_none o)
   read None is = ap (λ b. is_wanted e past && not b && true) (has_known goal past sound e.id (ap (is_order Start) is))
   read (Some ask) is = and_right (is_wanted e past && not (has_child e.id (kept_children past))) false refl ∙ sym (and_right (is_wanted e past && not (has_child e.id (known_children past))) false refl)
 

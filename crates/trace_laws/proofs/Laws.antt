@@ -1,14 +1,14 @@
 -- A sound trace is lawful.
 use Rattle.std.proofs.Common.{◌≡◌, ◌∷◌, refl, ℕ, Bool, true, not, cond, List, [], Some, None, is_none}
 use Rattle.std.proofs.lemmas.Bool.{and_parts, and_from}
-use Rattle.init_words.specs.declared.orders.Ask.TheVariants.{Start, Look, Term, Kill}
-use Rattle.init_trace.specs.declared.happenings.Happening.TheVariants.{Birth, Settle, Asked, Hold}
-use Rattle.init_trace.specs.declared.steps.Goal.{Goal}
-use Rattle.init_trace.specs.Event.{Event}
-use Rattle.init_trace.specs.Past.{unreaped_children}
-use Rattle.init_trace.specs.Due.{is_settled}
-use Rattle.init_trace.specs.Sound.{may_come, is_sound}
-use Rattle.init_trace.specs.Lawful.{is_alone, is_placed, is_in_turn, are_spared, is_free, is_due_hold, may_term, may_kill, broken, is_lawful, first_breach}
+use Rattle.init_words.specs.declared.orders.OrderKind.TheVariants.{Start, Look, Term, Kill}
+use Rattle.trace_events.specs.declared.happenings.Happening.TheVariants.{Birth, Settle, Asked, Hold}
+use Rattle.trace_events.specs.declared.steps.Goal.{Goal}
+use Rattle.trace_events.specs.Event.{Event}
+use Rattle.trace_events.specs.Past.{unreaped_children}
+use Rattle.trace_events.specs.Due.{is_settled}
+use Rattle.trace_events.specs.Sound.{may_come, is_sound}
+use Rattle.trace_events.specs.Lawful.{is_alone, is_placed, is_in_turn, are_spared, is_free, is_due_hold, may_term, may_kill, broken, is_lawful, first_breach}
 use Rattle.init_words.proofs.Tests.{is_none-is}
 use Rattle.trace_laws.proofs.Keeps.{sound_ind}
 use Rattle.trace_laws.proofs.Births.{birth_alone, birth_placed, birth_in_turn, birth_spared}

@@ -4,7 +4,7 @@ use Rattle.std.specs.List.{list_any}
 use Rattle.std.specs.Option.{option_map_or}
 use Rattle.std.proofs.lemmas.Bool.{false≢true, and_parts, not-true}
 use Rattle.std.proofs.lemmas.List.{nil_from_length}
-use Rattle.init_trace.specs.Past.{Child}
+use Rattle.trace_events.specs.Past.{Child}
 use Rattle.init_words.proofs.Tests.{falsely, not_from, any_less, any_filtered, any_none, or_none}
 
 -- where none passes, none of those that are left does

@@ -7,14 +7,14 @@ use Rattle.std.proofs.lemmas.List.Elements.{filter-append}
 use Rattle.std.proofs.lemmas.List.{append-nil}
 use Rattle.std.proofs.lemmas.List.Folds.{list_any-append}
 use Rattle.std.proofs.lemmas.Option.{none-some}
-use Rattle.init_words.specs.declared.orders.Ask.{Ask}
-use Rattle.init_words.specs.declared.orders.Ask.TheVariants.{Look}
+use Rattle.init_words.specs.declared.orders.OrderKind.{OrderKind}
+use Rattle.init_words.specs.declared.orders.OrderKind.TheVariants.{Look}
 use Rattle.init_words.specs.Ids.{same_id}
 use Rattle.init_words.specs.Orders.{same_ask}
-use Rattle.init_trace.specs.declared.happenings.Happening.TheVariants.{Asked, Birth, NoBirth, Reaped, Still, NoLook, Hit, Miss, Told}
-use Rattle.init_trace.specs.Event.{Event}
-use Rattle.init_trace.specs.Past.{Child, is_of, is_child, has_child, open_of, undone_of, is_untold, Open, open_orders, is_quiet, is_idle, newborn, unreaped_children, kept_children, known_children}
-use Rattle.init_trace.specs.Bounds.{targets}
+use Rattle.trace_events.specs.declared.happenings.Happening.TheVariants.{Asked, Birth, NoBirth, Reaped, Still, NoLook, Hit, Miss, Told}
+use Rattle.trace_events.specs.Event.{Event}
+use Rattle.trace_events.specs.Past.{Child, is_of, is_child, has_child, open_of, undone_of, is_untold, Open, open_orders, is_quiet, is_idle, newborn, unreaped_children, kept_children, known_children}
+use Rattle.trace_events.specs.Bounds.{targets}
 use Rattle.init_words.proofs.Same.{same_id-is, same_id-from, same_id-apart}
 use Rattle.init_words.proofs.Tests.{Passing, passing, or_false, both_ways, or_either, not_from, any_less, any_filter, any_within, any_without, any_filtered, filter_within, filter_without}
 
@@ -24,7 +24,7 @@ cleared true o a rest h = absurd (none-some a h)
 cleared false o a rest h = rest refl h
 
 -- an undone order is open
-pub undone_is_open : (id : List ℕ) (ask : Ask) (past : List Event) → undone_of id past ≡ Some ask → open_of id past ≡ Some ask
+pub undone_is_open : (id : List ℕ) (ask : OrderKind) (past : List Event) → undone_of id past ≡ Some ask → open_of id past ≡ Some ask
 undone_is_open id ask [] h = h
 undone_is_open id ask (Asked i given ∷ past) h = either (same_id id i) (undone_is_open id ask past) h where
   either : (b : Bool) → (undone_of id past ≡ Some ask → open_of id past ≡ Some ask) → cond b (Some given) (undone_of id past) ≡ Some ask → cond b (Some given) (open_of id past) ≡ Some ask
@@ -44,7 +44,7 @@ undone_is_open id ask (Miss i ∷ past) h = cleared (same_id id i) (undone_of id
 undone_is_open id ask (_ ∷ past) h = undone_is_open id ask past h
 
 -- the orders of an id that pass a test, among those of other ids than i: none where it is i
-listed_but : (p : Ask → Bool) (id i : List ℕ) (orders : List Open) (b : Bool) → same_id id i ≡ b → list_any (λ order. same_id id order.id && p order.ask) (filter (λ order. not (same_id i order.id)) orders) ≡ cond b false (list_any (λ order. same_id id order.id && p order.ask) orders)
+listed_but : (p : OrderKind → Bool) (id i : List ℕ) (orders : List Open) (b : Bool) → same_id id i ≡ b → list_any (λ order. same_id id order.id && p order.ask) (filter (λ order. not (same_id i order.id)) orders) ≡ cond b false (list_any (λ order. same_id id order.id && p order.ask) orders)
 listed_but p id i orders true same = any_without own apart (λ order h. not_from_true (same_id i order.id) (same_id-from i order.id (sym (same_id-is id i same) ∙ same_id-is id order.id (and_parts (same_id id order.id) (p order.ask) h).0))) orders where
   own : Open → Bool
   own order = same_id id order.id && p order.ask
@@ -59,7 +59,7 @@ listed_but p id i orders false differ = any_within own apart (λ order h. not_fr
   apart order = not (same_id i order.id)
 
 -- the open orders of an id that pass a test: the one open order, if it does
-pub open_listed : (p : Ask → Bool) (id : List ℕ) (past : List Event) → list_any (λ order. same_id id order.id && p order.ask) (open_orders past) ≡ option_map_or p (open_of id past) false
+pub open_listed : (p : OrderKind → Bool) (id : List ℕ) (past : List Event) → list_any (λ order. same_id id order.id && p order.ask) (open_orders past) ≡ option_map_or p (open_of id past) false
 open_listed p id [] = refl
 open_listed p id (Asked i ask ∷ past) = split (same_id id i) (listed_but p id i (open_orders past) (same_id id i) refl) (open_listed p id past) where
   split : (b : Bool) → list_any (λ order. same_id id order.id && p order.ask) (filter (λ order. not (same_id i order.id)) (open_orders past)) ≡ cond b false (list_any (λ order. same_id id order.id && p order.ask) (open_orders past)) → list_any (λ order. same_id id order.id && p order.ask) (open_orders past) ≡ option_map_or p (open_of id past) false → (b && p ask || list_any (λ order. same_id id order.id && p order.ask) (filter (λ order. not (same_id i order.id)) (open_orders past))) ≡ option_map_or p (cond b (Some ask) (open_of id past)) false
@@ -72,16 +72,16 @@ open_listed p id (Told i ∷ past) = split (same_id id i) (listed_but p id i (op
 open_listed p id (_ ∷ past) = open_listed p id past
 
 -- an open order of a kind is among the open orders
-open_among : (p : Ask → Bool) (id : List ℕ) (ask : Ask) (past : List Event) → open_of id past ≡ Some ask → p ask ≡ true → list_any (λ order. p order.ask) (open_orders past) ≡ true
+open_among : (p : OrderKind → Bool) (id : List ℕ) (ask : OrderKind) (past : List Event) → open_of id past ≡ Some ask → p ask ≡ true → list_any (λ order. p order.ask) (open_orders past) ≡ true
 open_among p id ask past is holds =
     let own : Open → Bool = λ order. same_id id order.id && p order.ask in
     let all : Open → Bool = λ order. p order.ask in
     any_less own all (λ order h. (and_parts (same_id id order.id) (p order.ask) h).1) (open_orders past) (open_listed p id past ∙ rw is holds)
 
 -- at a quiet point only Looks are open
-pub quiet_looks : (id : List ℕ) (ask : Ask) (past : List Event) → is_quiet past ≡ true → open_of id past ≡ Some ask → same_ask Look ask ≡ true
+pub quiet_looks : (id : List ℕ) (ask : OrderKind) (past : List Event) → is_quiet past ≡ true → open_of id past ≡ Some ask → same_ask Look ask ≡ true
 quiet_looks id ask past quiet is = split (same_ask Look ask) refl where
-  busy : Ask → Bool
+  busy : OrderKind → Bool
   busy a = not (same_ask Look a)
 
   split : (b : Bool) → same_ask Look ask ≡ b → b ≡ true
@@ -91,10 +91,10 @@ quiet_looks id ask past quiet is = split (same_ask Look ask) refl where
 -- where no order is open, none of any id is
 pub idle_none : (id : List ℕ) (past : List Event) → is_idle past ≡ true → open_of id past ≡ None
 idle_none id past idle = split (open_of id past) refl where
-  any : Ask → Bool
+  any : OrderKind → Bool
   any a = true
 
-  split : (o : Option Ask) → open_of id past ≡ o → o ≡ None
+  split : (o : Option OrderKind) → open_of id past ≡ o → o ≡ None
   split None h = refl
   split (Some ask) h = both_ways (list_any (λ order. any order.ask) (open_orders past)) (open_among any id ask past h refl) (not-true (list_any (λ order. any order.ask) (open_orders past)) idle)
 
@@ -195,7 +195,7 @@ pub same_has : (id : List ℕ) (xs ys : List Child) → filter (is_of id) xs ≡
 same_has id xs ys same = sym (any_within (is_of id) (is_of id) (λ child own. own) xs) ∙ ap (has_child id) same ∙ any_within (is_of id) (is_of id) (λ child own. own) ys
 
 -- the children that were known at an open order are those that are known now
-pub targets_known : (id : List ℕ) (ask : Ask) (past : List Event) → open_of id past ≡ Some ask → targets id past ≡ filter (is_of id) (known_children past)
+pub targets_known : (id : List ℕ) (ask : OrderKind) (past : List Event) → open_of id past ≡ Some ask → targets id past ≡ filter (is_of id) (known_children past)
 targets_known id ask [] h = absurd (none-some ask h)
 targets_known id ask (Asked i given ∷ past) h = split (same_id id i) h (targets_known id ask past) where
   split : (b : Bool) → cond b (Some given) (open_of id past) ≡ Some ask → (open_of id past ≡ Some ask → targets id past ≡ filter (is_of id) (known_children past)) → cond b (filter (is_of id) (known_children past)) (targets id past) ≡ filter (is_of id) (known_children past)

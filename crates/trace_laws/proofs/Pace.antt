@@ -3,16 +3,16 @@ use Rattle.std.proofs.Common.{◌≡◌, ◌≤◌, ◌+◌, ◌-◌, refl, ℕ,
 use Rattle.std.specs.List.{list_all}
 use Rattle.std.proofs.lemmas.Bool.{and_parts, and_from, ltb-false, le-leb, leb-false, le-ltb, not-true}
 use Rattle.respawn_limit.specs.declared.TheConstants.{HOLD, STARTS, WINDOW, CLOCK_LIMIT}
-use Rattle.init_words.specs.declared.orders.Ask.TheVariants.{Start}
+use Rattle.init_words.specs.declared.orders.OrderKind.TheVariants.{Start}
 use Rattle.init_words.specs.Ids.{same_id}
-use Rattle.init_trace.specs.declared.happenings.Happening.TheVariants.{NewTable, Enter, Asked, Clock}
-use Rattle.init_trace.specs.declared.steps.Goal.{Goal}
-use Rattle.init_trace.specs.Event.{Event}
-use Rattle.init_trace.specs.Past.{time_of}
-use Rattle.init_trace.specs.Timing.{start_times, hold_times, is_held, is_full}
-use Rattle.init_trace.specs.Sound.{is_sound}
-use Rattle.init_trace.specs.Lawful.{is_limited_id}
-use Rattle.init_trace.specs.Bounds.{is_spaced, keeps_pace}
+use Rattle.trace_events.specs.declared.happenings.Happening.TheVariants.{NewTable, Enter, Asked, Clock}
+use Rattle.trace_events.specs.declared.steps.Goal.{Goal}
+use Rattle.trace_events.specs.Event.{Event}
+use Rattle.trace_events.specs.Past.{time_of}
+use Rattle.trace_events.specs.Timing.{start_times, hold_times, is_held, is_full}
+use Rattle.trace_events.specs.Sound.{is_sound}
+use Rattle.trace_events.specs.Lawful.{is_limited_id}
+use Rattle.trace_events.specs.Bounds.{is_spaced, keeps_pace}
 use Rattle.init_words.proofs.Tests.{not_from, all_less, all_fail}
 use Rattle.trace_laws.proofs.Limits.{start_free}
 

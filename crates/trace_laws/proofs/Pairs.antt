@@ -5,20 +5,20 @@ use Rattle.std.specs.Option.{option_map_or}
 use Rattle.std.proofs.lemmas.Bool.{false≢true, and_parts, and_from, or_left, or_right, or_parts, leb-true, cond-true, not-true}
 use Rattle.respawn_limit.specs.declared.TheConstants.{HOLD, STARTS, WINDOW}
 use Rattle.init_words.specs.declared.entries.Entry.{Entry}
-use Rattle.init_words.specs.declared.orders.Ask.{Ask}
-use Rattle.init_words.specs.declared.orders.Ask.TheVariants.{Start}
+use Rattle.init_words.specs.declared.orders.OrderKind.{OrderKind}
+use Rattle.init_words.specs.declared.orders.OrderKind.TheVariants.{Start}
 use Rattle.init_words.specs.Ids.{same_id}
 use Rattle.inittab_text.specs.Tables.{act_of}
-use Rattle.init_trace.specs.declared.happenings.Happening.TheVariants.{NewTable, Enter, Asked, Hold, Birth, Reaped, Hit}
-use Rattle.init_trace.specs.declared.steps.Goal.{Goal}
-use Rattle.init_trace.specs.Event.{Event}
-use Rattle.init_trace.specs.Past.{table_of, time_of, Child, is_of, is_child, has_child, newborn, unreaped_children, known_children}
-use Rattle.init_trace.specs.Wanted.{is_excluded}
-use Rattle.init_trace.specs.Timing.{start_times, hold_times, is_held, is_full}
+use Rattle.trace_events.specs.declared.happenings.Happening.TheVariants.{NewTable, Enter, Asked, Hold, Birth, Reaped, Hit}
+use Rattle.trace_events.specs.declared.steps.Goal.{Goal}
+use Rattle.trace_events.specs.Event.{Event}
+use Rattle.trace_events.specs.Past.{table_of, time_of, Child, is_of, is_child, has_child, newborn, unreaped_children, known_children}
+use Rattle.trace_events.specs.Wanted.{is_excluded}
+use Rattle.trace_events.specs.Timing.{start_times, hold_times, is_held, is_full}
 use Rattle.init_words.specs.Actions.{is_limited}
-use Rattle.init_trace.specs.Sound.{is_sound}
-use Rattle.init_trace.specs.Lawful.{is_limited_id}
-use Rattle.init_trace.specs.Bounds.{targets, is_spaced}
+use Rattle.trace_events.specs.Sound.{is_sound}
+use Rattle.trace_events.specs.Lawful.{is_limited_id}
+use Rattle.trace_events.specs.Bounds.{targets, is_spaced}
 use Rattle.trace_laws.specs.Stretches.{is_steady, count_starts, is_order_of, is_reaping_of}
 use Rattle.init_words.proofs.Same.{same_id-self}
 use Rattle.init_words.proofs.Tests.{both_ways, any_less, filter_none}
@@ -133,7 +133,7 @@ targets_stay id (Asked i ask ∷ between) past none =
 targets_stay id (_ ∷ between) past none = targets_stay id between past none
 
 -- at a Hit the child that was known at its order is still unreaped and excluded
-pub on_order : (goal : Goal) (later between past : List Event) (id : List ℕ) (ask : Ask) → is_sound goal (later ++ Hit id ∷ (between ++ Asked id ask ∷ past)) ≡ true → list_any (is_order_of id) between ≡ false → (has_child id (known_children past) ≡ true) × (list_all (λ child. is_excluded (between ++ Asked id ask ∷ past) child && list_any (is_child id child.number) (unreaped_children (between ++ Asked id ask ∷ past))) (filter (is_of id) (known_children past)) ≡ true)
+pub on_order : (goal : Goal) (later between past : List Event) (id : List ℕ) (ask : OrderKind) → is_sound goal (later ++ Hit id ∷ (between ++ Asked id ask ∷ past)) ≡ true → list_any (is_order_of id) between ≡ false → (has_child id (known_children past) ≡ true) × (list_all (λ child. is_excluded (between ++ Asked id ask ∷ past) child && list_any (is_child id child.number) (unreaped_children (between ++ Asked id ask ∷ past))) (filter (is_of id) (known_children past)) ≡ true)
 on_order goal later between past id ask h none = (some_child, all.1) where
   now : List Event
   now = between ++ Asked id ask ∷ past

@@ -5,18 +5,18 @@ use Rattle.std.proofs.lemmas.Bool.{false≢true, and_parts, or_left, or_right}
 use Rattle.std.proofs.lemmas.Option.{none-some, same_Some}
 use Rattle.std.proofs.lemmas.List.Folds.{list_any-append}
 use Rattle.init_words.specs.declared.entries.Entry.{Entry}
-use Rattle.init_words.specs.declared.orders.Ask.{Ask}
-use Rattle.init_words.specs.declared.orders.Ask.TheVariants.{Start, Look, Term, Kill}
+use Rattle.init_words.specs.declared.orders.OrderKind.{OrderKind}
+use Rattle.init_words.specs.declared.orders.OrderKind.TheVariants.{Start, Look, Term, Kill}
 use Rattle.init_words.specs.Ids.{same_id}
 use Rattle.init_words.specs.Orders.{same_ask}
 use Rattle.inittab_text.specs.Tables.{ids_of, has_id, is_distinct}
-use Rattle.init_trace.specs.declared.happenings.Happening.TheVariants.{NewTable, Asked, Birth, Told}
-use Rattle.init_trace.specs.declared.steps.Goal.{Goal}
-use Rattle.init_trace.specs.declared.steps.Step.TheVariants as step
-use Rattle.init_trace.specs.Event.{Event}
-use Rattle.init_trace.specs.Past.{table_of, is_of, has_child, open_of, is_quiet, unreaped_children, kept_children, known_children}
-use Rattle.init_trace.specs.Due.{is_due, left_ids, record_ids}
-use Rattle.init_trace.specs.Sound.{may_come, is_sound}
+use Rattle.trace_events.specs.declared.happenings.Happening.TheVariants.{NewTable, Asked, Birth, Told}
+use Rattle.trace_events.specs.declared.steps.Goal.{Goal}
+use Rattle.trace_events.specs.declared.steps.Step.TheVariants as step
+use Rattle.trace_events.specs.Event.{Event}
+use Rattle.trace_events.specs.Past.{table_of, is_of, has_child, open_of, is_quiet, unreaped_children, kept_children, known_children}
+use Rattle.trace_events.specs.Due.{is_due, left_ids, record_ids}
+use Rattle.trace_events.specs.Sound.{may_come, is_sound}
 use Rattle.init_words.proofs.Same.{same_id-is}
 use Rattle.init_words.proofs.Tests.{or_either, not_from, any_within}
 use Rattle.trace_laws.proofs.Orders.{cleared, quiet_looks, known_kept, kept_before_told, told_other, same_has}
@@ -25,15 +25,15 @@ use Rattle.trace_laws.proofs.Keeps.{start_stays, born_ready, sound_holds, sound_
 use Rattle.trace_laws.proofs.Told.{stop_known, placed_listed}
 
 -- an open Look or signal is of an id with a known child
-asked_known : (goal : Goal) (i : List ℕ) (ask : Ask) (past : List Event) → is_due goal (step.Order i ask) past ≡ true → same_ask Start ask ≡ false → has_child i (known_children past) ≡ true
+asked_known : (goal : Goal) (i : List ℕ) (ask : OrderKind) (past : List Event) → is_due goal (step.Order i ask) past ≡ true → same_ask Start ask ≡ false → has_child i (known_children past) ≡ true
 asked_known goal i Start past may other = absurd (false≢true (sym other))
 asked_known goal i Look past may other = (due_facts goal past (step.Order i Look) may).there
 asked_known goal i Term past may other = stop_known i Term past (due_facts goal past (step.Order i Term) may)
 asked_known goal i Kill past may other = stop_known i Kill past (due_facts goal past (step.Order i Kill) may)
 
-pub order_known : (goal : Goal) (past : List Event) → is_sound goal past ≡ true → (id : List ℕ) (ask : Ask) → open_of id past ≡ Some ask → same_ask Start ask ≡ false → has_child id (known_children past) ≡ true
-order_known goal past h = sound_ind goal (λ before. (id : List ℕ) (ask : Ask) → open_of id before ≡ Some ask → same_ask Start ask ≡ false → has_child id (known_children before) ≡ true) (λ table distinct id ask is other. absurd (none-some ask is)) next past h where
-  next : (happening : Event) (before : List Event) → may_come goal happening before ≡ true → is_sound goal before ≡ true → ((id : List ℕ) (ask : Ask) → open_of id before ≡ Some ask → same_ask Start ask ≡ false → has_child id (known_children before) ≡ true) → (id : List ℕ) (ask : Ask) → open_of id (happening ∷ before) ≡ Some ask → same_ask Start ask ≡ false → has_child id (known_children (happening ∷ before)) ≡ true
+pub order_known : (goal : Goal) (past : List Event) → is_sound goal past ≡ true → (id : List ℕ) (ask : OrderKind) → open_of id past ≡ Some ask → same_ask Start ask ≡ false → has_child id (known_children past) ≡ true
+order_known goal past h = sound_ind goal (λ before. (id : List ℕ) (ask : OrderKind) → open_of id before ≡ Some ask → same_ask Start ask ≡ false → has_child id (known_children before) ≡ true) (λ table distinct id ask is other. absurd (none-some ask is)) next past h where
+  next : (happening : Event) (before : List Event) → may_come goal happening before ≡ true → is_sound goal before ≡ true → ((id : List ℕ) (ask : OrderKind) → open_of id before ≡ Some ask → same_ask Start ask ≡ false → has_child id (known_children before) ≡ true) → (id : List ℕ) (ask : OrderKind) → open_of id (happening ∷ before) ≡ Some ask → same_ask Start ask ≡ false → has_child id (known_children (happening ∷ before)) ≡ true
   next (Asked i given) before may sound rest id ask is other = at_id (same_id id i) refl is where
     at_id : (b : Bool) → same_id id i ≡ b → cond b (Some given) (open_of id before) ≡ Some ask → has_child id (known_children before) ≡ true
     at_id true same is = ap (λ x. has_child x (known_children before)) (same_id-is id i same) ∙ asked_known goal i given before may (ap (same_ask Start) (same_Some given ask is) ∙ other)
@@ -95,7 +95,7 @@ child_in_records goal past sound id there = list_any-append (same_id id) (ids_of
   read (inr left) = or_right (list_any (same_id id) (ids_of (table_of past))) (list_any (same_id id) (filter (λ x. has_child x (known_children past)) (left_ids past))) (any_within (same_id id) (λ x. has_child x (known_children past)) own (left_ids past) ∙ left)
 
 -- each open order has a record
-pub open_in_records : (goal : Goal) (past : List Event) → is_sound goal past ≡ true → (id : List ℕ) (ask : Ask) → open_of id past ≡ Some ask → list_any (same_id id) (record_ids past) ≡ true
+pub open_in_records : (goal : Goal) (past : List Event) → is_sound goal past ≡ true → (id : List ℕ) (ask : OrderKind) → open_of id past ≡ Some ask → list_any (same_id id) (record_ids past) ≡ true
 open_in_records goal past sound id Start is = list_any-append (same_id id) (ids_of (table_of past)) (filter (λ x. has_child x (known_children past)) (left_ids past)) ∙ or_left (list_any (same_id id) (ids_of (table_of past))) (list_any (same_id id) (filter (λ x. has_child x (known_children past)) (left_ids past))) (ids_listed id (table_of past) ∙ start_in_table goal past sound id is)
 open_in_records goal past sound id Look is = child_in_records goal past sound id (order_known goal past sound id Look is refl)
 open_in_records goal past sound id Term is = child_in_records goal past sound id (order_known goal past sound id Term is refl)

@@ -5,15 +5,15 @@ use Rattle.std.proofs.lemmas.Bool.{false≢true, and_parts, and_from, or_left}
 use Rattle.init_words.specs.Ids.{same_id}
 use Rattle.init_words.specs.Levels.{letter_code}
 use Rattle.init_words.specs.Orders.{same_stage, same_ask}
-use Rattle.init_trace.specs.declared.happenings.Happening.TheVariants.{NewTable}
-use Rattle.init_trace.specs.declared.steps.Step.{Step}
-use Rattle.init_trace.specs.declared.steps.Step.TheVariants.{Enter, Call, Power, Order, Hold, Settle, Reread, Reexec, Idle}
-use Rattle.init_trace.specs.declared.steps.Goal.{Goal}
-use Rattle.init_trace.specs.Event.{Event}
-use Rattle.init_trace.specs.Due.{due, first, same_step, is_due}
-use Rattle.init_trace.specs.Sound.{may_come, is_sound}
-use Rattle.init_trace.specs.Lawful.{is_lawful}
-use Rattle.init_trace.specs.Run.{is_next, is_run}
+use Rattle.trace_events.specs.declared.happenings.Happening.TheVariants.{NewTable}
+use Rattle.trace_events.specs.declared.steps.Step.{Step}
+use Rattle.trace_events.specs.declared.steps.Step.TheVariants.{Enter, Call, Power, Order, Hold, Settle, Reread, Reexec, Idle}
+use Rattle.trace_events.specs.declared.steps.Goal.{Goal}
+use Rattle.trace_events.specs.Event.{Event}
+use Rattle.trace_events.specs.Due.{due, first, same_step, is_due}
+use Rattle.trace_events.specs.Sound.{may_come, is_sound}
+use Rattle.trace_events.specs.Lawful.{is_lawful}
+use Rattle.trace_events.specs.Run.{is_next, is_run}
 use Rattle.init_words.proofs.Tests.{both_ways}
 use Rattle.init_words.proofs.Same.{same_id-self, same_ask-self, same_level-self, same_power-self, same_stage-self}
 use Rattle.trace_laws.proofs.Laws.{sound_lawful}

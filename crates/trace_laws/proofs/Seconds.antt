@@ -6,27 +6,27 @@ use Rattle.init_words.specs.declared.entries.Entry.{Entry}
 use Rattle.init_words.specs.declared.levels.Letter.{Letter}
 use Rattle.init_words.specs.declared.stages.Stage.{Stage}
 use Rattle.init_words.specs.declared.stages.Stage.TheVariants as stage
-use Rattle.init_words.specs.declared.orders.Ask.{Ask}
-use Rattle.init_words.specs.declared.orders.Ask.TheVariants.{Start, Look}
+use Rattle.init_words.specs.declared.orders.OrderKind.{OrderKind}
+use Rattle.init_words.specs.declared.orders.OrderKind.TheVariants.{Start, Look}
 use Rattle.init_words.specs.declared.orders.PowerKind.{PowerKind}
 use Rattle.init_words.specs.Actions.{is_limited}
 use Rattle.init_words.specs.Levels.{same_level}
 use Rattle.init_words.specs.Orders.{same_stage}
 use Rattle.init_words.proofs.Tests.{or_either}
-use Rattle.initctl_frame.specs.declared.requests.Got.TheVariants as got
-use Rattle.init_trace.specs.declared.happenings.Happening.TheVariants as past
-use Rattle.init_trace.specs.declared.steps.Step.{Step}
-use Rattle.init_trace.specs.declared.steps.Step.TheVariants.{Enter, Call, Power, Reread, Order, Hold, Settle, Reexec}
-use Rattle.init_trace.specs.declared.steps.Goal.{Goal}
-use Rattle.init_trace.specs.Event.{Event}
-use Rattle.init_trace.specs.Past.{table_of, stage_of, Child, is_of, open_of, is_quiet, is_idle, known_children}
-use Rattle.init_trace.specs.Range.{is_seconds, is_request, are_short}
-use Rattle.init_trace.specs.Spells.{stop_due}
-use Rattle.init_trace.specs.Sound.{is_sound, may_come}
-use Rattle.init_trace.specs.Timing.{is_held, is_full}
-use Rattle.init_trace.specs.Wanted.{is_owed}
-use Rattle.init_trace.specs.Wishes.{goal_of, heard_level, other_than, level_wish, wants_reexec, wants_reread, keeps_power, keeps_letter, powers, letters, wish_stands, in_run}
-use Rattle.init_trace.specs.Due.{step_if, steps_if, none_excluded, due_first, due_reexec, enter_level, power_steps, letter_steps, record_ids, stop_step, stops_of, stops_among, can_start, start_steps, starts_among, is_over, next_stage, is_announced, is_settled, settle_step, can_look, looks_among, due, same_step}
+use Rattle.initctl_frame.specs.declared.requests.HeardRequest.TheVariants as got
+use Rattle.trace_events.specs.declared.happenings.Happening.TheVariants as past
+use Rattle.trace_events.specs.declared.steps.Step.{Step}
+use Rattle.trace_events.specs.declared.steps.Step.TheVariants.{Enter, Call, Power, Reread, Order, Hold, Settle, Reexec}
+use Rattle.trace_events.specs.declared.steps.Goal.{Goal}
+use Rattle.trace_events.specs.Event.{Event}
+use Rattle.trace_events.specs.Past.{table_of, stage_of, Child, is_of, open_of, is_quiet, is_idle, known_children}
+use Rattle.trace_events.specs.Range.{is_seconds, is_request, are_short}
+use Rattle.trace_events.specs.Spells.{stop_due}
+use Rattle.trace_events.specs.Sound.{is_sound, may_come}
+use Rattle.trace_events.specs.Timing.{is_held, is_full}
+use Rattle.trace_events.specs.Wanted.{is_owed}
+use Rattle.trace_events.specs.Wishes.{goal_of, heard_level, other_than, level_wish, wants_reexec, wants_reread, keeps_power, keeps_letter, powers, letters, wish_stands, in_run}
+use Rattle.trace_events.specs.Due.{step_if, steps_if, none_excluded, due_first, due_reexec, enter_level, power_steps, letter_steps, record_ids, stop_step, stops_of, stops_among, can_start, start_steps, starts_among, is_over, next_stage, is_announced, is_settled, settle_step, can_look, looks_among, due, same_step}
 use Rattle.trace_laws.proofs.Dues.{Each, each_append, each_step_if, each_steps_if}
 
 -- the requests of a trace name an hour at most
@@ -99,7 +99,7 @@ stops : (id : List ℕ) (so_far : List Event) (children : List Child) → Each S
 stops id so_far [] = tt
 stops id so_far (child ∷ children) = each_append Short (steps_if (is_of id child) (stop_step id (stop_due child so_far))) (stops_of id children so_far) (each_steps_if Short (is_of id child) (stop_step id (stop_due child so_far)) (λ _. by (stop_due child so_far))) (stops id so_far children)
   where
-    by : (o : Option Ask) → Each Short (stop_step id o)
+    by : (o : Option OrderKind) → Each Short (stop_step id o)
     by None = tt
     by (Some ask) = (tt, tt)
 

@@ -9,17 +9,17 @@ use Rattle.init_words.specs.declared.stages.Stage.{Stage}
 use Rattle.init_words.specs.declared.stages.Stage.TheVariants as stage
 use Rattle.init_words.specs.Levels.{names}
 use Rattle.inittab_text.specs.Tables.{entry_of}
-use Rattle.init_trace.specs.declared.happenings.Happening.TheVariants.{Settle}
-use Rattle.init_trace.specs.declared.steps.Goal.{Goal}
-use Rattle.init_trace.specs.declared.steps.Step.TheVariants as step
-use Rattle.init_trace.specs.Event.{Event}
-use Rattle.init_trace.specs.Past.{table_of, stage_of, Child, is_of, is_idle, unreaped_children, known_children}
-use Rattle.init_trace.specs.Wanted.{is_asked, is_owed, may_live, is_excluded}
-use Rattle.init_trace.specs.Timing.{is_held}
-use Rattle.init_trace.specs.Wishes.{is_level}
+use Rattle.trace_events.specs.declared.happenings.Happening.TheVariants.{Settle}
+use Rattle.trace_events.specs.declared.steps.Goal.{Goal}
+use Rattle.trace_events.specs.declared.steps.Step.TheVariants as step
+use Rattle.trace_events.specs.Event.{Event}
+use Rattle.trace_events.specs.Past.{table_of, stage_of, Child, is_of, is_idle, unreaped_children, known_children}
+use Rattle.trace_events.specs.Wanted.{is_asked, is_owed, may_live, is_excluded}
+use Rattle.trace_events.specs.Timing.{is_held}
+use Rattle.trace_events.specs.Wishes.{is_level}
 use Rattle.init_words.specs.Actions.{served_by}
-use Rattle.init_trace.specs.Due.{is_served, is_settled}
-use Rattle.init_trace.specs.Sound.{may_come, is_sound}
+use Rattle.trace_events.specs.Due.{is_served, is_settled}
+use Rattle.trace_events.specs.Sound.{may_come, is_sound}
 use Rattle.init_words.proofs.Same.{same_id-self, same_level-is}
 use Rattle.init_words.proofs.Tests.{Passing, passing, falsely, not_from, any_less, all_less, all_fail}
 use Rattle.trace_laws.specs.Belonging.{belongs}

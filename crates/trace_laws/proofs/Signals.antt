@@ -3,18 +3,18 @@ use Rattle.std.proofs.Common.{◌≡◌, refl, ◌∙◌, ap, ℕ, Bool, true, f
 use Rattle.std.specs.List.{list_any}
 use Rattle.std.proofs.lemmas.Bool.{false≢true, and_parts, and_from, or_left}
 use Rattle.std.proofs.lemmas.Option.{none-some, same_Some}
-use Rattle.init_words.specs.declared.orders.Ask.TheVariants.{Term, Kill}
+use Rattle.init_words.specs.declared.orders.OrderKind.TheVariants.{Term, Kill}
 use Rattle.init_words.specs.Orders.{same_ask}
-use Rattle.init_trace.specs.declared.happenings.Happening.TheVariants.{Asked}
-use Rattle.init_trace.specs.declared.steps.Goal.{Goal}
-use Rattle.init_trace.specs.declared.steps.Step.TheVariants as step
-use Rattle.init_trace.specs.Event.{Event}
-use Rattle.init_trace.specs.Past.{Child, grace_of, time_of, is_of, unreaped_children}
-use Rattle.init_trace.specs.Wanted.{is_excluded}
-use Rattle.init_trace.specs.Spells.{Signal, is_ripe, stop_by, stop_due, is_missed, spell_hits}
-use Rattle.init_trace.specs.Due.{is_due}
-use Rattle.init_trace.specs.Sound.{is_sound}
-use Rattle.init_trace.specs.Lawful.{may_term, may_kill}
+use Rattle.trace_events.specs.declared.happenings.Happening.TheVariants.{Asked}
+use Rattle.trace_events.specs.declared.steps.Goal.{Goal}
+use Rattle.trace_events.specs.declared.steps.Step.TheVariants as step
+use Rattle.trace_events.specs.Event.{Event}
+use Rattle.trace_events.specs.Past.{Child, grace_of, time_of, is_of, unreaped_children}
+use Rattle.trace_events.specs.Wanted.{is_excluded}
+use Rattle.trace_events.specs.Spells.{Signal, is_ripe, stop_by, stop_due, is_missed, spell_hits}
+use Rattle.trace_events.specs.Due.{is_due}
+use Rattle.trace_events.specs.Sound.{is_sound}
+use Rattle.trace_events.specs.Lawful.{may_term, may_kill}
 use Rattle.init_words.proofs.Tests.{any_less}
 use Rattle.trace_laws.proofs.Dues.{MayStop, due_facts}
 use Rattle.trace_laws.proofs.Keeps.{sound_holds, asked_may_term, stop_unreaped, stop_excluded}

@@ -4,19 +4,19 @@ use Rattle.std.proofs.lemmas.Bool.{false≢true, and_right, or_parts, or_from}
 use Rattle.std.proofs.lemmas.Option.{none-some, same_Some}
 use Rattle.init_words.specs.declared.entries.Entry.{Entry}
 use Rattle.init_words.specs.declared.stages.Stage.{Stage}
-use Rattle.init_words.specs.declared.orders.Ask.{Ask}
-use Rattle.init_words.specs.declared.orders.Ask.TheVariants.{Start, Look, Term, Kill}
+use Rattle.init_words.specs.declared.orders.OrderKind.{OrderKind}
+use Rattle.init_words.specs.declared.orders.OrderKind.TheVariants.{Start, Look, Term, Kill}
 use Rattle.init_words.specs.declared.orders.Answer.{Answer}
 use Rattle.init_words.specs.declared.orders.Answer.TheVariants as answer
 use Rattle.init_words.specs.Ids.{same_id}
-use Rattle.init_trace.specs.declared.happenings.Happening.TheVariants.{NewTable, Enter, Asked, Birth, NoBirth, Reaped, Still, NoLook, Hit, Miss, Told, Nudge}
-use Rattle.init_trace.specs.declared.steps.Goal.{Goal}
-use Rattle.init_trace.specs.Event.{Event}
-use Rattle.init_trace.specs.Past.{Child, time_of, open_of, undone_of, is_untold}
-use Rattle.init_trace.specs.Wanted.{is_order, is_excluded}
-use Rattle.init_trace.specs.Answered.{answered_of}
-use Rattle.init_trace.specs.Spells.{untold_hits, has_untold_miss, told_at, spell_hits, is_missed}
-use Rattle.init_trace.specs.Sound.{may_come, is_sound}
+use Rattle.trace_events.specs.declared.happenings.Happening.TheVariants.{NewTable, Enter, Asked, Birth, NoBirth, Reaped, Still, NoLook, Hit, Miss, Told, Nudge}
+use Rattle.trace_events.specs.declared.steps.Goal.{Goal}
+use Rattle.trace_events.specs.Event.{Event}
+use Rattle.trace_events.specs.Past.{Child, time_of, open_of, undone_of, is_untold}
+use Rattle.trace_events.specs.Wanted.{is_order, is_excluded}
+use Rattle.trace_events.specs.Answered.{answered_of}
+use Rattle.trace_events.specs.Spells.{untold_hits, has_untold_miss, told_at, spell_hits, is_missed}
+use Rattle.trace_events.specs.Sound.{may_come, is_sound}
 use Rattle.init_words.specs.Orders.{is_hit, is_miss}
 use Rattle.init_words.proofs.Same.{same_id-is}
 use Rattle.init_words.proofs.Tests.{and_true, both_ways, or_either}
@@ -134,7 +134,7 @@ record Nothing (id : List ℕ) (past : List Event) : Type 0 where
   hits : untold_hits id past ≡ []
   miss : has_untold_miss id past ≡ false
 
-act_nothing : (goal : Goal) (past : List Event) → is_sound goal past ≡ true → (i : List ℕ) (ask : Ask) → is_order ask (undone_of i past) ≡ true → (id : List ℕ) → same_id id i ≡ true → Nothing id past
+act_nothing : (goal : Goal) (past : List Event) → is_sound goal past ≡ true → (i : List ℕ) (ask : OrderKind) → is_order ask (undone_of i past) ≡ true → (id : List ℕ) → same_id id i ≡ true → Nothing id past
 act_nothing goal past sound i ask undone id same = subst (λ x. Nothing x past) (sym (same_id-is id i same)) (record { hits = hits_told i past clear; miss = misses_told i past clear }) where
   clear : is_untold i past ≡ false
   clear = (sound_holds goal past sound).done i ask (is_order-is ask (undone_of i past) undone)

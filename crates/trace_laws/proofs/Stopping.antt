@@ -5,24 +5,24 @@ use Rattle.std.specs.List.{list_any}
 use Rattle.std.specs.Option.{option_map, option_map_or}
 use Rattle.std.proofs.lemmas.Bool.{false≢true, and_parts, and_from, and_right, not_from_true, not_from_false, not-true}
 use Rattle.std.proofs.lemmas.Option.{none-some, same_Some}
-use Rattle.init_words.specs.declared.orders.Ask.{Ask}
-use Rattle.init_words.specs.declared.orders.Ask.TheVariants.{Start, Look, Term, Kill}
+use Rattle.init_words.specs.declared.orders.OrderKind.{OrderKind}
+use Rattle.init_words.specs.declared.orders.OrderKind.TheVariants.{Start, Look, Term, Kill}
 use Rattle.init_words.specs.declared.orders.Answer.{Answer}
 use Rattle.init_words.specs.declared.orders.Answer.TheVariants as answer
 use Rattle.init_words.specs.Ids.{same_id}
 use Rattle.init_words.specs.Orders.{same_ask, answers, is_hit}
 use Rattle.inittab_text.specs.Tables.{ids_of, has_id, is_distinct}
-use Rattle.init_trace.specs.declared.happenings.Happening.TheVariants.{NewTable, Enter, Asked, Birth, NoBirth, Reaped, Still, NoLook, Hit, Miss, Told, Nudge}
-use Rattle.init_trace.specs.declared.steps.Goal.{Goal}
-use Rattle.init_trace.specs.declared.steps.Step.TheVariants as step
-use Rattle.init_trace.specs.Event.{Event}
-use Rattle.init_trace.specs.Past.{table_of, stage_of, grace_of, time_of, Child, is_of, has_child, open_of, undone_of, is_untold, is_quiet, newborn, unreaped_children, kept_children, known_children}
-use Rattle.init_trace.specs.Wanted.{is_order, is_excluded}
-use Rattle.init_trace.specs.Answered.{answered_of, child_after}
-use Rattle.init_trace.specs.Spells.{Signal, untold_hits, told_at, is_ripe, stop_by, stop_due, has_untold_miss, in_spell, is_missed, spell_hits}
-use Rattle.init_trace.specs.Lawful.{is_placed}
-use Rattle.init_trace.specs.Due.{is_due, left_ids, wants_look}
-use Rattle.init_trace.specs.Sound.{may_come, is_sound}
+use Rattle.trace_events.specs.declared.happenings.Happening.TheVariants.{NewTable, Enter, Asked, Birth, NoBirth, Reaped, Still, NoLook, Hit, Miss, Told, Nudge}
+use Rattle.trace_events.specs.declared.steps.Goal.{Goal}
+use Rattle.trace_events.specs.declared.steps.Step.TheVariants as step
+use Rattle.trace_events.specs.Event.{Event}
+use Rattle.trace_events.specs.Past.{table_of, stage_of, grace_of, time_of, Child, is_of, has_child, open_of, undone_of, is_untold, is_quiet, newborn, unreaped_children, kept_children, known_children}
+use Rattle.trace_events.specs.Wanted.{is_order, is_excluded}
+use Rattle.trace_events.specs.Answered.{answered_of, child_after}
+use Rattle.trace_events.specs.Spells.{Signal, untold_hits, told_at, is_ripe, stop_by, stop_due, has_untold_miss, in_spell, is_missed, spell_hits}
+use Rattle.trace_events.specs.Lawful.{is_placed}
+use Rattle.trace_events.specs.Due.{is_due, left_ids, wants_look}
+use Rattle.trace_events.specs.Sound.{may_come, is_sound}
 use Rattle.init_words.proofs.Same.{same_id-is}
 use Rattle.init_words.proofs.Tests.{both_ways, falsely, or_either, any_less, any_without, found_any}
 use Rattle.trace_laws.proofs.Tests.{is_order-is}
@@ -39,7 +39,7 @@ use Rattle.trace_laws.proofs.Spells.{spell_none, missed_still, missed_told, spel
 -- a birth that is not told is of an open Start
 pub born_open : (goal : Goal) (past : List Event) → is_sound goal past ≡ true → (id : List ℕ) (n : ℕ) → answered_of id past ≡ Some (answer.Born n) → open_of id past ≡ Some Start
 born_open goal past sound id n is = read (open_of id past) (answers_open goal past sound id (answer.Born n) is) where
-  read : (o : Option Ask) → option_map_or (answers (answer.Born n)) o false ≡ true → o ≡ Some Start
+  read : (o : Option OrderKind) → option_map_or (answers (answer.Born n)) o false ≡ true → o ≡ Some Start
   read None h = absurd (false≢true h)
   read (Some Start) h = refl
   read (Some Look) h = absurd (false≢true h)
@@ -65,9 +65,9 @@ pub newborn_spared : (goal : Goal) (past : List Event) → is_sound goal past �
 newborn_spared goal past sound id n is = placed_spared id n past (start_placed goal past sound id (born_open goal past sound id n is))
 
 -- at a quiet point no signal is open
-quiet_signal : {P : Type 0} (id : List ℕ) (ask : Ask) (past : List Event) → is_quiet past ≡ true → open_of id past ≡ Some ask → is_signal ask ≡ true → P
+quiet_signal : {P : Type 0} (id : List ℕ) (ask : OrderKind) (past : List Event) → is_quiet past ≡ true → open_of id past ≡ Some ask → is_signal ask ≡ true → P
 quiet_signal id ask past quiet is signal = read ask (quiet_looks id ask past quiet is) signal where
-  read : {P : Type 0} (a : Ask) → same_ask Look a ≡ true → is_signal a ≡ true → P
+  read : {P : Type 0} (a : OrderKind) → same_ask Look a ≡ true → is_signal a ≡ true → P
   read Look look signal = absurd (false≢true signal)
   read _ look signal = absurd (false≢true look)
 
@@ -90,10 +90,10 @@ found_holds p q (x ∷ xs) child one there any = split (p x) one there any (foun
   split false one there any rest = rest one there any
 
 -- what holds of the child that a signal is due to holds of the known child of its id
-pub stop_holds : (goal : Goal) (past : List Event) → is_sound goal past ≡ true → (id : List ℕ) (ask : Ask) (may : MayStop id ask past) (q : Child → Bool) → q may.child ≡ true → (child : Child) → find (is_of id) (known_children past) ≡ Some child → q child ≡ true
+pub stop_holds : (goal : Goal) (past : List Event) → is_sound goal past ≡ true → (id : List ℕ) (ask : OrderKind) (may : MayStop id ask past) (q : Child → Bool) → q may.child ≡ true → (child : Child) → find (is_of id) (known_children past) ≡ Some child → q child ≡ true
 stop_holds goal past sound id ask may q holds child there = found_holds (is_of id) q (known_children past) child (known_single goal past sound id) there (may.within (λ x. is_of id x && q x) (and_from (is_of id may.child) (q may.child) may.own holds))
 
-asked_stop : (goal : Goal) (i : List ℕ) (ask : Ask) (past : List Event) → is_due goal (step.Order i ask) past ≡ true → is_signal ask ≡ true → MayStop i ask past
+asked_stop : (goal : Goal) (i : List ℕ) (ask : OrderKind) (past : List Event) → is_due goal (step.Order i ask) past ≡ true → is_signal ask ≡ true → MayStop i ask past
 asked_stop goal i Term past may signal = due_facts goal past (step.Order i Term) may
 asked_stop goal i Kill past may signal = due_facts goal past (step.Order i Kill) may
 asked_stop goal i _ past may signal = absurd (false≢true signal)
@@ -107,9 +107,9 @@ other_found : (id i : List ℕ) (past : List Event) (o : Option Child) → same_
 other_found id i past o differ there = sym (same_find (is_of id) (known_children (Told i ∷ past)) (known_children past) (told_other id i (unreaped_children past) (known_children past) differ)) ∙ there
 
 -- while a signal is open, the known child of its id is excluded
-pub signal_excluded : (goal : Goal) (past : List Event) → is_sound goal past ≡ true → (id : List ℕ) (ask : Ask) → open_of id past ≡ Some ask → is_signal ask ≡ true → (child : Child) → find (is_of id) (known_children past) ≡ Some child → is_excluded past child ≡ true
-signal_excluded goal past h = sound_ind goal (λ before. (id : List ℕ) (ask : Ask) → open_of id before ≡ Some ask → is_signal ask ≡ true → (child : Child) → find (is_of id) (known_children before) ≡ Some child → is_excluded before child ≡ true) (λ table distinct id ask is signal child there. absurd (none-some ask is)) next past h where
-  next : (happening : Event) (before : List Event) → may_come goal happening before ≡ true → is_sound goal before ≡ true → ((id : List ℕ) (ask : Ask) → open_of id before ≡ Some ask → is_signal ask ≡ true → (child : Child) → find (is_of id) (known_children before) ≡ Some child → is_excluded before child ≡ true) → (id : List ℕ) (ask : Ask) → open_of id (happening ∷ before) ≡ Some ask → is_signal ask ≡ true → (child : Child) → find (is_of id) (known_children (happening ∷ before)) ≡ Some child → is_excluded (happening ∷ before) child ≡ true
+pub signal_excluded : (goal : Goal) (past : List Event) → is_sound goal past ≡ true → (id : List ℕ) (ask : OrderKind) → open_of id past ≡ Some ask → is_signal ask ≡ true → (child : Child) → find (is_of id) (known_children past) ≡ Some child → is_excluded past child ≡ true
+signal_excluded goal past h = sound_ind goal (λ before. (id : List ℕ) (ask : OrderKind) → open_of id before ≡ Some ask → is_signal ask ≡ true → (child : Child) → find (is_of id) (known_children before) ≡ Some child → is_excluded before child ≡ true) (λ table distinct id ask is signal child there. absurd (none-some ask is)) next past h where
+  next : (happening : Event) (before : List Event) → may_come goal happening before ≡ true → is_sound goal before ≡ true → ((id : List ℕ) (ask : OrderKind) → open_of id before ≡ Some ask → is_signal ask ≡ true → (child : Child) → find (is_of id) (known_children before) ≡ Some child → is_excluded before child ≡ true) → (id : List ℕ) (ask : OrderKind) → open_of id (happening ∷ before) ≡ Some ask → is_signal ask ≡ true → (child : Child) → find (is_of id) (known_children (happening ∷ before)) ≡ Some child → is_excluded (happening ∷ before) child ≡ true
   next (NewTable table) before may sound rest id ask is signal child there = quiet_signal id ask before (and_parts (is_quiet before) (is_distinct table) may).0 is signal
   next (Enter stage grace) before may sound rest id ask is signal child there = elim (due_facts goal before (step.Enter stage grace) may) [ inl quiet ↦ quiet_signal id ask before quiet is signal | inr dawn ↦ dawn_known goal before sound dawn id (found_has id (known_children before) child there) ]
   next (Asked i given) before may sound rest id ask is signal child there = at_id (same_id id i) refl is where
@@ -125,17 +125,17 @@ signal_excluded goal past h = sound_ind goal (λ before. (id : List ℕ) (ask : 
   next _ before may sound rest id ask is signal child there = rest id ask is signal child there
 
 -- and no signal missed it since the last round
-stop_unmissed : (child : Child) (ask : Ask) (past : List Event) → stop_due child past ≡ Some ask → is_missed child past ≡ false
+stop_unmissed : (child : Child) (ask : OrderKind) (past : List Event) → stop_due child past ≡ Some ask → is_missed child past ≡ false
 stop_unmissed child ask past h = at_child (is_excluded past child) (is_missed child past) (stop_by (grace_of past) (time_of past) (spell_hits child past)) h where
-  at_child : (b c : Bool) (o : Option Ask) → cond (b && not c) o None ≡ Some ask → c ≡ false
+  at_child : (b c : Bool) (o : Option OrderKind) → cond (b && not c) o None ≡ Some ask → c ≡ false
   at_child b false o h = refl
   at_child true true o h = absurd (none-some ask h)
   at_child false true o h = absurd (none-some ask h)
 
 abbrev IsUnmissed : List Event → Type 0
-IsUnmissed past = (id : List ℕ) (ask : Ask) → open_of id past ≡ Some ask → is_signal ask ≡ true → (child : Child) → find (is_of id) (known_children past) ≡ Some child → is_missed child past ≡ false
+IsUnmissed past = (id : List ℕ) (ask : OrderKind) → open_of id past ≡ Some ask → is_signal ask ≡ true → (child : Child) → find (is_of id) (known_children past) ≡ Some child → is_missed child past ≡ false
 
-pub signal_unmissed : (goal : Goal) (past : List Event) → is_sound goal past ≡ true → (id : List ℕ) (ask : Ask) → open_of id past ≡ Some ask → is_signal ask ≡ true → (child : Child) → find (is_of id) (known_children past) ≡ Some child → is_missed child past ≡ false
+pub signal_unmissed : (goal : Goal) (past : List Event) → is_sound goal past ≡ true → (id : List ℕ) (ask : OrderKind) → open_of id past ≡ Some ask → is_signal ask ≡ true → (child : Child) → find (is_of id) (known_children past) ≡ Some child → is_missed child past ≡ false
 signal_unmissed goal past h = sound_ind goal IsUnmissed (λ table distinct id ask is signal child there. absurd (none-some ask is)) next past h where
   next : (happening : Event) (before : List Event) → may_come goal happening before ≡ true → is_sound goal before ≡ true → IsUnmissed before → IsUnmissed (happening ∷ before)
   next (NewTable table) before may sound rest id ask is signal child there = quiet_signal id ask before (and_parts (is_quiet before) (is_distinct table) may).0 is signal
@@ -237,7 +237,7 @@ told_leaves goal past sound id given is = has_found id (known_children (Told id 
 -- an answer to a Look or a signal is of an id with a known child
 pub answered_known : (goal : Goal) (past : List Event) → is_sound goal past ≡ true → (id : List ℕ) (given : Answer) → answered_of id past ≡ Some given → answers given Start ≡ false → has_child id (known_children past) ≡ true
 answered_known goal past sound id given is other = read (open_of id past) refl (answers_open goal past sound id given is) where
-  read : (o : Option Ask) → open_of id past ≡ o → option_map_or (answers given) o false ≡ true → has_child id (known_children past) ≡ true
+  read : (o : Option OrderKind) → open_of id past ≡ o → option_map_or (answers given) o false ≡ true → has_child id (known_children past) ≡ true
   read None order h = absurd (false≢true h)
   read (Some Start) order h = both_ways (answers given Start) h other
   read (Some Look) order h = order_known goal past sound id Look order refl
@@ -262,12 +262,12 @@ hits_are (signal ∷ first ∷ []) = is_order Kill signal.order && is_order Term
 hits_are _ = false
 
 -- the Hits that fit the open order: none at a TERM, one of a TERM at a KILL
-abbrev pub hits_fit : Option Ask → List Signal → Bool
+abbrev pub hits_fit : Option OrderKind → List Signal → Bool
 hits_fit (Some Term) hits = are_none hits
 hits_fit (Some Kill) hits = is_one_term hits
 hits_fit _ hits = hits_are hits
 
-fit_are : (o : Option Ask) (hits : List Signal) → hits_fit o hits ≡ true → hits_are hits ≡ true
+fit_are : (o : Option OrderKind) (hits : List Signal) → hits_fit o hits ≡ true → hits_are hits ≡ true
 fit_are None hits h = h
 fit_are (Some Start) hits h = h
 fit_are (Some Look) hits h = h
@@ -279,7 +279,7 @@ fit_are (Some Kill) (signal ∷ first ∷ more) h = absurd (false≢true h)
 
 quiet_fit : (id : List ℕ) (past : List Event) (hits : List Signal) → is_quiet past ≡ true → hits_are hits ≡ true → hits_fit (open_of id past) hits ≡ true
 quiet_fit id past hits quiet are = read (open_of id past) refl where
-  read : (o : Option Ask) → open_of id past ≡ o → hits_fit o hits ≡ true
+  read : (o : Option OrderKind) → open_of id past ≡ o → hits_fit o hits ≡ true
   read None is = are
   read (Some Start) is = are
   read (Some Look) is = are
@@ -307,7 +307,7 @@ kill_second child past h = ap is_one_term one.only ∙ (and_parts (is_order Term
   one : OneRipe (grace_of past) (time_of past) (spell_hits child past)
   one = kill_ripe child past h
 
-asked_fit : (goal : Goal) (i : List ℕ) (given : Ask) (past : List Event) → is_due goal (step.Order i given) past ≡ true → is_sound goal past ≡ true → (child : Child) → find (is_of i) (known_children past) ≡ Some child → hits_are (spell_hits child past) ≡ true → hits_fit (Some given) (spell_hits child past) ≡ true
+asked_fit : (goal : Goal) (i : List ℕ) (given : OrderKind) (past : List Event) → is_due goal (step.Order i given) past ≡ true → is_sound goal past ≡ true → (child : Child) → find (is_of i) (known_children past) ≡ Some child → hits_are (spell_hits child past) ≡ true → hits_fit (Some given) (spell_hits child past) ≡ true
 asked_fit goal i Start past may sound child there are = are
 asked_fit goal i Look past may sound child there are = are
 asked_fit goal i Term past may sound child there are =
@@ -318,7 +318,7 @@ asked_fit goal i Kill past may sound child there are =
     stop_holds goal past sound i Kill stop (λ x. is_one_term (spell_hits x past)) (kill_second stop.child past stop.due) child there
 
 -- only a signal is answered by a Hit; what fits the open order and the Hit that answers it are as said
-hit_signal : (given : Answer) (o : Option Ask) → option_map_or (answers given) o false ≡ true → is_hit given ≡ true → option_map_or is_signal o false ≡ true
+hit_signal : (given : Answer) (o : Option OrderKind) → option_map_or (answers given) o false ≡ true → is_hit given ≡ true → option_map_or is_signal o false ≡ true
 hit_signal answer.Hit None h hit = h
 hit_signal answer.Hit (Some Start) h hit = h
 hit_signal answer.Hit (Some Look) h hit = h
@@ -326,7 +326,7 @@ hit_signal answer.Hit (Some Term) h hit = refl
 hit_signal answer.Hit (Some Kill) h hit = refl
 hit_signal _ o h hit = absurd (false≢true hit)
 
-told_fit : (b hit : Bool) (now : ℕ) (o : Option Ask) (hits : List Signal) → (hit ≡ true → option_map_or is_signal o false ≡ true) → hits_fit o hits ≡ true → hits_are (cond b (map (told_at now) (cond hit (o ∷ []) []) ++ hits) hits) ≡ true
+told_fit : (b hit : Bool) (now : ℕ) (o : Option OrderKind) (hits : List Signal) → (hit ≡ true → option_map_or is_signal o false ≡ true) → hits_fit o hits ≡ true → hits_are (cond b (map (told_at now) (cond hit (o ∷ []) []) ++ hits) hits) ≡ true
 told_fit false hit now o hits signal fit = fit_are o hits fit
 told_fit true false now o hits signal fit = fit_are o hits fit
 told_fit true true now None hits signal fit = absurd (false≢true (signal refl))

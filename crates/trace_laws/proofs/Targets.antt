@@ -2,16 +2,16 @@
 use Rattle.std.proofs.Common.{◌≡◌, ◌≤◌, refl, sym, ◌∙◌, ap, ℕ, Bool, true, not, ◌&&◌, ◌==◌, List, [], ◌∷◌, ◌++◌, filter, length, Some, arith, eq-eqb}
 use Rattle.std.specs.List.{list_any, list_all}
 use Rattle.std.proofs.lemmas.Bool.{false≢true, and_parts, and_from}
-use Rattle.init_words.specs.declared.orders.Ask.{Ask}
-use Rattle.init_words.specs.declared.orders.Ask.TheVariants.{Term, Kill}
+use Rattle.init_words.specs.declared.orders.OrderKind.{OrderKind}
+use Rattle.init_words.specs.declared.orders.OrderKind.TheVariants.{Term, Kill}
 use Rattle.init_words.specs.Ids.{same_id}
-use Rattle.init_trace.specs.declared.happenings.Happening.TheVariants.{Hit}
-use Rattle.init_trace.specs.declared.steps.Goal.{Goal}
-use Rattle.init_trace.specs.Event.{Event}
-use Rattle.init_trace.specs.Past.{Child, is_of, is_child, undone_of, unreaped_children}
-use Rattle.init_trace.specs.Wanted.{is_order, is_excluded}
-use Rattle.init_trace.specs.Sound.{is_sound}
-use Rattle.init_trace.specs.Bounds.{targets, hits_its_own}
+use Rattle.trace_events.specs.declared.happenings.Happening.TheVariants.{Hit}
+use Rattle.trace_events.specs.declared.steps.Goal.{Goal}
+use Rattle.trace_events.specs.Event.{Event}
+use Rattle.trace_events.specs.Past.{Child, is_of, is_child, undone_of, unreaped_children}
+use Rattle.trace_events.specs.Wanted.{is_order, is_excluded}
+use Rattle.trace_events.specs.Sound.{is_sound}
+use Rattle.trace_events.specs.Bounds.{targets, hits_its_own}
 use Rattle.init_words.proofs.Tests.{or_either, any_filtered, any_within, or_false}
 use Rattle.trace_laws.proofs.Tests.{is_order-is}
 use Rattle.trace_laws.proofs.Orders.{undone_is_open, told_known, targets_known}
@@ -20,7 +20,7 @@ use Rattle.trace_laws.proofs.Keeps.{Holds, sound_holds}
 use Rattle.trace_laws.proofs.Births.{step_at, one_child}
 
 -- while an order of the id is undone, the children known at it are the unreaped ones
-pub undone_targets : (id : List ℕ) (ask : Ask) (past : List Event) → Holds past → undone_of id past ≡ Some ask → targets id past ≡ filter (is_of id) (unreaped_children past)
+pub undone_targets : (id : List ℕ) (ask : OrderKind) (past : List Event) → Holds past → undone_of id past ≡ Some ask → targets id past ≡ filter (is_of id) (unreaped_children past)
 undone_targets id ask past holds is = targets_known id ask past (undone_is_open id ask past is) ∙ told_known id past (holds.done id ask is)
 
 -- of at most one child of the id, which is excluded and unreaped
@@ -32,7 +32,7 @@ single_excluded id past (child ∷ []) one there within =
     and_from (is_excluded past child && list_any (is_child id child.number) (unreaped_children past)) true (and_from (is_excluded past child) (list_any (is_child id child.number) (unreaped_children past)) parts.1 (within (is_child id child.number) (or_false (is_child id child.number child) ∙ own))) refl
 single_excluded id past (child ∷ more ∷ rest) one there within = absurd (omega arith)
 
-hit_order : (id : List ℕ) (ask : Ask) (goal : Goal) (past : List Event) → is_sound goal past ≡ true → is_order ask (undone_of id past) ≡ true → is_signal ask ≡ true → hits_its_own (Hit id) past ≡ true
+hit_order : (id : List ℕ) (ask : OrderKind) (goal : Goal) (past : List Event) → is_sound goal past ≡ true → is_order ask (undone_of id past) ≡ true → is_signal ask ≡ true → hits_its_own (Hit id) past ≡ true
 hit_order id ask goal past sound h signal = ap test (undone_targets id ask past holds is) ∙ single_excluded id past (filter (is_of id) (unreaped_children past)) (one_child goal past sound id) (any_within stopped (is_of id) (λ child both. (and_parts (is_of id child) (is_excluded past child) both).0) (unreaped_children past) ∙ holds.stopping id ask is signal) (λ q found. any_filtered q (is_of id) (unreaped_children past) found) where
   holds : Holds past
   holds = sound_holds goal past sound

@@ -3,11 +3,11 @@ use Rattle.std.proofs.Common.{◌≡◌, refl, sym, ap, true, false, Option, Som
 use Rattle.std.specs.Option.{option_map_or}
 use Rattle.std.proofs.lemmas.Bool.{false≢true}
 use Rattle.init_words.specs.declared.entries.Entry.{Entry}
-use Rattle.init_words.specs.declared.orders.Ask.{Ask}
+use Rattle.init_words.specs.declared.orders.OrderKind.{OrderKind}
 use Rattle.init_words.proofs.Same.{same_ask-is}
-use Rattle.init_trace.specs.Wanted.{is_order}
+use Rattle.trace_events.specs.Wanted.{is_order}
 
-pub is_order-is : (ask : Ask) (o : Option Ask) → is_order ask o ≡ true → o ≡ Some ask
+pub is_order-is : (ask : OrderKind) (o : Option OrderKind) → is_order ask o ≡ true → o ≡ Some ask
 is_order-is ask None h = absurd (false≢true h)
 is_order-is ask (Some given) h = ap Some (sym (same_ask-is ask given h))
 

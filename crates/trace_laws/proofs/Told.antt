@@ -6,21 +6,21 @@ use Rattle.std.proofs.lemmas.Bool.{false≢true, and_parts, or_from}
 use Rattle.std.proofs.lemmas.List.{nil_from_length}
 use Rattle.std.proofs.lemmas.Option.{none-some, same_Some}
 use Rattle.init_words.specs.declared.entries.Entry.{Entry}
-use Rattle.init_words.specs.declared.orders.Ask.{Ask}
-use Rattle.init_words.specs.declared.orders.Ask.TheVariants.{Start, Look, Term, Kill}
+use Rattle.init_words.specs.declared.orders.OrderKind.{OrderKind}
+use Rattle.init_words.specs.declared.orders.OrderKind.TheVariants.{Start, Look, Term, Kill}
 use Rattle.init_words.specs.declared.orders.Answer.{Answer}
 use Rattle.init_words.specs.declared.orders.Answer.TheVariants as answer
 use Rattle.init_words.specs.Ids.{same_id}
 use Rattle.init_words.specs.Orders.{answers}
 use Rattle.inittab_text.specs.Tables.{has_id, entry_of, act_of, is_distinct}
-use Rattle.init_trace.specs.declared.happenings.Happening.TheVariants.{NewTable, Asked, Birth, NoBirth, Reaped, Still, NoLook, Hit, Miss, Told}
-use Rattle.init_trace.specs.declared.steps.Goal.{Goal}
-use Rattle.init_trace.specs.Event.{Event}
-use Rattle.init_trace.specs.Past.{table_of, Child, is_of, is_child, has_child, open_of, undone_of, is_untold, is_quiet, newborn, unreaped_children, kept_children, known_children}
-use Rattle.init_trace.specs.Wanted.{starts_now, is_order}
-use Rattle.init_trace.specs.Answered.{answered_of, child_after}
-use Rattle.init_trace.specs.Lawful.{is_placed}
-use Rattle.init_trace.specs.Sound.{may_come, is_sound}
+use Rattle.trace_events.specs.declared.happenings.Happening.TheVariants.{NewTable, Asked, Birth, NoBirth, Reaped, Still, NoLook, Hit, Miss, Told}
+use Rattle.trace_events.specs.declared.steps.Goal.{Goal}
+use Rattle.trace_events.specs.Event.{Event}
+use Rattle.trace_events.specs.Past.{table_of, Child, is_of, is_child, has_child, open_of, undone_of, is_untold, is_quiet, newborn, unreaped_children, kept_children, known_children}
+use Rattle.trace_events.specs.Wanted.{starts_now, is_order}
+use Rattle.trace_events.specs.Answered.{answered_of, child_after}
+use Rattle.trace_events.specs.Lawful.{is_placed}
+use Rattle.trace_events.specs.Sound.{may_come, is_sound}
 use Rattle.init_words.proofs.Same.{same_id-is, same_id-self}
 use Rattle.init_words.proofs.Tests.{both_ways, falsely, or_either, any_filtered, any_less, any_none, find_none}
 use Rattle.trace_laws.proofs.Tests.{is_order-is}
@@ -82,7 +82,7 @@ act_answers id i past x given here before h = at_id (same_id id i) refl h where
       subst (Answers id past) (same_Some x given h) (subst P (sym (same_id-is id i own)) here)
   at_id false differ h = before h
 
-undone_answers : (id : List ℕ) (ask : Ask) (past : List Event) (x : Answer) → is_order ask (undone_of id past) ≡ true → answers x ask ≡ true → Answers id past x
+undone_answers : (id : List ℕ) (ask : OrderKind) (past : List Event) (x : Answer) → is_order ask (undone_of id past) ≡ true → answers x ask ≡ true → Answers id past x
 undone_answers id ask past x h is = ap (λ o. option_map_or (answers x) o false) (undone_is_open id ask past (is_order-is ask (undone_of id past) h)) ∙ is
 
 signal_answers : (id : List ℕ) (past : List Event) (x : Answer) → (is_order Term (undone_of id past) || is_order Kill (undone_of id past)) ≡ true → answers x Term ≡ true → answers x Kill ≡ true → Answers id past x
@@ -146,7 +146,7 @@ same_after id past before _ child same = refl
 -- nor does a table matter at a quiet point, where no Start is open
 quiet_after : (id : List ℕ) (past before : List Event) (given : Answer) (child : Option Child) → is_quiet before ≡ true → Answers id before given → child_after id past given child ≡ child_after id before given child
 quiet_after id past before (answer.Born n) child quiet open_start = started (open_of id before) refl open_start where
-  started : {P : Type 0} (o : Option Ask) → open_of id before ≡ o → option_map_or (answers (answer.Born n)) o false ≡ true → P
+  started : {P : Type 0} (o : Option OrderKind) → open_of id before ≡ o → option_map_or (answers (answer.Born n)) o false ≡ true → P
   started None is h = absurd (false≢true h)
   started (Some Start) is h = absurd (false≢true (quiet_looks id Start before quiet is))
   started (Some Look) is h = absurd (false≢true h)
@@ -162,7 +162,7 @@ act_child id i x given before past child had there known_there table own other r
   at_id false differ h = (other differ).0 ∙ rest h ∙ ap (child_after id before given) (sym (other differ).1) ∙ sym (same_after id past before given known_there table)
 
 -- where an order of the id is undone, its unreaped child is the known one
-undone_child : (goal : Goal) (i : List ℕ) (ask : Ask) (past : List Event) → is_sound goal past ≡ true → is_order ask (undone_of i past) ≡ true → (id : List ℕ) → same_id id i ≡ true → find (is_of id) (unreaped_children past) ≡ find (is_of id) (known_children past)
+undone_child : (goal : Goal) (i : List ℕ) (ask : OrderKind) (past : List Event) → is_sound goal past ≡ true → is_order ask (undone_of i past) ≡ true → (id : List ℕ) → same_id id i ≡ true → find (is_of id) (unreaped_children past) ≡ find (is_of id) (known_children past)
 undone_child goal i ask past sound h id own = let P : List ℕ → Type 0 = λ x. find (is_of x) (unreaped_children past) ≡ find (is_of x) (known_children past) in subst P (sym (same_id-is id i own)) (sym (same_find (is_of i) (known_children past) (unreaped_children past) (told_known i past ((sound_holds goal past sound).done i ask (is_order-is ask (undone_of i past) h)))))
 
 signal_child : (goal : Goal) (i : List ℕ) (past : List Event) → is_sound goal past ≡ true → (is_order Term (undone_of i past) || is_order Kill (undone_of i past)) ≡ true → (id : List ℕ) → same_id id i ≡ true → find (is_of id) (unreaped_children past) ≡ find (is_of id) (known_children past)
@@ -192,7 +192,7 @@ pub told_child : (goal : Goal) (past : List Event) → is_sound goal past ≡ tr
 told_child goal past h id given is = same_find (is_of id) (known_children (Told id ∷ past)) (unreaped_children past) (told_same id id (unreaped_children past) (known_children past) (same_id-self id)) ∙ answered_child goal past h id given is
 
 -- a signal is due to a known child; the entry of a birth stands in the table
-pub stop_known : (id : List ℕ) (ask : Ask) (past : List Event) → MayStop id ask past → has_child id (known_children past) ≡ true
+pub stop_known : (id : List ℕ) (ask : OrderKind) (past : List Event) → MayStop id ask past → has_child id (known_children past) ≡ true
 stop_known id ask past may = may.within (is_of id) may.own
 
 pub placed_listed : (id : List ℕ) (past : List Event) → is_placed id past ≡ true → list_any (has_id id) (table_of past) ≡ true

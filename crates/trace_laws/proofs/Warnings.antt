@@ -3,17 +3,17 @@ use Rattle.std.proofs.Common.{◌≡◌, ◌≤◌, ◌+◌, refl, sym, ◌∙�
 use Rattle.std.specs.List.{list_any}
 use Rattle.std.proofs.lemmas.Bool.{false≢true, and_parts, and_from, leb-true}
 use Rattle.std.proofs.lemmas.List.Folds.{list_any-append}
-use Rattle.init_words.specs.declared.orders.Ask.{Ask}
-use Rattle.init_words.specs.declared.orders.Ask.TheVariants.{Term, Kill}
+use Rattle.init_words.specs.declared.orders.OrderKind.{OrderKind}
+use Rattle.init_words.specs.declared.orders.OrderKind.TheVariants.{Term, Kill}
 use Rattle.init_words.specs.Ids.{same_id}
-use Rattle.init_trace.specs.declared.happenings.Happening.TheVariants.{Asked, Told}
-use Rattle.init_trace.specs.declared.steps.Goal.{Goal}
-use Rattle.init_trace.specs.Event.{Event}
-use Rattle.init_trace.specs.Past.{Child, grace_of, time_of, is_of, is_child, unreaped_children}
-use Rattle.init_trace.specs.Wanted.{is_order, is_excluded}
-use Rattle.init_trace.specs.Spells.{Signal, untold_hits, told_at, tells_hits, in_spell, spell_hits, is_ripe}
-use Rattle.init_trace.specs.Agreement.{is_unreaped}
-use Rattle.init_trace.specs.Sound.{is_sound}
+use Rattle.trace_events.specs.declared.happenings.Happening.TheVariants.{Asked, Told}
+use Rattle.trace_events.specs.declared.steps.Goal.{Goal}
+use Rattle.trace_events.specs.Event.{Event}
+use Rattle.trace_events.specs.Past.{Child, grace_of, time_of, is_of, is_child, unreaped_children}
+use Rattle.trace_events.specs.Wanted.{is_order, is_excluded}
+use Rattle.trace_events.specs.Spells.{Signal, untold_hits, told_at, tells_hits, in_spell, spell_hits, is_ripe}
+use Rattle.trace_events.specs.Agreement.{is_unreaped}
+use Rattle.trace_events.specs.Sound.{is_sound}
 use Rattle.trace_laws.specs.Warnings.{stays_excluded, Warned}
 use Rattle.init_words.proofs.Same.{same_id-is, same_id-self}
 use Rattle.init_words.proofs.Tests.{Passing, passing, or_either}
@@ -50,12 +50,12 @@ told_place p child (happening ∷ past) h = split (in_spell child happening past
   split true within h rest = or_either (list_any p (tells_hits child happening past)) (list_any p (spell_hits child past)) (sym (list_any-append p (tells_hits child happening past) (spell_hits child past)) ∙ h) (told_here p child happening past within) (λ more. told_earlier p child happening past within (rest more))
   split false none h rest = absurd (false≢true h)
 
-list_any-map : (p : Signal → Bool) (time : ℕ) (orders : List (Option Ask)) → list_any p (map (told_at time) orders) ≡ list_any (λ order. p (told_at time order)) orders
+list_any-map : (p : Signal → Bool) (time : ℕ) (orders : List (Option OrderKind)) → list_any p (map (told_at time) orders) ≡ list_any (λ order. p (told_at time order)) orders
 list_any-map p time [] = refl
 list_any-map p time (order ∷ orders) = ap (λ b. p (told_at time order) || b) (list_any-map p time orders)
 
 -- a ripe Hit of a TERM
-ripe_told : (id : List ℕ) (grace now time : ℕ) (orders : List (Option Ask)) → list_any (is_ripe grace now) (map (told_at time) orders) ≡ true → (list_any (is_order Term) orders ≡ true) × (time + grace ≤ now)
+ripe_told : (id : List ℕ) (grace now time : ℕ) (orders : List (Option OrderKind)) → list_any (is_ripe grace now) (map (told_at time) orders) ≡ true → (list_any (is_order Term) orders ≡ true) × (time + grace ≤ now)
 ripe_told id grace now time orders h = (found.within (is_order Term) parts.0, leb-true (time + grace) now parts.1) where
   found : Passing (λ order. is_ripe grace now (told_at time order)) orders
   found = passing (λ order. is_ripe grace now (told_at time order)) orders (sym (list_any-map (is_ripe grace now) time orders) ∙ h)

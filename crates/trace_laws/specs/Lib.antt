@@ -1,4 +1,6 @@
 pub mod Belonging
 pub mod Moments
+pub mod Plans
+pub mod Runs
 pub mod Stretches
 pub mod Warnings

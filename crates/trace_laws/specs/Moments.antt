@@ -2,12 +2,12 @@
 -- trace, looked at in the moment after `past`.
 use Rattle.std.specs.Prelude.{ℕ, IsTrue, List, ◌∷◌, ◌++◌}
 use Rattle.init_words.specs.declared.levels.Level.{Level}
-use Rattle.init_words.specs.declared.orders.Ask.{Ask}
-use Rattle.init_words.specs.declared.orders.Ask.TheVariants.{Start}
-use Rattle.init_trace.specs.declared.happenings.Happening.TheVariants.{Asked, Hold, Settle, Birth, Hit}
-use Rattle.init_trace.specs.declared.steps.Goal.{Goal}
-use Rattle.init_trace.specs.Event.{Event}
-use Rattle.init_trace.specs.Sound.{is_sound}
+use Rattle.init_words.specs.declared.orders.OrderKind.{OrderKind}
+use Rattle.init_words.specs.declared.orders.OrderKind.TheVariants.{Start}
+use Rattle.trace_events.specs.declared.happenings.Happening.TheVariants.{Asked, Hold, Settle, Birth, Hit}
+use Rattle.trace_events.specs.declared.steps.Goal.{Goal}
+use Rattle.trace_events.specs.Event.{Event}
+use Rattle.trace_events.specs.Sound.{is_sound}
 use Rattle.trace_laws.specs.Stretches.{is_steady}
 
 -- at each moment of each sound trace
@@ -27,7 +27,7 @@ AtEachSettle Law =
     → IsTrue (is_sound goal (later ++ Settle level ∷ past)) → Law level past
 
 -- before each order of this kind: of the id, in its past
-abbrev pub AtEachOrder : Ask → (List ℕ → List Event → Type 0) → Type 0
+abbrev pub AtEachOrder : OrderKind → (List ℕ → List Event → Type 0) → Type 0
 AtEachOrder ask Law =
     (goal : Goal) (later past : List Event) (id : List ℕ)
     → IsTrue (is_sound goal (later ++ Asked id ask ∷ past)) → Law id past
@@ -66,7 +66,7 @@ FromHoldToStart Law =
     → IsTrue (is_steady between) → Law id between past
 
 -- from an order about an id to a signal that is sent for it: the order, the stretch, and the past of the order
-abbrev pub FromOrderToHit : (List ℕ → Ask → List Event → List Event → Type 0) → Type 0
+abbrev pub FromOrderToHit : (List ℕ → OrderKind → List Event → List Event → Type 0) → Type 0
 FromOrderToHit Law =
-    (goal : Goal) (later between past : List Event) (id : List ℕ) (ask : Ask)
+    (goal : Goal) (later between past : List Event) (id : List ℕ) (ask : OrderKind)
     → IsTrue (is_sound goal (later ++ Hit id ∷ (between ++ Asked id ask ∷ past))) → Law id ask between past

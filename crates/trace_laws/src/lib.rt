@@ -1,16 +1,20 @@
 //! The laws of a run of init: what holds of every sound trace, whatever the system does and whatever is asked of init.
 //! Here are their words and their lemmas; they are stated one by one in the headline, `law_agreement` of `core_model`.
 //!
-//! The words are those of `init_trace`, and of `specs/Moments`: at which moments of a sound trace a law holds. A trace
+//! The words are those of `trace_events`, and of `specs/Moments`: at which moments of a sound trace a law holds. A trace
 //! is a list of happenings, the newest first. The laws stand for all readings of the clock, one set back among them,
 //! and across every hand-over of init's state.
 #![tactic(auto)]
 
+mod plans;
+
 ghost use Rattle.std.specs.Prelude.{IsTrue, List};
-ghost use Rattle.init_trace.specs.declared.steps.Goal.{Goal};
-ghost use Rattle.init_trace.specs.Event.{Event};
-ghost use Rattle.init_trace.specs.Lawful.{is_lawful};
-ghost use Rattle.init_trace.specs.Sound.{is_sound};
+ghost use Rattle.trace_events.specs.declared.steps.Goal.{Goal};
+ghost use Rattle.trace_events.specs.Event.{Event};
+ghost use Rattle.trace_events.specs.Lawful.{is_lawful};
+ghost use Rattle.trace_events.specs.Sound.{is_sound};
+
+pub use plans::law_of_plans;
 
 /// A sound trace breaks no law, for every opening goal. It does nothing: its contract is the law.
 pub fn law_of_sound_traces()

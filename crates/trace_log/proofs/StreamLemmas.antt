@@ -3,8 +3,8 @@ use Rattle.std.proofs.Common.{◌≡◌, ℕ, Bool, true, false, List, [], ◌�
 use Rattle.std.proofs.lemmas.Bool.{false≢true}
 use Rattle.std.specs.Result.{OnOk, OnErr, IfErr}
 use Rattle.std.specs.Io.KnownBytes.{Appends, Keeps}
-use Rattle.init_trace.specs.Event.{Event}
-use Rattle.init_trace.specs.Range.{is_in_range}
+use Rattle.trace_events.specs.Event.{Event}
+use Rattle.trace_events.specs.Range.{is_in_range}
 use Rattle.trace_text.specs.Lines.{event_text, trace_text}
 use Rattle.trace_text.proofs.ReadTexts.{trace_text-push, are_in_range-push, event_text-some}
 use Rattle.trace_log.specs.declared.faults.LogFault.{LogFault}

@@ -1,6 +1,6 @@
 -- What a log in memory took: the happenings of its list.
 use Rattle.std.specs.Prelude.{◌≡◌, Bool, List}
-use Rattle.init_trace.specs.Event.{Event}
+use Rattle.trace_events.specs.Event.{Event}
 use Rattle.trace_log.specs.Logs.{LogState}
 
 -- a log in memory: its list, the oldest first, and whether it has failed

@@ -1,6 +1,6 @@
 -- What a log tells of itself, and what taking a happening makes of it.
 use Rattle.std.specs.Prelude.{Bool, List, [], ◌∷◌, ◌++◌}
-use Rattle.init_trace.specs.Event.{Event}
+use Rattle.trace_events.specs.Event.{Event}
 
 -- whether it took these happenings, the oldest first, as far as a contract sees; and whether it has failed
 pub record LogState : Type 1 where

@@ -1,7 +1,7 @@
 -- What a log over a writer took, by the writer's bytes.
 use Rattle.std.specs.Prelude.{◌≡◌, ◌<◌, ℕ, Bool, true, false, List, [], ◌++◌, length, Option, Some, None}
-use Rattle.init_trace.specs.Event.{Event}
-use Rattle.init_trace.specs.Range.{is_in_range, are_in_range}
+use Rattle.trace_events.specs.Event.{Event}
+use Rattle.trace_events.specs.Range.{is_in_range, are_in_range}
 use Rattle.trace_text.specs.Lines.{event_text, trace_text}
 use Rattle.trace_log.specs.Logs.{LogState}
 

@@ -4,9 +4,9 @@ ghost use Rattle.std.specs.Prelude.{◌≡◌, ◌++◌, ◌∷◌, [], OnOk, If
 
 use crate::faults::LogFault;
 use crate::logs::{EndedLog, Log};
-use init_trace::{HappeningIn, happening_copy};
 use std::alloc::{Allocator, Global};
 use std::marker::Model;
+use trace_events::{HappeningIn, happening_copy};
 
 /// A log that keeps copies of the happenings in a list, and tells them. It fails only where memory is refused.
 #[derive(Drop)]

@@ -1,13 +1,13 @@
 //! The trait of a log: where the happenings of a run go.
 
 ghost use Rattle.std.specs.Prelude.{◌≡◌, Bool, true, false, is_err, List, OnOk, OnErr};
-ghost use Rattle.init_trace.specs.Event.{Event};
-ghost use Rattle.init_trace.specs.Range.{is_in_range};
+ghost use Rattle.trace_events.specs.Event.{Event};
+ghost use Rattle.trace_events.specs.Range.{is_in_range};
 ghost use Rattle.trace_log.specs.Logs.{LogState, Gains, Stays};
 
 use crate::faults::LogFault;
-use init_trace::HappeningIn;
 use std::alloc::Allocator;
+use trace_events::HappeningIn;
 
 /// A log of a run: it takes the happenings of its trace, the oldest first, until it fails. What it took before it
 /// failed stays taken.

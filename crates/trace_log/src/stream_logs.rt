@@ -7,11 +7,11 @@ ghost use Rattle.trace_log.specs.Faults.{Leaves};
 
 use crate::faults::LogFault;
 use crate::logs::{EndedLog, Log};
-use init_trace::HappeningIn;
 use program_io::write_text;
 use std::alloc::{Allocator, Global};
 use std::io::Write;
 use std::marker::Model;
+use trace_events::HappeningIn;
 
 /// A log that writes the text of each happening when it takes it, and keeps nothing: in a file, the trace is on disk up
 /// to the last happening taken. Where the writer fails, a part of the text of the refused happening may follow; where
@@ -61,7 +61,7 @@ impl<W: Write, A: Allocator> StreamLog<W, A> {
 impl<W: Write, A: Allocator + Copy> Log for StreamLog<W, A> {
     ghost use Rattle.std.specs.Prelude.{◌≡◌, true, false, is_err, OnOk, OnErr, IfErr};
     ghost use Rattle.std.specs.Io.KnownBytes.{Appends};
-    ghost use Rattle.init_trace.specs.Range.{is_in_range};
+    ghost use Rattle.trace_events.specs.Range.{is_in_range};
     ghost use Rattle.trace_text.specs.Lines.{event_text};
     ghost use Rattle.trace_log.specs.Logs.{Gains, Stays};
     ghost use Rattle.trace_log.specs.Faults.{Leaves};

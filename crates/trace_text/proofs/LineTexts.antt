@@ -21,16 +21,16 @@ use Rattle.init_words.specs.declared.levels.Letter.{Letter}
 use Rattle.init_words.specs.declared.levels.Letter.TheVariants.{A, B, C}
 use Rattle.init_words.specs.declared.stages.Stage.{Stage}
 use Rattle.init_words.specs.declared.stages.Stage.TheVariants as stage
-use Rattle.init_words.specs.declared.orders.Ask.{Ask}
-use Rattle.init_words.specs.declared.orders.Ask.TheVariants.{Start, Look, Term, Kill}
+use Rattle.init_words.specs.declared.orders.OrderKind.{OrderKind}
+use Rattle.init_words.specs.declared.orders.OrderKind.TheVariants.{Start, Look, Term, Kill}
 use Rattle.init_words.specs.declared.orders.PowerKind.{PowerKind}
 use Rattle.init_words.specs.declared.orders.PowerKind.TheVariants as power
 use Rattle.init_words.specs.declared.limits.TheConstants.{GRACE_LIMIT}
 use Rattle.init_words.specs.Ids.{is_id, is_id_byte, same_id}
 use Rattle.init_words.proofs.Same.{same_id-is}
 use Rattle.text_lines.specs.Numbers.{number_read}
-use Rattle.initctl_frame.specs.declared.requests.Got.{Got as Request}
-use Rattle.initctl_frame.specs.declared.requests.Got.TheVariants as got
+use Rattle.initctl_frame.specs.declared.requests.HeardRequest.{HeardRequest as Request}
+use Rattle.initctl_frame.specs.declared.requests.HeardRequest.TheVariants as got
 use Rattle.initctl_frame.specs.declared.requests.Cause.{Cause}
 use Rattle.initctl_frame.specs.declared.requests.Cause.TheVariants as cause
 use Rattle.inittab_text.specs.declared.tables.TheConstants.{ENTRY_LIMIT}
@@ -38,12 +38,12 @@ use Rattle.inittab_text.specs.Written.{is_table, table_begun, text_of}
 use Rattle.inittab_text.proofs.Entries.{table_parts}
 use Rattle.inittab_text.proofs.ReadLemmas.{option_map_some}
 use Rattle.inittab_text.proofs.LineLemmas.{begun_back, begun_own, newlines-text}
-use Rattle.init_trace.specs.declared.happenings.Happening.TheVariants.{NewTable, NotRead, Enter, Call, Power, Asked, Hold, Settle, Birth, NoBirth, Death, Reaped, Still, NoLook, Hit, Miss, Told, Clock, Nudge, Got, Handed}
-use Rattle.init_trace.specs.declared.happenings.Handed.{Handed as HandOver}
-use Rattle.init_trace.specs.declared.happenings.Handed.TheVariants as handed
-use Rattle.init_trace.specs.Event.{Event}
+use Rattle.trace_events.specs.declared.happenings.Happening.TheVariants.{NewTable, NotRead, Enter, Call, Power, Asked, Hold, Settle, Birth, NoBirth, Death, Reaped, Still, NoLook, Hit, Miss, Told, Clock, Nudge, Got, Handed}
+use Rattle.trace_events.specs.declared.happenings.Handed.{Handed as HandOver}
+use Rattle.trace_events.specs.declared.happenings.Handed.TheVariants as handed
+use Rattle.trace_events.specs.Event.{Event}
 use Rattle.trace_text.specs.Lines.{words_of, words_behind, line_of_words, table_lines, event_text, level_word, letter_word, stage_word, order_word, power_word, cause_number, status_words, got_words, handed_words}
-use Rattle.init_trace.specs.Range.{is_in_range, is_number, is_status, is_request, is_hand_over}
+use Rattle.trace_events.specs.Range.{is_in_range, is_number, is_status, is_request, is_hand_over}
 use Rattle.trace_text.specs.Texts.{Begun, line_count}
 use Rattle.trace_text.specs.Reading.{level_of_word, letter_of_word, stage_of_word, order_of_word, power_of_word, cause_of_word, words_read, words_in, entries_brought, use_begun, begun_by, begun}
 use Rattle.trace_text.proofs.LineWords.{words_read-of}
@@ -103,7 +103,7 @@ clean_stage stage.Sysinit = refl
 clean_stage stage.Boot = refl
 clean_stage (stage.Run level) = clean_level level
 
-clean_order : (order : Ask) → clean (order_word order) ≡ true
+clean_order : (order : OrderKind) → clean (order_word order) ≡ true
 unfolding clean
 clean_order Start = refl
 clean_order Look = refl
@@ -225,7 +225,7 @@ stage_back stage.Sysinit = refl
 stage_back stage.Boot = refl
 stage_back (stage.Run level) = run_back level
 
-pub order_back : (order : Ask) → order_of_word (order_word order) ≡ Some order
+pub order_back : (order : OrderKind) → order_of_word (order_word order) ≡ Some order
 order_back Start = refl
 order_back Look = refl
 order_back Term = refl

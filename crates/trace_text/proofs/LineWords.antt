@@ -14,24 +14,24 @@ use Rattle.init_words.specs.declared.levels.Level.{Level}
 use Rattle.init_words.specs.declared.levels.Letter.{Letter}
 use Rattle.init_words.specs.declared.stages.Stage.{Stage}
 use Rattle.init_words.specs.declared.stages.Stage.TheVariants as stage
-use Rattle.init_words.specs.declared.orders.Ask.{Ask}
-use Rattle.init_words.specs.declared.orders.Ask.TheVariants.{Start, Look, Term, Kill}
+use Rattle.init_words.specs.declared.orders.OrderKind.{OrderKind}
+use Rattle.init_words.specs.declared.orders.OrderKind.TheVariants.{Start, Look, Term, Kill}
 use Rattle.init_words.specs.declared.orders.PowerKind.{PowerKind}
 use Rattle.init_words.specs.declared.orders.PowerKind.TheVariants as power
 use Rattle.init_words.specs.declared.limits.TheConstants.{GRACE_LIMIT}
 use Rattle.init_words.specs.Ids.{is_id, id_read, same_id}
 use Rattle.init_words.specs.Levels.{level_code, level_read, letter_code, letter_read}
 use Rattle.init_words.proofs.Same.{same_id-is}
-use Rattle.initctl_frame.specs.declared.requests.Got.{Got as Request}
-use Rattle.initctl_frame.specs.declared.requests.Got.TheVariants as got
+use Rattle.initctl_frame.specs.declared.requests.HeardRequest.{HeardRequest as Request}
+use Rattle.initctl_frame.specs.declared.requests.HeardRequest.TheVariants as got
 use Rattle.initctl_frame.specs.declared.requests.Cause.{Cause}
 use Rattle.initctl_frame.specs.declared.requests.Cause.TheVariants as cause
-use Rattle.init_trace.specs.declared.happenings.Happening.TheVariants.{NotRead, Enter, Call, Power, Asked, Hold, Settle, Birth, NoBirth, Death, Reaped, Still, NoLook, Hit, Miss, Told, Clock, Nudge, Got, Handed}
-use Rattle.init_trace.specs.declared.happenings.Handed.{Handed as HandOver}
-use Rattle.init_trace.specs.declared.happenings.Handed.TheVariants as handed
-use Rattle.init_trace.specs.Event.{Event}
+use Rattle.trace_events.specs.declared.happenings.Happening.TheVariants.{NotRead, Enter, Call, Power, Asked, Hold, Settle, Birth, NoBirth, Death, Reaped, Still, NoLook, Hit, Miss, Told, Clock, Nudge, Got, Handed}
+use Rattle.trace_events.specs.declared.happenings.Handed.{Handed as HandOver}
+use Rattle.trace_events.specs.declared.happenings.Handed.TheVariants as handed
+use Rattle.trace_events.specs.Event.{Event}
 use Rattle.trace_text.specs.Lines.{words_of, level_word, letter_word, stage_word, order_word, power_word, cause_number, status_words, got_words, handed_words}
-use Rattle.init_trace.specs.Range.{is_in_range, is_number, is_status, is_request, is_hand_over}
+use Rattle.trace_events.specs.Range.{is_in_range, is_number, is_status, is_request, is_hand_over}
 use Rattle.trace_text.specs.Reading.{both, all_three, own_level, level_of_word, own_letter, letter_of_word, stage_of_word, order_of_word, power_of_word, cause_of_word, seconds_of_word, child_of_word, code_of_word, one_read, about_read, request_read, request_pair_read, handed_read, handed_pair_read, two_read, three_read, level_wanted, four_read, five_read, words_read, words_in, entries_brought}
 
 -- FROM WHAT IS READ TO ITS WORDS
@@ -91,7 +91,7 @@ stage_own word now is =
     named word (codes "boot") _ _ now is (λ same at. at_name stage_word word (codes "boot") stage.Boot now refl same at) (λ is.
     option_map_some stage.Run (level_of_word word) now is (λ level at same. subst (λ s. stage_word s ≡ word) same (level_own word level at))))
 
-pub order_own : (word : List ℕ) (order : Ask) → order_of_word word ≡ Some order → order_word order ≡ word
+pub order_own : (word : List ℕ) (order : OrderKind) → order_of_word word ≡ Some order → order_word order ≡ word
 order_own word order is =
     named word (codes "start") _ _ order is (λ same at. at_name order_word word (codes "start") Start order refl same at) (λ is.
     named word (codes "look") _ _ order is (λ same at. at_name order_word word (codes "look") Look order refl same at) (λ is.

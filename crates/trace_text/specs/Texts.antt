@@ -1,9 +1,9 @@
 -- The text of a trace as it is read: what begins it, and where a text is that of none.
 use Rattle.std.specs.Prelude.{◌≡◌, ◌≢◌, ℕ, true, ◌+◌, List, [], ◌++◌, length}
 use Rattle.text_lines.specs.Lines.{newlines}
-use Rattle.init_trace.specs.declared.happenings.Happening.TheVariants.{NewTable}
-use Rattle.init_trace.specs.Event.{Event}
-use Rattle.init_trace.specs.Range.{is_in_range, are_in_range}
+use Rattle.trace_events.specs.declared.happenings.Happening.TheVariants.{NewTable}
+use Rattle.trace_events.specs.Event.{Event}
+use Rattle.trace_events.specs.Range.{is_in_range, are_in_range}
 use Rattle.trace_text.specs.Lines.{event_text, trace_text}
 use Rattle.trace_text.specs.declared.reading.ReadFault.{ReadFault}
 use Rattle.trace_text.specs.declared.reading.ReadFault.TheVariants as fault
@@ -33,6 +33,6 @@ pub record Stops (text : List ℕ) (number : ℕ) : Type 0 where
   pub none : BeginsNone rest
 
 -- why a text is not read
-abbrev pub Unread : List ℕ → ReadFault → Type 0
-Unread text (fault.Line number) = Stops text number
-Unread text fault.Memory = Unit {0}
+abbrev pub UnreadTrace : List ℕ → ReadFault → Type 0
+UnreadTrace text (fault.Line number) = Stops text number
+UnreadTrace text fault.Memory = Unit {0}

@@ -2,24 +2,24 @@
 
 ghost use Rattle.std.specs.Prelude.{◌≡◌, ◌++◌, ◌∷◌, [], map, codes, decimal, IfOk, OnOk};
 ghost use Rattle.inittab_text.specs.Written.{text_of};
-ghost use Rattle.init_trace.specs.declared.happenings.Happening.TheVariants.{NewTable};
+ghost use Rattle.trace_events.specs.declared.happenings.Happening.TheVariants.{NewTable};
 ghost use Rattle.trace_text.specs.Lines.{stage_word, order_word, power_word, cause_number, words_behind, line_of_words, status_words, got_words, handed_words, event_text, trace_text};
 
-use init_trace::{Handed, Happening, HappeningIn};
-use init_words::{Ask, Memory, PowerKind, Stage, Status};
-use initctl_frame::{Cause, Got};
+use init_words::{Memory, OrderKind, PowerKind, Stage, Status};
+use initctl_frame::{Cause, HeardRequest};
 use inittab_text::Table;
 use itoa::Buffer;
 use std::alloc::Allocator;
+use trace_events::{Handed, Happening, HappeningIn};
 
-fn order_word(order: Ask) -> &'static [u8]
+fn order_word(order: OrderKind) -> &'static [u8]
     ensures { result.now ≡ order_word order }
 {
     match order {
-        Ask::Start => b"start",
-        Ask::Look => b"look",
-        Ask::Term => b"term",
-        Ask::Kill => b"kill",
+        OrderKind::Start => b"start",
+        OrderKind::Look => b"look",
+        OrderKind::Term => b"term",
+        OrderKind::Kill => b"kill",
     }
 }
 
@@ -112,21 +112,21 @@ fn put_enter<A: Allocator>(text: &mut Vec<u8, A>, stage: Stage, grace: u16) -> R
     }
 }
 
-fn put_got<A: Allocator>(text: &mut Vec<u8, A>, request: &Got) -> Result<(), Memory>
+fn put_got<A: Allocator>(text: &mut Vec<u8, A>, request: &HeardRequest) -> Result<(), Memory>
     ensures { OnOk result (text.new.items ≡ text.old.items
         ++ line_of_words (codes "got" ∷ got_words request.now)) }
 {
     let mut digits = Buffer::new();
     match request {
-        Got::Level(level, grace) => {
+        HeardRequest::Level(level, grace) => {
             let grace = digits.format(*grace).as_bytes();
             put_line(text, b"got", &[b"level", &[level.code()], grace])
         }
-        Got::Call(letter) => put_line(text, b"got", &[b"call", &[letter.code()]]),
-        Got::Reload => put_line(text, b"got", &[b"reload"]),
-        Got::Reexec => put_line(text, b"got", &[b"reexec"]),
-        Got::Power(kind) => put_line(text, b"got", &[b"power", power_word(*kind)]),
-        Got::Nothing(why) => {
+        HeardRequest::Call(letter) => put_line(text, b"got", &[b"call", &[letter.code()]]),
+        HeardRequest::Reload => put_line(text, b"got", &[b"reload"]),
+        HeardRequest::Reexec => put_line(text, b"got", &[b"reexec"]),
+        HeardRequest::Power(kind) => put_line(text, b"got", &[b"power", power_word(*kind)]),
+        HeardRequest::Nothing(why) => {
             let number = digits.format(cause_number(*why)).as_bytes();
             put_line(text, b"got", &[b"nothing", number])
         }

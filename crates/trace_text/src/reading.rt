@@ -2,19 +2,19 @@
 
 ghost use Rattle.std.specs.Prelude.{◌≡◌, ◌∷◌, List, true, Some, option_map, IfOk, IfErr, IfSome, IfNone, OnOk, ◌++◌, []};
 ghost use Rattle.std.specs.Result.{MatchResult};
-ghost use Rattle.init_trace.specs.Event.{Event};
+ghost use Rattle.trace_events.specs.Event.{Event};
 ghost use Rattle.trace_text.specs.Lines.{event_text, trace_text};
-ghost use Rattle.init_trace.specs.Range.{is_in_range, are_in_range};
-ghost use Rattle.trace_text.specs.Texts.{Begun, line_count, BeginsNone, Unread};
+ghost use Rattle.trace_events.specs.Range.{is_in_range, are_in_range};
+ghost use Rattle.trace_text.specs.Texts.{Begun, line_count, BeginsNone, UnreadTrace};
 ghost use Rattle.trace_text.specs.Reading.{begun, use_begun};
 
 use crate::words::{read_line, read_use};
-use init_trace::{Happening, HappeningIn};
 use init_words::Memory;
 use inittab_text::table_begun;
 use std::alloc::{AllocError, Allocator};
 use text_lines::cut;
 use thiserror::Error;
+use trace_events::{Happening, HappeningIn};
 
 /// Why the text of a trace is not read.
 #[derive(Clone, Copy, Debug, PartialEq, Eq, Error)]
@@ -123,7 +123,7 @@ pub fn read<A: Allocator + Copy>(alloc: A, text: &[u8]) -> Result<Vec<HappeningI
     // No other trace has the text, and one that has it is read.
     ensures only { (trace : List Event) → are_in_range trace ≡ true → trace_text trace ≡ text.now
         → MatchResult result (λ got. got.items ≡ trace) (λ fault. fault ≡ ReadFault.Memory) }
-    ensures unread { IfErr result (λ fault. Unread text.now fault) }
+    ensures unread { IfErr result (λ fault. UnreadTrace text.now fault) }
 {
     let mut trace = Vec::new(alloc);
     let mut rest = text;

@@ -5,12 +5,14 @@ ghost use Rattle.init_words.specs.Ids.{same_id};
 ghost use Rattle.init_words.specs.declared.limits.TheConstants.{GRACE_LIMIT};
 ghost use Rattle.trace_text.specs.Reading.{level_of_word, letter_of_word, stage_of_word, order_of_word, power_of_word, cause_of_word, seconds_of_word, child_of_word, code_of_word, one_read, about_read, request_read, request_pair_read, handed_read, handed_pair_read, two_read, three_read, four_read, five_read, words_read, words_in, entries_brought};
 
-use init_trace::{Handed, Happening, HappeningIn};
-use init_words::{Ask, ChildNo, GRACE_LIMIT, Id, Letter, Level, PowerKind, Stage, Status};
-use initctl_frame::{Cause, Got};
+use init_words::{
+    ChildNumber, GRACE_LIMIT, Id, Letter, Level, OrderKind, PowerKind, Stage, Status,
+};
+use initctl_frame::{Cause, HeardRequest};
 use inittab_text::ENTRY_LIMIT;
 use std::alloc::Allocator;
 use text_lines::{cut, read_below, read_number};
+use trace_events::{Handed, Happening, HappeningIn};
 
 /// The word is this one.
 pub fn is(word: &[u8], name: &[u8]) -> bool
@@ -62,20 +64,20 @@ pub fn read_stage(word: &[u8]) -> Option<Stage>
 }
 
 /// The order of a word: `start` or `look`, or a signal that stops a child (init(8)), `term` or `kill`.
-pub fn read_order(word: &[u8]) -> Option<Ask>
+pub fn read_order(word: &[u8]) -> Option<OrderKind>
     ensures { result ≡ order_of_word word.now }
 {
     if is(word, b"start") {
-        return Some(Ask::Start);
+        return Some(OrderKind::Start);
     }
     if is(word, b"look") {
-        return Some(Ask::Look);
+        return Some(OrderKind::Look);
     }
     if is(word, b"term") {
-        return Some(Ask::Term);
+        return Some(OrderKind::Term);
     }
     if is(word, b"kill") {
-        return Some(Ask::Kill);
+        return Some(OrderKind::Kill);
     }
     None
 }
@@ -122,11 +124,11 @@ pub fn read_seconds(word: &[u8]) -> Option<u16>
 }
 
 /// The number that a system gave a child: below 2^32.
-pub fn read_child(word: &[u8]) -> Option<ChildNo>
+pub fn read_child(word: &[u8]) -> Option<ChildNumber>
     ensures { result ≡ child_of_word word.now }
 {
     let number = read_below(word, 1 << 32)?;
-    Some(ChildNo(number as u32))
+    Some(ChildNumber(number as u32))
 }
 
 /// The exit status that a decimal number is.
@@ -176,29 +178,29 @@ fn read_about<A: Allocator>(word: &[u8], id: Id) -> Option<HappeningIn<A>>
     None
 }
 
-fn read_request(word: &[u8]) -> Option<Got>
+fn read_request(word: &[u8]) -> Option<HeardRequest>
     ensures { result ≡ request_read word.now }
 {
     if is(word, b"reload") {
-        return Some(Got::Reload);
+        return Some(HeardRequest::Reload);
     }
     if is(word, b"reexec") {
-        return Some(Got::Reexec);
+        return Some(HeardRequest::Reexec);
     }
     None
 }
 
-fn read_request_pair(word: &[u8], given: &[u8]) -> Option<Got>
+fn read_request_pair(word: &[u8], given: &[u8]) -> Option<HeardRequest>
     ensures { result ≡ request_pair_read word.now given.now }
 {
     if is(word, b"call") {
-        return Some(Got::Call(read_letter(given)?));
+        return Some(HeardRequest::Call(read_letter(given)?));
     }
     if is(word, b"power") {
-        return Some(Got::Power(read_power(given)?));
+        return Some(HeardRequest::Power(read_power(given)?));
     }
     if is(word, b"nothing") {
-        return Some(Got::Nothing(read_cause(given)?));
+        return Some(HeardRequest::Nothing(read_cause(given)?));
     }
     None
 }
@@ -287,7 +289,7 @@ fn read_four<A: Allocator>(
         return Some(Happening::Reaped(Id::read(first)?, read_child(second)?, Status::Killed));
     }
     if is(word, b"got") && is(first, b"level") {
-        return Some(Happening::Got(Got::Level(read_level(second)?, read_seconds(third)?)));
+        return Some(Happening::Got(HeardRequest::Level(read_level(second)?, read_seconds(third)?)));
     }
     None
 }

@@ -8,15 +8,15 @@ use Rattle.init_words.specs.declared.entries.Entry.{Entry}
 use Rattle.text_lines.specs.Lines.{cut, newlines, after_lines}
 use Rattle.text_lines.proofs.PieceLemmas.{newlines-append, Front, after_lines-front, take-front}
 use Rattle.inittab_text.specs.Written.{table_written, table_begun}
-use Rattle.init_trace.specs.declared.happenings.Happening.TheVariants.{NewTable, Nudge}
-use Rattle.init_trace.specs.Event.{Event}
+use Rattle.trace_events.specs.declared.happenings.Happening.TheVariants.{NewTable, Nudge}
+use Rattle.trace_events.specs.Event.{Event}
 use Rattle.trace_text.specs.Lines.{event_text}
-use Rattle.init_trace.specs.Range.{is_in_range}
+use Rattle.trace_events.specs.Range.{is_in_range}
 use Rattle.trace_text.specs.Texts.{Begun, line_count, BeginsNone}
 use Rattle.trace_text.specs.Reading.{entries_brought, words_in, words_read, begun_by, begun}
 use Rattle.trace_text.proofs.LineTexts.{begun-text, text-begun, newlines-event}
-use Rattle.trace_front.specs.Fronts.{NeverBegins}
-use Rattle.trace_front.proofs.LineFronts.{cut-more, newlines-cut, newlines-uncut, after_lines-some, after_lines-more}
+use Rattle.trace_text.specs.Fronts.{NeverBegins}
+use Rattle.trace_text.proofs.LineFronts.{cut-more, newlines-cut, newlines-uncut, after_lines-some, after_lines-more}
 use Rattle.trace_verdict.specs.Fronts.{lines_of, lines_due, is_unfinished}
 
 -- a happening has a line

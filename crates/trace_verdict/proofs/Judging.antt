@@ -7,11 +7,11 @@ use Rattle.std.proofs.Math.Nat.{min-eq_left}
 use Rattle.std.proofs.Math.Seq.{take-append_seam}
 use Rattle.text_lines.specs.Lines.{newlines}
 use Rattle.text_lines.proofs.PieceLemmas.{newlines-append}
-use Rattle.init_trace.specs.declared.happenings.Happening.TheVariants.{NewTable}
-use Rattle.init_trace.specs.Event.{Event}
-use Rattle.init_trace.specs.Lawful.{broken, breach_at, earlier, first_breach}
+use Rattle.trace_events.specs.declared.happenings.Happening.TheVariants.{NewTable}
+use Rattle.trace_events.specs.Event.{Event}
+use Rattle.trace_events.specs.Lawful.{broken, breach_at, earlier, first_breach}
 use Rattle.trace_text.specs.Lines.{event_text, trace_text}
-use Rattle.init_trace.specs.Range.{is_in_range, are_in_range}
+use Rattle.trace_events.specs.Range.{is_in_range, are_in_range}
 use Rattle.trace_text.specs.Texts.{line_count}
 use Rattle.trace_text.proofs.LineTexts.{newlines-event}
 use Rattle.trace_text.proofs.ReadTexts.{trace_text-push, are_in_range-push, newlines-few, shorter}
@@ -21,7 +21,7 @@ use Rattle.trace_check.specs.Judging.{Judging, Judged}
 use Rattle.trace_check.proofs.Passing.{breach_here}
 use Rattle.trace_verdict.specs.declared.findings.Finding.{Finding}
 use Rattle.trace_verdict.specs.declared.findings.Finding.TheVariants.{Lawful, Breach, Torn}
-use Rattle.trace_front.specs.Fronts.{NeverBegins}
+use Rattle.trace_text.specs.Fronts.{NeverBegins}
 use Rattle.trace_verdict.specs.Fronts.{IsLeft, line_left, IsFront, IsTorn}
 use Rattle.trace_verdict.specs.Answers.{Named, IsFirst, Answers}
 use Rattle.trace_verdict.specs.Readers.{Reading, capped, ReadsNext}

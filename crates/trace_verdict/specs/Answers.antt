@@ -2,8 +2,8 @@
 use Rattle.std.specs.Prelude.{◌≡◌, ℕ, ◌+◌, ◌<◌, List, [], length, take, reverse, slice_get, Option, Some, None}
 use Rattle.std.specs.Option.{option_map_or}
 use Rattle.text_lines.specs.Lines.{newlines}
-use Rattle.init_trace.specs.Event.{Event}
-use Rattle.init_trace.specs.Lawful.{first_breach}
+use Rattle.trace_events.specs.Event.{Event}
+use Rattle.trace_events.specs.Lawful.{first_breach}
 use Rattle.trace_text.specs.Lines.{event_text, trace_text}
 use Rattle.trace_check.specs.declared.laws.Law.{Law}
 use Rattle.trace_check.specs.Faults.{fault_at}

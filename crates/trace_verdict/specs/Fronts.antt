@@ -2,11 +2,11 @@
 use Rattle.std.specs.Prelude.{◌≡◌, ℕ, ◌+◌, Bool, true, nat_lt, List, [], ◌∷◌, ◌++◌, Option, Some, None}
 use Rattle.std.specs.Option.{option_map_or}
 use Rattle.text_lines.specs.Lines.{cut, newlines}
-use Rattle.init_trace.specs.Event.{Event}
+use Rattle.trace_events.specs.Event.{Event}
 use Rattle.trace_text.specs.Lines.{trace_text}
-use Rattle.init_trace.specs.Range.{are_in_range}
+use Rattle.trace_events.specs.Range.{are_in_range}
 use Rattle.trace_text.specs.Reading.{entries_brought, words_in}
-use Rattle.trace_front.specs.Fronts.{CanGoOn, NeverBegins}
+use Rattle.trace_text.specs.Fronts.{CanGoOn, NeverBegins}
 
 -- how many lines the happening has that begins with this one: its own, and one for each entry that it brings
 abbrev pub lines_of : List ℕ → ℕ

@@ -1,9 +1,9 @@
 -- A judge of a text that comes in pieces, and the texts that it has taken.
 use Rattle.std.specs.Prelude.{◌≡◌, ◌⊎◌, ◌<◌, ◌^◌, ℕ, Bool, true, false, List, ◌++◌, length, reverse, Option, None}
 use Rattle.text_lines.specs.Lines.{newlines}
-use Rattle.init_trace.specs.Event.{Event}
+use Rattle.trace_events.specs.Event.{Event}
 use Rattle.trace_text.specs.Lines.{trace_text}
-use Rattle.init_trace.specs.Range.{are_in_range}
+use Rattle.trace_events.specs.Range.{are_in_range}
 use Rattle.trace_check.specs.Judging.{Judging, Judged}
 use Rattle.trace_verdict.specs.declared.findings.Finding.{Finding}
 use Rattle.trace_verdict.specs.declared.findings.Finding.TheVariants.{Lawful, Breach, Torn}
@@ -51,9 +51,9 @@ abbrev pub HasTaken : TextState → List ℕ → Type 0
 HasTaken state text = TakenBy state.finding state text
 
 -- it goes on with the text, or has taken it
-abbrev pub GoesOn : Bool → TextState → TextState → List ℕ → Type 0
-GoesOn true old new text = IsAt old text → IsAt new text
-GoesOn false old new text = IsAt old text → HasTaken new text
+abbrev pub JudgeGoesOn : Bool → TextState → TextState → List ℕ → Type 0
+JudgeGoesOn true old new text = IsAt old text → IsAt new text
+JudgeGoesOn false old new text = IsAt old text → HasTaken new text
 
 -- after lack of memory: nothing of the piece is taken, and nothing is changed; or all of it is, and what is not judged
 -- is kept for the next piece

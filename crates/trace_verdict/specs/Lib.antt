@@ -1,4 +1,4 @@
-pub mod Fronts
 pub mod Answers
-pub mod Readers
+pub mod Fronts
 pub mod Judges
+pub mod Readers

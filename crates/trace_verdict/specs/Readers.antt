@@ -2,11 +2,11 @@
 use Rattle.std.specs.Prelude.{◌≡◌, ℕ, ◌+◌, ◌-◌, ◌^◌, ◌≤◌, min, true, List, ◌++◌, drop, length, Option, Some, None}
 use Rattle.trace_text.specs.declared.reading.ReadFault.{ReadFault}
 use Rattle.trace_text.specs.declared.reading.ReadFault.TheVariants as fault
-use Rattle.init_trace.specs.Event.{Event}
+use Rattle.trace_events.specs.Event.{Event}
 use Rattle.trace_text.specs.Lines.{event_text}
-use Rattle.init_trace.specs.Range.{is_in_range}
+use Rattle.trace_events.specs.Range.{is_in_range}
 use Rattle.trace_text.specs.Texts.{line_count}
-use Rattle.trace_front.specs.Fronts.{NeverBegins}
+use Rattle.trace_text.specs.Fronts.{NeverBegins}
 use Rattle.trace_verdict.specs.Fronts.{IsLeft}
 
 -- what it has not read, and how many lines it has read, as far as numbers go

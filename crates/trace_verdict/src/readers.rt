@@ -5,12 +5,11 @@ ghost use Rattle.trace_verdict.specs.Fronts.{is_unfinished, line_left, IsLeft};
 ghost use Rattle.trace_verdict.specs.Readers.{capped, IsNext, ReadsNext, ReadsNone};
 
 use crate::lines::lines_due;
-use init_trace::HappeningIn;
 use std::alloc::{AllocError, Allocator};
 use std::marker::Model;
 use text_lines::newlines;
-use trace_front::is_front;
-use trace_text::{ReadFault, first_happening, line_count};
+use trace_events::HappeningIn;
+use trace_text::{ReadFault, first_happening, is_front, line_count};
 
 /// A reader of the happenings of a text that comes in pieces. It keeps what it has not read.
 ///

@@ -2,20 +2,20 @@
 
 ghost use Rattle.std.specs.Prelude.{◌≡◌, ◌^◌, ◌<◌, ◌+◌, List, ℕ, ◌++◌, [], ◌∷◌, length, true, option_map, IfOk, OnOk, OnErr};
 ghost use Rattle.text_lines.specs.Lines.{newlines};
-ghost use Rattle.init_trace.specs.Event.{Event};
+ghost use Rattle.trace_events.specs.Event.{Event};
 ghost use Rattle.trace_text.specs.Lines.{trace_text};
 ghost use Rattle.trace_verdict.specs.Fronts.{line_left};
 ghost use Rattle.trace_verdict.specs.Readers.{capped};
 ghost use Rattle.trace_verdict.specs.Answers.{Answers};
-ghost use Rattle.trace_verdict.specs.Judges.{GoesOn, HasTaken, Holds, IsAt, IsFound, left_of};
+ghost use Rattle.trace_verdict.specs.Judges.{JudgeGoesOn, HasTaken, Holds, IsAt, IsFound, left_of};
 
 use crate::findings::{Breach, Finding};
 use crate::readers::TextReader;
-use init_trace::HappeningIn;
 use init_words::Memory;
 use std::alloc::{Allocator, Global};
 use std::marker::Model;
 use trace_check::TraceJudge;
+use trace_events::HappeningIn;
 use trace_text::{ReadFault, print_one};
 
 /// A judge of the text of a trace that comes in pieces, cut anywhere.
@@ -98,7 +98,7 @@ impl<A: Allocator + Copy> TextJudge<A> {
     /// Takes the next happening, if one is whole. Where memory runs out nothing is changed.
     fn take_next(&mut self) -> Result<bool, Memory>
         ensures goes { IfOk result (λ more. (text : List ℕ) → length text < 2 ^ 64
-            → GoesOn more self.old self.new text) }
+            → JudgeGoesOn more self.old self.new text) }
         ensures shorter { IfOk result (λ more. more ≡ true
             → length self.new.reading.over < length self.old.reading.over) }
         ensures err { OnErr result (self.new ≡ self.old) }

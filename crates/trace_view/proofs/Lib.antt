@@ -1,3 +1,4 @@
-pub mod Seeing
-pub mod Stands
 pub mod Reasons
+pub mod Seeing
+pub mod SeenTexts
+pub mod Stands

@@ -6,23 +6,23 @@ use Rattle.std.proofs.lemmas.Bool.{false≢true, and_parts, not-true}
 use Rattle.std.proofs.lemmas.List.Folds.{list_any-append}
 use Rattle.init_words.specs.declared.actions.Act.{Act}
 use Rattle.init_words.specs.declared.entries.Entry.{Entry}
-use Rattle.init_words.specs.declared.orders.Ask.{Ask}
-use Rattle.init_words.specs.declared.orders.Ask.TheVariants.{Start}
+use Rattle.init_words.specs.declared.orders.OrderKind.{OrderKind}
+use Rattle.init_words.specs.declared.orders.OrderKind.TheVariants.{Start}
 use Rattle.init_words.specs.declared.stages.Stage.{Stage}
 use Rattle.init_words.specs.Actions.{wanted_by, is_limited}
 use Rattle.init_words.specs.Ids.{same_id}
 use Rattle.init_words.proofs.Same.{same_id-is}
 use Rattle.init_words.proofs.Tests.{and_false, find_none}
 use Rattle.inittab_text.specs.Tables.{entry_of, has_id, is_distinct}
-use Rattle.init_trace.specs.declared.steps.Step.{Step}
-use Rattle.init_trace.specs.declared.steps.Step.TheVariants.{Order, Hold}
-use Rattle.init_trace.specs.declared.steps.Goal.{Goal}
-use Rattle.init_trace.specs.Event.{Event}
-use Rattle.init_trace.specs.Past.{table_of, stage_of, has_child, is_of, open_of, kept_children}
-use Rattle.init_trace.specs.Wanted.{starts_now, nothing_runs, is_asked, is_called, is_owed, is_excluded, entries_before}
-use Rattle.init_trace.specs.Timing.{hold_times, is_held, is_full}
-use Rattle.init_trace.specs.Wishes.{wants_reexec, wants_reread, level_wish, in_run, keeps_news, wish_stands}
-use Rattle.init_trace.specs.Due.{steps_if, none_excluded, can_start, start_steps, starts_among, due_starts, same_step}
+use Rattle.trace_events.specs.declared.steps.Step.{Step}
+use Rattle.trace_events.specs.declared.steps.Step.TheVariants.{Order, Hold}
+use Rattle.trace_events.specs.declared.steps.Goal.{Goal}
+use Rattle.trace_events.specs.Event.{Event}
+use Rattle.trace_events.specs.Past.{table_of, stage_of, has_child, is_of, open_of, kept_children}
+use Rattle.trace_events.specs.Wanted.{starts_now, nothing_runs, is_asked, is_called, is_owed, is_excluded, entries_before}
+use Rattle.trace_events.specs.Timing.{hold_times, is_held, is_full}
+use Rattle.trace_events.specs.Wishes.{wants_reexec, wants_reread, level_wish, in_run, keeps_news, wish_stands}
+use Rattle.trace_events.specs.Due.{steps_if, none_excluded, can_start, start_steps, starts_among, due_starts, same_step}
 use Rattle.trace_check.specs.Reading.{newest}
 use Rattle.trace_check.proofs.Lone.{found_passes}
 use Rattle.trace_view.specs.declared.standings.Excluded.{Excluded}
@@ -143,7 +143,7 @@ last_of_all : (full : Bool) → is_nothing (cond full WindowFull Nothing) ≡ no
 last_of_all true = refl
 last_of_all false = refl
 
-nothing_by : (action : Act) (stage : Option Stage) (starts : Bool) (child : Option ℕ) (order : Option Ask) (wanted : Bool) (owed : Option (List ℕ)) (excluded : Option Excluded) (wish : Option Wish) (hold : Option ℕ) (full : Bool) → is_nothing (why_by action stage (record { starts = starts; child = child; order = order; wanted = wanted; owed = owed; excluded = excluded; wish = wish; hold = hold; full = full })) ≡ (starts && is_none child && is_none order && wanted && is_none owed && is_none excluded && is_none wish && is_none hold && not full)
+nothing_by : (action : Act) (stage : Option Stage) (starts : Bool) (child : Option ℕ) (order : Option OrderKind) (wanted : Bool) (owed : Option (List ℕ)) (excluded : Option Excluded) (wish : Option Wish) (hold : Option ℕ) (full : Bool) → is_nothing (why_by action stage (record { starts = starts; child = child; order = order; wanted = wanted; owed = owed; excluded = excluded; wish = wish; hold = hold; full = full })) ≡ (starts && is_none child && is_none order && wanted && is_none owed && is_none excluded && is_none wish && is_none hold && not full)
 nothing_by action stage false child order wanted owed excluded wish hold full = nobody_here action stage
 nothing_by action stage true (Some child) order wanted owed excluded wish hold full = refl
 nothing_by action stage true None (Some order) wanted owed excluded wish hold full = refl

@@ -3,17 +3,17 @@ use Rattle.std.proofs.Common.{◌≡◌, refl, sym, ◌∙◌, ap, ℕ, Bool, tr
 use Rattle.std.specs.Option.{option_map, option_map_or}
 use Rattle.init_words.specs.declared.actions.Act.{Act}
 use Rattle.init_words.specs.declared.entries.Entry.{Entry}
-use Rattle.init_words.specs.declared.orders.Ask.{Ask}
+use Rattle.init_words.specs.declared.orders.OrderKind.{OrderKind}
 use Rattle.init_words.specs.declared.stages.Stage.{Stage}
 use Rattle.init_words.specs.Actions.{is_limited}
 use Rattle.init_words.specs.Ids.{same_id}
 use Rattle.inittab_text.specs.Tables.{entry_of, has_id, act_of}
 use Rattle.init_words.proofs.Same.{same_id-is}
-use Rattle.init_trace.specs.Event.{Event}
-use Rattle.init_trace.specs.Past.{table_of, stage_of, Child, is_of, unreaped_children, kept_children, open_of}
-use Rattle.init_trace.specs.Wanted.{starts_now, is_wanted, is_excluded}
-use Rattle.init_trace.specs.Timing.{hold_times, is_held, is_full}
-use Rattle.init_trace.specs.Wishes.{in_run, other_than}
+use Rattle.trace_events.specs.Event.{Event}
+use Rattle.trace_events.specs.Past.{table_of, stage_of, Child, is_of, unreaped_children, kept_children, open_of}
+use Rattle.trace_events.specs.Wanted.{starts_now, is_wanted, is_excluded}
+use Rattle.trace_events.specs.Timing.{hold_times, is_held, is_full}
+use Rattle.trace_events.specs.Wishes.{in_run, other_than}
 use Rattle.trace_check.specs.Reading.{newest, child_of, term_of}
 use Rattle.trace_check.proofs.Lone.{found_passes}
 use Rattle.trace_view.specs.declared.rows.Births.{Births}
@@ -50,7 +50,7 @@ pub found_own : (id : List ℕ) (table : List Entry) (e : Entry) → entry_of id
 found_own id table e is = ap (λ i. entry_of i table) (sym (same_id-is id e.id (found_passes (has_id id) table e is))) ∙ is
 
 -- the standing of an entry by its parts
-pub stands : (e : Entry) (past : List Event) (starts : Bool) (child : Option ℕ) (order : Option Ask) (wanted : Bool) (owed : Option (List ℕ)) (excluded : Option Excluded) (wish : Option Wish) (hold : Option ℕ) (full : Bool) → starts ≡ starts_now e past → child ≡ option_map number_of (find (is_of e.id) (kept_children past)) → order ≡ open_of e.id past → wanted ≡ is_wanted e past → owed ≡ option_map (λ (earlier : Entry). earlier.id) (first_owed e.id past) → excluded ≡ option_map excluded_as (find (is_excluded past) (kept_children past)) → wish ≡ first_wish past → hold ≡ cond (is_limited e.act && is_held e.id past) (newest (hold_times e.id past)) None → full ≡ (is_limited e.act && is_full e.id past) → record { starts = starts; child = child; order = order; wanted = wanted; owed = owed; excluded = excluded; wish = wish; hold = hold; full = full } ≡ standing_of e past
+pub stands : (e : Entry) (past : List Event) (starts : Bool) (child : Option ℕ) (order : Option OrderKind) (wanted : Bool) (owed : Option (List ℕ)) (excluded : Option Excluded) (wish : Option Wish) (hold : Option ℕ) (full : Bool) → starts ≡ starts_now e past → child ≡ option_map number_of (find (is_of e.id) (kept_children past)) → order ≡ open_of e.id past → wanted ≡ is_wanted e past → owed ≡ option_map (λ (earlier : Entry). earlier.id) (first_owed e.id past) → excluded ≡ option_map excluded_as (find (is_excluded past) (kept_children past)) → wish ≡ first_wish past → hold ≡ cond (is_limited e.act && is_held e.id past) (newest (hold_times e.id past)) None → full ≡ (is_limited e.act && is_full e.id past) → record { starts = starts; child = child; order = order; wanted = wanted; owed = owed; excluded = excluded; wish = wish; hold = hold; full = full } ≡ standing_of e past
 stands e past starts child order wanted owed excluded wish hold full e1 e2 e3 e4 e5 e6 e7 e8 e9 = rw (e1, e2, e3, e4, e5, e6, e7, e8, e9) refl
 
 -- the child that may not live, by a table and a stage that are in force
@@ -86,5 +86,5 @@ lives_not id table stage unreaped past tables stages is =
     ∙ ap (λ xs. option_map_or (is_excluded past) (find (is_of id) xs) false) is
 
 -- what is told of an id by its parts
-pub rows : (id : List ℕ) (past : List Event) (act : Option Act) (why_not : Why) (child : Option ℕ) (excluded : Bool) (births : Option Births) (order : Option Ask) (term : Option ℕ) (last : Option Ending) → act ≡ act_of id (table_of past) → why_not ≡ why id past → child ≡ option_map number_of (child_of id past) → excluded ≡ option_map_or (is_excluded past) (child_of id past) false → births ≡ births_of id past → order ≡ open_of id past → term ≡ term_of past (child_of id past) → last ≡ ended_of id past → record { act = act; why = why_not; child = child; excluded = excluded; births = births; order = order; term = term; last = last } ≡ row_of id past
+pub rows : (id : List ℕ) (past : List Event) (act : Option Act) (why_not : Why) (child : Option ℕ) (excluded : Bool) (births : Option Births) (order : Option OrderKind) (term : Option ℕ) (last : Option Ending) → act ≡ act_of id (table_of past) → why_not ≡ why id past → child ≡ option_map number_of (child_of id past) → excluded ≡ option_map_or (is_excluded past) (child_of id past) false → births ≡ births_of id past → order ≡ open_of id past → term ≡ term_of past (child_of id past) → last ≡ ended_of id past → record { act = act; why = why_not; child = child; excluded = excluded; births = births; order = order; term = term; last = last } ≡ row_of id past
 rows id past act why_not child excluded births order term last e1 e2 e3 e4 e5 e6 e7 e8 = rw (e1, e2, e3, e4, e5, e6, e7, e8) refl

@@ -1,4 +1,6 @@
-pub mod Wishes
-pub mod Why
 pub mod Rows
+pub mod Shown
 pub mod Viewing
+pub mod Views
+pub mod Why
+pub mod Wishes

@@ -7,11 +7,11 @@ use Rattle.init_words.specs.declared.stages.Stage.{Stage}
 use Rattle.init_words.specs.declared.stages.Stage.TheVariants.{Run}
 use Rattle.init_words.specs.Ids.{same_id}
 use Rattle.inittab_text.specs.Tables.{entry_of, act_of}
-use Rattle.init_trace.specs.declared.happenings.Happening.TheVariants.{Birth, NoBirth, Reaped}
-use Rattle.init_trace.specs.Event.{Event}
-use Rattle.init_trace.specs.Past.{table_of, stage_of, time_of, Child, open_of, unreaped_children}
-use Rattle.init_trace.specs.Wanted.{is_excluded}
-use Rattle.init_trace.specs.Due.{is_settled}
+use Rattle.trace_events.specs.declared.happenings.Happening.TheVariants.{Birth, NoBirth, Reaped}
+use Rattle.trace_events.specs.Event.{Event}
+use Rattle.trace_events.specs.Past.{table_of, stage_of, time_of, Child, open_of, unreaped_children}
+use Rattle.trace_events.specs.Wanted.{is_excluded}
+use Rattle.trace_events.specs.Due.{is_settled}
 use Rattle.trace_check.specs.Reading.{child_of, term_of}
 use Rattle.trace_view.specs.declared.rows.Births.{Births}
 use Rattle.trace_view.specs.declared.rows.Ending.{Ending}

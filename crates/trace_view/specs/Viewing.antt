@@ -3,10 +3,10 @@ use Rattle.std.specs.Prelude.{◌≡◌, ℕ, Bool, not, List, [], ◌∷◌, �
 use Rattle.init_words.specs.declared.entries.Entry.{Entry}
 use Rattle.init_words.specs.declared.stages.Stage.{Stage}
 use Rattle.inittab_text.specs.Tables.{entry_of, act_of}
-use Rattle.init_trace.specs.declared.happenings.Happening.TheVariants.{Birth, Reaped, Told}
-use Rattle.init_trace.specs.Event.{Event}
-use Rattle.init_trace.specs.Past.{Child, is_of, is_child, unreaped_children, kept_children}
-use Rattle.init_trace.specs.Wanted.{may_live}
+use Rattle.trace_events.specs.declared.happenings.Happening.TheVariants.{Birth, Reaped, Told}
+use Rattle.trace_events.specs.Event.{Event}
+use Rattle.trace_events.specs.Past.{Child, is_of, is_child, unreaped_children, kept_children}
+use Rattle.trace_events.specs.Wanted.{may_live}
 use Rattle.trace_check.specs.declared.laws.Law.{Law}
 use Rattle.trace_check.specs.Judging.{Judging, Judged, unjudged}
 use Rattle.trace_view.specs.declared.wishes.Wishes.{Wishes}

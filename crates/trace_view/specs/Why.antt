@@ -3,14 +3,14 @@ use Rattle.std.specs.Prelude.{ℕ, Bool, true, false, not, ◌&&◌, if◌then�
 use Rattle.std.specs.Option.{option_map, option_map_or}
 use Rattle.init_words.specs.declared.actions.Act.{Act}
 use Rattle.init_words.specs.declared.entries.Entry.{Entry}
-use Rattle.init_words.specs.declared.orders.Ask.{Ask}
+use Rattle.init_words.specs.declared.orders.OrderKind.{OrderKind}
 use Rattle.init_words.specs.declared.stages.Stage.{Stage}
 use Rattle.init_words.specs.Actions.{wanted_by, is_limited}
 use Rattle.inittab_text.specs.Tables.{entry_of}
-use Rattle.init_trace.specs.Event.{Event}
-use Rattle.init_trace.specs.Past.{table_of, stage_of, Child, is_of, kept_children, open_of}
-use Rattle.init_trace.specs.Wanted.{starts_now, is_wanted, is_owed, entries_before, is_excluded}
-use Rattle.init_trace.specs.Timing.{hold_times, is_held, is_full}
+use Rattle.trace_events.specs.Event.{Event}
+use Rattle.trace_events.specs.Past.{table_of, stage_of, Child, is_of, kept_children, open_of}
+use Rattle.trace_events.specs.Wanted.{starts_now, is_wanted, is_owed, entries_before, is_excluded}
+use Rattle.trace_events.specs.Timing.{hold_times, is_held, is_full}
 use Rattle.trace_check.specs.Reading.{newest}
 use Rattle.trace_view.specs.declared.standings.Excluded.{Excluded}
 use Rattle.trace_view.specs.declared.standings.Standing.{Standing}
@@ -55,7 +55,7 @@ abbrev pub by_child : Option ℕ → Why → Why
 by_child (Some number) later = ChildKept number
 by_child None later = later
 
-abbrev pub by_order : Option Ask → Why → Why
+abbrev pub by_order : Option OrderKind → Why → Why
 by_order (Some ask) later = OrderOpen ask
 by_order None later = later
 

@@ -7,12 +7,12 @@ use Rattle.init_words.specs.declared.orders.PowerKind.TheVariants as power
 use Rattle.init_words.specs.declared.stages.Stage.{Stage}
 use Rattle.init_words.specs.Levels.{same_letter}
 use Rattle.init_words.specs.Orders.{same_power}
-use Rattle.initctl_frame.specs.declared.requests.Got.TheVariants as got
-use Rattle.init_trace.specs.declared.happenings.Happening.TheVariants.{NewTable, NotRead, Enter, Call, Power, Got, Handed}
-use Rattle.init_trace.specs.declared.steps.Goal.{Goal}
-use Rattle.init_trace.specs.Event.{Event}
-use Rattle.init_trace.specs.Past.{stage_of}
-use Rattle.init_trace.specs.Wishes.{is_level, in_run, other_than, wants_reexec, wants_reread, heard_level, level_wish, keeps_power, keeps_letter, keeps_news}
+use Rattle.initctl_frame.specs.declared.requests.HeardRequest.TheVariants as got
+use Rattle.trace_events.specs.declared.happenings.Happening.TheVariants.{NewTable, NotRead, Enter, Call, Power, Got, Handed}
+use Rattle.trace_events.specs.declared.steps.Goal.{Goal}
+use Rattle.trace_events.specs.Event.{Event}
+use Rattle.trace_events.specs.Past.{stage_of}
+use Rattle.trace_events.specs.Wishes.{is_level, in_run, other_than, wants_reexec, wants_reread, heard_level, level_wish, keeps_power, keeps_letter, keeps_news}
 use Rattle.trace_view.specs.declared.wishes.Wish.{Wish}
 use Rattle.trace_view.specs.declared.wishes.Wish.TheVariants as wish
 use Rattle.trace_view.specs.declared.wishes.Wishes.{Wishes}

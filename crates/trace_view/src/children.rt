@@ -2,28 +2,28 @@
 
 ghost use Rattle.std.specs.Prelude.{◌≡◌, not, find, filter, false, option_map, option_copied, OnOk, IfOk};
 ghost use Rattle.std.specs.Option.{option_map_or};
-ghost use Rattle.init_trace.specs.Past.{Child, is_of, is_child};
+ghost use Rattle.trace_events.specs.Past.{Child, is_of, is_child};
 ghost use Rattle.trace_view.specs.Viewing.{newborn_in, unreaped_after, kept_after, is_excluded_by};
 ghost use Rattle.trace_view.specs.Why.{number_of, excluded_as};
 ghost use Rattle.trace_view.specs.Rows.{gone_ids};
 
 use crate::standings::Excluded;
-use init_trace::{Happening, HappeningIn};
-use init_words::{Act, ChildNo, Id, Memory, Stage, lives};
+use init_words::{Act, ChildNumber, Id, Memory, Stage, lives};
 use inittab_text::Table;
 use std::alloc::Allocator;
 use std::marker::Model;
+use trace_events::{Happening, HappeningIn};
 
 /// A child: the id that it was born for, its number, and the action that the id had then.
 #[derive(Clone, Copy)]
 pub struct BornChild {
     pub id: Id,
-    pub number: ChildNo,
+    pub number: ChildNumber,
     pub act: Option<Act>,
 }
 
 impl Model for BornChild {
-    ghost use Rattle.init_trace.specs.Past.{Child};
+    ghost use Rattle.trace_events.specs.Past.{Child};
 
     ghost Value = { Child };
 
@@ -33,7 +33,7 @@ impl Model for BornChild {
 }
 
 /// The child that a birth makes, by the table in force.
-fn newborn<A: Allocator>(table: &Table<A>, id: Id, number: ChildNo) -> BornChild
+fn newborn<A: Allocator>(table: &Table<A>, id: Id, number: ChildNumber) -> BornChild
     ensures { result ≡ newborn_in table.now id number }
 {
     let act = match table.get(&id) {
@@ -43,7 +43,7 @@ fn newborn<A: Allocator>(table: &Table<A>, id: Id, number: ChildNo) -> BornChild
     BornChild { id, number, act }
 }
 
-fn drop_child<A: Allocator>(children: &mut Vec<BornChild, A>, id: Id, number: ChildNo)
+fn drop_child<A: Allocator>(children: &mut Vec<BornChild, A>, id: Id, number: ChildNumber)
     ensures { children.new.items
         ≡ filter (λ (child : Child). not (is_child id number child)) children.old.items }
 {
@@ -121,7 +121,7 @@ pub(crate) fn child_of_id(children: &[BornChild], id: Id) -> Option<&BornChild>
 }
 
 /// The number of the youngest child of the id.
-pub(crate) fn number_of_id(children: &[BornChild], id: Id) -> Option<ChildNo>
+pub(crate) fn number_of_id(children: &[BornChild], id: Id) -> Option<ChildNumber>
     ensures { result ≡ option_map number_of (find (is_of id) children.now) }
 {
     let child = child_of_id(children, id)?;

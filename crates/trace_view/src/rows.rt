@@ -6,10 +6,10 @@ ghost use Rattle.trace_view.specs.Rows.{born_after, ended_after, one_more};
 
 use crate::whys::Why;
 use indexmap::IndexMap;
-use init_trace::{Happening, HappeningIn};
-use init_words::{Act, Ask, ChildNo, Id, Memory, Status};
+use init_words::{Act, ChildNumber, Id, Memory, OrderKind, Status};
 use std::alloc::Allocator;
 use std::hash::{BuildHasherDefault, FoldHasher};
+use trace_events::{Happening, HappeningIn};
 
 /// How often children of an id were born, and when the latest was, in seconds.
 #[derive(Clone, Copy)]
@@ -34,13 +34,13 @@ pub struct Row {
     /// Why it isn't started next.
     pub why: Why,
     /// Its unreaped child.
-    pub child: Option<ChildNo>,
+    pub child: Option<ChildNumber>,
     /// How often it was born, and when last.
     pub births: Option<Births>,
     /// That child may not live in the stage: it is stopped.
     pub excluded: bool,
     /// Its open order.
-    pub order: Option<Ask>,
+    pub order: Option<OrderKind>,
     /// When it was told that a TERM was sent to its child, which may not live.
     pub term: Option<u64>,
     /// How it last ended.

@@ -1,13 +1,13 @@
 //! How an entry stands: each thing that can keep its start back.
 
 use crate::wishes::Wish;
-use init_words::{Ask, ChildNo, Id};
+use init_words::{ChildNumber, Id, OrderKind};
 
 /// A child that may not live in the stage in force, by the id that it was born for.
 #[derive(Clone, Copy)]
 pub struct Excluded {
     pub id: Id,
-    pub number: ChildNo,
+    pub number: ChildNumber,
 }
 
 /// How an entry of the table stands: each thing that can keep its start back. Times are seconds.
@@ -16,9 +16,9 @@ pub struct Standing {
     /// It starts in the stage in force.
     pub starts: bool,
     /// Its child whose end was not told.
-    pub child: Option<ChildNo>,
+    pub child: Option<ChildNumber>,
     /// Its open order.
-    pub order: Option<Ask>,
+    pub order: Option<OrderKind>,
     /// Its action asks for a start.
     pub wanted: bool,
     /// The first earlier entry that init waits for.

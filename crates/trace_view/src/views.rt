@@ -2,10 +2,10 @@
 
 ghost use Rattle.std.specs.Prelude.{◌≡◌, ◌&&◌, if◌then◌else◌, true, List, Some, None, option_map, option_copied, IfOk};
 ghost use Rattle.init_words.specs.declared.entries.Entry.{Entry};
-ghost use Rattle.init_trace.specs.Event.{Event};
-ghost use Rattle.init_trace.specs.Past.{table_of, stage_of, grace_of, time_of, unreaped_children};
-ghost use Rattle.init_trace.specs.Lawful.{broken};
-ghost use Rattle.init_trace.specs.Wanted.{starts_in};
+ghost use Rattle.trace_events.specs.Event.{Event};
+ghost use Rattle.trace_events.specs.Past.{table_of, stage_of, grace_of, time_of, unreaped_children};
+ghost use Rattle.trace_events.specs.Lawful.{broken};
+ghost use Rattle.trace_events.specs.Wanted.{starts_in};
 ghost use Rattle.inittab_text.specs.Tables.{entry_of, is_distinct};
 ghost use Rattle.trace_check.specs.Laws.{law_number};
 ghost use Rattle.trace_view.specs.Viewing.{unviewed, Viewed, SeesNext};
@@ -20,12 +20,12 @@ use crate::rows::{Births, ById, Ending, Row, birth_of, end_of, nothing, take_bir
 use crate::standings::Standing;
 use crate::whys::{Why, why_by};
 use crate::wishes::{Wish, Wishes};
-use init_trace::HappeningIn;
 use init_words::{Act, Entry, Id, Memory, Stage, starts};
 use inittab_text::Table;
 use std::alloc::{Allocator, Global};
 use std::marker::Model;
 use trace_check::{Law, TraceJudge};
+use trace_events::HappeningIn;
 
 /// A view of a trace that comes one happening after another, the oldest first.
 ///

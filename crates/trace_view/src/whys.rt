@@ -5,7 +5,7 @@ ghost use Rattle.trace_view.specs.Why.{not_here, not_wanted, why_by};
 
 use crate::standings::{Excluded, Standing};
 use crate::wishes::Wish;
-use init_words::{Act, Ask, ChildNo, Id, Stage};
+use init_words::{Act, ChildNumber, Id, OrderKind, Stage};
 
 /// Why an entry isn't started next: the first reason.
 #[derive(Clone, Copy)]
@@ -19,9 +19,9 @@ pub enum Why {
     /// It names other levels than the one in force, or belongs to another stage.
     OtherStage,
     /// A child of it was not told to have ended.
-    ChildKept(ChildNo),
+    ChildKept(ChildNumber),
     /// An order about it is open.
-    OrderOpen(Ask),
+    OrderOpen(OrderKind),
     /// Nothing called it.
     NotCalled,
     /// It was started since the stage began.

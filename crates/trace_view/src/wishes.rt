@@ -1,13 +1,13 @@
 //! The wishes that stand.
 
 ghost use Rattle.std.specs.Prelude.{◌≡◌};
-ghost use Rattle.init_trace.specs.Wishes.{is_level, in_run};
+ghost use Rattle.trace_events.specs.Wishes.{is_level, in_run};
 ghost use Rattle.trace_view.specs.Wishes.{reexec_after, reread_after, heard_after, power_after, letter_after, no_wishes, wishes_after, has_news, first_wish_in};
 
-use init_trace::{Goal, Happening, HappeningIn};
 use init_words::{Letter, Level, PowerKind, Stage};
-use initctl_frame::Got;
+use initctl_frame::HeardRequest;
 use std::alloc::Allocator;
+use trace_events::{Goal, Happening, HappeningIn};
 
 /// A wish that stands: no entry is started before it is carried out.
 #[derive(Clone, Copy)]
@@ -59,7 +59,7 @@ fn reexec_after<B: Allocator>(happening: &HappeningIn<B>, before: bool) -> bool
 {
     match happening {
         Happening::Handed(_) => false,
-        Happening::Got(Got::Reexec) => true,
+        Happening::Got(HeardRequest::Reexec) => true,
         _ => before,
     }
 }
@@ -73,8 +73,8 @@ fn reread_after<B: Allocator>(
 {
     match happening {
         Happening::NewTable(_) | Happening::NotRead => false,
-        Happening::Got(Got::Reload) => true,
-        Happening::Got(Got::Level(level, _)) => !is_level(*level, stage) || before,
+        Happening::Got(HeardRequest::Reload) => true,
+        Happening::Got(HeardRequest::Level(level, _)) => !is_level(*level, stage) || before,
         _ => before,
     }
 }
@@ -84,7 +84,7 @@ fn heard_after<B: Allocator>(happening: &HappeningIn<B>, before: Option<Goal>) -
 {
     match happening {
         Happening::Enter(_, _) => None,
-        Happening::Got(Got::Level(level, grace)) => Some(Goal {
+        Happening::Got(HeardRequest::Level(level, grace)) => Some(Goal {
             level: *level,
             grace: *grace,
         }),
@@ -97,7 +97,7 @@ fn power_after<B: Allocator>(kind: PowerKind, happening: &HappeningIn<B>, before
 {
     match happening {
         Happening::Power(called) => kind != *called && before,
-        Happening::Got(Got::Power(heard)) => kind == *heard || before,
+        Happening::Got(HeardRequest::Power(heard)) => kind == *heard || before,
         _ => before,
     }
 }
@@ -107,7 +107,7 @@ fn letter_after<B: Allocator>(letter: Letter, happening: &HappeningIn<B>, before
 {
     match happening {
         Happening::Call(called) => letter != *called && before,
-        Happening::Got(Got::Call(heard)) => letter == *heard || before,
+        Happening::Got(HeardRequest::Call(heard)) => letter == *heard || before,
         _ => before,
     }
 }

@@ -9,5 +9,5 @@ returns c =
     let command_fits : FitsSigned w32 c.int_at-2.result = search rules in
     let runlevel_fits : FitsSigned w32 c.int_at-3.result = search rules in
     let sleeptime_fits : FitsSigned w32 c.int_at-4.result = search rules in
-    let says = simp to_z-of_z at c.got_of_ints.ensures in
+    let says = simp to_z-of_z at c.heard_of_ints.ensures in
     says ∙ rw (c.int_at.ensures, c.int_at-2.ensures, c.int_at-3.ensures, c.int_at-4.ensures)

@@ -3,21 +3,21 @@ use Rattle.std.proofs.lemmas.List.{length-take, take_all}
 use Rattle.std.proofs.Math.Seq.{drop-cons, set-append_seam}
 use Rattle.std.specs.Prelude.{slice_set}
 use Rattle.std.specs.Option.{option_to_list}
-use Rattle.initctl_frame.specs.declared.requests.Got.{Got}
+use Rattle.initctl_frame.specs.declared.requests.HeardRequest.{HeardRequest}
 use Rattle.initctl_frame.specs.Pieces.{Fills, filled}
 use Rattle.initctl_frame.proofs.pieces.put.Goals as goal
 
 -- the next place takes the request
-filled_next : (places gots : List Got) (got : Got) → length gots < length places
+filled_next : (places gots : List HeardRequest) (got : HeardRequest) → length gots < length places
     → slice_set (filled places gots) (length gots) got ≡ filled places (gots ++ got ∷ [])
 filled_next places gots got place =
     let size : length (gots ++ got ∷ []) ≡ suc (length gots) = omega (arith, length-append gots (got ∷ [])) in
     let before : filled places gots ≡ gots ++ get_or places (length gots) got ∷ drop (suc (length gots)) places =
-    ap₂ (λ (xs ys : List Got). xs ++ ys) (take_all (length places) gots (omega arith)) (drop-cons places (length gots) got place) in
-    ap (λ (xs : List Got). slice_set xs (length gots) got) before
+    ap₂ (λ (xs ys : List HeardRequest). xs ++ ys) (take_all (length places) gots (omega arith)) (drop-cons places (length gots) got place) in
+    ap (λ (xs : List HeardRequest). slice_set xs (length gots) got) before
     ∙ set-append_seam gots (get_or places (length gots) got) (drop (suc (length gots)) places) got
     ∙ sym (append_assoc gots (got ∷ []) (drop (suc (length gots)) places))
-    ∙ sym (ap₂ (λ (xs : List Got) (k : ℕ). xs ++ drop k places) (take_all (length places) (gots ++ got ∷ []) (omega arith)) size)
+    ∙ sym (ap₂ (λ (xs : List HeardRequest) (k : ℕ). xs ++ drop k places) (take_all (length places) (gots ++ got ∷ []) (omega arith)) size)
 
 pub returns-in-Some-clause-fills : goal.returns-in-Some-clause-fills
 returns-in-Some-clause-fills c = λ places gots fills.
@@ -27,8 +27,8 @@ returns-in-Some-clause-fills c = λ places gots fills.
     let next : c.args.count ≡ length gots = omega (arith, fills.as_many) in
     let place : length gots < length places = omega (arith, fills.as_many) in
     let got = c.in-Some.got in
-    subst (λ (told : Option Got). Fills places (gots ++ option_to_list told) (c.args.count + 1) (slice_set c.args.room.now c.args.count got)) (sym c.in-Some.is)
+    subst (λ (told : Option HeardRequest). Fills places (gots ++ option_to_list told) (c.args.count + 1) (slice_set c.args.room.now c.args.count got)) (sym c.in-Some.is)
     (record {
       as_many = omega (arith, length-append gots (got ∷ []));
-      in_front = ap₂ (λ (xs : List Got) (k : ℕ). slice_set xs k got) fills.in_front next ∙ filled_next places gots got place;
+      in_front = ap₂ (λ (xs : List HeardRequest) (k : ℕ). slice_set xs k got) fills.in_front next ∙ filled_next places gots got place;
     })

@@ -1,7 +1,7 @@
 use Rattle.std.proofs.Common.{◌≡◌, ◌∙◌, ℕ, ◌+◌, List, ◌++◌, length, take, drop, ap, sym, subst, arith, append_assoc, length-drop}
 use Rattle.std.proofs.Math.Seq.{take-add}
 use Rattle.std.proofs.lemmas.List.{take_rest, take_all}
-use Rattle.initctl_frame.specs.declared.requests.Got.{Got}
+use Rattle.initctl_frame.specs.declared.requests.HeardRequest.{HeardRequest}
 use Rattle.initctl_frame.specs.Blocks.{Stands, gots_of}
 use Rattle.initctl_frame.specs.Pieces.{Fills}
 use Rattle.initctl_frame.proofs.pieces.read_piece.Goals as goal
@@ -24,7 +24,7 @@ loop-done-preserved c =
       within = c.put-count.ensures.within;
       stands = λ bytes stood. subst (λ (xs : List ℕ). Stands c.feed-taken.new.self xs) (next bytes piece done taken)
           (stands (bytes ++ take done piece) (held.stands bytes stood));
-      fills = λ bytes places stood filled. subst (λ (gots : List Got). Fills places gots c.put-count.result c.put-count.new.room)
+      fills = λ bytes places stood filled. subst (λ (gots : List HeardRequest). Fills places gots c.put-count.result c.put-count.new.room)
           (sym (got (bytes ++ take done piece) (held.stands bytes stood)) ∙ ap gots_of (next bytes piece done taken))
           (c.put-count.ensures.fills places (gots_of (bytes ++ take done piece)) (held.fills bytes places stood filled));
     }

@@ -1,5 +1,5 @@
 use Rattle.std.proofs.Common.{◌≤◌, ◌-◌, ◌++◌, ℕ, List, length, take}
-use Rattle.initctl_frame.specs.declared.requests.Got.{Got}
+use Rattle.initctl_frame.specs.declared.requests.HeardRequest.{HeardRequest}
 use Rattle.initctl_frame.specs.Blocks.{Stands, gots_of}
 use Rattle.initctl_frame.specs.Pieces.{Fills}
 use Rattle.initctl_frame.proofs.pieces.read_piece.Given as goal
@@ -9,7 +9,7 @@ invariant-loop-done l = record {
   part : l.done ≤ length l.piece;
   within : l.count ≤ length l.room;
   stands : (bytes : List ℕ) → Stands l.fn.blocks bytes → Stands l.blocks (bytes ++ take l.done l.piece);
-  fills : (bytes : List ℕ) (places : List Got) → Stands l.fn.blocks bytes
+  fills : (bytes : List ℕ) (places : List HeardRequest) → Stands l.fn.blocks bytes
       → Fills places (gots_of bytes) l.fn.count l.fn.room → Fills places (gots_of (bytes ++ take l.done l.piece)) l.count l.room;
 }
 

@@ -1,6 +1,6 @@
 use Rattle.std.proofs.Common.{rules, ◌≡◌, sym, ◌∙◌, ap, subst, Bool, true, false}
 use Rattle.std.proofs.lemmas.Result.{IfOk-weaker}
-use Rattle.os_host.specs.Hosts.{HostState}
+use Rattle.host_system.specs.Hosts.{HostState}
 use Rattle.initd_options.specs.Options.{run_of}
 use Rattle.initd_command.specs.Hosts.{host_said}
 use Rattle.initd_command.proofs.os_hosts.host_of.Goals as goal

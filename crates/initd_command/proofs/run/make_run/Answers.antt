@@ -1,7 +1,7 @@
 use Rattle.std.proofs.Common.{rules, refl, sym, subst}
 use Rattle.std.specs.Io.KnownBytes.{Appends}
 use Rattle.program_io.specs.Writing.{AppendsPrefix}
-use Rattle.child_host.specs.Record.{Since}
+use Rattle.host_calls.specs.Record.{Since}
 use Rattle.initd_options.specs.Options.{run_of}
 use Rattle.initd_command.specs.Endings.{turned, untold}
 use Rattle.initd_command.specs.Ran.{MakesTurns}

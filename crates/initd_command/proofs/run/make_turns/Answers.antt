@@ -1,12 +1,12 @@
 use Rattle.std.proofs.Common.{◌≡◌, ℕ, Bool, not, refl, sym, subst, reverse}
-use Rattle.judged_log.specs.Judgements.{FindsBy, JudgedBy, judged_state}
-use Rattle.run_notes.specs.Notes.{Notes, NotesOf, noted_state}
+use Rattle.trace_log_wrappers.specs.Judgements.{FindsBy, JudgedBy, judged_state}
+use Rattle.trace_log_wrappers.specs.Notes.{Notes, NotesOf, noted_state}
 use Rattle.initd_options.specs.Options.{run_of}
-use Rattle.waiting_lines.specs.Lines.{waiting_text}
+use Rattle.core_waiting.specs.Lines.{waiting_text}
 use Rattle.initd_command.specs.Services.{end_of, noted_of}
-use Rattle.child_host.proofs.Record.{Since-map}
+use Rattle.host_calls.proofs.Record.{Since-map}
 use Rattle.host_trace.specs.Turns.{AreTurns}
-use Rattle.supervisor.specs.Opening.{IsOpening, Opens}
+use Rattle.init_turns.specs.Opening.{IsOpening, Opens}
 use Rattle.initd_command.proofs.Noted.{is_served, judged_still, served_still, turns_over}
 use Rattle.initd_command.proofs.run.make_turns.Goals as goal
 

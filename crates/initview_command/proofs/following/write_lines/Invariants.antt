@@ -1,6 +1,6 @@
 use Rattle.std.proofs.Common.{ℕ, List, ◌≤◌, ◌*◌, length}
 use Rattle.std.specs.Io.KnownBytes.{Consumes}
-use Rattle.path_texts.specs.declared.takers.TheConstants.{PIECE_LIMIT}
+use Rattle.program_io.specs.declared.takers.TheConstants.{PIECE_LIMIT}
 use Rattle.initview_command.specs.Following.{HasWritten}
 use Rattle.initview_command.proofs.following.write_lines.Given as goal
 

@@ -1,6 +1,6 @@
 use Rattle.std.proofs.Common.{rules, ◌≡◌, ◌∷◌, ◌++◌, [], refl, subst, map, string_bytes}
 use Rattle.std.proofs.lemmas.List.{append-nil}
-use Rattle.path_texts.specs.Known.{IsTextAt}
+use Rattle.program_io.specs.Known.{IsTextAt}
 use Rattle.initview_command.specs.Tables.{AreFilesAt}
 use Rattle.initview_command.proofs.Files.{file_of, is_none, one_more}
 use Rattle.initview_command.proofs.tables.read_files.Goals as goal

@@ -1,5 +1,5 @@
 use Rattle.std.proofs.Common.{◌≡◌, ◌∙◌, ap, sym, subst, inl, inr, map, string_bytes}
-use Rattle.child_host.specs.Record.{Since}
+use Rattle.host_calls.specs.Record.{Since}
 use Rattle.rc_command.specs.Endings.{RunsNames}
 use Rattle.rc_command.proofs.running.run_children.Goals as goal
 

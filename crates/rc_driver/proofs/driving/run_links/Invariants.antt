@@ -1,6 +1,6 @@
 use Rattle.std.proofs.Common.{◌≡◌, List, Option, None, false, length}
-use Rattle.child_host.specs.Calls.{HostCall}
-use Rattle.child_host.specs.Record.{Since}
+use Rattle.host_calls.specs.Calls.{HostCall}
+use Rattle.host_calls.specs.Record.{Since}
 use Rattle.rc_driver.specs.Report.{Output, output}
 use Rattle.rc_driver.specs.Runs.{RcState}
 use Rattle.rc_driver.specs.Told.{RunsLinks}

@@ -1,5 +1,5 @@
 use Rattle.std.proofs.Common.{◌≡◌, None, ◌*◌, ◌+◌, cond}
-use Rattle.child_host.specs.Record.{Since}
+use Rattle.host_calls.specs.Record.{Since}
 use Rattle.rc_driver.specs.Parts.{GoneTo, is_born, is_found}
 use Rattle.rc_driver.specs.Report.{Tells}
 use Rattle.rc_driver.specs.Times.{time_lines}

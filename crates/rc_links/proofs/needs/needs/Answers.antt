@@ -1,6 +1,6 @@
 use Rattle.std.proofs.Common.{◌∙◌, sym, subst, length, arith}
 use Rattle.std.proofs.lemmas.List.{drop_all}
-use Rattle.link_numbers.specs.Numbering.{InRange}
+use Rattle.rc_numbers.specs.Numbering.{InRange}
 use Rattle.rc_links.specs.Tables.{place_in}
 use Rattle.rc_links.proofs.NeedLemmas.{append-none, needs-next, needs-range}
 use Rattle.rc_links.proofs.needs.needs.Goals as goal

@@ -1,5 +1,5 @@
 use Rattle.std.proofs.Common.{◌≡◌, ◌∙◌, ℕ, List, IfOk, IfErr, length, subst}
-use Rattle.link_numbers.specs.Numbering.{HasNoNumbering, IsCycle, IsLeast}
+use Rattle.rc_numbers.specs.Numbering.{HasNoNumbering, IsCycle, IsLeast}
 use Rattle.rc_links.specs.Scripts.{needs_of}
 use Rattle.rc_links.proofs.PlanLemmas.{AreLeast-order}
 use Rattle.rc_links.proofs.planning.order_of.Goals as goal

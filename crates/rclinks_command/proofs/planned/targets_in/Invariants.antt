@@ -1,5 +1,5 @@
 use Rattle.std.proofs.Common.{◌≡◌, ◌++◌, map, drop}
-use Rattle.link_changes.specs.Changes.{targets_of}
+use Rattle.rc_links.specs.Changes.{targets_of}
 use Rattle.rclinks_command.specs.Writing.{target_of, targets_in}
 use Rattle.rclinks_command.proofs.planned.targets_in.Given as goal
 

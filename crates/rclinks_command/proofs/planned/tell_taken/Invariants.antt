@@ -1,5 +1,5 @@
 use Rattle.std.proofs.Common.{◌≡◌, ◌||◌, drop}
-use Rattle.link_changes.specs.Changes.{targets_of}
+use Rattle.rc_links.specs.Changes.{targets_of}
 use Rattle.rclinks_command.specs.Writing.{has_taken}
 use Rattle.rclinks_command.proofs.planned.tell_taken.Given as goal
 

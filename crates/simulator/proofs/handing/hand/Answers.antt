@@ -1,5 +1,5 @@
 use Rattle.std.proofs.Common.{Vec, ℕ, map, ◌∷◌, sym, ap, ◌∙◌, subst}
-use Rattle.init_trace.specs.declared.happenings.Happening.TheVariants as happening
+use Rattle.trace_events.specs.declared.happenings.Happening.TheVariants as happening
 use Rattle.core_model.specs.Fit.{StillFits}
 use Rattle.core_model.specs.Parts.{state_of}
 use Rattle.core_model.specs.State.{CoreState}

@@ -1,8 +1,8 @@
 use Rattle.std.proofs.Common.{◌∙◌, ap}
 use Rattle.core_model.specs.Parts.{state_of}
 use Rattle.core_model.specs.State.{CoreState}
-use Rattle.state_text.specs.declared.versions.Version.TheVariants.{V2}
-use Rattle.state_text.specs.Lines.{state_text}
+use Rattle.core_text.specs.declared.versions.Version.TheVariants.{V2}
+use Rattle.core_text.specs.Lines.{state_text}
 use Rattle.simulator.proofs.handing.make_text.Goals as goal
 
 pub returns-in-Ok-clause-text : goal.returns-in-Ok-clause-text

@@ -2,7 +2,7 @@ use Rattle.std.proofs.Common.{rules, ◌≡◌, ◌≢◌, ◌++◌, ◌+◌, �
 use Rattle.std.proofs.lemmas.Grind.{common_steps}
 use Rattle.std.proofs.lemmas.List.{nil_from_length}
 use Rattle.trace_text.specs.Lines.{event_text}
-use Rattle.init_trace.specs.Range.{is_in_range}
+use Rattle.trace_events.specs.Range.{is_in_range}
 use Rattle.trace_text.specs.Texts.{BeginsNone}
 use Rattle.trace_text.proofs.ReadTexts.{lines_within}
 use Rattle.simulator.specs.declared.running.SimFault.TheVariants as fault

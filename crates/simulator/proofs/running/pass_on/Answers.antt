@@ -1,6 +1,6 @@
 use Rattle.std.proofs.Common.{sym, ◌∙◌, subst, true, ◌≡◌, ◌∷◌}
-use Rattle.init_trace.specs.declared.happenings.Happening.TheVariants as event
-use Rattle.init_trace.specs.Range.{is_in_range}
+use Rattle.trace_events.specs.declared.happenings.Happening.TheVariants as event
+use Rattle.trace_events.specs.Range.{is_in_range}
 use Rattle.trace_laws.proofs.Runs.{run_sound}
 use Rattle.core_model.proofs.Fitted.{all_on}
 use Rattle.simulator.proofs.Hearing.{fits_at, fits_silent, nothing_told}
@@ -55,11 +55,11 @@ returns-in-Clock-clause-lasts g c goal past moment may =
 
 pub returns-in-Nudge-clause-fits : goal.returns-in-Nudge-clause-fits
 returns-in-Nudge-clause-fits g c goal past moment may =
-    fits_at goal past c.nudge.new.self c.args.happening.now event.Nudge c.in-Nudge.is (all_on c.args.core.now c.nudge.new.self goal past (event.Nudge ∷ past) (c.nudge.ensures.fits goal past (run_sound goal past moment.runs) moment.fits.0) moment.fits)
+    fits_at goal past c.begin_round.new.self c.args.happening.now event.Nudge c.in-Nudge.is (all_on c.args.core.now c.begin_round.new.self goal past (event.Nudge ∷ past) (c.begin_round.ensures.fits goal past (run_sound goal past moment.runs) moment.fits.0) moment.fits)
 
 pub returns-in-Nudge-clause-lasts : goal.returns-in-Nudge-clause-lasts
 returns-in-Nudge-clause-lasts g c goal past moment may =
-    lasts_at goal past c.nudge.new.self c.args.happening.now event.Nudge c.in-Nudge.is (lasts_nudge c.args.core.now c.nudge.new.self goal past moment.lasts c.nudge.ensures.state)
+    lasts_at goal past c.begin_round.new.self c.args.happening.now event.Nudge c.in-Nudge.is (lasts_nudge c.args.core.now c.begin_round.new.self goal past moment.lasts c.begin_round.ensures.state)
 
 pub returns-in-Got-clause-fits : goal.returns-in-Got-clause-fits
 returns-in-Got-clause-fits g c goal past moment may =

@@ -1,5 +1,5 @@
 use Rattle.std.proofs.Common.{rules, ◌≡◌, ◌∷◌, [], Err, ◌∙◌, ap, subst}
-use Rattle.init_trace.specs.declared.happenings.Happening.TheVariants.{NewTable}
+use Rattle.trace_events.specs.declared.happenings.Happening.TheVariants.{NewTable}
 use Rattle.init_words.proofs.Tests.{err_is}
 use Rattle.text_lines.specs.Lines.{ended}
 use Rattle.simulator.specs.declared.running.SimFault.TheVariants as fault

@@ -10,7 +10,7 @@ use Rattle.core_model.specs.State.{CoreState}
 use Rattle.simulator.proofs.Keeping.{lasts_step}
 use Rattle.simulator.proofs.Moves.{at_rest, moment_step, went_step, goes_step, leaves_behind, memory_after, more_run}
 use Rattle.simulator.proofs.running.run_until_rest.Goals as goal
-use Rattle.reexec_state.proofs.Generations.{step_same}
+use Rattle.core_handover.proofs.Generations.{step_same}
 
 -- init rests
 pub returns-in_default-clause-ok : goal.returns-in_default-clause-ok

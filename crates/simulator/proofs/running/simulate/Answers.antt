@@ -1,5 +1,5 @@
 use Rattle.std.proofs.Common.{rules, ◌≡◌, ◌∷◌, [], Err, ◌∙◌, ap, refl}
-use Rattle.init_trace.specs.declared.happenings.Happening.TheVariants.{NewTable}
+use Rattle.trace_events.specs.declared.happenings.Happening.TheVariants.{NewTable}
 use Rattle.inittab_text.specs.Reading.{table_of_text}
 use Rattle.simulator.specs.declared.running.SimFault.TheVariants as fault
 use Rattle.simulator.specs.Simulation.{goal_in, scenario}

@@ -1,5 +1,5 @@
 use Rattle.std.proofs.Common.{rules, ◌≡◌, Err}
-use Rattle.init_trace.specs.declared.happenings.Happening.TheVariants.{NewTable}
+use Rattle.trace_events.specs.declared.happenings.Happening.TheVariants.{NewTable}
 use Rattle.trace_text.specs.Lines.{event_text}
 use Rattle.simulator.specs.declared.running.SimFault.TheVariants as fault
 use Rattle.init_words.proofs.Tests.{err_is}

@@ -1,7 +1,7 @@
 use Rattle.std.proofs.Common.{◌≡◌, ◌≤◌, ◌+◌, ℕ, ◌&&◌, ◌||◌, List, length, take}
 use Rattle.std.specs.List.{list_any}
 use Rattle.inittab_text.specs.Tables.{has_id}
-use Rattle.init_trace.specs.Wanted.{starts_in}
+use Rattle.trace_events.specs.Wanted.{starts_in}
 use Rattle.trace_check.specs.State.{among}
 use Rattle.trace_check.specs.After.{is_named}
 use Rattle.indexmap.specs.IndexSet.{spare as set_spare}

@@ -1,5 +1,5 @@
 use Rattle.std.proofs.Common.{◌≡◌, ap, sym, ◌∙◌, subst, reverse, take, Some, None, option_map}
-use Rattle.init_trace.specs.Lawful.{broken}
+use Rattle.trace_events.specs.Lawful.{broken}
 use Rattle.trace_check.specs.Judging.{Judged, TakesNext}
 use Rattle.trace_check.specs.Laws.{law_number}
 use Rattle.trace_check.proofs.Passing.{one_more, breach_found, passed_all}

@@ -1,5 +1,5 @@
 use Rattle.std.proofs.Common.{◌≡◌, ◌∙◌, ◌+◌, sym, ap, subst, refl, Some, option_map, reverse, length}
-use Rattle.init_trace.specs.Lawful.{broken}
+use Rattle.trace_events.specs.Lawful.{broken}
 use Rattle.text_lines.specs.Lines.{newlines}
 use Rattle.trace_text.specs.Lines.{event_text, trace_text}
 use Rattle.trace_check.specs.Laws.{law_number}

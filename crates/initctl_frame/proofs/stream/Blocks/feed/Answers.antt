@@ -1,8 +1,8 @@
 use Rattle.std.proofs.Common.{rules, arith, ◌≡◌, ◌∙◌, ap, sym, ◌+◌, ◌-◌, ◌<◌, ◌≤◌, ◌++◌, ℕ, [], ◌∷◌, length, take, min, lit≤, length-take-le, append-nil}
-use Rattle.initctl_frame.specs.declared.requests.Got.{Got}
-use Rattle.initctl_frame.specs.Frames.{got_of}
+use Rattle.initctl_frame.specs.declared.requests.HeardRequest.{HeardRequest}
+use Rattle.initctl_frame.specs.Frames.{heard_of}
 use Rattle.initctl_frame.specs.Blocks.{Begun, gots_of, over_of}
-use Rattle.initctl_frame.proofs.BlockLemmas.{count_feeds, front_joins, got_of_front, gots_grow, gots_stay, over_feeds}
+use Rattle.initctl_frame.proofs.BlockLemmas.{count_feeds, front_joins, heard_of_front, gots_grow, gots_stay, over_feeds}
 use Rattle.initctl_frame.proofs.stream.Blocks.feed.Goals as goal
 
 pub returns-then-self-taken-lt-BLOCK-clause-stands :
@@ -43,5 +43,5 @@ returns-clause-got c = λ bytes stood.
     let block = items ∙ ap (λ (k : ℕ). front ++ take k piece) kept
     ∙ front_joins 16 taken (over_of bytes) piece front within (ap (λ (b : Begun). b.front) c.self.view_is ∙ stood.front) in
     gots_grow bytes (take taken piece) (omega arith)
-    ∙ ap (λ (got : Got). gots_of bytes ++ got ∷ [])
-    (sym (c.decode_front-got.ensures ∙ ap got_of block ∙ got_of_front 16 (over_of bytes ++ take taken piece) (lit≤ tt)))
+    ∙ ap (λ (got : HeardRequest). gots_of bytes ++ got ∷ [])
+    (sym (c.decode_front-got.ensures ∙ ap heard_of block ∙ heard_of_front 16 (over_of bytes ++ take taken piece) (lit≤ tt)))

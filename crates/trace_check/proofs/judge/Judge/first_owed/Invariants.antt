@@ -1,5 +1,5 @@
 use Rattle.std.proofs.Common.{◌≡◌, drop, find}
-use Rattle.init_trace.specs.Wanted.{entries_before}
+use Rattle.trace_events.specs.Wanted.{entries_before}
 use Rattle.trace_check.specs.Flaws.{is_owed_in}
 use Rattle.trace_check.proofs.judge.Judge.first_owed.Given as goal
 

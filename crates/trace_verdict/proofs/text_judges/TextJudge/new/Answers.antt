@@ -1,5 +1,5 @@
 use Rattle.std.proofs.Common.{refl, []}
-use Rattle.trace_front.proofs.FrontLemmas.{nil-goes}
+use Rattle.trace_text.proofs.FrontLemmas.{nil-goes}
 use Rattle.trace_verdict.proofs.text_judges.TextJudge.new.Goals as goal
 
 pub returns : goal.returns

@@ -1,7 +1,7 @@
 use Rattle.std.proofs.Common.{rules, ◌≡◌, ◌+◌, Some, ◌++◌, ◌∷◌, [], refl, subst}
 use Rattle.text_lines.specs.Lines.{newlines}
 use Rattle.trace_text.specs.Lines.{trace_text}
-use Rattle.trace_front.specs.Fronts.{NeverBegins}
+use Rattle.trace_text.specs.Fronts.{NeverBegins}
 use Rattle.trace_text.proofs.ReadTexts.{shorter}
 use Rattle.trace_verdict.specs.Readers.{capped, ReadsNext}
 use Rattle.trace_verdict.specs.Judges.{TextState, IsFound}

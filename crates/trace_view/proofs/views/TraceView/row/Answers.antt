@@ -2,7 +2,7 @@ use Rattle.std.proofs.Common.{◌∙◌, sym, ap, subst, false, option_map, find
 use Rattle.std.specs.Option.{option_map_or}
 use Rattle.init_words.specs.declared.entries.Entry.{Entry}
 use Rattle.inittab_text.specs.Tables.{entry_of}
-use Rattle.init_trace.specs.Past.{is_of}
+use Rattle.trace_events.specs.Past.{is_of}
 use Rattle.trace_view.specs.Viewing.{Viewed, is_excluded_by}
 use Rattle.trace_view.specs.Why.{number_of}
 use Rattle.trace_view.proofs.Stands.{rows, lives_not}

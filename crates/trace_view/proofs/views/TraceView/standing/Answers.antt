@@ -1,7 +1,7 @@
 use Rattle.std.proofs.Common.{◌∙◌, ap, cond, option_map, find, None}
 use Rattle.init_words.specs.declared.entries.Entry.{Entry}
-use Rattle.init_trace.specs.Past.{is_of}
-use Rattle.init_trace.specs.Wanted.{starts_in}
+use Rattle.trace_events.specs.Past.{is_of}
+use Rattle.trace_events.specs.Wanted.{starts_in}
 use Rattle.trace_view.specs.Why.{number_of}
 use Rattle.trace_view.proofs.Stands.{stands, excluded_is, wish_is, held_is, full_is}
 use Rattle.trace_view.proofs.views.TraceView.standing.Goals as goal

@@ -1,6 +1,6 @@
 use Rattle.std.proofs.Common.{◌∙◌, ◌≡◌, sym, ap, subst, option_copied, Some}
 use Rattle.inittab_text.specs.Tables.{entry_of}
-use Rattle.init_trace.specs.Past.{table_of}
+use Rattle.trace_events.specs.Past.{table_of}
 use Rattle.trace_view.specs.Viewing.{Viewed}
 use Rattle.trace_view.proofs.Stands.{found_own, why_found, why_none}
 use Rattle.trace_view.proofs.views.TraceView.why.Goals as goal

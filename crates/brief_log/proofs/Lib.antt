@@ -1,3 +1,0 @@
-pub mod AddLemmas
-pub mod Writing
-pub mod KeepLemmas

@@ -1,8 +1,0 @@
-use Rattle.std.proofs.Common.{nat_lt, rules}
-use Rattle.std.proofs.lemmas.List.Sorted.{IsPartitionPoint-from_clause}
-use Rattle.child_table.specs.declared.index.Keyed.{Keyed}
-use Rattle.child_table.proofs.Sorted.{sorted_parts}
-use Rattle.child_table.proofs.index.first_from.Goals as goal
-
-pub returns-clause-point : goal.returns-clause-point
-returns-clause-point c = IsPartitionPoint-from_clause (λ (d : Keyed). nat_lt d.key c.args.key) c.args.items.now c.partition_point.result c.partition_point.ensures.partitioned (sorted_parts c.args.key c.args.items.now c.requires) (λ a r f h. search rules)

@@ -1,8 +1,0 @@
-use Rattle.std.proofs.Common.{subst, sym, ap, ◌∙◌}
-use Rattle.child_table.specs.Stopping.{IsFirstTermed}
-use Rattle.child_table.specs.Indexing.{first_key}
-use Rattle.child_table.proofs.Keys.{first_is_first}
-use Rattle.child_table.proofs.records.Slots.first_termed.Goals as goal
-
-pub returns : goal.returns
-returns g c = subst (IsFirstTermed c.args.self.now) (sym (c.first_key.ensures ∙ ap first_key c.as_slice.ensures.value)) (first_is_first c.args.self.now c.self.inside.termed.items c.self.invariant.3.sorted (rw c.self.view_is at c.self.invariant.3.those))

@@ -1,8 +1,0 @@
-use Rattle.std.proofs.Common.{◌≡◌, ◌++◌, length}
-use Rattle.std.specs.Vec.Iter.{into_iter_items, into_iter_len}
-use Rattle.child_table.proofs.records.Slots.rebuilt.Given as goal
-
--- the records so far, and those that are left
-abbrev pub invariant-loop-slot : goal.invariant-loop-slot
-invariant-loop-slot g l = (l.slots ++ into_iter_items l.slot-iterator ≡ l.fn.given.items)
-    × (into_iter_len l.slot-iterator ≡ length (into_iter_items l.slot-iterator))

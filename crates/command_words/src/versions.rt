@@ -1,0 +1,57 @@
+//! The version of the programs, and the line that says it.
+
+ghost use Rattle.std.specs.Prelude.{◌≡◌, ◌⊎◌, true, OnOk, OnErr};
+ghost use Rattle.std.specs.Io.KnownBytes.{Appends};
+ghost use Rattle.program_io.specs.Writing.{AppendsPrefix};
+ghost use Rattle.command_words.specs.VersionLine.{PrintsVersion, version_line};
+
+use program_io::{DEVICE_FAULT, DONE, write_text};
+use std::io;
+use std::io::Write;
+
+/// The version of the programs.
+pub const VERSION: &str = "0.1.0";
+
+/// The toolchain that proves and builds them, as `rt version` names it but for the letter of its edition.
+pub const KIT: &str = "rattle-kit-13";
+
+/// Writes the line `NAME VERSION (KIT)`, and says whether all of it was written.
+pub fn write_version<W: Write>(name: &str, out: &mut W) -> bool
+    ensures done { result ≡ true
+        → Appends (W.contents out.old) (W.contents out.new) (version_line name.now) }
+    ensures part { AppendsPrefix (W.contents out.old) (W.contents out.new)
+        (version_line name.now) }
+{
+    match write_line(name, out) {
+        Ok(()) => out.flush().is_ok(),
+        Err(_) => false,
+    }
+}
+
+/// Writes the line of the version on `out`, and gives the exit status: 0, or 4 where it was not written whole, which is
+/// reported on `err`.
+pub fn print_version<W: Write, E: Write>(name: &str, out: &mut W, err: &mut E) -> u8
+    ensures statuses { (result ≡ DONE) ⊎ (result ≡ DEVICE_FAULT) }
+    ensures version { PrintsVersion name.now result (W.contents out.old) (W.contents out.new) }
+    ensures silent { result ≡ DONE → err.new ≡ err.old }
+{
+    if write_version(name, out) {
+        return DONE;
+    }
+    let _ = writeln!(err, "{name}: cannot write");
+    DEVICE_FAULT
+}
+
+fn write_line<W: Write>(name: &str, out: &mut W) -> io::Result<()>
+    ensures ok { OnOk result (Appends (W.contents out.old) (W.contents out.new)
+        (version_line name.now)) }
+    ensures err { OnErr result (AppendsPrefix (W.contents out.old) (W.contents out.new)
+        (version_line name.now)) }
+{
+    write_text(out, name.as_bytes())?;
+    write_text(out, b" ")?;
+    write_text(out, VERSION.as_bytes())?;
+    write_text(out, b" (")?;
+    write_text(out, KIT.as_bytes())?;
+    write_text(out, b")\n")
+}

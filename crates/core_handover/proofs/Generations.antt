@@ -1,0 +1,43 @@
+-- No step and no request is a generation more.
+use Rattle.std.proofs.Common.{◌≡◌, refl, Bool, true, false, cond, Option, Some, None}
+use Rattle.init_words.specs.declared.stages.Stage.{Stage}
+use Rattle.init_words.specs.declared.stages.Stage.TheVariants as stage
+use Rattle.init_words.specs.Levels.{same_level}
+use Rattle.initctl_frame.specs.declared.requests.HeardRequest.{HeardRequest}
+use Rattle.initctl_frame.specs.declared.requests.HeardRequest.TheVariants as got
+use Rattle.trace_events.specs.declared.steps.Goal.{Goal}
+use Rattle.trace_events.specs.declared.steps.Step.{Step}
+use Rattle.trace_events.specs.declared.steps.Step.TheVariants.{Enter, Call, Power, Reread, Order, Hold, Settle, Reexec, Idle}
+use Rattle.core_model.specs.declared.parts.CoreFields.{CoreFields}
+use Rattle.core_model.specs.State.{CoreState}
+use Rattle.core_model.specs.Steps.{after_got, after_step, heard_in}
+
+pub step_same : (s : Step) (c : CoreState) → (after_step s c).heads.generation ≡ c.heads.generation
+step_same (Enter now grace) c = refl
+step_same (Call letter) c = refl
+step_same (Power kind) c = refl
+step_same (Order id ask) c = refl
+step_same (Hold id) c = refl
+step_same (Settle level) c = refl
+step_same Reread c = refl
+step_same Reexec c = refl
+step_same Idle c = refl
+
+heard_same : (now : Option Stage) (wish : Goal) (heads : CoreFields) → (heard_in now wish heads).generation ≡ heads.generation
+heard_same (Some (stage.Run level)) wish heads = by (same_level wish.level level)
+  where
+    by : (b : Bool) → (cond b (record heads { level_wish = None }) (record heads { level_wish = Some wish; reread = true })).generation ≡ heads.generation
+    by true = refl
+    by false = refl
+heard_same (Some stage.Boot) wish heads = refl
+heard_same (Some stage.Sysinit) wish heads = refl
+heard_same None wish heads = refl
+
+pub request_same : (request : HeardRequest) (c : CoreState)
+    → (after_got request c).heads.generation ≡ c.heads.generation
+request_same (got.Level level grace) c = heard_same c.heads.stage (record { level = level; grace = grace }) c.heads
+request_same (got.Call letter) c = refl
+request_same got.Reload c = refl
+request_same got.Reexec c = refl
+request_same (got.Power kind) c = refl
+request_same (got.Nothing cause) c = refl

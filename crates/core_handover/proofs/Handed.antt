@@ -1,0 +1,24 @@
+-- What is handed on can be said, and keeps the rules of what is taken over.
+use Rattle.std.proofs.Common.{◌≡◌, refl, sym, ap, ◌∙◌, subst, ℕ, ◌+◌, ◌^◌, ◌<◌, true, false, List, map, arith}
+use Rattle.std.specs.List.{list_all}
+use Rattle.inittab_text.specs.Written.{is_table}
+use Rattle.core_model.specs.declared.parts.CoreFields.{CoreFields}
+use Rattle.core_model.specs.Parts.{record_of, state_of}
+use Rattle.core_model.specs.Rules.{IsFit}
+use Rattle.core_model.specs.State.{CoreState}
+use Rattle.core_model.specs.Steps.{after_handed_on}
+use Rattle.core_model.proofs.RuledHeard.{handed_on_keeps}
+use Rattle.core_text.specs.declared.versions.Version.TheVariants.{V2}
+use Rattle.core_text.specs.Lines.{state_text}
+use Rattle.core_text.specs.Range.{has_ranged_words, has_short_seconds}
+use Rattle.core_text.specs.Refused.{IsTextIn}
+use Rattle.core_text.proofs.Ranged.{state_ranged}
+
+pub handed_says : (old new : CoreState) (next : CoreFields) (text : List ℕ) → new ≡ after_handed_on old → next ≡ record old.heads { generation = old.heads.generation + 1; reexec = false } → old.heads.generation + 1 < 2 ^ 64 → is_table old.table ≡ true → list_all has_ranged_words old.slots ≡ true → text ≡ state_text (record { heads = next; table = old.table; records = map record_of old.slots }) → IsFit old → has_short_seconds old ≡ true → IsTextIn V2 text (state_of new) × IsFit new
+handed_says old new next text is heads small table ids said keeps short = subst (λ c. IsTextIn V2 text (state_of c) × IsFit c) (sym is)
+    (let kept : IsFit (after_handed_on old) = handed_on_keeps old keeps in
+    let written : text ≡ state_text (state_of (after_handed_on old)) = said ∙ ap (λ h. state_text (record { heads = h; table = old.table; records = map record_of old.slots })) heads in
+    ((state_ranged (after_handed_on old) kept (omega arith) small refl short table ids, sym written), kept))
+
+pub handed_text : (old new : CoreState) (next : CoreFields) (text : List ℕ) → new ≡ after_handed_on old → next ≡ record old.heads { generation = old.heads.generation + 1; reexec = false } → text ≡ state_text (record { heads = next; table = old.table; records = map record_of old.slots }) → text ≡ state_text (state_of new)
+handed_text old new next text is heads said = said ∙ ap (λ h. state_text (record { heads = h; table = old.table; records = map record_of old.slots })) heads ∙ ap (λ c. state_text (state_of c)) (sym is)

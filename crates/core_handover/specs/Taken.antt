@@ -1,0 +1,20 @@
+-- Why a text is not taken over.
+use Rattle.std.specs.Prelude.{◌≡◌, ◌≢◌, ℕ, List}
+use Rattle.core_model.specs.Parts.{SavedState, state_of}
+use Rattle.core_model.specs.Rules.{IsFit}
+use Rattle.core_model.specs.State.{CoreState}
+use Rattle.core_text.specs.declared.state_fault.StateFault.{StateFault}
+use Rattle.core_text.specs.declared.state_fault.StateFault.TheVariants.{Unfit}
+use Rattle.core_text.specs.Refused.{IsTextOf, Refused}
+
+-- the text is that of a state of the generation, and no core that keeps the rules has that state
+pub record IsUnfit (text : List ℕ) (generation : ℕ) : Type 0 where
+  pub state : SavedState
+  pub says : IsTextOf text state
+  pub own : state.heads.generation ≡ generation
+  pub unfit : (core : CoreState) → IsFit core → state_of core ≢ state
+
+-- the first check that fails: that of a text, and that its state keeps the rules
+abbrev pub NotTaken : List ℕ → ℕ → StateFault → Type 0
+NotTaken text generation Unfit = IsUnfit text generation
+NotTaken text generation why = Refused text generation why

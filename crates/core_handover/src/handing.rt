@@ -1,0 +1,126 @@
+//! The text of a core's state, which a re-execution carries.
+
+ghost use Rattle.std.specs.List.{list_all};
+ghost use Rattle.std.specs.Prelude.{◌≡◌, true, map, ◌+◌, ◌^◌, ◌==◌, ◌∷◌, if◌then◌else◌, false, Err, IfOk, IfErr, OnOk, OnErr};
+ghost use Rattle.core_records.specs.State.{child_number};
+ghost use Rattle.trace_events.specs.Range.{is_status};
+ghost use Rattle.trace_events.specs.declared.happenings.Handed.{Handed};
+ghost use Rattle.trace_events.specs.declared.happenings.Happening.TheVariants as happening;
+ghost use Rattle.core_model.specs.Fit.{StillFits, OnEachTrace};
+ghost use Rattle.core_model.specs.Parts.{record_of, state_of};
+ghost use Rattle.core_model.specs.Rules.{IsFit};
+ghost use Rattle.core_model.specs.Steps.{after_handed_on};
+ghost use Rattle.core_text.specs.declared.state_fault.StateFault.TheVariants as fault;
+ghost use Rattle.core_text.specs.Lines.{state_text};
+ghost use Rattle.core_text.specs.Range.{has_ranged_words, has_short_seconds, is_child, passes};
+ghost use Rattle.core_text.specs.declared.versions.Version.TheVariants.{V2};
+ghost use Rattle.core_text.specs.Refused.{IsTextIn};
+
+use core_model::CoreFields;
+use core_records::Record;
+use core_steps::Core;
+use core_text::{StateFault, write_state};
+use init_words::{Memory, Status};
+use std::alloc::Allocator;
+
+/// The heads that the next init begins with: it is a generation more, and its wish to be re-executed is over.
+fn next_heads(heads: CoreFields) -> Result<CoreFields, StateFault>
+    ensures next { IfOk result (λ next.
+        next ≡ record heads { generation = heads.generation + 1; reexec = false }) }
+    ensures worn { heads.generation + 1 ≡ 2 ^ 64 → result ≡ Err fault.Worn }
+    ensures refused { IfErr result (λ why. (why ≡ fault.Worn) × (heads.generation + 1 ≡ 2 ^ 64)) }
+{
+    let generation = heads.generation.checked_add(1).ok_or(StateFault::Worn)?;
+    Ok(CoreFields {
+        generation,
+        reexec: false,
+        ..heads
+    })
+}
+
+/// The number of a child fits its word.
+fn of_child(slot: &Record)
+    ensures { passes is_child (child_number slot.now) ≡ true }
+{
+    if let Some(number) = slot.child() {
+        let _number = number.0;
+    }
+}
+
+/// An exit status fits its word.
+fn of_status(status: Status)
+    ensures { is_status status ≡ true }
+{
+    if let Status::Exit(code) = status {
+        let _code = code;
+    }
+}
+
+fn of_last(slot: &Record)
+    ensures { passes is_status slot.now.last ≡ true }
+{
+    if let Some(status) = slot.last() {
+        of_status(status);
+    }
+}
+
+/// The id of a record is an id, and the number of its child and its last status fit their words.
+fn of_record(slot: &Record)
+    ensures { has_ranged_words slot.now ≡ true }
+{
+    let _ = slot.id().as_bytes();
+    of_child(slot);
+    of_last(slot);
+}
+
+/// So it is of all records. It does nothing: its contract is the law.
+fn law_of_records(slots: &[Record])
+    ensures { list_all has_ranged_words slots.now ≡ true }
+{
+    for slot in slots {
+        of_record(slot);
+    }
+}
+
+/// The text of what the core keeps, with these heads.
+fn text_of<A: Allocator + Copy, B: Allocator>(
+    alloc: A,
+    heads: &CoreFields,
+    core: &Core<B>,
+) -> Result<Vec<u8, A>, Memory>
+    ensures { IfOk result (λ text. text.items ≡ state_text (record {
+      heads = heads.now;
+      table = core.now.table;
+      records = map record_of core.now.slots;
+    })) }
+{
+    write_state(alloc, heads, core.table(), core.slots().as_slice())
+}
+
+/// Hands init's state on: the text, of version 2, is that of the state that the next init begins with, which is a
+/// generation more and no longer wishes to be re-executed. Refused where there is no greater generation (`Worn`), and
+/// for lack of memory; a refusal changes nothing.
+pub fn hand_over<A: Allocator + Copy, B: Allocator>(
+    alloc: A,
+    core: &mut Core<B>,
+) -> Result<Vec<u8, A>, StateFault>
+    ensures text { IfOk result (λ text. text.items ≡ state_text (state_of core.new)) }
+    ensures state { OnOk result (core.new ≡ after_handed_on core.old) }
+    ensures worn { core.old.heads.generation + 1 ≡ 2 ^ 64 → result ≡ Err fault.Worn }
+    ensures refused { IfErr result (λ why.
+        why ≡ (if core.old.heads.generation + 1 == 2 ^ 64 then fault.Worn else fault.Memory)) }
+    ensures unchanged { OnErr result (core.new ≡ core.old) }
+    ensures fits { OnOk result (OnEachTrace core.old (λ goal past. (how : Handed)
+        → StillFits core.old core.new goal past (happening.Handed how ∷ past))) }
+    // What was handed on can be taken over.
+    ensures said { IfOk result (λ text. has_short_seconds core.old ≡ true
+        → IsTextIn V2 text.items (state_of core.new) × IsFit core.new) }
+{
+    core.law_of_rules();
+    let heads = next_heads(core.heads())?;
+    let _ = core.table().len();
+    law_of_records(core.slots().as_slice());
+    let text = text_of(alloc, &heads, core)?;
+    core.handed_on();
+    Ok(text)
+}

@@ -1,0 +1,43 @@
+//! The core that a carried text says, or why it is refused.
+
+ghost use Rattle.std.specs.Prelude.{◌≡◌, Err, IfOk, IfErr};
+ghost use Rattle.std.specs.Result.{MatchResult};
+ghost use Rattle.core_model.specs.Parts.{state_of};
+ghost use Rattle.core_model.specs.Rules.{IsFit};
+ghost use Rattle.core_model.specs.State.{CoreState};
+ghost use Rattle.core_text.specs.declared.state_fault.StateFault.TheVariants as fault;
+ghost use Rattle.core_text.specs.Refused.{IsCut, IsOtherVersion, IsTextOf};
+ghost use Rattle.core_handover.specs.Taken.{NotTaken};
+
+use core_steps::{Core, Rebuild};
+use core_text::{StateFault, read_state};
+use std::alloc::Allocator;
+
+/// Takes over the state that a text says, of an init of this generation. What is refused is named by the first check
+/// that fails: those of `read_state`, and then that the state keeps the rules that each init's does (`Unfit`). A text of
+/// version 1 says nothing of how the last children ended, and so no last status is there.
+pub fn take_over<A: Allocator + Copy>(
+    alloc: A,
+    text: &[u8],
+    generation: u64,
+) -> Result<Core<A>, StateFault>
+    ensures taken { IfOk result (λ core. IsTextOf text.now (state_of core)) }
+    ensures kept { IfOk result (λ core. IsFit core) }
+    ensures generation { IfOk result (λ core. core.heads.generation ≡ generation) }
+    // Where the text is that of a core that keeps the rules, that core is taken over.
+    ensures only { (core : CoreState) → IsFit core → IsTextOf text.now (state_of core)
+        → core.heads.generation ≡ generation
+        → MatchResult result (λ taken. taken ≡ core) (λ why. why ≡ fault.Memory) }
+    // A text that is cut, as every proper prefix of one that was handed over is, is told for that alone, with memory or
+    // without; so is one of another version.
+    ensures cut { IsCut text.now → result ≡ Err fault.Cut }
+    ensures version { IsOtherVersion text.now → result ≡ Err fault.Version }
+    ensures refused { IfErr result (λ why. NotTaken text.now generation why) }
+{
+    let parts = read_state(alloc, text, generation)?;
+    match Core::rebuilt(alloc, parts) {
+        Ok(core) => Ok(core),
+        Err(Rebuild::Unfit) => Err(StateFault::Unfit),
+        Err(Rebuild::Memory) => Err(StateFault::Memory),
+    }
+}

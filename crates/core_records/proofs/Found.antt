@@ -1,0 +1,254 @@
+-- A map whose keys are the ids of its records, against the list of its records: one is found, changed or taken out.
+use Rattle.std.proofs.Common.{◌≡◌, refl, sym, ◌∙◌, ap, subst, cond, Bool, true, false, not, ◌||◌, List, [], ◌∷◌, ◌++◌, ℕ, zero, suc, map, slice_get, Option, Some, None, is_some, Ok}
+use Rattle.std.specs.List.{list_any, IsDistinct, AllByRecursion}
+use Rattle.std.specs.Option.{IfSome, option_copied}
+use Rattle.std.specs.Borrow.{Bor}
+use Rattle.std.specs.Map.{keys_of, values_of, lookup, set_value, remove_entry}
+use Rattle.std.proofs.lemmas.Bool.{and_parts, and_from, or_parts, or_from, not-true, not_from_false}
+use Rattle.init_words.specs.Ids.{same_id}
+use Rattle.init_words.specs.declared.orders.Answer.{Answer}
+use Rattle.init_words.proofs.Same.{same_id-is, same_id-self}
+use Rattle.init_words.proofs.Tests.{both_ways}
+use Rattle.inittab_text.proofs.Entries.{lookup-find, values-push, keys-push}
+use Rattle.indexmap.specs.IndexMap.{IndexMap, IsUnique, WritesThrough, insert_entry}
+use Rattle.indexmap.proofs.CallerLemmas.{insert_entry-new}
+use Rattle.core_records.specs.State.{RecordState}
+use Rattle.core_records.specs.Times.{is_timely, are_timely}
+use Rattle.core_records.specs.Lists.{ids_of_records, is_record_of, are_distinct, record_by_id, order_of, refusal_of, with_changed, without}
+use Rattle.core_records.proofs.Timely.{timely_changed, timely_filter, timely_found, timely_map, timely_push}
+
+-- a map's entries, and that its keys are the ids of its records
+abbrev pub Kept : Type 0
+Kept = List (List ℕ × RecordState)
+
+abbrev pub IsOwn : Kept → Type 0
+IsOwn kept = keys_of kept ≡ ids_of_records (values_of kept)
+
+-- one of the records is that of the id
+abbrev pub is_listed : List ℕ → List RecordState → Bool
+is_listed id slots = list_any (is_record_of id) slots
+
+-- no id has two records
+none_same : (id : List ℕ) (slots : List RecordState) → AllByRecursion (λ k. same_id id k ≡ false) (ids_of_records slots) → is_listed id slots ≡ false
+none_same id [] h = refl
+none_same id (slot ∷ slots) h = or_from (is_record_of id slot) (is_listed id slots) h.0 (none_same id slots h.1)
+
+distinct_ids : (slots : List RecordState) → IsDistinct same_id (ids_of_records slots) → are_distinct slots ≡ true
+unfolding IsDistinct
+distinct_ids [] h = refl
+distinct_ids (slot ∷ slots) h = and_from (not (is_listed slot.id slots)) (are_distinct slots) (not_from_false (is_listed slot.id slots) (none_same slot.id slots h.0)) (distinct_ids slots h.1)
+
+pub distinct_kept : (kept : Kept) → IsOwn kept → IsDistinct same_id (keys_of kept) → are_distinct (values_of kept) ≡ true
+distinct_kept kept own h = distinct_ids (values_of kept) (subst (IsDistinct same_id) own h)
+
+pub distinct_in : {S : Type 0} (m : IndexMap (List ℕ) RecordState S) (slots : List RecordState) → IsOwn m.entries → IsUnique same_id m → values_of m.entries ≡ slots → are_distinct slots ≡ true
+distinct_in m slots own unique is = rw (← is) (distinct_kept m.entries own unique)
+
+-- none behind the record of an id has that id
+pub others : (id : List ℕ) (slot : RecordState) (slots : List RecordState) → are_distinct (slot ∷ slots) ≡ true → is_record_of id slot ≡ true → is_listed id slots ≡ false
+others id slot slots distinct is = subst (λ k. is_listed k slots ≡ false) (sym (same_id-is id slot.id is)) (not-true (is_listed slot.id slots) (and_parts (not (is_listed slot.id slots)) (are_distinct slots) distinct).0)
+
+pub rest_distinct : (slot : RecordState) (slots : List RecordState) → are_distinct (slot ∷ slots) ≡ true → are_distinct slots ≡ true
+rest_distinct slot slots distinct = (and_parts (not (is_listed slot.id slots)) (are_distinct slots) distinct).1
+
+-- no record of the id, nothing changed
+pub unchanged : (id : List ℕ) (change : RecordState → RecordState) (slots : List RecordState) → is_listed id slots ≡ false → with_changed id change slots ≡ slots
+unchanged id change [] h = refl
+unchanged id change (slot ∷ slots) h =
+    let parts = or_parts (is_record_of id slot) (is_listed id slots) h in
+    rw (parts.0, unchanged id change slots parts.1) refl
+
+-- the record that was found is changed
+pub values-changed : (id : List ℕ) (change : RecordState → RecordState) (slot : RecordState) (kept : Kept) → IsOwn kept → are_distinct (values_of kept) ≡ true → lookup (same_id id) kept ≡ Some slot → values_of (set_value (same_id id) kept (change slot)) ≡ with_changed id change (values_of kept)
+values-changed id change slot [] own distinct is = absurd (cc)
+values-changed id change slot (e ∷ kept) own distinct is =
+    let first : e.0 ≡ e.1.id = cc in
+    let rest : IsOwn kept = cc in
+    subst (λ (d : Bool). values_of (set_value (same_id id) (e ∷ kept) (change slot)) ≡ cond d (change e.1) e.1 ∷ with_changed id change (values_of kept)) (ap (same_id id) first)
+    (here (same_id id e.0) refl first is (values-changed id change slot kept rest (rest_distinct e.1 (values_of kept) distinct)))
+  where
+    here : (b : Bool) → same_id id e.0 ≡ b → e.0 ≡ e.1.id → cond b (Some e.1) (lookup (same_id id) kept) ≡ Some slot → (lookup (same_id id) kept ≡ Some slot → values_of (set_value (same_id id) kept (change slot)) ≡ with_changed id change (values_of kept))
+        → values_of (cond b ((e.0, change slot) ∷ kept) (e ∷ set_value (same_id id) kept (change slot))) ≡ cond b (change e.1) e.1 ∷ with_changed id change (values_of kept)
+    here true own first is later =
+        let same : e.1 ≡ slot = cc in
+        let none : is_listed id (values_of kept) ≡ false = others id e.1 (values_of kept) distinct (ap (same_id id) (sym first) ∙ own) in
+        rw (same, unchanged id change (values_of kept) none) refl
+    here false own first is later = ap (λ slots. e.1 ∷ slots) (later is)
+
+-- a change that keeps ids keeps them all
+pub ids-changed : (id : List ℕ) (change : RecordState → RecordState) → ((slot : RecordState) → (change slot).id ≡ slot.id) → (slots : List RecordState) → ids_of_records (with_changed id change slots) ≡ ids_of_records slots
+ids-changed id change keeps [] = refl
+ids-changed id change keeps (slot ∷ slots) = rw (chosen (is_record_of id slot), ids-changed id change keeps slots) refl
+  where
+    chosen : (b : Bool) → (cond b (change slot) slot).id ≡ slot.id
+    chosen true = keeps slot
+    chosen false = refl
+
+-- the map's look-up is the list's
+pub looked_up : (id : List ℕ) (kept : Kept) (slots : List RecordState) → IsOwn kept → values_of kept ≡ slots → lookup (same_id id) kept ≡ record_by_id id slots
+looked_up id kept slots own is = lookup-find (λ (s : RecordState). s.id) (same_id id) kept own ∙ ap (record_by_id id) is
+
+-- the record at a place
+pub at_place : (kept : Kept) (place : ℕ) (id : List ℕ) (slot : RecordState) → Some (id, slot) ≡ slice_get kept place → Some slot ≡ slice_get (values_of kept) place
+at_place [] place id slot is = absurd (cc)
+at_place (e ∷ kept) zero id slot is = let same : (id, slot) ≡ e = cc in ap (λ (x : List ℕ × RecordState). Some x.1) same
+at_place (e ∷ kept) (suc place) id slot is = at_place kept place id slot is
+
+-- where no record is found, none is that of the id
+pub none_found : (id : List ℕ) (slots : List RecordState) → record_by_id id slots ≡ None → is_listed id slots ≡ false
+none_found id [] is = refl
+none_found id (slot ∷ slots) is = here (is_record_of id slot) is (none_found id slots)
+  where
+    here : (b : Bool) → cond b (Some slot) (record_by_id id slots) ≡ None → (record_by_id id slots ≡ None → is_listed id slots ≡ false) → (b || is_listed id slots) ≡ false
+    here true is later = absurd (cc)
+    here false is later = later is
+
+listed : (id : List ℕ) (slots : List RecordState) (slot : RecordState) → record_by_id id slots ≡ Some slot → is_listed id slots ≡ true
+listed id [] slot is = absurd (cc)
+listed id (first ∷ slots) slot is = here (is_record_of id first) is (listed id slots slot)
+  where
+    here : (b : Bool) → cond b (Some first) (record_by_id id slots) ≡ Some slot → (record_by_id id slots ≡ Some slot → is_listed id slots ≡ true) → (b || is_listed id slots) ≡ true
+    here true is later = refl
+    here false is later = later is
+
+-- the record at a place is found by its id
+pub found_at : (slots : List RecordState) (place : ℕ) (slot : RecordState) → are_distinct slots ≡ true → slice_get slots place ≡ Some slot → record_by_id slot.id slots ≡ Some slot
+found_at [] place slot distinct is = absurd (cc)
+found_at (first ∷ slots) zero slot distinct is =
+    let same : first ≡ slot = cc in
+    rw (same, same_id-self slot.id) refl
+found_at (first ∷ slots) (suc place) slot distinct is = here (is_record_of slot.id first) refl (found_at slots place slot (rest_distinct first slots distinct) is)
+  where
+    here : (b : Bool) → is_record_of slot.id first ≡ b → record_by_id slot.id slots ≡ Some slot → cond b (Some first) (record_by_id slot.id slots) ≡ Some slot
+    here true own later =
+        let none = others slot.id first slots distinct own in
+        both_ways (is_listed slot.id slots) (listed slot.id slots slot later) none
+    here false own later = later
+
+-- what a write to the record that was found leaves of the map: its records, that its keys are their ids, and that they
+-- are timely where the change keeps that
+pub record Left (id : List ℕ) (change : RecordState → RecordState) (slots : List RecordState) (new : Kept) : Type 0 where
+  pub values : values_of new ≡ with_changed id change slots
+  pub own : IsOwn new
+  pub timely : (limit : ℕ) → ((s : RecordState) → is_timely limit s ≡ true → is_timely limit (change s) ≡ true) → are_timely limit slots ≡ true → are_timely limit (values_of new) ≡ true
+
+pub written : {S : Type 0} (id : List ℕ) (change : RecordState → RecordState) (slot left : RecordState) (m n : IndexMap (List ℕ) RecordState S) (slots : List RecordState) → ((s : RecordState) → (change s).id ≡ s.id)
+    → IsOwn m.entries → IsUnique same_id m → values_of m.entries ≡ slots → Some slot ≡ lookup (same_id id) m.entries
+    → left ≡ change slot → WritesThrough same_id (same_id id) m left n → Left id change slots n.entries
+written id change slot left m n slots keeps own unique is found done wrote =
+    let old : values_of n.entries ≡ with_changed id change (values_of m.entries) = ap values_of (wrote.0 ∙ ap (set_value (same_id id) m.entries) done) ∙ values-changed id change slot m.entries own (distinct_kept m.entries own unique) (sym found) in
+    let values : values_of n.entries ≡ with_changed id change slots = old ∙ ap (with_changed id change) is in
+    record {
+      values = values;
+      own = wrote.1 ∙ own ∙ sym (ids-changed id change keeps (values_of m.entries)) ∙ sym (ap ids_of_records old);
+      timely = λ limit kept all. rw values (timely_changed limit id change kept slots all);
+    }
+
+-- the record that was found, in the list
+pub found_in : (id : List ℕ) (slot : RecordState) (kept : Kept) (slots : List RecordState) → IsOwn kept → values_of kept ≡ slots → Some slot ≡ lookup (same_id id) kept → record_by_id id slots ≡ Some slot
+found_in id slot kept slots own is found = sym (looked_up id kept slots own is) ∙ sym found
+
+pub absent_in : (id : List ℕ) (found : Option RecordState) (kept : Kept) (slots : List RecordState) → IsOwn kept → values_of kept ≡ slots → found ≡ lookup (same_id id) kept → found ≡ None → record_by_id id slots ≡ None
+absent_in id found kept slots own is look none = sym (looked_up id kept slots own is) ∙ sym look ∙ none
+
+-- an answer that is taken has a record
+pub taken_has : (found : Option RecordState) (answer : Answer) → refusal_of (order_of found) answer ≡ Ok tt → is_some found ≡ true
+taken_has None answer is = absurd (cc)
+taken_has (Some slot) answer is = refl
+
+-- without the record of an id: the records, and the ids
+pub without_none : (id : List ℕ) (slots : List RecordState) → is_listed id slots ≡ false → without id slots ≡ slots
+without_none id [] h = refl
+without_none id (slot ∷ slots) h =
+    let parts = or_parts (is_record_of id slot) (is_listed id slots) h in
+    rw (parts.0, without_none id slots parts.1) refl
+
+values-removed : (id : List ℕ) (kept : Kept) → IsOwn kept → lookup (same_id id) (remove_entry (same_id id) kept) ≡ None → values_of (remove_entry (same_id id) kept) ≡ without id (values_of kept)
+values-removed id [] own gone = refl
+values-removed id (e ∷ kept) own gone =
+    let first : e.0 ≡ e.1.id = cc in
+    let rest : IsOwn kept = cc in
+    subst (λ (d : Bool). values_of (remove_entry (same_id id) (e ∷ kept)) ≡ cond (not d) (e.1 ∷ without id (values_of kept)) (without id (values_of kept))) (ap (same_id id) first)
+    (here (same_id id e.0) refl rest gone (values-removed id kept rest))
+  where
+    here : (b : Bool) → same_id id e.0 ≡ b → IsOwn kept → lookup (same_id id) (cond b kept (e ∷ remove_entry (same_id id) kept)) ≡ None → (lookup (same_id id) (remove_entry (same_id id) kept) ≡ None → values_of (remove_entry (same_id id) kept) ≡ without id (values_of kept))
+        → values_of (cond b kept (e ∷ remove_entry (same_id id) kept)) ≡ cond (not b) (e.1 ∷ without id (values_of kept)) (without id (values_of kept))
+    here true is rest gone later = sym (without_none id (values_of kept) (none_found id (values_of kept) (sym (looked_up id kept (values_of kept) rest refl) ∙ gone)))
+    here false is rest gone later =
+        let none : cond false (Some e.1) (lookup (same_id id) (remove_entry (same_id id) kept)) ≡ None = subst (λ (d : Bool). cond d (Some e.1) (lookup (same_id id) (remove_entry (same_id id) kept)) ≡ None) is gone in
+        ap (λ slots. e.1 ∷ slots) (later none)
+
+own-removed : (test : List ℕ → Bool) (kept : Kept) → IsOwn kept → IsOwn (remove_entry test kept)
+own-removed test [] own = refl
+own-removed test (e ∷ kept) own =
+    let rest : IsOwn kept = cc in
+    here (test e.0) own rest (own-removed test kept rest)
+  where
+    here : (b : Bool) → IsOwn (e ∷ kept) → IsOwn kept → IsOwn (remove_entry test kept) → IsOwn (cond b kept (e ∷ remove_entry test kept))
+    here true all rest later = rest
+    here false all rest later = let first : e.0 ≡ e.1.id = cc in cc
+
+pub record LeftWithout (id : List ℕ) (slots : List RecordState) (new : Kept) : Type 0 where
+  pub values : values_of new ≡ without id slots
+  pub own : IsOwn new
+  pub timely : (limit : ℕ) → are_timely limit slots ≡ true → are_timely limit (values_of new) ≡ true
+
+-- what is left of the map without the record of an id
+pub removed : {S : Type 0} (id : List ℕ) (m n : IndexMap (List ℕ) RecordState S) (slots : List RecordState) → IsOwn m.entries → values_of m.entries ≡ slots → n.entries ≡ remove_entry (same_id id) m.entries → lookup (same_id id) n.entries ≡ None → LeftWithout id slots n.entries
+removed id m n slots own is left gone =
+    let values : values_of n.entries ≡ without id slots = ap values_of left ∙ values-removed id m.entries own (sym (ap (lookup (same_id id)) left) ∙ gone) ∙ ap (without id) is in
+    record {
+      values = values;
+      own = subst IsOwn (sym left) (own-removed (same_id id) m.entries own);
+      timely = λ limit all. rw values (timely_filter limit (λ slot. not (is_record_of id slot)) slots all);
+    }
+
+-- the records all changed
+pub mapped_values : (change : RecordState → RecordState) (kept : Kept) → values_of (map (λ (e : List ℕ × RecordState). (e.0, change e.1)) kept) ≡ map change (values_of kept)
+mapped_values change [] = refl
+mapped_values change (e ∷ kept) = ap (λ slots. change e.1 ∷ slots) (mapped_values change kept)
+
+mapped_own : (change : RecordState → RecordState) → ((s : RecordState) → (change s).id ≡ s.id) → (kept : Kept) → IsOwn kept → IsOwn (map (λ (e : List ℕ × RecordState). (e.0, change e.1)) kept)
+mapped_own change keeps [] own = refl
+mapped_own change keeps (e ∷ kept) own =
+    let first : e.0 ≡ e.1.id = cc in
+    let rest : IsOwn kept = cc in
+    let later = mapped_own change keeps kept rest in
+    cc (keeps e.1)
+
+pub record LeftAll (change : RecordState → RecordState) (slots : List RecordState) (new : Kept) : Type 0 where
+  pub values : values_of new ≡ map change slots
+  pub own : IsOwn new
+  pub timely : (limit : ℕ) → ((s : RecordState) → is_timely limit s ≡ true → is_timely limit (change s) ≡ true) → are_timely limit slots ≡ true → are_timely limit (values_of new) ≡ true
+
+-- what a change of each record leaves of the map
+pub all_written : (change : RecordState → RecordState) (kept new : Kept) (slots : List RecordState) → ((s : RecordState) → (change s).id ≡ s.id) → IsOwn kept → values_of kept ≡ slots → new ≡ map (λ (e : List ℕ × RecordState). (e.0, change e.1)) kept → LeftAll change slots new
+all_written change kept new slots keeps own is mapped =
+    let values : values_of new ≡ map change slots = ap values_of mapped ∙ mapped_values change kept ∙ ap (map change) is in
+    record {
+      values = values;
+      own = subst IsOwn (sym mapped) (mapped_own change keeps kept own);
+      timely = λ limit kept all. rw values (timely_map limit change kept slots all);
+    }
+
+-- what a record of a new id behind the others leaves
+pub record LeftPushed (slot : RecordState) (slots : List RecordState) (new : Kept) : Type 0 where
+  pub values : values_of new ≡ slots ++ slot ∷ []
+  pub own : IsOwn new
+  pub timely : (limit : ℕ) → is_timely limit slot ≡ true → are_timely limit slots ≡ true → are_timely limit (values_of new) ≡ true
+
+pub pushed : {S : Type 0} (slot : RecordState) (id : List ℕ) (m n : IndexMap (List ℕ) RecordState S) (slots : List RecordState) → id ≡ slot.id → IsOwn m.entries → values_of m.entries ≡ slots → record_by_id slot.id slots ≡ None → n.entries ≡ insert_entry same_id m.entries id slot → LeftPushed slot slots n.entries
+pushed slot id m n slots own_id own is new inserted =
+    let absent : lookup (same_id id) m.entries ≡ None = looked_up id m.entries slots own is ∙ ap (λ k. record_by_id k slots) own_id ∙ new in
+    let grown : n.entries ≡ m.entries ++ (slot.id, slot) ∷ [] = inserted ∙ insert_entry-new same_id m id slot absent ∙ ap (λ (k : List ℕ). m.entries ++ (k, slot) ∷ []) own_id in
+    let values : values_of n.entries ≡ slots ++ slot ∷ [] = ap values_of grown ∙ values-push m.entries slot.id slot ∙ ap (λ xs. xs ++ slot ∷ []) is in
+    record {
+      values = values;
+      own = subst IsOwn (sym grown) (keys-push (λ (s : RecordState). s.id) m.entries slot own);
+      timely = λ limit last all. rw values (timely_push limit slots slot all last);
+    }
+
+-- what was found is timely
+pub timely_some : (limit : ℕ) (id : List ℕ) (slots : List RecordState) (found : Option (Bor RecordState)) → option_copied found ≡ record_by_id id slots → are_timely limit slots ≡ true → IfSome found (λ slot. is_timely limit slot.now ≡ true)
+timely_some limit id slots None is all = tt
+timely_some limit id slots (Some slot) is all = timely_found limit id slot.now slots all (sym is)

@@ -1,0 +1,12 @@
+use Rattle.std.proofs.Common.{not, rules}
+use Rattle.std.proofs.lemmas.Fn.{filter_same}
+use Rattle.init_words.specs.Ids.{same_id}
+use Rattle.core_records.specs.declared.index.Keyed.{Keyed}
+use Rattle.core_records.proofs.Sorted.{sorted_filter}
+use Rattle.core_records.proofs.index.forget.Goals as goal
+
+pub returns-clause-items : goal.returns-clause-items
+returns-clause-items g c = filter_same _ (λ (d : Keyed). not (same_id c.args.id d.id)) _ (λ x b f h. search rules) _ _ c.retain.ensures.filtered
+
+pub returns-clause-sorted : goal.returns-clause-sorted
+returns-clause-sorted g c = rw (filter_same _ (λ (d : Keyed). not (same_id c.args.id d.id)) _ (λ x b f h. search rules) _ _ c.retain.ensures.filtered) (sorted_filter (λ (d : Keyed). not (same_id c.args.id d.id)) c.args.items.now.items c.requires)

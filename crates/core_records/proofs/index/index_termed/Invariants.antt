@@ -1,0 +1,12 @@
+use Rattle.std.proofs.Common.{◌≡◌, ◌≤◌, true, length, take}
+use Rattle.std.specs.Vec.{vec_capacity}
+use Rattle.core_records.specs.Indexing.{are_sorted, termed_of, AreKeysOf}
+use Rattle.core_records.proofs.index.index_termed.Given as goal
+
+-- the items of the records so far, and room for all
+abbrev pub invariant-loop-slot : goal.invariant-loop-slot
+invariant-loop-slot g l = record {
+  sorted : are_sorted l.items.items ≡ true;
+  those : AreKeysOf termed_of (take l.slot-index l.slots) l.items.items;
+  room : length l.slots ≤ vec_capacity l.items;
+}

@@ -1,0 +1,12 @@
+use Rattle.std.proofs.Common.{sym}
+use Rattle.std.specs.Map.{values_of}
+use Rattle.respawn_limit.specs.declared.TheConstants.{CLOCK_LIMIT}
+use Rattle.core_records.proofs.Found.{at_place}
+use Rattle.core_records.proofs.Timely.{timely_at}
+use Rattle.core_records.proofs.records.Records.at.Goals as goal
+
+pub returns-clause-value : goal.returns-clause-value
+returns-clause-value g c = rw (← c.self.view_is) (at_place c.self.inside.records.entries c.args.place _ c.in_ok-slot.slot.now c.in_ok-slot.ensures.entry)
+
+pub returns-clause-timely : goal.returns-clause-timely
+returns-clause-timely g c = timely_at CLOCK_LIMIT c.in_ok-slot.slot.now (values_of c.self.inside.records.entries) c.args.place c.self.invariant.1 (sym (at_place c.self.inside.records.entries c.args.place _ c.in_ok-slot.slot.now c.in_ok-slot.ensures.entry))

@@ -1,0 +1,10 @@
+use Rattle.std.proofs.Common.{ap, ◌∙◌, ◌==◌}
+use Rattle.std.specs.Option.{is_some}
+use Rattle.core_records.specs.declared.counts.Counts.{Counts}
+use Rattle.core_records.specs.State.{RecordState}
+use Rattle.core_records.specs.Counting.{counts_of}
+use Rattle.core_records.proofs.Counted.{none_counted}
+use Rattle.core_records.proofs.records.Records.is_idle.Goals as goal
+
+pub returns : goal.returns
+returns g c = ap (λ (k : Counts). k.orders == 0) (c.self.invariant.2 ∙ ap counts_of c.self.view_is) ∙ none_counted (λ (slot : RecordState). is_some slot.order) c.args.self.now

@@ -1,0 +1,34 @@
+use Rattle.std.proofs.Common.{rules, ap, sym, ◌∙◌, subst}
+use Rattle.std.proofs.lemmas.List.{length-map}
+use Rattle.std.proofs.lemmas.Map.Made.{map_same_pairs}
+use Rattle.std.specs.List.{count_by}
+use Rattle.std.specs.Option.{is_some}
+use Rattle.respawn_limit.specs.declared.TheConstants.{CLOCK_LIMIT}
+use Rattle.core_records.specs.State.{RecordState}
+use Rattle.core_records.specs.Judging.{after_judge}
+use Rattle.core_records.proofs.Changed.{id-after_judge, order-after_judge, timely_judge}
+use Rattle.core_records.specs.Counting.{counts_of}
+use Rattle.core_records.proofs.Counted.{judged_counts}
+use Rattle.core_records.proofs.Found.{all_written}
+use Rattle.core_records.specs.Stopping.{is_stop_due}
+use Rattle.core_records.specs.Indexing.{termed_of, IsIndex}
+use Rattle.core_records.proofs.records.Records.judge.Goals as goal
+
+pub invariant_of-self : goal.invariant_of-self
+invariant_of-self g c =
+    let left = all_written (after_judge c.args.table.now c.args.stage) c.self.inside.records.entries c.retain.new.self.entries c.args.self.now (λ s. id-after_judge c.args.table.now c.args.stage s) c.self.invariant.0 c.self.view_is (map_same_pairs _ (after_judge c.args.table.now c.args.stage) _ (λ k v b w f t. search rules) _ _ c.retain.ensures.filtered) in (
+      left.own,
+      left.timely CLOCK_LIMIT (λ s kept. timely_judge CLOCK_LIMIT c.args.table.now c.args.stage s kept) (rw c.self.view_is at c.self.invariant.1),
+      judged_counts (after_judge c.args.table.now c.args.stage) (λ s. order-after_judge c.args.table.now c.args.stage s) c.args.self.now c.self.inside.counts _ _ (c.self.invariant.2 ∙ ap counts_of c.self.view_is)
+          (c.count_excluded-self-inside.ensures ∙ ap (count_by (λ (s : RecordState). is_some s.stop)) (c.as_slice-slots.ensures ∙ c.values.ensures.rest ∙ left.values))
+          (c.count_due-self-inside.ensures ∙ ap (count_by (λ (s : RecordState). is_stop_due s.stop)) (c.as_slice-slots.ensures ∙ c.values.ensures.rest ∙ left.values)) ∙ sym (ap counts_of left.values),
+      subst (λ slots. IsIndex termed_of slots c.index_termed.new.items) (c.as_slice-slots.ensures ∙ c.values.ensures.rest) c.index_termed.ensures,
+    )
+
+pub returns : goal.returns
+returns g c = (all_written (after_judge c.args.table.now c.args.stage) c.self.inside.records.entries c.retain.new.self.entries c.args.self.now (λ s. id-after_judge c.args.table.now c.args.stage s) c.self.invariant.0 c.self.view_is (map_same_pairs _ (after_judge c.args.table.now c.args.stage) _ (λ k v b w f t. search rules) _ _ c.retain.ensures.filtered)).values
+
+pub index_termed-requires : goal.index_termed-requires
+index_termed-requires g c =
+    let left = all_written (after_judge c.args.table.now c.args.stage) c.self.inside.records.entries c.retain.new.self.entries c.args.self.now (λ s. id-after_judge c.args.table.now c.args.stage s) c.self.invariant.0 c.self.view_is (map_same_pairs _ (after_judge c.args.table.now c.args.stage) _ (λ k v b w f t. search rules) _ _ c.retain.ensures.filtered) in
+    rw (c.as_slice-slots.ensures, c.values.ensures.rest, left.values, length-map c.args.self.now (after_judge c.args.table.now c.args.stage), ← c.self.view_is) c.self.invariant.3.room

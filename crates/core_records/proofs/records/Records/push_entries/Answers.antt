@@ -1,0 +1,19 @@
+use Rattle.std.proofs.Common.{◌++◌, ◌+◌, map, drop}
+use Rattle.init_words.specs.declared.entries.Entry.{Entry}
+use Rattle.core_records.specs.Lists.{record_by_id}
+use Rattle.core_records.specs.Adopting.{adopted, entry_records}
+use Rattle.inittab_text.proofs.Entries.{one_made}
+use Rattle.core_records.proofs.Adopted.{new_of}
+use Rattle.core_records.proofs.records.Records.push_entries.Goals as goal
+
+pub push-requires-clause-new : goal.push-requires-clause-new
+push-requires-clause-new g c =
+    let made = λ (e : Entry). adopted e (record_by_id e.id c.args.before.now) in
+    let all = c.args.self.now ++ entry_records c.args.table.now c.args.before.now in
+    new_of c.loop-place.self c.adopted_record.result (map made (drop (c.loop-place.place + 1) c.args.table.now)) all
+    (one_made made c.loop-place.self c.args.table.now c.loop-place.place c.adopted_record.result all c.adopted_record.ensures.value c.loop-place.invariant) c.requires
+
+pub loop-place-preserved : goal.loop-place-preserved
+loop-place-preserved g c =
+    rw c.in_ok-push.ensures.pushed
+    (one_made (λ (e : Entry). adopted e (record_by_id e.id c.args.before.now)) c.loop-place.self c.args.table.now c.loop-place.place c.adopted_record.result (c.args.self.now ++ entry_records c.args.table.now c.args.before.now) c.adopted_record.ensures.value c.loop-place.invariant)

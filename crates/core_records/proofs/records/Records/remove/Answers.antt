@@ -1,0 +1,27 @@
+use Rattle.std.proofs.Common.{sym}
+use Rattle.init_words.specs.Ids.{same_id}
+use Rattle.respawn_limit.specs.declared.TheConstants.{CLOCK_LIMIT}
+use Rattle.core_records.proofs.Counted.{found_within, removed_counts}
+use Rattle.core_records.proofs.Found.{found_in, removed}
+use Rattle.core_records.specs.Indexing.{termed_of}
+use Rattle.core_records.proofs.Keys.{own_termed}
+use Rattle.core_records.proofs.Indexes.{removed_index}
+use Rattle.core_records.proofs.records.Records.remove.Goals as goal
+
+pub subtract-requires : goal.subtract-requires
+subtract-requires g c = rw (c.of.ensures, c.self.invariant.2, c.self.view_is) (found_within c.args.id c.in-Some.slot c.args.self.now (found_in c.args.id c.in-Some.slot c.self.inside.records.entries c.args.self.now c.self.invariant.0 c.self.view_is c.in-Some.ensures.value))
+
+pub invariant_of-self : goal.invariant_of-self
+invariant_of-self g c =
+    let left = removed c.args.id c.self.inside.records c.shift_remove.new.self c.args.self.now c.self.invariant.0 c.self.view_is c.shift_remove.ensures.entries c.shift_remove.ensures.updates.1 in (
+      left.own,
+      left.timely CLOCK_LIMIT (rw c.self.view_is at c.self.invariant.1),
+      rw (c.subtract.ensures, c.of.ensures, c.self.invariant.2, c.shift_remove.ensures.entries) (removed_counts (same_id c.args.id) c.in-Some.slot c.self.inside.records.entries (sym c.in-Some.ensures.value)),
+      removed_index termed_of own_termed c.args.id c.self.inside.termed c.forget.new.items c.self.view_is left.values c.forget.ensures.items c.forget.ensures.sorted c.forget.ensures.room c.self.invariant.3,
+    )
+
+pub returns-in-Some : goal.returns-in-Some
+returns-in-Some g c = (removed c.args.id c.self.inside.records c.shift_remove.new.self c.args.self.now c.self.invariant.0 c.self.view_is c.shift_remove.ensures.entries c.shift_remove.ensures.updates.1).values
+
+pub returns-in_default : goal.returns-in_default
+returns-in_default g c = (removed c.args.id c.self.inside.records c.shift_remove.new.self c.args.self.now c.self.invariant.0 c.self.view_is c.shift_remove.ensures.entries c.shift_remove.ensures.updates.1).values

@@ -1,0 +1,40 @@
+-- How many records have an open order, an open start or signal, a child that is to be stopped, and one without signal.
+use Rattle.std.specs.Prelude.{◌≤◌, ◌<◌, ◌+◌, ◌-◌, ◌^◌, List, is_some}
+use Rattle.std.specs.List.{count_by}
+use Rattle.core_records.specs.declared.counts.Counts.{Counts}
+use Rattle.core_records.specs.State.{RecordState}
+use Rattle.core_records.specs.Lists.{is_busy}
+use Rattle.core_records.specs.Stopping.{is_stop_due}
+
+abbrev pub counts_of : List RecordState → Counts
+counts_of slots = record {
+  orders = count_by (λ (slot : RecordState). is_some slot.order) slots;
+  busy = count_by (λ (slot : RecordState). is_busy slot.order) slots;
+  excluded = count_by (λ (slot : RecordState). is_some slot.stop) slots;
+  due = count_by (λ (slot : RecordState). is_stop_due slot.stop) slots;
+}
+
+-- some more, and some fewer
+abbrev pub plus : Counts → Counts → Counts
+plus counts more = record {
+  orders = counts.orders + more.orders;
+  busy = counts.busy + more.busy;
+  excluded = counts.excluded + more.excluded;
+  due = counts.due + more.due;
+}
+
+abbrev pub minus : Counts → Counts → Counts
+minus counts less = record {
+  orders = counts.orders - less.orders;
+  busy = counts.busy - less.busy;
+  excluded = counts.excluded - less.excluded;
+  due = counts.due - less.due;
+}
+
+-- each of the ones is at most that of the others, and each fits a machine's word
+abbrev pub IsWithin : Counts → Counts → Type 0
+IsWithin less counts = (less.orders ≤ counts.orders) × (less.busy ≤ counts.busy)
+    × (less.excluded ≤ counts.excluded) × (less.due ≤ counts.due)
+
+abbrev pub AreSmall : Counts → Type 0
+AreSmall counts = (counts.orders < 2 ^ 64) × (counts.busy < 2 ^ 64) × (counts.excluded < 2 ^ 64) × (counts.due < 2 ^ 64)

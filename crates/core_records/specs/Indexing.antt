@@ -1,0 +1,60 @@
+-- The records by the times of the SIGTERMs to their children.
+use Rattle.std.specs.Prelude.{◌≡◌, ◌≤◌, ℕ, Bool, true, false, not, ◌&&◌, if◌then◌else◌, List, [], ◌∷◌, filter, length, nat_lt, Option, Some, None, Vec}
+use Rattle.std.specs.List.{list_any, count_by, filter_map}
+use Rattle.std.specs.Vec.{vec_capacity}
+use Rattle.core_records.specs.declared.children.Stop.{Stop}
+use Rattle.core_records.specs.declared.children.Stop.TheVariants.{Termed}
+use Rattle.init_words.specs.declared.orders.Answer.{Answer}
+use Rattle.init_words.specs.declared.orders.Answer.TheVariants.{Born, Ended, Hit}
+use Rattle.init_words.specs.Ids.{same_id}
+use Rattle.core_records.specs.declared.index.Keyed.{Keyed}
+use Rattle.core_records.specs.State.{RecordState}
+
+-- the time of the SIGTERM to the child, if that was its last signal
+abbrev pub termed_at : List ℕ → Option Stop → Option Keyed
+termed_at id (Some (Termed time)) = Some (record { key = time; id = id })
+termed_at id _ = None
+
+abbrev pub termed_of : RecordState → Option Keyed
+termed_of slot = termed_at slot.id slot.stop
+
+-- the items of all records, in record order
+abbrev pub keys_of : (RecordState → Option Keyed) → List RecordState → List Keyed
+keys_of key_of slots = filter_map key_of slots
+
+-- none has a smaller key than one before it
+abbrev pub are_sorted : List Keyed → Bool
+are_sorted [] = true
+are_sorted (c ∷ cs) = not (list_any (λ (d : Keyed). nat_lt d.key c.key) cs) && are_sorted cs
+
+-- they are the items of the records: whatever is asked of an item, as many of them have it
+abbrev pub AreKeysOf : (RecordState → Option Keyed) → List RecordState → List Keyed → Type 0
+AreKeysOf key_of slots cs = (test : Keyed → Bool) → count_by test cs ≡ count_by test (keys_of key_of slots)
+
+-- the index of the records: their items, sorted, with room for one of each record
+pub record IsIndex {A : Type 0}
+    (key_of : RecordState → Option Keyed) (slots : List RecordState) (v : Vec Keyed A) : Type 0 where
+  pub sorted : are_sorted v.items ≡ true
+  pub those : AreKeysOf key_of slots v.items
+  pub room : length slots ≤ vec_capacity v
+
+-- how many pass a test: 0 or 1
+abbrev pub passes : (Keyed → Bool) → Option Keyed → ℕ
+passes test None = 0
+passes test (Some c) = if test c then 1 else 0
+
+-- without the item of an id
+abbrev pub without_id : List ℕ → List Keyed → List Keyed
+without_id id cs = filter (λ (c : Keyed). not (same_id id c.id)) cs
+
+-- an answer after which the stop of the id's child may be another
+abbrev pub moves_stop : Answer → Bool
+moves_stop (Born number) = true
+moves_stop (Ended status) = true
+moves_stop Hit = true
+moves_stop _ = false
+
+-- the key of the first
+abbrev pub first_key : List Keyed → Option ℕ
+first_key [] = None
+first_key (c ∷ cs) = Some c.key

@@ -1,0 +1,19 @@
+-- The times that a record keeps, in seconds: those of the last starts, and that of the last signal to its child.
+use Rattle.std.specs.Prelude.{ℕ, Bool, true, ◌&&◌, List, nat_le, Option, Some}
+use Rattle.std.specs.List.{list_all}
+use Rattle.core_records.specs.declared.children.Stop.{Stop}
+use Rattle.core_records.specs.declared.children.Stop.TheVariants.{Termed, Killed}
+use Rattle.core_records.specs.State.{RecordState}
+
+-- a signal was sent no later than now, if one was sent
+abbrev pub is_stop_timely : ℕ → Option Stop → Bool
+is_stop_timely now (Some (Termed time)) = nat_le time now
+is_stop_timely now (Some (Killed time)) = nat_le time now
+is_stop_timely now _ = true
+
+-- no time that is kept is later than now
+abbrev pub is_timely : ℕ → RecordState → Bool
+is_timely now slot = list_all (λ start. nat_le start now) slot.limiter.starts && is_stop_timely now slot.stop
+
+abbrev pub are_timely : ℕ → List RecordState → Bool
+are_timely now slots = list_all (is_timely now) slots

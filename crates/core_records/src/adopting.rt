@@ -1,0 +1,105 @@
+//! Records under another table: an entry keeps its record by its id, and what lost its entry is left over.
+
+ghost use Rattle.std.specs.Prelude.{◌≡◌, ◌<◌, ◌++◌, Some, None, map, length, slice_get, option_map, true, IfSome, IfOk, OnOk, OnErr};
+ghost use Rattle.std.specs.Option.{option_to_list};
+ghost use Rattle.respawn_limit.specs.declared.TheConstants.{CLOCK_LIMIT};
+ghost use Rattle.init_words.specs.declared.entries.Entry.{Entry};
+ghost use Rattle.core_records.specs.Times.{is_timely};
+ghost use Rattle.core_records.specs.Lists.{record_by_id, are_distinct};
+ghost use Rattle.core_records.specs.Adopting.{adopted, left_one, entry_records, left_records, after_adopt};
+
+use crate::record::Record;
+use crate::records::Records;
+use init_words::Memory;
+use inittab_text::Table;
+use std::alloc::Allocator;
+
+impl<A: Allocator + Copy> Records<A> {
+    ghost use Rattle.core_records.specs.State.{new_record};
+    ghost use Rattle.inittab_text.specs.Tables.{is_distinct};
+
+    /// The records of a table of which nothing was asked yet. A table has no id twice.
+    pub fn new(alloc: A, table: &Table<A>) -> Result<Records<A>, Memory>
+        ensures records { IfOk result (λ slots. slots ≡ map new_record table.now) }
+        ensures distinct { is_distinct table.now ≡ true }
+    {
+        let mut slots = Records::empty(alloc);
+        slots.adopt(table)?;
+        Ok(slots)
+    }
+
+    /// Another table was read: its entries have the records now, and those of other ids stay where they have a child.
+    /// Where memory runs out nothing is changed. A table has no id twice.
+    pub fn adopt(&mut self, table: &Table<A>) -> Result<(), Memory>
+        ensures adopted { OnOk result (self.new ≡ after_adopt table.now self.old) }
+        ensures unchanged { OnErr result (self.new ≡ self.old) }
+        ensures distinct { is_distinct table.now ≡ true }
+    {
+        let room = table.len().max(self.len());
+        let mut next = Records::with_room(self.allocator(), room)?;
+        next.push_entries(table, self)?;
+        next.push_left(table, self)?;
+        *self = next;
+        Ok(())
+    }
+}
+
+impl<A: Allocator> Records<A> {
+    fn push_entries(&mut self, table: &Table<A>, before: &Records<A>) -> Result<(), Memory>
+        requires { are_distinct (self.old ++ entry_records table.now before.now) ≡ true }
+        ensures { OnOk result (self.new ≡ self.old ++ entry_records table.now before.now) }
+    {
+        for place in 0..table.len() {
+            self.push(adopted_record(table, place, before))?;
+        }
+        Ok(())
+    }
+
+    fn push_left(&mut self, table: &Table<A>, before: &Records<A>) -> Result<(), Memory>
+        requires { are_distinct (self.old ++ left_records table.now before.now) ≡ true }
+        ensures { OnOk result (self.new ≡ self.old ++ left_records table.now before.now) }
+    {
+        for place in 0..before.len() {
+            self.push_any(left_record(table, before, place))?;
+        }
+        Ok(())
+    }
+
+    fn push_any(&mut self, slot: Option<Record>) -> Result<(), Memory>
+        requires new { IfSome slot (λ s. record_by_id s.id self.old ≡ None) }
+        requires timely { IfSome slot (λ s. is_timely CLOCK_LIMIT s ≡ true) }
+        ensures { OnOk result (self.new ≡ self.old ++ option_to_list slot) }
+    {
+        match slot {
+            Some(slot) => self.push(slot),
+            None => Ok(()),
+        }
+    }
+}
+
+/// The record of the entry at a place of another table.
+fn adopted_record<A: Allocator>(table: &Table<A>, place: usize, before: &Records<A>) -> Record
+    requires { place < length table.now }
+    ensures value { Some result
+        ≡ option_map (λ (e : Entry). adopted e (record_by_id e.id before.now))
+        (slice_get table.now place) }
+    ensures timely { is_timely CLOCK_LIMIT result ≡ true }
+{
+    let Some(entry) = table.at(place) else {
+        unreachable!()
+    };
+    Record::adopted(entry, before.by_id(&entry.id))
+}
+
+/// The record at a place, as it stays without an entry, if it does.
+fn left_record<A: Allocator>(table: &Table<A>, before: &Records<A>, place: usize) -> Option<Record>
+    ensures value { result ≡ left_one table.now (slice_get before.now place) }
+    ensures timely { IfSome result (λ s. is_timely CLOCK_LIMIT s ≡ true) }
+{
+    let slot = before.at(place)?;
+    if slot.is_left_over(table) {
+        Some(slot.left_over())
+    } else {
+        None
+    }
+}

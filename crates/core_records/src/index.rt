@@ -1,0 +1,134 @@
+//! An index of the records that were sent TERM, by the time at which KILL is due.
+
+ghost use Rattle.std.specs.Prelude.{◌≡◌, ◌≤◌, ◌+◌, Bool, if◌then◌else◌, nat_lt, true, false, length, OnOk};
+ghost use Rattle.std.specs.List.{count_by};
+ghost use Rattle.std.specs.List.Sorted.{IsPartitionPoint};
+ghost use Rattle.std.specs.Vec.{vec_capacity};
+ghost use Rattle.core_records.specs.declared.index.Keyed.{Keyed};
+ghost use Rattle.core_records.specs.Indexing.{are_sorted, termed_of, passes, without_id, moves_stop, first_key, IsIndex};
+
+use crate::children::Stop;
+use crate::record::Record;
+use init_words::{Answer, Id, Memory};
+use std::alloc::Allocator;
+
+/// What a record is found by: a number of it, and its id.
+#[derive(Clone, Copy)]
+pub(crate) struct Keyed {
+    pub(crate) key: u64,
+    pub(crate) id: Id,
+}
+
+/// The time of the SIGTERM to the record's child, if that was its last signal.
+pub(crate) fn termed_of(slot: &Record) -> Option<Keyed>
+    ensures { result ≡ termed_of slot.now }
+{
+    match slot.stop() {
+        Some(Stop::Termed(time)) => Some(Keyed {
+            key: time,
+            id: slot.id(),
+        }),
+        _ => None,
+    }
+}
+
+/// The stop of the id's child may be another after the answer.
+pub(crate) fn moves_stop(answer: &Answer) -> bool
+    ensures { result ≡ moves_stop answer.now }
+{
+    matches!(answer, Answer::Born(_) | Answer::Ended(_) | Answer::Hit)
+}
+
+/// The place of the first item with the key or a greater one.
+fn first_from(items: &[Keyed], key: u64) -> usize
+    requires { are_sorted items.now ≡ true }
+    ensures within { result ≤ length items.now }
+    ensures point { IsPartitionPoint (λ (item : Keyed). nat_lt item.key key ≡ true)
+        (λ (item : Keyed). nat_lt item.key key ≡ false) items.now result }
+{
+    items.partition_point(|item: &Keyed| item.key < key)
+}
+
+/// The least key, which is that of the first item.
+pub(crate) fn first_key(items: &[Keyed]) -> Option<u64>
+    ensures { result ≡ first_key items.now }
+{
+    let item = items.first()?;
+    Some(item.key)
+}
+
+/// Makes room for the items of the given number of records.
+pub(crate) fn make_room<A: Allocator>(
+    items: &mut Vec<Keyed, A>,
+    records: usize,
+) -> Result<(), Memory>
+    ensures items { items.new.items ≡ items.old.items }
+    ensures room { OnOk result (records ≤ vec_capacity items.new) }
+    ensures kept { vec_capacity items.old ≤ vec_capacity items.new }
+{
+    let missing = records.saturating_sub(items.len());
+    items.reserve(missing)?;
+    Ok(())
+}
+
+/// Takes out the item of an id.
+pub(crate) fn forget<A: Allocator>(items: &mut Vec<Keyed, A>, id: Id)
+    requires { are_sorted items.old.items ≡ true }
+    ensures items { items.new.items ≡ without_id id items.old.items }
+    ensures sorted { are_sorted items.new.items ≡ true }
+    ensures room { vec_capacity items.new ≡ vec_capacity items.old }
+{
+    items.retain(|item: &Keyed| item.id != id);
+}
+
+/// Puts in an item, if it is one, where there is room. It takes no memory.
+pub(crate) fn put<A: Allocator>(items: &mut Vec<Keyed, A>, item: Option<Keyed>)
+    requires sorted { are_sorted items.old.items ≡ true }
+    requires room { length items.old.items + passes (λ _. true) item
+        ≤ vec_capacity items.old }
+    ensures counts { (test : Keyed → Bool) → count_by test items.new.items
+        ≡ count_by test items.old.items + passes test item }
+    ensures sorted { are_sorted items.new.items ≡ true }
+    ensures room { vec_capacity items.old ≤ vec_capacity items.new }
+{
+    if let Some(item) = item {
+        let place = first_from(items.as_slice(), item.key);
+        if items.insert(place, item).is_err() {
+            unreachable!()
+        }
+    }
+}
+
+/// An answer about an id came, after which its record has this item, where it moves the one that it had.
+pub(crate) fn note<A: Allocator>(
+    items: &mut Vec<Keyed, A>,
+    id: &Id,
+    moves: bool,
+    item: Option<Keyed>,
+)
+    requires sorted { are_sorted items.old.items ≡ true }
+    requires room { length (without_id id.now items.old.items) + passes (λ _. true) item
+        ≤ vec_capacity items.old }
+    ensures counts { (test : Keyed → Bool) → count_by test items.new.items
+        ≡ (if moves
+        then count_by test (without_id id.now items.old.items) + passes test item
+        else count_by test items.old.items) }
+    ensures sorted { are_sorted items.new.items ≡ true }
+    ensures room { vec_capacity items.old ≤ vec_capacity items.new }
+{
+    if moves {
+        forget(items, *id);
+        put(items, item);
+    }
+}
+
+/// Makes the index of the times of SIGTERMs anew, where there is room for one a record. It takes no memory.
+pub(crate) fn index_termed<A: Allocator>(items: &mut Vec<Keyed, A>, slots: &[Record])
+    requires { length slots.now ≤ vec_capacity items.old }
+    ensures { IsIndex termed_of slots.now items.new }
+{
+    items.clear();
+    for slot in slots {
+        put(items, termed_of(slot));
+    }
+}

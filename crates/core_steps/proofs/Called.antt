@@ -1,0 +1,97 @@
+-- The entries of a table are called one by one.
+use Rattle.std.proofs.Common.{◌≡◌, suc, zero, refl, sym, ◌∙◌, ap, ℕ, ◌+◌, ◌<◌, arith, Bool, true, false, ◌&&◌, ◌||◌, cond, List, [], ◌∷◌, ◌++◌, length, take, slice_get, Some, None, is_some}
+use Rattle.std.specs.List.{list_any}
+use Rattle.init_words.specs.declared.entries.Entry.{Entry}
+use Rattle.init_words.specs.Ids.{same_id}
+use Rattle.init_words.proofs.Same.{same_id-self, same_id-sym}
+use Rattle.inittab_text.specs.Tables.{has_id}
+use Rattle.core_records.specs.State.{RecordState}
+use Rattle.core_records.specs.Changes.{after_call}
+use Rattle.core_records.specs.Lists.{record_by_id, has_record_of, changed, with_changed}
+use Rattle.core_records.specs.Order.{IsInOrder}
+use Rattle.core_model.specs.Steps.{called_if, with_called}
+use Rattle.core_model.proofs.RuledMade.{called_id}
+
+-- an entry of the table has a record
+found : (id : List ℕ) (slot : RecordState) (slots : List RecordState) (b : Bool) → is_some (record_by_id id slots) ≡ true → is_some (cond b (Some slot) (record_by_id id slots)) ≡ true
+found id slot slots true h = refl
+found id slot slots false h = h
+
+pub entry_record : (table : List Entry) (slots : List RecordState) (place : ℕ) (e : Entry) → IsInOrder table slots → slice_get table place ≡ Some e → has_record_of e.id slots ≡ true
+entry_record [] slots place e order at = cc
+entry_record (x ∷ table) [] place e order at = absurd order
+entry_record (x ∷ table) (slot ∷ slots) zero e order at = let same : x ≡ e = cc in ap (λ (b : Bool). is_some (cond b (Some slot) (record_by_id e.id slots))) (ap (same_id e.id) (order.0 ∙ ap (λ (y : Entry). y.id) same) ∙ same_id-self e.id)
+entry_record (x ∷ table) (slot ∷ slots) (suc place) e order at = found e.id slot slots (same_id e.id slot.id) (entry_record table slots place e order.2 at)
+
+still_one : (id : List ℕ) (slot next : RecordState) (slots more : List RecordState) (b : Bool) → has_record_of id more ≡ has_record_of id slots → is_some (cond b (Some next) (record_by_id id more)) ≡ is_some (cond b (Some slot) (record_by_id id slots))
+still_one id slot next slots more true h = refl
+still_one id slot next slots more false h = h
+
+pub still_record : (named : Entry → Bool) (table : List Entry) (id : List ℕ) (slots : List RecordState) → has_record_of id (with_called named table slots) ≡ has_record_of id slots
+still_record named table id [] = refl
+still_record named table id (slot ∷ slots) =
+    let next : RecordState = called_if (list_any (λ e. has_id slot.id e && named e) table) slot in
+    ap (λ x. is_some (cond (same_id id x) (Some next) (record_by_id id (with_called named table slots)))) (called_id (list_any (λ e. has_id slot.id e && named e) table) slot)
+    ∙ still_one id slot next slots (with_called named table slots) (same_id id slot.id) (still_record named table id slots)
+
+-- one entry more: its record is called, where it is named
+any_more : {X : Type 0} (p : X → Bool) (x : X) (xs : List X) → list_any p (xs ++ x ∷ []) ≡ (p x || list_any p xs)
+any_more p x [] = refl
+any_more p x (y ∷ ys) = ap (λ b. p y || b) (any_more p x ys) ∙ swap (p y) (p x) (list_any p ys)
+  where
+    swap : (a b c : Bool) → (a || (b || c)) ≡ (b || (a || c))
+    swap true true c = refl
+    swap true false c = refl
+    swap false true c = refl
+    swap false false c = refl
+
+call_again : (same before : Bool) (slot : RecordState) → called_if (same && true || before) slot ≡ cond same (after_call (called_if before slot)) (called_if before slot)
+call_again true true slot = refl
+call_again true false slot = refl
+call_again false true slot = refl
+call_again false false slot = refl
+
+not_again : (same before : Bool) (slot : RecordState) → called_if (same && false || before) slot ≡ called_if before slot
+not_again true before slot = refl
+not_again false before slot = refl
+
+module _ (named : Entry → Bool) (e : Entry) (es : List Entry) where
+  abbrev before : RecordState → Bool
+  before slot = list_any (λ x. has_id slot.id x && named x) es
+
+  one_called : named e ≡ true → (slot : RecordState) → called_if (list_any (λ x. has_id slot.id x && named x) (es ++ e ∷ [])) slot ≡ changed e.id after_call (called_if (before slot) slot)
+  one_called is slot = ap (λ b. called_if b slot) (any_more (λ x. has_id slot.id x && named x) e es) ∙ ap (λ n. called_if (same_id slot.id e.id && n || before slot) slot) is ∙ call_again (same_id slot.id e.id) (before slot) slot
+      ∙ ap (λ b. cond b (after_call (called_if (before slot) slot)) (called_if (before slot) slot)) (same_id-sym slot.id e.id ∙ ap (same_id e.id) (sym (called_id (before slot) slot)))
+
+  one_left : named e ≡ false → (slot : RecordState) → called_if (list_any (λ x. has_id slot.id x && named x) (es ++ e ∷ [])) slot ≡ called_if (before slot) slot
+  one_left is slot = ap (λ b. called_if b slot) (any_more (λ x. has_id slot.id x && named x) e es) ∙ ap (λ n. called_if (same_id slot.id e.id && n || before slot) slot) is ∙ not_again (same_id slot.id e.id) (before slot) slot
+
+  all_called : named e ≡ true → (slots : List RecordState) → with_called named (es ++ e ∷ []) slots ≡ with_changed e.id after_call (with_called named es slots)
+  all_called is [] = refl
+  all_called is (slot ∷ slots) = λ i. one_called is slot i ∷ all_called is slots i
+
+  all_left : named e ≡ false → (slots : List RecordState) → with_called named (es ++ e ∷ []) slots ≡ with_called named es slots
+  all_left is [] = refl
+  all_left is (slot ∷ slots) = λ i. one_left is slot i ∷ all_left is slots i
+
+  pub one_more : (slots : List RecordState) → cond (named e) (with_changed e.id after_call (with_called named es slots)) (with_called named es slots) ≡ with_called named (es ++ e ∷ []) slots
+  one_more slots = at (named e) refl
+    where
+      at : (b : Bool) → named e ≡ b → cond b (with_changed e.id after_call (with_called named es slots)) (with_called named es slots) ≡ with_called named (es ++ e ∷ []) slots
+      at true is = sym (all_called is slots)
+      at false is = sym (all_left is slots)
+
+pub none_called : (named : Entry → Bool) (slots : List RecordState) → slots ≡ with_called named [] slots
+none_called named [] = refl
+none_called named (slot ∷ slots) = ap (λ rest. slot ∷ rest) (none_called named slots)
+
+-- of a list, one item more than so far
+pub take_one : {X : Type 0} (xs : List X) (i : ℕ) (x : X) → slice_get xs i ≡ Some x → take (i + 1) xs ≡ take i xs ++ x ∷ []
+take_one [] i x is = absurd (cc)
+take_one (y ∷ xs) zero x is = let at : y ≡ x = cc in rw at refl
+take_one (y ∷ xs) (suc i) x is = let more : suc i + 1 ≡ suc (i + 1) = omega arith in rw more (ap (λ rest. y ∷ rest) (take_one xs i x is))
+
+pub none_past : {X : Type 0} {P : Type 0} (xs : List X) (i : ℕ) → i < length xs → slice_get xs i ≡ None → P
+none_past [] i within none = absurd (omega arith)
+none_past (y ∷ xs) zero within none = absurd (cc)
+none_past (y ∷ xs) (suc i) within none = none_past xs i (omega arith) none

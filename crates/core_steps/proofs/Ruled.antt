@@ -1,0 +1,61 @@
+-- The rules of what init keeps, tested along the records.
+use Rattle.std.proofs.Common.{◌≡◌, ◌≤◌, ◌<◌, ◌+◌, refl, cond, ℕ, Bool, true, false, not, ◌||◌, List, [], ◌∷◌, length, drop, get_or, zip, Some, None, slice_get}
+use Rattle.std.specs.List.{list_any}
+use Rattle.std.specs.List.Sorted.{IsNonDecreasing}
+use Rattle.std.proofs.lemmas.Bool.{le-leb, false≢true, true≢false}
+use Rattle.init_words.specs.declared.entries.Entry.{Entry}
+use Rattle.init_words.specs.declared.stages.Stage.{Stage}
+use Rattle.respawn_limit.specs.declared.TheConstants.{STARTS}
+use Rattle.respawn_limit.specs.State.{LimiterState}
+use Rattle.core_records.specs.State.{RecordState}
+use Rattle.core_model.specs.Decide.{is_owed_record}
+use Rattle.core_model.specs.Rules.{is_started, is_start_allowed, are_starts_along, is_hold_of, is_limit_kept}
+use Rattle.core_model.proofs.Falls.{never_from_ordered}
+use Rattle.core_steps.proofs.Pairs.{pair_at, no_pair_at, no_pair_past}
+
+-- behind an owed entry no start is open
+abbrev pub starts_from : Bool → Stage → List (Entry × RecordState) → Bool
+starts_from true stage ps = not (list_any (λ (q : Entry × RecordState). is_started q.1) ps)
+starts_from false stage ps = are_starts_along stage ps
+
+pub limit_kept : (now : ℕ) (limiter : LimiterState) → length limiter.starts ≤ STARTS → IsNonDecreasing limiter.starts → is_hold_of now limiter limiter.held ≡ is_limit_kept now limiter
+limit_kept now limiter few ordered = rw (le-leb (length limiter.starts) STARTS few, never_from_ordered limiter.starts ordered) refl
+
+none_left : (owed : Bool) (stage : Stage) → true ≡ starts_from owed stage []
+none_left true stage = refl
+none_left false stage = refl
+
+refused : (owed : Bool) (stage : Stage) (e : Entry) (slot : RecordState) (ps : List (Entry × RecordState)) → cond owed (not (is_started slot)) (is_start_allowed stage e slot) ≡ false → false ≡ starts_from owed stage ((e, slot) ∷ ps)
+refused true stage e slot ps fault = at (is_started slot) fault
+  where
+    at : (b : Bool) → not b ≡ false → false ≡ not (b || list_any (λ (q : Entry × RecordState). is_started q.1) ps)
+    at true h = refl
+    at false h = absurd (true≢false h)
+refused false stage e slot ps fault = rw fault refl
+
+in_turn : (owed : Bool) (stage : Stage) (e : Entry) (slot : RecordState) (ps : List (Entry × RecordState)) → cond owed (not (is_started slot)) (is_start_allowed stage e slot) ≡ true → starts_from owed stage ((e, slot) ∷ ps) ≡ starts_from (owed || is_owed_record stage e slot) stage ps
+in_turn true stage e slot ps pass = at (is_started slot) pass
+  where
+    at : (b : Bool) → not b ≡ true → not (b || list_any (λ (q : Entry × RecordState). is_started q.1) ps) ≡ not (list_any (λ (q : Entry × RecordState). is_started q.1) ps)
+    at true h = absurd (false≢true h)
+    at false h = refl
+in_turn false stage e slot ps pass = rw pass (at (is_owed_record stage e slot))
+  where
+    at : (b : Bool) → cond b (not (list_any (λ (q : Entry × RecordState). is_started q.1) ps)) (are_starts_along stage ps) ≡ starts_from b stage ps
+    at true = refl
+    at false = refl
+
+module _ (stage : Stage) (table : List Entry) (slots : List RecordState) (i : ℕ) (owed : Bool)
+    (so_far : are_starts_along stage (zip table slots) ≡ starts_from owed stage (drop i (zip table slots))) where
+  pub starts_none : slice_get table i ≡ None → true ≡ are_starts_along stage (zip table slots)
+  starts_none none = rw (so_far, no_pair_at table slots i none) (none_left owed stage)
+
+  pub starts_past : length slots ≤ i → true ≡ are_starts_along stage (zip table slots)
+  starts_past past = rw (so_far, no_pair_past table slots i past) (none_left owed stage)
+
+  pub starts_fault : (e : Entry) (slot : RecordState) → slice_get table i ≡ Some e → i < length slots → slot ≡ get_or slots i slot → cond owed (not (is_started slot)) (is_start_allowed stage e slot) ≡ false → false ≡ are_starts_along stage (zip table slots)
+  starts_fault e slot at h is fault = rw (so_far, pair_at table slots i e slot at h is) (refused owed stage e slot (drop (i + 1) (zip table slots)) fault)
+
+  pub starts_pass : (e : Entry) (slot : RecordState) → slice_get table i ≡ Some e → i < length slots → slot ≡ get_or slots i slot → cond owed (not (is_started slot)) (is_start_allowed stage e slot) ≡ true
+      → are_starts_along stage (zip table slots) ≡ starts_from (owed || is_owed_record stage e slot) stage (drop (i + 1) (zip table slots))
+  starts_pass e slot at h is pass = rw (so_far, pair_at table slots i e slot at h is) (in_turn owed stage e slot (drop (i + 1) (zip table slots)) pass)

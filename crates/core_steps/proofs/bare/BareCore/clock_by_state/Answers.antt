@@ -1,0 +1,11 @@
+use Rattle.std.proofs.Common.{◌≤◌, arith}
+use Rattle.respawn_limit.specs.declared.TheConstants.{CLOCK_LIMIT}
+use Rattle.core_records.proofs.Timely.{timely_later}
+use Rattle.core_steps.proofs.bare.BareCore.clock_by_state.Goals as goal
+
+pub invariant_of-self : goal.invariant_of-self
+invariant_of-self g c =
+    let kept : c.self.inside.heads.time ≤ CLOCK_LIMIT = c.self.invariant.0 in
+    let later : c.self.inside.heads.time ≤ c.max-self-inside.result = omega arith in
+    let capped : c.max-self-inside.result ≤ CLOCK_LIMIT = omega arith in
+    (capped, timely_later c.self.inside.heads.time c.max-self-inside.result later c.self.inside.slots c.self.invariant.1, c.self.invariant.2, c.self.invariant.3, c.self.invariant.4)

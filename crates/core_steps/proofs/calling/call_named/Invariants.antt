@@ -1,0 +1,7 @@
+use Rattle.std.proofs.Common.{◌≡◌, take}
+use Rattle.core_model.specs.Steps.{is_named, with_called}
+use Rattle.core_steps.proofs.calling.call_named.Given as goal
+
+-- the entries so far are called
+abbrev pub invariant-loop-place : goal.invariant-loop-place
+invariant-loop-place g l = l.slots ≡ with_called (is_named l.step l.stage) (take l.place l.table) l.fn.slots

@@ -1,0 +1,6 @@
+use Rattle.std.proofs.Common.{subst}
+use Rattle.core_model.specs.Rules.{IsFit}
+use Rattle.core_steps.proofs.cores.Core.law_of_rules.Goals as goal
+
+pub returns : goal.returns
+returns g c = subst IsFit c.self.view_is c.self.invariant

@@ -1,0 +1,13 @@
+use Rattle.std.proofs.Common.{◌≡◌, true, sym, ◌∙◌}
+use Rattle.std.specs.List.Sorted.{IsNonDecreasing}
+use Rattle.std.proofs.lemmas.Bool.{and_parts}
+use Rattle.core_model.specs.Rebuilding.{are_paired, is_whole}
+use Rattle.core_model.specs.Rules.{never_fall}
+use Rattle.core_model.proofs.Falls.{ordered_from_never}
+use Rattle.core_steps.proofs.rebuilding.record_read.Goals as goal
+
+pub of-requires-clause-ordered : goal.of-requires-clause-ordered
+of-requires-clause-ordered c =
+    let whole : is_whole c.args.kept.now ≡ true = sym c.is_whole.ensures ∙ c.if-not-is_whole.false in
+    let ordered : IsNonDecreasing c.args.kept.now.starts.items = ordered_from_never c.args.kept.now.starts.items (and_parts (are_paired c.args.kept.now.child c.args.kept.now.act) (never_fall c.args.kept.now.starts.items) whole).1 in
+    rw c.as_slice.ensures.value ordered

@@ -1,0 +1,7 @@
+use Rattle.std.proofs.Common.{◌≡◌, drop}
+use Rattle.core_model.specs.Decide.{look_among}
+use Rattle.core_steps.proofs.walking.look_among.Given as goal
+
+-- the answer is that of what is left
+abbrev pub invariant-loop-place : goal.invariant-loop-place
+invariant-loop-place l = look_among l.slots ≡ look_among (drop l.place l.slots)

@@ -1,0 +1,517 @@
+//! What a core keeps, and what each call makes of that.
+
+ghost use Rattle.std.specs.Prelude.{◌≡◌, IfOk, OnOk, OnErr};
+
+use crate::calling::{call_named, judge_in};
+use crate::deciding::{brings_nothing, is_past, level_step, next_stage};
+use crate::walking::{
+    all_done, all_served, any_busy, leaves_passed, look_among, passed_to, place_if, seen_to,
+    start_among, stop_among,
+};
+use core_model::CoreFields;
+use core_records::Records;
+use init_words::{Answer, GRACE, Id, Level, Memory, OrderKind, Refusal, Stage};
+use initctl_frame::HeardRequest;
+use inittab_text::Table;
+use respawn_limit::CLOCK_LIMIT;
+use std::alloc::Allocator;
+use std::marker::Model;
+use trace_events::{Goal, Step};
+
+/// What a core keeps, and what each of its calls makes of that. Each value may stand here; that the rules of init are
+/// kept is said of a `Core` alone.
+#[derive(Drop)]
+pub(crate) struct BareCore<A: Allocator> {
+    table: Table<A>,
+    slots: Records<A>,
+    heads: CoreFields,
+    // `next` walks the records from two places on. No record before this one has a child that is to be looked at.
+    looks_from: usize,
+    // No entry before this one is to be started or waited for.
+    starts_from: usize,
+}
+
+impl<A: Allocator> Model for BareCore<A> {
+    ghost use Rattle.std.specs.Prelude.{◌≡◌, ◌≤◌, true};
+    ghost use Rattle.respawn_limit.specs.declared.TheConstants.{CLOCK_LIMIT};
+    ghost use Rattle.core_records.specs.Times.{are_timely};
+    ghost use Rattle.core_records.specs.Order.{IsInOrder};
+    ghost use Rattle.core_model.specs.State.{CoreState};
+    ghost use Rattle.core_steps.specs.Places.{are_seen, are_passed};
+
+    ghost Value = { CoreState };
+
+    ghost view = { λ c. record { table = c.table; slots = c.slots; heads = c.heads } };
+
+    ghost invariant = { λ c. (c.heads.time ≤ CLOCK_LIMIT) × (are_timely c.heads.time c.slots ≡ true)
+        × IsInOrder c.table c.slots × (are_seen c.looks_from c.slots ≡ true)
+        × (are_passed c.heads.stage c.starts_from c.table c.slots ≡ true) };
+}
+
+impl<A: Allocator + Copy> BareCore<A> {
+    ghost use Rattle.std.specs.Prelude.{[], ◌∷◌, IfErr, Err, true, false, if◌then◌else◌};
+    ghost use Rattle.init_words.specs.declared.refusals.Refusal.TheVariants as refusal;
+    ghost use Rattle.trace_events.specs.declared.happenings.Happening.TheVariants.{NewTable};
+    ghost use Rattle.inittab_text.specs.Tables.{is_distinct};
+    ghost use Rattle.core_records.specs.Lists.{is_quiet};
+    ghost use Rattle.core_model.specs.State.{opening_goal, opening_state};
+    ghost use Rattle.core_model.specs.Steps.{after_adopt};
+    ghost use Rattle.core_model.specs.Fit.{Fits, OnEachTrace};
+
+    pub(crate) fn new_by_state(
+        alloc: A,
+        table: Table<A>,
+        level: Option<Level>,
+    ) -> Result<BareCore<A>, Memory>
+        ensures state { IfOk result (λ core.
+            core ≡ opening_state table (opening_goal level table)) }
+        ensures distinct { is_distinct table ≡ true }
+    {
+        let level = level.or(table.default_level()).unwrap_or(Level::S);
+        let slots = Records::new(alloc, &table)?;
+        Ok(BareCore {
+            table,
+            slots,
+            heads: CoreFields::opening(Goal {
+                level,
+                grace: GRACE,
+            }),
+            looks_from: 0,
+            starts_from: 0,
+        })
+    }
+
+    pub(crate) fn adopt_by_state(&mut self, table: Table<A>) -> Result<(), Refusal>
+        ensures distinct { OnOk result (is_distinct table ≡ true) }
+        ensures adopted { OnOk result (self.new ≡ after_adopt table self.old) }
+        ensures busy { is_quiet self.old.slots ≡ false → result ≡ Err refusal.NotQuiet }
+        ensures refused { IfErr result (λ why.
+            why ≡ (if is_quiet self.old.slots then refusal.Memory else refusal.NotQuiet)) }
+        ensures unchanged { OnErr result (self.new ≡ self.old) }
+    {
+        if !self.slots.quiet() {
+            return Err(Refusal::NotQuiet);
+        }
+        self.slots.adopt(&table)?;
+        judge_in(&mut self.slots, &table, self.heads.stage);
+        self.table = table;
+        self.heads.announced = false;
+        self.heads.reread = false;
+        self.looks_from = 0;
+        self.starts_from = 0;
+        Ok(())
+    }
+}
+
+impl<A: Allocator> BareCore<A> {
+    ghost use Rattle.std.specs.Prelude.{◌≤◌, ◌^◌, ◌+◌, IsTrue, IsOk, List, ◌∷◌, ◌<◌, Some, true, false, ℕ};
+    ghost use Rattle.init_words.specs.declared.stages.Stage.{Stage};
+    ghost use Rattle.trace_events.specs.declared.happenings.Happening.TheVariants as happening;
+    ghost use Rattle.trace_events.specs.Answered.{answered_of};
+    ghost use Rattle.trace_events.specs.Due.{due, first};
+    ghost use Rattle.trace_events.specs.Run.{is_rest};
+    ghost use Rattle.core_records.specs.Order.{IsInOrder};
+    ghost use Rattle.core_records.specs.Lists.{are_distinct, can_ask, order_in, refusal_of};
+    ghost use Rattle.core_model.specs.Decide.{decide, first_step, or_idle, wished_step, wish_step, stands, stop_among, calm_step, work_step, is_drained};
+    ghost use Rattle.core_model.specs.Decide as core;
+    ghost use Rattle.core_model.specs.Steps as steps;
+    ghost use Rattle.trace_events.specs.declared.happenings.Handed.{Handed};
+    ghost use Rattle.core_model.specs.Steps.{after_step, after_told, after_round, after_clock, after_got, after_not_read, after_handed, after_handed_on};
+    ghost use Rattle.core_model.specs.Fit.{Fits, OnEachTrace, with_step};
+    ghost use Rattle.core_model.specs.Work.{work_left};
+    ghost use Rattle.core_records.specs.Times.{are_timely};
+    ghost use Rattle.respawn_limit.specs.declared.TheConstants.{CLOCK_LIMIT};
+
+    /// The core that keeps these, which stand in record order, and no time later than now.
+    pub(crate) fn of(heads: CoreFields, table: Table<A>, slots: Records<A>) -> BareCore<A>
+        requires clock { heads.time ≤ CLOCK_LIMIT }
+        requires timely { are_timely heads.time slots ≡ true }
+        requires order { IsInOrder table slots }
+        ensures { result ≡ record { table = table; slots = slots; heads = heads } }
+    {
+        BareCore {
+            table,
+            slots,
+            heads,
+            looks_from: 0,
+            starts_from: 0,
+        }
+    }
+
+    /// What it keeps, but for its table and its records.
+    pub(crate) fn heads(&self) -> CoreFields
+        ensures { result ≡ self.now.heads }
+    {
+        self.heads
+    }
+
+    /// The stage in force.
+    pub(crate) fn stage(&self) -> Option<Stage>
+        ensures { result ≡ self.now.heads.stage }
+    {
+        self.heads.stage
+    }
+
+    /// The time, in seconds: the greatest reading so far.
+    pub(crate) fn time(&self) -> u64
+        ensures { result ≡ self.now.heads.time }
+    {
+        self.heads.time
+    }
+
+    /// The table in force.
+    pub(crate) fn table(&self) -> &Table<A>
+        ensures { result.now ≡ self.now.table }
+    {
+        &self.table
+    }
+
+    /// The records, in record order.
+    pub(crate) fn slots(&self) -> &Records<A>
+        ensures { result.now ≡ self.now.slots }
+    {
+        &self.slots
+    }
+
+    /// The goal: the level to go to, and the seconds between the two signals.
+    pub(crate) fn goal(&self) -> Goal
+        ensures { result ≡ self.now.heads.goal }
+    {
+        self.heads.goal
+    }
+
+    /// How often init was re-executed since its opening.
+    pub(crate) fn generation(&self) -> u64
+        ensures { result ≡ self.now.heads.generation }
+    {
+        self.heads.generation
+    }
+
+    /// Nothing is left to do and nothing runs: a run level is announced as settled, no record has a child or an order,
+    /// no wish stands, and no entry is held.
+    pub(crate) fn drained(&self) -> bool
+        ensures { result ≡ is_drained self.now }
+    {
+        match self.heads.stage {
+            Some(Stage::Run(level)) => {
+                self.heads.announced
+                    && !self.stands(Stage::Run(level))
+                    && !any_busy(self.heads.time, self.slots.as_slice())
+            }
+            _ => false,
+        }
+    }
+
+    /// What is wished, where no start and no signal is open.
+    fn wished_step(&self, stage: Stage) -> Option<Step>
+        ensures { result ≡ wished_step stage self.now }
+    {
+        if self.heads.reexec {
+            return Some(Step::Reexec);
+        }
+        if self.heads.reread {
+            return Some(Step::Reread);
+        }
+        if let Some(step) = level_step(self.heads.booted, self.heads.level_wish) {
+            return Some(step);
+        }
+        self.news_step(stage)
+    }
+
+    fn news_step(&self, stage: Stage) -> Option<Step>
+        ensures { result ≡ core.news_step stage self.now }
+    {
+        match stage {
+            Stage::Run(_) => self.heads.news.first_step(),
+            Stage::Sysinit | Stage::Boot => None,
+        }
+    }
+
+    fn wish_step(&self, stage: Stage) -> Option<Step>
+        ensures { result ≡ wish_step stage self.now }
+    {
+        if self.slots.quiet() {
+            self.wished_step(stage)
+        } else {
+            None
+        }
+    }
+
+    /// A wish stands.
+    fn stands(&self, stage: Stage) -> bool
+        ensures { result ≡ stands stage self.now }
+    {
+        self.heads.reexec
+            || self.heads.reread
+            || self.heads.level_wish.is_some()
+            || self.has_news(stage)
+    }
+
+    /// There is news, and it counts in the stage.
+    fn has_news(&self, stage: Stage) -> bool
+        ensures { result ≡ core.counts_news stage self.now }
+    {
+        match stage {
+            Stage::Run(_) => self.heads.news.is_some(),
+            Stage::Sysinit | Stage::Boot => false,
+        }
+    }
+
+    /// After Sysinit and Boot, the stage that comes next.
+    fn stage_step(&self, stage: Stage) -> Option<Step>
+        ensures { result ≡ core.stage_step stage self.now.heads.goal self.now.table self.now.slots }
+    {
+        let next = next_stage(stage, self.heads.goal.level)?;
+        if self.slots.quiet() && all_done(stage, &self.table, self.slots.as_slice()) {
+            Some(Step::Enter(next, self.heads.goal.grace))
+        } else {
+            None
+        }
+    }
+
+    /// In a run level, that it is settled, once.
+    fn settle_step(&self, stage: Stage) -> Option<Step>
+        ensures { result ≡ core.settle_step stage self.now.heads.announced
+            self.now.heads.time self.now.table self.now.slots }
+    {
+        let Stage::Run(level) = stage else {
+            return None;
+        };
+        let slots = &self.slots;
+        let idle = !self.heads.announced && slots.is_idle();
+        if idle && all_served(level, self.heads.time, &self.table, slots.as_slice()) {
+            Some(Step::Settle(level))
+        } else {
+            None
+        }
+    }
+
+    /// Where no child is excluded: a start or a hold, the next stage, or that the level is settled.
+    fn calm_step(&self, stage: Stage) -> Option<Step>
+        requires { self.now.heads.stage ≡ Some stage }
+        ensures { result ≡ calm_step stage self.now }
+    {
+        let slots = self.slots.as_slice();
+        if let Some(step) = start_among(
+            stage,
+            self.heads.time,
+            &self.table,
+            slots,
+            self.starts_from,
+        ) {
+            return Some(step);
+        }
+        if let Some(step) = self.stage_step(stage) {
+            return Some(step);
+        }
+        self.settle_step(stage)
+    }
+
+    /// Where no wish stands: a signal, or one of those.
+    fn work_step(&self, stage: Stage) -> Option<Step>
+        requires { self.now.heads.stage ≡ Some stage }
+        ensures { result ≡ work_step stage self.now }
+    {
+        if self.stands(stage) {
+            return None;
+        }
+        if !self.slots.has_excluded() {
+            return self.calm_step(stage);
+        }
+        self.stop_step()
+    }
+
+    /// The first signal that is due. The records are walked only where a stop is due, or the grace of the first
+    /// SIGTERM is over.
+    fn stop_step(&self) -> Option<Step>
+        ensures { result ≡ stop_among self.now.heads.grace self.now.heads.time self.now.slots }
+    {
+        let slots = &self.slots;
+        if slots.has_due() || is_past(slots.first_termed(), self.heads.grace, self.heads.time) {
+            return stop_among(self.heads.grace, self.heads.time, slots.as_slice());
+        }
+        None
+    }
+
+    /// Before the first stage: Sysinit, where no start and no signal is open.
+    fn first_step(&self) -> Step
+        ensures { result ≡ or_idle (first_step self.now) }
+    {
+        if !self.slots.quiet() {
+            return Step::Idle;
+        }
+        Step::Enter(Stage::Sysinit, self.heads.goal.grace)
+    }
+
+    fn due_step(&self) -> Step
+        ensures step { result ≡ decide self.now }
+        ensures distinct { are_distinct self.now.slots ≡ true }
+        ensures order { IsInOrder self.now.table self.now.slots }
+    {
+        let slots = self.slots.as_slice();
+        let Some(stage) = self.heads.stage else {
+            return self.first_step();
+        };
+        if let Some(step) = self.wish_step(stage) {
+            return step;
+        }
+        if let Some(step) = self.work_step(stage) {
+            return step;
+        }
+        look_among(slots, self.looks_from).unwrap_or(Step::Idle)
+    }
+
+    /// Both places go on after all records that are seen, and all entries that are passed.
+    fn pass(&mut self)
+        ensures { self.new ≡ self.old }
+    {
+        let slots = self.slots.as_slice();
+        self.looks_from = seen_to(slots, self.looks_from);
+        if let Some(stage) = self.heads.stage {
+            self.starts_from = passed_to(stage, &self.table, slots, self.starts_from);
+        }
+    }
+
+    fn enter(&mut self, stage: Stage, grace: u16)
+        ensures { self.new ≡ after_step (Step.Enter stage grace) self.old }
+    {
+        self.slots.entered();
+        self.slots.judge(&self.table, stage);
+        self.heads.stage = Some(stage);
+        self.heads.grace = grace;
+        self.heads.goal = self.heads.level_wish.unwrap_or(self.heads.goal);
+        self.heads.level_wish = None;
+        self.heads.booted = stage == Stage::Boot || self.heads.booted;
+        self.heads.announced = false;
+        self.looks_from = 0;
+        self.starts_from = 0;
+    }
+
+    /// An order is given about an id.
+    fn order(&mut self, id: Id, ask: OrderKind)
+        requires allowed { can_ask id ask self.old.heads.time self.old.slots ≡ true }
+        requires distinct { are_distinct self.old.slots ≡ true }
+        ensures { self.new ≡ after_step (Step.Order id ask) self.old }
+    {
+        let kept = leaves_passed(&self.slots, self.starts_from, &id, ask);
+        self.slots.ask(id, ask, self.heads.time);
+        self.starts_from = place_if(kept, self.starts_from);
+    }
+
+    /// The step is taken, as it was decided on.
+    fn apply(&mut self, step: &Step)
+        requires decided { decide self.old ≡ step.now }
+        requires distinct { are_distinct self.old.slots ≡ true }
+        requires order { IsInOrder self.old.table self.old.slots }
+        ensures { self.new ≡ after_step step.now self.old }
+    {
+        match *step {
+            Step::Enter(stage, grace) => self.enter(stage, grace),
+            Step::Power(kind) => {
+                call_named(&mut self.slots, &self.table, step, self.heads.stage);
+                self.heads.news.set_power(kind, false);
+                self.starts_from = 0;
+            }
+            Step::Call(letter) => {
+                call_named(&mut self.slots, &self.table, step, self.heads.stage);
+                self.heads.news.set_letter(letter, false);
+                self.starts_from = 0;
+            }
+            Step::Order(id, ask) => self.order(id, ask),
+            Step::Hold(id) => self.slots.hold(id, self.heads.time),
+            Step::Settle(_) => self.heads.announced = true,
+            Step::Reread | Step::Reexec | Step::Idle => {}
+        }
+    }
+
+    pub(crate) fn next_by_state(&mut self) -> Step
+        ensures step { result ≡ decide self.old }
+        ensures state { self.new ≡ after_step result self.old }
+        ensures falls { is_rest result ≡ false → work_left self.new < work_left self.old }
+    {
+        self.pass();
+        let step = self.due_step();
+        self.apply(&step);
+        step
+    }
+
+    pub(crate) fn answer_by_state(&mut self, id: Id, answer: Answer) -> Result<(), Refusal>
+        ensures told { OnOk result (self.new ≡ after_told id answer self.old) }
+        ensures refused { result ≡ refusal_of (order_in id self.old.slots) answer }
+        ensures unchanged { OnErr result (self.new ≡ self.old) }
+    {
+        // `len` says that no id has two records, as `told` doesn't.
+        let _ = self.slots.len();
+        let kept = brings_nothing(&answer);
+        self.slots.told(id, answer, self.heads.time)?;
+        self.looks_from = place_if(kept, self.looks_from);
+        self.starts_from = place_if(kept, self.starts_from);
+        Ok(())
+    }
+
+    pub(crate) fn got_by_state(&mut self, request: HeardRequest)
+        ensures { self.new ≡ after_got request self.old }
+    {
+        match request {
+            HeardRequest::Level(level, grace) => self.hear_level(Goal { level, grace }),
+            HeardRequest::Call(letter) => self.heads.news.set_letter(letter, true),
+            HeardRequest::Reload => self.heads.reread = true,
+            HeardRequest::Reexec => self.heads.reexec = true,
+            HeardRequest::Power(kind) => self.heads.news.set_power(kind, true),
+            HeardRequest::Nothing(_) => {}
+        }
+    }
+
+    /// In the level that is asked for a wish for another is forgotten; in another level it is wished for; before the
+    /// run levels it is the goal.
+    fn hear_level(&mut self, wish: Goal)
+        ensures { self.new ≡ record self.old {
+          heads = steps.heard_in self.old.heads.stage wish self.old.heads;
+        } }
+    {
+        let Some(Stage::Run(now)) = self.heads.stage else {
+            self.heads.goal = wish;
+            self.heads.reread = true;
+            return;
+        };
+        if wish.level == now {
+            self.heads.level_wish = None;
+        } else {
+            self.heads.level_wish = Some(wish);
+            self.heads.reread = true;
+        }
+    }
+
+    pub(crate) fn not_read_by_state(&mut self)
+        ensures { self.new ≡ after_not_read self.old }
+    {
+        self.heads.reread = false;
+    }
+
+    pub(crate) fn not_handed_by_state(&mut self)
+        ensures { self.new ≡ after_handed self.old }
+    {
+        self.heads.reexec = false;
+    }
+
+    pub(crate) fn handed_on_by_state(&mut self)
+        requires { self.old.heads.generation + 1 < 2 ^ 64 }
+        ensures { self.new ≡ after_handed_on self.old }
+    {
+        self.heads.reexec = false;
+        self.heads.generation += 1;
+    }
+
+    pub(crate) fn begin_round_by_state(&mut self)
+        ensures { self.new ≡ after_round self.old }
+    {
+        self.slots.begin_round();
+        self.looks_from = 0;
+    }
+
+    pub(crate) fn clock_by_state(&mut self, reading: u64)
+        ensures { self.new ≡ after_clock reading self.old }
+    {
+        self.heads.time = reading.min(CLOCK_LIMIT).max(self.heads.time);
+    }
+}

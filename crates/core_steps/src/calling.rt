@@ -1,0 +1,66 @@
+//! Ondemand entries, and entries of the power, that a step calls.
+
+ghost use Rattle.std.specs.Prelude.{◌≡◌, ◌<◌, length, slice_get, true, option_map, if◌then◌else◌, Some};
+ghost use Rattle.core_records.specs.Changes.{after_call};
+ghost use Rattle.core_records.specs.Lists.{has_record_of, with_changed};
+ghost use Rattle.core_records.specs.Order.{IsInOrder};
+ghost use Rattle.core_model.specs.Steps.{is_named, with_called, judged_in};
+
+use core_records::Records;
+use init_words::{Entry, Stage, starts};
+use inittab_text::Table;
+use std::alloc::Allocator;
+use trace_events::Step;
+
+/// The step calls the entry: it is news of the power, or a letter, for which the entry starts in the stage.
+fn is_named(step: &Step, stage: Option<Stage>, entry: &Entry) -> bool
+    ensures { result ≡ is_named step.now stage entry.now }
+{
+    let Some(stage) = stage else {
+        return false;
+    };
+    match step {
+        Step::Power(kind) => entry.act.is_called_by(*kind) && starts(entry, stage),
+        Step::Call(letter) => {
+            entry.act.is_ondemand() && entry.names_letter(*letter) && starts(entry, stage)
+        }
+        _ => false,
+    }
+}
+
+fn call_one<A: Allocator>(slots: &mut Records<A>, entry: &Entry, step: &Step, stage: Option<Stage>)
+    requires { has_record_of entry.now.id slots.old ≡ true }
+    ensures { slots.new ≡ (if is_named step.now stage entry.now
+        then with_changed entry.now.id after_call slots.old else slots.old) }
+{
+    if is_named(step, stage, entry) {
+        slots.called(entry.id);
+    }
+}
+
+/// Calls the entries that the step names.
+pub(crate) fn call_named<A: Allocator>(
+    slots: &mut Records<A>,
+    table: &Table<A>,
+    step: &Step,
+    stage: Option<Stage>,
+)
+    requires { IsInOrder table.now slots.old }
+    ensures { slots.new ≡ with_called (is_named step.now stage) table.now slots.old }
+{
+    for place in 0..table.len() {
+        let Some(entry) = table.at(place) else {
+            return;
+        };
+        call_one(slots, entry, step, stage);
+    }
+}
+
+/// Judges the children by the table and the stage, where there is one.
+pub(crate) fn judge_in<A: Allocator>(slots: &mut Records<A>, table: &Table<A>, stage: Option<Stage>)
+    ensures { slots.new ≡ judged_in stage table.now slots.old }
+{
+    if let Some(stage) = stage {
+        slots.judge(table, stage);
+    }
+}

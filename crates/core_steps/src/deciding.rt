@@ -1,0 +1,191 @@
+//! What is due for one record: its signal, its start, its look, and whether it holds up others.
+
+ghost use Rattle.std.specs.Prelude.{◌≡◌, ◌≤◌, ◌+◌, nat_le};
+ghost use Rattle.core_model.specs.Decide.{level_step, signal_step, stop_step, is_wanted_record, is_owed_record, limited_step, can_start_record, start_step, is_done_record, next_stage, is_served_record, can_look_record};
+ghost use Rattle.trace_events.specs.Wanted.{is_order};
+ghost use Rattle.init_words.specs.Orders.{same_ask};
+ghost use Rattle.respawn_limit.specs.declared.TheConstants.{CLOCK_LIMIT};
+ghost use Rattle.core_steps.specs.Places.{is_seen_record, is_passed_record, brings_nothing};
+ghost use Rattle.core_steps.specs.Signals.{is_past};
+
+use core_records::{Record, Stop};
+use init_words::{Answer, Entry, Id, Level, OrderKind, Stage, starts, waited};
+use respawn_limit::May;
+use trace_events::{Goal, Step};
+
+/// A wish for another level: through Boot on the first way to a level other than S.
+pub(crate) fn level_step(booted: bool, wish: Option<Goal>) -> Option<Step>
+    ensures { result ≡ level_step booted wish }
+{
+    let wish = wish?;
+    let stage = if wish.level != Level::S && !booted {
+        Stage::Boot
+    } else {
+        Stage::Run(wish.level)
+    };
+    Some(Step::Enter(stage, wish.grace))
+}
+
+/// The seconds of the grace have passed since the time.
+fn is_over(time: u64, grace: u16, now: u64) -> bool
+    ensures { result ≡ nat_le (time + grace) now }
+{
+    time <= now && now - time >= u64::from(grace)
+}
+
+/// There is a time, and the seconds of the grace have passed since it.
+pub(crate) fn is_past(time: Option<u64>, grace: u16, now: u64) -> bool
+    ensures { result ≡ is_past grace now time }
+{
+    match time {
+        Some(time) => is_over(time, grace, now),
+        None => false,
+    }
+}
+
+fn signal_step(grace: u16, now: u64, id: Id, stop: Option<Stop>) -> Option<Step>
+    ensures { result ≡ signal_step grace now id stop }
+{
+    match stop? {
+        Stop::Due => Some(Step::Order(id, OrderKind::Term)),
+        Stop::Termed(time) => {
+            if is_over(time, grace, now) {
+                Some(Step::Order(id, OrderKind::Kill))
+            } else {
+                None
+            }
+        }
+        Stop::Killed(_) => None,
+    }
+}
+
+/// The signal that is due to the child of a record.
+pub(crate) fn stop_step(grace: u16, now: u64, slot: &Record) -> Option<Step>
+    ensures { result ≡ stop_step grace now slot.now }
+{
+    if slot.has_child() && slot.order().is_none() && !slot.missed() {
+        signal_step(grace, now, slot.id(), slot.stop())
+    } else {
+        None
+    }
+}
+
+/// A start of its entry is open.
+pub(crate) fn is_starting(slot: &Record) -> bool
+    ensures { result ≡ is_order OrderKind.Start slot.now.order }
+{
+    matches!(slot.order(), Some(OrderKind::Start))
+}
+
+fn is_wanted(stage: Stage, entry: &Entry, slot: &Record) -> bool
+    ensures { result ≡ is_wanted_record stage entry.now slot.now }
+{
+    let idle = !slot.has_child() && !is_starting(slot);
+    starts(entry, stage) && entry.act.is_wanted(idle, !slot.asked(), slot.called())
+}
+
+/// Init waits for the entry.
+pub(crate) fn is_owed(stage: Stage, entry: &Entry, slot: &Record) -> bool
+    ensures { result ≡ is_owed_record stage entry.now slot.now }
+{
+    waited(entry) && (slot.has_child() || is_starting(slot) || is_wanted(stage, entry, slot))
+}
+
+fn limited_step(now: u64, entry: &Entry, slot: &Record) -> Option<Step>
+    requires { now ≤ CLOCK_LIMIT }
+    ensures { result ≡ limited_step now entry.now slot.now }
+{
+    if !entry.act.is_limited() {
+        return Some(Step::Order(entry.id, OrderKind::Start));
+    }
+    if slot.held(now) {
+        return None;
+    }
+    match slot.may(now) {
+        May::Yes => Some(Step::Order(entry.id, OrderKind::Start)),
+        May::HoldUntil(_) => Some(Step::Hold(entry.id)),
+    }
+}
+
+fn can_start(stage: Stage, entry: &Entry, slot: &Record) -> bool
+    ensures { result ≡ can_start_record stage entry.now slot.now }
+{
+    is_wanted(stage, entry, slot) && !slot.has_child() && slot.order().is_none()
+}
+
+/// The start or the hold of an entry.
+pub(crate) fn start_step(stage: Stage, now: u64, entry: &Entry, slot: &Record) -> Option<Step>
+    requires { now ≤ CLOCK_LIMIT }
+    ensures { result ≡ start_step stage now entry.now slot.now }
+{
+    if can_start(stage, entry, slot) {
+        limited_step(now, entry, slot)
+    } else {
+        None
+    }
+}
+
+/// The entry is not to be started, whatever order is open, and init doesn't wait for it.
+pub(crate) fn is_passed(stage: Stage, entry: &Entry, slot: &Record) -> bool
+    ensures { result ≡ is_passed_record stage entry.now slot.now }
+{
+    !(is_wanted(stage, entry, slot) && !slot.has_child()) && !is_owed(stage, entry, slot)
+}
+
+/// Nothing is left to do for the entry in Sysinit or Boot.
+pub(crate) fn is_done(stage: Stage, entry: &Entry, slot: &Record) -> bool
+    ensures { result ≡ is_done_record stage entry.now slot.now }
+{
+    !is_wanted(stage, entry, slot) && !(waited(entry) && slot.has_child())
+}
+
+/// After Sysinit and Boot, the stage that comes next on the way to the level.
+pub(crate) fn next_stage(stage: Stage, goal: Level) -> Option<Stage>
+    ensures { result ≡ next_stage stage goal }
+{
+    match stage {
+        Stage::Sysinit if goal == Level::S => Some(Stage::Run(Level::S)),
+        Stage::Sysinit => Some(Stage::Boot),
+        Stage::Boot => Some(Stage::Run(goal)),
+        Stage::Run(_) => None,
+    }
+}
+
+/// The entry keeps no level from being settled.
+pub(crate) fn is_served(level: Level, now: u64, entry: &Entry, slot: &Record) -> bool
+    ensures { result ≡ is_served_record level now entry.now slot.now }
+{
+    if is_owed(Stage::Run(level), entry, slot) {
+        return false;
+    }
+    let kept_up = slot.has_child() || slot.held(now);
+    !entry.names_level(level) || entry.act.is_served(slot.asked(), kept_up)
+}
+
+/// The child is to be looked at.
+pub(crate) fn can_look(slot: &Record) -> bool
+    ensures { result ≡ can_look_record slot.now }
+{
+    slot.has_child() && slot.order().is_none() && slot.look()
+}
+
+/// The record has no child that is to be looked at, whatever order is open.
+pub(crate) fn is_seen(slot: &Record) -> bool
+    ensures { result ≡ is_seen_record slot.now }
+{
+    !(slot.has_child() && slot.look())
+}
+
+/// The order is a start.
+pub(crate) fn is_start(ask: OrderKind) -> bool
+    ensures { result ≡ same_ask OrderKind.Start ask }
+{
+    matches!(ask, OrderKind::Start)
+}
+
+/// After the answer the id has a child: it brings neither a start nor a look.
+pub(crate) fn brings_nothing(answer: &Answer) -> bool
+    ensures { result ≡ brings_nothing answer.now }
+{
+    matches!(answer, Answer::Born(_) | Answer::Alive | Answer::NoLook)
+}

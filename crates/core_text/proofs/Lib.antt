@@ -1,0 +1,12 @@
+pub mod Bodies
+pub mod Ends
+pub mod Forms
+pub mod LineForms
+pub mod Prefixes
+pub mod Ranged
+pub mod Rows
+pub mod Starts
+pub mod Taken
+pub mod Whole
+pub mod WordForms
+pub mod Written

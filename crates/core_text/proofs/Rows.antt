@@ -1,0 +1,55 @@
+-- The text of a state: no entry, and one child that is to be stopped, with a signal under way; and as version 1 says it.
+use Rattle.std.proofs.Common.{◌≡◌, refl, true, false, [], ◌∷◌, codes, Some, None, lit<}
+use Rattle.std.proofs.lemmas.Fmt.{decimal_digit}
+use Rattle.init_words.specs.declared.actions.Act.TheVariants as act
+use Rattle.init_words.specs.declared.children.Status.TheVariants.{Exit}
+use Rattle.init_words.specs.declared.levels.Level.TheVariants as level
+use Rattle.init_words.specs.declared.orders.OrderKind.TheVariants.{Term}
+use Rattle.init_words.specs.declared.stages.Stage.TheVariants as stage
+use Rattle.core_records.specs.declared.children.Stop.TheVariants.{Due}
+use Rattle.core_model.specs.News.{no_news}
+use Rattle.core_model.specs.declared.parts.CoreFields.{CoreFields}
+use Rattle.core_model.specs.declared.parts.PlainRecord.{PlainRecord}
+use Rattle.core_model.specs.Parts.{SavedState}
+use Rattle.core_text.specs.declared.versions.Version.TheVariants.{V1}
+use Rattle.core_text.specs.Lines.{state_text, text_in}
+
+abbrev left : PlainRecord
+left = record {
+  id = codes "a";
+  child = Some 7;
+  act = Some act.Once;
+  order = Some Term;
+  stop = Some Due;
+  asked = false;
+  called = false;
+  look = true;
+  missed = false;
+  held_until = None;
+  starts = record { items = [] };
+  last = Some (Exit 1);
+}
+
+abbrev heads : CoreFields
+heads = record {
+  generation = 1;
+  time = 0;
+  stage = Some (stage.Run level.L3);
+  grace = 5;
+  goal = record { level = level.L3; grace = 5 };
+  booted = true;
+  announced = false;
+  reread = true;
+  reexec = false;
+  level_wish = Some (record { level = level.S; grace = 5 });
+  news = no_news;
+}
+
+abbrev example : SavedState
+example = record { heads = heads; table = []; records = left ∷ [] }
+
+example_text : state_text example ≡ codes "initd-state 2\ngeneration 1\nclock 0\nstage 3 5\ngoal 3 5\nflags 10\nwish 10 S:5 000 000\ntable 0\nslot a 7 once term due 0010 - - exit:1\nend 9\n"
+example_text = rw (decimal_digit 1 (lit< tt), decimal_digit 0 (lit< tt), decimal_digit 5 (lit< tt), decimal_digit 7 (lit< tt), decimal_digit 9 (lit< tt)) refl
+
+old_text : text_in V1 example ≡ codes "initd-state 1\ngeneration 1\nclock 0\nstage 3 5\ngoal 3 5\nflags 10\nwish 10 S:5 000 000\ntable 0\nslot a 7 once term due 0010 - -\nend 9\n"
+old_text = rw (decimal_digit 1 (lit< tt), decimal_digit 0 (lit< tt), decimal_digit 5 (lit< tt), decimal_digit 7 (lit< tt), decimal_digit 9 (lit< tt)) refl

@@ -1,0 +1,9 @@
+use Rattle.std.proofs.Common.{◌≤◌, ◌+◌}
+use Rattle.core_text.proofs.reading.table_lines.Given as goal
+
+-- the lines that are known, and those among which the first that is wrong stands, are no more than were given
+abbrev pub invariant-loop-rest : goal.invariant-loop-rest
+invariant-loop-rest g l = l.known + l.rest ≤ l.count
+
+abbrev pub decreases-loop-rest : goal.decreases-loop-rest
+decreases-loop-rest g l = l.rest

@@ -1,0 +1,142 @@
+-- The text of a state (telinit(8)), by its version: its lines, and the words of each line, set apart by single blanks.
+use Rattle.std.specs.Prelude.{ℕ, Bool, if◌then◌else◌, List, [], ◌∷◌, ◌++◌, map, length, codes, decimal, Option, Some, None}
+use Rattle.std.specs.List.{flat_map, join_with_byte}
+use Rattle.init_words.specs.declared.children.Status.{Status}
+use Rattle.init_words.specs.declared.children.Status.TheVariants.{Exit, Killed as KilledBySignal}
+use Rattle.init_words.specs.declared.stages.Stage.{Stage}
+use Rattle.init_words.specs.Actions.{word_of}
+use Rattle.inittab_text.specs.Written.{fields_written}
+use Rattle.trace_events.specs.declared.steps.Goal.{Goal}
+use Rattle.trace_text.specs.Lines.{level_word, stage_word, order_word}
+use Rattle.core_records.specs.declared.children.Stop.{Stop}
+use Rattle.core_records.specs.declared.children.Stop.TheVariants.{Due, Termed, Killed}
+use Rattle.core_model.specs.declared.news.News.{News}
+use Rattle.core_model.specs.declared.parts.CoreFields.{CoreFields}
+use Rattle.core_model.specs.declared.parts.PlainRecord.{PlainRecord}
+use Rattle.core_model.specs.Parts.{SavedState}
+use Rattle.core_text.specs.declared.versions.Version.{Version}
+use Rattle.core_text.specs.declared.versions.Version.TheVariants.{V1, V2}
+
+-- a yes or no; some of them in a row
+abbrev pub bit : Bool → ℕ
+bit flag = if flag then 49 else 48
+
+abbrev pub bits : List Bool → List ℕ
+bits flags = map bit flags
+
+-- a word, and another where there is none
+abbrev pub or_word : {X : Type 0} → List ℕ → (X → List ℕ) → Option X → List ℕ
+or_word none write None = none
+or_word none write (Some x) = write x
+
+-- a word, and a dash where there is none
+abbrev pub or_dash : {X : Type 0} → (X → List ℕ) → Option X → List ℕ
+or_dash write o = or_word (codes "-") write o
+
+abbrev pub stage_or_none : Option Stage → List ℕ
+stage_or_none stage = or_word (codes "none") stage_word stage
+
+-- a level and its seconds in one word
+abbrev pub goal_word : Goal → List ℕ
+goal_word goal = level_word goal.level ++ 58 ∷ decimal goal.grace
+
+abbrev pub stop_word : Stop → List ℕ
+stop_word Due = codes "due"
+stop_word (Termed time) = codes "term" ++ 58 ∷ decimal time
+stop_word (Killed time) = codes "kill" ++ 58 ∷ decimal time
+
+-- how a child ended
+abbrev pub status_word : Status → List ℕ
+status_word (Exit code) = codes "exit" ++ 58 ∷ decimal code
+status_word KilledBySignal = codes "killed"
+
+-- readings, joined by commas
+abbrev pub starts_word : List ℕ → List ℕ
+starts_word [] = codes "-"
+starts_word (time ∷ times) = join_with_byte 44 (map decimal (time ∷ times))
+
+-- a line of these words
+abbrev pub spaced : List (List ℕ) → List ℕ
+spaced words = join_with_byte 32 words
+
+abbrev pub version_line : Version → List ℕ
+version_line V1 = codes "initd-state 1"
+version_line V2 = codes "initd-state 2"
+
+abbrev pub generation_line : ℕ → List ℕ
+generation_line generation = spaced (codes "generation" ∷ decimal generation ∷ [])
+
+abbrev pub clock_line : ℕ → List ℕ
+clock_line time = spaced (codes "clock" ∷ decimal time ∷ [])
+
+abbrev pub stage_line : Option Stage → ℕ → List ℕ
+stage_line stage grace = spaced (codes "stage" ∷ stage_or_none stage ∷ decimal grace ∷ [])
+
+abbrev pub goal_line : Goal → List ℕ
+goal_line goal = spaced (codes "goal" ∷ level_word goal.level ∷ decimal goal.grace ∷ [])
+
+abbrev pub flags_line : Bool → Bool → List ℕ
+flags_line booted announced = spaced (codes "flags" ∷ bits (booted ∷ announced ∷ []) ∷ [])
+
+abbrev pub power_bits : News → List Bool
+power_bits news = news.fail ∷ news.fail_now ∷ news.ok ∷ []
+
+abbrev pub letter_bits : News → List Bool
+letter_bits news = news.a ∷ news.b ∷ news.c ∷ []
+
+abbrev pub wish_line : Bool → Bool → Option Goal → News → List ℕ
+wish_line reread reexec level news =
+    spaced (codes "wish" ∷ bits (reread ∷ reexec ∷ []) ∷ or_dash goal_word level ∷ bits (power_bits news)
+    ∷ bits (letter_bits news) ∷ [])
+
+abbrev pub head_lines : CoreFields → List (List ℕ)
+head_lines heads =
+    generation_line heads.generation
+    ∷ clock_line heads.time
+    ∷ stage_line heads.stage heads.grace
+    ∷ goal_line heads.goal
+    ∷ flags_line heads.booted heads.announced
+    ∷ wish_line heads.reread heads.reexec heads.level_wish heads.news
+    ∷ []
+
+abbrev pub table_line : ℕ → List ℕ
+table_line count = spaced (codes "table" ∷ decimal count ∷ [])
+
+abbrev pub slot_flags : PlainRecord → List Bool
+slot_flags kept = kept.asked ∷ kept.called ∷ kept.look ∷ kept.missed ∷ []
+
+-- the words of a record; version 2 has how the last child ended behind them
+abbrev pub record_words : PlainRecord → List (List ℕ)
+record_words kept =
+    codes "slot" ∷ kept.id ∷ or_dash decimal kept.child ∷ or_dash word_of kept.act
+    ∷ or_dash order_word kept.order ∷ or_dash stop_word kept.stop ∷ bits (slot_flags kept)
+    ∷ or_dash decimal kept.held_until ∷ starts_word kept.starts.items ∷ []
+
+abbrev pub slot_line : Version → PlainRecord → List ℕ
+slot_line V1 kept = spaced (record_words kept)
+slot_line V2 kept = spaced (record_words kept ++ or_dash status_word kept.last ∷ [])
+
+abbrev pub end_line : ℕ → List ℕ
+end_line count = spaced (codes "end" ∷ decimal count ∷ [])
+
+-- the lines of a state before its last: the version, the heads, how many entries the table has and a line of
+-- inittab(5) for each, and a line for each record
+abbrev pub body_lines : Version → SavedState → List (List ℕ)
+body_lines version state =
+    version_line version ∷ (head_lines state.heads ++ (table_line (length state.table)
+    ∷ (map fields_written state.table ++ map (slot_line version) state.records)))
+
+-- the lines of a state: the last one counts those before it
+abbrev pub state_lines : Version → SavedState → List (List ℕ)
+state_lines version state = body_lines version state ++ end_line (length (body_lines version state)) ∷ []
+
+-- lines, each ended by a newline
+abbrev pub text_of_lines : List (List ℕ) → List ℕ
+text_of_lines lines = flat_map (λ line. line ++ 10 ∷ []) lines
+
+abbrev pub text_in : Version → SavedState → List ℕ
+text_in version state = text_of_lines (state_lines version state)
+
+-- the text as it is written
+abbrev pub state_text : SavedState → List ℕ
+state_text state = text_in V2 state

@@ -1,0 +1,82 @@
+-- The states that a text of a version can say: their numbers and their table are in range, a generation is one at
+-- least, no grace stands before the first stage, and no wish for another re-execution.
+use Rattle.std.specs.Prelude.{ℕ, Bool, true, not, ◌==◌, ◌^◌, ◌+◌, ◌&&◌, nat_le, nat_lt, List, length, Option, Some, None, is_none}
+use Rattle.std.specs.List.{list_all}
+use Rattle.init_words.specs.declared.children.Status.{Status}
+use Rattle.init_words.specs.declared.limits.TheConstants.{GRACE_LIMIT}
+use Rattle.init_words.specs.declared.stages.Stage.{Stage}
+use Rattle.init_words.specs.Ids.{is_id}
+use Rattle.inittab_text.specs.Written.{is_table}
+use Rattle.trace_events.specs.declared.steps.Goal.{Goal}
+use Rattle.trace_events.specs.Range.{is_status}
+use Rattle.respawn_limit.specs.declared.TheConstants.{STARTS}
+use Rattle.core_records.specs.declared.children.Stop.{Stop}
+use Rattle.core_records.specs.declared.children.Stop.TheVariants.{Due, Termed, Killed}
+use Rattle.core_model.specs.declared.parts.CoreFields.{CoreFields}
+use Rattle.core_model.specs.declared.parts.PlainRecord.{PlainRecord}
+use Rattle.core_records.specs.State.{RecordState, child_number}
+use Rattle.core_model.specs.Parts.{SavedState}
+use Rattle.core_model.specs.State.{CoreState}
+use Rattle.core_text.specs.declared.versions.Version.{Version}
+use Rattle.core_text.specs.declared.versions.Version.TheVariants.{V1, V2}
+use Rattle.core_text.specs.Versions.{holds_id, holds_table}
+
+abbrev pub is_time : ℕ → Bool
+is_time time = nat_lt time (2 ^ 64)
+
+abbrev pub is_child : ℕ → Bool
+is_child number = nat_lt number (2 ^ 32)
+
+abbrev pub is_seconds : ℕ → Bool
+is_seconds seconds = nat_lt seconds (GRACE_LIMIT + 1)
+
+-- where there is one it passes
+abbrev pub passes : {X : Type 0} → (X → Bool) → Option X → Bool
+passes test None = true
+passes test (Some x) = test x
+
+abbrev pub is_generation : ℕ → Bool
+is_generation generation = is_time generation && nat_le 1 generation
+
+abbrev pub is_stage : Option Stage → ℕ → Bool
+is_stage None grace = grace == 0
+is_stage (Some stage) grace = is_seconds grace
+
+abbrev pub is_goal : Goal → Bool
+is_goal goal = is_seconds goal.grace
+
+abbrev pub is_stop : Stop → Bool
+is_stop Due = true
+is_stop (Termed time) = is_time time
+is_stop (Killed time) = is_time time
+
+abbrev pub are_starts : List ℕ → Bool
+are_starts times = nat_le (length times) STARTS && list_all is_time times
+
+abbrev pub are_heads : CoreFields → Bool
+are_heads heads =
+    is_generation heads.generation && is_time heads.time && is_stage heads.stage heads.grace && is_goal heads.goal
+    && not heads.reexec && passes is_goal heads.level_wish
+
+-- how a child ended is said from version 2 on
+abbrev pub is_last_status : Version → Option Status → Bool
+is_last_status V1 last = is_none last
+is_last_status V2 last = passes is_status last
+
+abbrev pub is_record : Version → PlainRecord → Bool
+is_record version kept =
+    (is_id kept.id && holds_id version kept.id) && passes is_child kept.child && passes is_stop kept.stop
+    && passes is_time kept.held_until && (are_starts kept.starts.items && is_last_status version kept.last)
+
+abbrev pub is_state : Version → SavedState → Bool
+is_state version state =
+    are_heads state.heads && (is_table state.table && holds_table version state.table)
+    && list_all (is_record version) state.records
+
+-- the seconds that a core keeps are at most an hour, and none before the first stage
+abbrev pub has_short_seconds : CoreState → Bool
+has_short_seconds c = is_stage c.heads.stage c.heads.grace && is_goal c.heads.goal && passes is_goal c.heads.level_wish
+
+-- the id of a record is an id, and the number of its child and its last status fit their words
+abbrev pub has_ranged_words : RecordState → Bool
+has_ranged_words slot = is_id slot.id && passes is_child (child_number slot) && passes is_status slot.last

@@ -1,0 +1,143 @@
+-- Init's own steps end, and where they end it rests.
+use Rattle.std.proofs.Common.{◌≡◌, ◌≤◌, ◌<◌, refl, sym, ◌∙◌, ap, subst, ℕ, Bool, zero, suc, true, false, ◌||◌, cond, List, [], ◌∷◌, ◌++◌, map, filter, None, is_none, arith}
+use Rattle.std.specs.List.{list_any, list_all}
+use Rattle.std.specs.Option.{option_map}
+use Rattle.std.proofs.lemmas.Bool.{false≢true, and_from, or_parts, false_from_ne_true}
+use Rattle.init_words.specs.declared.entries.Entry.{Entry}
+use Rattle.init_words.specs.Ids.{same_id}
+use Rattle.init_words.proofs.Same.{same_id-self}
+use Rattle.init_words.proofs.Tests.{find_none, any_filtered}
+use Rattle.inittab_text.specs.Tables.{ids_of, has_id, act_of}
+use Rattle.trace_events.specs.declared.steps.Goal.{Goal}
+use Rattle.trace_events.specs.declared.steps.Step.{Step}
+use Rattle.trace_events.specs.declared.steps.Step.TheVariants as step
+use Rattle.trace_events.specs.Event.{Event}
+use Rattle.trace_events.specs.Past.{table_of, has_child, known_children}
+use Rattle.trace_events.specs.Wishes.{wants_reexec, wants_reread}
+use Rattle.trace_events.specs.Due.{due, first, left_ids}
+use Rattle.trace_events.specs.Run.{is_rest}
+use Rattle.trace_events.specs.Sound.{is_sound}
+use Rattle.trace_laws.proofs.Runs.{first_due}
+use Rattle.trace_laws.proofs.Stopping.{left_apart}
+use Rattle.core_records.specs.State.{RecordState}
+use Rattle.core_records.specs.Order.{IsInOrder}
+use Rattle.core_model.specs.State.{CoreState}
+use Rattle.core_model.specs.Decide.{decide}
+use Rattle.core_model.specs.Steps.{after_step}
+use Rattle.core_model.specs.Fit.{LastStatuses, Fits, StillFits, record_of, records_of, with_step}
+use Rattle.core_model.specs.Work.{work_left}
+use Rattle.core_model.proofs.Fitted.{fit_records, fit_table, still}
+use Rattle.core_model.proofs.Reading.{Each, IsOwn, table_own}
+use Rattle.core_model.proofs.Deciding.{decide_due}
+use Rattle.core_model.proofs.Stepping.{fits_step}
+use Rattle.core_model.proofs.Working.{decide_falls}
+use Rattle.core_waiting.specs.Rest.{AtRest}
+use Rattle.core_waiting.specs.Coming.{with_own_steps, after_own_steps}
+use Rattle.core_waiting.proofs.Idle.{rest_unwished}
+
+-- under a fit the records stand in the order of the table
+unlisted : (lasts : LastStatuses) (past : List Event) (ids : List (List ℕ)) → ((id : List ℕ) → list_any (same_id id) ids ≡ true → act_of id (table_of past) ≡ None) → list_all (λ (slot : RecordState). is_none slot.table_act) (map (record_of lasts past) ids) ≡ true
+unlisted lasts past [] none = refl
+unlisted lasts past (id ∷ ids) none = and_from (is_none (act_of id (table_of past))) (list_all (λ (slot : RecordState). is_none slot.table_act) (map (record_of lasts past) ids)) (ap is_none (none id (ap (λ b. b || list_any (same_id id) ids) (same_id-self id)))) (unlisted lasts past ids (λ x there. none x (later (same_id x id) (list_any (same_id x) ids) there))) where
+  later : (a b : Bool) → b ≡ true → (a || b) ≡ true
+  later true b h = refl
+  later false b h = h
+
+in_order_along : (lasts : LastStatuses) (past : List Event) (es : List Entry) (rest : List (List ℕ)) → Each (IsOwn (table_of past)) es → list_all (λ (slot : RecordState). is_none slot.table_act) (map (record_of lasts past) rest) ≡ true → IsInOrder es (map (record_of lasts past) (ids_of es ++ rest))
+in_order_along lasts past [] rest own none = none
+in_order_along lasts past (e ∷ es) rest own none = (refl, ap (option_map (λ (x : Entry). x.act)) own.0, in_order_along lasts past es rest own.1 none)
+
+records_in_order : (lasts : LastStatuses) (goal : Goal) (past : List Event) → is_sound goal past ≡ true → IsInOrder (table_of past) (records_of lasts past)
+records_in_order lasts goal past sound = in_order_along lasts past (table_of past) (filter kept (left_ids past)) (table_own lasts goal past sound) (unlisted lasts past (filter kept (left_ids past)) (λ id there. none id (any_filtered (same_id id) kept (left_ids past) there))) where
+  kept : List ℕ → Bool
+  kept id = has_child id (known_children past)
+
+  none : (id : List ℕ) → list_any (same_id id) (left_ids past) ≡ true → act_of id (table_of past) ≡ None
+  none id there = ap (option_map (λ (x : Entry). x.act)) (find_none (has_id id) (table_of past) (false_from_ne_true (list_any (has_id id) (table_of past)) (λ listed. false≢true (sym (left_apart goal past sound id listed) ∙ there))))
+
+module _ (goal : Goal) (past : List Event) (c : CoreState) (sound : is_sound goal past ≡ true) (fits : Fits c goal past) where
+  due_now : decide c ≡ first (due goal past)
+  due_now = decide_due goal past sound c fits
+
+  in_order : IsInOrder c.table c.slots
+  in_order = subst (IsInOrder c.table) (sym (fit_records c goal past fits)) (subst (λ table. IsInOrder table (records_of fits.lasts past)) (sym (fit_table c goal past fits)) (records_in_order fits.lasts goal past sound))
+
+  -- a step of its own that is due leaves less to do, and the trace with it is sound and fits
+  falls : is_rest (first (due goal past)) ≡ false → work_left (after_step (decide c) c) < work_left c
+  falls busy = decide_falls c in_order (ap is_rest due_now ∙ busy)
+
+  fits_next : StillFits c (after_step (decide c) c) goal past (with_step (first (due goal past)) past)
+  fits_next = subst (λ s. StillFits c (after_step (decide c) c) goal past (with_step s past)) due_now (fits_step goal past c sound fits)
+
+sound_next : (goal : Goal) (past : List Event) (made : Step) → first (due goal past) ≡ made → is_sound goal past ≡ true → is_sound goal (with_step made past) ≡ true
+sound_next goal past (step.Enter stage grace) is sound = and_from _ (is_sound goal past) (first_due goal past (step.Enter stage grace) is refl) sound
+sound_next goal past (step.Call letter) is sound = and_from _ (is_sound goal past) (first_due goal past (step.Call letter) is refl) sound
+sound_next goal past (step.Power kind) is sound = and_from _ (is_sound goal past) (first_due goal past (step.Power kind) is refl) sound
+sound_next goal past (step.Order id ask) is sound = and_from _ (is_sound goal past) (first_due goal past (step.Order id ask) is refl) sound
+sound_next goal past (step.Hold id) is sound = and_from _ (is_sound goal past) (first_due goal past (step.Hold id) is refl) sound
+sound_next goal past (step.Settle level) is sound = and_from _ (is_sound goal past) (first_due goal past (step.Settle level) is refl) sound
+sound_next goal past _ is sound = sound
+
+-- so it comes to a rest
+comes_in : (n : ℕ) (goal : Goal) (past : List Event) (c : CoreState) → is_sound goal past ≡ true → Fits c goal past → work_left c ≤ n → is_rest (first (due goal (with_own_steps goal n past))) ≡ true
+comes_in zero goal past c sound fits enough = at (is_rest (first (due goal past))) refl where
+  at : (b : Bool) → is_rest (first (due goal past)) ≡ b → b ≡ true
+  at true is = refl
+  at false is = absurd (let less : work_left (after_step (decide c) c) < work_left c = falls goal past c sound fits is in omega arith)
+comes_in (suc n) goal past c sound fits enough = at (is_rest (first (due goal past))) refl (λ is. comes_in n goal (with_step (first (due goal past)) past) (after_step (decide c) c) (sound_next goal past (first (due goal past)) refl sound) (fits_next goal past c sound fits).0 (let less : work_left (after_step (decide c) c) < work_left c = falls goal past c sound fits is in omega arith)) where
+  at : (b : Bool) → is_rest (first (due goal past)) ≡ b → (is_rest (first (due goal past)) ≡ false → is_rest (first (due goal (with_own_steps goal n (with_step (first (due goal past)) past)))) ≡ true) → is_rest (first (due goal (cond b past (with_own_steps goal n (with_step (first (due goal past)) past))))) ≡ true
+  at true is later = is
+  at false is later = later is
+
+pub comes : (core : CoreState) (goal : Goal) (past : List Event) → is_sound goal past ≡ true → Fits core goal past → is_rest (first (due goal (with_own_steps goal (work_left core) past))) ≡ true
+comes core goal past sound fits = comes_in (work_left core) goal past core sound fits (omega arith)
+
+-- and what it keeps fits the trace with those steps, which is sound
+pub steps_fit : (n : ℕ) (core : CoreState) (goal : Goal) (past : List Event) → is_sound goal past ≡ true → Fits core goal past → (is_sound goal (with_own_steps goal n past) ≡ true) × StillFits core (after_own_steps n core) goal past (with_own_steps goal n past)
+steps_fit zero core goal past sound fits = (sound, still core goal past fits)
+steps_fit (suc n) core goal past sound fits =
+    let next = fits_next goal past core sound fits in
+    let rest = steps_fit n (after_step (decide core) core) goal (with_step (first (due goal past)) past) (sound_next goal past (first (due goal past)) refl sound) next.0 in
+    at (is_rest (first (due goal past))) (is_rest (decide core)) (ap is_rest (due_now goal past core sound fits)) (rest.0, (rest.1.0, λ has. rest.1.1 (next.1 has))) where
+      mid : List Event
+      mid = with_step (first (due goal past)) past
+
+      at : (b d : Bool) → d ≡ b → (is_sound goal (with_own_steps goal n mid) ≡ true) × StillFits core (after_own_steps n (after_step (decide core) core)) goal past (with_own_steps goal n mid)
+          → (is_sound goal (cond b past (with_own_steps goal n mid)) ≡ true) × StillFits core (cond d core (after_own_steps n (after_step (decide core) core))) goal past (cond b past (with_own_steps goal n mid))
+      at true true same later = (sound, still core goal past fits)
+      at false false same later = later
+      at true false same later = absurd (false≢true same)
+      at false true same later = absurd (false≢true (sym same))
+
+-- init's own steps leave the two wishes as they are
+reexec_next : (made : Step) (past : List Event) → wants_reexec (with_step made past) ≡ wants_reexec past
+reexec_next (step.Enter stage grace) past = refl
+reexec_next (step.Call letter) past = refl
+reexec_next (step.Power kind) past = refl
+reexec_next (step.Order id ask) past = refl
+reexec_next (step.Hold id) past = refl
+reexec_next (step.Settle level) past = refl
+reexec_next _ past = refl
+
+reread_next : (made : Step) (past : List Event) → wants_reread (with_step made past) ≡ wants_reread past
+reread_next (step.Enter stage grace) past = refl
+reread_next (step.Call letter) past = refl
+reread_next (step.Power kind) past = refl
+reread_next (step.Order id ask) past = refl
+reread_next (step.Hold id) past = refl
+reread_next (step.Settle level) past = refl
+reread_next _ past = refl
+
+wish_stays : (wants : List Event → Bool) → ((made : Step) (past : List Event) → wants (with_step made past) ≡ wants past) → (n : ℕ) (goal : Goal) (past : List Event) → wants (with_own_steps goal n past) ≡ wants past
+wish_stays wants next zero goal past = refl
+wish_stays wants next (suc n) goal past = at (is_rest (first (due goal past))) (wish_stays wants next n goal (with_step (first (due goal past)) past) ∙ next (first (due goal past)) past) where
+  at : (b : Bool) → wants (with_own_steps goal n (with_step (first (due goal past)) past)) ≡ wants past → wants (cond b past (with_own_steps goal n (with_step (first (due goal past)) past))) ≡ wants past
+  at true later = refl
+  at false later = later
+
+pub arrives : (core : CoreState) (goal : Goal) (past : List Event) → is_sound goal past ≡ true → Fits core goal past → (wants_reexec past || wants_reread past) ≡ false → AtRest goal (with_own_steps goal (work_left core) past)
+arrives core goal past sound fits unwished =
+    let none = or_parts (wants_reexec past) (wants_reread past) unwished in
+    rest_unwished goal (with_own_steps goal (work_left core) past) (comes core goal past sound fits)
+    (wish_stays wants_reexec reexec_next (work_left core) goal past ∙ none.0)
+    (wish_stays wants_reread reread_next (work_left core) goal past ∙ none.1)

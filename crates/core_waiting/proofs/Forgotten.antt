@@ -1,0 +1,123 @@
+-- A list of due steps that forgot one of its ten ranks would break the law: for each rank a sound trace that takes no
+-- step of that rank, at whose end nothing of the other nine is due and no order is open, and of which a clause is wrong.
+-- And for each reason a rest at which `rest` would be wrong without it.
+use Rattle.std.proofs.Common.{◌≡◌, refl, ℕ, Bool, zero, suc, true, false, not, ◌||◌, List, [], ◌∷◌, ◌++◌, filter, codes, Option, Some}
+use Rattle.std.specs.List.{list_all}
+use Rattle.init_words.specs.declared.entries.Entry.{Entry}
+use Rattle.init_words.specs.declared.actions.Act.TheVariants as act
+use Rattle.init_words.specs.declared.levels.Level.TheVariants as level
+use Rattle.init_words.specs.declared.levels.Mark.TheVariants.{At}
+use Rattle.init_words.specs.declared.stages.Stage.TheVariants as stage
+use Rattle.init_words.specs.declared.orders.PowerKind.TheVariants as power
+use Rattle.initctl_frame.specs.declared.requests.HeardRequest.TheVariants as got
+use Rattle.trace_events.specs.declared.happenings.Happening.TheVariants.{NewTable, NotRead, Enter, Settle, Nudge, Got}
+use Rattle.trace_events.specs.declared.steps.Goal.{Goal}
+use Rattle.trace_events.specs.declared.steps.Step.{Step}
+use Rattle.trace_events.specs.Event.{Event}
+use Rattle.trace_events.specs.Past.{stage_of, Child, is_idle, kept_children, known_children}
+use Rattle.trace_events.specs.Wishes.{wish_stands}
+use Rattle.trace_events.specs.Due.{due_first, due_reexec, due_reread, due_level, due_news, due_stops, due_starts, due_stage, due_settle, due_looks, due}
+use Rattle.trace_events.specs.Sound.{is_sound}
+use Rattle.core_waiting.specs.declared.rests.Why.{Why}
+use Rattle.core_waiting.specs.declared.rests.Why.TheVariants.{Excluded, WaitedFor, InTheWay}
+use Rattle.core_waiting.specs.Rest.{why_awaited, awaited_children, is_level_announced, is_empty, is_stopping, is_looked_at}
+use Rattle.core_waiting.proofs.Rows.{entry, opening, started, goes_to, entered, stopped, waited_for}
+
+-- the ten ranks, and what is due of all of them but the one of this number
+abbrev ranks : Goal → List Event → List (List Step)
+ranks goal past =
+    due_first goal (stage_of past) past ∷ due_reexec past ∷ due_reread past ∷ due_level past ∷ due_news past
+    ∷ due_stops past ∷ due_starts past ∷ due_stage goal past ∷ due_settle past ∷ due_looks past ∷ []
+
+abbrev joined : List Step → List (List Step) → List Step
+joined steps [] = steps
+joined steps (more ∷ rest) = joined (steps ++ more) rest
+
+abbrev all_of : List (List Step) → List Step
+all_of [] = []
+all_of (steps ∷ more) = joined steps more
+
+abbrev without : ℕ → List (List Step) → List (List Step)
+without n [] = []
+without zero (steps ∷ more) = steps ∷ more
+without (suc zero) (steps ∷ more) = more
+without (suc n) (steps ∷ more) = steps ∷ without n more
+
+abbrev due_without : ℕ → Goal → List Event → List Step
+due_without rank goal past = all_of (without rank (ranks goal past))
+
+-- what the clauses ask of a trace at whose end no step is due and no order is open
+abbrev is_accounted_for : List Event → Bool
+is_accounted_for past = not (is_idle past) || is_level_announced past || not (is_empty (awaited_children past))
+
+record Breaks (rank : ℕ) (goal : Goal) (past : List Event) (asked : Bool) : Type 0 where
+  sound : is_sound goal past ≡ true
+  rests : due_without rank goal past ≡ []
+  idle : is_idle past ≡ true
+  broken : asked ≡ false
+
+abbrev respawns : List Entry
+respawns = (entry (codes "r") (At level.L3 ∷ []) act.Respawn) ∷ []
+
+abbrev settled : List Event
+settled = Settle level.L3 ∷ started (codes "r") 7 ++ entered level.L3 respawns
+
+reexec : Breaks 2 (opening level.L3) (Got got.Reexec ∷ settled) (not (wish_stands (Got got.Reexec ∷ settled)))
+reexec = record { sound = refl; rests = refl; idle = refl; broken = refl }
+
+reread : Breaks 3 (opening level.L3) (Got got.Reload ∷ settled) (not (wish_stands (Got got.Reload ∷ settled)))
+reread = record { sound = refl; rests = refl; idle = refl; broken = refl }
+
+abbrev wished : List Event
+wished = NotRead ∷ Got (got.Level level.L2 5) ∷ settled
+
+level_wish : Breaks 4 (opening level.L3) wished (not (wish_stands wished))
+level_wish = record { sound = refl; rests = refl; idle = refl; broken = refl }
+
+abbrev failed : List Event
+failed = Got (got.Power power.Fail) ∷ settled
+
+news : Breaks 5 (opening level.L3) failed (not (wish_stands failed))
+news = record { sound = refl; rests = refl; idle = refl; broken = refl }
+
+abbrev unsignalled : List Event
+unsignalled = goes_to level.L2 ++ settled
+
+stops : Breaks 6 (opening level.L3) unsignalled (list_all (is_stopping unsignalled) (kept_children unsignalled))
+stops = record { sound = refl; rests = refl; idle = refl; broken = refl }
+
+starts : Breaks 7 (opening level.L3) (entered level.L3 respawns) (is_accounted_for (entered level.L3 respawns))
+starts = record { sound = refl; rests = refl; idle = refl; broken = refl }
+
+abbrev still_sysinit : List Event
+still_sysinit = Enter stage.Sysinit 5 ∷ NewTable [] ∷ []
+
+next_stage : Breaks 8 (opening level.L3) still_sysinit (is_accounted_for still_sysinit)
+next_stage = record { sound = refl; rests = refl; idle = refl; broken = refl }
+
+settles : Breaks 9 (opening level.L3) (entered level.L3 []) (is_accounted_for (entered level.L3 []))
+settles = record { sound = refl; rests = refl; idle = refl; broken = refl }
+
+looks : Breaks 10 (opening level.L3) (Nudge ∷ settled) (list_all (is_looked_at (Nudge ∷ settled)) (known_children (Nudge ∷ settled)))
+looks = record { sound = refl; rests = refl; idle = refl; broken = refl }
+
+-- the awaited children but for those of this reason, and a rest at which they are none
+abbrev is_for : Why → Option Why → Bool
+is_for Excluded (Some Excluded) = true
+is_for WaitedFor (Some WaitedFor) = true
+is_for InTheWay (Some InTheWay) = true
+is_for _ _ = false
+
+abbrev awaited_but : Why → List Event → List Child
+awaited_but why past = filter (λ child. not (is_for why (why_awaited past child))) (awaited_children past)
+
+record Needs (why : Why) (goal : Goal) (past : List Event) : Type 0 where
+  sound : is_sound goal past ≡ true
+  rests : due goal past ≡ []
+  broken : (not (is_idle past) || is_level_announced past || not (is_empty (awaited_but why past))) ≡ false
+
+excluded : Needs Excluded (opening level.L3) stopped
+excluded = record { sound = refl; rests = refl; broken = refl }
+
+waited : Needs WaitedFor (opening level.L3) waited_for
+waited = record { sound = refl; rests = refl; broken = refl }

@@ -1,0 +1,11 @@
+pub mod Awaiting
+pub mod Coming
+pub mod Forgotten
+pub mod Idle
+pub mod Once
+pub mod Progress
+pub mod Rest
+pub mod Rounds
+pub mod Rows
+pub mod Settled
+pub mod Stops

@@ -1,0 +1,224 @@
+-- Between two rests, where what was awaited at the first is gone at the second, a waited entry was started, or the
+-- level is announced.
+use Rattle.std.proofs.Common.{◌≡◌, refl, sym, ◌∙◌, ap, ℕ, Bool, true, false, not, ◌&&◌, ◌||◌, cond, List, [], ◌∷◌, ◌++◌, filter, Option, Some, None, is_some}
+use Rattle.std.specs.List.{list_any, list_all}
+use Rattle.std.specs.Option.{option_map_or}
+use Rattle.std.proofs.lemmas.Bool.{false≢true, false_from_ne_true, true_from_ne_false, and_parts, and_from, or_left, or_right, or_parts, or_from}
+use Rattle.init_words.specs.declared.entries.Entry.{Entry}
+use Rattle.init_words.specs.declared.actions.Act.{Act}
+use Rattle.init_words.specs.declared.actions.Act.TheVariants as act
+use Rattle.init_words.specs.declared.orders.OrderKind.{OrderKind}
+use Rattle.init_words.specs.declared.orders.OrderKind.TheVariants.{Start, Look, Term, Kill}
+use Rattle.init_words.specs.Ids.{same_id}
+use Rattle.init_words.specs.Actions.{wanted_by, is_limited}
+use Rattle.init_words.specs.Entries.{waited_of}
+use Rattle.init_words.proofs.Same.{same_id-is, same_id-self}
+use Rattle.init_words.proofs.Tests.{both_ways, falsely, or_either, not_from, any_less, Passing, passing}
+use Rattle.inittab_text.specs.Tables.{entry_of}
+use Rattle.trace_events.specs.declared.happenings.Happening.TheVariants.{NewTable, Enter, Call, Power, Asked, Birth, Told}
+use Rattle.trace_events.specs.declared.steps.Goal.{Goal}
+use Rattle.trace_events.specs.declared.steps.Step.TheVariants as step
+use Rattle.trace_events.specs.Event.{Event}
+use Rattle.trace_events.specs.Past.{table_of, stage_of, Child, is_of, has_child, open_of, is_idle, newborn, kept_children}
+use Rattle.trace_events.specs.Wanted.{starts_now, is_order, nothing_runs, is_asked, is_called, is_wanted, may_live, is_excluded}
+use Rattle.trace_events.specs.Sound.{may_come, is_sound}
+use Rattle.trace_laws.proofs.Orders.{idle_none, kept_before_told, undone_is_open}
+use Rattle.trace_laws.proofs.Tests.{is_order-is}
+use Rattle.trace_laws.proofs.Dues.{due_facts}
+use Rattle.trace_laws.proofs.Keeps.{sound_holds, start_undone, born_ready, placed_spared}
+use Rattle.trace_laws.proofs.Births.{is_table, at_moment, sound_step}
+use Rattle.core_waiting.specs.declared.rests.Why.TheVariants.{Excluded, WaitedFor, InTheWay}
+use Rattle.core_waiting.specs.Rest.{AtRest, why_of_entry, is_awaited, awaited_children, is_level_announced, is_calm, is_waited_id, is_start_of, is_waited_start, is_gone}
+use Rattle.core_waiting.proofs.Rest.{announced_or_awaited, entry_awaited, not_first}
+use Rattle.core_waiting.proofs.Settled.{found_id}
+use Rattle.core_waiting.proofs.Once.{calm_before, calm_parts, wanted_before, same_table, not_again}
+
+-- a calm stretch of a sound trace, happening by happening
+no_table : (happening : Event) → is_calm (happening ∷ []) ≡ true → is_table happening ≡ false
+no_table (NewTable table) calm = absurd (false≢true calm)
+no_table happening calm = refl
+
+pub record Next (goal : Goal) (happening : Event) (between past : List Event) : Type 0 where
+  pub may : may_come goal happening (between ++ past) ≡ true
+  pub sound : is_sound goal (between ++ past) ≡ true
+  pub here : is_calm (happening ∷ []) ≡ true
+  pub calm : is_calm between ≡ true
+
+pub next_of : (goal : Goal) (happening : Event) (between past : List Event) → is_sound goal (happening ∷ (between ++ past)) ≡ true → is_calm (happening ∷ between) ≡ true → Next goal happening between past
+next_of goal happening between past sound calm =
+    let parts = calm_parts happening between calm in
+    let step = sound_step goal happening (between ++ past) (no_table happening parts.0) sound in
+    record { may = step.0; sound = step.1; here = parts.0; calm = parts.1 }
+
+pub same_stage : (between past : List Event) → is_calm between ≡ true → stage_of (between ++ past) ≡ stage_of past
+same_stage [] past calm = refl
+same_stage (NewTable table ∷ between) past calm = absurd (false≢true calm)
+same_stage (Enter s grace ∷ between) past calm = absurd (false≢true calm)
+same_stage (Power kind ∷ between) past calm = absurd (false≢true calm)
+same_stage (Call letter ∷ between) past calm = absurd (false≢true calm)
+same_stage (happening ∷ between) past calm = same_stage between past calm
+
+excluded_still : (between past : List Event) → is_calm between ≡ true → (child : Child) → is_excluded (between ++ past) child ≡ is_excluded past child
+excluded_still between past calm child = λ i. not (may_live (entry_of child.id (same_table between past calm i)) child.act (same_stage between past calm i))
+
+-- an id that is not started has no open Start behind the stretch, and so no new child
+not_ordered : (b : Bool) (ask : OrderKind) (o : Option OrderKind) → is_order Start (Some ask) ≡ false → is_order Start o ≡ false → is_order Start (cond b (Some ask) o) ≡ false
+not_ordered true ask o other rest = other
+not_ordered false ask o other rest = rest
+
+cleared_order : (b : Bool) (o : Option OrderKind) → is_order Start o ≡ false → is_order Start (cond b None o) ≡ false
+cleared_order true o rest = refl
+cleared_order false o rest = rest
+
+no_start : (id : List ℕ) (between past : List Event) → open_of id past ≡ None → list_any (is_start_of id) between ≡ false → is_order Start (open_of id (between ++ past)) ≡ false
+no_start id [] past free none = ap (is_order Start) free
+no_start id (Asked i Start ∷ between) past free none =
+    let parts = or_parts (same_id id i) (list_any (is_start_of id) between) none in
+    ap (λ b. is_order Start (cond b (Some Start) (open_of id (between ++ past)))) parts.0 ∙ no_start id between past free parts.1
+no_start id (Asked i Look ∷ between) past free none = not_ordered (same_id id i) Look (open_of id (between ++ past)) refl (no_start id between past free none)
+no_start id (Asked i Term ∷ between) past free none = not_ordered (same_id id i) Term (open_of id (between ++ past)) refl (no_start id between past free none)
+no_start id (Asked i Kill ∷ between) past free none = not_ordered (same_id id i) Kill (open_of id (between ++ past)) refl (no_start id between past free none)
+no_start id (Told i ∷ between) past free none = cleared_order (same_id id i) (open_of id (between ++ past)) (no_start id between past free none)
+no_start id (happening ∷ between) past free none = no_start id between past free none
+
+kept_back : (goal : Goal) (id : List ℕ) (q : Child → Bool) (between past : List Event) → is_sound goal (between ++ past) ≡ true → is_calm between ≡ true → open_of id past ≡ None → list_any (is_start_of id) between ≡ false → list_any (λ x. is_of id x && q x) (kept_children (between ++ past)) ≡ true → list_any (λ x. is_of id x && q x) (kept_children past) ≡ true
+kept_back goal id q [] past sound calm free none there = there
+kept_back goal id q (NewTable table ∷ between) past sound calm free none there = absurd (false≢true calm)
+kept_back goal id q (Enter s grace ∷ between) past sound calm free none there = absurd (false≢true calm)
+kept_back goal id q (Asked i Start ∷ between) past sound calm free none there =
+    let next = next_of goal (Asked i Start) between past sound calm in
+    kept_back goal id q between past next.sound next.calm free (or_parts (same_id id i) (list_any (is_start_of id) between) none).1 there
+kept_back goal id q (Birth i n ∷ between) past sound calm free none there =
+    let next = next_of goal (Birth i n) between past sound calm in
+    or_either (same_id id i && q (newborn i n (between ++ past))) (list_any (λ x. is_of id x && q x) (kept_children (between ++ past))) there
+    (λ own. both_ways (is_order Start (open_of id (between ++ past))) (ap (is_order Start) (ap (λ x. open_of x (between ++ past)) (same_id-is id i (and_parts (same_id id i) (q (newborn i n (between ++ past))) own).0) ∙ undone_is_open i Start (between ++ past) (is_order-is Start _ (start_undone goal i n (between ++ past) next.may)))) (no_start id between past free none))
+    (kept_back goal id q between past next.sound next.calm free none)
+kept_back goal id q (Told i ∷ between) past sound calm free none there =
+    let next = next_of goal (Told i) between past sound calm in
+    kept_back goal id q between past next.sound next.calm free none (kept_before_told (λ x. is_of id x && q x) i (between ++ past) there)
+kept_back goal id q (happening ∷ between) past sound calm free none there =
+    let next = next_of goal happening between past sound calm in
+    kept_back goal id q between past next.sound next.calm free none there
+
+-- once an id was started, no kept child is excluded, and its entry is not wanted again
+pub record Quit (id : List ℕ) (past : List Event) : Type 0 where
+  pub spared : list_any (is_excluded past) (kept_children past) ≡ false
+  pub done : (e : Entry) → id ≡ e.id → is_limited e.act ≡ false → is_wanted e past ≡ false
+
+spared_step : (goal : Goal) (happening : Event) (past : List Event) → may_come goal happening past ≡ true → is_sound goal past ≡ true → is_calm (happening ∷ []) ≡ true → list_any (is_excluded past) (kept_children past) ≡ false → list_any (is_excluded (happening ∷ past)) (kept_children (happening ∷ past)) ≡ false
+spared_step goal (NewTable table) past may sound calm spared = absurd (false≢true calm)
+spared_step goal (Enter s grace) past may sound calm spared = absurd (false≢true calm)
+spared_step goal (Birth i n) past may sound calm spared = or_from (is_excluded past (newborn i n past)) (list_any (is_excluded past) (kept_children past)) (placed_spared i n past (born_ready goal i n past may (sound_holds goal past sound)).placed) spared
+spared_step goal (Told i) past may sound calm spared = falsely (list_any (is_excluded past) (kept_children (Told i ∷ past))) (list_any (is_excluded past) (kept_children past)) (kept_before_told (is_excluded past) i past) spared
+spared_step goal happening past may sound calm spared = spared
+
+quit_step : (goal : Goal) (id : List ℕ) (happening : Event) (past : List Event) → may_come goal happening past ≡ true → is_sound goal past ≡ true → is_calm (happening ∷ []) ≡ true → Quit id past → Quit id (happening ∷ past)
+quit_step goal id happening past may sound calm quit = record {
+  spared = spared_step goal happening past may sound calm quit.spared;
+  done = λ e own free. falsely (is_wanted e (happening ∷ past)) (is_wanted e past) (calm_before e happening past free calm) (quit.done e own free);
+}
+
+quit_start : (goal : Goal) (id i : List ℕ) (past : List Event) → may_come goal (Asked i Start) past ≡ true → same_id id i ≡ true → Quit id (Asked i Start ∷ past)
+quit_start goal id i past may same = record {
+  spared = (due_facts goal past (step.Order i Start) may).spared;
+  done = λ e own free. ap (λ x. is_wanted e (Asked x Start ∷ past)) (sym (same_id-is id i same) ∙ own) ∙ not_again e past free;
+}
+
+pub quit_at : (goal : Goal) (id : List ℕ) (between past : List Event) → is_sound goal (between ++ past) ≡ true → is_calm between ≡ true → list_any (is_start_of id) between ≡ true → Quit id (between ++ past)
+quit_at goal id [] past sound calm some = absurd (false≢true some)
+quit_at goal id (Asked i Start ∷ between) past sound calm some =
+    let next = next_of goal (Asked i Start) between past sound calm in
+    or_either (same_id id i) (list_any (is_start_of id) between) some
+    (quit_start goal id i (between ++ past) next.may)
+    (λ before. quit_step goal id (Asked i Start) (between ++ past) next.may next.sound next.here (quit_at goal id between past next.sound next.calm before))
+quit_at goal id (happening ∷ between) past sound calm some =
+    let next = next_of goal happening between past sound calm in
+    quit_step goal id happening (between ++ past) next.may next.sound next.here (quit_at goal id between past next.sound next.calm some)
+
+-- an entry that is kept up is wanted only where nothing of it runs
+limited_idle : (a : Act) (starts idle fresh called : Bool) → is_limited a ≡ true → (starts && wanted_by a idle fresh called) ≡ true → idle ≡ true
+limited_idle act.Respawn starts idle fresh called limited h = (and_parts starts idle h).1
+limited_idle act.Ondemand starts idle fresh called limited h = (and_parts called idle (and_parts starts (called && idle) h).1).1
+limited_idle _ starts idle fresh called limited h = absurd (false≢true limited)
+
+busy_unlimited : (e : Entry) (past : List Event) → has_child e.id (kept_children past) ≡ true → is_wanted e past ≡ true → is_limited e.act ≡ false
+busy_unlimited e past there wanted = false_from_ne_true (is_limited e.act) (λ limited. false≢true (sym (ap (λ b. not b && not (is_order Start (open_of e.id past))) there) ∙ limited_idle e.act (starts_now e past) (nothing_runs e.id past) (not (is_asked e.id past)) (is_called e past) limited wanted))
+
+-- why a child is awaited that is not excluded
+record Wants (child : Child) (past : List Event) : Type 0 where
+  pub entry : Entry
+  pub found : entry_of child.id (table_of past) ≡ Some entry
+  pub asks : (waited_of entry || is_wanted entry past) ≡ true
+
+wants_of : (child : Child) (past : List Event) → is_excluded past child ≡ false → is_awaited past child ≡ true → Wants child past
+wants_of child past spared h = read (entry_of child.id (table_of past)) refl (ap (λ b. is_some (cond b (Some Excluded) (why_of_entry (entry_of child.id (table_of past)) past))) (sym spared) ∙ h) where
+  asks : (waited wanted : Bool) → is_some (cond waited (Some WaitedFor) (cond wanted (Some InTheWay) None)) ≡ true → (waited || wanted) ≡ true
+  asks true wanted h = refl
+  asks false true h = refl
+  asks false false h = h
+
+  read : (o : _) → entry_of child.id (table_of past) ≡ o → is_some (why_of_entry o past) ≡ true → Wants child past
+  read None is h = absurd (false≢true h)
+  read (Some e) is h = record { entry = e; found = is; asks = asks (waited_of e) (is_wanted e past) h }
+
+-- what is awaited behind the stretch and was kept before it was awaited before it
+was_awaited : (between past : List Event) → is_calm between ≡ true → (child : Child) → has_child child.id (kept_children (between ++ past)) ≡ true → is_awaited (between ++ past) child ≡ true → is_awaited past child ≡ true
+was_awaited between past calm child there h = at (is_excluded (between ++ past) child) refl where
+  at : (b : Bool) → is_excluded (between ++ past) child ≡ b → is_awaited past child ≡ true
+  at true own = ap (λ b. is_some (cond b (Some Excluded) (why_of_entry (entry_of child.id (table_of past)) past))) (sym (excluded_still between past calm child) ∙ own)
+  at false spared = by (wants_of child (between ++ past) spared h) where
+    by : Wants child (between ++ past) → is_awaited past child ≡ true
+    by wants = entry_awaited past child wants.entry found (or_either (waited_of wants.entry) (is_wanted wants.entry (between ++ past)) wants.asks (or_left (waited_of wants.entry) (is_wanted wants.entry past)) (λ wanted. or_right (waited_of wants.entry) (is_wanted wants.entry past) (wanted_before wants.entry between past (busy_unlimited wants.entry (between ++ past) own wanted) calm wanted))) where
+      found : entry_of child.id (table_of past) ≡ Some wants.entry
+      found = ap (entry_of child.id) (sym (same_table between past calm)) ∙ wants.found
+
+      own : has_child wants.entry.id (kept_children (between ++ past)) ≡ true
+      own = ap (λ i. has_child i (kept_children (between ++ past))) (sym (found_id child.id (table_of (between ++ past)) wants.entry wants.found)) ∙ there
+
+filtered_none : (p q : Child → Bool) (xs : List Child) → list_all p (filter q xs) ≡ true → list_any (λ x. q x && not (p x)) xs ≡ false
+filtered_none p q [] h = refl
+filtered_none p q (x ∷ xs) h = at (q x) h (filtered_none p q xs) where
+  at : (b : Bool) → list_all p (cond b (x ∷ filter q xs) (filter q xs)) ≡ true → (list_all p (filter q xs) ≡ true → list_any (λ y. q y && not (p y)) xs ≡ false) → (b && not (p x) || list_any (λ y. q y && not (p y)) xs) ≡ false
+  at true h rest = let parts = and_parts (p x) (list_all p (filter q xs)) h in or_from (not (p x)) (list_any (λ y. q y && not (p y)) xs) (ap not parts.0) (rest parts.1)
+  at false h rest = rest h
+
+is_waited_at : (past : List Event) (id : List ℕ) → is_waited_id id past ≡ true → (happening : Event) → is_start_of id happening ≡ true → is_waited_start past happening ≡ true
+is_waited_at past id waited (Asked i Start) own = ap (λ x. is_waited_id x past) (sym (same_id-is id i own)) ∙ waited
+is_waited_at past id waited _ own = absurd (false≢true own)
+
+pub progress : (goal : Goal) (between past : List Event) → is_sound goal (between ++ past) ≡ true → is_calm between ≡ true → is_idle past ≡ true → AtRest goal (between ++ past) → is_idle (between ++ past) ≡ true → list_all (is_gone between past) (awaited_children past) ≡ true → is_level_announced (between ++ past) ≡ false → list_any (is_waited_start past) between ≡ true
+progress goal between past sound calm idle rest idle_later gone untold = by (passing (is_awaited (between ++ past)) (kept_children (between ++ past)) (true_from_ne_false (list_any (is_awaited (between ++ past)) (kept_children (between ++ past))) (λ none. false≢true (sym untold ∙ announced_or_awaited goal (between ++ past) sound rest idle_later none)))) where
+  by : Passing (is_awaited (between ++ past)) (kept_children (between ++ past)) → list_any (is_waited_start past) between ≡ true
+  by there = at (list_any (is_start_of there.item.id) between) refl where
+    id : List ℕ
+    id = there.item.id
+
+    own : has_child there.item.id (kept_children (between ++ past)) ≡ true
+    own = there.within (is_of there.item.id) (same_id-self there.item.id)
+
+    started : list_any (is_start_of there.item.id) between ≡ true → Quit there.item.id (between ++ past) → list_any (is_waited_start past) between ≡ true
+    started some quit = read (wants_of there.item (between ++ past) (false_from_ne_true (is_excluded (between ++ past) there.item) (λ bad. false≢true (sym quit.spared ∙ there.within (is_excluded (between ++ past)) bad))) there.passes) where
+      read : Wants there.item (between ++ past) → list_any (is_waited_start past) between ≡ true
+      read wants = or_either (waited_of wants.entry) (is_wanted wants.entry (between ++ past)) wants.asks
+          (λ waited. any_less (is_start_of there.item.id) (is_waited_start past) (is_waited_at past there.item.id (ap (λ o. option_map_or waited_of o false) (ap (entry_of there.item.id) (sym (same_table between past calm)) ∙ wants.found) ∙ waited)) between some)
+          (λ wanted. both_ways (is_wanted wants.entry (between ++ past)) wanted (quit.done wants.entry entry_id (busy_unlimited wants.entry (between ++ past) (ap (λ i. has_child i (kept_children (between ++ past))) (sym entry_id) ∙ own) wanted))) where
+            entry_id : there.item.id ≡ wants.entry.id
+            entry_id = found_id there.item.id (table_of (between ++ past)) wants.entry wants.found
+
+    left : list_any (is_start_of there.item.id) between ≡ false → Passing (λ x. is_of there.item.id x && is_awaited (between ++ past) x) (kept_children past) → list_any (is_waited_start past) between ≡ true
+    left none x = both_ways (list_any (λ y. is_awaited past y && not (is_gone between past y)) (kept_children past)) (x.within (λ y. is_awaited past y && not (is_gone between past y)) (and_from (is_awaited past x.item) (not (is_gone between past x.item)) (was_awaited between past calm x.item kept parts.1) (not_from (is_gone between past x.item) (or_from (not (has_child x.item.id (kept_children (between ++ past)))) (list_any (is_start_of x.item.id) between) (ap not kept) (ap (λ i. list_any (is_start_of i) between) (sym same) ∙ none))))) (filtered_none (is_gone between past) (is_awaited past) (kept_children past) gone) where
+      parts : (is_of there.item.id x.item ≡ true) × (is_awaited (between ++ past) x.item ≡ true)
+      parts = and_parts (is_of there.item.id x.item) (is_awaited (between ++ past) x.item) x.passes
+
+      same : there.item.id ≡ x.item.id
+      same = same_id-is there.item.id x.item.id parts.0
+
+      kept : has_child x.item.id (kept_children (between ++ past)) ≡ true
+      kept = ap (λ i. has_child i (kept_children (between ++ past))) (sym same) ∙ own
+
+    at : (b : Bool) → list_any (is_start_of there.item.id) between ≡ b → list_any (is_waited_start past) between ≡ true
+    at true some = started some (quit_at goal there.item.id between past sound calm some)
+    at false none = left none (passing (λ x. is_of there.item.id x && is_awaited (between ++ past) x) (kept_children past) (kept_back goal there.item.id (is_awaited (between ++ past)) between past sound calm (idle_none there.item.id past idle) none (there.within (λ x. is_of there.item.id x && is_awaited (between ++ past) x) (and_from (is_of there.item.id there.item) (is_awaited (between ++ past) there.item) (same_id-self there.item.id) there.passes))))
+
+pub rests_progress : (goal : Goal) (later between past : List Event) → is_sound goal (later ++ (between ++ past)) ≡ true → is_calm between ≡ true → AtRest goal past → is_idle past ≡ true → AtRest goal (between ++ past) → is_idle (between ++ past) ≡ true → list_all (is_gone between past) (awaited_children past) ≡ true → is_level_announced (between ++ past) ≡ false → list_any (is_waited_start past) between ≡ true
+rests_progress goal later between past sound calm rest idle rest_later idle_later gone untold = progress goal between past (at_moment goal (λ x. AtRest goal x → is_sound goal x ≡ true) (λ h. absurd (not_first goal h)) (λ x ok h. ok) later (between ++ past) sound rest_later) calm idle rest_later idle_later gone untold

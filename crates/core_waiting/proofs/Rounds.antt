@@ -1,0 +1,152 @@
+-- A level is announced after one round more than there are waited entries to come.
+use Rattle.std.proofs.Common.{◌≡◌, ◌≤◌, ◌<◌, ◌+◌, refl, sym, ◌∙◌, ap, subst, ℕ, suc, Bool, true, false, not, ◌&&◌, ◌||◌, cond, List, [], ◌∷◌, ◌++◌, filter, length, Some, arith}
+use Rattle.std.specs.List.{list_any}
+use Rattle.std.specs.Option.{option_map_or}
+use Rattle.std.proofs.lemmas.Bool.{false≢true, false_from_ne_true, true_from_ne_false, and_parts, and_from, or_left, or_right}
+use Rattle.std.proofs.lemmas.Option.{none-some, same_Some}
+use Rattle.init_words.specs.declared.entries.Entry.{Entry}
+use Rattle.init_words.specs.declared.orders.OrderKind.TheVariants.{Start}
+use Rattle.init_words.specs.Ids.{same_id}
+use Rattle.init_words.specs.Actions.{is_limited}
+use Rattle.init_words.specs.Entries.{waited_of}
+use Rattle.init_words.proofs.Same.{same_id-self}
+use Rattle.init_words.proofs.Tests.{falsely, or_either, not_from}
+use Rattle.inittab_text.specs.Tables.{entry_of}
+use Rattle.trace_events.specs.declared.happenings.Happening.TheVariants.{NewTable, Enter, Call, Power, Asked, Settle}
+use Rattle.trace_events.specs.declared.steps.Goal.{Goal}
+use Rattle.trace_events.specs.declared.steps.Step.TheVariants as step
+use Rattle.trace_events.specs.Event.{Event}
+use Rattle.trace_events.specs.Past.{table_of, stage_of, is_idle}
+use Rattle.trace_events.specs.Wanted.{is_wanted}
+use Rattle.trace_events.specs.Wishes.{in_run}
+use Rattle.trace_events.specs.Due.{is_announced}
+use Rattle.trace_events.specs.Sound.{is_sound}
+use Rattle.trace_laws.proofs.Dues.{MayRun, due_facts}
+use Rattle.trace_laws.proofs.Keeps.{sound_holds}
+use Rattle.trace_laws.proofs.Births.{at_moment}
+use Rattle.core_waiting.specs.Rest.{AtRest, is_level_announced, is_calm, is_start_of, is_waited_start, is_waited_id, is_to_come, to_come, after_rounds, AreRounds}
+use Rattle.core_waiting.proofs.Rest.{waited_free, not_first}
+use Rattle.core_waiting.proofs.Settled.{found_id}
+use Rattle.core_waiting.proofs.Once.{wanted_before, same_table}
+use Rattle.core_waiting.proofs.Progress.{Next, next_of, Quit, quit_at, same_stage, progress}
+
+-- fewer pass the narrower test
+fewer : (p q : Entry → Bool) → ((e : Entry) → p e ≡ true → q e ≡ true) → (es : List Entry) → length (filter p es) ≤ length (filter q es)
+fewer p q less [] = omega arith
+fewer p q less (e ∷ es) = at (p e) (q e) (less e) (fewer p q less es) where
+  at : (b c : Bool) → (b ≡ true → c ≡ true) → length (filter p es) ≤ length (filter q es) → length (cond b (e ∷ filter p es) (filter p es)) ≤ length (cond c (e ∷ filter q es) (filter q es))
+  at true true h rest = omega arith
+  at true false h rest = absurd (false≢true (h refl))
+  at false true h rest = omega arith
+  at false false h rest = rest
+
+fewer_by_one : (p q : Entry → Bool) → ((e : Entry) → p e ≡ true → q e ≡ true) → (es : List Entry) → list_any (λ e. q e && not (p e)) es ≡ true → length (filter p es) < length (filter q es)
+fewer_by_one p q less [] h = absurd (false≢true h)
+fewer_by_one p q less (e ∷ es) h = at (p e) (q e) (less e) h (fewer p q less es) (fewer_by_one p q less es) where
+  at : (b c : Bool) → (b ≡ true → c ≡ true) → (c && not b || list_any (λ x. q x && not (p x)) es) ≡ true → length (filter p es) ≤ length (filter q es) → (list_any (λ x. q x && not (p x)) es ≡ true → length (filter p es) < length (filter q es)) → length (cond b (e ∷ filter p es) (filter p es)) < length (cond c (e ∷ filter q es) (filter q es))
+  at true true own h most rest = let less_one : length (filter p es) < length (filter q es) = rest h in omega arith
+  at true false own h most rest = absurd (false≢true (own refl))
+  at false true own h most rest = omega arith
+  at false false own h most rest = rest h
+
+entry_any : (r : Entry → Bool) (id : List ℕ) (es : List Entry) (e : Entry) → entry_of id es ≡ Some e → r e ≡ true → list_any r es ≡ true
+entry_any r id [] e found own = absurd (none-some e found)
+entry_any r id (x ∷ es) e found own = at (same_id id x.id) found (entry_any r id es e) where
+  at : (b : Bool) → cond b (Some x) (entry_of id es) ≡ Some e → (entry_of id es ≡ Some e → r e ≡ true → list_any r es ≡ true) → (r x || list_any r es) ≡ true
+  at true found rest = or_left (r x) (list_any r es) (ap r (same_Some x e found) ∙ own)
+  at false found rest = or_right (r x) (list_any r es) (rest found own)
+
+unlimited : (e : Entry) → waited_of e ≡ true → is_limited e.act ≡ false
+unlimited e waited = false_from_ne_true (is_limited e.act) (λ limited. false≢true (waited_free e.act waited limited))
+
+-- a waited entry that is started in a calm stretch was wanted before it
+record Begun (between past : List Event) : Type 0 where
+  pub id : List ℕ
+  pub started : list_any (is_start_of id) between ≡ true
+  pub entry : Entry
+  pub found : entry_of id (table_of past) ≡ Some entry
+  pub waited : waited_of entry ≡ true
+  pub wanted : is_wanted entry past ≡ true
+
+begun_later : (happening : Event) (between past : List Event) → Begun between past → Begun (happening ∷ between) past
+begun_later happening between past rest = record { id = rest.id; started = or_right (is_start_of rest.id happening) (list_any (is_start_of rest.id) between) rest.started; entry = rest.entry; found = rest.found; waited = rest.waited; wanted = rest.wanted }
+
+begun_here : (goal : Goal) (i : List ℕ) (between past : List Event) → Next goal (Asked i Start) between past → is_waited_id i past ≡ true → Begun (Asked i Start ∷ between) past
+begun_here goal i between past next waited = record {
+  id = i;
+  started = or_left (same_id i i) (list_any (is_start_of i) between) (same_id-self i);
+  entry = run.entry;
+  found = found;
+  waited = waits;
+  wanted = wanted_before run.entry between past (unlimited run.entry waits) next.calm run.wanted;
+} where
+  run : MayRun i (table_of (between ++ past)) (between ++ past)
+  run = (due_facts goal (between ++ past) (step.Order i Start) next.may).run
+
+  found : entry_of i (table_of past) ≡ Some run.entry
+  found = ap (entry_of i) (sym (same_table between past next.calm)) ∙ run.found (sound_holds goal (between ++ past) next.sound).distinct
+
+  waits : waited_of run.entry ≡ true
+  waits = ap (λ o. option_map_or waited_of o false) (sym found) ∙ waited
+
+begun : (goal : Goal) (between past : List Event) → is_sound goal (between ++ past) ≡ true → is_calm between ≡ true → list_any (is_waited_start past) between ≡ true → Begun between past
+begun goal [] past sound calm some = absurd (false≢true some)
+begun goal (Asked i Start ∷ between) past sound calm some =
+    let next = next_of goal (Asked i Start) between past sound calm in
+    or_either (is_waited_id i past) (list_any (is_waited_start past) between) some (begun_here goal i between past next) (λ before. begun_later (Asked i Start) between past (begun goal between past next.sound next.calm before))
+begun goal (happening ∷ between) past sound calm some =
+    let next = next_of goal happening between past sound calm in
+    begun_later happening between past (begun goal between past next.sound next.calm some)
+
+-- so fewer are to come behind it
+fewer_to_come : (goal : Goal) (between past : List Event) → is_sound goal (between ++ past) ≡ true → is_calm between ≡ true → list_any (is_waited_start past) between ≡ true → to_come (between ++ past) < to_come past
+fewer_to_come goal between past sound calm some = ap_less (begun goal between past sound calm some) where
+  less : (e : Entry) → is_to_come (between ++ past) e ≡ true → is_to_come past e ≡ true
+  less e h = let parts = and_parts (waited_of e) (is_wanted e (between ++ past)) h in and_from (waited_of e) (is_wanted e past) parts.0 (wanted_before e between past (unlimited e parts.0) calm parts.1)
+
+  ap_less : Begun between past → to_come (between ++ past) < to_come past
+  ap_less it =
+      let quit : Quit it.id (between ++ past) = quit_at goal it.id between past sound calm it.started in
+      let done : is_wanted it.entry (between ++ past) ≡ false = quit.done it.entry (found_id it.id (table_of past) it.entry it.found) (unlimited it.entry it.waited) in
+      let one : length (filter (is_to_come (between ++ past)) (table_of past)) < length (filter (is_to_come past) (table_of past)) = fewer_by_one (is_to_come (between ++ past)) (is_to_come past) less (table_of past) (entry_any (λ e. is_to_come past e && not (is_to_come (between ++ past) e)) it.id (table_of past) it.entry it.found (and_from (is_to_come past it.entry) (not (is_to_come (between ++ past) it.entry)) (and_from (waited_of it.entry) (is_wanted it.entry past) it.waited it.wanted) (not_from (is_to_come (between ++ past) it.entry) (ap (λ b. b && is_wanted it.entry (between ++ past)) it.waited ∙ done)))) in
+      subst (λ es. length (filter (is_to_come (between ++ past)) es) < to_come past) (sym (same_table between past calm)) one
+
+-- an announced level stays announced
+still_announced : (between past : List Event) → is_calm between ≡ true → is_announced past ≡ true → is_announced (between ++ past) ≡ true
+still_announced [] past calm told = told
+still_announced (NewTable table ∷ between) past calm told = absurd (false≢true calm)
+still_announced (Enter s grace ∷ between) past calm told = absurd (false≢true calm)
+still_announced (Power kind ∷ between) past calm told = absurd (false≢true calm)
+still_announced (Call letter ∷ between) past calm told = absurd (false≢true calm)
+still_announced (Settle level ∷ between) past calm told = refl
+still_announced (happening ∷ between) past calm told = still_announced between past calm told
+
+still_level : (between past : List Event) → is_calm between ≡ true → is_level_announced past ≡ true → is_level_announced (between ++ past) ≡ true
+still_level between past calm h =
+    let parts = and_parts (in_run (stage_of past)) (is_announced past) h in
+    and_from (in_run (stage_of (between ++ past))) (is_announced (between ++ past)) (ap in_run (same_stage between past calm) ∙ parts.0) (still_announced between past calm parts.1)
+
+-- rounds
+at_last : (goal : Goal) (rounds : List (List Event)) (past : List Event) → AreRounds goal rounds past → AtRest goal (after_rounds rounds past) × (is_idle (after_rounds rounds past) ≡ true)
+at_last goal [] past are = are
+at_last goal (round ∷ earlier) past are = (are.3, are.4)
+
+sound_rest : (goal : Goal) (later past : List Event) → is_sound goal (later ++ past) ≡ true → AtRest goal past → is_sound goal past ≡ true
+sound_rest goal later past sound rest = at_moment goal (λ x. AtRest goal x → is_sound goal x ≡ true) (λ h. absurd (not_first goal h)) (λ x ok h. ok) later past sound rest
+
+count : (goal : Goal) (rounds : List (List Event)) (past : List Event) → is_sound goal (after_rounds rounds past) ≡ true → AreRounds goal rounds past → is_level_announced (after_rounds rounds past) ≡ false → length rounds + to_come (after_rounds rounds past) ≤ to_come past
+count goal [] past sound are untold = omega arith
+count goal (round ∷ earlier) past sound are untold =
+    let last = at_last goal earlier past are.0 in
+    let sound_before : is_sound goal (after_rounds earlier past) ≡ true = sound_rest goal round (after_rounds earlier past) sound last.0 in
+    let untold_before : is_level_announced (after_rounds earlier past) ≡ false = falsely (is_level_announced (after_rounds earlier past)) (is_level_announced (round ++ after_rounds earlier past)) (still_level round (after_rounds earlier past) are.1) untold in
+    let most : length earlier + to_come (after_rounds earlier past) ≤ to_come past = count goal earlier past sound_before are.0 untold_before in
+    let fewer_now : to_come (round ++ after_rounds earlier past) < to_come (after_rounds earlier past) = fewer_to_come goal round (after_rounds earlier past) sound are.1 (progress goal round (after_rounds earlier past) sound are.1 last.1 are.3 are.4 are.2 untold) in
+    add (length earlier) (to_come past) (to_come (after_rounds earlier past)) (to_come (round ++ after_rounds earlier past)) most fewer_now where
+      add : (n w b a : ℕ) → n + b ≤ w → a < b → suc n + a ≤ w
+      add n w b a most less = omega arith
+
+pub rounds_bound : (goal : Goal) (later : List Event) (rounds : List (List Event)) (past : List Event) → is_sound goal (later ++ after_rounds rounds past) ≡ true → AreRounds goal rounds past → to_come past < length rounds → is_level_announced (after_rounds rounds past) ≡ true
+rounds_bound goal later rounds past sound are enough = true_from_ne_false (is_level_announced (after_rounds rounds past)) (λ untold. wrong (length rounds) (to_come (after_rounds rounds past)) (to_come past) (count goal rounds past (sound_rest goal later (after_rounds rounds past) sound (at_last goal rounds past are).0) are untold) enough) where
+  wrong : (n a w : ℕ) → n + a ≤ w → w < n → ⊥
+  wrong n a w most enough = omega arith

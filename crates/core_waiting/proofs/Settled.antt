@@ -1,0 +1,281 @@
+-- While a level is announced, the only children awaited are those of entries that answer news of the power.
+use Rattle.std.proofs.Common.{◌≡◌, refl, sym, ◌∙◌, ap, ℕ, Bool, true, false, not, ◌&&◌, ◌||◌, cond, List, [], ◌∷◌, ◌++◌, filter, Option, Some, None, is_some}
+use Rattle.std.specs.List.{list_any, list_all}
+use Rattle.std.specs.Option.{option_map_or}
+use Rattle.std.proofs.lemmas.Bool.{false≢true, false_from_ne_true, and_parts, and_from, or_left, or_right, or_parts, or_from, not-true}
+use Rattle.std.proofs.lemmas.Option.{none-some, same_Some}
+use Rattle.init_words.specs.declared.entries.Entry.{Entry}
+use Rattle.init_words.specs.declared.actions.Act.{Act}
+use Rattle.init_words.specs.declared.actions.Act.TheVariants as act
+use Rattle.init_words.specs.declared.levels.Level.{Level}
+use Rattle.init_words.specs.declared.levels.Mark.{Mark}
+use Rattle.init_words.specs.declared.levels.Mark.TheVariants.{At}
+use Rattle.init_words.specs.declared.stages.Stage.{Stage}
+use Rattle.init_words.specs.declared.stages.Stage.TheVariants as stage
+use Rattle.init_words.specs.declared.orders.OrderKind.TheVariants.{Start}
+use Rattle.init_words.specs.Ids.{same_id}
+use Rattle.init_words.specs.Levels.{names}
+use Rattle.init_words.specs.Actions.{starts_by, waited_by, wanted_by, served_by}
+use Rattle.init_words.specs.Entries.{waited_of}
+use Rattle.init_words.proofs.Same.{same_id-is, same_id-self, same_level-is}
+use Rattle.init_words.proofs.Tests.{both_ways, falsely, or_either, all_less, Passing, passing}
+use Rattle.inittab_text.specs.Tables.{entry_of}
+use Rattle.trace_events.specs.declared.happenings.Happening.TheVariants.{NewTable, Enter, Asked, Settle, Birth, Told}
+use Rattle.trace_events.specs.declared.steps.Goal.{Goal}
+use Rattle.trace_events.specs.declared.steps.Step.TheVariants as step
+use Rattle.trace_events.specs.Event.{Event}
+use Rattle.trace_events.specs.Past.{table_of, stage_of, Child, is_of, has_child, open_of, newborn, kept_children, known_children}
+use Rattle.trace_events.specs.Wanted.{starts_in, starts_now, is_order, nothing_runs, is_asked, is_called, is_wanted, is_owed, is_excluded}
+use Rattle.trace_events.specs.Timing.{is_held}
+use Rattle.trace_events.specs.Wishes.{in_run, is_level}
+use Rattle.trace_events.specs.Due.{is_announced, is_served}
+use Rattle.trace_events.specs.Sound.{may_come, is_sound}
+use Rattle.trace_laws.proofs.Orders.{cleared, idle_none, kept_before_told, undone_is_open}
+use Rattle.trace_laws.proofs.Tests.{is_order-is}
+use Rattle.trace_laws.proofs.Dues.{MayRun, MaySettle, due_facts}
+use Rattle.trace_laws.proofs.Keeps.{sound_holds, sound_ind, start_stays, start_undone, born_ready, placed_spared}
+use Rattle.trace_laws.proofs.Births.{at_moment}
+use Rattle.trace_laws.proofs.Known.{excluded_known}
+use Rattle.core_waiting.specs.declared.rests.Why.TheVariants.{Excluded, WaitedFor, InTheWay}
+use Rattle.core_waiting.specs.Rest.{why_of_entry, is_awaited, awaited_children, answers_power, is_on_power}
+
+-- what is wanted once in a level
+abbrev is_once : Act → Bool
+is_once act.Wait = true
+is_once act.Once = true
+is_once _ = false
+
+-- a wait or once entry that starts in the stage was asked
+abbrev was_asked : List Event → Entry → Bool
+was_asked past e = not (is_once e.act && starts_now e past) || is_asked e.id past
+
+-- init doesn't wait for it, but where news of the power called it
+abbrev lets_on : Entry → Bool
+lets_on e = not (waited_of e) || answers_power e.act
+
+-- the child's entry is waited for, and not for news of the power
+abbrev holds_on : List Event → Child → Bool
+holds_on past child = option_map_or (λ (e : Entry). not (lets_on e)) (entry_of child.id (table_of past)) false
+
+record Settled (past : List Event) : Type 0 where
+  pub running : in_run (stage_of past) ≡ true
+  pub spared : list_any (is_excluded past) (kept_children past) ≡ false
+  pub asked : list_all (was_asked past) (table_of past) ≡ true
+  pub started : (id : List ℕ) → open_of id past ≡ Some Start → option_map_or lets_on (entry_of id (table_of past)) false ≡ true
+  pub room : list_any (holds_on past) (kept_children past) ≡ false
+
+-- tables
+all_found : (p : Entry → Bool) (id : List ℕ) (es : List Entry) (e : Entry) → list_all p es ≡ true → entry_of id es ≡ Some e → p e ≡ true
+all_found p id [] e all found = absurd (none-some e found)
+all_found p id (x ∷ es) e all found = at_id (same_id id x.id) found (all_found p id es e parts.1) where
+  parts : (p x ≡ true) × (list_all p es ≡ true)
+  parts = and_parts (p x) (list_all p es) all
+
+  at_id : (b : Bool) → cond b (Some x) (entry_of id es) ≡ Some e → (entry_of id es ≡ Some e → p e ≡ true) → p e ≡ true
+  at_id true found rest = ap p (sym (same_Some x e found)) ∙ parts.0
+  at_id false found rest = rest found
+
+pub found_id : (id : List ℕ) (es : List Entry) (e : Entry) → entry_of id es ≡ Some e → id ≡ e.id
+found_id id [] e found = absurd (none-some e found)
+found_id id (x ∷ es) e found = at_id (same_id id x.id) refl found (found_id id es e) where
+  at_id : (b : Bool) → same_id id x.id ≡ b → cond b (Some x) (entry_of id es) ≡ Some e → (entry_of id es ≡ Some e → id ≡ e.id) → id ≡ e.id
+  at_id true same found rest = same_id-is id x.id same ∙ ap (λ (y : Entry). y.id) (same_Some x e found)
+  at_id false same found rest = rest found
+
+level_run : (level : Level) (o : Option Stage) → is_level level o ≡ true → o ≡ Some (stage.Run level)
+level_run level None h = absurd (false≢true h)
+level_run level (Some stage.Sysinit) h = absurd (false≢true h)
+level_run level (Some stage.Boot) h = absurd (false≢true h)
+level_run level (Some (stage.Run l)) h = ap (λ k. Some (stage.Run k)) (sym (same_level-is level l h))
+
+-- what is read off an action, in a run level
+served_asked : (a : Act) (levels : List Mark) (level : Level) (asked kept : Bool) → (not (names (At level) levels) || served_by a asked kept) ≡ true → (not (is_once a && starts_by a levels (stage.Run level)) || asked) ≡ true
+served_asked act.Wait levels level asked kept h = h
+served_asked act.Once levels level asked kept h = h
+served_asked _ levels level asked kept h = refl
+
+once_asked : {P : Type 0} (n asked : Bool) → (n && not asked) ≡ true → (not n || asked) ≡ true → P
+once_asked true true wanted was = absurd (false≢true wanted)
+once_asked true false wanted was = absurd (false≢true was)
+once_asked false asked wanted was = absurd (false≢true wanted)
+
+wanted_lets : (a : Act) (levels : List Mark) (level : Level) (idle asked called : Bool) → (starts_by a levels (stage.Run level) && wanted_by a idle (not asked) called) ≡ true → (not (is_once a && starts_by a levels (stage.Run level)) || asked) ≡ true → (not (waited_by a) || answers_power a) ≡ true
+wanted_lets act.Sysinit levels level idle asked called wanted was = absurd (false≢true wanted)
+wanted_lets act.Bootwait levels level idle asked called wanted was = absurd (false≢true wanted)
+wanted_lets act.Wait levels level idle asked called wanted was = once_asked (names (At level) levels) asked wanted was
+wanted_lets _ levels level idle asked called wanted was = refl
+
+wanted_power : (a : Act) (levels : List Mark) (level : Level) (idle asked called : Bool) → (starts_by a levels (stage.Run level) && wanted_by a idle (not asked) called) ≡ true → (not (is_once a && starts_by a levels (stage.Run level)) || asked) ≡ true → idle ≡ false → answers_power a ≡ true
+wanted_power act.Powerwait levels level idle asked called wanted was busy = refl
+wanted_power act.Powerfail levels level idle asked called wanted was busy = refl
+wanted_power act.Powerokwait levels level idle asked called wanted was busy = refl
+wanted_power act.Powerfailnow levels level idle asked called wanted was busy = refl
+wanted_power act.Wait levels level idle asked called wanted was busy = once_asked (names (At level) levels) asked wanted was
+wanted_power act.Once levels level idle asked called wanted was busy = once_asked (names (At level) levels) asked wanted was
+wanted_power act.Respawn levels level idle asked called wanted was busy = both_ways idle (and_parts (names (At level) levels) idle wanted).1 busy
+wanted_power act.Ondemand levels level idle asked called wanted was busy = both_ways idle (and_parts called idle (and_parts (starts_by act.Ondemand levels (stage.Run level)) (called && idle) wanted).1).1 busy
+wanted_power _ levels level idle asked called wanted was busy = absurd (false≢true wanted)
+
+in_level : (o : Option Stage) → in_run o ≡ true → (level : Level) × (o ≡ Some (stage.Run level))
+in_level None h = absurd (false≢true h)
+in_level (Some stage.Sysinit) h = absurd (false≢true h)
+in_level (Some stage.Boot) h = absurd (false≢true h)
+in_level (Some (stage.Run level)) h = (level, refl)
+
+-- where a level is announced
+at_settle : (goal : Goal) (level : Level) (past : List Event) → is_sound goal past ≡ true → MaySettle level past → Settled (Settle level ∷ past)
+at_settle goal level past sound may = record {
+  running = ap in_run now;
+  spared = excluded_known goal past sound ∙ not-true (list_any (is_excluded past) (known_children past)) two.1;
+  asked = all_less (is_served level (known_children past) past) (was_asked past) asked (table_of past) parts.1;
+  started = λ id started. absurd (none-some Start (sym (idle_none id past may.idle) ∙ started));
+  room = false_from_ne_true (list_any (holds_on past) (kept_children past)) (λ h. held (passing (holds_on past) (kept_children past) h));
+} where
+  parts : ((is_level level (stage_of past) && not (list_any (is_excluded past) (known_children past))) ≡ true) × (list_all (is_served level (known_children past) past) (table_of past) ≡ true)
+  parts = and_parts (is_level level (stage_of past) && not (list_any (is_excluded past) (known_children past))) (list_all (is_served level (known_children past) past) (table_of past)) may.settled
+
+  two : (is_level level (stage_of past) ≡ true) × (not (list_any (is_excluded past) (known_children past)) ≡ true)
+  two = and_parts (is_level level (stage_of past)) (not (list_any (is_excluded past) (known_children past))) parts.0
+
+  now : stage_of past ≡ Some (stage.Run level)
+  now = level_run level (stage_of past) two.0
+
+  asked : (e : Entry) → is_served level (known_children past) past e ≡ true → was_asked past e ≡ true
+  asked e h =
+      let there = has_child e.id (known_children past) || is_held e.id past in
+      ap (λ o. not (is_once e.act && starts_in e o) || is_asked e.id past) now ∙ served_asked e.act e.levels.items level (is_asked e.id past) there (and_parts (not (is_owed e past)) (not (names (At level) e.levels.items) || served_by e.act (is_asked e.id past) there) h).1
+
+  owed : (e : Entry) → waited_of e ≡ true → has_child e.id (kept_children past) ≡ true → is_owed e past ≡ true
+  owed e waited there = and_from (waited_of e) (has_child e.id (kept_children past) || is_order Start (open_of e.id past) || is_wanted e past) waited (or_left (has_child e.id (kept_children past) || is_order Start (open_of e.id past)) (is_wanted e past) (or_left (has_child e.id (kept_children past)) (is_order Start (open_of e.id past)) there))
+
+  held : Passing (holds_on past) (kept_children past) → ⊥
+  held there = read (entry_of there.item.id (table_of past)) refl there.passes where
+    read : (o : Option Entry) → entry_of there.item.id (table_of past) ≡ o → option_map_or (λ (e : Entry). not (lets_on e)) o false ≡ true → ⊥
+    read None is h = false≢true h
+    read (Some e) is h =
+        let own : has_child e.id (kept_children past) ≡ true = there.within (is_of e.id) (ap (λ i. same_id i there.item.id) (sym (found_id there.item.id (table_of past) e is)) ∙ same_id-self there.item.id) in
+        let waited : waited_of e ≡ true = waits (waited_of e) (answers_power e.act) h in
+        let free = (and_parts (not (is_owed e past)) (not (names (At level) e.levels.items) || served_by e.act (is_asked e.id past) (has_child e.id (known_children past) || is_held e.id past)) (all_found (is_served level (known_children past) past) there.item.id (table_of past) e parts.1 is)).0 in
+        false≢true (sym (not-true (is_owed e past) free) ∙ owed e waited own) where
+          waits : (waited power : Bool) → not (not waited || power) ≡ true → waited ≡ true
+          waits true power h = refl
+          waits false power h = h
+
+-- and with each happening after it
+start_lets : (i : List ℕ) (past : List Event) → Settled past → (may : MayRun i (table_of past) past) → entry_of i (table_of past) ≡ Some may.entry → option_map_or lets_on (entry_of i (table_of past)) false ≡ true
+start_lets i past before may found = ap (λ o. option_map_or lets_on o false) found ∙ read (in_level (stage_of past) before.running) where
+  e : Entry
+  e = may.entry
+
+  read : (level : Level) × (stage_of past ≡ Some (stage.Run level)) → lets_on may.entry ≡ true
+  read now = wanted_lets may.entry.act may.entry.levels.items now.0 (nothing_runs may.entry.id past) (is_asked may.entry.id past) (is_called may.entry past)
+      (ap (λ o. starts_in may.entry o && wanted_by may.entry.act (nothing_runs may.entry.id past) (not (is_asked may.entry.id past)) (is_called may.entry past)) (sym now.1) ∙ may.wanted)
+      (ap (λ o. not (is_once may.entry.act && starts_in may.entry o) || is_asked may.entry.id past) (sym now.1) ∙ all_found (was_asked past) i (table_of past) may.entry before.asked found)
+
+born_lets : (i : List ℕ) (n : ℕ) (past : List Event) → Settled past → open_of i past ≡ Some Start → holds_on past (newborn i n past) ≡ false
+born_lets i n past before started = read (entry_of i (table_of past)) (before.started i started) where
+  read : (o : Option Entry) → option_map_or lets_on o false ≡ true → option_map_or (λ (e : Entry). not (lets_on e)) o false ≡ false
+  read None h = refl
+  read (Some e) h = ap not h
+
+settled_keeps : (goal : Goal) (past : List Event) → is_sound goal past ≡ true → is_announced past ≡ true → Settled past
+settled_keeps goal past h = sound_ind goal (λ before. is_announced before ≡ true → Settled before) (λ table distinct told. absurd (false≢true told)) next past h where
+  next : (happening : Event) (before : List Event) → may_come goal happening before ≡ true → is_sound goal before ≡ true → (is_announced before ≡ true → Settled before) → is_announced (happening ∷ before) ≡ true → Settled (happening ∷ before)
+  next (NewTable table) before may sound rest told = absurd (false≢true told)
+  next (Enter s grace) before may sound rest told = absurd (false≢true told)
+  next (Settle level) before may sound rest told = at_settle goal level before sound (due_facts goal before (step.Settle level) may)
+  next (Asked i Start) before may sound rest told = record { running = was.running; spared = was.spared; asked = asked; started = started; room = was.room } where
+    was : Settled before
+    was = rest told
+
+    run : MayRun i (table_of before) before
+    run = (due_facts goal before (step.Order i Start) may).run
+
+    asked : list_all (was_asked (Asked i Start ∷ before)) (table_of before) ≡ true
+    asked = all_less (was_asked before) (was_asked (Asked i Start ∷ before)) (λ e h. or_either (not (is_once e.act && starts_now e before)) (is_asked e.id before) h (or_left (not (is_once e.act && starts_now e before)) (same_id e.id i || is_asked e.id before)) (λ own. or_right (not (is_once e.act && starts_now e before)) (same_id e.id i || is_asked e.id before) (or_right (same_id e.id i) (is_asked e.id before) own))) (table_of before) was.asked
+
+    started : (id : List ℕ) → open_of id (Asked i Start ∷ before) ≡ Some Start → option_map_or lets_on (entry_of id (table_of before)) false ≡ true
+    started id is = at_id (same_id id i) refl is where
+      at_id : (b : Bool) → same_id id i ≡ b → cond b (Some Start) (open_of id before) ≡ Some Start → option_map_or lets_on (entry_of id (table_of before)) false ≡ true
+      at_id true same is = ap (λ x. option_map_or lets_on (entry_of x (table_of before)) false) (same_id-is id i same) ∙ start_lets i before was run (run.found (sound_holds goal before sound).distinct)
+      at_id false differ is = was.started id is
+  next (Asked i ask) before may sound rest told = record { running = was.running; spared = was.spared; asked = was.asked; started = λ id is. was.started id (start_stays (same_id id i) ask (open_of id before) refl is); room = was.room } where
+    was : Settled before
+    was = rest told
+  next (Birth i n) before may sound rest told = record {
+    running = was.running;
+    spared = or_from (is_excluded before (newborn i n before)) (list_any (is_excluded before) (kept_children before)) (placed_spared i n before (born_ready goal i n before may (sound_holds goal before sound)).placed) was.spared;
+    asked = was.asked;
+    started = was.started;
+    room = or_from (holds_on before (newborn i n before)) (list_any (holds_on before) (kept_children before)) (born_lets i n before was (undone_is_open i Start before (is_order-is Start _ (start_undone goal i n before may)))) was.room;
+  } where
+    was : Settled before
+    was = rest told
+  next (Told i) before may sound rest told = record {
+    running = was.running;
+    spared = falsely (list_any (is_excluded before) (kept_children (Told i ∷ before))) (list_any (is_excluded before) (kept_children before)) (kept_before_told (is_excluded before) i before) was.spared;
+    asked = was.asked;
+    started = λ id is. cleared (same_id id i) (open_of id before) Start (λ differ was_open. was.started id was_open) is;
+    room = falsely (list_any (holds_on before) (kept_children (Told i ∷ before))) (list_any (holds_on before) (kept_children before)) (kept_before_told (holds_on before) i before) was.room;
+  } where
+    was : Settled before
+    was = rest told
+  next happening before may sound rest told = record { running = was.running; spared = was.spared; asked = was.asked; started = was.started; room = was.room } where
+    was : Settled before
+    was = rest told
+
+-- so a child that is awaited there is of an entry that answers news of the power
+all_filtered : (p q : Child → Bool) (xs : List Child) → list_any (λ x. q x && not (p x)) xs ≡ false → list_all p (filter q xs) ≡ true
+all_filtered p q [] h = refl
+all_filtered p q (x ∷ xs) h = at (q x) (p x) refl parts.0 (all_filtered p q xs parts.1) where
+  parts : ((q x && not (p x)) ≡ false) × (list_any (λ y. q y && not (p y)) xs ≡ false)
+  parts = or_parts (q x && not (p x)) (list_any (λ y. q y && not (p y)) xs) h
+
+  at : (b c : Bool) → p x ≡ c → (b && not c) ≡ false → list_all p (filter q xs) ≡ true → list_all p (cond b (x ∷ filter q xs) (filter q xs)) ≡ true
+  at true true own h rest = and_from (p x) (list_all p (filter q xs)) own rest
+  at true false own h rest = absurd (false≢true (sym h))
+  at false c own h rest = rest
+
+settled_power : (past : List Event) → Settled past → list_all (is_on_power past) (awaited_children past) ≡ true
+settled_power past was = all_filtered (is_on_power past) (is_awaited past) (kept_children past) (false_from_ne_true (list_any other (kept_children past)) (λ h. none (passing other (kept_children past) h))) where
+  other : Child → Bool
+  other child = is_awaited past child && not (is_on_power past child)
+
+  none : Passing other (kept_children past) → ⊥
+  none there = read (entry_of there.item.id (table_of past)) refl (ap (λ b. is_some (cond b (Some Excluded) (why_of_entry (entry_of there.item.id (table_of past)) past))) (sym spared) ∙ parts.0) (not-true (is_on_power past there.item) parts.1) where
+    parts : (is_awaited past there.item ≡ true) × (not (is_on_power past there.item) ≡ true)
+    parts = and_parts (is_awaited past there.item) (not (is_on_power past there.item)) there.passes
+
+    spared : is_excluded past there.item ≡ false
+    spared = false_from_ne_true (is_excluded past there.item) (λ own. false≢true (sym was.spared ∙ there.within (is_excluded past) own))
+
+    read : (o : Option Entry) → entry_of there.item.id (table_of past) ≡ o → is_some (why_of_entry o past) ≡ true → option_map_or (λ (e : Entry). answers_power e.act) o false ≡ false → ⊥
+    read None is why off = false≢true why
+    read (Some e) is why off = by (waited_of e) refl (is_wanted e past) refl why where
+      own : has_child e.id (kept_children past) ≡ true
+      own = there.within (is_of e.id) (ap (λ i. same_id i there.item.id) (sym (found_id there.item.id (table_of past) e is)) ∙ same_id-self there.item.id)
+
+      busy : nothing_runs e.id past ≡ false
+      busy = ap (λ b. not b && not (is_order Start (open_of e.id past))) own
+
+      wants : (level : Level) × (stage_of past ≡ Some (stage.Run level)) → is_wanted e past ≡ true → answers_power e.act ≡ true
+      wants now wanted = wanted_power e.act e.levels.items now.0 (nothing_runs e.id past) (is_asked e.id past) (is_called e past)
+          (ap (λ o. starts_in e o && wanted_by e.act (nothing_runs e.id past) (not (is_asked e.id past)) (is_called e past)) (sym now.1) ∙ wanted)
+          (ap (λ o. not (is_once e.act && starts_in e o) || is_asked e.id past) (sym now.1) ∙ all_found (was_asked past) there.item.id (table_of past) e was.asked is)
+          busy
+
+      by : (b : Bool) → waited_of e ≡ b → (c : Bool) → is_wanted e past ≡ c → is_some (cond b (Some WaitedFor) (cond c (Some InTheWay) None)) ≡ true → ⊥
+      by true waited c wanted why = false≢true (sym was.room ∙ there.within (holds_on past) (ap (λ o. option_map_or (λ (x : Entry). not (lets_on x)) o false) is ∙ holds (waited_of e) (answers_power e.act) waited off)) where
+        holds : (w power : Bool) → w ≡ true → power ≡ false → not (not w || power) ≡ true
+        holds w power is_waited is_off = rw (is_waited, is_off) refl
+      by false waited true wanted why = false≢true (sym off ∙ wants (in_level (stage_of past) was.running) wanted)
+      by false waited false wanted why = false≢true why
+
+not_announced : is_announced [] ≡ true → ⊥
+not_announced h = false≢true h
+
+pub announced_power : (goal : Goal) (later past : List Event) → is_sound goal (later ++ past) ≡ true → is_announced past ≡ true → list_all (is_on_power past) (awaited_children past) ≡ true
+announced_power goal later past sound = at_moment goal (λ before. is_announced before ≡ true → list_all (is_on_power before) (awaited_children before) ≡ true) (λ told. absurd (not_announced told)) (λ before ok told. settled_power before (settled_keeps goal before ok told)) later past sound
+
+pub announced_spared : (goal : Goal) (later past : List Event) → is_sound goal (later ++ past) ≡ true → is_announced past ≡ true → (in_run (stage_of past) ≡ true) × (list_any (is_excluded past) (kept_children past) ≡ false)
+announced_spared goal later past sound = at_moment goal (λ before. is_announced before ≡ true → (in_run (stage_of before) ≡ true) × (list_any (is_excluded before) (kept_children before) ≡ false)) (λ told. absurd (not_announced told)) (λ before ok told. let was = settled_keeps goal before ok told in (was.running, was.spared)) later past sound

@@ -1,0 +1,10 @@
+use Rattle.std.proofs.Common.{◌≡◌, ◌++◌, length}
+use Rattle.core_waiting.specs.Lines.{answers_text}
+use Rattle.core_waiting.proofs.lines.add_answers.Given as goal
+
+-- the text so far, and behind it the lines of the records that are left, is the text and the lines of all
+abbrev pub invariant-loop-slot : goal.invariant-loop-slot
+invariant-loop-slot l = l.text.items ++ answers_text l.stage l.rest ≡ l.fn.text.items ++ answers_text l.stage l.slots
+
+abbrev pub decreases-loop-slot : goal.decreases-loop-slot
+decreases-loop-slot l = length l.rest

@@ -1,0 +1,4 @@
+pub mod Awaiting
+pub mod Coming
+pub mod Lines
+pub mod Rest

@@ -1,0 +1,81 @@
+-- What init waits for where no level is announced settled, a line each.
+use Rattle.std.specs.Prelude.{ℕ, ◌-◌, if◌then◌else◌, List, [], ◌∷◌, ◌++◌, codes, decimal, Option, Some, None, is_some, option_and_then}
+use Rattle.init_words.specs.declared.levels.Level.{Level}
+use Rattle.init_words.specs.declared.stages.Stage.{Stage}
+use Rattle.init_words.specs.declared.stages.Stage.TheVariants.{Sysinit, Boot, Run}
+use Rattle.init_words.specs.Levels.{level_code}
+use Rattle.core_records.specs.declared.children.Stop.{Stop}
+use Rattle.core_records.specs.declared.children.Stop.TheVariants.{Due, Termed, Killed}
+use Rattle.core_records.specs.State.{RecordState}
+use Rattle.core_records.specs.Lists.{record_by_id}
+use Rattle.core_model.specs.State.{CoreState}
+use Rattle.core_waiting.specs.declared.rests.Awaited.{Awaited}
+use Rattle.core_waiting.specs.declared.rests.Why.{Why}
+use Rattle.core_waiting.specs.declared.rests.Why.TheVariants.{Excluded, WaitedFor, InTheWay}
+use Rattle.core_waiting.specs.Awaiting.{awaited_by}
+
+abbrev pub level_words : Level → List ℕ
+level_words level = codes "level " ++ level_code level ∷ []
+
+abbrev pub stage_words : Option Stage → List ℕ
+stage_words None = codes "the opening"
+stage_words (Some Sysinit) = codes "sysinit"
+stage_words (Some Boot) = codes "boot"
+stage_words (Some (Run level)) = level_words level
+
+abbrev pub line_start : Option Stage → List ℕ
+line_start stage = codes "initd: " ++ (stage_words stage ++ codes " waits for ")
+
+-- the line of a record with an open order
+abbrev pub answer_line : Option Stage → RecordState → List ℕ
+answer_line stage slot =
+    if is_some slot.order then line_start stage ++ (codes "an answer about " ++ (slot.id ++ codes "\n")) else []
+
+abbrev pub answers_text : Option Stage → List RecordState → List ℕ
+answers_text stage [] = []
+answers_text stage (slot ∷ slots) = answer_line stage slot ++ answers_text stage slots
+
+-- how far the stopping of the id's child has come
+abbrev pub stop_in : List ℕ → List RecordState → Option Stop
+stop_in id slots = option_and_then (λ (slot : RecordState). slot.stop) (record_by_id id slots)
+
+-- by the seconds between the two signals and the time: KILL comes when they are over since TERM
+abbrev pub seconds_words : List ℕ → ℕ → List ℕ
+seconds_words what seconds = what ++ (decimal seconds ++ codes " s")
+
+abbrev pub termed_words : ℕ → ℕ → ℕ → List ℕ
+termed_words grace now time =
+    seconds_words (codes "it is being stopped, TERM sent, KILL in ") (grace - (now - time))
+
+abbrev pub stop_words : ℕ → ℕ → Option Stop → List ℕ
+stop_words grace now (Some (Termed time)) = termed_words grace now time
+stop_words grace now (Some (Killed time)) = codes "it is being stopped, KILL sent"
+stop_words grace now (Some Due) = codes "it is to be stopped, no signal has reached it yet"
+stop_words grace now None = codes "it is to be stopped, no signal has reached it yet"
+
+-- what is waited for, and the number of the child
+abbrev pub ended_words : List ℕ → ℕ → List ℕ
+ended_words what number = what ++ (codes " (" ++ (decimal number ++ codes ")"))
+
+-- why the end of the child is awaited
+abbrev pub why_of : CoreState → List ℕ → ℕ → Why → List ℕ
+why_of core id number Excluded = stop_words core.heads.grace core.heads.time (stop_in id core.slots)
+why_of core id number WaitedFor = ended_words (codes "init waits for its end") number
+why_of core id number InTheWay = ended_words (codes "its earlier child has to end first") number
+
+abbrev pub why_words : CoreState → Awaited → List ℕ
+why_words core awaited = why_of core awaited.id awaited.number awaited.why
+
+-- the line of a child whose end is awaited
+abbrev pub end_line : CoreState → Awaited → List ℕ
+end_line core awaited =
+    line_start core.heads.stage ++ (awaited.id ++ (codes ": " ++ (why_words core awaited ++ codes "\n")))
+
+abbrev pub ends_text : CoreState → List Awaited → List ℕ
+ends_text core [] = []
+ends_text core (awaited ∷ others) = end_line core awaited ++ ends_text core others
+
+-- the answers that are waited for, and then the ends; nothing where a runlevel is announced settled
+abbrev pub waiting_text : CoreState → List ℕ
+waiting_text core =
+    if core.heads.announced then [] else answers_text core.heads.stage core.slots ++ ends_text core (awaited_by core)

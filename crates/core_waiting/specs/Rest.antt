@@ -1,0 +1,146 @@
+-- Where init is at rest, and which children's ends it awaits there, each with why.
+use Rattle.std.specs.Prelude.{◌≡◌, ℕ, Bool, true, false, not, ◌&&◌, ◌||◌, ◌++◌, IsTrue, if◌then◌else◌, List, [], ◌∷◌, filter, length, Option, Some, None, is_some}
+use Rattle.std.specs.List.{list_any, list_all}
+use Rattle.std.specs.Option.{option_map_or}
+use Rattle.init_words.specs.declared.entries.Entry.{Entry}
+use Rattle.init_words.specs.declared.actions.Act.{Act}
+use Rattle.init_words.specs.Actions.{is_called_by}
+use Rattle.init_words.specs.declared.orders.OrderKind.TheVariants.{Start, Term, Kill}
+use Rattle.init_words.specs.Entries.{waited_of}
+use Rattle.init_words.specs.Ids.{same_id}
+use Rattle.inittab_text.specs.Tables.{entry_of}
+use Rattle.trace_events.specs.declared.happenings.Happening.TheVariants.{NewTable, Enter, Call, Power, Asked}
+use Rattle.trace_events.specs.declared.steps.Goal.{Goal}
+use Rattle.trace_events.specs.Event.{Event}
+use Rattle.trace_events.specs.Past.{Child, is_idle, has_child, open_of, table_of, stage_of, grace_of, time_of, kept_children}
+use Rattle.trace_events.specs.Wanted.{is_order, is_wanted, is_excluded}
+use Rattle.trace_events.specs.Spells.{Signal, is_ripe, is_missed, spell_hits}
+use Rattle.trace_events.specs.Wishes.{in_run, powers}
+use Rattle.trace_events.specs.Due.{due, is_announced, wants_look}
+use Rattle.trace_events.specs.Sound.{is_sound}
+use Rattle.core_waiting.specs.declared.rests.Why.{Why}
+use Rattle.core_waiting.specs.declared.rests.Why.TheVariants.{Excluded, WaitedFor, InTheWay}
+
+-- why the end of a child of the entry is awaited: init waits for the entry, or the entry is wanted again
+abbrev pub why_of_entry : Option Entry → List Event → Option Why
+why_of_entry None past = None
+why_of_entry (Some e) past =
+    if waited_of e then Some WaitedFor else if is_wanted e past then Some InTheWay else None
+
+-- why the end of a kept child is awaited, if it is: the stage excludes it, or its entry says so
+abbrev pub why_awaited : List Event → Child → Option Why
+why_awaited past child =
+    if is_excluded past child then Some Excluded else why_of_entry (entry_of child.id (table_of past)) past
+
+abbrev pub is_awaited : List Event → Child → Bool
+is_awaited past child = is_some (why_awaited past child)
+
+-- the children whose end init awaits
+abbrev pub awaited_children : List Event → List Child
+awaited_children past = filter (is_awaited past) (kept_children past)
+
+-- a run level is in force and is announced settled
+abbrev pub is_level_announced : List Event → Bool
+is_level_announced past = in_run (stage_of past) && is_announced past
+
+abbrev pub is_empty : {X : Type 0} → List X → Bool
+is_empty [] = true
+is_empty (x ∷ xs) = false
+
+-- init is at rest: no step is due
+abbrev pub AtRest : Goal → List Event → Type 0
+AtRest goal past = due goal past ≡ []
+
+-- at each moment of each sound trace at which init is at rest
+abbrev pub AtEachRest : (List Event → Type 0) → Type 0
+AtEachRest Law = (goal : Goal) (later past : List Event) → IsTrue (is_sound goal (later ++ past)) → AtRest goal past → Law past
+
+-- entries of the action are called by news of the power
+abbrev pub answers_power : Act → Bool
+answers_power a = list_any (λ kind. is_called_by kind a) powers
+
+-- the child is of an entry that news of the power calls
+abbrev pub is_on_power : List Event → Child → Bool
+is_on_power past child =
+    option_map_or (λ (e : Entry). answers_power e.act) (entry_of child.id (table_of past)) false
+
+-- the signals told to a child in its spell, the newest first, have still to take effect: a TERM whose grace is not over,
+-- or a KILL
+abbrev pub are_in_force : ℕ → ℕ → List Signal → Bool
+are_in_force grace now [] = false
+are_in_force grace now (signal ∷ []) = is_order Term signal.order && not (is_ripe grace now signal)
+are_in_force grace now (signal ∷ earlier) = is_order Kill signal.order
+
+-- a child that is excluded is being stopped: a signal to it missed, and is tried again in the next round, or the
+-- signals that were told have still to take effect
+abbrev pub is_stopping : List Event → Child → Bool
+is_stopping past child =
+    not (is_excluded past child) || is_missed child past
+    || are_in_force (grace_of past) (time_of past) (spell_hits child past)
+
+-- an order of the child's id is open, or a Look of it was ordered since the last round began
+abbrev pub is_looked_at : List Event → Child → Bool
+is_looked_at past child = is_some (open_of child.id past) || not (wants_look child.id past)
+
+-- in the stretch no stage is entered, no table comes, and nothing is called by news of the power or a letter
+abbrev pub is_calm : List Event → Bool
+is_calm [] = true
+is_calm (NewTable table ∷ between) = false
+is_calm (Enter stage grace ∷ between) = false
+is_calm (Power kind ∷ between) = false
+is_calm (Call letter ∷ between) = false
+is_calm (happening ∷ between) = is_calm between
+
+-- init waits for the entry of the id
+abbrev pub is_waited_id : List ℕ → List Event → Bool
+is_waited_id id past = option_map_or waited_of (entry_of id (table_of past)) false
+
+-- from a Start of an id to another, over a calm stretch: in the past of the first
+abbrev pub BetweenCalmStarts : (List ℕ → List Event → Type 0) → Type 0
+BetweenCalmStarts Law =
+    (goal : Goal) (later between past : List Event) (id : List ℕ)
+    → IsTrue (is_sound goal (later ++ Asked id Start ∷ (between ++ Asked id Start ∷ past)))
+    → IsTrue (is_calm between) → Law id past
+
+-- the happening is a Start of the id; of an id whose entry init waits for
+abbrev pub is_start_of : List ℕ → Event → Bool
+is_start_of id (Asked i Start) = same_id id i
+is_start_of id _ = false
+
+abbrev pub is_waited_start : List Event → Event → Bool
+is_waited_start past (Asked i Start) = is_waited_id i past
+is_waited_start past _ = false
+
+-- of a child from before the stretch: no child of its id is kept behind it, or the id was started in it, which comes
+-- only where none is kept
+abbrev pub is_gone : List Event → List Event → Child → Bool
+is_gone between past child =
+    not (has_child child.id (kept_children (between ++ past))) || list_any (is_start_of child.id) between
+
+-- from a rest to another, with no order open at both, over a calm stretch
+abbrev pub BetweenRests : (List Event → List Event → Type 0) → Type 0
+BetweenRests Law =
+    (goal : Goal) (later between past : List Event) → IsTrue (is_sound goal (later ++ (between ++ past)))
+    → IsTrue (is_calm between) → AtRest goal past → IsTrue (is_idle past) → AtRest goal (between ++ past)
+    → IsTrue (is_idle (between ++ past)) → Law between past
+
+-- how many entries are waited for and wanted
+abbrev pub is_to_come : List Event → Entry → Bool
+is_to_come past e = waited_of e && is_wanted e past
+
+abbrev pub to_come : List Event → ℕ
+to_come past = length (filter (is_to_come past) (table_of past))
+
+-- rounds, the newest first, each a stretch behind those before it
+abbrev pub after_rounds : List (List Event) → List Event → List Event
+after_rounds [] past = past
+after_rounds (round ∷ earlier) past = round ++ after_rounds earlier past
+
+-- from a rest each round leads to a rest, with no order open there; it is calm, and no child that was awaited before it
+-- is left behind it
+abbrev pub AreRounds : Goal → List (List Event) → List Event → Type 0
+AreRounds goal [] past = AtRest goal past × IsTrue (is_idle past)
+AreRounds goal (round ∷ earlier) past =
+    AreRounds goal earlier past × IsTrue (is_calm round)
+    × IsTrue (list_all (is_gone round (after_rounds earlier past)) (awaited_children (after_rounds earlier past)))
+    × AtRest goal (round ++ after_rounds earlier past) × IsTrue (is_idle (round ++ after_rounds earlier past))

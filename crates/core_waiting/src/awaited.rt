@@ -1,0 +1,118 @@
+//! Whose end init awaits, and why: the children that it names where it has nothing to do (init(8)).
+
+ghost use Rattle.std.specs.Prelude.{◌≡◌, IsTrue};
+ghost use Rattle.trace_events.specs.Past.{is_quiet};
+ghost use Rattle.core_model.specs.Fit.{OnEachTrace};
+ghost use Rattle.core_waiting.specs.Rest.{awaited_children};
+ghost use Rattle.core_waiting.specs.Awaiting.{in_record_order, awaited_known, is_wanted_in, why_of_record, awaited_of_record, awaited_by};
+
+use crate::rests::{Awaited, Why};
+use core_records::Record;
+use core_steps::Core;
+use init_words::{Entry, OrderKind, Stage, starts, waited};
+use inittab_text::Table;
+use std::alloc::{Allocator, Global};
+use std::marker::Model;
+
+/// The children whose end init awaits, one after another in the order of its records, each with why: seen as the list of
+/// those that are left. It takes no memory.
+#[derive(Drop)]
+pub struct AwaitedChildren<'a, A: Allocator = Global> {
+    stage: Option<Stage>,
+    table: &'a Table<A>,
+    slots: &'a [Record],
+}
+
+impl<'a, A: Allocator> Model for AwaitedChildren<'a, A> {
+    ghost use Rattle.std.specs.Prelude.{List, filter_map};
+    ghost use Rattle.core_waiting.specs.declared.rests.Awaited.{Awaited};
+    ghost use Rattle.core_waiting.specs.Awaiting.{awaited_of_record};
+
+    ghost Value = { List Awaited };
+
+    ghost view = { λ it. filter_map (awaited_of_record it.stage it.table.now) it.slots.now };
+}
+
+impl<'a, A: Allocator> AwaitedChildren<'a, A> {
+    /// The children whose end the core awaits.
+    ///
+    /// Of every goal and every sound trace that the core fits: the known children whose end is awaited there, and where
+    /// no start and no signal is open, all children whose end is.
+    pub fn of(core: &'a Core<A>) -> AwaitedChildren<'a, A>
+        ensures state { result ≡ awaited_by core.now }
+        ensures known { OnEachTrace core.now (λ goal past.
+            result ≡ in_record_order (awaited_known past) past) }
+        ensures all { OnEachTrace core.now (λ goal past. IsTrue (is_quiet past)
+            → result ≡ in_record_order (awaited_children past) past) }
+    {
+        AwaitedChildren {
+            stage: core.stage(),
+            table: core.table(),
+            slots: core.slots().as_slice(),
+        }
+    }
+}
+
+impl<'a, A: Allocator> Iterator for AwaitedChildren<'a, A> {
+    ghost use Rattle.std.specs.Iterator.{YieldsFirst, item_count};
+
+    type Item = Awaited;
+
+    ghost next_gives = { YieldsFirst (λ left. left) };
+
+    ghost remaining = { item_count (λ left. left) };
+
+    fn next(&mut self) -> Option<Awaited> {
+        while let Some((slot, others)) = self.slots.split_first() {
+            self.slots = others;
+            if let Some(awaited) = awaited_of(self.stage, self.table, slot) {
+                return Some(awaited);
+            }
+        }
+        None
+    }
+}
+
+/// The child of the record, if its end is awaited.
+fn awaited_of<A: Allocator>(
+    stage: Option<Stage>,
+    table: &Table<A>,
+    slot: &Record,
+) -> Option<Awaited>
+    ensures { result ≡ awaited_of_record stage table.now slot.now }
+{
+    let number = slot.child()?;
+    let why = why_of(stage, table, slot)?;
+    Some(Awaited {
+        id: slot.id(),
+        number,
+        why,
+    })
+}
+
+fn why_of<A: Allocator>(stage: Option<Stage>, table: &Table<A>, slot: &Record) -> Option<Why>
+    ensures { result ≡ why_of_record stage table.now slot.now }
+{
+    if slot.stop().is_some() {
+        return Some(Why::Excluded);
+    }
+    let entry = table.get(&slot.id())?;
+    if waited(entry) {
+        return Some(Why::WaitedFor);
+    }
+    if is_wanted_in(stage, entry, slot) {
+        return Some(Why::InTheWay);
+    }
+    None
+}
+
+/// The entry is to be started in the stage once nothing of it runs.
+fn is_wanted_in(stage: Option<Stage>, entry: &Entry, slot: &Record) -> bool
+    ensures { result ≡ is_wanted_in stage entry.now slot.now }
+{
+    let Some(stage) = stage else {
+        return false;
+    };
+    let idle = !slot.has_child() && !matches!(slot.order(), Some(OrderKind::Start));
+    starts(entry, stage) && entry.act.is_wanted(idle, !slot.asked(), slot.called())
+}

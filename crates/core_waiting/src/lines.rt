@@ -1,0 +1,187 @@
+//! The lines, by what a core keeps.
+
+ghost use Rattle.std.specs.Prelude.{◌≡◌, ◌++◌, ◌-◌, IfOk, OnOk};
+ghost use Rattle.core_waiting.specs.Awaiting.{awaited_by};
+ghost use Rattle.core_waiting.specs.Lines.{answer_line, answers_text, end_line, ended_words, ends_text, level_words, line_start, seconds_words, stage_words, stop_in, stop_words, termed_words, waiting_text, why_words};
+
+use crate::awaited::AwaitedChildren;
+use crate::rests::{Awaited, Why};
+use core_records::{Record, Stop};
+use core_steps::Core;
+use init_words::{ChildNumber, Id, Level, Stage};
+use itoa::Buffer;
+use std::alloc::{AllocError, Allocator, Global};
+
+/// What init waits for, a line each: answers to its orders first, and then the ends of the children that
+/// `AwaitedChildren` names, each with why; both in the order of its records. No line where a runlevel is announced
+/// settled.
+pub fn waiting_lines<A: Allocator>(alloc: Global, core: &Core<A>) -> Result<Vec<u8>, AllocError>
+    ensures { IfOk result (λ text. text.items ≡ waiting_text core.now) }
+{
+    let mut text = Vec::new(alloc);
+    if !core.heads().announced {
+        add_answers(&mut text, core.stage(), core.slots().as_slice())?;
+        add_ends(&mut text, core)?;
+    }
+    Ok(text)
+}
+
+/// Adds a line for each record with an open order.
+fn add_answers(text: &mut Vec<u8>, stage: Option<Stage>, slots: &[Record]) -> Result<(), AllocError>
+    ensures { OnOk result (text.new.items ≡ text.old.items ++ answers_text stage slots.now) }
+{
+    let mut rest = slots;
+    while let Some((slot, others)) = rest.split_first() {
+        add_answer(text, stage, slot)?;
+        rest = others;
+    }
+    Ok(())
+}
+
+fn add_answer(text: &mut Vec<u8>, stage: Option<Stage>, slot: &Record) -> Result<(), AllocError>
+    ensures { OnOk result (text.new.items ≡ text.old.items ++ answer_line stage slot.now) }
+{
+    if slot.order().is_some() {
+        add_start(text, stage)?;
+        text.extend_from_slice(b"an answer about ")?;
+        text.extend_from_slice(slot.id().as_bytes())?;
+        text.push(b'\n')?;
+    }
+    Ok(())
+}
+
+/// Adds a line for each child whose end is awaited.
+fn add_ends<A: Allocator>(text: &mut Vec<u8>, core: &Core<A>) -> Result<(), AllocError>
+    ensures { OnOk result (text.new.items
+        ≡ text.old.items ++ ends_text core.now (awaited_by core.now)) }
+{
+    for awaited in AwaitedChildren::of(core) {
+        add_end(text, core, &awaited)?;
+    }
+    Ok(())
+}
+
+fn add_end<A: Allocator>(
+    text: &mut Vec<u8>,
+    core: &Core<A>,
+    awaited: &Awaited,
+) -> Result<(), AllocError>
+    ensures { OnOk result (text.new.items ≡ text.old.items ++ end_line core.now awaited.now) }
+{
+    add_start(text, core.stage())?;
+    text.extend_from_slice(awaited.id.as_bytes())?;
+    text.extend_from_slice(b": ")?;
+    add_why(text, core, awaited)?;
+    text.push(b'\n')?;
+    Ok(())
+}
+
+/// Adds why the end of a child is awaited.
+fn add_why<A: Allocator>(
+    text: &mut Vec<u8>,
+    core: &Core<A>,
+    awaited: &Awaited,
+) -> Result<(), AllocError>
+    ensures { OnOk result (text.new.items ≡ text.old.items ++ why_words core.now awaited.now) }
+{
+    match awaited.why {
+        Why::Excluded => {
+            let stop = stop_of(core, &awaited.id);
+            add_stop(text, core.heads().grace, core.time(), stop)
+        }
+        Why::WaitedFor => add_ended(text, b"init waits for its end", awaited.number),
+        Why::InTheWay => add_ended(text, b"its earlier child has to end first", awaited.number),
+    }
+}
+
+/// Adds what is waited for, and the number of the child.
+fn add_ended(text: &mut Vec<u8>, what: &[u8], number: ChildNumber) -> Result<(), AllocError>
+    ensures { OnOk result (text.new.items ≡ text.old.items ++ ended_words what.now number) }
+{
+    let mut digits = Buffer::new();
+    text.extend_from_slice(what)?;
+    text.extend_from_slice(b" (")?;
+    text.extend_from_slice(digits.format(number.0).as_bytes())?;
+    text.push(b')')?;
+    Ok(())
+}
+
+/// Adds how far the stopping of a child has come, by the seconds between the two signals and the time.
+fn add_stop(text: &mut Vec<u8>, grace: u16, now: u64, stop: Option<Stop>) -> Result<(), AllocError>
+    ensures { OnOk result (text.new.items ≡ text.old.items ++ stop_words grace now stop) }
+{
+    match stop {
+        Some(Stop::Termed(time)) => add_termed(text, grace, now, time),
+        Some(Stop::Killed(_)) => put(text, b"it is being stopped, KILL sent"),
+        Some(Stop::Due) => put(text, b"it is to be stopped, no signal has reached it yet"),
+        None => put(text, b"it is to be stopped, no signal has reached it yet"),
+    }
+}
+
+fn add_termed(text: &mut Vec<u8>, grace: u16, now: u64, time: u64) -> Result<(), AllocError>
+    ensures { OnOk result (text.new.items ≡ text.old.items ++ termed_words grace now time) }
+{
+    let left = seconds_left(grace, now, time);
+    add_seconds(text, b"it is being stopped, TERM sent, KILL in ", left)
+}
+
+/// Adds what comes, and in how many seconds.
+fn add_seconds(text: &mut Vec<u8>, what: &[u8], seconds: u64) -> Result<(), AllocError>
+    ensures { OnOk result (text.new.items ≡ text.old.items ++ seconds_words what.now seconds) }
+{
+    let mut digits = Buffer::new();
+    text.extend_from_slice(what)?;
+    text.extend_from_slice(digits.format(seconds).as_bytes())?;
+    text.extend_from_slice(b" s")?;
+    Ok(())
+}
+
+/// The seconds of the grace that are left of those since the time.
+fn seconds_left(grace: u16, now: u64, time: u64) -> u64
+    ensures { result ≡ grace - (now - time) }
+{
+    u64::from(grace).saturating_sub(now.saturating_sub(time))
+}
+
+fn put(text: &mut Vec<u8>, bytes: &[u8]) -> Result<(), AllocError>
+    ensures { OnOk result (text.new.items ≡ text.old.items ++ bytes.now) }
+{
+    text.extend_from_slice(bytes)?;
+    Ok(())
+}
+
+/// How far the stopping of the id's child has come.
+fn stop_of<A: Allocator>(core: &Core<A>, id: &Id) -> Option<Stop>
+    ensures { result ≡ stop_in id.now core.now.slots }
+{
+    core.slots().by_id(id)?.stop()
+}
+
+/// Adds the start of a line: what waits.
+fn add_start(text: &mut Vec<u8>, stage: Option<Stage>) -> Result<(), AllocError>
+    ensures { OnOk result (text.new.items ≡ text.old.items ++ line_start stage) }
+{
+    text.extend_from_slice(b"initd: ")?;
+    add_stage(text, stage)?;
+    text.extend_from_slice(b" waits for ")?;
+    Ok(())
+}
+
+fn add_stage(text: &mut Vec<u8>, stage: Option<Stage>) -> Result<(), AllocError>
+    ensures { OnOk result (text.new.items ≡ text.old.items ++ stage_words stage) }
+{
+    match stage {
+        None => put(text, b"the opening"),
+        Some(Stage::Sysinit) => put(text, b"sysinit"),
+        Some(Stage::Boot) => put(text, b"boot"),
+        Some(Stage::Run(level)) => add_level(text, level),
+    }
+}
+
+fn add_level(text: &mut Vec<u8>, level: Level) -> Result<(), AllocError>
+    ensures { OnOk result (text.new.items ≡ text.old.items ++ level_words level) }
+{
+    text.extend_from_slice(b"level ")?;
+    text.push(level.code())?;
+    Ok(())
+}

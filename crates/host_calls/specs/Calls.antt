@@ -1,0 +1,66 @@
+-- What a host tells of its calls, and when it may answer a fault.
+use Rattle.std.specs.Prelude.{◌≡◌, ◌<◌, ◌≤◌, ◌+◌, ◌-◌, ◌^◌, ◌⊎◌, min, ℕ, Bool, true, false, if◌then◌else◌}
+use Rattle.std.specs.Prelude.{List, ◌∷◌, take, Option, Some, None, IfSome, Result, Ok, Err}
+use Rattle.init_words.specs.declared.entries.Entry.{Entry}
+use Rattle.init_words.specs.declared.orders.Answer.{Answer}
+use Rattle.init_words.specs.declared.orders.Answer.TheVariants as answer
+use Rattle.init_words.specs.Parts.{NamedText}
+use Rattle.host_calls.specs.declared.calls.Call.{Call}
+use Rattle.host_calls.specs.declared.calls.HostFault.{HostFault}
+use Rattle.host_calls.specs.declared.calls.Reply.{Reply}
+use Rattle.host_calls.specs.declared.calls.Reply.TheVariants.{Now, Later}
+
+-- a call with what was answered, in whichever memory its texts, its table and the files of one lie
+abbrev pub HostCall : Type 0
+HostCall = Call (List ℕ) (List Entry) (List NamedText)
+
+-- a text, or why it was not had
+abbrev pub TextRead : Type 0
+TextRead = Result (List ℕ) HostFault
+
+-- the files of a table, or why they were not had
+abbrev pub PartsRead : Type 0
+PartsRead = Result (List NamedText) HostFault
+
+-- where a host tells its record now, the newest call first, it told it before, and the record has gained this call
+abbrev pub AddsCall : Option (List HostCall) → Option (List HostCall) → HostCall → Type 0
+AddsCall old new call = IfSome new (λ all. (before : List HostCall) × (old ≡ Some before) × (all ≡ call ∷ before))
+
+-- where a call failed, the count of faults has risen, or stood at its greatest number; it never falls
+pub record HasCause (before now : ℕ) (failed : Bool) : Type 0 where
+  pub later : before ≤ now
+  pub cause : failed ≡ true → (before < now) ⊎ (before ≡ 2 ^ 64 - 1)
+
+-- the count of faults after a call: it stays at its greatest number
+abbrev pub counted : Bool → ℕ → ℕ
+counted failed faults = if failed then min (faults + 1) (2 ^ 64 - 1) else faults
+
+-- answers that tell of a fault
+abbrev pub is_failed_answer : Answer → Bool
+is_failed_answer answer.NotBorn = true
+is_failed_answer answer.NoLook = true
+is_failed_answer answer.Miss = true
+is_failed_answer _ = false
+
+abbrev pub is_failed_reply : Reply → Bool
+is_failed_reply (Now given) = is_failed_answer given
+is_failed_reply Later = false
+
+abbrev pub is_failed_late : Option (List ℕ × Answer) → Bool
+is_failed_late (Some late) = is_failed_answer late.1
+is_failed_late None = false
+
+-- the text that a call gave, whatever it is held in
+abbrev pub text_read : {T : Type 0} → (T → List ℕ) → Result T HostFault → TextRead
+text_read text (Ok held) = Ok (text held)
+text_read text (Err fault) = Err fault
+
+-- the files that a call gave, whatever they are held in
+abbrev pub parts_read : {T : Type 0} → (T → List NamedText) → Result T HostFault → PartsRead
+parts_read parts (Ok held) = Ok (parts held)
+parts_read parts (Err fault) = Err fault
+
+-- the text that a call left in the front of a buffer
+abbrev pub front_read : Result ℕ HostFault → List ℕ → TextRead
+front_read (Ok count) buffer = Ok (take count buffer)
+front_read (Err fault) buffer = Err fault

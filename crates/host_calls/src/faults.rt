@@ -1,0 +1,46 @@
+//! Which answers say that a call failed, and how often a count of calls may fail.
+
+ghost use Rattle.std.specs.Prelude.{◌≡◌};
+ghost use Rattle.host_calls.specs.Calls.{HasCause, counted, is_failed_answer, is_failed_reply, is_failed_late};
+
+use crate::calls::Reply;
+use init_words::{Answer, Id};
+
+/// The answer tells of a fault.
+fn is_failed_answer(answer: &Answer) -> bool
+    ensures { result ≡ is_failed_answer answer.now }
+{
+    matches!(answer, Answer::NotBorn | Answer::NoLook | Answer::Miss)
+}
+
+/// The reply tells of a fault.
+pub fn is_failed_reply(reply: &Reply) -> bool
+    ensures { result ≡ is_failed_reply reply.now }
+{
+    match reply {
+        Reply::Now(answer) => is_failed_answer(answer),
+        Reply::Later => false,
+    }
+}
+
+/// The late answer tells of a fault.
+pub fn is_failed_late(late: &Option<(Id, Answer)>) -> bool
+    ensures { result ≡ is_failed_late late.now }
+{
+    match late {
+        Some(late) => is_failed_answer(&late.1),
+        None => false,
+    }
+}
+
+/// The count of faults after a call.
+pub fn counted(faults: u64, failed: bool) -> u64
+    ensures value { result ≡ counted failed faults }
+    ensures cause { HasCause faults result failed }
+{
+    if failed {
+        faults.saturating_add(1)
+    } else {
+        faults
+    }
+}

@@ -1,0 +1,124 @@
+//! The record of the calls that were made of a scripted host.
+
+ghost use Rattle.std.specs.Prelude.{◌≡◌, ◌≤◌, length, IfOk};
+ghost use Rattle.host_calls.specs.Calls.{HostCall, AddsCall, text_read, parts_read, front_read};
+ghost use Rattle.host_scripted.specs.Script.{tale};
+
+use host_calls::{Bytes, Call, CallIn, HostFault, PartList, Reply, parts_copy};
+use init_words::{Id, Memory, Part};
+use std::alloc::Allocator;
+use trace_events::{HappeningIn, happening_copy};
+
+/// Keeps a call, where all calls before it were kept and there is room for it; else calls are not told from here on.
+pub(crate) fn record<A: Allocator>(
+    calls: &mut Vec<CallIn<A>, A>,
+    tells: &mut bool,
+    call: Result<CallIn<A>, Memory>,
+)
+    ensures { (made : HostCall) → IfOk call (λ value. value ≡ made)
+        → AddsCall (tale tells.old calls.old.items) (tale tells.new calls.new.items) made }
+{
+    *tells = match call {
+        Ok(call) => *tells && calls.push(call).is_ok(),
+        Err(_) => false,
+    };
+}
+
+/// The call that started a child.
+pub(crate) fn start_call<A: Allocator>(
+    alloc: A,
+    id: Id,
+    command: &[u8],
+    reply: &Reply,
+) -> Result<CallIn<A>, Memory>
+    ensures { IfOk result (λ call. call ≡ Call.Start id command.now reply.now) }
+{
+    Ok(Call::Start(id, Bytes::copy_of(alloc, command)?, *reply))
+}
+
+/// A copy of a text that was read, or of why it was not.
+fn text_copy<A: Allocator, B: Allocator>(
+    alloc: A,
+    text: &Result<Vec<u8, B>, HostFault>,
+) -> Result<Result<Bytes<A>, HostFault>, Memory>
+    ensures { IfOk result (λ copy. copy ≡ text_read (λ held. held.items) text.now) }
+{
+    match text {
+        Ok(text) => Ok(Ok(Bytes::copy_of(alloc, text.as_slice())?)),
+        Err(fault) => Ok(Err(*fault)),
+    }
+}
+
+/// A copy of files that were read, or of why they were not.
+fn parts_read_copy<A: Allocator + Copy, B: Allocator>(
+    alloc: A,
+    parts: &Result<Vec<Part<B>, B>, HostFault>,
+) -> Result<Result<PartList<A>, HostFault>, Memory>
+    ensures { IfOk result (λ copy. copy ≡ parts_read (λ held. held.items) parts.now) }
+{
+    match parts {
+        Ok(parts) => Ok(Ok(PartList::of(parts_copy(alloc, parts.as_slice())?))),
+        Err(fault) => Ok(Err(*fault)),
+    }
+}
+
+/// The call that read the files of the inittab.
+pub(crate) fn tables_call<A: Allocator + Copy, B: Allocator>(
+    alloc: A,
+    parts: &Result<Vec<Part<B>, B>, HostFault>,
+) -> Result<CallIn<A>, Memory>
+    ensures { IfOk result (λ call.
+        call ≡ Call.ReadTables (parts_read (λ held. held.items) parts.now)) }
+{
+    Ok(Call::ReadTables(parts_read_copy(alloc, parts)?))
+}
+
+/// The call that carried a text.
+pub(crate) fn carry_call<A: Allocator + Copy, B: Allocator>(
+    alloc: A,
+    text: &[u8],
+    back: &Result<Vec<u8, B>, HostFault>,
+) -> Result<CallIn<A>, Memory>
+    ensures { IfOk result (λ call.
+        call ≡ Call.Carry text.now (text_read (λ held. held.items) back.now)) }
+{
+    Ok(Call::Carry(Bytes::copy_of(alloc, text)?, text_copy(alloc, back)?))
+}
+
+/// A copy of what was taken to the front of a buffer.
+fn front_copy<A: Allocator>(
+    alloc: A,
+    buffer: &[u8],
+    taken: &Result<usize, HostFault>,
+) -> Result<Result<Bytes<A>, HostFault>, Memory>
+    requires { IfOk taken.now (λ count. count ≤ length buffer.now) }
+    ensures { IfOk result (λ copy. copy ≡ front_read taken.now buffer.now) }
+{
+    match taken {
+        Ok(count) => Ok(Ok(Bytes::copy_of(alloc, &buffer[..*count])?)),
+        Err(fault) => Ok(Err(*fault)),
+    }
+}
+
+/// The call that took bytes.
+pub(crate) fn bytes_call<A: Allocator>(
+    alloc: A,
+    buffer: &[u8],
+    taken: &Result<usize, HostFault>,
+) -> Result<CallIn<A>, Memory>
+    requires { IfOk taken.now (λ count. count ≤ length buffer.now) }
+    ensures { IfOk result (λ call.
+        call ≡ Call.TakeBytes (length buffer.now) (front_read taken.now buffer.now)) }
+{
+    Ok(Call::TakeBytes(buffer.len(), front_copy(alloc, buffer, taken)?))
+}
+
+/// The call that announced a happening.
+pub(crate) fn announce_call<A: Allocator + Copy, B: Allocator>(
+    alloc: A,
+    happening: &HappeningIn<B>,
+) -> Result<CallIn<A>, Memory>
+    ensures { IfOk result (λ call. call ≡ Call.Announce happening.now) }
+{
+    Ok(Call::Announce(happening_copy(alloc, happening)?))
+}

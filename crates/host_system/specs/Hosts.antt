@@ -1,0 +1,44 @@
+-- What is known of a host over the operating system, which tells no calls.
+use Rattle.std.specs.Prelude.{ℕ, Bool, true, false, ◌==◌, if◌then◌else◌, List, length, Result, Ok, Err}
+use Rattle.init_words.specs.declared.entries.Entry.{Entry}
+use Rattle.init_words.specs.declared.orders.Answer.{Answer}
+use Rattle.init_words.specs.declared.orders.Answer.TheVariants.{Born, NotBorn, Ended, Alive, NoLook, Hit, Miss}
+use Rattle.inittab_text.specs.declared.faults.PartFault.{PartFault}
+use Rattle.inittab_text.specs.declared.faults.TableFault.{TableFault}
+use Rattle.host_calls.specs.declared.calls.Reply.{Reply}
+use Rattle.host_calls.specs.declared.calls.Reply.TheVariants.{Now, Later}
+
+-- how many of its calls failed; whether it takes no inittab with a faulty line; whether it tells what children do; and
+-- whether it passes over the requests from before
+pub record HostState : Type 0 where
+  pub faults : ℕ
+  pub strict : Bool
+  pub verbose : Bool
+  pub fresh : Bool
+
+-- a strict host takes no table of an inittab in which a line is faulty; of what gives no table there is none to take
+abbrev pub is_taken : {V : Type 0} → (V → List PartFault) → Bool → Result (List Entry × V) TableFault → Bool
+is_taken faults strict (Ok got) = if strict then length (faults got.1) == 0 else true
+is_taken faults strict (Err fault) = true
+
+-- the answers that there are to a start, to a look and to a signal
+abbrev pub is_start_answer : Answer → Bool
+is_start_answer (Born number) = true
+is_start_answer NotBorn = true
+is_start_answer _ = false
+
+abbrev pub is_look_answer : Answer → Bool
+is_look_answer (Ended status) = true
+is_look_answer Alive = true
+is_look_answer NoLook = true
+is_look_answer _ = false
+
+abbrev pub is_signal_answer : Answer → Bool
+is_signal_answer Hit = true
+is_signal_answer Miss = true
+is_signal_answer _ = false
+
+-- it answers at once, by one of these
+abbrev pub answers_by : (Answer → Bool) → Reply → Bool
+answers_by kinds (Now answer) = kinds answer
+answers_by kinds Later = false

@@ -1,0 +1,315 @@
+//! The children of a host: started, looked at, signalled.
+
+ghost use Rattle.std.specs.Prelude.{IsTrue};
+ghost use Rattle.host_system.specs.Hosts.{is_look_answer, is_signal_answer};
+
+use crate::commands::{command_of, needs_shell, shown};
+use crate::costs::Line;
+use crate::logs::Logs;
+use crate::news::{News, end_news, last_end_of};
+use crate::starts::Starts;
+use crate::terms::TermSender;
+use crate::troubles::Trouble;
+use indexmap::IndexMap;
+use init_words::{Answer, Id, Memory, SignalKind, Stage, Status};
+use inittab_text::Table;
+use std::alloc::Allocator;
+use std::hash::{BuildHasherDefault, FoldHasher};
+use std::io::ErrorKind;
+use std::process::{Child, Command, ExitStatus, Processes};
+use std::rt::Files;
+use std::{io, str};
+use text_lines::next_word;
+
+/// A child, and whether TERM could be sent to it.
+#[derive(Drop)]
+struct Held<C: Drop> {
+    child: C,
+    stopping: Trouble,
+    /// What an inittab that was read since its birth has for it.
+    line: Option<Line>,
+}
+
+/// The children of a host, each under its id.
+#[derive(Drop)]
+pub(crate) struct Children<R: Processes, A: Allocator> {
+    alloc: A,
+    /// The name of the program that says what is said of them.
+    program: &'static str,
+    handles: IndexMap<Id, Held<Child<R::Started>>, BuildHasherDefault<FoldHasher>, A>,
+    /// How the last child of each id ended, as far as there was memory to keep it.
+    ends: IndexMap<Id, News, BuildHasherDefault<FoldHasher>, A>,
+    terms: TermSender<R::Started>,
+    /// The stage, and that in which an inittab was read again last.
+    stage: Option<Stage>,
+    read_in: Option<Stage>,
+    /// The births, where it is told what children do.
+    starts: Option<Starts<A>>,
+    /// Where their output goes, where it goes to logs.
+    logs: Option<Logs<A>>,
+}
+
+impl<R: Processes, A: Allocator + Copy> Children<R, A> {
+    /// No children. It takes no memory.
+    pub(crate) fn new(alloc: A, program: &'static str) -> Children<R, A> {
+        Children {
+            alloc,
+            program,
+            handles: IndexMap::new(alloc),
+            ends: IndexMap::new(alloc),
+            terms: TermSender::new(),
+            stage: None,
+            read_in: None,
+            starts: None,
+            logs: None,
+        }
+    }
+
+    /// From now on it is told on standard error what children do. It takes no memory.
+    pub(crate) fn tell_all(&mut self) {
+        self.starts = Some(Starts::new(self.alloc, self.program));
+    }
+
+    /// From now on the output of the children that are started goes to logs in this folder.
+    pub(crate) fn log_to(&mut self, folder: &str) -> Result<(), Memory> {
+        self.logs = Some(Logs::new(self.alloc, folder)?);
+        Ok(())
+    }
+
+    /// Starts a child for an id that has none, and gives its number. There is room for its handle before it is born.
+    pub(crate) fn start<B: Allocator + Copy>(
+        &mut self,
+        rt: &R,
+        alloc: B,
+        id: Id,
+        text: &[u8],
+    ) -> io::Result<u32>
+    where
+        R: Files + Eprint,
+    {
+        if self.handles.contains_key(&id) {
+            return Err(io::Error::from(ErrorKind::AlreadyExists));
+        }
+        let Some(mut command) = self.command(rt, alloc, &id, text)? else {
+            return Err(io::Error::from(ErrorKind::InvalidInput));
+        };
+        self.handles.reserve(1)?;
+        let child = command.spawn(rt)?;
+        let number = child.id();
+        let stopping = Trouble::new(self.program, "send TERM to", "TERM was sent");
+        let held = Held {
+            child,
+            stopping,
+            line: None,
+        };
+        if self.handles.insert(id, held).is_err() {
+            unreachable!()
+        }
+        self.tell_start(rt, id, number);
+        Ok(number)
+    }
+
+    /// The command that starts a process text. None where it has no word, and where it isn't UTF-8.
+    fn command<B: Allocator + Copy>(
+        &mut self,
+        rt: &R,
+        alloc: B,
+        id: &Id,
+        text: &[u8],
+    ) -> io::Result<Option<Command<B>>>
+    where
+        R: Files + Eprint,
+    {
+        let Ok(text) = str::from_utf8(text) else {
+            return Ok(None);
+        };
+        match &mut self.logs {
+            Some(logs) => logs.command(rt, alloc, id, text),
+            None => Ok(command_of(alloc, text)?),
+        }
+    }
+
+    fn tell_start(&mut self, rt: &R, id: Id, number: u32)
+    where
+        R: Eprint,
+    {
+        let Some(starts) = &mut self.starts else {
+            return;
+        };
+        let news = match starts.count(rt, id) {
+            Some(count) if count > 1 => News::StartedAgain(number, count),
+            _ => News::Started(number),
+        };
+        self.tell(rt, &id, &news);
+    }
+
+    /// Tells what a child did, where it is told what children do.
+    fn tell(&self, rt: &R, id: &Id, news: &News)
+    where
+        R: Eprint,
+    {
+        if self.starts.is_some() {
+            let id = shown(id.as_bytes());
+            let _ = eprintln!(rt; "{}: {id}: {news}", self.program);
+        }
+    }
+
+    /// Says on standard error why a child was not born.
+    pub(crate) fn say_not_born(&self, rt: &R, id: &Id, text: &[u8], error: &io::Error)
+    where
+        R: Eprint,
+    {
+        let id = shown(id.as_bytes());
+        let program = program_of(text);
+        let _ = match error.kind() {
+            ErrorKind::NotFound => eprintln!(rt; "{}: {id}: {program}: not found", self.program),
+            _ => eprintln!(rt; "{}: {id}: {program}: {error}", self.program),
+        };
+    }
+
+    /// Reaps the id's child if it has ended.
+    pub(crate) fn look(&mut self, rt: &R, id: &Id) -> Answer
+    where
+        R: Eprint,
+        ensures { IsTrue (is_look_answer result) }
+    {
+        let Some(held) = self.handles.get_mut(id) else {
+            return Answer::NoLook;
+        };
+        match held.child.try_wait() {
+            Ok(Some(status)) => {
+                self.handles.shift_remove(id);
+                self.note_end(rt, *id, end_news(&status));
+                Answer::Ended(status_of(&status))
+            }
+            Ok(None) => Answer::Alive,
+            Err(_) => Answer::NoLook,
+        }
+    }
+
+    /// Keeps how the id's child ended, and tells it, where it is told what children do.
+    fn note_end(&mut self, rt: &R, id: Id, end: News)
+    where
+        R: Eprint,
+    {
+        if self.ends.insert(id, end).is_err() {
+            self.ends.shift_remove(&id);
+        }
+        self.tell(rt, &id, &end);
+    }
+
+    /// Says on standard error how the id's last child ended, and what that mostly means.
+    pub(crate) fn say_last_end(&self, rt: &R, id: &Id)
+    where
+        R: Eprint,
+    {
+        if let Some(end) = self.ends.get(id) {
+            let id = shown(id.as_bytes());
+            let _ = eprintln!(rt;
+                "{}: {id}: its last end: {}",
+                self.program,
+                last_end_of(*end)
+            );
+        }
+    }
+
+    /// The stage was entered.
+    pub(crate) fn enter(&mut self, stage: Stage) {
+        self.stage = Some(stage);
+    }
+
+    /// Notes what an inittab that was read again has for each child.
+    pub(crate) fn note_lines<B: Allocator>(&mut self, table: &Table<B>) {
+        let Some(stage) = self.stage else {
+            return;
+        };
+        self.read_in = Some(stage);
+        for (id, held) in self.handles.iter_mut() {
+            held.line = Some(Line::of(table.get(id), stage));
+        }
+    }
+
+    /// The turn is over.
+    pub(crate) fn end_turn(&mut self) {
+        self.terms.end();
+    }
+
+    /// Sends the id's child the signal.
+    pub(crate) fn signal(&mut self, rt: &R, id: &Id, signal: SignalKind) -> Answer
+    where
+        R: Eprint,
+        ensures { IsTrue (is_signal_answer result) }
+    {
+        let sent = match signal {
+            SignalKind::Term => self.term(rt, id),
+            SignalKind::Kill => self.kill(id),
+        };
+        if !sent {
+            return Answer::Miss;
+        }
+        self.say_cost(rt, id);
+        self.tell(rt, id, &News::Sent(signal));
+        Answer::Hit
+    }
+
+    /// Says on standard error, once, that the id's child, which is sent a signal, is the cost of an inittab that was
+    /// read again.
+    fn say_cost(&mut self, rt: &R, id: &Id)
+    where
+        R: Eprint,
+    {
+        let is_same_stage = self.stage == self.read_in;
+        let Some(held) = self.handles.get_mut(id) else {
+            return;
+        };
+        match held.line.take() {
+            Some(line) if line.is_cost(is_same_stage) => {
+                let id = shown(id.as_bytes());
+                let number = held.child.id();
+                let _ = eprintln!(rt;
+                    "{}: {id}: {line}: its child {number} is stopped",
+                    self.program
+                );
+            }
+            _ => {}
+        }
+    }
+
+    fn term(&mut self, rt: &R, id: &Id) -> bool
+    where
+        R: Eprint,
+    {
+        let Some(held) = self.handles.get_mut(id) else {
+            return false;
+        };
+        let sent = self.terms.send(rt, self.alloc, held.child.id());
+        held.stopping.tell(rt, shown(id.as_bytes()), &sent);
+        sent.is_ok()
+    }
+
+    fn kill(&mut self, id: &Id) -> bool {
+        match self.handles.get_mut(id) {
+            Some(held) => held.child.kill().is_ok(),
+            None => false,
+        }
+    }
+}
+
+/// How a child ended that has this status.
+fn status_of(status: &ExitStatus) -> Status {
+    match status.code() {
+        Some(code) => Status::Exit(u8::try_from(code).unwrap_or(u8::MAX)),
+        None => Status::Killed,
+    }
+}
+
+/// The program that a process text starts.
+fn program_of(text: &[u8]) -> &str {
+    if needs_shell(text) {
+        return "sh";
+    }
+    match next_word(text) {
+        Some((program, _)) => shown(program),
+        None => "",
+    }
+}

@@ -1,0 +1,145 @@
+//! How a process text is executed: by `sh`, or word by word.
+
+ghost use Rattle.std.specs.Prelude.{◌≡◌, ◌++◌, ◌∷◌, [], Some, codes, IfOk, OnOk};
+ghost use Rattle.std.specs.Str.{IsUtf8};
+ghost use Rattle.text_lines.specs.Lines.{words_of};
+ghost use Rattle.host_system.specs.Commands.{is_shell_byte, logged, needs_shell, words_logged, words_run, words_in};
+
+use std::alloc::{AllocError, Allocator};
+use std::process::Command;
+use std::str;
+use text_lines::next_word;
+
+/// The characters for which a process is started by a shell.
+const SHELL_BYTES: &[u8] = b"~`!$^&*()=|\\{}[];\"'<>?";
+
+fn is_shell_byte(byte: u8) -> bool
+    ensures { result ≡ is_shell_byte byte }
+{
+    SHELL_BYTES.contains(&byte)
+}
+
+/// The process text is started by a shell: it has a character that a shell reads.
+pub(crate) fn needs_shell(text: &[u8]) -> bool
+    ensures { result ≡ needs_shell text.now }
+{
+    text.iter().any(|byte| is_shell_byte(*byte))
+}
+
+/// The command that starts a process text (inittab(5)): a shell that executes it, where it has a character that a
+/// shell reads, and else its words, split at blanks and tabs. None where it has no word.
+pub(crate) fn command_of<A: Allocator + Copy>(
+    alloc: A,
+    text: &str,
+) -> Result<Option<Command<A>>, AllocError>
+    ensures { IfOk result (λ command. words_in command ≡ words_run text.now) }
+{
+    if needs_shell(text.as_bytes()) {
+        let line = format!(in alloc; "exec {text}")?;
+        return Ok(Some(shell_command(alloc, line.as_str())?));
+    }
+    plain_command(alloc, text)
+}
+
+/// The command that starts a process text as `command_of` does, but by a shell in each case, which appends its output
+/// to the file of this path and then becomes the process.
+pub(crate) fn logged_command<A: Allocator + Copy>(
+    alloc: A,
+    log: &str,
+    text: &str,
+) -> Result<Option<Command<A>>, AllocError>
+    ensures { IfOk result (λ command. words_in command ≡ words_logged log.now text.now) }
+{
+    if !needs_shell(text.as_bytes()) {
+        return logged_words(alloc, log, text);
+    }
+    let line = format!(in alloc; "exec >>\"$0\" 2>&1\nexec {text}")?;
+    let mut command = shell_command(alloc, line.as_str())?;
+    add_word(&mut command, log)?;
+    Ok(Some(command))
+}
+
+/// The command of a text's words, started by a shell that appends their output to the file of this path.
+fn logged_words<A: Allocator + Copy>(
+    alloc: A,
+    log: &str,
+    text: &str,
+) -> Result<Option<Command<A>>, AllocError>
+    ensures { IfOk result (λ command. words_in command ≡ logged log.now (words_of text.now)) }
+{
+    let Some((program, rest)) = next_word(text.as_bytes()) else {
+        return Ok(None);
+    };
+    let mut command = shell_command(alloc, "exec \"$@\" >>\"$0\" 2>&1")?;
+    add_word(&mut command, log)?;
+    add_word(&mut command, text_of(program))?;
+    add_words(&mut command, rest)?;
+    Ok(Some(command))
+}
+
+/// The command that runs a line in a shell.
+pub(crate) fn shell_command<A: Allocator + Copy>(
+    alloc: A,
+    line: &str,
+) -> Result<Command<A>, AllocError>
+    ensures { IfOk result (λ command.
+        words_in (Some command) ≡ codes "sh" ∷ codes "-c" ∷ line.now ∷ []) }
+{
+    let mut command = Command::new(alloc, "sh")?;
+    add_word(&mut command, "-c")?;
+    add_word(&mut command, line)?;
+    Ok(command)
+}
+
+/// The command of a text's words.
+fn plain_command<A: Allocator + Copy>(
+    alloc: A,
+    text: &str,
+) -> Result<Option<Command<A>>, AllocError>
+    ensures { IfOk result (λ command. words_in command ≡ words_of text.now) }
+{
+    let Some((program, rest)) = next_word(text.as_bytes()) else {
+        return Ok(None);
+    };
+    let mut command = Command::new(alloc, text_of(program))?;
+    add_words(&mut command, rest)?;
+    Ok(Some(command))
+}
+
+/// Adds the words of a text to a command's arguments. Where memory runs out, some of them may be added.
+fn add_words<A: Allocator + Copy>(command: &mut Command<A>, text: &[u8]) -> Result<(), AllocError>
+    requires { IsUtf8 text.now }
+    ensures { OnOk result (words_in (Some command.new)
+        ≡ words_in (Some command.old) ++ words_of text.now) }
+{
+    let mut rest = text;
+    while let Some((word, more)) = next_word(rest) {
+        add_word(command, text_of(word))?;
+        rest = more;
+    }
+    Ok(())
+}
+
+fn add_word<A: Allocator + Copy>(command: &mut Command<A>, word: &str) -> Result<(), AllocError>
+    ensures { OnOk result (words_in (Some command.new)
+        ≡ words_in (Some command.old) ++ word.now ∷ []) }
+{
+    command.arg(word)?;
+    Ok(())
+}
+
+/// Bytes that are UTF-8, as a text.
+fn text_of(bytes: &[u8]) -> &str
+    requires { IsUtf8 bytes.now }
+    ensures { result.now ≡ bytes.now }
+{
+    match str::from_utf8(bytes) {
+        Ok(text) => text,
+        Err(_) => unreachable!(),
+    }
+}
+
+/// The text, where it is UTF-8.
+pub(crate) fn shown(text: &[u8]) -> &str {
+    str::from_utf8(text).unwrap_or("?")
+}

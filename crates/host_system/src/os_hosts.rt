@@ -1,0 +1,400 @@
+//! The host over the operating system.
+
+ghost use Rattle.std.specs.Prelude.{◌≡◌, List, Ok, IfOk, OnErr, IsErr, true, false};
+ghost use Rattle.inittab_text.specs.declared.faults.PartFault.{PartFault};
+ghost use Rattle.host_calls.specs.Calls.{HasCause};
+ghost use Rattle.host_system.specs.Hosts.{is_taken};
+
+use crate::announcements::announcement_text;
+use crate::channels::Channel;
+use crate::children::Children;
+use crate::line_faults::{LineFaults, say_refused, say_too_long, say_too_many};
+use crate::paths::Paths;
+use crate::pauses::{LOOK, Pauses, has_stirred};
+use crate::steady_clocks::SteadyClock;
+use crate::troubles::Trouble;
+use host_calls::{Host, HostFault, Reading, Reply, counted, is_failed_reply};
+use init_words::{Answer, ChildNumber, Id, Memory, Part, SignalKind};
+use inittab_text::{PartFault, Table, TableFault};
+use program_io::ChannelLock;
+use std::alloc::{Allocator, Global};
+use std::fs::File;
+use std::io::ErrorKind;
+use std::marker::Model;
+use std::process::Processes;
+use std::rt::{Clock, Files};
+use std::time::Duration;
+use std::{io, thread};
+use trace_events::{Happening, HappeningIn};
+
+/// A host that asks the operating system. It tells nothing of its calls, and answers each order at once.
+///
+/// A process text is executed by `sh` where it has a character that a shell reads; any other is split at blanks and
+/// tabs and started directly. A start for an id that has a child is refused. A child is looked at by waitpid(2) with
+/// WNOHANG; SIGTERM is sent by kill(1) in one `sh` for all of a turn,
+/// SIGKILL directly. A pause starts nothing, does not fail, and ends where
+/// a request comes. Requests are read from the channel file's first byte on, and anew where it is shorter than what was
+/// read, or another file stands at its path. The clock gives
+/// the seconds since the beginning of 1970 at its first reading, and goes on from there by the monotonic clock. What
+/// fails is told on standard error once when it begins and once when it is over; told too are requests that stand in
+/// the channel before its first reading, those that it is told init passes over, and that it ends within a request. The
+/// faults of the lines of an inittab's files that it is told are printed, where they are not those that were printed last. Of a child that is
+/// stopped since an inittab that was read again has no line of it, or one that is off, does not run in the level or has
+/// another action, that is told on standard error.
+#[derive(Drop)]
+pub struct OsHost<
+    R: Processes + Files<File = File> + Clock + Print + Eprint + Drop,
+    A: Allocator = Global,
+> {
+    rt: R,
+    alloc: A,
+    children: Children<R, A>,
+    channel: Channel<A>,
+    paths: Paths<A>,
+    line_faults: LineFaults<A>,
+    strict: bool,
+    verbose: bool,
+    fresh: bool,
+    pauses: Pauses,
+    clock: SteadyClock,
+    saying: Trouble,
+    faults: u64,
+}
+
+impl<R: Processes + Files<File = File> + Clock + Print + Eprint + Drop, A: Allocator> Model
+    for OsHost<R, A> {
+    ghost use Rattle.host_system.specs.Hosts.{HostState};
+
+    ghost Value = { HostState };
+
+    ghost view = { λ host. record {
+      faults = host.faults;
+      strict = host.strict;
+      verbose = host.verbose;
+      fresh = host.fresh;
+    } };
+}
+
+impl<R: Processes + Files<File = File> + Clock + Print + Eprint + Drop, A: Allocator + Copy> OsHost<
+    R,
+    A,
+> {
+    /// A host without children, which says what fails by the name of the program, over the paths of the inittab, of the
+    /// channel of requests, of the text of init's state and of the folder of the inittab's further files, where it has
+    /// one, which `with_folder` reads. A text of the state is written to the path with `.new` after it before it is put
+    /// in its place. Each of its pauses lasts a second.
+    pub fn new(
+        rt: R,
+        alloc: A,
+        program: &'static str,
+        inittab: &str,
+        channel: &str,
+        state: &str,
+        folder: Option<&str>,
+    ) -> Result<OsHost<R, A>, Memory>
+        ensures { IfOk result (λ host. host ≡ record {
+          faults = 0;
+          strict = false;
+          verbose = false;
+          fresh = false;
+        }) }
+    {
+        Ok(OsHost {
+            rt,
+            alloc,
+            children: Children::new(alloc, program),
+            channel: Channel::new(alloc, program, channel)?,
+            paths: Paths::new(alloc, program, inittab, folder, state)?,
+            line_faults: LineFaults::new(alloc),
+            strict: false,
+            verbose: false,
+            fresh: false,
+            pauses: Pauses::of_a_second(),
+            clock: SteadyClock::new(program),
+            saying: Trouble::new(program, "write", "written"),
+            faults: 0,
+        })
+    }
+
+    /// The host with pauses of at most this length in seconds, a decimal of 0.01 to 60 with at most two digits after
+    /// the point; any other text leaves them as they are. Since the last pause a child may have been born or reaped, a
+    /// signal sent or bytes taken: then the next one lasts a thousandth of the length, and else twice as long as the
+    /// last, but no longer than the length.
+    pub fn with_pause(mut self, length: &str) -> Result<OsHost<R, A>, Memory>
+        ensures { IfOk result (λ host. host ≡ self) }
+    {
+        self.pauses.grow_to(length);
+        Ok(self)
+    }
+
+    /// The host that tells on standard error of each birth, each end and each signal of a child, and once of each file
+    /// that comes to stand in the inittab's folder and is passed over; those that stand there now are taken for told.
+    pub fn verbose(mut self) -> OsHost<R, A>
+        ensures { result ≡ record self { verbose = true } }
+    {
+        self.tell_all();
+        self.verbose = true;
+        self
+    }
+
+    /// The host that doesn't give an inittab of which a line is faulty, whose faults are printed each time.
+    pub fn strict(mut self) -> OsHost<R, A>
+        ensures { result ≡ record self { strict = true } }
+    {
+        self.strict = true;
+        self
+    }
+
+    /// The host that passes over the requests that stand in the channel at its first reading: that begins at the end
+    /// of the last whole one. A channel that isn't there then has none.
+    pub fn fresh(mut self) -> OsHost<R, A>
+        ensures { result ≡ record self { fresh = true } }
+    {
+        self.channel.pass_over_old();
+        self.fresh = true;
+        self
+    }
+
+    /// The host that holds this lock of its channel, and takes that of each other file that comes to stand at the
+    /// channel's path. Where another init has that one, it is told, and nothing is read.
+    pub fn holding(mut self, lock: ChannelLock) -> OsHost<R, A>
+        ensures { result ≡ self }
+    {
+        self.channel.hold(lock);
+        self
+    }
+
+    /// The host that appends what each child prints to `ID.log` in the folder, or to `_.log` where the id begins with
+    /// a point or has a slash, which is told. Its children have no input. Each is started by `sh`, which becomes the
+    /// process, or says in the log that there is none and ends with a status. Where a log can't be opened that is told,
+    /// and the child is started as without logs.
+    pub fn with_logs(mut self, folder: &str) -> Result<OsHost<R, A>, Memory>
+        ensures { IfOk result (λ host. host ≡ self) }
+    {
+        self.children.log_to(folder)?;
+        Ok(self)
+    }
+}
+
+impl<R: Processes + Files<File = File> + Clock + Print + Eprint + Drop, A: Allocator + Copy> OsHost<
+    R,
+    A,
+> {
+    fn tell_all(&mut self)
+        ensures { self.new ≡ self.old }
+    {
+        self.children.tell_all();
+        self.paths.tell_all(&self.rt);
+    }
+
+    /// Prints the faults of the lines of an inittab's parts that were read as this table, and notes which children it
+    /// costs, where the host takes it. Gives whether it does.
+    fn takes_table<B: Allocator>(
+        &mut self,
+        parts: &[Part<B>],
+        table: &Table<B>,
+        faults: &[PartFault],
+    ) -> bool
+        ensures taken { result
+            ≡ is_taken (λ (all : List PartFault). all) self.old.strict (Ok (table.now, faults.now)) }
+        ensures cause { HasCause self.old.faults self.new.faults false }
+        ensures kept { self.new ≡ record self.old { faults = self.new.faults } }
+    {
+        let told = self.line_faults.print(&self.rt, parts, faults);
+        if !matches!(told, Ok(0)) {
+            self.saying.tell(&self.rt, "standard output", &told);
+        }
+        self.faults = counted(self.faults, told.is_err());
+        if self.strict && !faults.is_empty() {
+            self.line_faults.forget();
+            say_refused(&self.rt, self.paths.inittab());
+            return false;
+        }
+        self.children.note_lines(table);
+        true
+    }
+
+    /// Says why the parts of an inittab have no table.
+    fn say_no_table(&mut self, fault: TableFault)
+        ensures { self.new ≡ self.old }
+    {
+        match fault {
+            TableFault::TooLong => say_too_long(&self.rt, self.paths.inittab()),
+            TableFault::Parts => say_too_many(&self.rt, self.paths.inittab()),
+            TableFault::Memory => self.paths.say_no_room(&self.rt),
+        }
+    }
+}
+
+/// Prints what init says of the happening, at once, and gives how many bytes that are.
+fn say<A: Allocator, B: Allocator>(
+    rt: &impl Print,
+    alloc: A,
+    happening: &HappeningIn<B>,
+) -> io::Result<usize> {
+    let Ok(text) = announcement_text(alloc, happening) else {
+        return Err(io::Error::from(ErrorKind::OutOfMemory));
+    };
+    rt.write_all(text.as_slice())?;
+    Ok(text.len())
+}
+
+/// Sleeps for so many microseconds, or until the channel has news, which is looked at meanwhile.
+fn rest<R: Files + Clock, A: Allocator>(rt: &R, channel: &Channel<A>, length: u64) {
+    for _ in 0..length / LOOK {
+        thread::sleep(rt, Duration::from_micros(LOOK));
+        if channel.has_news(rt) {
+            return;
+        }
+    }
+    thread::sleep(rt, Duration::from_micros(length % LOOK));
+}
+
+/// The host's fault for an error of the system.
+fn fault_of(error: &io::Error) -> HostFault {
+    match error.kind() {
+        ErrorKind::OutOfMemory => HostFault::Memory,
+        _ => HostFault::Device,
+    }
+}
+
+/// What the system gave, or the fault that its error is.
+fn host_result<T>(outcome: io::Result<T>) -> Result<T, HostFault>
+    ensures ok { IfOk result (λ value. outcome ≡ Ok value) }
+    ensures err { OnErr result (IsErr outcome) }
+{
+    match outcome {
+        Ok(value) => Ok(value),
+        Err(error) => Err(fault_of(&error)),
+    }
+}
+
+impl<R: Processes + Files<File = File> + Clock + Print + Eprint + Drop, A: Allocator + Copy> Host
+    for OsHost<R, A> {
+    ghost use Rattle.std.specs.Prelude.{◌≡◌, None, false, IsTrue};
+    ghost use Rattle.host_calls.specs.Calls.{HasCause};
+    ghost use Rattle.host_calls.specs.Calls.{is_failed_reply};
+    ghost use Rattle.host_system.specs.Hosts.{HostState, is_taken, is_start_answer, is_look_answer, is_signal_answer, answers_by};
+
+    ghost told = { λ _. None };
+
+    ghost failures = { λ (host : HostState). host.faults };
+
+    fn start<B: Allocator + Copy>(&mut self, alloc: B, id: Id, command: &[u8]) -> Reply
+        ensures cause { HasCause self.old.faults self.new.faults (is_failed_reply result) }
+        ensures kind { IsTrue (answers_by is_start_answer result) }
+        ensures kept { self.new ≡ record self.old { faults = self.new.faults } }
+    {
+        let reply = match self.children.start(&self.rt, alloc, id, command) {
+            Ok(number) => Reply::Now(Answer::Born(ChildNumber(number))),
+            Err(error) => {
+                self.children.say_not_born(&self.rt, &id, command, &error);
+                Reply::Now(Answer::NotBorn)
+            }
+        };
+        self.pauses.note(has_stirred(&reply));
+        self.faults = counted(self.faults, is_failed_reply(&reply));
+        reply
+    }
+
+    fn look(&mut self, id: Id) -> Reply
+        ensures cause { HasCause self.old.faults self.new.faults (is_failed_reply result) }
+        ensures kind { IsTrue (answers_by is_look_answer result) }
+        ensures kept { self.new ≡ record self.old { faults = self.new.faults } }
+    {
+        let reply = Reply::Now(self.children.look(&self.rt, &id));
+        self.pauses.note(has_stirred(&reply));
+        self.faults = counted(self.faults, is_failed_reply(&reply));
+        reply
+    }
+
+    fn signal(&mut self, id: Id, signal: SignalKind) -> Reply
+        ensures cause { HasCause self.old.faults self.new.faults (is_failed_reply result) }
+        ensures kind { IsTrue (answers_by is_signal_answer result) }
+        ensures kept { self.new ≡ record self.old { faults = self.new.faults } }
+    {
+        let reply = Reply::Now(self.children.signal(&self.rt, &id, signal));
+        self.pauses.note(has_stirred(&reply));
+        self.faults = counted(self.faults, is_failed_reply(&reply));
+        reply
+    }
+
+    /// Nothing ever comes later.
+    fn late(&mut self) -> Option<(Id, Answer)>
+        ensures never { result ≡ None }
+        ensures unchanged { self.new ≡ self.old }
+    {
+        None
+    }
+
+    fn clock(&mut self) -> Result<u64, HostFault> {
+        let reading = host_result(self.clock.seconds(&self.rt));
+        self.faults = counted(self.faults, reading.is_err());
+        reading
+    }
+
+    fn take_bytes(&mut self, buffer: &mut [u8]) -> Result<usize, HostFault> {
+        let taken = host_result(self.channel.take_bytes(&self.rt, buffer));
+        self.pauses.note(matches!(taken, Ok(count) if count > 0));
+        self.faults = counted(self.faults, taken.is_err());
+        taken
+    }
+
+    fn read_tables<B: Allocator + Copy>(&mut self, alloc: B) -> Result<Vec<Part<B>, B>, HostFault> {
+        let parts = host_result(self.paths.read_tables(&self.rt, alloc));
+        self.faults = counted(self.faults, parts.is_err());
+        parts
+    }
+
+    /// Prints the faults of the lines, where they are not those that were printed last, and says why there is no table.
+    fn takes<B: Allocator>(&mut self, parts: &[Part<B>], reading: &Reading<B>) -> bool
+        ensures cause { HasCause self.old.faults self.new.faults false }
+        ensures taken { result ≡ is_taken (λ all. all.items) self.old.strict reading.now }
+        ensures kept { self.new ≡ record self.old { faults = self.new.faults } }
+    {
+        match reading {
+            Ok((table, faults)) => self.takes_table(parts, table, faults),
+            Err(fault) => {
+                self.say_no_table(*fault);
+                true
+            }
+        }
+    }
+
+    fn pass_over(&mut self, why: &str) {
+        self.channel.pass_over(&self.rt, why);
+    }
+
+    fn carry<B: Allocator + Copy>(
+        &mut self,
+        alloc: B,
+        text: &[u8],
+    ) -> Result<Vec<u8, B>, HostFault> {
+        let back = host_result(self.paths.carry(&self.rt, alloc, text));
+        self.faults = counted(self.faults, back.is_err());
+        back
+    }
+
+    fn announce<B: Allocator>(&mut self, happening: &HappeningIn<B>) {
+        let said = say(&self.rt, self.alloc, happening);
+        if !matches!(said, Ok(0)) {
+            self.saying.tell(&self.rt, "standard output", &said);
+        }
+        self.faults = counted(self.faults, said.is_err());
+        match happening {
+            Happening::Enter(stage, _) => self.children.enter(*stage),
+            Happening::Hold(id) => self.children.say_last_end(&self.rt, id),
+            _ => {}
+        }
+    }
+
+    fn pause(&mut self) {
+        self.children.end_turn();
+        let length = self.pauses.next();
+        rest(&self.rt, &self.channel, length);
+    }
+
+    fn faults(&self) -> u64 {
+        self.faults
+    }
+}

@@ -1,0 +1,104 @@
+//! How long a pause is.
+
+use host_calls::Reply;
+use init_words::Answer;
+use text_lines::{cut, read_below};
+
+/// The longest pause that may be asked for, in hundredths of a second.
+const PAUSE_LIMIT: u64 = 6_000;
+
+/// The microseconds of a hundredth of a second.
+const HUNDREDTH: u64 = 10_000;
+
+/// After how many microseconds of a pause the channel is looked at.
+pub(crate) const LOOK: u64 = 40_000;
+
+/// The microseconds of a second.
+const SECOND: u64 = 1_000_000;
+
+/// How long the pauses of a host are, in microseconds.
+#[derive(Drop)]
+pub(crate) struct Pauses {
+    shortest: u64,
+    longest: u64,
+    next: u64,
+    /// Something happened since the last pause.
+    stirred: bool,
+}
+
+impl Pauses {
+    /// Pauses of a second each.
+    pub(crate) fn of_a_second() -> Pauses {
+        Pauses {
+            shortest: SECOND,
+            longest: SECOND,
+            next: SECOND,
+            stirred: false,
+        }
+    }
+
+    /// Pauses that grow from a thousandth of this length up to it. A length that is no decimal of 0.01 to 60 with at
+    /// most two digits after the point leaves them as they are.
+    pub(crate) fn grow_to(&mut self, length: &str) {
+        let Some(hundredths) = read_hundredths(length.as_bytes()) else {
+            return;
+        };
+        if 0 < hundredths && hundredths <= PAUSE_LIMIT {
+            self.longest = hundredths.saturating_mul(HUNDREDTH);
+            self.shortest = self.longest / 1_000;
+            self.next = self.shortest;
+        }
+    }
+
+    /// Notes whether something happened.
+    pub(crate) fn note(&mut self, stirred: bool) {
+        self.stirred = self.stirred || stirred;
+    }
+
+    /// The length of the pause that is due, in microseconds: after a turn in which something happened the shortest, and
+    /// else twice the one before, up to the longest.
+    pub(crate) fn next(&mut self) -> u64 {
+        let length = if self.stirred {
+            self.shortest
+        } else {
+            self.next
+        };
+        self.stirred = false;
+        self.next = length.saturating_mul(2).min(self.longest);
+        length
+    }
+}
+
+/// A child was born, had ended, or was sent a signal.
+pub(crate) fn has_stirred(reply: &Reply) -> bool {
+    match reply {
+        Reply::Now(answer) => matches!(answer, Answer::Born(_) | Answer::Ended(_) | Answer::Hit),
+        Reply::Later => false,
+    }
+}
+
+/// The hundredths of a second of a decimal of at most two digits after the point.
+fn read_hundredths(word: &[u8]) -> Option<u64> {
+    let Some((whole, part)) = cut(b'.', word) else {
+        return Some(read_below(word, 61)?.saturating_mul(100));
+    };
+    let seconds = read_below(whole, 61)?;
+    Some(seconds.saturating_mul(100).saturating_add(read_part(part)?))
+}
+
+/// The hundredths of one or two digits after a point.
+fn read_part(digits: &[u8]) -> Option<u64> {
+    match digits {
+        [tenth] => Some(read_digit(*tenth)?.saturating_mul(10)),
+        [tenth, hundredth] => {
+            let tenths = read_digit(*tenth)?.saturating_mul(10);
+            Some(tenths.saturating_add(read_digit(*hundredth)?))
+        }
+        _ => None,
+    }
+}
+
+/// The number of a digit.
+fn read_digit(byte: u8) -> Option<u64> {
+    read_below(&[byte], 10)
+}

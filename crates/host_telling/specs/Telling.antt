@@ -1,0 +1,12 @@
+-- A host with the record of the calls that were made of it.
+use Rattle.std.specs.Prelude.{◌≡◌, List, ◌++◌, Option, IfSome}
+use Rattle.host_calls.specs.Calls.{HostCall}
+
+-- a host, and the calls that were made of it since it is told of, the newest first
+pub record Told (H : Type 0) : Type 0 where
+  pub host : H
+  pub calls : List HostCall
+
+-- where the host tells its own calls, these are the newest of them
+abbrev pub AreNewest : Option (List HostCall) → List HostCall → Type 0
+AreNewest told calls = IfSome told (λ all. (before : List HostCall) × (all ≡ calls ++ before))

@@ -1,0 +1,184 @@
+//! The host that tells.
+
+ghost use Rattle.std.specs.Prelude.{◌≡◌, []};
+
+use crate::adding::{CallList, no_calls, with};
+use crate::made::{
+    Announce, Carry, Clock, Late, Look, Pause, ReadTables, Signal, Start, TakeBytes,
+};
+use crate::noted::Noted;
+use host_calls::{Host, HostFault, Reading, Reply};
+use init_words::{Answer, Id, Part, SignalKind};
+use std::alloc::Allocator;
+use std::marker::Model;
+use trace_events::HappeningIn;
+
+/// A host that hands each call on to another one, and tells the calls with what was answered, whether that one tells
+/// its calls or not. Where it does, what is told here are the newest of them.
+#[derive(Drop)]
+pub struct Telling<H: Host> {
+    host: H,
+    calls: Noted<CallList>,
+}
+
+impl<H: Host> Model for Telling<H> {
+    ghost use Rattle.host_telling.specs.Telling.{Told, AreNewest};
+
+    ghost Value = { Told H };
+
+    ghost view = { λ telling. record { host = telling.host; calls = telling.calls.value } };
+
+    ghost invariant = { λ telling. AreNewest (H.told telling.host) telling.calls.value };
+}
+
+impl<H: Host> Telling<H> {
+    ghost use Rattle.host_telling.specs.Telling.{AreNewest};
+
+    /// The host, of which no call is told yet.
+    pub fn new(host: H) -> Telling<H>
+        ensures { result ≡ record { host = host; calls = [] } }
+    {
+        Telling {
+            host,
+            calls: no_calls(),
+        }
+    }
+
+    /// The host, of which these calls are told already.
+    pub fn after(calls: &Noted<CallList>, host: H) -> Telling<H>
+        requires { AreNewest (H.told host) calls.now.value }
+        ensures { result ≡ record { host = host; calls = calls.now.value } }
+    {
+        Telling {
+            host,
+            calls: calls.again(),
+        }
+    }
+
+    /// The calls that are told.
+    pub fn calls(&self) -> Noted<CallList>
+        ensures { result.value ≡ self.now.calls }
+    {
+        self.calls.again()
+    }
+
+    /// The host that was asked.
+    pub fn into_host(self) -> H
+        ensures { result ≡ self.host }
+    {
+        let Telling {
+            host,
+            calls: _calls,
+        } = self;
+        host
+    }
+
+    /// Where the host tells its calls, those told here are the newest of them. It does nothing: its contract is the law.
+    pub fn law_of_telling(&self)
+        ensures { AreNewest (H.told self.now.host) self.now.calls }
+    {
+        let _host = &self.host;
+    }
+}
+
+impl<H: Host> Host for Telling<H> {
+    ghost use Rattle.std.specs.Prelude.{Some};
+
+    ghost told = { λ telling. Some telling.calls };
+
+    ghost failures = { λ telling. H.failures telling.host };
+
+    fn start<A: Allocator + Copy>(&mut self, alloc: A, id: Id, command: &[u8]) -> Reply {
+        let reply = self.host.start(alloc, id, command);
+        self.calls = with(
+            &self.calls,
+            Start {
+                id: &id,
+                command,
+                reply: &reply,
+            },
+        );
+        reply
+    }
+
+    fn look(&mut self, id: Id) -> Reply {
+        let reply = self.host.look(id);
+        self.calls = with(
+            &self.calls,
+            Look {
+                id: &id,
+                reply: &reply,
+            },
+        );
+        reply
+    }
+
+    fn signal(&mut self, id: Id, signal: SignalKind) -> Reply {
+        let reply = self.host.signal(id, signal);
+        self.calls = with(
+            &self.calls,
+            Signal {
+                id: &id,
+                signal,
+                reply: &reply,
+            },
+        );
+        reply
+    }
+
+    fn late(&mut self) -> Option<(Id, Answer)> {
+        let late = self.host.late();
+        self.calls = with(&self.calls, Late { late: &late });
+        late
+    }
+
+    fn clock(&mut self) -> Result<u64, HostFault> {
+        let reading = self.host.clock();
+        self.calls = with(&self.calls, Clock { reading });
+        reading
+    }
+
+    fn take_bytes(&mut self, buffer: &mut [u8]) -> Result<usize, HostFault> {
+        let taken = self.host.take_bytes(buffer);
+        self.calls = with(&self.calls, TakeBytes { buffer, taken });
+        taken
+    }
+
+    fn read_tables<A: Allocator + Copy>(&mut self, alloc: A) -> Result<Vec<Part<A>, A>, HostFault> {
+        let parts = self.host.read_tables(alloc);
+        self.calls = with(&self.calls, ReadTables { parts: &parts });
+        parts
+    }
+
+    fn takes<A: Allocator>(&mut self, parts: &[Part<A>], reading: &Reading<A>) -> bool {
+        self.host.takes(parts, reading)
+    }
+
+    fn pass_over(&mut self, why: &str) {
+        self.host.pass_over(why);
+    }
+
+    fn carry<A: Allocator + Copy>(
+        &mut self,
+        alloc: A,
+        text: &[u8],
+    ) -> Result<Vec<u8, A>, HostFault> {
+        let back = self.host.carry(alloc, text);
+        self.calls = with(&self.calls, Carry { text, back: &back });
+        back
+    }
+
+    fn announce<A: Allocator>(&mut self, happening: &HappeningIn<A>) {
+        self.host.announce(happening);
+        self.calls = with(&self.calls, Announce { happening });
+    }
+
+    fn pause(&mut self) {
+        self.host.pause();
+        self.calls = with(&self.calls, Pause);
+    }
+
+    fn faults(&self) -> u64 {
+        self.host.faults()
+    }
+}

@@ -1,0 +1,134 @@
+-- What a step leads to that is only said, and what comes of steps that were due.
+use Rattle.std.proofs.Common.{◌≡◌, refl, sym, ◌∙◌, ap, subst, ℕ, Bool, true, false, cond, List, [], ◌∷◌, Option, Some, Result, Ok, Err, OnOk, OnErr, is_ok}
+use Rattle.std.specs.Option.{option_and_then}
+use Rattle.init_words.specs.declared.orders.Answer.{Answer}
+use Rattle.init_words.specs.declared.orders.Answer.TheVariants.{Ended}
+use Rattle.init_words.specs.declared.refusals.Refusal.{Refusal}
+use Rattle.std.proofs.lemmas.Bool.{false≢true}
+use Rattle.initctl_frame.specs.Blocks.{Begun}
+use Rattle.trace_events.specs.declared.happenings.Happening.TheVariants as past
+use Rattle.trace_events.specs.declared.steps.Goal.{Goal}
+use Rattle.trace_events.specs.declared.steps.Step.{Step}
+use Rattle.trace_events.specs.declared.steps.Step.TheVariants as step
+use Rattle.trace_events.specs.Due.{due, first}
+use Rattle.trace_events.specs.Event.{Event}
+use Rattle.trace_events.specs.Sound.{is_sound}
+use Rattle.core_records.specs.State.{child_number}
+use Rattle.core_records.specs.Lists.{order_in, refusal_of, record_by_id}
+use Rattle.core_model.specs.State.{CoreState}
+use Rattle.core_model.specs.Steps.{after_told}
+use Rattle.core_model.specs.Fit.{Fits, FitsAll, StillFits, OnEachTrace, with_step}
+use Rattle.core_text.specs.Range as range
+use Rattle.core_model.proofs.Fitted.{all_on}
+use Rattle.core_model.proofs.Recorded.{unreaped_recorded}
+use Rattle.trace_log.specs.Logs.{LogState}
+use Rattle.host_calls.specs.declared.calls.Call.TheVariants.{Announce}
+use Rattle.host_calls.specs.Calls.{HostCall}
+use Rattle.host_trace.specs.Point.{Point, point_after, last_birth, acted, answered, announced, is_announcement}
+use Rattle.host_trace.specs.Leads.{At, Gave, gone_on, Hears, Lasts, Leads, Logs, Tracks, Went, is_allowed}
+use Rattle.host_trace.proofs.Leading.{Leads-heard, Leads-weaken}
+use Rattle.host_trace.proofs.Taking.{Logs-none}
+use Rattle.host_trace.proofs.Acting.{Hears-answer, Hears-step, Hears-tracks, tracks}
+use Rattle.host_trace.proofs.Ending.{HasNumber, end_number}
+use Rattle.init_turns.specs.Parts.{AndRests, IsStep, IsStepUnless, Left, Makes, SaysStep, is_end, is_idle}
+use Rattle.init_turns.proofs.Parts.{Makes-map, Makes-none}
+
+announced_said : (happening : Event) (so_far : List Event) → is_announcement happening ≡ true → announced happening so_far ≡ happening ∷ so_far
+announced_said past.NotRead so_far said = absurd (false≢true said)
+announced_said (past.Handed how) so_far said = absurd (false≢true said)
+announced_said happening so_far said = ap (λ b. cond b (happening ∷ so_far) so_far) said
+
+pub Leads-said : (c : CoreState) (l₀ l₁ : LogState) (made : Step) (happening : Event) → SaysStep made happening → ((so_far : List Event) → Logs l₀ l₁ so_far (happening ∷ so_far)) → Leads (Gave (Tracks c) made) (Tracks c) l₀ l₁ (Announce happening ∷ [])
+Leads-said c l₀ l₁ made happening says took = Leads-heard (Gave (Tracks c) made) (Tracks c) l₀ l₁ (Announce happening) (with_step made) (Hears-step (Tracks c) l₀ l₁ made (λ so_far. subst (Logs l₀ l₁ so_far) (sym (says.step so_far)) (took so_far))) (λ p. ap (λ l. record p { past = l }) (announced_said happening p.past says.said ∙ sym (says.step p.past))) (λ goal p sound gave. says.place goal [] p.past gave.0) (λ goal p. tt)
+
+-- ---- answers
+
+-- a change to such a core
+pub lasts_as : (c new after : CoreState) → new ≡ after → (range.has_short_seconds c ≡ true → range.has_short_seconds after ≡ true) → after.heads.generation ≡ c.heads.generation → Lasts c new
+lasts_as c new after is short same = record { short = λ h. ap range.has_short_seconds is ∙ short h; same = ap (λ (s : CoreState). s.heads.generation) is ∙ same }
+
+-- the core takes the answer, and it is written
+pub Hears-taken : (c new : CoreState) (l₀ l₁ : LogState) (id : List ℕ) (given : Answer) (result : Result (Unit {0}) Refusal) → is_ok result ≡ true → result ≡ refusal_of (order_in id c.slots) given → OnOk result (new ≡ after_told id given c) → ((goal : Goal) (so_far : List Event) → is_sound goal so_far ≡ true → FitsAll c goal so_far → is_allowed goal (acted id given so_far) ≡ true → Logs l₀ l₁ so_far (past.Told id ∷ acted id given so_far)) → Hears (Tracks c) (Tracks new) l₀ l₁ (answered id given)
+Hears-taken c new l₀ l₁ id given (Ok tt) ok is told took = Hears-tracks c new l₀ l₁ (answered id given) (lasts_as c new (after_told id given c) told (λ short. short) refl) (Hears-answer c new l₀ l₁ id given (Ok tt) is told tt took tt)
+Hears-taken c new l₀ l₁ id given (Err why) ok is told took = absurd (false≢true ok)
+
+-- it refuses the answer
+pub Hears-refused : (c new : CoreState) (log : LogState) (id : List ℕ) (given : Answer) (result : Result (Unit {0}) Refusal) → is_ok result ≡ false → result ≡ refusal_of (order_in id c.slots) given → OnErr result (new ≡ c) → Hears (Tracks c) (Tracks new) log log (answered id given)
+Hears-refused c new log id given (Ok tt) ok is same = absurd (false≢true (sym ok))
+Hears-refused c new log id given (Err why) ok is same = Hears-tracks c new log log (answered id given) (lasts_as c new c same (λ short. short) refl) (Hears-answer c new log log id given (Err why) is tt same tt (λ so_far. Logs-none log so_far))
+
+-- the number of the child that an end is of
+pub end_known : (goal : Goal) (so_far : List Event) (c : CoreState) (id : List ℕ) (given : Answer) → is_sound goal so_far ≡ true → Fits c goal so_far → is_allowed goal (acted id given so_far) ≡ true → is_end given ≡ true → option_and_then child_number (record_by_id id c.slots) ≡ Some (last_birth id so_far)
+end_known goal so_far c id (Ended status) sound fits allowed ends =
+    let own : HasNumber c id (last_birth id so_far) = end_number goal so_far c id status sound fits allowed in
+    ap (option_and_then child_number) own.found ∙ own.number_is
+end_known goal so_far c id _ sound fits allowed ends = absurd (false≢true ends)
+
+-- ---- steps
+
+-- a step that is only said was said
+pub Makes-said : (old new : Option (List HostCall)) (l₀ l₁ : LogState) (c : CoreState) (given made : Step) (happening : Event) → given ≡ made → is_idle made ≡ false → SaysStep made happening → ((core : CoreState) (s : Step) → SaysStep s happening → Makes old new l₀ l₁ IsStep (Gave (Tracks core) s) (Tracks core)) → Makes old new l₀ l₁ (IsStepUnless (is_idle given)) (Gave (Tracks c) given) (Tracks c)
+Makes-said old new l₀ l₁ c given made happening is other says said =
+    subst (λ s. Makes old new l₀ l₁ (IsStepUnless (is_idle s)) (Gave (Tracks c) s) (Tracks c)) (sym is)
+    (subst (λ b. Makes old new l₀ l₁ (IsStepUnless b) (Gave (Tracks c) made) (Tracks c)) (sym other) (said c made says))
+
+-- a step that was given is another one by name
+pub Makes-given : (old new : Option (List HostCall)) (l₀ l₁ : LogState) (c behind : CoreState) (given made : Step) → given ≡ made → Makes old new l₀ l₁ IsStep (Gave (Tracks c) made) (Tracks behind) → Makes old new l₀ l₁ IsStep (Gave (Tracks c) given) (Tracks behind)
+Makes-given old new l₀ l₁ c behind given made is makes = subst (λ s. Makes old new l₀ l₁ IsStep (Gave (Tracks c) s) (Tracks behind)) (sym is) makes
+
+pub Makes-unless : (old new : Option (List HostCall)) (l₀ l₁ : LogState) (c behind : CoreState) (given made : Step) → given ≡ made → is_idle made ≡ false → Makes old new l₀ l₁ IsStep (Gave (Tracks c) made) (Tracks behind) → Makes old new l₀ l₁ (IsStepUnless (is_idle given)) (Gave (Tracks c) given) (Tracks behind)
+Makes-unless old new l₀ l₁ c behind given made is busy makes =
+    subst (λ s. Makes old new l₀ l₁ (IsStepUnless (is_idle s)) (Gave (Tracks c) s) (Tracks behind)) (sym is)
+    (subst (λ b. Makes old new l₀ l₁ (IsStepUnless b) (Gave (Tracks c) made) (Tracks behind)) (sym busy) makes)
+
+-- nothing was due
+pub Makes-idle : (now : Option (List HostCall)) (log : LogState) (c : CoreState) (given : Step) → given ≡ step.Idle → Makes now now log log (IsStepUnless (is_idle given)) (Gave (Tracks c) given) (Tracks c)
+Makes-idle now log c given is =
+    subst (λ s. Makes now now log log (IsStepUnless (is_idle s)) (Gave (Tracks c) s) (Tracks c)) (sym is)
+    (Makes-map now now log log (IsStepUnless true) (IsStepUnless true) (Tracks c) (Tracks c) (Gave (Tracks c) step.Idle) (Tracks c)
+    (Makes-none now log (IsStepUnless true) (Tracks c) refl)
+    (λ calls none leads. (none, Leads-weaken (Tracks c) (Gave (Tracks c) step.Idle) (Tracks c) (Tracks c) log log calls (λ goal p gave. gave.1) (λ goal p fits. fits) leads)))
+
+idle_is : (made : Step) → is_idle made ≡ true → made ≡ step.Idle
+idle_is step.Idle h = refl
+idle_is _ h = absurd (false≢true h)
+
+-- the step was the first due, and was carried out; where it was none, nothing is due still
+pub Makes-stepped : (old new : Option (List HostCall)) (l₀ l₁ : LogState) (c between behind : CoreState) (made : Step) → OnEachTrace c (λ goal so_far. made ≡ first (due goal so_far)) → OnEachTrace c (λ goal so_far. StillFits c between goal so_far (with_step made so_far)) → Lasts c between → Makes old new l₀ l₁ (IsStepUnless (is_idle made)) (Gave (Tracks between) made) (Tracks behind) → Makes old new l₀ l₁ (IsStepUnless (is_idle made)) (Tracks c) (AndRests (is_idle made) (Tracks behind))
+Makes-stepped old new l₀ l₁ c between behind made due_now fits lasts makes = Makes-map old new l₀ l₁ (IsStepUnless (is_idle made)) (IsStepUnless (is_idle made)) (Gave (Tracks between) made) (Tracks behind) (Tracks c) (AndRests (is_idle made) (Tracks behind)) makes
+    (λ calls shape leads. (shape, goes calls shape leads))
+  where
+    goes : (calls : List HostCall) → IsStepUnless (is_idle made) calls → Leads (Gave (Tracks between) made) (Tracks behind) l₀ l₁ calls → Leads (Tracks c) (AndRests (is_idle made) (Tracks behind)) l₀ l₁ calls
+    goes calls shape leads goal p sound fitted allowed =
+        let is_first : made ≡ first (due goal p.past) = due_now goal p.past sound fitted.fits.0 in
+        let led = leads goal p sound (sym is_first, tracks c between goal p (gone_on (with_step made) p) lasts refl fitted (all_on c between goal p.past (with_step made p.past) (fits goal p.past sound fitted.fits.0) fitted.fits)) allowed in (
+          led.0,
+          λ carried.
+              let went : Went (Tracks behind) l₀ l₁ goal p calls = led.1 carried in
+              record {
+                in_place = went.in_place;
+                sound = went.sound;
+                fits = (
+                  went.fits,
+                  λ idle.
+                      let none : calls ≡ [] = subst (λ b. IsStepUnless b calls) idle shape in
+                      ap (λ (l : List HostCall). first (due goal (point_after l p).past)) none ∙ sym is_first ∙ idle_is made idle,
+                );
+                log = went.log;
+              },
+        )
+
+-- what fits a sound trace counts the children that are not reaped
+pub Leads-left : (fitted : Goal → Point → Type 0) (done : Bool) (c : CoreState) (b : Begun) (l₀ l₁ : LogState) (calls : List HostCall) → Leads fitted (AndRests done (At c b)) l₀ l₁ calls → Leads fitted (Left done c b) l₀ l₁ calls
+Leads-left fitted done c b l₀ l₁ calls leads goal p sound fits allowed =
+    let led = leads goal p sound fits allowed in (
+      led.0,
+      λ carried.
+          let went : Went (AndRests done (At c b)) l₀ l₁ goal p calls = led.1 carried in
+          record {
+            in_place = went.in_place;
+            sound = went.sound;
+            fits = record { at = went.fits.0; children = unreaped_recorded goal (point_after calls p).past c went.sound went.fits.0.0.fits.0; rests = went.fits.1 };
+            log = went.log;
+          },
+    )

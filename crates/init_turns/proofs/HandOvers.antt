@@ -1,0 +1,107 @@
+-- What comes of a state text that is carried.
+use Rattle.std.proofs.Common.{◌≡◌, refl, sym, ap, ◌∙◌, subst, ℕ, Bool, true, false, ◌==◌, ◌||◌, not, nat_lt, List, [], ◌∷◌, ◌++◌, length, drop, append-nil, Option, Some, Ok, arith, length-append}
+use Rattle.std.specs.List.{starts_with}
+use Rattle.std.specs.Option.{option_map_or}
+use Rattle.std.proofs.lemmas.Bool.{false≢true, and_from, and_parts, eq-eqb, eqb-true, ltb-true}
+use Rattle.std.proofs.lemmas.Bool.Decides.{Decides-eqb}
+use Rattle.std.proofs.lemmas.Option.{same_Some}
+use Rattle.std.proofs.lemmas.Slice.Eq.{starts_is}
+use Rattle.init_words.proofs.Same.{same_id-self}
+use Rattle.trace_events.specs.declared.happenings.Handed.{Handed as HandOver}
+use Rattle.trace_events.specs.declared.happenings.Handed.TheVariants as handed
+use Rattle.trace_events.specs.declared.happenings.Happening.TheVariants as past
+use Rattle.trace_events.specs.declared.steps.Step.TheVariants as step
+use Rattle.trace_events.specs.Event.{Event}
+use Rattle.core_model.specs.Fit.{StillFits, OnEachTrace}
+use Rattle.core_model.specs.Parts.{SavedState, state_of}
+use Rattle.core_model.specs.Rules.{IsFit}
+use Rattle.core_model.specs.State.{CoreState}
+use Rattle.core_model.specs.Steps.{after_handed_on}
+use Rattle.core_text.specs.Range as range
+use Rattle.core_text.specs.Reading.{generation_of}
+use Rattle.core_text.specs.declared.versions.Version.TheVariants.{V2}
+use Rattle.core_text.specs.Refused.{IsCut, IsOther, IsTextIn, IsTextOf}
+use Rattle.core_text.proofs.Ends.{no_prefix, whole_ends}
+use Rattle.core_text.proofs.Prefixes.{generation_said}
+use Rattle.trace_log.specs.Logs.{LogState}
+use Rattle.host_calls.specs.declared.calls.Call.TheVariants.{Announce, Carry}
+use Rattle.host_calls.specs.Calls.{AddsCall, HostCall, TextRead}
+use Rattle.host_trace.specs.Point.{came_cut, carrying, is_of_generation, is_outcome, same_text}
+use Rattle.host_trace.specs.Leads.{Gave, Leads, Logs, Tracks, comes_back}
+use Rattle.host_trace.proofs.Calling.{HandedOn, Leads-carried}
+use Rattle.init_turns.specs.Parts.{ComesTo, IsStep, Makes, Saying}
+use Rattle.init_turns.proofs.Parts.{Makes-one, Makes-two}
+
+-- ---- what came back was taken over
+
+-- a text that says a state names its generation
+names_own : (back : List ℕ) (other : SavedState) (generation : ℕ) → IsTextOf back other → other.heads.generation ≡ generation → is_of_generation generation back ≡ true
+names_own back other generation said own =
+    ap (λ o. option_map_or (λ g. g == generation) o false) (generation_said back other said) ∙ eq-eqb other.heads.generation generation own
+
+begins : (text back : List ℕ) → starts_with ◌==◌ text back ≡ true → text ≡ back ++ drop (length back) text
+begins text back h = (starts_is Decides-eqb text back _ refl).0 h
+
+-- it came back as it was, and so init keeps what it kept
+pub taken_back : (old next : CoreState) (text back : List ℕ) → IsTextOf text (state_of old) → IsFit old → comes_back old.heads.generation text (Ok back) ≡ true → IsTextOf back (state_of next) → next.heads.generation ≡ old.heads.generation → ((core : CoreState) → IsFit core → IsTextOf back (state_of core) → core.heads.generation ≡ old.heads.generation → next ≡ core) → (next ≡ old) × (same_text text back ≡ true)
+taken_back old next text back says fit comes said own only = by (starts_with ◌==◌ text back) refl comes
+  where
+    whole : starts_with ◌==◌ text back ≡ true → (next ≡ old) × (same_text text back ≡ true)
+    whole starts =
+        let parts : text ≡ back ++ drop (length back) text = begins text back starts in
+        let none : drop (length back) text ≡ [] = no_prefix (state_of next) (state_of old) back (drop (length back) text) said (subst (λ t. IsTextOf t (state_of old)) parts says) in
+        let same : text ≡ back = parts ∙ ap (λ l. back ++ l) none ∙ append-nil back in
+        (only old fit (subst (λ t. IsTextOf t (state_of old)) same says) refl, subst (λ t. same_text text t ≡ true) same (same_id-self text))
+
+    by : (b : Bool) → starts_with ◌==◌ text back ≡ b → (b || not (is_of_generation old.heads.generation back)) ≡ true → (next ≡ old) × (same_text text back ≡ true)
+    by true starts h = whole starts
+    by false starts h = absurd (false≢true (ap not (sym (names_own back (state_of next) old.heads.generation said own)) ∙ h))
+
+-- ---- or refused
+
+-- what was not told to be cut is no proper prefix of a state's text
+pub failed_said : (text back : List ℕ) (state : SavedState) → IsTextOf text state → (IsCut back → ⊥) → is_outcome handed.Failed text (Ok back) ≡ true
+failed_said text back state says never = by (came_cut text (Ok back)) refl
+  where
+    by : (b : Bool) → came_cut text (Ok back) ≡ b → not b ≡ true
+    by true cut =
+        let parts = and_parts (starts_with ◌==◌ text back) (nat_lt (length back) (length text)) cut in
+        let whole : text ≡ back ++ drop (length back) text = begins text back parts.0 in
+        let less = ltb-true (length back) (length text) parts.1 in
+        absurd (never (λ is. omega (arith, less, ap length whole, length-append back (drop (length back) text), ap length (whole_ends text back (drop (length back) text) state says (sym whole) is))))
+    by false cut = refl
+
+pub older_said : (text back : List ℕ) (own g : ℕ) → generation_of text ≡ Some own → generation_of back ≡ Some g → IsOther back own → is_outcome (handed.Older g) text (Ok back) ≡ true
+older_said text back own g says names other = and_from (is_of_generation g back) (not (is_of_generation g text))
+    (ap (λ o. option_map_or (λ n. n == g) o false) names ∙ eq-eqb g g refl)
+    (ap not (ap (λ o. option_map_or (λ n. n == g) o false) says) ∙ apart (own == g) refl)
+  where
+    is : other.state.heads.generation ≡ g
+    is = same_Some other.state.heads.generation g (sym (generation_said back other.state other.says) ∙ names)
+
+    apart : (b : Bool) → (own == g) ≡ b → not b ≡ true
+    apart true same = absurd (other.other (is ∙ sym (eqb-true own g same)))
+    apart false differ = refl
+
+-- ---- the calls of a hand-over
+
+-- the state was handed over as a text, which was carried, and what came of it was said
+pub Makes-carried : (old mid new : Option (List HostCall)) (l₀ l₁ : LogState) (c next behind : CoreState) (how : HandOver) (text : List ℕ) (back : TextRead) → AddsCall old mid (Carry text back) → Saying how mid new
+    → next ≡ after_handed_on c → OnEachTrace c (λ goal so_far. (h : HandOver) → StillFits c next goal so_far (past.Handed h ∷ so_far))
+    → (range.has_short_seconds c ≡ true → IsTextIn V2 text (state_of next) × IsFit next) → ComesTo how text back next behind
+    → ((so_far : List Event) → Logs l₀ l₁ so_far (past.Handed how ∷ so_far))
+    → Makes old new l₀ l₁ IsStep (Gave (Tracks c) step.Reexec) (Tracks behind)
+Makes-carried old mid new l₀ l₁ c next behind how text back adds says is fits said comes took = by how adds says leads
+  where
+    handed_on : HandedOn c next text
+    handed_on = record { fits = fits; own = ap (λ (s : CoreState). s.heads.generation) is; short = ap range.has_short_seconds is; says = said }
+
+    leads : Leads (Gave (Tracks c) step.Reexec) (Tracks behind) l₀ l₁ (carrying how text back)
+    leads = Leads-carried c next behind l₀ l₁ how text back handed_on comes took
+
+    by : (h : HandOver) → AddsCall old mid (Carry text back) → Saying h mid new → Leads (Gave (Tracks c) step.Reexec) (Tracks behind) l₀ l₁ (carrying h text back)
+        → Makes old new l₀ l₁ IsStep (Gave (Tracks c) step.Reexec) (Tracks behind)
+    by handed.Whole first none goes = Makes-one old new l₀ l₁ (Carry text back) IsStep (Gave (Tracks c) step.Reexec) (Tracks behind) (subst (λ t. AddsCall old t (Carry text back)) (sym none) first) refl goes
+    by (handed.Cut bytes) first second goes = Makes-two old mid new l₀ l₁ (Carry text back) (Announce (past.Handed (handed.Cut bytes))) IsStep (Gave (Tracks c) step.Reexec) (Tracks behind) first second refl goes
+    by (handed.Older generation) first second goes = Makes-two old mid new l₀ l₁ (Carry text back) (Announce (past.Handed (handed.Older generation))) IsStep (Gave (Tracks c) step.Reexec) (Tracks behind) first second refl goes
+    by handed.Failed first second goes = Makes-two old mid new l₀ l₁ (Carry text back) (Announce (past.Handed handed.Failed)) IsStep (Gave (Tracks c) step.Reexec) (Tracks behind) first second refl goes

@@ -1,0 +1,34 @@
+-- What init does and hears leaves a core that keeps the rules, and names an hour at most, such a core.
+use Rattle.std.proofs.Common.{◌≡◌, refl, ap, ◌∙◌, ℕ, true, List}
+use Rattle.init_words.specs.declared.entries.Entry.{Entry}
+use Rattle.initctl_frame.specs.declared.requests.HeardRequest.{HeardRequest}
+use Rattle.trace_events.specs.declared.steps.Step.{Step}
+use Rattle.trace_events.specs.Range.{is_request}
+use Rattle.core_model.specs.Decide.{decide}
+use Rattle.core_model.specs.State.{CoreState}
+use Rattle.core_model.specs.Steps.{after_adopt, after_clock, after_got, after_handed, after_not_read, after_round, after_step}
+use Rattle.core_handover.proofs.Lasting as lasting
+use Rattle.host_trace.specs.Leads.{Lasts}
+use Rattle.init_turns.proofs.Carried.{lasts_as}
+use Rattle.core_handover.proofs.Generations.{request_same, step_same}
+
+pub step_lasts : (c new : CoreState) (made : Step) → made ≡ decide c → new ≡ after_step made c → Lasts c new
+step_lasts c new made is after = lasts_as c new (after_step (decide c) c) (after ∙ ap (λ s. after_step s c) is) (lasting.step_lasts c) (step_same (decide c) c)
+
+pub request_lasts : (c new : CoreState) (request : HeardRequest) → is_request request ≡ true → new ≡ after_got request c → Lasts c new
+request_lasts c new request asks after = lasts_as c new (after_got request c) after (lasting.request_lasts request c asks) (request_same request c)
+
+pub clock_lasts : (c new : CoreState) (reading : ℕ) → new ≡ after_clock reading c → Lasts c new
+clock_lasts c new reading after = lasts_as c new (after_clock reading c) after (λ short. short) refl
+
+pub round_lasts : (c new : CoreState) → new ≡ after_round c → Lasts c new
+round_lasts c new after = lasts_as c new (after_round c) after (λ short. short) refl
+
+pub adopt_lasts : (c new : CoreState) (table : List Entry) → new ≡ after_adopt table c → Lasts c new
+adopt_lasts c new table after = lasts_as c new (after_adopt table c) after (λ short. short) refl
+
+pub unread_lasts : (c new : CoreState) → new ≡ after_not_read c → Lasts c new
+unread_lasts c new after = lasts_as c new (after_not_read c) after (λ short. short) refl
+
+pub unhanded_lasts : (c new : CoreState) → new ≡ after_handed c → Lasts c new
+unhanded_lasts c new after = lasts_as c new (after_handed c) after (λ short. short) refl

@@ -1,0 +1,74 @@
+-- A run from its opening.
+use Rattle.std.proofs.Common.{◌≡◌, refl, sym, subst, ℕ, zero, suc, inl, inr, Bool, true, List, [], ◌∷◌, Option}
+use Rattle.init_words.specs.declared.entries.Entry.{Entry}
+use Rattle.init_words.specs.declared.levels.Level.{Level}
+use Rattle.inittab_text.specs.Tables.{is_distinct}
+use Rattle.trace_events.specs.declared.happenings.Happening.TheVariants.{NewTable}
+use Rattle.trace_events.specs.declared.steps.Goal.{Goal}
+use Rattle.trace_laws.proofs.Laws.{lawful_unbroken, sound_lawful}
+use Rattle.core_model.proofs.Hearing.{fits_opening}
+use Rattle.core_model.specs.State.{CoreState, opening_goal, opening_state}
+use Rattle.trace_log.specs.Logs.{LogState}
+use Rattle.host_calls.specs.Calls.{HostCall}
+use Rattle.host_trace.specs.Leads.{Leads, Logs, Went}
+use Rattle.host_trace.specs.Point.{Point, point_after}
+use Rattle.host_trace.specs.Turns.{AreTurns}
+use Rattle.host_calls.proofs.Record.{Since-map}
+use Rattle.host_trace.proofs.Taking.{Took-then}
+use Rattle.init_turns.specs.Parts.{Fresh, LeftBy, Makes}
+use Rattle.init_turns.specs.Opening.{IsOpening, IsOpeningOf, LeadsFrom, OpeningState, Opens, opening_point}
+
+-- turns that are said of what fitted are said of what is narrower
+turns_narrower : (drain : Bool) (f g : Goal → Point → Type 0) → ((goal : Goal) (p : Point) → g goal p → f goal p) → (n : ℕ) (calls : List HostCall) → AreTurns drain f n calls → AreTurns drain g n calls
+turns_narrower drain f g narrower zero calls turns = turns
+turns_narrower drain f g narrower (suc n) calls (done, last, before, is, turn, well, rests, going, earlier) = (
+  done,
+  last,
+  before,
+  is,
+  turn,
+  (λ goal p sound fits. well goal p sound (narrower goal p fits)),
+  (λ ended goal p sound fits. rests ended goal p sound (narrower goal p fits)),
+  (λ drains. elim (going drains) [ inl none ↦ inl none | inr still ↦ inr (λ goal p sound fits. still goal p sound (narrower goal p fits)) ]),
+  turns_narrower drain f g narrower n before earlier,
+)
+
+-- the core of an opening is fresh at it
+pub opening_fresh : (level : Option Level) (table : List Entry) → is_distinct table ≡ true → Fresh (opening_state table (opening_goal level table)) (opening_goal level table) (opening_point table)
+opening_fresh level table distinct = (record { fits = fits_opening table (opening_goal level table) distinct; short = refl; own = refl }, refl)
+
+pub opened : (told now_told : Option (List HostCall)) (l₀ l₁ l₂ : LogState) (level : Option Level) (table : List Entry) (drain : Bool) (n : ℕ) (core new : CoreState)
+    → Fresh core (opening_goal level table) (opening_point table) → is_distinct table ≡ true
+    → Logs l₀ l₁ [] (NewTable table ∷ []) → Makes told now_told l₁ l₂ (AreTurns drain (Fresh core) n) (Fresh core) (LeftBy new)
+    → Opens told now_told l₀ l₂ level table drain n new
+opened told now_told l₀ l₁ l₂ level table drain n core new fresh distinct took makes =
+    Since-map told now_told (λ calls. AreTurns drain (Fresh core) n calls × Leads (Fresh core) (LeftBy new) l₁ l₂ calls) (λ calls. AreTurns drain (IsOpening level table) n calls × LeadsFrom level table new l₀ l₂ calls) makes
+    (λ calls made. (turns_narrower drain (Fresh core) (IsOpening level table) narrower n calls made.0, leads calls made.1))
+  where
+    narrower : (goal : Goal) (p : Point) → IsOpening level table goal p → Fresh core goal p
+    narrower goal p (of_goal, of_point) = subst (λ q. Fresh core goal q) (sym of_point) (subst (λ o. Fresh core o (opening_point table)) (sym of_goal) fresh)
+
+    leads : (calls : List HostCall) → Leads (Fresh core) (LeftBy new) l₁ l₂ calls → LeadsFrom level table new l₀ l₂ calls
+    leads calls all allowed =
+        let led = all (opening_goal level table) (opening_point table) distinct fresh allowed in
+        let past = (point_after calls (opening_point table)).past in (
+          led.0,
+          (λ carried.
+              let went : Went (LeftBy new) l₁ l₂ (opening_goal level table) (opening_point table) calls = led.1 carried in
+              record {
+                in_place = went.in_place;
+                sound = went.sound;
+                unbroken = lawful_unbroken past (sound_lawful (opening_goal level table) past went.sound);
+                fits = went.fits;
+                log = Took-then l₀ l₁ l₂ [] (NewTable table ∷ []) past (took refl) (went.log refl);
+              }),
+        )
+
+-- of an opening, the log and the turns
+pub opened_by : (told now_told : Option (List HostCall)) (l₀ l₁ l₂ : LogState) (drain : Bool) (n : ℕ) (o : OpeningState) (new : CoreState)
+    → Logs l₀ l₁ [] (o.told ∷ []) → Makes told now_told l₁ l₂ (AreTurns drain (Fresh o.core) n) (Fresh o.core) (LeftBy new)
+    → (level : Option Level) (table : List Entry) → IsOpeningOf level table o → Opens told now_told l₀ l₂ level table drain n new
+opened_by told now_told l₀ l₁ l₂ drain n o new took makes level table is =
+    opened told now_told l₀ l₁ l₂ level table drain n o.core new
+    (subst (λ c. Fresh c (opening_goal level table) (opening_point table)) (sym is.core) (opening_fresh level table is.distinct)) is.distinct
+    (subst (λ t. Logs l₀ l₁ [] (t ∷ [])) is.told took) makes

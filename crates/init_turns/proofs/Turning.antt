@@ -1,0 +1,209 @@
+-- The parts of a turn, and turns one behind the other.
+use Rattle.std.proofs.Common.{◌≡◌, refl, sym, ap, ◌∙◌, subst, ℕ, zero, suc, ◌⊎◌, ◌==◌, inl, inr, nat_lt, Bool, true, false, ◌&&◌, List, [], ◌∷◌, ◌++◌, length, Option, None, Result}
+use Rattle.std.specs.List.{list_all}
+use Rattle.std.proofs.lemmas.Bool.{false≢true, and_from, and_parts}
+use Rattle.std.proofs.lemmas.List.Folds.{list_all-append}
+use Rattle.initctl_frame.specs.Blocks.{Begun, Stands}
+use Rattle.trace_events.specs.declared.happenings.Happening.TheVariants as past
+use Rattle.trace_events.specs.declared.steps.Goal.{Goal}
+use Rattle.core_model.specs.State.{CoreState}
+use Rattle.core_model.specs.Decide.{is_drained}
+use Rattle.core_model.proofs.Recorded.{unreaped_recorded}
+use Rattle.trace_log.specs.Logs.{LogState}
+use Rattle.host_calls.specs.declared.calls.Call.TheVariants.{Start, Look, Signal, Late, Clock, TakeBytes, ReadTables, Carry, Announce, Pause}
+use Rattle.host_calls.specs.declared.calls.HostFault.{HostFault}
+use Rattle.host_calls.specs.Calls.{HostCall, AddsCall}
+use Rattle.host_trace.specs.declared.TheConstants.{LATE_LIMIT}
+use Rattle.host_trace.specs.Point.{Point, point_after}
+use Rattle.host_calls.specs.Record.{Since}
+use Rattle.host_trace.specs.Requests.{Brings}
+use Rattle.host_trace.specs.Leads.{At, Counted, IsOver, Leads, Tracks, Went}
+use Rattle.host_trace.specs.Turns.{AreSteps, AreTurns, IsTurn, GoesWell, Undrained, are_full, are_lates, are_takes, bytes_taken, has_come, is_room, is_step, takes_none}
+use Rattle.host_trace.proofs.Leading.{Leads-beside, Leads-frame, Leads-still, Leads-then, Leads-weaken, bytes_counted}
+use Rattle.host_calls.proofs.Record.{Since-map, Since-one, Since-then}
+use Rattle.host_trace.proofs.Requests.{calls_bring}
+use Rattle.init_turns.specs.Parts.{AndRests, AreAllSteps, Fresh, IsReading, Left, LeftBy, Makes}
+use Rattle.init_turns.proofs.Carried.{Leads-left}
+use Rattle.init_turns.proofs.Parts.{Makes-map, Makes-none, Makes-then}
+
+-- ---- what calls leave as it is
+
+all_by : (p q : HostCall → Bool) → ((call : HostCall) → p call ≡ true → q call ≡ true) → (calls : List HostCall) → list_all p calls ≡ true → list_all q calls ≡ true
+all_by p q more [] all = refl
+all_by p q more (call ∷ calls) all =
+    let parts = and_parts (p call) (list_all p calls) all in
+    and_from (q call) (list_all q calls) (more call parts.0) (all_by p q more calls parts.1)
+
+come_none : (call : HostCall) → has_come call ≡ true → takes_none call ≡ true
+come_none (TakeBytes room taken) h = absurd (false≢true h)
+come_none _ h = refl
+
+step_none : (calls : List HostCall) → is_step calls ≡ true → list_all takes_none calls ≡ true
+step_none (Start id command reply ∷ []) h = refl
+step_none (Look id reply ∷ []) h = refl
+step_none (Signal id sent reply ∷ []) h = refl
+step_none (ReadTables parts ∷ []) h = refl
+step_none (Carry text back ∷ []) h = refl
+step_none (Announce happening ∷ []) h = refl
+step_none (Announce past.NotRead ∷ ReadTables parts ∷ []) h = refl
+step_none (Announce (past.Handed how) ∷ Carry text back ∷ []) h = refl
+step_none _ h = absurd (false≢true h)
+
+steps_none : (count : ℕ) (calls : List HostCall) → AreSteps count calls → list_all takes_none calls ≡ true
+steps_none zero calls none = ap (list_all takes_none) none
+steps_none (suc count) calls (last, before, is, step, steps) = ap (list_all takes_none) is ∙ list_all-append takes_none last before ∙ and_from (list_all takes_none last) (list_all takes_none before) (step_none last step) (steps_none count before steps)
+
+lates_none : (calls : List HostCall) → are_lates calls ≡ true → list_all takes_none calls ≡ true
+lates_none [] h = refl
+lates_none (Late None ∷ calls) h = all_by has_come takes_none come_none calls (and_parts (list_all has_come calls) (nat_lt (length calls) LATE_LIMIT) h).0
+lates_none (call ∷ calls) h = all_by has_come takes_none come_none (call ∷ calls) (and_parts (list_all has_come (call ∷ calls)) (length (call ∷ calls) == LATE_LIMIT) h).0
+
+full_counted : (count : ℕ) (calls : List HostCall) → are_full calls ≡ true → (goal : Goal) (p : Point) → Counted count goal p → Counted count goal (point_after calls p)
+full_counted count [] full goal p is = is
+full_counted count (TakeBytes room taken ∷ calls) full goal p is =
+    bytes_counted room taken count goal (point_after calls p) (full_counted count calls (and_parts _ (are_full calls) full).1 goal p is)
+full_counted count (_ ∷ calls) full goal p is = absurd (false≢true full)
+
+takes_counted : (count : ℕ) (calls : List HostCall) → are_takes calls ≡ true → (goal : Goal) (p : Point) → Counted count goal p → Counted count goal (point_after calls p)
+takes_counted count (TakeBytes room taken ∷ calls) takes goal p is =
+    bytes_counted room taken count goal (point_after calls p)
+    (full_counted count calls (and_parts (is_room room (bytes_taken calls)) (are_full calls) (and_parts (is_room room (bytes_taken calls) && are_full calls) _ takes).0).1 goal p is)
+takes_counted count [] takes goal p is = absurd (false≢true takes)
+takes_counted count (_ ∷ calls) takes goal p is = absurd (false≢true takes)
+
+-- ---- a turn
+
+abbrev HasTaken : List HostCall → Type 0
+HasTaken calls = (time : Result ℕ HostFault) × (takes : List HostCall) × (calls ≡ takes ++ Clock time ∷ []) × (are_takes takes ≡ true)
+
+abbrev HasHeard : List HostCall → Type 0
+HasHeard calls = (time : Result ℕ HostFault) × (takes lates : List HostCall) × (calls ≡ lates ++ (takes ++ Clock time ∷ [])) × (are_takes takes ≡ true) × (are_lates lates ≡ true)
+
+turned : (done : Bool) (xs ys : List HostCall) → HasHeard xs → AreAllSteps done ys → IsTurn done (ys ++ xs)
+turned done xs ys (time, takes, lates, is, byte_calls, late_calls) steps = record {
+  time = time;
+  takes = takes;
+  lates = lates;
+  steps = ys;
+  count = steps.count;
+  whole = ap (λ calls. ys ++ calls) is;
+  byte_calls = byte_calls;
+  late_calls = late_calls;
+  step_calls = steps.step_calls;
+  most = steps.most;
+  ended = steps.ended;
+}
+
+-- what fits, where no late answer was asked for since the clock was read
+abbrev Counting : (Goal → Point → Type 0) → Goal → Point → Type 0
+Counting fit goal p = fit goal p × Counted 0 goal p
+
+pub turn_made : (done : Bool) (t₀ t₁ t₂ t₃ t₄ : Option (List HostCall)) (l₀ l₁ l₂ l₃ l₄ : LogState) (c₀ c₁ c₂ c₃ c₄ : CoreState) (b₀ b₁ : Begun) → Makes t₀ t₁ l₀ l₁ IsReading (Tracks c₀) (λ goal p. Tracks c₁ goal p × Counted 0 goal p) → Makes t₁ t₂ l₁ l₂ (λ calls. are_takes calls ≡ true) (At c₁ b₀) (At c₂ b₁) → Makes t₂ t₃ l₂ l₃ (λ calls. are_lates calls ≡ true) (λ goal p. Tracks c₂ goal p × Counted 0 goal p) (Tracks c₃) → Makes t₃ t₄ l₃ l₄ (AreAllSteps done) (Tracks c₃) (AndRests done (Tracks c₄)) → Makes t₀ t₄ l₀ l₄ (IsTurn done) (At c₀ b₀) (Left done c₄ b₁)
+turn_made done t₀ t₁ t₂ t₃ t₄ l₀ l₁ l₂ l₃ l₄ c₀ c₁ c₂ c₃ c₄ b₀ b₁ clock takes lates steps =
+    Makes-map t₀ t₄ l₀ l₄ (IsTurn done) (IsTurn done) (At c₀ b₀) (AndRests done (At c₄ b₁)) (At c₀ b₀) (Left done c₄ b₁)
+    (Makes-then t₀ t₃ t₄ l₀ l₃ l₄ HasHeard (AreAllSteps done) (IsTurn done) (At c₀ b₀) (At c₃ b₁) (AndRests done (At c₄ b₁))
+    (Makes-then t₀ t₂ t₃ l₀ l₂ l₃ HasTaken (λ calls. are_lates calls ≡ true) HasHeard (At c₀ b₀) (Counting (At c₂ b₁)) (At c₃ b₁)
+    (Makes-then t₀ t₁ t₂ l₀ l₁ l₂ IsReading (λ calls. are_takes calls ≡ true) HasTaken (At c₀ b₀) (Counting (At c₁ b₀)) (Counting (At c₂ b₁)) clocked taken (λ xs ys read take. (read.0, ys, ap (λ calls. ys ++ calls) read.1, take)))
+    late (λ xs ys have come. (have.0, have.1, ys, ap (λ calls. ys ++ calls) have.2, have.3, come)))
+    stepped (λ xs ys heard all. turned done xs ys heard all))
+    (λ calls turn leads. (turn, Leads-left (At c₀ b₀) done c₄ b₁ l₀ l₄ calls leads))
+  where
+    clocked : Makes t₀ t₁ l₀ l₁ IsReading (At c₀ b₀) (Counting (At c₁ b₀))
+    clocked = Makes-map t₀ t₁ l₀ l₁ IsReading IsReading (Tracks c₀) (Counting (Tracks c₁)) (At c₀ b₀) (Counting (At c₁ b₀)) clock
+        (λ calls read leads. (
+          read,
+          Leads-weaken (At c₀ b₀) (At c₀ b₀) (λ goal p. Counting (Tracks c₁) goal p × IsOver b₀ p.over) (Counting (At c₁ b₀)) l₀ l₁ calls (λ goal p fits. fits) (λ goal p fits. ((fits.0.0, fits.1), fits.0.1))
+              (Leads-frame (Tracks c₀) (Counting (Tracks c₁)) (IsOver b₀) l₀ l₁ calls (ap (list_all takes_none) read.1) leads),
+        ))
+
+    taken : Makes t₁ t₂ l₁ l₂ (λ calls. are_takes calls ≡ true) (Counting (At c₁ b₀)) (Counting (At c₂ b₁))
+    taken = Makes-map t₁ t₂ l₁ l₂ (λ calls. are_takes calls ≡ true) (λ calls. are_takes calls ≡ true) (At c₁ b₀) (At c₂ b₁) (Counting (At c₁ b₀)) (Counting (At c₂ b₁)) takes
+        (λ calls take leads. (take, Leads-beside (At c₁ b₀) (At c₂ b₁) (Counted 0) l₁ l₂ calls (takes_counted 0 calls take) leads))
+
+    late : Makes t₂ t₃ l₂ l₃ (λ calls. are_lates calls ≡ true) (Counting (At c₂ b₁)) (At c₃ b₁)
+    late = Makes-map t₂ t₃ l₂ l₃ (λ calls. are_lates calls ≡ true) (λ calls. are_lates calls ≡ true) (Counting (Tracks c₂)) (Tracks c₃) (Counting (At c₂ b₁)) (At c₃ b₁) lates
+        (λ calls come leads. (
+          come,
+          Leads-weaken (λ goal p. Counting (Tracks c₂) goal p × IsOver b₁ p.over) (Counting (At c₂ b₁)) (At c₃ b₁) (At c₃ b₁) l₂ l₃ calls (λ goal p fits. ((fits.0.0, fits.1), fits.0.1)) (λ goal p fits. fits)
+              (Leads-frame (Counting (Tracks c₂)) (Tracks c₃) (IsOver b₁) l₂ l₃ calls (lates_none calls come) leads),
+        ))
+
+    stepped : Makes t₃ t₄ l₃ l₄ (AreAllSteps done) (At c₃ b₁) (AndRests done (At c₄ b₁))
+    stepped = Makes-map t₃ t₄ l₃ l₄ (AreAllSteps done) (AreAllSteps done) (Tracks c₃) (AndRests done (Tracks c₄)) (At c₃ b₁) (AndRests done (At c₄ b₁)) steps
+        (λ calls all leads. (
+          all,
+          Leads-weaken (At c₃ b₁) (At c₃ b₁) (λ goal p. AndRests done (Tracks c₄) goal p × IsOver b₁ p.over) (AndRests done (At c₄ b₁)) l₃ l₄ calls (λ goal p fits. fits) (λ goal p fits. ((fits.0.0, fits.1), fits.0.1))
+              (Leads-frame (Tracks c₃) (AndRests done (Tracks c₄)) (IsOver b₁) l₃ l₄ calls (steps_none all.count calls all.step_calls) leads),
+        ))
+
+-- ---- turns
+
+-- before the first turn
+pub turns_none : (drain : Bool) (now : Option (List HostCall)) (log : LogState) (c : CoreState) (b : Begun) → Stands b [] → Makes now now log log (AreTurns drain (Fresh c) 0) (Fresh c) (At c b)
+turns_none drain now log c b stands = Makes-map now now log log (AreTurns drain (Fresh c) 0) (AreTurns drain (Fresh c) 0) (Fresh c) (Fresh c) (Fresh c) (At c b)
+    (Makes-none now log (AreTurns drain (Fresh c) 0) (Fresh c) refl)
+    (λ calls none leads. (
+      none,
+      Leads-weaken (Fresh c) (Fresh c) (Fresh c) (At c b) log log calls (λ goal p fits. fits)
+          (λ goal p fits. (fits.0, subst (IsOver b) (sym fits.1) (record { count = stands.count; front = stands.front }))) leads,
+    ))
+
+-- the last turn behind the others
+abbrev IsLast : Bool → Bool → CoreState → ℕ → List HostCall → Type 0
+IsLast drain done c₀ n calls = (last earlier : List HostCall) × (calls ≡ last ++ earlier) × IsTurn done last
+    × (drain ≡ true → (n ≡ 0) ⊎ Undrained (Fresh c₀) earlier) × AreTurns drain (Fresh c₀) n earlier
+
+-- a turn more, and the pause behind it
+pub turns_more : (drain done : Bool) (n : ℕ) (t₀ t₁ t₂ t₃ : Option (List HostCall)) (l₀ l₁ l₂ : LogState) (c₀ c c' : CoreState) (b b' : Begun) → Makes t₀ t₁ l₀ l₁ (AreTurns drain (Fresh c₀) n) (Fresh c₀) (At c b) → (drain ≡ true → (n ≡ 0) ⊎ (is_drained c ≡ false)) → Makes t₁ t₂ l₁ l₂ (IsTurn done) (At c b) (Left done c' b') → AddsCall t₂ t₃ Pause → Makes t₀ t₃ l₀ l₂ (AreTurns drain (Fresh c₀) (suc n)) (Fresh c₀) (At c' b')
+turns_more drain done n t₀ t₁ t₂ t₃ l₀ l₁ l₂ c₀ c c' b b' before undrained turn pause =
+    Since-then t₀ t₂ t₃ (λ calls. IsLast drain done c₀ n calls × Leads (Fresh c₀) (Left done c' b') l₀ l₂ calls) (λ calls. calls ≡ Pause ∷ []) (λ calls. AreTurns drain (Fresh c₀) (suc n) calls × Leads (Fresh c₀) (At c' b') l₀ l₂ calls)
+    (Since-then t₀ t₁ t₂ (λ calls. AreTurns drain (Fresh c₀) n calls × Leads (Fresh c₀) (At c b) l₀ l₁ calls) (λ calls. IsTurn done calls × Leads (At c b) (Left done c' b') l₁ l₂ calls)
+    (λ calls. IsLast drain done c₀ n calls × Leads (Fresh c₀) (Left done c' b') l₀ l₂ calls) before turn
+    (λ xs ys was is. ((ys, xs, refl, is.0, (λ drains. still xs was.1 (undrained drains)), was.0), Leads-then (Fresh c₀) (At c b) (Left done c' b') l₀ l₁ l₂ xs ys was.1 is.1)))
+    (Since-one t₂ t₃ Pause (λ calls. calls ≡ Pause ∷ []) pause refl)
+    paused
+  where
+    still : (xs : List HostCall) → Leads (Fresh c₀) (At c b) l₀ l₁ xs → (n ≡ 0) ⊎ (is_drained c ≡ false) → (n ≡ 0) ⊎ Undrained (Fresh c₀) xs
+    still xs leads (inl none) = inl none
+    still xs leads (inr busy) = inr (λ goal p sound fits allowed carried. (c, ((leads goal p sound fits allowed).1 carried).fits.0.fits, busy))
+
+    well : {xs : List HostCall} → Leads (Fresh c₀) (Left done c' b') l₀ l₂ xs → GoesWell (Fresh c₀) xs
+    well {xs} leads goal p sound fits allowed =
+        let led = leads goal p sound fits allowed in (
+          led.0,
+          λ carried.
+              let went : Went (Left done c' b') l₀ l₂ goal p xs = led.1 carried in
+              record { in_place = went.in_place; sound = went.sound; core = c'; fits = went.fits.at.0.fits },
+        )
+
+    paused : (xs ys : List HostCall) → IsLast drain done c₀ n xs × Leads (Fresh c₀) (Left done c' b') l₀ l₂ xs → ys ≡ Pause ∷ [] → AreTurns drain (Fresh c₀) (suc n) (ys ++ xs) × Leads (Fresh c₀) (At c' b') l₀ l₂ (ys ++ xs)
+    paused xs ys ((last, earlier, is, made, rested, turns), leads) one =
+        let rests : Leads (Fresh c₀) (Left done c' b') l₀ l₂ (last ++ earlier) = subst (Leads (Fresh c₀) (Left done c' b') l₀ l₂) is leads in (
+          (done, last, earlier, (λ i. one i ++ is i), made, well rests, (λ ended goal p sound fits allowed carried. ((rests goal p sound fits allowed).1 carried).fits.rests ended), rested, turns),
+          subst (λ zs. Leads (Fresh c₀) (At c' b') l₀ l₂ (zs ++ xs)) (sym one)
+              (Leads-then (Fresh c₀) (Left done c' b') (At c' b') l₀ l₂ l₂ xs (Pause ∷ []) leads
+              (Leads-weaken (Left done c' b') (Left done c' b') (Left done c' b') (At c' b') l₂ l₂ (Pause ∷ []) (λ goal p fits. fits) (λ goal p fits. fits.at)
+              (Leads-still (Left done c' b') l₂ Pause (λ p. refl) (λ goal so_far. refl) (λ goal p. tt)))),
+        )
+
+-- what fits a sound trace counts the children that are not reaped
+pub turns_left : (t₀ t₁ : Option (List HostCall)) (l₀ l₁ : LogState) (Shape : List HostCall → Type 0) (c₀ c : CoreState) (b : Begun) → Makes t₀ t₁ l₀ l₁ Shape (Fresh c₀) (At c b) → Makes t₀ t₁ l₀ l₁ Shape (Fresh c₀) (LeftBy c)
+turns_left t₀ t₁ l₀ l₁ Shape c₀ c b makes = Makes-map t₀ t₁ l₀ l₁ Shape Shape (Fresh c₀) (At c b) (Fresh c₀) (LeftBy c) makes (λ calls shape leads. (shape, counts calls leads))
+  where
+    counts : (calls : List HostCall) → Leads (Fresh c₀) (At c b) l₀ l₁ calls → Leads (Fresh c₀) (LeftBy c) l₀ l₁ calls
+    counts calls leads goal p sound fits allowed =
+        let led = leads goal p sound fits allowed in (
+          led.0,
+          λ carried.
+              let went : Went (At c b) l₀ l₁ goal p calls = led.1 carried in
+              record {
+                in_place = went.in_place;
+                sound = went.sound;
+                fits = (went.fits.0, unreaped_recorded goal (point_after calls p).past c went.sound went.fits.0.fits.0);
+                log = went.log;
+              },
+        )
+
+-- the requests of all bytes
+pub turns_bring : (t₀ t₁ : Option (List HostCall)) (l₀ l₁ : LogState) (Shape : List HostCall → Type 0) (f₀ f₁ : Goal → Point → Type 0) → Makes t₀ t₁ l₀ l₁ Shape f₀ f₁ → Since t₀ t₁ (λ calls. (p : Point) → p.over ≡ [] → Brings [] calls p)
+turns_bring t₀ t₁ l₀ l₁ Shape f₀ f₁ makes = Since-map t₀ t₁ (λ calls. Shape calls × Leads f₀ f₁ l₀ l₁ calls) (λ calls. (p : Point) → p.over ≡ [] → Brings [] calls p) makes (λ calls held p none. calls_bring calls [] p none)

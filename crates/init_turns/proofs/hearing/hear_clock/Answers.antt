@@ -1,0 +1,31 @@
+use Rattle.std.proofs.Common.{rules, ◌≡◌, refl, sym, subst, Ok, Err}
+use Rattle.trace_events.specs.declared.happenings.Happening.TheVariants as past
+use Rattle.host_calls.specs.declared.calls.Call.TheVariants.{Clock}
+use Rattle.host_trace.specs.Leads.{Counted, Hears, Tracks}
+use Rattle.host_trace.specs.Point.{clocked}
+use Rattle.host_trace.proofs.Leading.{Hears-none}
+use Rattle.host_trace.proofs.Acting.{Hears-told, Hears-tracks}
+use Rattle.host_trace.proofs.Calling.{Leads-clock}
+use Rattle.init_turns.specs.Parts.{IsReading}
+use Rattle.init_turns.proofs.Lasting.{clock_lasts}
+use Rattle.init_turns.proofs.Parts.{Makes-one}
+use Rattle.init_turns.proofs.hearing.hear_clock.Goals as goal
+
+pub returns-in-Ok : goal.returns-in-Ok
+returns-in-Ok g c =
+    let old = g.L.Log.state c.args.log.now in
+    let new = g.L.Log.state c.note.new.log in
+    let is : c.clock.result ≡ Ok c.in-Ok.reading = search rules in
+    Makes-one _ _ old new (Clock c.clock.result) IsReading (Tracks c.args.core.now) (λ goal p. Tracks c.clock-in-Ok.new.self goal p × Counted 0 goal p) c.clock.ensures.adds (c.clock.result, refl)
+    (Leads-clock c.args.core.now c.clock-in-Ok.new.self old new c.clock.result
+    (subst (λ r. Hears (Tracks c.args.core.now) (Tracks c.clock-in-Ok.new.self) old new (clocked r)) (sym is)
+    (Hears-tracks c.args.core.now c.clock-in-Ok.new.self old new (clocked (Ok c.in-Ok.reading)) (clock_lasts c.args.core.now c.clock-in-Ok.new.self c.in-Ok.reading c.clock-in-Ok.ensures.state)
+    (Hears-told c.args.core.now c.clock-in-Ok.new.self old new (past.Clock c.in-Ok.reading) refl c.clock-in-Ok.ensures.fits c.note.ensures))))
+
+pub returns-in_default : goal.returns-in_default
+returns-in_default g c =
+    let log = g.L.Log.state c.args.log.now in
+    let is : c.clock.result ≡ Err c.in_default.field-0 = search rules in
+    Makes-one _ _ log log (Clock c.clock.result) IsReading (Tracks c.args.core.now) (λ goal p. Tracks c.args.core.now goal p × Counted 0 goal p) c.clock.ensures.adds (c.clock.result, refl)
+    (Leads-clock c.args.core.now c.args.core.now log log c.clock.result
+    (subst (λ r. Hears (Tracks c.args.core.now) (Tracks c.args.core.now) log log (clocked r)) (sym is) (Hears-none (Tracks c.args.core.now) log)))

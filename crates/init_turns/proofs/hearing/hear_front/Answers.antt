@@ -1,0 +1,32 @@
+use Rattle.std.proofs.Common.{rules, ◌≡◌, ◌<◌, ◌-◌, ℕ, min, sym, subst, length, take, true, Some, None, arith}
+use Rattle.std.specs.List.{list_all}
+use Rattle.std.specs.Option.{option_to_list}
+use Rattle.std.proofs.lemmas.Bool.{and_parts}
+use Rattle.trace_events.specs.Range.{is_request}
+use Rattle.host_trace.specs.Leads.{Hears, Tracks}
+use Rattle.host_trace.specs.Requests.{requested}
+use Rattle.host_trace.proofs.Bytes.{Leads-fed}
+use Rattle.host_trace.proofs.Leading.{Hears-none}
+use Rattle.init_turns.proofs.hearing.hear_front.Goals as goal
+
+some_left : (count bytes taken : ℕ) → taken ≡ min bytes (384 - count) → 0 < taken → count < 384
+some_left count bytes taken is some = omega (arith, is, some)
+
+pub returns-in-Some-clause-leads : goal.returns-in-Some-clause-leads
+returns-in-Some-clause-leads g c room =
+    let request = c.feed-count.result.1 in
+    let is : request ≡ Some c.in-Some.request = search rules in
+    Leads-fed c.args.core.now c.hear_request.new.core c.args.blocks.now c.feed-count.new.self (g.L.Log.state c.args.log.now) (g.L.Log.state c.hear_request.new.log) room (take c.feed-count.result.0 c.args.bytes.now) request
+    (some_left c.args.blocks.now.count (length c.args.bytes.now) c.feed-count.result.0 c.feed-count.ensures.taken (c.feed-count.ensures.progress c.requires))
+    c.feed-count.ensures.stands c.feed-count.ensures.got
+    (subst (λ given. list_all is_request (option_to_list given) ≡ true → Hears (Tracks c.args.core.now) (Tracks c.hear_request.new.core) (g.L.Log.state c.args.log.now) (g.L.Log.state c.hear_request.new.log) (requested (option_to_list given))) (sym is) (λ short. c.hear_request.ensures.hears (and_parts (is_request c.in-Some.request) true short).0))
+
+pub returns-in_default-clause-leads : goal.returns-in_default-clause-leads
+returns-in_default-clause-leads g c room =
+    let request = c.feed-count.result.1 in
+    let is : request ≡ None = search rules in
+    let log = g.L.Log.state c.args.log.now in
+    Leads-fed c.args.core.now c.args.core.now c.args.blocks.now c.feed-count.new.self log log room (take c.feed-count.result.0 c.args.bytes.now) request
+    (some_left c.args.blocks.now.count (length c.args.bytes.now) c.feed-count.result.0 c.feed-count.ensures.taken (c.feed-count.ensures.progress c.requires))
+    c.feed-count.ensures.stands c.feed-count.ensures.got
+    (λ short. subst (λ given. Hears (Tracks c.args.core.now) (Tracks c.args.core.now) log log (requested (option_to_list given))) (sym is) (Hears-none (Tracks c.args.core.now) log))

@@ -1,0 +1,41 @@
+use Rattle.std.proofs.Common.{rules, ◌≡◌, ◌+◌, ◌<◌, refl, subst, true, arith}
+use Rattle.host_trace.specs.Leads.{At}
+use Rattle.host_trace.specs.Turns.{are_takes}
+use Rattle.host_trace.specs.declared.TheConstants.{BYTE_LIMIT}
+use Rattle.init_turns.specs.Parts.{IsTake, Makes}
+use Rattle.init_turns.proofs.Parts.{Makes-map, Makes-none, Makes-then}
+use Rattle.init_turns.proofs.Taken.{HaveTaken, taken_more, takes_all, takes_end}
+use Rattle.init_turns.proofs.hearing.hear_requests.Goals as goal
+
+pub loop-taken-init : goal.loop-taken-init
+loop-taken-init g c = (omega arith, Makes-none _ (g.L.Log.state c.args.log.now) (HaveTaken 0) (At c.args.core.now c.args.blocks.now) (record { full = refl; taken = refl }))
+
+pub returns-then-count-eq0 : goal.returns-then-count-eq0
+returns-then-count-eq0 g c =
+    let taken = c.loop-taken.taken in
+    let none : c.take_piece-count.result ≡ 0 = search rules in
+    let f₁ = At c.loop-taken.core c.loop-taken.blocks in
+    let f₂ = At c.take_piece-count.new.core c.take_piece-count.new.blocks in
+    Makes-then (g.H.Host.told c.args.host.now) (g.H.Host.told c.loop-taken.host) (g.H.Host.told c.take_piece-count.new.host) (g.L.Log.state c.args.log.now) (g.L.Log.state c.loop-taken.log) (g.L.Log.state c.take_piece-count.new.log) (HaveTaken taken) (IsTake taken 0) (λ calls. are_takes calls ≡ true)
+    (At c.args.core.now c.args.blocks.now) f₁ f₂ c.loop-taken.invariant.1
+    (subst (λ n. Makes (g.H.Host.told c.loop-taken.host) (g.H.Host.told c.take_piece-count.new.host) (g.L.Log.state c.loop-taken.log) (g.L.Log.state c.take_piece-count.new.log) (IsTake taken n) f₁ f₂) none c.take_piece-count.ensures.takes) (λ xs ys have take. takes_end taken xs ys have take)
+
+pub loop-taken-preserved : goal.loop-taken-preserved
+loop-taken-preserved g c =
+    let taken = c.loop-taken.taken in
+    let count = c.take_piece-count.result in
+    let some : 0 < count = search rules in (
+      c.take_piece-count.ensures.within,
+      Makes-then (g.H.Host.told c.args.host.now) (g.H.Host.told c.loop-taken.host) (g.H.Host.told c.take_piece-count.new.host) (g.L.Log.state c.args.log.now) (g.L.Log.state c.loop-taken.log) (g.L.Log.state c.take_piece-count.new.log) (HaveTaken taken) (IsTake taken count) (HaveTaken (taken + count))
+          (At c.args.core.now c.args.blocks.now) (At c.loop-taken.core c.loop-taken.blocks) (At c.take_piece-count.new.core c.take_piece-count.new.blocks) c.loop-taken.invariant.1
+          c.take_piece-count.ensures.takes (λ xs ys have take. taken_more taken count xs ys some have take),
+    )
+
+pub returns : goal.returns
+returns g c =
+    let (within, makes) = c.loop-taken.invariant in
+    let all : c.loop-taken.taken ≡ BYTE_LIMIT = search rules in
+    let f₀ = At c.args.core.now c.args.blocks.now in
+    let f₁ = At c.loop-taken.core c.loop-taken.blocks in
+    Makes-map _ _ _ _ (HaveTaken c.loop-taken.taken) (λ calls. are_takes calls ≡ true) f₀ f₁ f₀ f₁ makes
+    (λ calls have leads. (takes_all calls (subst (λ n. HaveTaken n calls) all have), leads))

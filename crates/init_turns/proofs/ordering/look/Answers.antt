@@ -1,0 +1,24 @@
+use Rattle.std.proofs.Common.{refl}
+use Rattle.init_words.specs.declared.orders.OrderKind.TheVariants as ask
+use Rattle.trace_events.specs.declared.steps.Step.TheVariants as step
+use Rattle.host_calls.specs.declared.calls.Call.TheVariants.{Look}
+use Rattle.host_trace.specs.Leads.{Gave, Tracks}
+use Rattle.host_trace.specs.Point.{ordered}
+use Rattle.host_trace.proofs.Calling.{Hears-order, first_is}
+use Rattle.host_trace.proofs.Leading.{Leads-heard}
+use Rattle.init_turns.specs.Parts.{IsStep}
+use Rattle.init_turns.proofs.Parts.{Makes-one}
+use Rattle.init_turns.proofs.ordering.look.Goals as goal
+
+pub returns : goal.returns
+returns g c =
+    let id = c.args.id in
+    let core = c.args.core.now in
+    let reply = c.look-reply.result in
+    let old = g.L.Log.state c.args.log.now in
+    let new = g.L.Log.state c.hear_reply.new.log in
+    Makes-one (g.H.Host.told c.args.host.now) (g.H.Host.told c.look-reply.new.self) old new (Look id reply) IsStep (Gave (Tracks core) (step.Order id ask.Look)) (Tracks c.hear_reply.new.core)
+    c.look-reply.ensures.adds refl
+    (Leads-heard (Gave (Tracks core) (step.Order id ask.Look)) (Tracks c.hear_reply.new.core) old new (Look id reply) (ordered id ask.Look reply)
+    (Hears-order core c.hear_reply.new.core old (g.L.Log.state c.note.new.log) new id ask.Look reply c.note.ensures c.hear_reply.ensures)
+    (λ p. refl) (λ goal p sound gave. first_is goal p.past (step.Order id ask.Look) gave.0) (λ goal p. tt))

@@ -1,0 +1,26 @@
+use Rattle.std.proofs.Common.{refl, subst, List, ◌∷◌}
+use Rattle.trace_events.specs.declared.steps.Step.TheVariants as step
+use Rattle.trace_events.specs.declared.happenings.Happening.TheVariants.{Asked}
+use Rattle.trace_events.specs.Event.{Event}
+use Rattle.host_calls.specs.declared.calls.Call.TheVariants.{Signal}
+use Rattle.host_trace.specs.Leads.{Gave, Logs, Tracks}
+use Rattle.host_trace.specs.Point.{order_for, ordered}
+use Rattle.host_trace.proofs.Calling.{Hears-order, first_is}
+use Rattle.host_trace.proofs.Leading.{Leads-heard}
+use Rattle.init_turns.specs.Parts.{IsStep}
+use Rattle.init_turns.proofs.Parts.{Makes-one}
+use Rattle.init_turns.proofs.ordering.signal.Goals as goal
+
+pub returns : goal.returns
+returns g c =
+    let id = c.args.id in
+    let core = c.args.core.now in
+    let reply = c.signal-reply.result in
+    let old = g.L.Log.state c.args.log.now in
+    let new = g.L.Log.state c.hear_reply.new.log in
+    Makes-one (g.H.Host.told c.args.host.now) (g.H.Host.told c.signal-reply.new.self) old new (Signal id c.args.sent reply) IsStep (Gave (Tracks core) (step.Order id (order_for c.args.sent))) (Tracks c.hear_reply.new.core)
+    c.signal-reply.ensures.adds refl
+    (Leads-heard (Gave (Tracks core) (step.Order id (order_for c.args.sent))) (Tracks c.hear_reply.new.core) old new (Signal id c.args.sent reply) (ordered id (order_for c.args.sent) reply)
+    (Hears-order core c.hear_reply.new.core old (g.L.Log.state c.note.new.log) new id (order_for c.args.sent) reply
+    (subst (λ order. (so_far : List Event) → Logs old (g.L.Log.state c.note.new.log) so_far (Asked id order ∷ so_far)) c.order_for.ensures c.note.ensures) c.hear_reply.ensures)
+    (λ p. refl) (λ goal p sound gave. first_is goal p.past (step.Order id (order_for c.args.sent)) gave.0) (λ goal p. tt))

@@ -1,0 +1,24 @@
+use Rattle.std.proofs.Common.{rules, ◌≡◌, refl, Some}
+use Rattle.init_words.specs.declared.orders.OrderKind.TheVariants as ask
+use Rattle.inittab_text.specs.Tables.{entry_of}
+use Rattle.trace_events.specs.declared.steps.Step.TheVariants as step
+use Rattle.host_calls.specs.declared.calls.Call.TheVariants.{Start}
+use Rattle.host_trace.specs.Leads.{Gave, Tracks}
+use Rattle.host_trace.proofs.Calling.{Hears-order, Leads-start}
+use Rattle.init_turns.specs.Parts.{IsStep}
+use Rattle.init_turns.proofs.Parts.{Makes-one}
+use Rattle.init_turns.proofs.ordering.start.Goals as goal
+
+pub returns : goal.returns
+returns g c =
+    let id = c.args.id in
+    let core = c.args.core.now in
+    let entry = c.in-Some.entry.now in
+    let reply = c.start-reply.result in
+    let old = g.L.Log.state c.args.log.now in
+    let new = g.L.Log.state c.hear_reply.new.log in
+    let own : entry_of id core.table ≡ Some entry = search rules in
+    Makes-one (g.H.Host.told c.args.host.now) (g.H.Host.told c.start-reply.new.self) old new (Start id c.command.result.now reply) IsStep (Gave (Tracks core) (step.Order id ask.Start)) (Tracks c.hear_reply.new.core)
+    c.start-reply.ensures.adds refl
+    (Leads-start core c.hear_reply.new.core old new id c.command.result.now reply entry own c.command.ensures
+    (Hears-order core c.hear_reply.new.core old (g.L.Log.state c.note.new.log) new id ask.Start reply c.note.ensures c.hear_reply.ensures))

@@ -1,0 +1,22 @@
+use Rattle.std.proofs.Common.{refl}
+use Rattle.trace_events.specs.declared.happenings.Handed.TheVariants as handed
+use Rattle.trace_events.specs.declared.happenings.Happening.TheVariants as past
+use Rattle.trace_events.specs.declared.steps.Step.TheVariants as step
+use Rattle.host_calls.specs.declared.calls.Call.TheVariants.{Announce}
+use Rattle.host_trace.specs.Leads.{Gave, Tracks}
+use Rattle.host_trace.proofs.Calling.{Leads-not_handed}
+use Rattle.init_turns.specs.Parts.{IsStep}
+use Rattle.init_turns.proofs.Lasting.{unhanded_lasts}
+use Rattle.init_turns.proofs.Parts.{Makes-one}
+use Rattle.init_turns.proofs.reexecuting.not_handed.Goals as goal
+
+pub returns : goal.returns
+returns g c =
+    let core = c.args.core.now in
+    let new = c.not_handed.new.self in
+    let log = g.L.Log.state c.args.log.now in
+    let now_log = g.L.Log.state c.say.new.log in
+    Makes-one (g.H.Host.told c.args.host.now) (g.H.Host.told c.say.new.host) log now_log (Announce (past.Handed handed.Failed)) IsStep (Gave (Tracks core) step.Reexec) (Tracks new)
+    c.say.ensures.said refl
+    (Leads-not_handed core new log now_log (λ goal so_far sound fits. c.not_handed.ensures.fits goal so_far sound fits handed.Failed)
+    (unhanded_lasts core new c.not_handed.ensures.state) c.say.ensures.log)

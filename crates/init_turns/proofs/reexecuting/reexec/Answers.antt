@@ -1,0 +1,26 @@
+use Rattle.std.proofs.Common.{rules, ◌≡◌, subst}
+use Rattle.core_model.specs.Parts.{state_of}
+use Rattle.core_model.specs.Rules.{IsFit}
+use Rattle.core_text.specs.declared.versions.Version.TheVariants.{V2}
+use Rattle.core_text.specs.Refused.{IsTextIn}
+use Rattle.trace_events.specs.declared.steps.Step.TheVariants as step
+use Rattle.host_trace.specs.Leads.{Gave, Tracks}
+use Rattle.init_turns.specs.Parts.{IsStep, Makes}
+use Rattle.init_turns.proofs.HandOvers.{Makes-carried}
+use Rattle.init_turns.proofs.reexecuting.reexec.Goals as goal
+
+pub returns : goal.returns
+returns g c =
+    let (back, adds, comes) = c.carry-how.ensures in
+    let next = c.hand_over.new.core in
+    let is : c.in-Ok.text.items ≡ c.deref.result.now = search rules in
+    Makes-carried (g.H.Host.told c.args.host.now) (g.H.Host.told c.carry-how.new.host) (g.H.Host.told c.say.new.host) (g.L.Log.state c.args.log.now) (g.L.Log.state c.say.new.log)
+    c.args.core.now next c.carry-how.new.core c.carry-how.result c.deref.result.now back adds c.say.ensures.said
+    c.in-Ok.ensures.state c.in-Ok.ensures.fits
+    (λ short. subst (λ text. IsTextIn V2 text (state_of next) × IsFit next) is (c.in-Ok.ensures.said short)) comes c.say.ensures.log
+
+-- no text was made, and nothing was changed
+pub returns-in_default : goal.returns-in_default
+returns-in_default g c =
+    let same : c.hand_over.new.core ≡ c.args.core.now = search rules in
+    subst (λ core. Makes (g.H.Host.told c.args.host.now) (g.H.Host.told c.not_handed.new.host) (g.L.Log.state c.args.log.now) (g.L.Log.state c.not_handed.new.log) IsStep (Gave (Tracks core) step.Reexec) (Tracks c.not_handed.new.core)) same c.not_handed.ensures

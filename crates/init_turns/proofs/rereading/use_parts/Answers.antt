@@ -1,0 +1,46 @@
+use Rattle.std.proofs.Common.{rules, ◌≡◌, refl, sym, ◌∙◌, ap, ◌∷◌, List, subst, is_err, Bool, true, false, OnOk, Result, Ok, Err}
+use Rattle.std.proofs.lemmas.Bool.{false≢true}
+use Rattle.init_words.specs.Parts.{texts_of}
+use Rattle.inittab_text.specs.Parts.{table_of_texts}
+use Rattle.inittab_text.proofs.PartLemmas.{was_readable}
+use Rattle.trace_events.specs.declared.happenings.Happening.TheVariants.{NewTable}
+use Rattle.trace_events.specs.Event.{Event}
+use Rattle.core_records.specs.Lists.{is_quiet}
+use Rattle.core_model.specs.Fit.{StillFits, OnEachTrace}
+use Rattle.host_trace.specs.Leads.{Logs}
+use Rattle.init_turns.proofs.Lasting.{adopt_lasts}
+use Rattle.init_turns.proofs.rereading.use_parts.Goals as goal
+
+was_ok : {E : Type 0} (result : Result (Unit {0}) E) (P : Type 0) → is_err result ≡ false → OnOk result P → P
+was_ok (Ok tt) P no_fault holds = holds
+was_ok (Err why) P no_fault holds = cc
+
+pub returns-clause-fits : goal.returns-clause-fits
+returns-clause-fits g c taken =
+    let works : is_err c.adopt.result ≡ false = search rules in
+    let read : c.in-Ok.table ≡ table_of_texts (texts_of c.args.parts.now) = search rules in
+    subst (λ table. OnEachTrace c.args.core.now (λ goal past. StillFits c.args.core.now c.adopt.new.self goal past (NewTable table ∷ past))) read (was_ok c.adopt.result _ works c.adopt.ensures.fits)
+
+pub returns-clause-lasts : goal.returns-clause-lasts
+returns-clause-lasts g c taken =
+    let works : is_err c.adopt.result ≡ false = search rules in
+    adopt_lasts c.args.core.now c.adopt.new.self c.in-Ok.table (was_ok c.adopt.result _ works c.adopt.ensures.adopted)
+
+pub returns-clause-readable : goal.returns-clause-readable
+returns-clause-readable g c taken =
+    let is : c.read_parts-reading.result ≡ Ok (c.in-Ok.table, c.in-Ok._faults) = search rules in
+    was_readable c.read_parts-reading.result (c.in-Ok.table, c.in-Ok._faults) (texts_of c.args.parts.now) is c.read_parts-reading.ensures.parts c.read_parts-reading.ensures.too_long
+
+was_quiet : {E : Type 0} (quiet : Bool) (result : Result (Unit {0}) E) (why : E) → (quiet ≡ false → result ≡ Err why) → is_err result ≡ false → quiet ≡ true
+was_quiet true result why busy works = refl
+was_quiet false result why busy works = absurd (false≢true (sym works ∙ ap is_err (busy refl)))
+
+pub returns-clause-quiet : goal.returns-clause-quiet
+returns-clause-quiet g c taken =
+    let works : is_err c.adopt.result ≡ false = search rules in
+    was_quiet (is_quiet c.args.core.now.slots) c.adopt.result _ c.adopt.ensures.busy works
+
+pub returns-clause-took : goal.returns-clause-took
+returns-clause-took g c taken =
+    let read : c.in-Ok-copy.copy ≡ table_of_texts (texts_of c.args.parts.now) = search rules in
+    subst (λ table. (past : List Event) → Logs (g.L.Log.state c.args.log.now) (g.L.Log.state c.write.new.log) past (NewTable table ∷ past)) read c.write.ensures

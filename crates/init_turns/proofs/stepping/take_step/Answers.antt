@@ -1,0 +1,23 @@
+use Rattle.std.proofs.Common.{◌∙◌, sym, ap, subst}
+use Rattle.host_trace.specs.Leads.{Tracks}
+use Rattle.init_turns.specs.Parts.{AndRests, IsStepUnless, Makes, is_listed}
+use Rattle.init_turns.proofs.Carried.{Makes-stepped}
+use Rattle.init_turns.proofs.Listed.{decide_listed, table_kept}
+use Rattle.init_turns.proofs.Lasting.{step_lasts}
+use Rattle.init_turns.proofs.stepping.take_step.Goals as goal
+
+pub carry_out-requires : goal.carry_out-requires
+carry_out-requires g c =
+    ap (λ s. is_listed s.table c.next-step.result) c.next-step.ensures.state
+    ∙ ap (λ table. is_listed table c.next-step.result) (table_kept c.next-step.result c.args.core.now)
+    ∙ ap (is_listed c.args.core.now.table) c.next-step.ensures.step
+    ∙ decide_listed c.args.core.now
+
+pub returns : goal.returns
+returns g c =
+    let told = g.H.Host.told c.args.host.now in
+    let now_told = g.H.Host.told c.carry_out.new.host in
+    let log = g.L.Log.state c.args.log.now in
+    let now_log = g.L.Log.state c.carry_out.new.log in
+    subst (λ idle. Makes told now_told log now_log (IsStepUnless idle) (Tracks c.args.core.now) (AndRests idle (Tracks c.carry_out.new.core))) (sym c.is_idle.ensures)
+    (Makes-stepped told now_told log now_log c.args.core.now c.next-step.new.self c.carry_out.new.core c.next-step.result c.next-step.ensures.due c.next-step.ensures.fits (step_lasts c.args.core.now c.next-step.new.self c.next-step.result c.next-step.ensures.step c.next-step.ensures.state) c.carry_out.ensures)

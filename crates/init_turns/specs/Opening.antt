@@ -1,0 +1,62 @@
+-- A run from its opening: the table that is in force then, and nothing before it (init(8)).
+use Rattle.std.specs.Prelude.{◌≡◌, ℕ, Bool, true, IsTrue, List, [], ◌∷◌, Option, None}
+use Rattle.init_words.specs.declared.entries.Entry.{Entry}
+use Rattle.init_words.specs.declared.levels.Level.{Level}
+use Rattle.inittab_text.specs.Tables.{is_distinct}
+use Rattle.trace_events.specs.declared.happenings.Happening.TheVariants.{NewTable}
+use Rattle.trace_events.specs.declared.steps.Goal.{Goal}
+use Rattle.trace_events.specs.Event.{Event}
+use Rattle.trace_events.specs.Lawful.{first_breach}
+use Rattle.trace_events.specs.Sound.{is_sound}
+use Rattle.core_model.specs.State.{CoreState, opening_goal, opening_state}
+use Rattle.trace_log.specs.Logs.{LogState}
+use Rattle.host_calls.specs.Calls.{HostCall}
+use Rattle.host_trace.specs.Leads.{AreTexts, Took, are_carried, is_allowed}
+use Rattle.host_trace.specs.Point.{Point, has_trace, point_after}
+use Rattle.host_calls.specs.Record.{Since}
+use Rattle.host_trace.specs.Turns.{AreTurns}
+use Rattle.init_turns.specs.Parts.{LeftBy}
+
+-- a run begins with the table that is in force
+abbrev pub opening_point : List Entry → Point
+opening_point table = record { over = []; lates = 0; generation = 0; past = NewTable table ∷ [] }
+
+-- the opening, with the goal of the level that is given, else of the table's own
+abbrev pub IsOpening : Option Level → List Entry → Goal → Point → Type 0
+IsOpening level table goal p = (goal ≡ opening_goal level table) × (p ≡ opening_point table)
+
+-- what stands at an opening: the core, and what the log is told first
+pub record OpeningState : Type 0 where
+  pub core : CoreState
+  pub told : Event
+
+-- it is the opening with this table in force
+pub record IsOpeningOf (level : Option Level) (table : List Entry) (o : OpeningState) : Type 0 where
+  pub core : o.core ≡ opening_state table (opening_goal level table)
+  pub told : o.told ≡ NewTable table
+  pub distinct : is_distinct table ≡ true
+
+-- The calls were made from the opening on, each in its place. Their trace is sound and breaks no law; the core that is
+-- left tracks it; and the log took it from its first happening on.
+pub record WentFrom (level : Option Level) (table : List Entry) (core : CoreState) (old new : LogState)
+    (calls : List HostCall) : Type 0 where
+  pub in_place : IsTrue (has_trace (opening_goal level table) calls (opening_point table))
+  pub sound : IsTrue (is_sound (opening_goal level table) (point_after calls (opening_point table)).past)
+  pub unbroken : first_breach (point_after calls (opening_point table)).past ≡ None
+  pub fits : LeftBy core (opening_goal level table) (point_after calls (opening_point table))
+  pub log : Took old new [] (point_after calls (opening_point table)).past
+
+-- so it went where the answers to the calls were possible, and the texts that were carried came back as they may; and
+-- each of these was the text of init's state
+abbrev pub LeadsFrom : Option Level → List Entry → CoreState → LogState → LogState → List HostCall → Type 0
+LeadsFrom level table core old new calls =
+    IsTrue (is_allowed (opening_goal level table) (point_after calls (opening_point table)).past)
+    → AreTexts (opening_goal level table) calls (opening_point table)
+    × (IsTrue (are_carried calls (opening_point table)) → WentFrom level table core old new calls)
+
+-- the calls made, which are those told where the host tells them, are those of the given number of turns, and so it
+-- went
+abbrev pub Opens : Option (List HostCall) → Option (List HostCall) → LogState → LogState → Option Level → List Entry
+    → Bool → ℕ → CoreState → Type 0
+Opens told now_told old new level table drain turns core = Since told now_told (λ calls.
+    AreTurns drain (IsOpening level table) turns calls × LeadsFrom level table core old new calls)

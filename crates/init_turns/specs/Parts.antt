@@ -1,0 +1,122 @@
+-- What each part of a turn makes of init's host, log and core (init(8)).
+use Rattle.std.specs.Prelude.{◌≡◌, ◌≤◌, ◌⊎◌, ℕ, Bool, true, false, IsTrue, List, [], ◌∷◌, Option, Result, is_some}
+use Rattle.init_words.specs.declared.entries.Entry.{Entry}
+use Rattle.init_words.specs.declared.orders.Answer.{Answer}
+use Rattle.init_words.specs.declared.orders.Answer.TheVariants.{Ended}
+use Rattle.init_words.specs.declared.orders.OrderKind.TheVariants as ask
+use Rattle.inittab_text.specs.Tables.{entry_of}
+use Rattle.initctl_frame.specs.Blocks.{Begun}
+use Rattle.trace_events.specs.declared.happenings.Handed.{Handed as HandOver}
+use Rattle.trace_events.specs.declared.happenings.Handed.TheVariants as handed
+use Rattle.trace_events.specs.declared.happenings.Happening.TheVariants.{Handed}
+use Rattle.trace_events.specs.declared.steps.Goal.{Goal}
+use Rattle.trace_events.specs.declared.steps.Step.{Step}
+use Rattle.trace_events.specs.declared.steps.Step.TheVariants as step
+use Rattle.trace_events.specs.Agreement.{is_unreaped}
+use Rattle.trace_events.specs.Due.{due, first}
+use Rattle.trace_events.specs.Event.{Event}
+use Rattle.core_model.specs.State.{CoreState}
+use Rattle.core_model.specs.Fit.{with_step}
+use Rattle.core_model.specs.Headline.{is_recorded}
+use Rattle.core_model.specs.Parts.{state_of}
+use Rattle.core_model.specs.Rules.{IsFit}
+use Rattle.core_text.specs.Refused.{IsTextOf}
+use Rattle.trace_log.specs.Logs.{LogState}
+use Rattle.host_calls.specs.declared.calls.Call.TheVariants.{Late, Clock, TakeBytes, Announce}
+use Rattle.host_calls.specs.declared.calls.HostFault.{HostFault}
+use Rattle.host_calls.specs.Calls.{AddsCall, HostCall, TextRead}
+use Rattle.host_trace.specs.declared.TheConstants.{STEP_LIMIT}
+use Rattle.host_trace.specs.Point.{Point, is_last, is_outcome, is_announcement, may_announce}
+use Rattle.host_calls.specs.Record.{Since}
+use Rattle.host_trace.specs.Leads.{At, Leads, Tracks, comes_back}
+use Rattle.host_trace.specs.Turns.{AreSteps, bytes_in, is_room, is_step}
+
+-- the calls made are of this shape, and what fits before them fits after them; where the host tells its calls, they
+-- are those
+abbrev pub Makes : Option (List HostCall) → Option (List HostCall) → LogState → LogState → (List HostCall → Type 0)
+    → (Goal → Point → Type 0) → (Goal → Point → Type 0) → Type 0
+Makes told now_told log now_log Shape fitted fit =
+    Since told now_told (λ calls. Shape calls × Leads fitted fit log now_log calls)
+
+-- the answer is that the child ended
+abbrev pub is_end : Answer → Bool
+is_end (Ended status) = true
+is_end _ = false
+
+-- the clock was read once
+abbrev pub IsReading : List HostCall → Type 0
+IsReading calls = (time : Result ℕ HostFault) × (calls ≡ Clock time ∷ [])
+
+-- bytes were asked for once, after so many, and so many came
+abbrev pub IsTake : ℕ → ℕ → List HostCall → Type 0
+IsTake before count calls = (room : ℕ) × (taken : TextRead) × (calls ≡ TakeBytes room taken ∷ [])
+    × (is_room room before ≡ true) × (bytes_in taken ≡ count)
+
+-- a late answer was asked for once, after so many, and it was the last or not
+abbrev pub IsLate : ℕ → Bool → List HostCall → Type 0
+IsLate before last calls = (late : Option (List ℕ × Answer)) × (calls ≡ Late late ∷ []) × (last ≡ is_last late before)
+
+-- a step was carried out
+abbrev pub IsStep : List HostCall → Type 0
+IsStep calls = is_step calls ≡ true
+
+-- a step was carried out; where nothing was due, no call was made
+abbrev pub IsStepUnless : Bool → List HostCall → Type 0
+IsStepUnless true calls = calls ≡ []
+IsStepUnless false calls = IsStep calls
+
+-- steps were carried out until nothing was due, or as many as a turn may take
+pub record AreAllSteps (done : Bool) (calls : List HostCall) : Type 0 where
+  pub count : ℕ
+  pub step_calls : AreSteps count calls
+  pub most : count ≤ STEP_LIMIT
+  pub ended : IsTrue done ⊎ (count ≡ STEP_LIMIT)
+
+-- What came of a text that was carried: init keeps what it kept, and the text was taken over or refused so; where the
+-- text is that of its state, which keeps the rules, and came back as a text that is carried may.
+abbrev pub ComesTo : HandOver → List ℕ → TextRead → CoreState → CoreState → Type 0
+ComesTo how text back old new = IsFit old → IsTextOf text (state_of old)
+    → IsTrue (comes_back old.heads.generation text back) → (new ≡ old) × IsTrue (is_outcome how text back)
+
+-- a refusal is announced
+abbrev pub Saying : HandOver → Option (List HostCall) → Option (List HostCall) → Type 0
+Saying handed.Whole told now_told = now_told ≡ told
+Saying how told now_told = AddsCall told now_told (Announce (Handed how))
+
+-- nothing is due
+abbrev pub is_idle : Step → Bool
+is_idle step.Idle = true
+is_idle _ = false
+
+-- what fits, and, if that is so, that nothing is due
+abbrev pub AndRests : Bool → (Goal → Point → Type 0) → Goal → Point → Type 0
+AndRests done fit goal p = fit goal p × (IsTrue done → first (due goal p.past) ≡ step.Idle)
+
+-- the step is a happening that is said, where it is the first due
+pub record SaysStep (made : Step) (happening : Event) : Type 0 where
+  pub step : (past : List Event) → with_step made past ≡ happening ∷ past
+  pub said : is_announcement happening ≡ true
+  pub place : (goal : Goal) (earlier : List HostCall) (past : List Event) → first (due goal past) ≡ made
+      → may_announce goal happening earlier past ≡ true
+
+-- What is so after a turn: init's core tracks the trace, and the reader of requests stands where it does; the children
+-- that the host has not reaped are those of the records, corrected by the answers under way; and where the turn was
+-- done, nothing is due.
+pub record Left (done : Bool) (core : CoreState) (blocks : Begun) (goal : Goal) (p : Point) : Type 0 where
+  pub at : At core blocks goal p
+  pub children : (id : List ℕ) (n : ℕ) → is_unreaped id n p.past ≡ is_recorded id n core p.past
+  pub rests : IsTrue done → first (due goal p.past) ≡ step.Idle
+
+-- the same after all turns, wherever the reader of requests stands
+abbrev pub LeftBy : CoreState → Goal → Point → Type 0
+LeftBy core goal p =
+    Tracks core goal p × ((id : List ℕ) (n : ℕ) → is_unreaped id n p.past ≡ is_recorded id n core p.past)
+
+-- what tracks the trace, where no bytes of a block have come
+abbrev pub Fresh : CoreState → Goal → Point → Type 0
+Fresh core goal p = Tracks core goal p × (p.over ≡ [])
+
+-- the step of a start is of an id that the table has
+abbrev pub is_listed : List Entry → Step → Bool
+is_listed table (step.Order id ask.Start) = is_some (entry_of id table)
+is_listed table _ = true

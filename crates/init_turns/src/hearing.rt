@@ -1,0 +1,226 @@
+//! What a turn hears at its beginning: the clock, requests, and answers that came late.
+
+ghost use Rattle.std.specs.Prelude.{◌≡◌, ◌<◌, ◌≤◌, ◌+◌, ◌∷◌, [], ℕ, IsTrue, true, false, length, take, Ok};
+ghost use Rattle.trace_events.specs.Range.{is_request};
+ghost use Rattle.trace_events.specs.declared.happenings.Happening.TheVariants as happening;
+ghost use Rattle.host_calls.specs.declared.calls.Call.TheVariants.{TakeBytes};
+ghost use Rattle.host_trace.specs.declared.TheConstants.{BYTE_LIMIT, LATE_LIMIT, PIECE};
+ghost use Rattle.host_trace.specs.Point.{come, is_last};
+ghost use Rattle.host_trace.specs.Leads.{At, Counted, Hears, Leads, Tracks};
+ghost use Rattle.host_trace.specs.Turns.{are_lates, are_takes, is_room};
+ghost use Rattle.init_turns.specs.Parts.{IsLate, IsReading, IsTake, Makes};
+
+use crate::answering::{hear_answer, note};
+use crate::causes::tell_cause;
+use core_steps::Core;
+use host_calls::Host;
+use host_trace::{BYTE_LIMIT, LATE_LIMIT, PIECE};
+use init_words::{Answer, Id};
+use initctl_frame::{Blocks, HeardRequest};
+use std::alloc::Allocator;
+use trace_events::Happening;
+use trace_log::Log;
+
+/// Reads the clock. A reading that failed is passed over.
+pub(crate) fn hear_clock<A: Allocator, H: Host, L: Log>(
+    core: &mut Core<A>,
+    host: &mut H,
+    log: &mut L,
+)
+    ensures { Makes (H.told host.old) (H.told host.new) (L.state log.old)
+        (L.state log.new) IsReading
+        (Tracks core.old) (λ goal p. Tracks core.new goal p × Counted 0 goal p) }
+{
+    if let Ok(reading) = host.clock() {
+        core.clock(reading);
+        note(log, Happening::Clock(reading));
+    }
+}
+
+fn hear_request<A: Allocator, H: Host, L: Log>(
+    core: &mut Core<A>,
+    host: &mut H,
+    log: &mut L,
+    request: HeardRequest,
+)
+    ensures told { H.told host.new ≡ H.told host.old }
+    ensures hears { IsTrue (is_request request)
+        → Hears (Tracks core.old) (Tracks core.new) (L.state log.old) (L.state log.new)
+        (λ past. happening.Got request ∷ past) }
+{
+    tell_cause(host, &request);
+    core.got(request);
+    note(log, Happening::Got(request));
+}
+
+/// Hears the bytes up to the end of the block under way, or all of them; gives how many.
+fn hear_front<A: Allocator, H: Host, L: Log>(
+    core: &mut Core<A>,
+    host: &mut H,
+    log: &mut L,
+    blocks: &mut Blocks,
+    bytes: &[u8],
+) -> usize
+    requires { 0 < length bytes.now }
+    ensures progress { 0 < result }
+    ensures within { result ≤ length bytes.now }
+    ensures told { H.told host.new ≡ H.told host.old }
+    ensures leads { (room : ℕ) → Leads (At core.old blocks.old) (At core.new blocks.new)
+        (L.state log.old) (L.state log.new) (TakeBytes room (Ok (take result bytes.now)) ∷ []) }
+{
+    let (count, request) = blocks.feed(bytes);
+    if let Some(request) = request {
+        hear_request(core, host, log, request);
+    }
+    count
+}
+
+fn hear_bytes<A: Allocator, H: Host, L: Log>(
+    core: &mut Core<A>,
+    host: &mut H,
+    log: &mut L,
+    blocks: &mut Blocks,
+    bytes: &[u8],
+)
+    ensures told { H.told host.new ≡ H.told host.old }
+    ensures leads { (room : ℕ) → Leads (At core.old blocks.old) (At core.new blocks.new)
+        (L.state log.old) (L.state log.new) (TakeBytes room (Ok bytes.now) ∷ []) }
+{
+    let mut rest = bytes;
+    while !rest.is_empty() {
+        let count = hear_front(core, host, log, blocks, rest);
+        rest = &rest[count..];
+    }
+}
+
+/// Takes bytes of requests into the buffer and hears them; gives how many, 0 where the call failed.
+fn take_into<A: Allocator, H: Host, L: Log>(
+    core: &mut Core<A>,
+    host: &mut H,
+    log: &mut L,
+    blocks: &mut Blocks,
+    taken: usize,
+    buffer: &mut [u8],
+) -> usize
+    requires { is_room (length buffer.old) taken ≡ true }
+    ensures within { result ≤ length buffer.old }
+    ensures takes { Makes (H.told host.old) (H.told host.new) (L.state log.old) (L.state log.new)
+        (IsTake taken result) (At core.old blocks.old) (At core.new blocks.new) }
+{
+    let Ok(count) = host.take_bytes(buffer) else {
+        return 0;
+    };
+    hear_bytes(core, host, log, blocks, &buffer[..count]);
+    count
+}
+
+/// The room for the next piece, after the given number of bytes taken in this turn.
+fn room_for(taken: usize) -> usize
+    requires { taken < BYTE_LIMIT }
+    ensures room { is_room result taken ≡ true }
+    ensures piece { result ≤ PIECE }
+    ensures within { taken + result ≤ BYTE_LIMIT }
+{
+    PIECE.min(BYTE_LIMIT - taken)
+}
+
+/// Takes a piece of the bytes of requests, after so many taken in this turn; gives how many it took, 0 where it failed.
+fn take_piece<A: Allocator, H: Host, L: Log>(
+    core: &mut Core<A>,
+    host: &mut H,
+    log: &mut L,
+    blocks: &mut Blocks,
+    taken: usize,
+) -> usize
+    requires { taken < BYTE_LIMIT }
+    ensures within { taken + result ≤ BYTE_LIMIT }
+    ensures takes { Makes (H.told host.old) (H.told host.new) (L.state log.old) (L.state log.new)
+        (IsTake taken result) (At core.old blocks.old) (At core.new blocks.new) }
+{
+    let mut buffer = [0; PIECE];
+    let room = room_for(taken);
+    take_into(core, host, log, blocks, taken, &mut buffer[..room])
+}
+
+/// Takes the bytes of requests, until none have come or the turn may take no more.
+pub(crate) fn hear_requests<A: Allocator, H: Host, L: Log>(
+    core: &mut Core<A>,
+    host: &mut H,
+    log: &mut L,
+    blocks: &mut Blocks,
+)
+    ensures { Makes (H.told host.old) (H.told host.new) (L.state log.old) (L.state log.new)
+        (λ calls. are_takes calls ≡ true) (At core.old blocks.old) (At core.new blocks.new) }
+{
+    let mut taken = 0;
+    while taken < BYTE_LIMIT {
+        let count = take_piece(core, host, log, blocks, taken);
+        if count == 0 {
+            return;
+        }
+        taken += count;
+    }
+}
+
+fn begin_round<A: Allocator, L: Log>(core: &mut Core<A>, log: &mut L)
+    ensures { Hears (Tracks core.old) (Tracks core.new) (L.state log.old) (L.state log.new)
+        (λ past. happening.Nudge ∷ past) }
+{
+    core.begin_round();
+    note(log, Happening::Nudge);
+}
+
+fn hear_come<A: Allocator, L: Log>(core: &mut Core<A>, log: &mut L, late: &Option<(Id, Answer)>)
+    ensures { Hears (Tracks core.old) (Tracks core.new) (L.state log.old) (L.state log.new)
+        (come late.now) }
+{
+    if let Some(late) = late {
+        hear_answer(core, log, late.0, late.1);
+    }
+}
+
+/// No more late answers are asked for after this, after so many in this turn.
+fn is_last(late: &Option<(Id, Answer)>, asked: usize) -> bool
+    requires { asked < LATE_LIMIT }
+    ensures { result ≡ is_last late.now asked }
+{
+    late.is_none() || asked + 1 == LATE_LIMIT
+}
+
+/// Asks for a late answer, after so many in this turn. After the last the round begins; gives whether it was that.
+fn hear_late<A: Allocator, H: Host, L: Log>(
+    core: &mut Core<A>,
+    host: &mut H,
+    log: &mut L,
+    asked: usize,
+) -> bool
+    requires { asked < LATE_LIMIT }
+    ensures more { result ≡ false → asked + 1 < LATE_LIMIT }
+    ensures lates { Makes (H.told host.old) (H.told host.new) (L.state log.old) (L.state log.new)
+        (IsLate asked result) (λ goal p. Tracks core.old goal p × Counted asked goal p)
+        (λ goal p. Tracks core.new goal p × Counted (asked + 1) goal p) }
+{
+    let late = host.late();
+    let last = is_last(&late, asked);
+    hear_come(core, log, &late);
+    if last {
+        begin_round(core, log);
+    }
+    last
+}
+
+/// Takes the late answers, and begins the round.
+pub(crate) fn hear_lates<A: Allocator, H: Host, L: Log>(
+    core: &mut Core<A>,
+    host: &mut H,
+    log: &mut L,
+)
+    ensures { Makes (H.told host.old) (H.told host.new) (L.state log.old) (L.state log.new)
+        (λ calls. are_lates calls ≡ true)
+        (λ goal p. Tracks core.old goal p × Counted 0 goal p) (Tracks core.new) }
+{
+    let mut asked = 0;
+    while !hear_late(core, host, log, asked) {
+        asked += 1;
+    }
+}

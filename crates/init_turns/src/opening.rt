@@ -1,0 +1,71 @@
+//! A run from its opening on.
+
+ghost use Rattle.std.specs.Prelude.{◌≡◌, ◌≤◌, ◌<◌, List, Option, not, true, IfOk};
+ghost use Rattle.core_model.specs.Decide.{is_drained};
+ghost use Rattle.init_words.specs.declared.entries.Entry.{Entry};
+ghost use Rattle.init_words.specs.declared.levels.Level.{Level};
+ghost use Rattle.init_turns.specs.Opening.{IsOpeningOf, Opens};
+
+use crate::answering::write;
+use crate::serving::{Served, Watch, serve};
+use core_steps::Core;
+use host_calls::Host;
+use init_words::{Level, Memory};
+use inittab_text::Table;
+use std::alloc::{Allocator, Global};
+use std::marker::Model;
+use trace_events::{Happening, HappeningIn};
+use trace_log::Log;
+
+/// Init at its opening: its core, and the table in force as the log is told of it.
+#[derive(Drop)]
+pub struct Opening<A: Allocator = Global> {
+    core: Core<A>,
+    told: HappeningIn<A>,
+}
+
+impl<A: Allocator> Model for Opening<A> {
+    ghost use Rattle.init_turns.specs.Opening.{OpeningState};
+
+    ghost Value = { OpeningState };
+
+    ghost view = { λ o. record { core = o.core; told = o.told } };
+}
+
+impl<A: Allocator + Copy> Opening<A> {
+    /// With this table in force, for the level that is given, else the table's own. All memory that an opening wants is
+    /// taken here.
+    pub fn new(alloc: A, table: Table<A>, level: Option<Level>) -> Result<Opening<A>, Memory>
+        ensures { IfOk result (IsOpeningOf level table) }
+    {
+        let _entries = table.len();
+        let told: HappeningIn<A> = Happening::NewTable(table.copy(alloc)?);
+        let core = Core::new(alloc, table, level)?;
+        Ok(Opening { core, told })
+    }
+
+    /// Makes the given number of turns from the opening on, and gives back what init keeps after them. The log is handed
+    /// the table in force first.
+    pub fn serve<H: Host, L: Log, W: Watch<A>>(
+        self,
+        alloc: A,
+        host: &mut H,
+        log: &mut L,
+        turns: u64,
+        drain: bool,
+        watch: &mut W,
+    ) -> (Served, Core<A>)
+        ensures trace { (level : Option Level) (table : List Entry) → IsOpeningOf level table self
+            → Opens (H.told host.old) (H.told host.new) (L.state log.old) (L.state log.new)
+            level table drain result.0.turns result.1 }
+        ensures most { result.0.turns ≤ turns }
+        ensures fewer { result.0.turns < turns → (drain ≡ true) × (result.0.drained ≡ true) }
+        ensures drained { result.0.drained ≡ is_drained result.1 }
+        ensures logged { result.0.logged ≡ not (L.state log.new).failed }
+    {
+        let Opening { mut core, told } = self;
+        write(log, &told);
+        let served = serve(alloc, &mut core, host, log, turns, drain, watch);
+        (served, core)
+    }
+}

@@ -1,0 +1,128 @@
+//! Init re-executed (telinit(8), `u`): its state is handed over as a text, carried, and taken over.
+
+ghost use Rattle.std.specs.Prelude.{◌≡◌, ◌∷◌, ℕ, IsTrue, List, Some, Ok};
+ghost use Rattle.trace_events.specs.declared.happenings.Happening.TheVariants as happening;
+ghost use Rattle.trace_events.specs.declared.steps.Step.TheVariants as step;
+ghost use Rattle.trace_events.specs.Event.{Event};
+ghost use Rattle.core_model.specs.Parts.{SavedState};
+ghost use Rattle.core_text.specs.Reading.{generation_of};
+ghost use Rattle.core_text.specs.declared.state_fault.StateFault.TheVariants as fault;
+ghost use Rattle.core_text.specs.Refused.{IsCut, IsOther, IsTextOf};
+ghost use Rattle.core_handover.specs.Taken.{NotTaken};
+ghost use Rattle.host_calls.specs.Calls.{AddsCall, TextRead};
+ghost use Rattle.host_calls.specs.declared.calls.Call.TheVariants.{Carry};
+ghost use Rattle.host_trace.specs.Leads.{Gave, Logs, Tracks};
+ghost use Rattle.host_trace.specs.Point.{is_outcome};
+ghost use Rattle.init_turns.specs.Parts.{ComesTo, IsStep, Makes, Saying};
+
+use crate::answering::write;
+use core_handover::{StateFault, generation_of, hand_over, take_over};
+use core_steps::Core;
+use host_calls::Host;
+use std::alloc::Allocator;
+use trace_events::{Handed, Happening};
+use trace_log::Log;
+
+/// What came back of the text and was distinguished from a whole one: it is said to be cut where it is a prefix of the
+/// text.
+fn cut_back(text: &[u8], back: &[u8]) -> Handed
+    ensures { IsTrue (is_outcome result text.now (Ok back.now)) }
+{
+    if text.starts_with(back) && back.len() < text.len() {
+        Handed::Cut(back.len() as u64)
+    } else {
+        Handed::Failed
+    }
+}
+
+/// What came back is the text of another generation.
+fn older_back(back: &[u8]) -> Handed
+    ensures { (text : List ℕ) (generation : ℕ) → generation_of text ≡ Some generation
+        → IsOther back.now generation → IsTrue (is_outcome result text (Ok back.now)) }
+{
+    match generation_of(back) {
+        Some(generation) => Handed::Older(generation),
+        None => Handed::Failed,
+    }
+}
+
+/// Why what came back of the text was not taken over, as it is said. A text that came back cut is refused for that.
+fn refused(text: &[u8], back: &[u8], why: StateFault) -> Handed
+    ensures { (state : SavedState) → IsTextOf text.now state
+        → NotTaken back.now state.heads.generation why → (IsCut back.now → why ≡ fault.Cut)
+        → IsTrue (is_outcome result text.now (Ok back.now)) }
+{
+    match why {
+        StateFault::Cut => cut_back(text, back),
+        StateFault::Generation => older_back(back),
+        _ => Handed::Failed,
+    }
+}
+
+/// Takes over what came back of the text; gives what came of it. Where it is refused, the core goes on as it is.
+fn take_back<A: Allocator + Copy>(alloc: A, core: &mut Core<A>, text: &[u8], back: &[u8]) -> Handed
+    ensures { ComesTo result text.now (Ok back.now) core.old core.new }
+{
+    match take_over(alloc, back, core.generation()) {
+        Ok(next) => {
+            *core = next;
+            Handed::Whole
+        }
+        Err(why) => refused(text, back, why),
+    }
+}
+
+/// Carries the text of the core's state; gives what came of it.
+fn carry<A: Allocator + Copy, H: Host>(
+    alloc: A,
+    core: &mut Core<A>,
+    host: &mut H,
+    text: &[u8],
+) -> Handed
+    ensures { (back : TextRead) × AddsCall (H.told host.old) (H.told host.new) (Carry text.now back)
+        × ComesTo result text.now back core.old core.new }
+{
+    match host.carry(alloc, text) {
+        Ok(back) => take_back(alloc, core, text, &back),
+        Err(_) => Handed::Failed,
+    }
+}
+
+/// Writes what came of a hand-over, and says so where it was refused.
+fn say<H: Host, L: Log>(host: &mut H, log: &mut L, how: Handed)
+    ensures log { (past : List Event) → Logs (L.state log.old) (L.state log.new) past
+        (happening.Handed how ∷ past) }
+    ensures said { Saying how (H.told host.old) (H.told host.new) }
+{
+    let handed: Happening = Happening::Handed(how);
+    write(log, &handed);
+    if how != Handed::Whole {
+        host.announce(&handed);
+    }
+}
+
+/// No text was made: init goes on as it is.
+fn not_handed<A: Allocator, H: Host, L: Log>(core: &mut Core<A>, host: &mut H, log: &mut L)
+    ensures { Makes (H.told host.old) (H.told host.new) (L.state log.old) (L.state log.new)
+        IsStep (Gave (Tracks core.old) step.Reexec) (Tracks core.new) }
+{
+    core.not_handed();
+    say(host, log, Handed::Failed);
+}
+
+/// Executes init anew. Where no text is made, or what comes back is not taken over, init goes on as it is.
+pub(crate) fn reexec<A: Allocator + Copy, H: Host, L: Log>(
+    alloc: A,
+    core: &mut Core<A>,
+    host: &mut H,
+    log: &mut L,
+)
+    ensures { Makes (H.told host.old) (H.told host.new) (L.state log.old) (L.state log.new)
+        IsStep (Gave (Tracks core.old) step.Reexec) (Tracks core.new) }
+{
+    let Ok(text) = hand_over(alloc, core) else {
+        return not_handed(core, host, log);
+    };
+    let how = carry(alloc, core, host, &text);
+    say(host, log, how);
+}

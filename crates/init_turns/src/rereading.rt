@@ -1,0 +1,102 @@
+//! A reading of the inittab while init runs (telinit(8), `q`).
+
+ghost use Rattle.std.specs.Prelude.{◌≡◌, ◌∷◌, [], true, false, List, Ok};
+ghost use Rattle.init_words.specs.Parts.{texts_of};
+ghost use Rattle.inittab_text.specs.Parts.{are_readable, table_of_texts};
+ghost use Rattle.trace_events.specs.declared.happenings.Happening.TheVariants.{NewTable};
+ghost use Rattle.trace_events.specs.declared.steps.Step.TheVariants as step;
+ghost use Rattle.trace_events.specs.Event.{Event};
+ghost use Rattle.core_records.specs.Lists.{is_quiet};
+ghost use Rattle.host_calls.specs.declared.calls.Call.TheVariants.{ReadTables};
+ghost use Rattle.host_calls.specs.Calls.{AddsCall, PartsRead};
+ghost use Rattle.core_model.specs.Fit.{StillFits, OnEachTrace};
+ghost use Rattle.host_trace.specs.Leads.{Gave, Lasts, Logs, Tracks};
+ghost use Rattle.init_turns.specs.Parts.{IsStep, Makes};
+
+use crate::answering::write;
+use core_steps::Core;
+use host_calls::Host;
+use init_words::Part;
+use inittab_text::read_parts;
+use std::alloc::Allocator;
+use trace_events::{Happening, HappeningIn};
+use trace_log::Log;
+
+/// Takes the table of files for that in force, where the host takes it; gives whether it did.
+fn use_parts<A: Allocator + Copy, H: Host, L: Log>(
+    alloc: A,
+    core: &mut Core<A>,
+    host: &mut H,
+    log: &mut L,
+    parts: &[Part<A>],
+) -> bool
+    ensures readable { result ≡ true → are_readable (texts_of parts.now) ≡ true }
+    ensures quiet { result ≡ true → is_quiet core.old.slots ≡ true }
+    ensures fits { result ≡ true → OnEachTrace core.old (λ goal past.
+        StillFits core.old core.new goal past
+        (NewTable (table_of_texts (texts_of parts.now)) ∷ past)) }
+    ensures lasts { result ≡ true → Lasts core.old core.new }
+    ensures took { result ≡ true → (past : List Event)
+        → Logs (L.state log.old) (L.state log.new) past
+        (NewTable (table_of_texts (texts_of parts.now)) ∷ past) }
+    ensures core { result ≡ false → core.new ≡ core.old }
+    ensures log { result ≡ false → log.new ≡ log.old }
+    ensures told { H.told host.new ≡ H.told host.old }
+{
+    let reading = read_parts(alloc, parts);
+    if !host.takes(parts, &reading) {
+        return false;
+    }
+    let Ok((table, _faults)) = reading else {
+        return false;
+    };
+    let Ok(copy) = table.copy(alloc) else {
+        return false;
+    };
+    if core.adopt(table).is_err() {
+        return false;
+    }
+    let used: HappeningIn<A> = Happening::NewTable(copy);
+    write(log, &used);
+    true
+}
+
+/// Reads inittab and takes its table for that in force; gives whether it did.
+fn use_table<A: Allocator + Copy, H: Host, L: Log>(
+    alloc: A,
+    core: &mut Core<A>,
+    host: &mut H,
+    log: &mut L,
+) -> bool
+    ensures used { result ≡ true → Makes (H.told host.old) (H.told host.new)
+        (L.state log.old) (L.state log.new)
+        IsStep (Gave (Tracks core.old) step.Reread) (Tracks core.new) }
+    ensures read { result ≡ false → (parts : PartsRead)
+        × AddsCall (H.told host.old) (H.told host.new) (ReadTables parts) }
+    ensures core { result ≡ false → core.new ≡ core.old }
+    ensures log { result ≡ false → log.new ≡ log.old }
+{
+    let Ok(parts) = host.read_tables(alloc) else {
+        return false;
+    };
+    use_parts(alloc, core, host, log, &parts)
+}
+
+/// Reads inittab again. Where that fails, or the table can't be taken, the one in force stays.
+pub(crate) fn reread<A: Allocator + Copy, H: Host, L: Log>(
+    alloc: A,
+    core: &mut Core<A>,
+    host: &mut H,
+    log: &mut L,
+)
+    ensures { Makes (H.told host.old) (H.told host.new) (L.state log.old) (L.state log.new)
+        IsStep (Gave (Tracks core.old) step.Reread) (Tracks core.new) }
+{
+    if use_table(alloc, core, host, log) {
+        return;
+    }
+    let unread: Happening = Happening::NotRead;
+    core.not_read();
+    write(log, &unread);
+    host.announce(&unread);
+}

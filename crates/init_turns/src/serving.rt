@@ -1,0 +1,114 @@
+//! Turns, one after another.
+
+ghost use Rattle.std.specs.Prelude.{◌≡◌, ◌&&◌, ◌≤◌, ◌<◌, [], not, true, false};
+ghost use Rattle.core_model.specs.Decide.{is_drained};
+ghost use Rattle.host_trace.specs.Leads.{At};
+ghost use Rattle.host_trace.specs.Point.{Point};
+ghost use Rattle.host_calls.specs.Record.{Since};
+ghost use Rattle.host_trace.specs.Requests.{Brings};
+ghost use Rattle.host_trace.specs.Turns.{AreTurns, IsTurn};
+ghost use Rattle.init_turns.specs.Parts.{Fresh, Left, LeftBy, Makes};
+
+use crate::hearing::{hear_clock, hear_lates, hear_requests};
+use crate::stepping::take_steps;
+use core_steps::Core;
+use host_calls::Host;
+use initctl_frame::Blocks;
+use std::alloc::Allocator;
+use trace_log::Log;
+
+/// Somebody who looks at what init keeps after each turn, before the pause.
+pub trait Watch<A: Allocator> {
+    /// A turn was made, and this is what init keeps behind it.
+    fn look(&mut self, core: &Core<A>);
+}
+
+/// Nobody looks.
+pub struct Unwatched {}
+
+impl<A: Allocator> Watch<A> for Unwatched {
+    fn look(&mut self, _core: &Core<A>) {}
+}
+
+/// How a run of turns ended.
+#[derive(Clone, Copy, PartialEq, Eq)]
+pub struct Served {
+    /// How many turns were made.
+    pub turns: u64,
+    /// Nothing is left to do and nothing runs.
+    pub drained: bool,
+    /// The log took the whole trace.
+    pub logged: bool,
+}
+
+/// A turn of init: it reads the clock, takes up to 4,096 bytes of requests and as many late answers, begins a round,
+/// and carries out its steps until none is due, at most 10,000. Gives whether none is due.
+///
+/// What the clock, the bytes, an announcement or the log fails to do is passed over; a start, a look or a signal that
+/// failed is answered so, and inittab that can't be read or taken leaves the table in force.
+pub fn turn<A: Allocator + Copy, H: Host, L: Log>(
+    alloc: A,
+    core: &mut Core<A>,
+    host: &mut H,
+    blocks: &mut Blocks,
+    log: &mut L,
+) -> bool
+    ensures { Makes (H.told host.old) (H.told host.new) (L.state log.old) (L.state log.new)
+        (IsTurn result) (At core.old blocks.old) (Left result core.new blocks.new) }
+{
+    hear_clock(core, host, log);
+    hear_requests(core, host, log, blocks);
+    hear_lates(core, host, log);
+    take_steps(alloc, core, host, log)
+}
+
+/// The run ends when init is drained, and it is.
+fn is_over<A: Allocator>(core: &Core<A>, drain: bool) -> bool
+    ensures { result ≡ (drain && is_drained core.now) }
+{
+    drain && core.drained()
+}
+
+fn how_it_ended<A: Allocator, L: Log>(core: &Core<A>, log: &L, turns: u64) -> Served
+    ensures turns { result.turns ≡ turns }
+    ensures drained { result.drained ≡ is_drained core.now }
+    ensures logged { result.logged ≡ not (L.state log.now).failed }
+{
+    Served {
+        turns,
+        drained: core.drained(),
+        logged: !log.failed(),
+    }
+}
+
+/// Makes the given number of turns, with a look and a pause after each. With `drain` it ends after the first turn that
+/// leaves nothing to do and nothing running.
+pub fn serve<A: Allocator + Copy, H: Host, L: Log, W: Watch<A>>(
+    alloc: A,
+    core: &mut Core<A>,
+    host: &mut H,
+    log: &mut L,
+    turns: u64,
+    drain: bool,
+    watch: &mut W,
+) -> Served
+    ensures trace { Makes (H.told host.old) (H.told host.new) (L.state log.old) (L.state log.new)
+        (AreTurns drain (Fresh core.old) result.turns) (Fresh core.old) (LeftBy core.new) }
+    ensures requests { Since (H.told host.old) (H.told host.new) (λ calls. (p : Point)
+        → p.over ≡ [] → Brings [] calls p) }
+    ensures most { result.turns ≤ turns }
+    ensures fewer { result.turns < turns → (drain ≡ true) × (result.drained ≡ true) }
+    ensures drained { result.drained ≡ is_drained core.new }
+    ensures logged { result.logged ≡ not (L.state log.new).failed }
+{
+    let mut blocks = Blocks::new();
+    for made in 0..turns {
+        let _ = turn(alloc, core, host, &mut blocks, log);
+        watch.look(core);
+        host.pause();
+        if is_over(core, drain) {
+            return how_it_ended(core, log, made + 1);
+        }
+    }
+    how_it_ended(core, log, turns)
+}

@@ -1,0 +1,5 @@
+pub mod Lines
+pub mod Paths
+pub mod ReloadLemmas
+pub mod SaidOf
+pub mod Saying

@@ -1,0 +1,38 @@
+-- What becomes of an id behind a reading of inittab, by what a view says of it.
+use Rattle.std.proofs.Common.{◌≡◌, refl, sym, ◌∙◌, ap, ℕ, Bool, false, List, cond, Option, Some, None}
+use Rattle.std.specs.Option.{option_map, option_map_or}
+use Rattle.init_words.specs.declared.entries.Entry.{Entry}
+use Rattle.inittab_text.specs.Tables.{entry_of, act_of}
+use Rattle.trace_events.specs.Event.{Event}
+use Rattle.trace_events.specs.Past.{table_of, Child}
+use Rattle.trace_events.specs.Wanted.{is_excluded}
+use Rattle.trace_check.specs.Reading.{child_of}
+use Rattle.trace_view.specs.declared.rows.Row.{Row}
+use Rattle.trace_view.specs.Rows.{row_of}
+use Rattle.trace_view.specs.Why.{number_of}
+use Rattle.initview_lines.specs.declared.changes.Change.{Change}
+use Rattle.initview_lines.specs.declared.changes.Change.TheVariants.{NotHere}
+use Rattle.initview_lines.specs.Changes.{same_process}
+use Rattle.initview_lines.specs.Reloads.{idle_entry, idle_change, stopped_change, kept_change, change_by, line_by, line_now}
+
+-- an entry that is found
+pub idle_found : (id : List ℕ) (past : List Event) (o : Option Entry) → entry_of id (table_of past) ≡ o → option_map_or (idle_entry past) o NotHere ≡ idle_change past id
+idle_found id past o is = sym (ap (λ x. option_map_or (idle_entry past) x NotHere) is)
+
+-- what becomes of the child that is told of an id
+by_child : (past : List Event) (o : Option Child) (idle : Change) (same : Bool) → change_by (option_map number_of o) (option_map_or (is_excluded past) o false) idle same ≡ option_map_or (λ child. cond (is_excluded past child) (stopped_change idle) (kept_change same)) o idle
+by_child past None idle same = refl
+by_child past (Some child) idle same = refl
+
+entries_same : (old : List Entry) (past : List Event) (id : List ℕ) (table : List Entry) (before after : Option Entry) (same : Bool) → before ≡ entry_of id old → after ≡ entry_of id table → table ≡ table_of past → same ≡ same_process before after → same ≡ same_process (entry_of id old) (entry_of id (table_of past))
+entries_same old past id table before after same was is tables so = rw (so, was, is, tables) refl
+
+pub line_is : (old : List Entry) (past : List Event) (id : List ℕ) (row : Row) (idle change : Change) (table : List Entry) (before after : Option Entry) (same : Bool) → row ≡ row_of id past → idle ≡ idle_change past id → before ≡ entry_of id old → after ≡ entry_of id table → table ≡ table_of past → same ≡ same_process before after → change ≡ change_by row.child row.excluded idle same → line_by id row.act change row.child ≡ line_now old past id
+line_is old past id row idle change table before after same rows idles was is tables so changes =
+    let child : Option ℕ = option_map number_of (child_of id past) in
+    let excluded : Bool = option_map_or (is_excluded past) (child_of id past) false in
+    ap (λ x. line_by id row.act x row.child) changes
+    ∙ ap (λ (r : Row). line_by id r.act (change_by r.child r.excluded idle same) r.child) rows
+    ∙ ap (λ i. line_by id (act_of id (table_of past)) (change_by child excluded i same) child) idles
+    ∙ ap (λ b. line_by id (act_of id (table_of past)) (change_by child excluded (idle_change past id) b) child) (entries_same old past id table before after same was is tables so)
+    ∙ ap (λ x. line_by id (act_of id (table_of past)) x child) (by_child past (child_of id past) (idle_change past id) (same_process (entry_of id old) (entry_of id (table_of past))))

@@ -1,0 +1,10 @@
+use Rattle.std.proofs.Common.{◌≡◌, ◌++◌, length}
+use Rattle.initview_lines.specs.Json.{quoted_bytes}
+use Rattle.initview_lines.proofs.json.add_quoted_bytes.Given as goal
+
+-- the text so far, and behind it the bytes that are left, is the text and all bytes
+abbrev pub invariant-loop-byte : goal.invariant-loop-byte
+invariant-loop-byte l = l.text.items ++ quoted_bytes l.rest ≡ l.fn.text.items ++ quoted_bytes l.bytes
+
+abbrev pub decreases-loop-byte : goal.decreases-loop-byte
+decreases-loop-byte l = length l.rest

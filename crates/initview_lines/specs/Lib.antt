@@ -1,0 +1,10 @@
+pub mod Changes
+pub mod Following
+pub mod Happenings
+pub mod Json
+pub mod Left
+pub mod Plans
+pub mod Reasons
+pub mod Reloads
+pub mod Status
+pub mod Words

@@ -1,0 +1,99 @@
+-- Why an id isn't started next, in words, and what to do. Times are seconds.
+use Rattle.std.specs.Prelude.{ℕ, List, [], ◌++◌, codes, Option, Some, None}
+use Rattle.init_words.specs.declared.actions.Act.{Act}
+use Rattle.init_words.specs.declared.orders.OrderKind.{OrderKind}
+use Rattle.init_words.specs.declared.orders.OrderKind.TheVariants as ask
+use Rattle.init_words.specs.declared.stages.Stage.{Stage}
+use Rattle.trace_events.specs.Event.{Event}
+use Rattle.trace_events.specs.Past.{stage_of, time_of}
+use Rattle.trace_view.specs.declared.rows.Births.{Births}
+use Rattle.trace_view.specs.declared.rows.Ending.{Ending}
+use Rattle.trace_view.specs.declared.rows.Row.{Row}
+use Rattle.trace_view.specs.declared.standings.Excluded.{Excluded}
+use Rattle.trace_view.specs.declared.whys.Why.{Why}
+use Rattle.trace_view.specs.declared.whys.Why.TheVariants as why
+use Rattle.trace_view.specs.declared.wishes.Wish.{Wish}
+use Rattle.trace_view.specs.Rows.{row_of}
+use Rattle.initview_lines.specs.Words.{act_words, held_left, last_words, numbered, stage_words, wish_words}
+use Rattle.initview_lines.specs.Status.{births_words}
+
+abbrev pub act_reason : Option Act → List ℕ
+act_reason action = codes "its action, " ++ (act_words action ++ codes ", starts nothing")
+
+abbrev pub stage_reason : Option Stage → List ℕ
+stage_reason stage = codes "it doesn't start in " ++ stage_words stage
+
+-- its child runs, or has ended and its end isn't told
+abbrev pub runs_reason : ℕ → ℕ → Option Births → List ℕ
+runs_reason now number births = numbered (codes "its child runs: pid ") number [] ++ births_words now births
+
+abbrev pub kept_reason : ℕ → ℕ → Row → Option ℕ → List ℕ
+kept_reason now number row (Some child) = runs_reason now number row.births
+kept_reason now number row None = numbered (codes "its child ") number (codes " has ended, which init isn't told yet")
+
+abbrev pub order_reason : OrderKind → List ℕ
+order_reason ask.Start = codes "it is being started"
+order_reason ask.Look = codes "init looks whether its child has ended"
+order_reason ask.Term = codes "TERM is being sent to its child"
+order_reason ask.Kill = codes "KILL is being sent to its child"
+
+abbrev pub done_reason : ℕ → Option Ending → List ℕ
+done_reason now last = codes "it was started already since the level or its line changed: " ++ last_words now last
+
+abbrev pub earlier_reason : List ℕ → List ℕ
+earlier_reason earlier = codes "init waits for " ++ (earlier ++ codes ", which stands before it")
+
+abbrev pub excluded_reason : Option Stage → Excluded → List ℕ
+excluded_reason stage child =
+    child.id ++ (numbered (codes " (pid ") child.number (codes ") may not live in ")
+    ++ (stage_words stage ++ codes ", and has to end first"))
+
+abbrev pub wish_reason : Wish → List ℕ
+wish_reason wish = codes "a request is carried out first: " ++ wish_words wish
+
+abbrev pub held_reason : ℕ → ℕ → List ℕ
+held_reason now since =
+    numbered (codes "it is held for ") (held_left now since) (codes " s more: it was started ten times in two minutes")
+
+-- the reason, by the stage in force, the time and what is told of the id
+abbrev pub reason_words : Option Stage → ℕ → Row → Why → List ℕ
+reason_words stage now row why.NoEntry = codes "the table in force has no such entry"
+reason_words stage now row why.NeverStarts = act_reason row.act
+reason_words stage now row why.NoStage = codes "no stage has begun"
+reason_words stage now row why.OtherStage = stage_reason stage
+reason_words stage now row (why.ChildKept number) = kept_reason now number row row.child
+reason_words stage now row (why.OrderOpen asked) = order_reason asked
+reason_words stage now row why.NotCalled = codes "nothing has called it since the level or the table changed"
+reason_words stage now row why.WasStarted = done_reason now row.last
+reason_words stage now row (why.EarlierOwed earlier) = earlier_reason earlier
+reason_words stage now row (why.ExcludedKept child) = excluded_reason stage child
+reason_words stage now row (why.WishStands wish) = wish_reason wish
+reason_words stage now row (why.Held since) = held_reason now since
+reason_words stage now row why.WindowFull = codes "it was started ten times in two minutes: it is held next"
+reason_words stage now row why.Nothing = codes "nothing keeps it: its start is due"
+
+-- what to do
+abbrev pub advice_of : Why → List ℕ
+advice_of why.NoEntry = codes "add its line to the inittab, or mend it, and run telinit q"
+advice_of why.NeverStarts = codes "give its line another action, and run telinit q"
+advice_of why.NoStage = codes "wait for stage sysinit"
+advice_of why.OtherStage = codes "go to a level that its line names, or name this one and run telinit q"
+advice_of (why.ChildKept number) = codes "end the child to have it started anew, where its action says so"
+advice_of (why.OrderOpen asked) = codes "wait for the answer"
+advice_of why.NotCalled = codes "call it by telinit a, b or c, or by news of the power, as its action says"
+advice_of why.WasStarted = codes "go to another level and back to have it started again"
+advice_of (why.EarlierOwed earlier) = codes "ask why that one isn't done"
+advice_of (why.ExcludedKept child) = codes "wait: init sends TERM, and KILL when the grace is over"
+advice_of (why.WishStands wish) = codes "wait for init's next turn"
+advice_of (why.Held since) = codes "see why its children end so soon; telinit q ends the hold"
+advice_of why.WindowFull = codes "see why its children end so soon"
+advice_of why.Nothing = codes "wait for init's next turn"
+
+-- two lines: the id and the reason, and what to do
+abbrev pub reason_text : Option Stage → ℕ → List ℕ → Row → List ℕ
+reason_text stage now id row =
+    id ++ (codes ": " ++ (reason_words stage now row row.why
+    ++ (codes "\n  " ++ (advice_of row.why ++ codes "\n"))))
+
+abbrev pub why_text : List ℕ → List Event → List ℕ
+why_text id past = reason_text (stage_of past) (time_of past) id (row_of id past)

@@ -1,0 +1,124 @@
+-- What becomes of each id where init, as a past left it, reads another inittab now (inittab(5), init(8), telinit(8)).
+use Rattle.std.specs.Prelude.{ℕ, Bool, true, false, not, ◌&&◌, ◌||◌, if◌then◌else◌, List, [], ◌∷◌, ◌++◌, codes, Option, Some, None, is_some}
+use Rattle.std.specs.Option.{option_map, option_map_or}
+use Rattle.init_words.specs.declared.actions.Act.{Act}
+use Rattle.init_words.specs.declared.entries.Entry.{Entry}
+use Rattle.init_words.specs.declared.levels.Level.{Level}
+use Rattle.init_words.specs.declared.stages.Stage.TheVariants.{Run}
+use Rattle.init_words.specs.Actions.{is_limited, wanted_by}
+use Rattle.inittab_text.specs.Tables.{entry_of, act_of}
+use Rattle.trace_events.specs.declared.happenings.Happening.TheVariants.{NewTable, Enter}
+use Rattle.trace_events.specs.Event.{Event}
+use Rattle.trace_events.specs.Past.{table_of, stage_of, grace_of, Child, unreaped_children}
+use Rattle.trace_events.specs.Wanted.{starts_now, is_asked, is_excluded}
+use Rattle.trace_events.specs.Wishes.{is_level}
+use Rattle.trace_check.specs.Reading.{child_of}
+use Rattle.trace_view.specs.Rows.{gone_ids}
+use Rattle.trace_view.specs.Why.{number_of}
+use Rattle.initview_lines.specs.declared.changes.Change.{Change}
+use Rattle.initview_lines.specs.declared.changes.Change.TheVariants.{Keep, NextStart, Stop, StopStart, Start, NotAgain, NotHere}
+use Rattle.initview_lines.specs.Changes.{change_words, same_process}
+use Rattle.initview_lines.specs.Words.{act_words, numbered, padded, stage_words}
+
+-- init goes to a level, where that isn't in force
+abbrev pub entered : Level → List Event → List Event
+entered level past =
+    if is_level level (stage_of past) then past else Enter (Run level) (grace_of past) ∷ past
+
+abbrev pub gone_on : Option Level → List Event → List Event
+gone_on None past = past
+gone_on (Some level) past = entered level past
+
+-- init reads an inittab, and goes to a level where one is named, as for telinit q and for telinit with a level
+abbrev pub reloaded : List Entry → Option Level → List Event → List Event
+reloaded table level past = gone_on level (NewTable table ∷ past)
+
+-- In what follows the past is one in which the inittab was just read, so that nothing is called (is_called).
+
+-- an entry starts in the stage in force, and its action asks for it where it was not started yet
+abbrev pub starts_itself : Entry → List Event → Bool
+starts_itself e past = starts_now e past && wanted_by e.act true true false
+
+-- its action asks for it where nothing of it runs
+abbrev pub asks_anew : Entry → List Event → Bool
+asks_anew e past = wanted_by e.act true (not (is_asked e.id past)) false
+
+-- what becomes of an entry that has no child
+abbrev pub idle_entry : List Event → Entry → Change
+idle_entry past e = if starts_itself e past then (if asks_anew e past then Start else NotAgain) else NotHere
+
+abbrev pub idle_change : List Event → List ℕ → Change
+idle_change past id = option_map_or (idle_entry past) (entry_of id (table_of past)) NotHere
+
+-- what becomes of a child that is stopped, by what becomes of its id then
+abbrev pub stopped_change : Change → Change
+stopped_change Start = StopStart
+stopped_change _ = Stop
+
+-- what becomes of a child that goes on, where its process is the same
+abbrev pub kept_change : Bool → Change
+kept_change same = if same then Keep else NextStart
+
+-- what becomes of a child: it is stopped where it may not live by the table and the stage in force, as is_excluded has
+-- it; else it goes on, and its processes are those of the old and of the new inittab
+abbrev pub child_change : List Entry → List Event → List ℕ → Child → Change
+child_change old past id child =
+    if is_excluded past child then stopped_change (idle_change past id)
+    else kept_change (same_process (entry_of id old) (entry_of id (table_of past)))
+
+-- what becomes of an id: of its unreaped child, where it has one
+abbrev pub change_now : List Entry → List Event → List ℕ → Change
+change_now old past id = option_map_or (child_change old past id) (child_of id past) (idle_change past id)
+
+-- the same by what a view keeps: whether the entry starts, and is wanted; the child, and whether it is excluded
+abbrev pub idle_by : Act → Bool → Bool → Change
+idle_by action starts wanted =
+    if starts && wanted_by action true true false then (if is_limited action || wanted then Start else NotAgain)
+    else NotHere
+
+abbrev pub change_by : Option ℕ → Bool → Change → Bool → Change
+change_by None excluded idle same = idle
+change_by (Some number) excluded idle same =
+    if excluded then stopped_change idle else kept_change same
+
+-- the line of an id: its action in the new inittab, what becomes of it, and its child's number
+abbrev pub number_words : Option ℕ → List ℕ
+number_words None = []
+number_words (Some number) = numbered (codes "  ") number []
+
+abbrev pub line_by : List ℕ → Option Act → Change → Option ℕ → List ℕ
+line_by id action change number =
+    padded 9 id ++ (padded 14 (act_words action)
+    ++ (change_words change ++ (number_words number ++ codes "\n")))
+
+abbrev pub line_now : List Entry → List Event → List ℕ → List ℕ
+line_now old past id =
+    line_by id (act_of id (table_of past)) (change_now old past id) (option_map number_of (child_of id past))
+
+-- of the entries of the new inittab
+abbrev pub new_now : List Entry → List Event → List Entry → List ℕ
+new_now old past [] = []
+new_now old past (e ∷ es) = line_now old past e.id ++ new_now old past es
+
+-- the line of an id that a table doesn't have
+abbrev pub line_unless : Option Entry → List ℕ → List ℕ
+line_unless entry line = if is_some entry then [] else line
+
+-- of the entries of the old inittab that the new one doesn't have
+abbrev pub gone_now : List Entry → List Event → List Entry → List ℕ
+gone_now old past [] = []
+gone_now old past (e ∷ es) =
+    line_unless (entry_of e.id (table_of past)) (line_now old past e.id) ++ gone_now old past es
+
+-- of ids that the old inittab doesn't have
+abbrev pub left_now : List Entry → List Event → List (List ℕ) → List ℕ
+left_now old past [] = []
+left_now old past (id ∷ ids) = line_unless (entry_of id old) (line_now old past id) ++ left_now old past ids
+
+-- the stage, and a line each: the entries of the new inittab in its order, those of the old one that are gone, and the
+-- children that have an entry in neither
+abbrev pub reload_text : List Entry → List Event → List ℕ
+reload_text old past =
+    (stage_words (stage_of past) ++ codes "\n")
+    ++ (new_now old past (table_of past)
+    ++ (gone_now old past old ++ left_now old past (gone_ids (table_of past) (unreaped_children past))))

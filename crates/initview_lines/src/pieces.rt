@@ -1,0 +1,44 @@
+//! The lines of a text that comes in pieces.
+
+ghost use Rattle.std.specs.Prelude.{◌≡◌, ◌^◌, ◌<◌, List, ℕ, ◌++◌, length, true, IfOk, OnOk};
+ghost use Rattle.initview_lines.specs.Following.{HasSaid, SaysOn};
+
+use crate::happenings::add_happening;
+use init_words::Memory;
+use std::alloc::Allocator;
+use trace_view::TextView;
+
+/// Adds the line of the next happening, if one is whole.
+fn next_line<A: Allocator + Copy>(
+    view: &mut TextView<A>,
+    lines: &mut Vec<u8>,
+) -> Result<bool, Memory>
+    ensures goes { IfOk result (λ more. (said text : List ℕ) → length text < 2 ^ 64
+        → SaysOn more view.old (said ++ lines.old.items) view.new (said ++ lines.new.items) text) }
+    ensures shorter { IfOk result (λ more. more ≡ true
+        → length view.new.reading.over < length view.old.reading.over) }
+{
+    match view.next()? {
+        Some(happening) => {
+            add_happening(lines, view.view(), &happening)?;
+            Ok(true)
+        }
+        None => Ok(false),
+    }
+}
+
+/// Shows a view the next piece of its text, cut anywhere, and adds the lines of all that is whole of it. Where memory runs
+/// out the view is of no more use.
+pub fn take_lines<A: Allocator + Copy>(
+    view: &mut TextView<A>,
+    piece: &[u8],
+    lines: &mut Vec<u8>,
+) -> Result<(), Memory>
+    ensures { OnOk result ((said text : List ℕ) → length (text ++ piece.now) < 2 ^ 64
+        → HasSaid view.old (said ++ lines.old.items) text
+        → HasSaid view.new (said ++ lines.new.items) (text ++ piece.now)) }
+{
+    view.feed(piece)?;
+    while next_line(view, lines)? {}
+    Ok(())
+}

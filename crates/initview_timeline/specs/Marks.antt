@@ -1,0 +1,37 @@
+-- What a timeline shows of a trace: what happened, and at which time of the trace's clock.
+use Rattle.std.specs.Prelude.{ℕ, List, [], ◌∷◌, ◌++◌, Option, Some, None}
+use Rattle.init_words.specs.declared.orders.OrderKind.{OrderKind}
+use Rattle.init_words.specs.declared.orders.OrderKind.TheVariants as ask
+use Rattle.init_words.specs.declared.orders.SignalKind.TheVariants as sig
+use Rattle.trace_events.specs.declared.happenings.Happening.TheVariants.{Enter, Settle, Hold, Birth, NoBirth, Reaped, Hit}
+use Rattle.trace_events.specs.Event.{Event}
+use Rattle.trace_events.specs.Past.{open_of, time_of}
+use Rattle.initview_timeline.specs.declared.marks.Shown.{Shown}
+use Rattle.initview_timeline.specs.declared.marks.Shown.TheVariants as shown
+use Rattle.initview_timeline.specs.declared.marks.Mark.{Mark}
+
+-- the signal that was sent for an order
+abbrev pub sent_for : List ℕ → Option OrderKind → Option Shown
+sent_for id (Some ask.Term) = Some (shown.Sent id sig.Term)
+sent_for id (Some ask.Kill) = Some (shown.Sent id sig.Kill)
+sent_for id _ = None
+
+-- what is shown of a happening in its past
+abbrev pub shown_of : Event → List Event → Option Shown
+shown_of (Enter stage grace) past = Some (shown.Entered stage)
+shown_of (Settle level) past = Some (shown.Settled level)
+shown_of (Hold id) past = Some (shown.Held id)
+shown_of (Birth id number) past = Some (shown.Born id number)
+shown_of (NoBirth id) past = Some (shown.NotBorn id)
+shown_of (Reaped id number status) past = Some (shown.Ended id number status)
+shown_of (Hit id) past = sent_for id (open_of id past)
+shown_of _ past = None
+
+abbrev pub mark_at : ℕ → Option Shown → List Mark
+mark_at time None = []
+mark_at time (Some what) = record { time = time; what = what } ∷ []
+
+-- the marks of a past, the oldest first
+abbrev pub marks_of : List Event → List Mark
+marks_of [] = []
+marks_of (happening ∷ past) = marks_of past ++ mark_at (time_of (happening ∷ past)) (shown_of happening past)

@@ -1,0 +1,99 @@
+//! What a timeline shows of a trace, and when.
+
+ghost use Rattle.std.specs.Prelude.{◌≡◌, ◌∷◌, ◌++◌, List, OnOk};
+ghost use Rattle.trace_events.specs.Event.{Event};
+ghost use Rattle.trace_events.specs.Past.{time_of};
+ghost use Rattle.trace_view.specs.Viewing.{Viewed};
+ghost use Rattle.initview_timeline.specs.Marks.{mark_at, sent_for, shown_of};
+
+use init_words::{ChildNumber, Id, Level, Memory, OrderKind, SignalKind, Stage, Status};
+use std::alloc::Allocator;
+use trace_events::{Happening, HappeningIn};
+use trace_view::TraceView;
+
+/// What a timeline shows.
+#[derive(Clone, Copy)]
+pub enum Shown {
+    /// A stage was entered.
+    Entered(Stage),
+    /// A runlevel was announced settled.
+    Settled(Level),
+    /// A child of the id was born, with this number.
+    Born(Id, ChildNumber),
+    /// A start of the id failed.
+    NotBorn(Id),
+    /// The child of that number was reaped, with this status.
+    Ended(Id, ChildNumber, Status),
+    /// A signal was sent to the child of the id.
+    Sent(Id, SignalKind),
+    /// The id was held for five minutes.
+    Held(Id),
+}
+
+/// Something that a timeline shows, and when it happened, in seconds.
+#[derive(Clone, Copy)]
+pub struct Mark {
+    pub time: u64,
+    pub what: Shown,
+}
+
+/// The signal that was sent for an order.
+fn sent_for(id: Id, order: Option<OrderKind>) -> Option<Shown>
+    ensures { result ≡ sent_for id order }
+{
+    match order {
+        Some(OrderKind::Term) => Some(Shown::Sent(id, SignalKind::Term)),
+        Some(OrderKind::Kill) => Some(Shown::Sent(id, SignalKind::Kill)),
+        _ => None,
+    }
+}
+
+/// What is shown of the happening that the view has seen last.
+pub(crate) fn shown_of<A: Allocator, B: Allocator>(
+    view: &TraceView<A>,
+    happening: &HappeningIn<B>,
+) -> Option<Shown>
+    ensures { (past : List Event) → Viewed view.now (happening.now ∷ past)
+        → result ≡ shown_of happening.now past }
+{
+    match happening {
+        Happening::Enter(stage, _) => Some(Shown::Entered(*stage)),
+        Happening::Settle(level) => Some(Shown::Settled(*level)),
+        Happening::Hold(id) => Some(Shown::Held(*id)),
+        Happening::Birth(id, number) => Some(Shown::Born(*id, *number)),
+        Happening::NoBirth(id) => Some(Shown::NotBorn(*id)),
+        Happening::Reaped(id, number, status) => Some(Shown::Ended(*id, *number, *status)),
+        Happening::Hit(id) => sent_for(*id, view.row(id).order),
+        _ => None,
+    }
+}
+
+/// Adds the mark of what is shown.
+fn add_mark<A: Allocator>(
+    marks: &mut Vec<Mark, A>,
+    time: u64,
+    shown: Option<Shown>,
+) -> Result<(), Memory>
+    ensures { OnOk result (marks.new.items ≡ marks.old.items ++ mark_at time shown) }
+{
+    if let Some(what) = shown {
+        marks.push(Mark { time, what })?;
+    }
+    Ok(())
+}
+
+/// Adds the mark of the happening that the view has seen last.
+pub(crate) fn take_mark<A: Allocator, B: Allocator>(
+    marks: &mut Vec<Mark, A>,
+    view: &TraceView<A>,
+    happening: &HappeningIn<B>,
+) -> Result<(), Memory>
+    ensures { OnOk result ((past : List Event) → Viewed view.now (happening.now ∷ past)
+        → marks.new.items
+        ≡ marks.old.items
+        ++ mark_at (time_of (happening.now ∷ past)) (shown_of happening.now past)) }
+{
+    let shown = shown_of(view, happening);
+    add_mark(marks, view.time(), shown)?;
+    Ok(())
+}

@@ -1,8 +1,0 @@
-use Rattle.std.proofs.Common.{refl}
-use Rattle.level_core.proofs.Kept.{kept_entered}
-use Rattle.level_core.proofs.bare.BareCore.enter.Goals as goal
-
-pub invariant_of-self : goal.invariant_of-self
-invariant_of-self g c =
-    let kept = kept_entered c.self.inside.heads.time c.self.inside.table c.args.stage c.self.inside.slots (c.self.invariant.1, c.self.invariant.2) in
-    (c.self.invariant.0, rw (c.judge.ensures, c.entered.ensures) kept.0, rw (c.judge.ensures, c.entered.ensures) kept.1, refl, refl)

@@ -1,6 +1,0 @@
-use Rattle.std.proofs.Common.{subst}
-use Rattle.core_model.specs.Rules.{IsFit}
-use Rattle.level_core.proofs.cores.Core.law_of_rules.Goals as goal
-
-pub returns : goal.returns
-returns g c = subst IsFit c.self.view_is c.self.invariant

@@ -1,7 +1,0 @@
-use Rattle.std.proofs.Common.{◌≡◌, drop}
-use Rattle.child_table.specs.Lists.{are_distinct}
-use Rattle.level_core.proofs.rules.are_distinct.Given as goal
-
--- the answer is that of what is left
-abbrev pub invariant-loop-place : goal.invariant-loop-place
-invariant-loop-place l = are_distinct l.slots ≡ are_distinct (drop l.place l.slots)

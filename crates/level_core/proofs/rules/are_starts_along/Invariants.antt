@@ -1,8 +1,0 @@
-use Rattle.std.proofs.Common.{◌≡◌, drop, zip}
-use Rattle.core_model.specs.Rules.{are_starts_along}
-use Rattle.level_core.proofs.Ruled.{starts_from}
-use Rattle.level_core.proofs.rules.are_starts_along.Given as goal
-
--- the answer is that of what is left, behind an owed entry or not
-abbrev pub invariant-loop-place : goal.invariant-loop-place
-invariant-loop-place g l = are_starts_along l.stage (zip l.table l.slots) ≡ starts_from l.owed l.stage (drop l.place (zip l.table l.slots))

@@ -1,6 +1,0 @@
-use Rattle.std.proofs.Common.{◌≡◌, true, Some}
-use Rattle.level_core.specs.Places.{are_passed}
-use Rattle.level_core.proofs.walking.passed_to.Given as goal
-
-abbrev pub invariant-loop-place : goal.invariant-loop-place
-invariant-loop-place g l = (l.passed ≡ l.place) × (are_passed (Some l.stage) l.place l.table l.slots ≡ true)

@@ -1,5 +1,0 @@
-pub mod Plain
-pub mod Firsts
-pub mod Children
-pub mod Starts
-pub mod Following

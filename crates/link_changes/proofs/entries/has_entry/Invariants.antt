@@ -1,7 +1,0 @@
-use Rattle.std.proofs.Common.{◌≡◌, drop}
-use Rattle.std.specs.List.{list_any}
-use Rattle.link_changes.specs.Entries.{same_entry}
-use Rattle.link_changes.proofs.entries.has_entry.Given as goal
-
-abbrev pub invariant-loop-other : goal.invariant-loop-other
-invariant-loop-other g l = list_any (same_entry l.entry) (drop l.other-index l.entries) ≡ list_any (same_entry l.entry) l.entries

@@ -1,9 +1,0 @@
-use Rattle.std.proofs.Common.{◌≡◌, ◌++◌, map, drop}
-use Rattle.std.specs.List.{filter}
-use Rattle.link_changes.specs.Changes.{is_missing, making}
-use Rattle.link_changes.proofs.planning.add_makings.Given as goal
-
-abbrev pub invariant-loop-link : goal.invariant-loop-link
-invariant-loop-link g l =
-    l.changes.items ++ map (making l.folder.level) (filter (is_missing l.folder.held) (drop l.link-index l.link-items))
-    ≡ l.fn.changes.items ++ map (making l.folder.level) (filter (is_missing l.folder.held) l.folder.planned)

@@ -1,7 +1,0 @@
-use Rattle.std.proofs.Common.{◌≡◌, ◌++◌, flat_map, drop}
-use Rattle.link_changes.specs.Changes.{changes_of, targets_of}
-use Rattle.link_changes.proofs.planning.changes.Given as goal
-
-abbrev pub invariant-loop-folder : goal.invariant-loop-folder
-invariant-loop-folder g l =
-    l.found.items ++ flat_map (changes_of (targets_of l.targets)) (drop l.folder-index l.folders) ≡ flat_map (changes_of (targets_of l.targets)) l.folders

@@ -1,9 +1,0 @@
-use Rattle.std.proofs.Common.{◌≡◌, drop}
-use Rattle.std.specs.List.{list_any}
-use Rattle.std.specs.Str.{bytes_eq}
-use Rattle.link_changes.specs.Changes.{targets_of}
-use Rattle.link_changes.proofs.planning.has_target.Given as goal
-
-abbrev pub invariant-loop-target : goal.invariant-loop-target
-invariant-loop-target g l =
-    list_any (bytes_eq l.leads) (targets_of (drop l.target-index l.targets)) ≡ list_any (bytes_eq l.leads) (targets_of l.targets)

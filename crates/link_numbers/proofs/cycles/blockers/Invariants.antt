@@ -1,9 +1,0 @@
-use Rattle.std.proofs.Common.{◌≡◌, ℕ, ◌<◌, length, get_or, drop}
-use Rattle.link_numbers.specs.Passes.{need_from}
-use Rattle.link_numbers.proofs.cycles.blockers.Given as goal
-
-abbrev pub invariant-loop-place : goal.invariant-loop-place
-invariant-loop-place g l = record {
-  size : length l.found.items ≡ length l.numbers;
-  value : (a : ℕ) → a < length l.numbers → need_from l.numbers a (get_or l.found.items a 0) (drop l.place-index l.edges) ≡ need_from l.numbers a 0 l.edges;
-}

@@ -1,8 +1,0 @@
-use Rattle.std.proofs.Common.{ℕ, ◌<◌, ◌≤◌, length, get_or}
-use Rattle.link_numbers.proofs.cycles.least_at.Given as goal
-
-abbrev pub invariant-loop-place : goal.invariant-loop-place
-invariant-loop-place l = record {
-  within : l.best < length l.places;
-  least : (k : ℕ) → k < l.place → get_or l.places l.best 0 ≤ get_or l.places k 0;
-}

@@ -1,9 +1,0 @@
-use Rattle.std.proofs.Common.{◌≡◌, length}
-use Rattle.link_numbers.specs.Numbering.{AreSteps}
-use Rattle.link_numbers.proofs.cycles.meet_all.Given as goal
-
-abbrev pub invariant-loop-other : goal.invariant-loop-other
-invariant-loop-other g l = record {
-  size : length l.steps ≡ length l.fn.steps;
-  steps : AreSteps l.needs l.fn.steps → AreSteps l.needs l.steps;
-}

@@ -1,8 +1,0 @@
-use Rattle.link_numbers.specs.Passes.{IsPartial, zeros}
-use Rattle.link_numbers.proofs.passes.numbers.Given as goal
-
-abbrev pub invariant-passes : goal.invariant-passes
-invariant-passes g l = IsPartial l.count l.edges l.numbers.items
-
-abbrev pub decreases-passes : goal.decreases-passes
-decreases-passes g l = zeros l.numbers.items

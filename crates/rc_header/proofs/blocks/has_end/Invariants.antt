@@ -1,0 +1,11 @@
+use Rattle.std.proofs.Common.{◌≡◌, length}
+use Rattle.std.specs.List.{list_any}
+use Rattle.text_lines.specs.Lines.{lines_of}
+use Rattle.rc_header.specs.Blocks.{is_end}
+use Rattle.rc_header.proofs.blocks.has_end.Given as goal
+
+abbrev pub invariant-loop-rest : goal.invariant-loop-rest
+invariant-loop-rest l = list_any is_end (lines_of l.rest) ≡ list_any is_end (lines_of l.body)
+
+abbrev pub decreases-loop-rest : goal.decreases-loop-rest
+decreases-loop-rest l = length l.rest

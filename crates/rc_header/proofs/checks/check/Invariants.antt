@@ -1,0 +1,13 @@
+use Rattle.std.proofs.Common.{◌≡◌, ◌+◌, ◌<◌, ◌^◌, [], length}
+use Rattle.text_lines.specs.Lines.{lines_of}
+use Rattle.rc_header.specs.Blocks.{block_of, block_fault}
+use Rattle.rc_header.proofs.checks.check.Given as goal
+
+abbrev pub invariant-loop-line : goal.invariant-loop-line
+invariant-loop-line g l = record {
+  counted : l.number + length l.rest < 2 ^ 64;
+  same : block_fault l.seen.items (l.number + 1) (block_of (lines_of l.rest)) ≡ block_fault [] (l.begin + 1) (block_of (lines_of l.body));
+}
+
+abbrev pub decreases-loop-line : goal.decreases-loop-line
+decreases-loop-line g l = length l.rest

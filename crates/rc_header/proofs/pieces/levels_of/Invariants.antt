@@ -1,0 +1,10 @@
+use Rattle.std.proofs.Common.{◌≡◌, ◌++◌, length}
+use Rattle.text_lines.specs.Lines.{words_of}
+use Rattle.rc_header.specs.Blocks.{levels_of}
+use Rattle.rc_header.proofs.pieces.levels_of.Given as goal
+
+abbrev pub invariant-loop-word : goal.invariant-loop-word
+invariant-loop-word g l = l.levels.items ++ levels_of (words_of l.rest) ≡ levels_of (words_of l.text)
+
+abbrev pub decreases-loop-word : goal.decreases-loop-word
+decreases-loop-word g l = length l.rest

@@ -1,0 +1,94 @@
+-- The lines of a header, their checks and what they say (LSB Core 5.0).
+use Rattle.std.specs.Prelude.{ℕ, ◌+◌, ◌==◌, Bool, not, if◌then◌else◌, List, [], ◌∷◌, ◌++◌, drop, Option, Some, None, codes}
+use Rattle.std.specs.List.{list_any, filter_map, starts_with}
+use Rattle.std.specs.Option.{option_or}
+use Rattle.std.specs.Str.{bytes_eq}
+use Rattle.init_words.specs.declared.levels.Level.{Level}
+use Rattle.init_words.specs.Levels.{level_read}
+use Rattle.rc_header.specs.declared.faults.HeaderFault.{HeaderFault}
+use Rattle.rc_header.specs.declared.faults.HeaderFault.TheVariants as fault
+use Rattle.rc_header.specs.declared.keywords.Keyword.{Keyword}
+use Rattle.rc_header.specs.declared.keywords.Keyword.TheVariants as keyword
+use Rattle.rc_header.specs.Forms.{args_in, is_empty_comment, is_indented, is_line, known_of}
+use Rattle.rc_header.specs.Keywords.{same_keyword}
+use Rattle.text_lines.specs.Lines.{lines_of, trim, trim_end}
+
+-- the line that begins the header
+unfoldable pub is_begin : List ℕ → Bool
+is_begin line = bytes_eq (trim_end line) (codes "### BEGIN INIT INFO")
+
+-- the line that ends the header, whatever stands behind its words
+unfoldable pub is_end : List ℕ → Bool
+is_end line = starts_with ◌==◌ line (codes "### END INIT INFO")
+
+-- the lines after the first that begins a header, and the number of that line; the first line here has this number
+abbrev pub begun : ℕ → List (List ℕ) → Option (ℕ × List (List ℕ))
+begun number [] = None
+begun number (line ∷ lines) = if is_begin line then Some (number, lines) else begun (number + 1) lines
+
+-- the lines before the first that ends the header
+abbrev pub block_of : List (List ℕ) → List (List ℕ)
+block_of [] = []
+block_of (line ∷ lines) = if is_end line then [] else line ∷ block_of lines
+
+-- the lines of the header in the text after the line that begins it
+abbrev pub block_in : List ℕ → List (List ℕ)
+block_in body = block_of (lines_of body)
+
+-- the keyword of a line, after those seen before it: a second one is a fault
+abbrev pub twice_fault : List Keyword → Option (Keyword × List ℕ) → Option HeaderFault
+twice_fault seen None = None
+twice_fault seen (Some known) = if list_any (same_keyword known.0) seen then Some (fault.Twice known.0) else None
+
+-- the fault of the line of a number, after lines that had these keywords
+abbrev pub line_fault : List Keyword → ℕ → List ℕ → Option HeaderFault
+line_fault seen number line =
+    if not (is_line line) then Some (fault.BadLine number) else twice_fault seen (known_of line)
+
+-- the keywords with that of a line
+abbrev pub with_known : List Keyword → Option (Keyword × List ℕ) → List Keyword
+with_known seen None = seen
+with_known seen (Some known) = seen ++ known.0 ∷ []
+
+-- the keywords of the lines up to this one
+abbrev pub seen_after : List Keyword → List ℕ → List Keyword
+seen_after seen line = with_known seen (known_of line)
+
+-- the first fault of the lines, the first of which has this number
+abbrev pub block_fault : List Keyword → ℕ → List (List ℕ) → Option HeaderFault
+block_fault seen number [] = None
+block_fault seen number (line ∷ lines) =
+    option_or (line_fault seen number line) (block_fault (seen_after seen line) (number + 1) lines)
+
+-- the text after the colon of the line of this keyword
+abbrev pub args_of : Keyword → List (List ℕ) → Option (List ℕ)
+args_of keyword [] = None
+args_of keyword (line ∷ lines) = option_or (args_in keyword line) (args_of keyword lines)
+
+-- the runlevel of a word, where it is one character that names a runlevel
+abbrev pub level_in : List ℕ → Option Level
+level_in [] = None
+level_in (code ∷ []) = level_read code
+level_in (code ∷ other ∷ word) = None
+
+-- the runlevels among the words
+abbrev pub levels_of : List (List ℕ) → List Level
+levels_of words = filter_map level_in words
+
+-- what the lines after a description add to it: indented comments, each with a blank before it
+abbrev pub continued : List (List ℕ) → List ℕ
+continued [] = []
+continued (line ∷ lines) =
+    if is_empty_comment line then continued lines
+    else if is_indented line then 32 ∷ (trim (drop 1 line) ++ continued lines)
+    else []
+
+-- a description that begins here, or else one of the later lines
+abbrev pub described : Option (List ℕ) → List ℕ → List ℕ → List ℕ
+described None more later = later
+described (Some text) more later = trim text ++ more
+
+-- the description
+abbrev pub description_of : List (List ℕ) → List ℕ
+description_of [] = []
+description_of (line ∷ lines) = described (args_in keyword.Description line) (continued lines) (description_of lines)

@@ -1,0 +1,59 @@
+//! The lines of a header, held to LSB Core 5.0 one after another.
+
+ghost use Rattle.std.specs.Prelude.{◌≡◌, ◌<◌, ◌+◌, ◌^◌, [], None, length, OnOk, IfErr};
+ghost use Rattle.std.specs.List.{list_any};
+ghost use Rattle.rc_header.specs.Faults.{IsDue};
+ghost use Rattle.rc_header.specs.Keywords.{same_keyword};
+ghost use Rattle.rc_header.specs.Blocks.{block_fault, block_in, line_fault, seen_after};
+
+use crate::blocks::block_line;
+use crate::faults::HeaderFault;
+use crate::forms::{is_line, known_of};
+use crate::keywords::Keyword;
+use std::alloc::Allocator;
+
+fn is_seen(seen: &[Keyword], keyword: Keyword) -> bool
+    ensures { result ≡ list_any (same_keyword keyword) seen.now }
+{
+    seen.iter().any(|other| keyword.is(*other))
+}
+
+/// Checks a line after others that had these keywords.
+fn check_line<A: Allocator>(
+    seen: &mut Vec<Keyword, A>,
+    number: usize,
+    line: &[u8],
+) -> Result<(), HeaderFault>
+    ensures fine { OnOk result (line_fault seen.old.items number line.now ≡ None) }
+    ensures seen { OnOk result (seen.new.items ≡ seen_after seen.old.items line.now) }
+    ensures fault { IfErr result (IsDue (line_fault seen.old.items number line.now)) }
+{
+    if !is_line(line) {
+        return Err(HeaderFault::BadLine(number));
+    }
+    let Some((keyword, _)) = known_of(line) else {
+        return Ok(());
+    };
+    if is_seen(seen.as_slice(), keyword) {
+        return Err(HeaderFault::Twice(keyword));
+    }
+    seen.push(keyword)?;
+    Ok(())
+}
+
+/// Checks the header's lines one by one; the first has the number after this one.
+pub(crate) fn check<A: Allocator>(alloc: A, begin: usize, body: &[u8]) -> Result<(), HeaderFault>
+    requires { begin + length body.now < 2 ^ 64 }
+    ensures fine { OnOk result (block_fault [] (begin + 1) (block_in body.now) ≡ None) }
+    ensures fault { IfErr result (IsDue (block_fault [] (begin + 1) (block_in body.now))) }
+{
+    let mut seen = Vec::new(alloc);
+    let mut number = begin;
+    let mut rest = body;
+    while let Some((line, more)) = block_line(rest) {
+        number += 1;
+        check_line(&mut seen, number, line)?;
+        rest = more;
+    }
+    Ok(())
+}

@@ -1,0 +1,71 @@
+//! What is wrong with a header, in words.
+
+use crate::keywords::Keyword;
+use init_words::Memory;
+use std::alloc::AllocFailed;
+use std::error::Error;
+use std::fmt;
+
+/// Why a header was not read: the first check that fails, in this order.
+#[derive(Clone, Copy, Debug, PartialEq, Eq)]
+pub enum HeaderFault {
+    /// No line is `### BEGIN INIT INFO`.
+    NoBegin,
+    /// No line after it is `### END INIT INFO`.
+    NoEnd,
+    /// The line of this number, from 1, has no form of the header's, or is not UTF-8.
+    BadLine(usize),
+    /// A keyword stands a second time.
+    Twice(Keyword),
+    /// Provides is absent, or names nothing.
+    NoProvides,
+    /// Out of memory.
+    Memory,
+}
+
+impl fmt::Display for HeaderFault {
+    ghost use Rattle.std.specs.Prelude.{Some};
+    ghost use Rattle.rc_header.specs.Faults.{fault_text};
+
+    ghost output = { λ fault. Some (fault_text fault) };
+
+    fn fmt<W: fmt::Write>(&self, f: &mut fmt::Formatter<W>) -> fmt::Result {
+        match self {
+            HeaderFault::NoBegin => f.write_str("no line \"### BEGIN INIT INFO\""),
+            HeaderFault::NoEnd => {
+                f.write_str("no line \"### END INIT INFO\" after \"### BEGIN INIT INFO\"")
+            }
+            HeaderFault::BadLine(number) => write!(
+                f,
+                "line {number}: neither \"# Keyword: words\" nor \"#  text\" in UTF-8"
+            ),
+            HeaderFault::Twice(keyword) => write!(f, "{keyword} stands twice"),
+            HeaderFault::NoProvides => f.write_str("no name after \"# Provides:\""),
+            HeaderFault::Memory => f.write_str("out of memory"),
+        }
+    }
+}
+
+impl Error for HeaderFault {}
+
+impl From<Memory> for HeaderFault {
+    ghost use Rattle.std.specs.Prelude.{◌≡◌};
+    ghost use Rattle.rc_header.specs.declared.faults.HeaderFault.TheVariants as fault;
+
+    ghost from_gives = { λ _ given. given ≡ fault.Memory };
+
+    fn from(_error: Memory) -> HeaderFault {
+        HeaderFault::Memory
+    }
+}
+
+impl<T: Drop> From<AllocFailed<T>> for HeaderFault {
+    ghost use Rattle.std.specs.Prelude.{◌≡◌};
+    ghost use Rattle.rc_header.specs.declared.faults.HeaderFault.TheVariants as fault;
+
+    ghost from_gives = { λ _ given. given ≡ fault.Memory };
+
+    fn from(_error: AllocFailed<T>) -> HeaderFault {
+        HeaderFault::Memory
+    }
+}

@@ -1,0 +1,169 @@
+//! The header of an init script (LSB Core 5.0).
+
+ghost use Rattle.std.specs.Prelude.{◌≡◌, ◌≢◌, Ok, Err, map, string_bytes, IfOk, IfErr, IfSome};
+ghost use Rattle.std.specs.List.{AllByRecursion};
+ghost use Rattle.std.specs.Str.{IsUtf8};
+ghost use Rattle.text_lines.specs.Lines.{words_of};
+ghost use Rattle.rc_header.specs.Blocks.{block_in};
+ghost use Rattle.rc_header.specs.Headers.{frame_fault, header_of, header_read, text_at};
+
+use crate::blocks::{begun, has_end};
+use crate::checks::check;
+use crate::faults::HeaderFault;
+use crate::keywords::Keyword;
+use crate::pieces::{args_of, description_of, levels_of, short_description_of, words_of};
+use init_words::{Level, Memory};
+use std::alloc::{Allocator, Global};
+use std::marker::Model;
+
+/// What the header of an init script says (LSB Core 5.0). Names and descriptions are UTF-8.
+#[derive(Drop)]
+pub struct Header<A: Allocator = Global> {
+    provides: Vec<String<A>, A>,
+    required_start: Vec<String<A>, A>,
+    required_stop: Vec<String<A>, A>,
+    should_start: Vec<String<A>, A>,
+    should_stop: Vec<String<A>, A>,
+    default_start: Vec<Level, A>,
+    default_stop: Vec<Level, A>,
+    short_description: String<A>,
+    description: String<A>,
+}
+
+impl<A: Allocator> Model for Header<A> {
+    ghost use Rattle.std.specs.Prelude.{map, string_bytes};
+    ghost use Rattle.rc_header.specs.HeaderText.{HeaderText};
+
+    ghost Value = { HeaderText };
+
+    ghost view = { λ h. record {
+      provides = map string_bytes h.provides.items;
+      required_start = map string_bytes h.required_start.items;
+      required_stop = map string_bytes h.required_stop.items;
+      should_start = map string_bytes h.should_start.items;
+      should_stop = map string_bytes h.should_stop.items;
+      default_start = h.default_start.items;
+      default_stop = h.default_stop.items;
+      short_description = string_bytes h.short_description;
+      description = string_bytes h.description;
+    } };
+}
+
+impl<A: Allocator> Header<A> {
+    /// The names that the script provides, at least one.
+    pub fn provides(&self) -> &[String<A>]
+        ensures { map string_bytes result.now ≡ self.now.provides }
+    {
+        self.provides.as_slice()
+    }
+
+    /// The names that have to be started before it.
+    pub fn required_start(&self) -> &[String<A>]
+        ensures { map string_bytes result.now ≡ self.now.required_start }
+    {
+        self.required_start.as_slice()
+    }
+
+    /// The names that have to be there until it is stopped.
+    pub fn required_stop(&self) -> &[String<A>]
+        ensures { map string_bytes result.now ≡ self.now.required_stop }
+    {
+        self.required_stop.as_slice()
+    }
+
+    /// The names that are started before it, where they are there.
+    pub fn should_start(&self) -> &[String<A>]
+        ensures { map string_bytes result.now ≡ self.now.should_start }
+    {
+        self.should_start.as_slice()
+    }
+
+    /// The names that are stopped after it, where they are there.
+    pub fn should_stop(&self) -> &[String<A>]
+        ensures { map string_bytes result.now ≡ self.now.should_stop }
+    {
+        self.should_stop.as_slice()
+    }
+
+    /// The runlevels where it starts, as they stand in the header.
+    pub fn default_start(&self) -> &[Level]
+        ensures { result.now ≡ self.now.default_start }
+    {
+        self.default_start.as_slice()
+    }
+
+    /// The runlevels where it is stopped, as they stand in the header.
+    pub fn default_stop(&self) -> &[Level]
+        ensures { result.now ≡ self.now.default_stop }
+    {
+        self.default_stop.as_slice()
+    }
+
+    /// The short description.
+    pub fn short_description(&self) -> &str
+        ensures { result.now ≡ self.now.short_description }
+    {
+        self.short_description.as_str()
+    }
+
+    /// The description, continuation lines joined by blanks.
+    pub fn description(&self) -> &str
+        ensures { result.now ≡ self.now.description }
+    {
+        self.description.as_str()
+    }
+}
+
+/// The words after the colon of a keyword's line.
+fn names_of<A: Allocator + Copy>(
+    alloc: A,
+    keyword: Keyword,
+    body: &[u8],
+) -> Result<Vec<String<A>, A>, Memory>
+    requires { AllByRecursion IsUtf8 (block_in body.now) }
+    ensures { IfOk result (λ words.
+        map string_bytes words.items ≡ words_of (text_at keyword (block_in body.now))) }
+{
+    words_of(alloc, args_of(keyword, body))
+}
+
+/// The header in the lines before the one that ends it.
+fn header_of<A: Allocator + Copy>(alloc: A, body: &[u8]) -> Result<Header<A>, Memory>
+    requires { AllByRecursion IsUtf8 (block_in body.now) }
+    ensures { IfOk result (λ header. header ≡ header_of (block_in body.now)) }
+{
+    Ok(Header {
+        provides: names_of(alloc, Keyword::Provides, body)?,
+        required_start: names_of(alloc, Keyword::RequiredStart, body)?,
+        required_stop: names_of(alloc, Keyword::RequiredStop, body)?,
+        should_start: names_of(alloc, Keyword::ShouldStart, body)?,
+        should_stop: names_of(alloc, Keyword::ShouldStop, body)?,
+        default_start: levels_of(alloc, args_of(Keyword::DefaultStart, body))?,
+        default_stop: levels_of(alloc, args_of(Keyword::DefaultStop, body))?,
+        short_description: short_description_of(alloc, body)?,
+        description: description_of(alloc, body)?,
+    })
+}
+
+/// Reads the header of an init script, or says which check fails first.
+#[tactic(auto, unfolding(crate::specs::Headers::frame_fault, crate::specs::Headers::header_read))]
+pub fn read<A: Allocator + Copy>(alloc: A, text: &[u8]) -> Result<Header<A>, HeaderFault>
+    ensures header { IfOk result (λ header. header_read text.now ≡ Ok header) }
+    ensures fault { IfErr result (λ fault.
+        fault ≢ HeaderFault.Memory → header_read text.now ≡ Err fault) }
+    // A header without its first or its last line takes no memory to refuse.
+    ensures frame { IfSome (frame_fault text.now) (λ fault. result ≡ Err fault) }
+{
+    let Some((number, body)) = begun(text) else {
+        return Err(HeaderFault::NoBegin);
+    };
+    if !has_end(body) {
+        return Err(HeaderFault::NoEnd);
+    }
+    check(alloc, number, body)?;
+    let header = header_of(alloc, body)?;
+    if header.provides.is_empty() {
+        return Err(HeaderFault::NoProvides);
+    }
+    Ok(header)
+}

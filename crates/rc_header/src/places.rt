@@ -1,0 +1,41 @@
+//! The lines behind a header's first one.
+
+ghost use Rattle.std.specs.Prelude.{◌≡◌, ◌+◌, ◌≤◌, ◌<◌, ◌^◌, length, IfSome};
+ghost use Rattle.std.specs.Option.{option_map};
+ghost use Rattle.rc_header.specs.Blocks.{block_in};
+ghost use Rattle.rc_header.specs.Places.{next_line, second_line};
+
+use crate::blocks::{begun, block_line};
+use crate::forms::args_in;
+use crate::keywords::Keyword;
+
+/// The number of the next line of a keyword in what is left of a header, after the line of this number, and the text
+/// after it.
+fn next_line(keyword: Keyword, before: usize, body: &[u8]) -> Option<(usize, &[u8])>
+    requires { before + length body.now < 2 ^ 64 }
+    ensures value { option_map (λ at. (at.0, block_in at.1.now)) result
+        ≡ next_line keyword (before + 1) (block_in body.now) }
+    ensures counted { IfSome result (λ at. at.0 + length at.1.now ≤ before + length body.now) }
+{
+    let mut number = before;
+    let mut rest = body;
+    while let Some((line, more)) = block_line(rest) {
+        number += 1;
+        if args_in(keyword, line).is_some() {
+            return Some((number, more));
+        }
+        rest = more;
+    }
+    None
+}
+
+/// The number of the second line of a keyword in the header of a text, counted from 1 in the text.
+#[tactic(auto, unfolding(crate::specs::Places::second_line))]
+pub fn second_line(text: &[u8], keyword: Keyword) -> Option<usize>
+    ensures { result ≡ second_line text.now keyword }
+{
+    let (begin, body) = begun(text)?;
+    let (first, more) = next_line(keyword, begin, body)?;
+    let (second, _) = next_line(keyword, first, more)?;
+    Some(second)
+}

@@ -1,0 +1,7 @@
+use Rattle.std.proofs.Common.{◌≡◌, ◌++◌, flat_map, drop}
+use Rattle.rc_links.specs.Changes.{changes_of, targets_of}
+use Rattle.rc_links.proofs.changing.changes.Given as goal
+
+abbrev pub invariant-loop-folder : goal.invariant-loop-folder
+invariant-loop-folder g l =
+    l.found.items ++ flat_map (changes_of (targets_of l.targets)) (drop l.folder-index l.folders) ≡ flat_map (changes_of (targets_of l.targets)) l.folders

@@ -1,0 +1,10 @@
+-- A runlevel's folder.
+use Rattle.std.specs.Prelude.{List}
+use Rattle.init_words.specs.declared.levels.Level.{Level}
+use Rattle.rc_links.specs.EntryText.{EntryText}
+
+-- the links that the plan has there, and the entries that it holds
+pub record FolderText : Type 0 where
+  pub level : Level
+  pub planned : List EntryText
+  pub held : List EntryText

@@ -1,0 +1,13 @@
+-- Folders and changes of them, by their parts.
+use Rattle.std.specs.Prelude.{List}
+use Rattle.init_words.specs.declared.levels.Level.{Level}
+use Rattle.rc_links.specs.ChangeText.{ChangeText}
+use Rattle.rc_links.specs.EntryText.{EntryText}
+use Rattle.rc_links.specs.FolderText.{FolderText}
+use Rattle.rc_links.specs.declared.folders.Act.{Act}
+
+abbrev pub folder_text : Level → List EntryText → List EntryText → FolderText
+folder_text level planned held = record { level = level; planned = planned; held = held }
+
+abbrev pub change_of : Act → Level → EntryText → ChangeText
+change_of act level entry = record { act = act; level = level; entry = entry }

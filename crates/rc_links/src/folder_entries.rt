@@ -1,0 +1,88 @@
+//! The entries of a folder, and where symbolic links lead.
+
+ghost use Rattle.std.specs.Prelude.{◌≡◌, IfOk};
+ghost use Rattle.std.specs.List.{list_any};
+ghost use Rattle.rc_links.specs.Entries.{same_entry, has_name, entry_of};
+
+use std::alloc::{AllocError, Allocator, Global};
+use std::marker::Model;
+
+/// An entry of a folder: its name, and where it leads if it is a symbolic link.
+#[derive(Drop)]
+pub struct FolderEntry<A: Allocator = Global> {
+    name: Vec<u8, A>,
+    leads: Vec<u8, A>,
+}
+
+impl<A: Allocator> Model for FolderEntry<A> {
+    ghost use Rattle.rc_links.specs.EntryText.{EntryText};
+
+    ghost Value = { EntryText };
+
+    ghost view = { λ e. record { name = e.name.items; leads = e.leads.items } };
+}
+
+impl<A: Allocator> FolderEntry<A> {
+    /// An entry of this name that leads there; to no byte where it is no symbolic link.
+    pub fn new(name: Vec<u8, A>, leads: Vec<u8, A>) -> FolderEntry<A>
+        ensures { result ≡ entry_of name.items leads.items }
+    {
+        FolderEntry { name, leads }
+    }
+
+    /// Its name.
+    pub fn name(&self) -> &[u8]
+        ensures { result.now ≡ self.now.name }
+    {
+        self.name.as_slice()
+    }
+
+    /// Where it leads; no byte where it is no symbolic link.
+    pub fn leads(&self) -> &[u8]
+        ensures { result.now ≡ self.now.leads }
+    {
+        self.leads.as_slice()
+    }
+}
+
+impl<A: Allocator + Copy> FolderEntry<A> {
+    /// The same entry once more.
+    pub fn copy(&self, alloc: A) -> Result<FolderEntry<A>, AllocError>
+        ensures { IfOk result (λ copied. copied ≡ self.now) }
+    {
+        let name = Vec::from_slice(alloc, self.name())?;
+        let leads = Vec::from_slice(alloc, self.leads())?;
+        Ok(FolderEntry { name, leads })
+    }
+}
+
+/// Two entries have one name and lead to one place.
+pub fn is_same<A: Allocator>(one: &FolderEntry<A>, other: &FolderEntry<A>) -> bool
+    ensures { result ≡ same_entry one.now other.now }
+{
+    one.name() == other.name() && one.leads() == other.leads()
+}
+
+/// The entry is one of these.
+pub(crate) fn has_entry<A: Allocator>(entries: &[FolderEntry<A>], entry: &FolderEntry<A>) -> bool
+    ensures { result ≡ list_any (same_entry entry.now) entries.now }
+{
+    for other in entries {
+        if is_same(entry, other) {
+            return true;
+        }
+    }
+    false
+}
+
+/// One of the entries has the name.
+pub(crate) fn has_name<A: Allocator>(entries: &[FolderEntry<A>], name: &[u8]) -> bool
+    ensures { result ≡ has_name name.now entries.now }
+{
+    for entry in entries {
+        if name == entry.name() {
+            return true;
+        }
+    }
+    false
+}

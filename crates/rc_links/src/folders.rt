@@ -1,0 +1,122 @@
+//! A runlevel's folder as it stands and as it is planned, and the changes that lead from the one to the other.
+
+ghost use Rattle.std.specs.Prelude.{◌≡◌};
+ghost use Rattle.rc_links.specs.Folders.{change_of, folder_text};
+
+use crate::folder_entries::FolderEntry;
+use init_words::Level;
+use std::alloc::{Allocator, Global};
+use std::marker::Model;
+
+/// The folder of a runlevel.
+#[derive(Drop)]
+pub struct Folder<A: Allocator = Global> {
+    level: Level,
+    planned: Vec<FolderEntry<A>, A>,
+    held: Vec<FolderEntry<A>, A>,
+}
+
+impl<A: Allocator> Model for Folder<A> {
+    ghost use Rattle.rc_links.specs.FolderText.{FolderText};
+
+    ghost Value = { FolderText };
+
+    ghost view = { λ f. record {
+      level = f.level;
+      planned = f.planned.items;
+      held = f.held.items;
+    } };
+}
+
+impl<A: Allocator> Folder<A> {
+    /// The folder of a runlevel, with the links that the plan has there and the entries that it holds.
+    pub fn new(
+        level: Level,
+        planned: Vec<FolderEntry<A>, A>,
+        held: Vec<FolderEntry<A>, A>,
+    ) -> Folder<A>
+        ensures { result ≡ folder_text level planned.items held.items }
+    {
+        Folder {
+            level,
+            planned,
+            held,
+        }
+    }
+
+    /// Its runlevel.
+    pub fn level(&self) -> Level
+        ensures { result ≡ self.now.level }
+    {
+        self.level
+    }
+
+    /// The links that the plan has there.
+    pub fn planned(&self) -> &[FolderEntry<A>]
+        ensures { result.now ≡ self.now.planned }
+    {
+        self.planned.as_slice()
+    }
+
+    /// The entries that it holds.
+    pub fn held(&self) -> &[FolderEntry<A>]
+        ensures { result.now ≡ self.now.held }
+    {
+        self.held.as_slice()
+    }
+}
+
+/// What is done with an entry.
+#[derive(Clone, Copy, PartialEq, Eq, Debug)]
+pub enum Act {
+    /// It is taken away.
+    Remove,
+    /// It is made.
+    Make,
+}
+
+/// A change of a runlevel's folder.
+#[derive(Drop)]
+pub struct Change<A: Allocator = Global> {
+    act: Act,
+    level: Level,
+    entry: FolderEntry<A>,
+}
+
+impl<A: Allocator> Model for Change<A> {
+    ghost use Rattle.rc_links.specs.ChangeText.{ChangeText};
+
+    ghost Value = { ChangeText };
+
+    ghost view = { λ c. record { act = c.act; level = c.level; entry = c.entry } };
+}
+
+impl<A: Allocator> Change<A> {
+    /// A change of the folder of a runlevel.
+    pub(crate) fn new(act: Act, level: Level, entry: FolderEntry<A>) -> Change<A>
+        ensures { result ≡ change_of act level entry }
+    {
+        Change { act, level, entry }
+    }
+
+    /// What is done.
+    pub fn act(&self) -> Act
+        ensures { result ≡ self.now.act }
+    {
+        self.act
+    }
+
+    /// The runlevel of the folder.
+    pub fn level(&self) -> Level
+        ensures { result ≡ self.now.level }
+    {
+        self.level
+    }
+
+    /// The entry.
+    pub fn entry(&self) -> &FolderEntry<A>
+        ensures { result.now ≡ self.now.entry }
+    {
+        &self.entry
+    }
+}

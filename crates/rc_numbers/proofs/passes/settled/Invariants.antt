@@ -1,0 +1,6 @@
+use Rattle.std.proofs.Common.{◌≡◌, ◌++◌, drop}
+use Rattle.rc_numbers.specs.Passes.{settled}
+use Rattle.rc_numbers.proofs.passes.settled.Given as goal
+
+abbrev pub invariant-loop-place : goal.invariant-loop-place
+invariant-loop-place g l = l.next.items ++ settled (drop l.place l.numbers) (drop l.place l.heights) ≡ settled l.numbers l.heights

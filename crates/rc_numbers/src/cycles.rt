@@ -1,0 +1,276 @@
+//! The way of a cycle among needs, told name by name.
+
+ghost use Rattle.std.specs.Prelude.{◌≡◌, ◌<◌, ◌≤◌, ◌++◌, ℕ, List, [], ◌∷◌, Some, None, is_some, if◌then◌else◌, length, get_or, set, drop, take, IfOk, OnOk, IfSome, IsPermutation};
+ghost use Rattle.rc_numbers.specs.Numbering.{AllBelow, AreSteps, InRange, IsCycle, IsRing};
+ghost use Rattle.rc_numbers.specs.Passes.{AreBlockers, IsStuck};
+
+use init_words::Memory;
+use std::alloc::Allocator;
+
+/// For each place without a number one that it needs and that has none either.
+fn blockers<A: Allocator>(
+    alloc: A,
+    edges: &[(usize, usize)],
+    numbers: &[usize],
+) -> Result<Vec<usize, A>, Memory>
+    requires { InRange (length numbers.now) edges.now }
+    ensures size { IfOk result (λ found. length found.items ≡ length numbers.now) }
+    ensures value { IfOk result (λ found. AreBlockers edges.now numbers.now found.items) }
+{
+    let mut found = vec![in alloc; 0; numbers.len()]?;
+    for (place, need) in edges {
+        if numbers[*need] == 0 {
+            found[*place] = *need;
+        }
+    }
+    Ok(found)
+}
+
+/// The places of a path from this index on.
+fn part<A: Allocator>(alloc: A, path: &[usize], start: usize) -> Result<Vec<usize, A>, Memory>
+    requires { start ≤ length path.now }
+    ensures { IfOk result (λ part. part.items ≡ drop start path.now) }
+{
+    Ok(Vec::from_slice(alloc, &path[start..])?)
+}
+
+/// The places of a ring, from this index on and round.
+fn turned<A: Allocator>(alloc: A, ring: &[usize], start: usize) -> Result<Vec<usize, A>, Memory>
+    requires { start ≤ length ring.now }
+    ensures { IfOk result (λ turned. turned.items ≡ drop start ring.now ++ take start ring.now) }
+{
+    let mut turned = part(alloc, ring, start)?;
+    turned.extend_from_slice(&ring[..start])?;
+    Ok(turned)
+}
+
+/// The places from this one on, each needing the next, until one is needed that was there before: the ring from there.
+fn ring<A: Allocator + Copy>(
+    alloc: A,
+    edges: &[(usize, usize)],
+    numbers: &[usize],
+    first: usize,
+) -> Result<Vec<usize, A>, Memory>
+    requires range { InRange (length numbers.now) edges.now }
+    requires stuck { IsStuck (length numbers.now) edges.now numbers.now }
+    requires first { first < length numbers.now }
+    requires none { get_or numbers.now first 0 ≡ 0 }
+    ensures ring { IfOk result (λ ring. IsRing edges.now ring.items) }
+    ensures below { IfOk result (λ ring. AllBelow (length numbers.now) ring.items) }
+{
+    let next = blockers(alloc, edges, numbers)?;
+    let mut marks = vec![in alloc; 0; numbers.len()]?;
+    let mut path = Vec::new(alloc);
+    let mut at = first;
+    'steps: while marks[at] == 0 {
+        path.push(at)?;
+        marks[at] = path.len();
+        at = next[at];
+    }
+    part(alloc, path.as_slice(), marks[at] - 1)
+}
+
+/// The needs, in the order of the places that are needed.
+fn by_need<A: Allocator>(
+    alloc: A,
+    edges: &[(usize, usize)],
+) -> Result<Vec<(usize, usize), A>, Memory>
+    ensures { IfOk result (λ needs. IsPermutation edges.now needs.items) }
+{
+    let mut needs = Vec::from_slice(alloc, edges)?;
+    needs.sort_unstable_by_key(|need: &(usize, usize)| need.1);
+    Ok(needs)
+}
+
+/// Notes that a place needs another, where it is met for the first time.
+fn meet<A: Allocator>(
+    steps: &mut [Option<usize>],
+    met: &mut Vec<usize, A>,
+    place: usize,
+    need: usize,
+) -> Result<(), Memory>
+    requires { place < length steps.old }
+    ensures size { length steps.new ≡ length steps.old }
+    ensures steps { OnOk result (steps.new ≡
+        (if is_some (get_or steps.old place None) then steps.old
+        else set steps.old place (Some need))) }
+    ensures met { OnOk result (met.new.items ≡
+        (if is_some (get_or steps.old place None) then met.old.items
+        else met.old.items ++ place ∷ [])) }
+{
+    if steps[place].is_none() {
+        met.push(place)?;
+        steps[place] = Some(need);
+    }
+    Ok(())
+}
+
+/// Meets each place that needs this one, of needs in the order of the places that are needed.
+fn meet_all<A: Allocator>(
+    needs: &[(usize, usize)],
+    steps: &mut [Option<usize>],
+    met: &mut Vec<usize, A>,
+    place: usize,
+) -> Result<(), Memory>
+    requires { InRange (length steps.old) needs.now }
+    ensures size { length steps.new ≡ length steps.old }
+    ensures steps { OnOk result (AreSteps needs.now steps.old → AreSteps needs.now steps.new) }
+{
+    let first = needs.partition_point(|need: &(usize, usize)| need.1 < place);
+    for (other, need) in &needs[first..] {
+        if *need != place {
+            break;
+        }
+        meet(steps, met, *other, *need)?;
+    }
+    Ok(())
+}
+
+/// For the places that need this one, by themselves or through others, the next place on a shortest way to it, as far
+/// as a search goes that ends when it is back.
+fn steps_to<A: Allocator + Copy>(
+    alloc: A,
+    needs: &[(usize, usize)],
+    count: usize,
+    place: usize,
+) -> Result<Vec<Option<usize>, A>, Memory>
+    requires range { InRange count needs.now }
+    requires place { place < count }
+    ensures size { IfOk result (λ steps. length steps.items ≡ count) }
+    ensures steps { IfOk result (λ steps. AreSteps needs.now steps.items) }
+{
+    let mut steps = vec![in alloc; None; count]?;
+    let mut met = Vec::new(alloc);
+    met.push(place)?;
+    for turn in 0..count {
+        if turn >= met.len() || steps[place].is_some() {
+            break;
+        }
+        let next = met[turn];
+        meet_all(needs, &mut steps, &mut met, next)?;
+    }
+    Ok(steps)
+}
+
+/// The places from this one on along the steps, if they come back to it.
+fn ring_along<A: Allocator>(
+    alloc: A,
+    steps: &[Option<usize>],
+    place: usize,
+) -> Result<Option<Vec<usize, A>>, Memory>
+    requires place { place < length steps.now }
+    requires range { (a b : ℕ) → get_or steps.now a None ≡ Some b → b < length steps.now }
+    ensures ring { IfOk result (λ found. IfSome found
+        (λ ring. (edges : List (ℕ × ℕ)) → AreSteps edges steps.now → IsRing edges ring.items)) }
+    ensures below { IfOk result (λ found.
+        IfSome found (λ ring. AllBelow (length steps.now) ring.items)) }
+{
+    let mut ring = Vec::new(alloc);
+    let mut at = place;
+    'steps: for _ in 0..steps.len() {
+        ring.push(at)?;
+        match steps[at] {
+            None => return Ok(None),
+            Some(need) => {
+                if need == place {
+                    return Ok(Some(ring));
+                }
+                at = need;
+            }
+        }
+    }
+    Ok(None)
+}
+
+/// A shortest ring through a place, if there is one.
+fn ring_through<A: Allocator + Copy>(
+    alloc: A,
+    needs: &[(usize, usize)],
+    count: usize,
+    place: usize,
+) -> Result<Option<Vec<usize, A>>, Memory>
+    requires range { InRange count needs.now }
+    requires place { place < count }
+    ensures ring { IfOk result (λ found. IfSome found (λ ring. IsRing needs.now ring.items)) }
+    ensures below { IfOk result (λ found. IfSome found (λ ring. AllBelow count ring.items)) }
+{
+    let steps = steps_to(alloc, needs, count, place)?;
+    ring_along(alloc, steps.as_slice(), place)
+}
+
+/// A shortest ring through the earliest place that is on one.
+fn earliest_ring<A: Allocator + Copy>(
+    alloc: A,
+    edges: &[(usize, usize)],
+    numbers: &[usize],
+) -> Result<Option<Vec<usize, A>>, Memory>
+    requires { InRange (length numbers.now) edges.now }
+    ensures ring { IfOk result (λ found. IfSome found (λ ring. IsRing edges.now ring.items)) }
+    ensures below { IfOk result (λ found.
+        IfSome found (λ ring. AllBelow (length numbers.now) ring.items)) }
+{
+    let needs = by_need(alloc, edges)?;
+    for place in 0..numbers.len() {
+        if numbers[place] == 0 {
+            if let Some(ring) = ring_through(alloc, needs.as_slice(), numbers.len(), place)? {
+                return Ok(Some(ring));
+            }
+        }
+    }
+    Ok(None)
+}
+
+/// A shortest ring through the earliest place that is on one, or, where none is found, the one to which this place
+/// leads.
+fn told_ring<A: Allocator + Copy>(
+    alloc: A,
+    edges: &[(usize, usize)],
+    numbers: &[usize],
+    first: usize,
+) -> Result<Vec<usize, A>, Memory>
+    requires range { InRange (length numbers.now) edges.now }
+    requires stuck { IsStuck (length numbers.now) edges.now numbers.now }
+    requires first { first < length numbers.now }
+    requires none { get_or numbers.now first 0 ≡ 0 }
+    ensures ring { IfOk result (λ ring. IsRing edges.now ring.items) }
+    ensures below { IfOk result (λ ring. AllBelow (length numbers.now) ring.items) }
+{
+    match earliest_ring(alloc, edges, numbers)? {
+        Some(found) => Ok(found),
+        None => ring(alloc, edges, numbers, first),
+    }
+}
+
+/// The index of the least of some numbers.
+fn least_at(places: &[usize]) -> usize
+    requires { 0 < length places.now }
+    ensures within { result < length places.now }
+    ensures least { (k : ℕ) → k < length places.now
+        → get_or places.now result 0 ≤ get_or places.now k 0 }
+{
+    let mut best = 0;
+    for place in 0..places.len() {
+        if places[place] < places[best] {
+            best = place;
+        }
+    }
+    best
+}
+
+/// A cycle: a shortest through the earliest place that is on one.
+pub(crate) fn cycle<A: Allocator + Copy>(
+    alloc: A,
+    edges: &[(usize, usize)],
+    numbers: &[usize],
+    first: usize,
+) -> Result<Vec<usize, A>, Memory>
+    requires range { InRange (length numbers.now) edges.now }
+    requires stuck { IsStuck (length numbers.now) edges.now numbers.now }
+    requires first { first < length numbers.now }
+    requires none { get_or numbers.now first 0 ≡ 0 }
+    ensures cycle { IfOk result (λ cycle. IsCycle edges.now cycle.items) }
+    ensures below { IfOk result (λ cycle. AllBelow (length numbers.now) cycle.items) }
+{
+    let ring = told_ring(alloc, edges, numbers, first)?;
+    turned(alloc, ring.as_slice(), least_at(ring.as_slice()))
+}

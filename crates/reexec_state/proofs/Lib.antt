@@ -1,3 +1,0 @@
-pub mod Generations
-mod Handed
-pub mod Lasting

@@ -1,8 +1,0 @@
-use Rattle.std.proofs.Common.{◌≡◌, drop}
-use Rattle.std.specs.List.{list_all}
-use Rattle.state_text.specs.Range.{has_ranged_words}
-use Rattle.reexec_state.proofs.handing.law_of_slots.Given as goal
-
--- those that are left decide
-abbrev pub invariant-loop-slot : goal.invariant-loop-slot
-invariant-loop-slot l = list_all has_ranged_words l.slots ≡ list_all has_ranged_words (drop l.slot-index l.slots)

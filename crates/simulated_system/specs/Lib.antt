@@ -1,4 +1,0 @@
-pub mod State
-pub mod Steps
-pub mod Objections
-pub mod Follows

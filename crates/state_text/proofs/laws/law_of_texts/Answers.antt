@@ -1,5 +1,0 @@
-use Rattle.state_text.proofs.Prefixes.{one_state}
-use Rattle.state_text.proofs.laws.law_of_texts.Goals as goal
-
-pub returns : goal.returns
-returns c = one_state

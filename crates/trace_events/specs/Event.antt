@@ -1,0 +1,29 @@
+-- One happening, in whichever memory its table lies, and what of it is an act of the system on an order.
+use Rattle.std.specs.Prelude.{ℕ, List, Option, Some, None}
+use Rattle.init_words.specs.declared.entries.Entry.{Entry}
+use Rattle.init_words.specs.declared.orders.Answer.{Answer}
+use Rattle.init_words.specs.declared.orders.Answer.TheVariants as answer
+use Rattle.trace_events.specs.declared.happenings.Happening.{Happening}
+use Rattle.trace_events.specs.declared.happenings.Happening.TheVariants.{Birth, NoBirth, Reaped, Still, NoLook, Hit, Miss}
+
+abbrev pub Event : Type 0
+Event = Happening (List Entry)
+
+-- an act of the system on an order: the id that the order was about, and the answer that the act is
+pub record SystemAct : Type 0 where
+  pub id : List ℕ
+  pub answer : Answer
+
+abbrev pub act_on : List ℕ → Answer → Option SystemAct
+act_on id given = Some (record { id = id; answer = given })
+
+-- the act that a happening is; a death is none, since nothing was ordered
+abbrev pub act_in : Event → Option SystemAct
+act_in (Birth id n) = act_on id (answer.Born n)
+act_in (NoBirth id) = act_on id answer.NotBorn
+act_in (Reaped id n status) = act_on id (answer.Ended status)
+act_in (Still id) = act_on id answer.Alive
+act_in (NoLook id) = act_on id answer.NoLook
+act_in (Hit id) = act_on id answer.Hit
+act_in (Miss id) = act_on id answer.Miss
+act_in _ = None

@@ -1,0 +1,48 @@
+-- The run in which init takes first due steps until nothing is due, and only then the system or the edge goes on.
+use Rattle.std.specs.Prelude.{Bool, true, false, ◌&&◌, List, [], ◌∷◌, Option, Some, None}
+use Rattle.inittab_text.specs.Tables.{is_distinct}
+use Rattle.trace_events.specs.declared.happenings.Happening.TheVariants.{NewTable, NotRead, Enter, Call, Power, Asked, Hold, Settle}
+use Rattle.trace_events.specs.declared.steps.Step.{Step}
+use Rattle.trace_events.specs.declared.steps.Step.TheVariants as step
+use Rattle.trace_events.specs.declared.steps.Goal.{Goal}
+use Rattle.trace_events.specs.Event.{Event}
+use Rattle.trace_events.specs.Due.{due, first, same_step}
+use Rattle.trace_events.specs.Sound.{may_come}
+
+-- init waits for the world: nothing is due, or inittab is to be read, or init to be re-executed
+abbrev pub is_rest : Step → Bool
+is_rest step.Idle = true
+is_rest step.Reread = true
+is_rest step.Reexec = true
+is_rest _ = false
+
+abbrev pub is_reread : Step → Bool
+is_reread step.Reread = true
+is_reread _ = false
+
+-- the step of init that a happening is; a table is none, since a script names it
+abbrev pub step_in : Event → Option Step
+step_in (Enter stage grace) = Some (step.Enter stage grace)
+step_in (Call letter) = Some (step.Call letter)
+step_in (Power kind) = Some (step.Power kind)
+step_in (Asked id ask) = Some (step.Order id ask)
+step_in (Hold id) = Some (step.Hold id)
+step_in (Settle level) = Some (step.Settle level)
+step_in _ = None
+
+abbrev pub is_next_by : Step → Option Step → Bool
+is_next_by due_now None = is_rest due_now
+is_next_by due_now (Some taken) = same_step due_now taken
+
+-- where this step is the first due, the happening is that step, or init waits for it
+abbrev pub is_next : Step → Event → Bool
+is_next due_now (NewTable table) = is_reread due_now
+is_next due_now NotRead = is_reread due_now
+is_next due_now happening = is_next_by due_now (step_in happening)
+
+-- a run: it begins with a table, and each later happening is the next one and may come
+abbrev pub is_run : Goal → List Event → Bool
+is_run goal [] = false
+is_run goal (NewTable table ∷ []) = is_distinct table
+is_run goal (happening ∷ past) =
+    is_next (first (due goal past)) happening && may_come goal happening past && is_run goal past

@@ -1,0 +1,47 @@
+-- Which traces are sound: what init may do, what the system and the edge may do.
+use Rattle.std.specs.Prelude.{Bool, true, false, not, ◌&&◌, ◌||◌, List, [], ◌∷◌}
+use Rattle.std.specs.List.{list_any}
+use Rattle.init_words.specs.declared.orders.OrderKind.TheVariants.{Start, Look, Term, Kill}
+use Rattle.inittab_text.specs.Tables.{is_distinct}
+use Rattle.trace_events.specs.declared.happenings.Happening.TheVariants.{NewTable, NotRead, Enter, Call, Power, Asked, Hold, Settle, Birth, NoBirth, Death, Reaped, Still, NoLook, Hit, Miss, Told, Clock, Nudge, Got, Handed}
+use Rattle.trace_events.specs.declared.steps.Step.TheVariants as step
+use Rattle.trace_events.specs.declared.steps.Goal.{Goal}
+use Rattle.trace_events.specs.Event.{Event}
+use Rattle.trace_events.specs.Past.{is_child, has_number, is_dead, is_living, undone_of, is_untold, is_quiet, unreaped_children}
+use Rattle.trace_events.specs.Wanted.{is_order}
+use Rattle.trace_events.specs.Due.{is_due}
+
+-- The happening may come next. Init takes a step that is due, and a table at a quiet point. The system acts on an order
+-- on which it has not acted; it gives no number that an unreaped child has, and reaps only the dead. An act is told
+-- once. A reading of the clock, a round, a request, a hand-over, and that inittab could not be read, come anywhere.
+abbrev pub may_come : Goal → Event → List Event → Bool
+may_come goal (NewTable table) past = is_quiet past && is_distinct table
+may_come goal (Enter stage grace) past = is_due goal (step.Enter stage grace) past
+may_come goal (Call letter) past = is_due goal (step.Call letter) past
+may_come goal (Power kind) past = is_due goal (step.Power kind) past
+may_come goal (Asked id ask) past = is_due goal (step.Order id ask) past
+may_come goal (Hold id) past = is_due goal (step.Hold id) past
+may_come goal (Settle level) past = is_due goal (step.Settle level) past
+may_come goal (Birth id number) past =
+    is_order Start (undone_of id past) && not (list_any (has_number number) (unreaped_children past))
+may_come goal (NoBirth id) past = is_order Start (undone_of id past)
+may_come goal (Death number) past = is_living number past
+may_come goal (Reaped id number status) past =
+    is_order Look (undone_of id past) && list_any (is_child id number) (unreaped_children past)
+    && is_dead id number past
+may_come goal (Still id) past = is_order Look (undone_of id past)
+may_come goal (NoLook id) past = is_order Look (undone_of id past)
+may_come goal (Hit id) past = is_order Term (undone_of id past) || is_order Kill (undone_of id past)
+may_come goal (Miss id) past = is_order Term (undone_of id past) || is_order Kill (undone_of id past)
+may_come goal (Told id) past = is_untold id past
+may_come goal NotRead past = true
+may_come goal (Clock reading) past = true
+may_come goal Nudge past = true
+may_come goal (Got request) past = true
+may_come goal (Handed how) past = true
+
+-- a sound trace begins with a table, and each later happening may come where it stands
+abbrev pub is_sound : Goal → List Event → Bool
+is_sound goal [] = false
+is_sound goal (NewTable table ∷ []) = is_distinct table
+is_sound goal (happening ∷ past) = may_come goal happening past && is_sound goal past

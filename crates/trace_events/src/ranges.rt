@@ -1,0 +1,74 @@
+//! The numbers that a happening can have: ids, child numbers, statuses.
+
+ghost use Rattle.std.specs.Prelude.{◌≡◌, ◌+◌, ◌^◌, ◌<◌, true};
+ghost use Rattle.init_words.specs.Ids.{is_id};
+ghost use Rattle.trace_events.specs.Range.{is_in_range, is_short, is_status, is_hand_over};
+
+use crate::happenings::{Handed, Happening, HappeningIn};
+use init_words::{ChildNumber, Id, Status};
+use std::alloc::Allocator;
+
+// What each value is by its type.
+
+fn of_id(id: &Id)
+    ensures { is_id id.now ≡ true }
+{
+    let _ = id.as_bytes();
+}
+
+fn of_number(number: &ChildNumber)
+    ensures { number.now < 2 ^ 32 }
+{
+    let _number = number.0;
+}
+
+fn of_status(status: &Status)
+    ensures { is_status status.now ≡ true }
+{
+    if let Status::Exit(code) = status {
+        let _code = *code;
+    }
+}
+
+fn of_hand_over(how: &Handed)
+    ensures { is_hand_over how.now ≡ true }
+{
+    if let Handed::Cut(count) | Handed::Older(count) = how {
+        let _count = *count;
+    }
+}
+
+/// A happening can stand in a trace where its seconds are at most an hour: all else that it says is in range by its
+/// type. It does nothing: its contract is the law.
+pub fn law_of_ranges<A: Allocator>(happening: &HappeningIn<A>)
+    ensures { is_short happening.now ≡ true → is_in_range happening.now ≡ true }
+{
+    match happening {
+        Happening::NewTable(table) => {
+            let _ = table.len();
+        }
+        Happening::Birth(id, number) => {
+            of_id(id);
+            of_number(number);
+        }
+        Happening::Reaped(id, number, status) => {
+            of_id(id);
+            of_number(number);
+            of_status(status);
+        }
+        Happening::Death(number) => of_number(number),
+        Happening::Asked(id, _)
+        | Happening::Hold(id)
+        | Happening::NoBirth(id)
+        | Happening::Still(id)
+        | Happening::NoLook(id)
+        | Happening::Hit(id)
+        | Happening::Miss(id)
+        | Happening::Told(id) => of_id(id),
+        Happening::Clock(reading) => {
+            let _reading = *reading;
+        }
+        Happening::Handed(how) => of_hand_over(how),
+        _ => {}
+    }
+}

@@ -1,2 +1,0 @@
-pub mod Happenings
-pub mod Following

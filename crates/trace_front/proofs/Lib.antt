@@ -1,4 +1,0 @@
-pub mod FormLemmas
-pub mod FrontLemmas
-pub mod LineFronts
-pub mod PartLemmas

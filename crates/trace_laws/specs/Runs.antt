@@ -1,0 +1,47 @@
+-- Runs of init that nothing disturbs: all that happens by itself is that children end that init waits for.
+use Rattle.std.specs.Prelude.{◌≡◌, Bool, true, false, not, ◌&&◌, ◌||◌, List, [], ◌∷◌, ◌++◌}
+use Rattle.std.specs.List.{list_all}
+use Rattle.std.specs.Option.{option_map_or}
+use Rattle.init_words.specs.declared.orders.OrderKind.TheVariants.{Start}
+use Rattle.init_words.specs.Entries.{waited_of}
+use Rattle.inittab_text.specs.Tables.{entry_of}
+use Rattle.trace_events.specs.declared.happenings.Happening.TheVariants as happened
+use Rattle.trace_events.specs.declared.steps.Step.{Step}
+use Rattle.trace_events.specs.declared.steps.Step.TheVariants.{Enter, Order}
+use Rattle.trace_events.specs.Event.{Event}
+use Rattle.trace_events.specs.Past.{Child, has_number, table_of, unreaped_children}
+
+-- init waits for the child's end: the table has its id with an action that is waited for
+abbrev pub is_awaited : List Event → Child → Bool
+is_awaited past child = option_map_or waited_of (entry_of child.id (table_of past)) false
+
+-- a happening that disturbs nothing: no request comes, no entry is called, inittab isn't read again, init isn't executed
+-- anew, no start fails, and a child that ends is one that init waits for
+abbrev pub is_mild : Event → List Event → Bool
+is_mild (happened.NewTable table) past = false
+is_mild happened.NotRead past = false
+is_mild (happened.Got request) past = false
+is_mild (happened.Handed how) past = false
+is_mild (happened.Call letter) past = false
+is_mild (happened.Power kind) past = false
+is_mild (happened.NoBirth id) past = false
+is_mild (happened.Death number) past =
+    list_all (λ child. not (has_number number child) || is_awaited past child) (unreaped_children past)
+is_mild _ past = true
+
+-- nothing disturbs the run: behind its first table all happenings are so
+abbrev pub is_undisturbed : List Event → Bool
+is_undisturbed [] = true
+is_undisturbed (happened.NewTable table ∷ []) = true
+is_undisturbed (happening ∷ past) = is_mild happening past && is_undisturbed past
+
+-- the stages entered and the starts ordered, the oldest first
+abbrev pub taken : List Event → List Step
+taken [] = []
+taken (happened.Enter stage grace ∷ past) = taken past ++ Enter stage grace ∷ []
+taken (happened.Asked id Start ∷ past) = taken past ++ Order id Start ∷ []
+taken (_ ∷ past) = taken past
+
+-- a list begins with another one
+abbrev pub BeginsWith : List Step → List Step → Type 0
+BeginsWith first all = (rest : List Step) × (first ++ rest ≡ all)

@@ -1,0 +1,98 @@
+-- What a brief log has written and holds behind a happening that it took or refused, and at its end.
+use Rattle.std.proofs.Common.{◌≡◌, refl, sym, ◌∙◌, ap, subst, Bool, true, false, List, [], ◌∷◌, ◌++◌, append-nil, reverse, Ok, Err, OnOk, OnErr, is_ok, is_err, ◌&&◌, arith}
+use Rattle.std.proofs.lemmas.List.{reverse-append}
+use Rattle.std.specs.declared.result.Result.{Result}
+use Rattle.trace_events.specs.Event.{Event}
+use Rattle.trace_brief.specs.declared.held.Held.{Held}
+use Rattle.trace_brief.specs.Brief.{brief_of}
+use Rattle.trace_brief.specs.Holding.{Holds, held_events, next_held}
+use Rattle.trace_log.specs.Logs.{LogState}
+use Rattle.trace_log_wrappers.specs.Adding.{AddsHappenings, AddsFront, held_first, newly_first}
+use Rattle.trace_log_wrappers.specs.Keeping.{EndsBrief, HandsOn, TookBy, Writes}
+use Rattle.trace_log_wrappers.proofs.Writing.{kept_end, kept_front, kept_next, kept_part}
+
+-- a trace with a happening behind it, turned
+turned : (trace : List Event) (happening : Event) → reverse (trace ++ happening ∷ []) ≡ happening ∷ reverse trace
+turned trace happening = reverse-append trace (happening ∷ [])
+
+module _ {T E : Type 0} (r : Result T E) (Ranged : Type 0) (happening : Event) (old new : LogState) (held next : Held) where
+  pub took_ok : old.failed ≡ false → new.failed ≡ is_err r → OnOk r (next ≡ next_held happening held) → OnOk r (Ranged → AddsHappenings old new (newly_first happening held))
+      → OnOk r (Ranged → (before : List Event) → TookBy old.failed old held before → TookBy new.failed new next (before ++ happening ∷ []))
+  took_ok works flag is adds = by r flag is adds
+    where
+      by : (r : Result T E) → new.failed ≡ is_err r → OnOk r (next ≡ next_held happening held) → OnOk r (Ranged → AddsHappenings old new (newly_first happening held))
+          → OnOk r (Ranged → (before : List Event) → TookBy old.failed old held before → TookBy new.failed new next (before ++ happening ∷ []))
+      by (Err e) flag is adds = tt
+      by (Ok x) flag is adds = λ ranged before took.
+          let writes : Writes old held before = subst (λ b. TookBy b old held before) works took in
+          subst (λ b. TookBy b new next (before ++ happening ∷ [])) (sym flag) (record {
+            written = writes.written ++ newly_first happening held;
+            is = adds ranged writes.written writes.is;
+            holds = subst (λ trace. Holds next (reverse (writes.written ++ newly_first happening held)) trace) (sym (turned before happening))
+                (subst (λ h. Holds h (reverse (writes.written ++ newly_first happening held)) (happening ∷ reverse before)) (sym is)
+                (kept_next happening held writes.written (reverse before) writes.holds));
+          })
+
+  pub took_err : old.failed ≡ false → new.failed ≡ is_err r → OnErr r (Ranged → AddsFront old new (newly_first happening held))
+      → OnErr r (Ranged → (before : List Event) → TookBy old.failed old held before → TookBy new.failed new next before)
+  took_err works flag adds = by r flag adds
+    where
+      by : (r : Result T E) → new.failed ≡ is_err r → OnErr r (Ranged → AddsFront old new (newly_first happening held))
+          → OnErr r (Ranged → (before : List Event) → TookBy old.failed old held before → TookBy new.failed new next before)
+      by (Ok x) flag adds = tt
+      by (Err e) flag adds = λ ranged before took.
+          let writes : Writes old held before = subst (λ b. TookBy b old held before) works took in
+          let parts = adds ranged writes.written writes.is in
+          subst (λ b. TookBy b new next before) (sym flag) (
+            writes.written ++ parts.first,
+            record {
+              more = happening ∷ [];
+              most = omega arith;
+              rest = parts.rest ++ reverse (held_events (next_held happening held));
+              front = kept_front writes.written parts.first parts.rest _ (reverse before) parts.all happening held refl writes.holds ∙ ap (λ trace. reverse (brief_of trace)) (sym (turned before happening));
+            },
+            parts.gained,
+          )
+
+-- a log that took nothing yet
+pub took_none : (failed : Bool) (log : LogState) (held : Held) → Holds held [] [] → log.taken [] → TookBy failed log held []
+took_none false log held holds none = record { written = []; is = none; holds = holds }
+took_none true log held holds none = ([], record { more = []; most = omega arith; rest = reverse (brief_of []); front = refl }, none)
+
+-- ---- at its end
+
+-- one that has failed hands on nothing more
+pub hands_failed : (log : LogState) (held : Held) → log.failed ≡ true → (trace : List Event) → TookBy log.failed log held trace → HandsOn false log.taken trace
+hands_failed log held failed trace took = subst (λ b. TookBy b log held trace) failed took
+
+module _ {T E : Type 0} (r : Result T E) (old new : LogState) (held : Held) where
+  pub hands_held : old.failed ≡ false → OnOk r (AddsHappenings old new (held_first held)) → OnErr r (AddsFront old new (held_first held))
+      → (handed : Bool) → handed ≡ is_ok r → (trace : List Event) → TookBy old.failed old held trace → HandsOn handed new.taken trace
+  hands_held works adds part handed is trace took = subst (λ b. HandsOn b new.taken trace) (sym is) (by r adds part)
+    where
+      writes : Writes old held trace
+      writes = subst (λ b. TookBy b old held trace) works took
+
+      by : (r : Result T E) → OnOk r (AddsHappenings old new (held_first held)) → OnErr r (AddsFront old new (held_first held)) → HandsOn (is_ok r) new.taken trace
+      by (Ok x) adds part = subst new.taken (kept_end held writes.written (reverse trace) writes.holds) (adds writes.written writes.is)
+      by (Err e) adds part =
+          let parts = part writes.written writes.is in (
+            writes.written ++ parts.first,
+            record {
+              more = [];
+              most = omega arith;
+              rest = parts.rest;
+              front = kept_part writes.written parts.first parts.rest _ (reverse trace) parts.all held refl writes.holds ∙ ap (λ t. reverse (brief_of (reverse t))) (sym (append-nil trace));
+            },
+            parts.gained,
+          )
+
+-- and the log behind it ends
+pub ends : (has_ended : Bool → List Event → Type 0) (taken : List Event → Type 0) (handed whole : Bool) (trace : List Event)
+    → HandsOn handed taken trace → ((t : List Event) → taken t → has_ended whole t) → (ended : Bool) → ended ≡ (handed && whole) → EndsBrief has_ended ended trace
+ends has_ended taken handed whole trace hands ended_so ended is = subst (λ b. EndsBrief has_ended b trace) (sym is) (by handed whole hands ended_so)
+  where
+    by : (handed whole : Bool) → HandsOn handed taken trace → ((t : List Event) → taken t → has_ended whole t) → EndsBrief has_ended (handed && whole) trace
+    by true true hands so = so _ hands
+    by true false hands so = (_, record { more = []; most = omega arith; rest = []; front = append-nil _ ∙ ap (λ t. reverse (brief_of (reverse t))) (sym (append-nil trace)) }, (false, so _ hands))
+    by false whole (written, part, took) so = (written, part, (whole, so written took))

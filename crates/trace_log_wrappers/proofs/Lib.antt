@@ -1,0 +1,4 @@
+pub mod AddLemmas
+pub mod KeepLemmas
+pub mod Noted
+pub mod Writing

@@ -1,0 +1,14 @@
+-- One more happening that breaks no law is one more that is judged.
+use Rattle.std.proofs.Common.{◌∷◌, ap, subst, sym, suc, None}
+use native.Mathlib.Numerals.{unary_clauses}
+use Rattle.trace_check.specs.Judging.{TakesNext}
+use Rattle.trace_log_wrappers.specs.Judgements.{FindsBy}
+use Rattle.trace_log_wrappers.proofs.judgements.Judgement.with_next.Goals as goal
+
+pub returns-in-Ok-None : goal.returns-in-Ok-None
+returns-in-Ok-None g c = λ past finds.
+    let happening = c.args.happening.now in
+    let found = subst (λ j. FindsBy c.args.judge.now j past) c.in-Lawful.is finds in
+    let next : TakesNext None c.args.judge.now c.take.new.self happening =
+    subst (λ law. TakesNext law c.args.judge.now c.take.new.self happening) c.in-Ok-None.field-0-is c.in-Ok-None.ensures.next in
+    c.lawful.ensures c.take.new.self (happening ∷ past) (next past found.0) (simp unary_clauses (ap suc (sym found.1)))

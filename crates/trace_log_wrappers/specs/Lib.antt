@@ -1,0 +1,5 @@
+pub mod Adding
+pub mod Ends
+pub mod Judgements
+pub mod Keeping
+pub mod Notes

@@ -1,0 +1,55 @@
+-- What a log of notes keeps beside the log that it stands in front of.
+use Rattle.std.specs.Prelude.{◌≡◌, if◌then◌else◌, ℕ, Bool, true, min, List, reverse, Option, Some, None}
+use Rattle.std.specs.Map.{lookup}
+use Rattle.init_words.specs.declared.children.Status.{Status}
+use Rattle.init_words.specs.Ids.{same_id}
+use Rattle.trace_events.specs.Event.{Event}
+use Rattle.trace_log.specs.Logs.{LogState}
+use Rattle.trace_log_wrappers.specs.declared.run_notes.LastEnd.{LastEnd}
+use Rattle.trace_log_wrappers.specs.declared.run_notes.LastEnd.TheVariants.{Ended, Never, Unnoted}
+use Rattle.trace_log_wrappers.specs.declared.run_notes.TheConstants.{BIRTHS_LIMIT}
+use Rattle.trace_log_wrappers.specs.Ends.{births, ends_of, number_of}
+
+-- how many children were born; how the last child of each id ended; the numbers of the unreaped children by id; and
+-- whether there was memory to note all of these
+pub record Notes : Type 0 where
+  pub births : ℕ
+  pub ends : List (List ℕ × Status)
+  pub running : List (List ℕ × ℕ)
+  pub complete : Bool
+
+abbrev pub end_in : List ℕ → List (List ℕ × Status) → Option Status
+end_in id ends = lookup (same_id id) ends
+
+abbrev pub last_of : Option Status → LastEnd
+last_of (Some status) = Ended status
+last_of None = Never
+
+-- how the last child of the id that ended did so, where there was memory to note each end
+abbrev pub last_noted : List ℕ → Notes → LastEnd
+last_noted id notes = if notes.complete then last_of (end_in id notes.ends) else Unnoted
+
+abbrev pub number_in : List ℕ → List (List ℕ × ℕ) → Option ℕ
+number_in id running = lookup (same_id id) running
+
+-- each id has the number there that its unreaped child has in this trace, the newest happening first
+abbrev pub IsRunning : List (List ℕ × ℕ) → List Event → Type 0
+IsRunning running past = (id : List ℕ) → number_in id running ≡ number_of id past
+
+-- they are the notes of this trace, the newest happening first
+pub record NotesOf (notes : Notes) (past : List Event) : Type 0 where
+  pub births : notes.births ≡ min (births past) BIRTHS_LIMIT
+  pub ends : notes.complete ≡ true → notes.ends ≡ ends_of past
+  pub running : notes.complete ≡ true → IsRunning notes.running past
+
+-- a log with notes: the log in front of which it stands, and what is noted
+pub record Noted (L : Type 0) : Type 0 where
+  pub log : L
+  pub notes : Notes
+
+-- it took what the other log took, and the notes are of that
+abbrev pub noted_state : {L : Type 0} → (L → LogState) → Noted L → LogState
+noted_state state noted = record {
+  taken = λ trace. NotesOf noted.notes (reverse trace) × (state noted.log).taken trace;
+  failed = (state noted.log).failed;
+}

@@ -1,0 +1,244 @@
+//! A log in front of another one, that notes of the happenings what the end of a run tells: how many children were
+//! born, which of them are not reaped, and how the last child of each id ended.
+
+ghost use Rattle.std.specs.Prelude.{◌≡◌, ◌+◌, ◌∷◌, [], min, true, List, OnOk};
+ghost use Rattle.trace_events.specs.Event.{Event};
+ghost use Rattle.trace_log_wrappers.specs.Ends.{births, ends_of, last_end};
+ghost use Rattle.trace_log_wrappers.specs.Notes.{IsRunning, NotesOf, last_noted, last_of};
+
+use indexmap::IndexMap;
+use init_words::{ChildNumber, Id, Memory, Status};
+use std::alloc::{Allocator, Global};
+use std::hash::{BuildHasherDefault, FoldHasher};
+use std::marker::Model;
+use trace_events::{Happening, HappeningIn};
+use trace_log::{Log, LogFault};
+
+/// The numbers of children by id, those that were born first in front.
+pub type Numbers<A = Global> = IndexMap<Id, ChildNumber, BuildHasherDefault<FoldHasher>, A>;
+
+/// How the last children of ids ended.
+type Ends<A> = IndexMap<Id, Status, BuildHasherDefault<FoldHasher>, A>;
+
+/// How the last child of an id that ended did so.
+#[derive(Clone, Copy, PartialEq, Eq)]
+pub enum LastEnd {
+    Ended(Status),
+    /// None has ended.
+    Never,
+    /// There was no memory to note each end.
+    Unnoted,
+}
+
+/// The greatest number of births that is counted.
+pub const BIRTHS_LIMIT: u64 = u64::MAX;
+
+/// What is noted of the happenings of a run.
+#[derive(Drop)]
+pub struct RunNotes<A: Allocator = Global> {
+    births: u64,
+    ends: Ends<A>,
+    running: Numbers<A>,
+    is_complete: bool,
+}
+
+impl<A: Allocator> Model for RunNotes<A> {
+    ghost use Rattle.trace_log_wrappers.specs.Notes.{Notes};
+
+    ghost Value = { Notes };
+
+    ghost view = { λ notes. record {
+      births = notes.births;
+      ends = notes.ends.entries;
+      running = notes.running.entries;
+      complete = notes.is_complete;
+    } };
+}
+
+impl<A: Allocator + Copy> RunNotes<A> {
+    ghost use Rattle.std.specs.Prelude.{IfSome, IsSome, ◌↔◌, true};
+
+    /// Notes of nothing. It takes no memory.
+    fn new(alloc: A) -> RunNotes<A>
+        ensures { NotesOf result [] }
+    {
+        RunNotes {
+            births: 0,
+            ends: IndexMap::new(alloc),
+            running: IndexMap::new(alloc),
+            is_complete: true,
+        }
+    }
+
+    /// How many children were born.
+    pub fn births(&self) -> u64
+        ensures value { result ≡ self.now.births }
+        ensures trace { (past : List Event) → NotesOf self.now past
+            → result ≡ min (births past) BIRTHS_LIMIT }
+    {
+        self.births
+    }
+
+    /// How the last child of the id that ended did so.
+    pub fn last(&self, id: &Id) -> LastEnd
+        ensures value { result ≡ last_noted id.now self.now }
+        ensures trace { (past : List Event) → NotesOf self.now past
+            → self.now.complete ≡ true → result ≡ last_of (last_end id.now past) }
+    {
+        self.noted_end(id)
+    }
+
+    fn noted_end(&self, id: &Id) -> LastEnd
+        ensures { result ≡ last_noted id.now self.now }
+    {
+        if !self.is_complete {
+            return LastEnd::Unnoted;
+        }
+        match self.ends.get(id) {
+            Some(status) => LastEnd::Ended(*status),
+            None => LastEnd::Never,
+        }
+    }
+
+    /// The unreaped children; None where there was no memory to note all of them.
+    pub fn running(&self) -> Option<&Numbers<A>>
+        ensures complete { IsSome result ↔ (self.now.complete ≡ true) }
+        ensures value { IfSome result (λ numbers. numbers.now.entries ≡ self.now.running) }
+        ensures trace { (past : List Event) → NotesOf self.now past
+            → IfSome result (λ numbers. IsRunning numbers.now.entries past) }
+    {
+        if self.is_complete {
+            Some(&self.running)
+        } else {
+            None
+        }
+    }
+
+    /// Notes a happening.
+    fn note<B: Allocator>(&mut self, happening: &HappeningIn<B>)
+        ensures { (past : List Event) → NotesOf self.old past
+            → NotesOf self.new (happening.now ∷ past) }
+    {
+        self.births = counted(self.births, happening);
+        let ends = note_end(&mut self.ends, happening);
+        let children = note_child(&mut self.running, happening);
+        if ends.is_err() || children.is_err() {
+            self.is_complete = false;
+        }
+    }
+}
+
+/// A log in front of another one, to which each happening is handed on. What the other one takes is noted.
+#[derive(Drop)]
+pub struct NotedLog<L, A: Allocator = Global> {
+    log: L,
+    notes: RunNotes<A>,
+}
+
+impl<L, A: Allocator> Model for NotedLog<L, A> {
+    ghost use Rattle.trace_log_wrappers.specs.Notes.{Noted};
+
+    ghost Value = { Noted L };
+
+    ghost view = { λ noted. record { log = noted.log; notes = noted.notes } };
+}
+
+impl<L: Log, A: Allocator + Copy> NotedLog<L, A> {
+    ghost use Rattle.trace_log_wrappers.specs.Notes.{noted_state};
+
+    /// A log with notes of nothing, in front of this log. It takes no memory.
+    pub fn new(alloc: A, log: L) -> NotedLog<L, A>
+        ensures log { result.log ≡ log }
+        ensures nothing { (L.state log).taken [] → (noted_state L.state result).taken [] }
+    {
+        NotedLog {
+            log,
+            notes: RunNotes::new(alloc),
+        }
+    }
+
+    /// The other log, and the notes of what it took.
+    pub fn into_parts(self) -> (L, RunNotes<A>)
+        ensures { result ≡ (self.log, self.notes) }
+    {
+        let NotedLog { log, notes } = self;
+        (log, notes)
+    }
+}
+
+/// How many births there are behind a happening, with so many before it.
+fn counted<B: Allocator>(before: u64, happening: &HappeningIn<B>) -> u64
+    ensures { (past : List Event) → before ≡ min (births past) BIRTHS_LIMIT
+        → result ≡ min (births (happening.now ∷ past)) BIRTHS_LIMIT }
+{
+    match happening {
+        Happening::Birth(_, _) => before.saturating_add(1),
+        _ => before,
+    }
+}
+
+/// Keeps how the last children ended behind a happening.
+fn note_end<A: Allocator, B: Allocator>(
+    ends: &mut Ends<A>,
+    happening: &HappeningIn<B>,
+) -> Result<(), Memory>
+    ensures { OnOk result ((past : List Event) → ends.old.entries ≡ ends_of past
+        → ends.new.entries ≡ ends_of (happening.now ∷ past)) }
+{
+    if let Happening::Reaped(id, _, status) = happening {
+        ends.insert(*id, *status)?;
+    }
+    Ok(())
+}
+
+/// Keeps the numbers of the unreaped children behind a happening.
+fn note_child<A: Allocator, B: Allocator>(
+    running: &mut Numbers<A>,
+    happening: &HappeningIn<B>,
+) -> Result<(), Memory>
+    ensures { OnOk result ((past : List Event) → IsRunning running.old.entries past
+        → IsRunning running.new.entries (happening.now ∷ past)) }
+{
+    match happening {
+        Happening::Birth(id, number) => {
+            running.insert(*id, *number)?;
+        }
+        Happening::Reaped(id, _, _) => {
+            running.shift_remove(id);
+        }
+        _ => {}
+    }
+    Ok(())
+}
+
+impl<L: Log, A: Allocator + Copy> Log for NotedLog<L, A> {
+    ghost use Rattle.std.specs.Prelude.{◌≡◌, true, false, is_err, OnOk, OnErr};
+    ghost use Rattle.trace_events.specs.Range.{is_in_range};
+    ghost use Rattle.trace_log.specs.Logs.{Gains, Stays};
+    ghost use Rattle.trace_log_wrappers.specs.Notes.{noted_state};
+
+    ghost state = { noted_state L.state };
+
+    /// Hands the happening on. It is noted where the other log took it; where not, nothing is.
+    fn take<B: Allocator>(&mut self, happening: &HappeningIn<B>) -> Result<(), LogFault>
+        requires { (L.state self.old.log).failed ≡ false }
+        ensures flag { (L.state self.new.log).failed ≡ is_err result }
+        ensures ok { OnOk result (is_in_range happening.now ≡ true
+            → Gains (noted_state L.state self.old) (noted_state L.state self.new) happening.now) }
+        ensures err { OnErr result (is_in_range happening.now ≡ true
+            → Stays (noted_state L.state self.old) (noted_state L.state self.new)) }
+        ensures log_ok { OnOk result (is_in_range happening.now ≡ true
+            → Gains (L.state self.old.log) (L.state self.new.log) happening.now) }
+        ensures log_err { OnErr result (is_in_range happening.now ≡ true
+            → Stays (L.state self.old.log) (L.state self.new.log)) }
+        ensures kept { OnErr result (self.new.notes ≡ self.old.notes) }
+    {
+        self.log.take(happening)?;
+        self.notes.note(happening);
+        Ok(())
+    }
+
+    fn failed(&self) -> bool {
+        self.log.failed()
+    }
+}

@@ -1,3 +1,0 @@
-pub mod Rest
-pub mod Coming
-pub mod Awaiting

@@ -1,0 +1,74 @@
+-- A view of a text that comes in pieces, and the texts that it has taken.
+use Rattle.std.specs.Prelude.{◌≡◌, ℕ, true, List, [], ◌∷◌, ◌++◌, reverse, Option, Some, None}
+use Rattle.text_lines.specs.Lines.{newlines}
+use Rattle.trace_events.specs.Event.{Event}
+use Rattle.trace_events.specs.Lawful.{broken}
+use Rattle.trace_events.specs.Range.{are_in_range}
+use Rattle.trace_check.specs.Laws.{law_number}
+use Rattle.trace_text.specs.Lines.{trace_text}
+use Rattle.trace_verdict.specs.Fronts.{IsLeft}
+use Rattle.trace_verdict.specs.Readers.{Reading}
+use Rattle.trace_view.specs.Viewing.{ViewState, Viewed}
+use Rattle.trace_view.specs.declared.text_views.Stop.{Stop}
+use Rattle.trace_view.specs.declared.text_views.Stop.TheVariants.{Breach, Torn}
+use Rattle.trace_view.specs.Shown.{IsBefore, IsUpTo}
+
+-- what it has not read, and how many lines it has read; the view of the trace; and why it goes no further
+pub record TextState : Type 0 where
+  pub reading : Reading
+  pub viewing : ViewState
+  pub stop : Option Stop
+
+-- the trace is what it has read of the text, and has seen
+pub record HasSeen (reading : Reading) (viewing : ViewState) (trace : List Event) (text : List ℕ) : Type 0 where
+  pub are : are_in_range trace ≡ true
+  pub whole : trace_text trace ++ reading.over ≡ text
+  pub lines : reading.lines ≡ newlines (trace_text trace)
+  pub seen : Viewed viewing (reverse trace)
+
+-- it goes no further in the text, and has seen this trace, which stands before
+abbrev pub StopsBy : Stop → ViewState → List Event → List ℕ → Type 0
+StopsBy (Breach law line) viewing trace text = IsBefore trace law line text × Viewed viewing (reverse trace)
+StopsBy (Torn number) viewing trace text = IsUpTo trace number text × Viewed viewing (reverse trace)
+
+-- it is at work on the text, of which it has seen this trace
+abbrev pub AtBy : Option Stop → TextState → List Event → List ℕ → Type 0
+AtBy None state trace text = HasSeen state.reading state.viewing trace text
+AtBy (Some stop) state trace text = StopsBy stop state.viewing trace text
+
+abbrev pub IsAt : TextState → List Event → List ℕ → Type 0
+IsAt state trace text = AtBy state.stop state trace text
+
+-- it has taken the text, and seen this trace: besides, what it has not read is less than a happening, and may become one
+abbrev pub TakenBy : Option Stop → TextState → List Event → List ℕ → Type 0
+TakenBy None state trace text = HasSeen state.reading state.viewing trace text × IsLeft state.reading.over
+TakenBy (Some stop) state trace text = StopsBy stop state.viewing trace text
+
+abbrev pub HasShown : TextState → List Event → List ℕ → Type 0
+HasShown state trace text = TakenBy state.stop state trace text
+
+-- it has taken the text
+abbrev pub HasTaken : TextState → List ℕ → Type 0
+HasTaken state text = (trace : List Event) × HasShown state trace text
+
+-- it goes on with the text, and has seen this happening more; or has taken the text
+abbrev pub ViewGoesOn : Option Event → TextState → TextState → List Event → List ℕ → Type 0
+ViewGoesOn (Some happening) old new trace text = IsAt old trace text → IsAt new (trace ++ happening ∷ []) text
+ViewGoesOn None old new trace text = IsAt old trace text → HasShown new trace text
+
+-- what a happening at this line makes of a view
+abbrev pub SeesStop : Option Stop → ViewState → ViewState → Event → ℕ → Type 0
+SeesStop None old new happening line = (past : List Event) → Viewed old past → Viewed new (happening ∷ past)
+SeesStop (Some (Breach law at)) old new happening line = (new ≡ old) × (at ≡ line)
+    × ((past : List Event) → Viewed old past → broken happening past ≡ Some (law_number law))
+SeesStop (Some (Torn number)) old new happening line = ⊥
+
+-- the happening, where it is seen: nothing stops the view there
+abbrev pub seen_by : Option Stop → Event → Option Event
+seen_by (Some stop) happening = None
+seen_by None happening = Some happening
+
+-- the line at which it holds a happening that isn't finished
+abbrev pub left_of : Option Stop → Option ℕ → Option ℕ
+left_of (Some stop) left = None
+left_of None left = left

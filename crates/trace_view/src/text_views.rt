@@ -1,0 +1,182 @@
+//! The view of the text of a trace that comes in pieces.
+
+ghost use Rattle.std.specs.Prelude.{◌≡◌, ◌^◌, ◌<◌, List, ℕ, ◌∷◌, ◌++◌, [], length, true, None, is_some, option_map, reverse, IfOk, OnOk};
+ghost use Rattle.trace_events.specs.Event.{Event};
+ghost use Rattle.trace_events.specs.Lawful.{broken};
+ghost use Rattle.trace_verdict.specs.Fronts.{line_left};
+ghost use Rattle.trace_verdict.specs.Readers.{capped};
+ghost use Rattle.trace_view.specs.Viewing.{Viewed};
+ghost use Rattle.trace_view.specs.Shown.{IsShown};
+ghost use Rattle.trace_view.specs.Views.{ViewGoesOn, HasShown, HasTaken, IsAt, SeesStop, left_of, seen_by};
+
+use crate::views::TraceView;
+use init_words::Memory;
+use std::alloc::{Allocator, Global};
+use std::marker::Model;
+use trace_check::Law;
+use trace_events::HappeningIn;
+use trace_text::ReadFault;
+use trace_verdict::TextReader;
+
+/// Why a view goes no further.
+#[derive(Clone, Copy)]
+pub enum Stop {
+    /// The happening at the line of this number, from 1, breaks this law, and no lesser one.
+    Breach(Law, u64),
+    /// The line of this number, from 1, begins no happening.
+    Torn(u64),
+}
+
+/// A view of the text of a trace that comes in pieces, cut anywhere. It goes on up to the first happening that breaks a
+/// law, and the first line that begins none.
+///
+/// A contract sees of it which texts it has taken (`HasTaken`).
+#[derive(Drop)]
+pub struct TextView<A: Allocator = Global> {
+    reader: TextReader<A>,
+    view: TraceView<A>,
+    stop: Option<Stop>,
+}
+
+impl<A: Allocator> Model for TextView<A> {
+    ghost use Rattle.trace_view.specs.Views.{TextState};
+
+    ghost Value = { TextState };
+
+    ghost view = { λ v. record { reading = v.reader; viewing = v.view; stop = v.stop } };
+}
+
+/// Shows a view the next happening, at this line.
+fn see_next<A: Allocator + Copy, B: Allocator>(
+    view: &mut TraceView<A>,
+    line: u64,
+    happening: &HappeningIn<B>,
+) -> Result<Option<Stop>, Memory>
+    ensures { IfOk result (λ stop. SeesStop stop view.old view.new happening.now line) }
+{
+    match view.take(happening)? {
+        Some(law) => Ok(Some(Stop::Breach(law, line))),
+        None => Ok(None),
+    }
+}
+
+/// The happening, where it is seen: nothing stops the view there.
+fn seen_by<A: Allocator>(stop: Option<Stop>, happening: HappeningIn<A>) -> Option<HappeningIn<A>>
+    ensures { result ≡ seen_by stop happening }
+{
+    match stop {
+        Some(_) => None,
+        None => Some(happening),
+    }
+}
+
+impl<A: Allocator + Copy> TextView<A> {
+    /// A view that has taken nothing. It takes no memory.
+    pub fn new(alloc: A) -> TextView<A>
+        ensures taken { HasTaken result [] }
+        ensures shown { HasShown result [] [] }
+    {
+        TextView {
+            reader: TextReader::new(alloc),
+            view: TraceView::new(alloc),
+            stop: None,
+        }
+    }
+
+    /// Takes the next piece of the text, and sees nothing of it yet.
+    pub fn feed(&mut self, piece: &[u8]) -> Result<(), Memory>
+        ensures { OnOk result ((trace : List Event) (text : List ℕ) → HasShown self.old trace text
+            → IsAt self.new trace (text ++ piece.now)) }
+    {
+        if let Some(_) = self.stop {
+            return Ok(());
+        }
+        self.reader.feed(piece)?;
+        Ok(())
+    }
+
+    /// Sees the next happening, and gives it; None where none is whole, and where the view goes no further. Where memory
+    /// runs out the view is of no more use.
+    pub fn next(&mut self) -> Result<Option<HappeningIn<A>>, Memory>
+        ensures goes { IfOk result (λ next. (trace : List Event) (text : List ℕ)
+            → length text < 2 ^ 64 → ViewGoesOn next self.old self.new trace text) }
+        ensures shorter { IfOk result (λ next. is_some next ≡ true
+            → length self.new.reading.over < length self.old.reading.over) }
+        ensures unstopped { IfOk result (λ next. is_some next ≡ true → self.old.stop ≡ None) }
+    {
+        if let Some(_) = self.stop {
+            return Ok(None);
+        }
+        let line = self.reader.lines().saturating_add(1);
+        match self.reader.next() {
+            Ok(Some(happening)) => {
+                let stop = see_next(&mut self.view, line, &happening)?;
+                self.stop = stop;
+                Ok(seen_by(stop, happening))
+            }
+            Ok(None) => Ok(None),
+            Err(ReadFault::Line(number)) => {
+                self.stop = Some(Stop::Torn(number));
+                Ok(None)
+            }
+            Err(ReadFault::Memory) => Err(Memory),
+        }
+    }
+
+    /// How many lines of the text it has read: those of the happenings that it has seen, as long as it goes on.
+    pub fn lines(&self) -> u64
+        ensures { result ≡ self.now.reading.lines }
+    {
+        self.reader.lines()
+    }
+
+    /// Takes the next piece of the text, and sees all happenings of it that are whole. Where memory runs out a part of it
+    /// may be taken, and the view is of no more use.
+    pub fn take(&mut self, piece: &[u8]) -> Result<(), Memory>
+        ensures { OnOk result ((text : List ℕ) → length (text ++ piece.now) < 2 ^ 64
+            → HasTaken self.old text → HasTaken self.new (text ++ piece.now)) }
+    {
+        self.feed(piece)?;
+        while self.next()?.is_some() {}
+        Ok(())
+    }
+
+    /// Shows the view a happening that the text doesn't have, and that can break no law: what comes of what was seen.
+    /// Where memory runs out the view is of no more use.
+    pub fn show<B: Allocator>(&mut self, happening: &HappeningIn<B>) -> Result<(), Memory>
+        requires { (past : List Event) → broken happening.now past ≡ None }
+        ensures { OnOk result ((past : List Event) → Viewed self.old.viewing past
+            → Viewed self.new.viewing (happening.now ∷ past)) }
+    {
+        let _law = self.view.take(happening)?;
+        Ok(())
+    }
+
+    /// The view of what was seen.
+    pub fn view(&self) -> &TraceView<A>
+        ensures { result.now ≡ self.now.viewing }
+    {
+        &self.view
+    }
+
+    fn left(&self) -> Option<u64>
+        ensures { result ≡ left_of self.now.stop
+            (option_map capped (line_left self.now.reading.lines self.now.reading.over)) }
+    {
+        match self.stop {
+            Some(_) => None,
+            None => self.reader.left(),
+        }
+    }
+
+    /// The view of what was taken, why it went no further, and the number of the line, from 1, at which the last
+    /// happening begins where that isn't finished: it isn't seen.
+    pub fn answer(&self) -> (&TraceView<A>, Option<Stop>, Option<u64>)
+        ensures { (trace : List Event) (text : List ℕ) → length text < 2 ^ 64
+            → HasShown self.now trace text
+            → IsShown text result.1 result.2 trace × Viewed result.0.now (reverse trace) }
+    {
+        let left = self.left();
+        (&self.view, self.stop, left)
+    }
+}
