@@ -7,14 +7,16 @@ use Rattle.inittab_text.specs.declared.faults.PartFault.{PartFault}
 use Rattle.inittab_text.specs.declared.faults.TableFault.{TableFault}
 use Rattle.host_calls.specs.declared.calls.Reply.{Reply}
 use Rattle.host_calls.specs.declared.calls.Reply.TheVariants.{Now, Later}
+use Rattle.host_calls.specs.Held.{HeldChildren}
 
--- how many of its calls failed; whether it takes no inittab with a faulty line; whether it tells what children do; and
--- whether it passes over the requests from before
+-- how many of its calls failed; whether it takes no inittab with a faulty line; whether it tells what children do;
+-- whether it passes over the requests from before; and the children that it holds
 pub record HostState : Type 0 where
   pub faults : ℕ
   pub strict : Bool
   pub verbose : Bool
   pub fresh : Bool
+  pub held : HeldChildren
 
 -- a strict host takes no table of an inittab in which a line is faulty; of what gives no table there is none to take
 abbrev pub is_taken : {V : Type 0} → (V → List PartFault) → Bool → Result (List Entry × V) TableFault → Bool

@@ -1,34 +1,28 @@
 //! The children of a host: started, looked at, signalled.
 
-ghost use Rattle.std.specs.Prelude.{IsTrue};
+ghost use Rattle.std.specs.Prelude.{◌≡◌, ◌++◌, ◌∷◌, [], IsTrue, IfOk, OnOk, OnErr, true, false};
+ghost use Rattle.host_calls.specs.declared.calls.Reply.TheVariants.{Now};
+ghost use Rattle.host_calls.specs.Held.{Looks, Signals, holds, without};
 ghost use Rattle.host_system.specs.Hosts.{is_look_answer, is_signal_answer};
 
 use crate::commands::{command_of, needs_shell, shown};
 use crate::costs::Line;
+use crate::held::Held;
 use crate::logs::Logs;
 use crate::news::{News, end_news, last_end_of};
 use crate::starts::Starts;
 use crate::terms::TermSender;
-use crate::troubles::Trouble;
 use indexmap::IndexMap;
-use init_words::{Answer, Id, Memory, SignalKind, Stage, Status};
+use init_words::{Answer, ChildNumber, Id, Memory, SignalKind, Stage, Status};
 use inittab_text::Table;
 use std::alloc::Allocator;
 use std::hash::{BuildHasherDefault, FoldHasher};
 use std::io::ErrorKind;
-use std::process::{Child, Command, ExitStatus, Processes};
+use std::marker::Model;
+use std::process::{Command, ExitStatus, Processes};
 use std::rt::Files;
 use std::{io, str};
 use text_lines::next_word;
-
-/// A child, and whether TERM could be sent to it.
-#[derive(Drop)]
-struct Held<C: Drop> {
-    child: C,
-    stopping: Trouble,
-    /// What an inittab that was read since its birth has for it.
-    line: Option<Line>,
-}
 
 /// The children of a host, each under its id.
 #[derive(Drop)]
@@ -36,7 +30,7 @@ pub(crate) struct Children<R: Processes, A: Allocator> {
     alloc: A,
     /// The name of the program that says what is said of them.
     program: &'static str,
-    handles: IndexMap<Id, Held<Child<R::Started>>, BuildHasherDefault<FoldHasher>, A>,
+    handles: IndexMap<Id, Held<R::Started>, BuildHasherDefault<FoldHasher>, A>,
     /// How the last child of each id ended, as far as there was memory to keep it.
     ends: IndexMap<Id, News, BuildHasherDefault<FoldHasher>, A>,
     terms: TermSender<R::Started>,
@@ -49,9 +43,19 @@ pub(crate) struct Children<R: Processes, A: Allocator> {
     logs: Option<Logs<A>>,
 }
 
+impl<R: Processes, A: Allocator> Model for Children<R, A> {
+    ghost use Rattle.host_calls.specs.Held.{HeldChildren};
+
+    ghost Value = { HeldChildren };
+
+    ghost view = { λ children. children.handles.entries };
+}
+
 impl<R: Processes, A: Allocator + Copy> Children<R, A> {
     /// No children. It takes no memory.
-    pub(crate) fn new(alloc: A, program: &'static str) -> Children<R, A> {
+    pub(crate) fn new(alloc: A, program: &'static str) -> Children<R, A>
+        ensures { result ≡ [] }
+    {
         Children {
             alloc,
             program,
@@ -66,46 +70,69 @@ impl<R: Processes, A: Allocator + Copy> Children<R, A> {
     }
 
     /// From now on it is told on standard error what children do. It takes no memory.
-    pub(crate) fn tell_all(&mut self) {
+    pub(crate) fn tell_all(&mut self)
+        ensures { self.new ≡ self.old }
+    {
         self.starts = Some(Starts::new(self.alloc, self.program));
     }
 
     /// From now on the output of the children that are started goes to logs in this folder.
-    pub(crate) fn log_to(&mut self, folder: &str) -> Result<(), Memory> {
+    pub(crate) fn log_to(&mut self, folder: &str) -> Result<(), Memory>
+        ensures { self.new ≡ self.old }
+    {
         self.logs = Some(Logs::new(self.alloc, folder)?);
         Ok(())
     }
 
-    /// Starts a child for an id that has none, and gives its number. There is room for its handle before it is born.
+    /// Starts a child for an id that has none, and gives its number.
     pub(crate) fn start<B: Allocator + Copy>(
         &mut self,
         rt: &R,
         alloc: B,
         id: Id,
         text: &[u8],
-    ) -> io::Result<u32>
+    ) -> io::Result<ChildNumber>
     where
         R: Files + Eprint,
+        ensures unheld { OnOk result (holds id self.old ≡ false) }
+        ensures born { IfOk result (λ number. self.new ≡ self.old ++ (id, number) ∷ []) }
+        ensures not_born { OnErr result (self.new ≡ self.old) }
     {
-        if self.handles.contains_key(&id) {
+        if self.holds(&id) {
             return Err(io::Error::from(ErrorKind::AlreadyExists));
         }
         let Some(mut command) = self.command(rt, alloc, &id, text)? else {
             return Err(io::Error::from(ErrorKind::InvalidInput));
         };
-        self.handles.reserve(1)?;
-        let child = command.spawn(rt)?;
-        let number = child.id();
-        let stopping = Trouble::new(self.program, "send TERM to", "TERM was sent");
-        let held = Held {
-            child,
-            stopping,
-            line: None,
-        };
-        if self.handles.insert(id, held).is_err() {
-            unreachable!()
-        }
+        let number = self.spawn(rt, id, &mut command)?;
         self.tell_start(rt, id, number);
+        Ok(number)
+    }
+
+    /// The id has a child.
+    fn holds(&self, id: &Id) -> bool
+        ensures { result ≡ holds id.now self.now }
+    {
+        self.handles.contains_key(id)
+    }
+
+    /// Starts a child by the command, and gives its number. There is room for its handle before it is born.
+    fn spawn<B: Allocator + Copy>(
+        &mut self,
+        rt: &R,
+        id: Id,
+        command: &mut Command<B>,
+    ) -> io::Result<ChildNumber>
+        requires { holds id self.old ≡ false }
+        ensures born { IfOk result (λ number. self.new ≡ self.old ++ (id, number) ∷ []) }
+        ensures not_born { OnErr result (self.new ≡ self.old) }
+    {
+        self.handles.reserve(1)?;
+        let held = Held::new(command.spawn(rt)?, self.program);
+        let number = held.number();
+        let Ok(_) = self.handles.insert(id, held) else {
+            unreachable!()
+        };
         Ok(number)
     }
 
@@ -119,6 +146,7 @@ impl<R: Processes, A: Allocator + Copy> Children<R, A> {
     ) -> io::Result<Option<Command<B>>>
     where
         R: Files + Eprint,
+        ensures { self.new ≡ self.old }
     {
         let Ok(text) = str::from_utf8(text) else {
             return Ok(None);
@@ -129,16 +157,17 @@ impl<R: Processes, A: Allocator + Copy> Children<R, A> {
         }
     }
 
-    fn tell_start(&mut self, rt: &R, id: Id, number: u32)
+    fn tell_start(&mut self, rt: &R, id: Id, number: ChildNumber)
     where
         R: Eprint,
+        ensures { self.new ≡ self.old }
     {
         let Some(starts) = &mut self.starts else {
             return;
         };
         let news = match starts.count(rt, id) {
-            Some(count) if count > 1 => News::StartedAgain(number, count),
-            _ => News::Started(number),
+            Some(count) if count > 1 => News::StartedAgain(number.0, count),
+            _ => News::Started(number.0),
         };
         self.tell(rt, &id, &news);
     }
@@ -171,14 +200,12 @@ impl<R: Processes, A: Allocator + Copy> Children<R, A> {
     pub(crate) fn look(&mut self, rt: &R, id: &Id) -> Answer
     where
         R: Eprint,
-        ensures { IsTrue (is_look_answer result) }
+        ensures kind { IsTrue (is_look_answer result) }
+        ensures held { Looks self.old self.new id.now (Now result) }
     {
-        let Some(held) = self.handles.get_mut(id) else {
-            return Answer::NoLook;
-        };
-        match held.child.try_wait() {
+        match self.try_wait(id) {
             Ok(Some(status)) => {
-                self.handles.shift_remove(id);
+                self.release(id);
                 self.note_end(rt, *id, end_news(&status));
                 Answer::Ended(status_of(&status))
             }
@@ -187,10 +214,29 @@ impl<R: Processes, A: Allocator + Copy> Children<R, A> {
         }
     }
 
+    /// How the id's child ended, where it has. An id without child has none to wait for.
+    fn try_wait(&mut self, id: &Id) -> io::Result<Option<ExitStatus>>
+        ensures held { OnOk result (IsTrue (holds id.now self.old)) }
+        ensures same { self.new ≡ self.old }
+    {
+        let Some(held) = self.handles.get_mut(id) else {
+            return Err(io::Error::from(ErrorKind::NotFound));
+        };
+        held.try_wait()
+    }
+
+    /// Holds the id's child no longer.
+    fn release(&mut self, id: &Id)
+        ensures { self.new ≡ without id.now self.old }
+    {
+        self.handles.shift_remove(id);
+    }
+
     /// Keeps how the id's child ended, and tells it, where it is told what children do.
     fn note_end(&mut self, rt: &R, id: Id, end: News)
     where
         R: Eprint,
+        ensures { self.new ≡ self.old }
     {
         if self.ends.insert(id, end).is_err() {
             self.ends.shift_remove(&id);
@@ -214,23 +260,35 @@ impl<R: Processes, A: Allocator + Copy> Children<R, A> {
     }
 
     /// The stage was entered.
-    pub(crate) fn enter(&mut self, stage: Stage) {
+    pub(crate) fn enter(&mut self, stage: Stage)
+        ensures { self.new ≡ self.old }
+    {
         self.stage = Some(stage);
     }
 
     /// Notes what an inittab that was read again has for each child.
-    pub(crate) fn note_lines<B: Allocator>(&mut self, table: &Table<B>) {
+    pub(crate) fn note_lines<B: Allocator>(&mut self, table: &Table<B>)
+        ensures { self.new ≡ self.old }
+    {
         let Some(stage) = self.stage else {
             return;
         };
         self.read_in = Some(stage);
-        for (id, held) in self.handles.iter_mut() {
-            held.line = Some(Line::of(table.get(id), stage));
-        }
+        // All are kept: `retain` says what is written to each, as `iter_mut` doesn't.
+        self.handles.retain(
+            |id: &Id, held: &mut Held<R::Started>| -> bool
+                ensures { (result ≡ true) × (held.new ≡ held.old) }
+            {
+                held.note(Line::of(table.get(id), stage));
+                true
+            },
+        );
     }
 
     /// The turn is over.
-    pub(crate) fn end_turn(&mut self) {
+    pub(crate) fn end_turn(&mut self)
+        ensures { self.new ≡ self.old }
+    {
         self.terms.end();
     }
 
@@ -238,7 +296,8 @@ impl<R: Processes, A: Allocator + Copy> Children<R, A> {
     pub(crate) fn signal(&mut self, rt: &R, id: &Id, signal: SignalKind) -> Answer
     where
         R: Eprint,
-        ensures { IsTrue (is_signal_answer result) }
+        ensures kind { IsTrue (is_signal_answer result) }
+        ensures held { Signals self.old self.new id.now (Now result) }
     {
         let sent = match signal {
             SignalKind::Term => self.term(rt, id),
@@ -257,41 +316,37 @@ impl<R: Processes, A: Allocator + Copy> Children<R, A> {
     fn say_cost(&mut self, rt: &R, id: &Id)
     where
         R: Eprint,
+        ensures { self.new ≡ self.old }
     {
         let is_same_stage = self.stage == self.read_in;
         let Some(held) = self.handles.get_mut(id) else {
             return;
         };
-        match held.line.take() {
-            Some(line) if line.is_cost(is_same_stage) => {
-                let id = shown(id.as_bytes());
-                let number = held.child.id();
-                let _ = eprintln!(rt;
-                    "{}: {id}: {line}: its child {number} is stopped",
-                    self.program
-                );
-            }
-            _ => {}
-        }
+        held.say_cost(rt, self.program, id, is_same_stage);
     }
 
     fn term(&mut self, rt: &R, id: &Id) -> bool
     where
         R: Eprint,
+        ensures held { result ≡ true → IsTrue (holds id.now self.old) }
+        ensures same { self.new ≡ self.old }
     {
         let Some(held) = self.handles.get_mut(id) else {
             return false;
         };
-        let sent = self.terms.send(rt, self.alloc, held.child.id());
-        held.stopping.tell(rt, shown(id.as_bytes()), &sent);
+        let sent = self.terms.send(rt, self.alloc, held.number().0);
+        held.tell_sent(rt, id, &sent);
         sent.is_ok()
     }
 
-    fn kill(&mut self, id: &Id) -> bool {
-        match self.handles.get_mut(id) {
-            Some(held) => held.child.kill().is_ok(),
-            None => false,
-        }
+    fn kill(&mut self, id: &Id) -> bool
+        ensures held { result ≡ true → IsTrue (holds id.now self.old) }
+        ensures same { self.new ≡ self.old }
+    {
+        let Some(held) = self.handles.get_mut(id) else {
+            return false;
+        };
+        held.kill().is_ok()
     }
 }
 

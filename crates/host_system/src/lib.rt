@@ -8,6 +8,7 @@ mod children;
 mod commands;
 mod costs;
 mod folders;
+mod held;
 mod line_faults;
 mod logs;
 mod news;

@@ -1,6 +1,6 @@
 //! The host over the operating system.
 
-ghost use Rattle.std.specs.Prelude.{◌≡◌, List, Ok, IfOk, OnErr, IsErr, true, false};
+ghost use Rattle.std.specs.Prelude.{◌≡◌, List, [], Ok, IfOk, OnErr, IsErr, true, false};
 ghost use Rattle.inittab_text.specs.declared.faults.PartFault.{PartFault};
 ghost use Rattle.host_calls.specs.Calls.{HasCause};
 ghost use Rattle.host_system.specs.Hosts.{is_taken};
@@ -14,7 +14,7 @@ use crate::pauses::{LOOK, Pauses, has_stirred};
 use crate::steady_clocks::SteadyClock;
 use crate::troubles::Trouble;
 use host_calls::{Host, HostFault, Reading, Reply, counted, is_failed_reply};
-use init_words::{Answer, ChildNumber, Id, Memory, Part, SignalKind};
+use init_words::{Answer, Id, Memory, Part, SignalKind};
 use inittab_text::{PartFault, Table, TableFault};
 use program_io::ChannelLock;
 use std::alloc::{Allocator, Global};
@@ -72,6 +72,7 @@ impl<R: Processes + Files<File = File> + Clock + Print + Eprint + Drop, A: Alloc
       strict = host.strict;
       verbose = host.verbose;
       fresh = host.fresh;
+      held = host.children;
     } };
 }
 
@@ -97,6 +98,7 @@ impl<R: Processes + Files<File = File> + Clock + Print + Eprint + Drop, A: Alloc
           strict = false;
           verbose = false;
           fresh = false;
+          held = [];
         }) }
     {
         Ok(OsHost {
@@ -271,9 +273,10 @@ fn host_result<T>(outcome: io::Result<T>) -> Result<T, HostFault>
 
 impl<R: Processes + Files<File = File> + Clock + Print + Eprint + Drop, A: Allocator + Copy> Host
     for OsHost<R, A> {
-    ghost use Rattle.std.specs.Prelude.{◌≡◌, None, false, IsTrue};
+    ghost use Rattle.std.specs.Prelude.{◌≡◌, ◌≤◌, length, None, IfOk, is_err, false, IsTrue};
     ghost use Rattle.host_calls.specs.Calls.{HasCause};
     ghost use Rattle.host_calls.specs.Calls.{is_failed_reply};
+    ghost use Rattle.host_calls.specs.Held.{Starts, Looks, Signals};
     ghost use Rattle.host_system.specs.Hosts.{HostState, is_taken, is_start_answer, is_look_answer, is_signal_answer, answers_by};
 
     ghost told = { λ _. None };
@@ -283,10 +286,12 @@ impl<R: Processes + Files<File = File> + Clock + Print + Eprint + Drop, A: Alloc
     fn start<B: Allocator + Copy>(&mut self, alloc: B, id: Id, command: &[u8]) -> Reply
         ensures cause { HasCause self.old.faults self.new.faults (is_failed_reply result) }
         ensures kind { IsTrue (answers_by is_start_answer result) }
-        ensures kept { self.new ≡ record self.old { faults = self.new.faults } }
+        ensures held { Starts self.old.held self.new.held id result }
+        ensures kept { self.new
+            ≡ record self.old { faults = self.new.faults; held = self.new.held } }
     {
         let reply = match self.children.start(&self.rt, alloc, id, command) {
-            Ok(number) => Reply::Now(Answer::Born(ChildNumber(number))),
+            Ok(number) => Reply::Now(Answer::Born(number)),
             Err(error) => {
                 self.children.say_not_born(&self.rt, &id, command, &error);
                 Reply::Now(Answer::NotBorn)
@@ -300,7 +305,9 @@ impl<R: Processes + Files<File = File> + Clock + Print + Eprint + Drop, A: Alloc
     fn look(&mut self, id: Id) -> Reply
         ensures cause { HasCause self.old.faults self.new.faults (is_failed_reply result) }
         ensures kind { IsTrue (answers_by is_look_answer result) }
-        ensures kept { self.new ≡ record self.old { faults = self.new.faults } }
+        ensures held { Looks self.old.held self.new.held id result }
+        ensures kept { self.new
+            ≡ record self.old { faults = self.new.faults; held = self.new.held } }
     {
         let reply = Reply::Now(self.children.look(&self.rt, &id));
         self.pauses.note(has_stirred(&reply));
@@ -311,7 +318,9 @@ impl<R: Processes + Files<File = File> + Clock + Print + Eprint + Drop, A: Alloc
     fn signal(&mut self, id: Id, signal: SignalKind) -> Reply
         ensures cause { HasCause self.old.faults self.new.faults (is_failed_reply result) }
         ensures kind { IsTrue (answers_by is_signal_answer result) }
-        ensures kept { self.new ≡ record self.old { faults = self.new.faults } }
+        ensures held { Signals self.old.held self.new.held id result }
+        ensures kept { self.new
+            ≡ record self.old { faults = self.new.faults; held = self.new.held } }
     {
         let reply = Reply::Now(self.children.signal(&self.rt, &id, signal));
         self.pauses.note(has_stirred(&reply));
@@ -327,20 +336,30 @@ impl<R: Processes + Files<File = File> + Clock + Print + Eprint + Drop, A: Alloc
         None
     }
 
-    fn clock(&mut self) -> Result<u64, HostFault> {
+    fn clock(&mut self) -> Result<u64, HostFault>
+        ensures cause { HasCause self.old.faults self.new.faults (is_err result) }
+        ensures kept { self.new ≡ record self.old { faults = self.new.faults } }
+    {
         let reading = host_result(self.clock.seconds(&self.rt));
         self.faults = counted(self.faults, reading.is_err());
         reading
     }
 
-    fn take_bytes(&mut self, buffer: &mut [u8]) -> Result<usize, HostFault> {
+    fn take_bytes(&mut self, buffer: &mut [u8]) -> Result<usize, HostFault>
+        ensures within { IfOk result (λ count. count ≤ length buffer.old) }
+        ensures cause { HasCause self.old.faults self.new.faults (is_err result) }
+        ensures kept { self.new ≡ record self.old { faults = self.new.faults } }
+    {
         let taken = host_result(self.channel.take_bytes(&self.rt, buffer));
         self.pauses.note(matches!(taken, Ok(count) if count > 0));
         self.faults = counted(self.faults, taken.is_err());
         taken
     }
 
-    fn read_tables<B: Allocator + Copy>(&mut self, alloc: B) -> Result<Vec<Part<B>, B>, HostFault> {
+    fn read_tables<B: Allocator + Copy>(&mut self, alloc: B) -> Result<Vec<Part<B>, B>, HostFault>
+        ensures cause { HasCause self.old.faults self.new.faults (is_err result) }
+        ensures kept { self.new ≡ record self.old { faults = self.new.faults } }
+    {
         let parts = host_result(self.paths.read_tables(&self.rt, alloc));
         self.faults = counted(self.faults, parts.is_err());
         parts
@@ -361,21 +380,25 @@ impl<R: Processes + Files<File = File> + Clock + Print + Eprint + Drop, A: Alloc
         }
     }
 
-    fn pass_over(&mut self, why: &str) {
+    fn pass_over(&mut self, why: &str)
+        ensures unchanged { self.new ≡ self.old }
+    {
         self.channel.pass_over(&self.rt, why);
     }
 
-    fn carry<B: Allocator + Copy>(
-        &mut self,
-        alloc: B,
-        text: &[u8],
-    ) -> Result<Vec<u8, B>, HostFault> {
+    fn carry<B: Allocator + Copy>(&mut self, alloc: B, text: &[u8]) -> Result<Vec<u8, B>, HostFault>
+        ensures cause { HasCause self.old.faults self.new.faults (is_err result) }
+        ensures kept { self.new ≡ record self.old { faults = self.new.faults } }
+    {
         let back = host_result(self.paths.carry(&self.rt, alloc, text));
         self.faults = counted(self.faults, back.is_err());
         back
     }
 
-    fn announce<B: Allocator>(&mut self, happening: &HappeningIn<B>) {
+    fn announce<B: Allocator>(&mut self, happening: &HappeningIn<B>)
+        ensures cause { HasCause self.old.faults self.new.faults false }
+        ensures kept { self.new ≡ record self.old { faults = self.new.faults } }
+    {
         let said = say(&self.rt, self.alloc, happening);
         if !matches!(said, Ok(0)) {
             self.saying.tell(&self.rt, "standard output", &said);
@@ -388,7 +411,9 @@ impl<R: Processes + Files<File = File> + Clock + Print + Eprint + Drop, A: Alloc
         }
     }
 
-    fn pause(&mut self) {
+    fn pause(&mut self)
+        ensures unchanged { self.new ≡ self.old }
+    {
         self.children.end_turn();
         let length = self.pauses.next();
         rest(&self.rt, &self.channel, length);

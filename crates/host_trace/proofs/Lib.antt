@@ -2,6 +2,7 @@ pub mod Acting
 pub mod Bytes
 pub mod Calling
 pub mod Ending
+pub mod Held
 pub mod Leading
 pub mod Point
 pub mod Requests

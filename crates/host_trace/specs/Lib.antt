@@ -1,3 +1,4 @@
+pub mod Held
 pub mod Leads
 pub mod Point
 pub mod Requests

@@ -1,9 +1,12 @@
 //! Laws of the requests that a host's calls bring into the trace.
 
-ghost use Rattle.std.specs.Prelude.{◌≡◌, ◌+◌, ◌++◌, ℕ, IsTrue, List, length};
+ghost use Rattle.std.specs.Prelude.{◌≡◌, ◌+◌, ◌++◌, ℕ, IsTrue, List, [], length};
 ghost use Rattle.initctl_frame.specs.Blocks.{over_of};
 ghost use Rattle.trace_events.specs.declared.steps.Goal.{Goal};
+ghost use Rattle.trace_events.specs.Past.{unreaped_children};
 ghost use Rattle.host_calls.specs.Calls.{HostCall};
+ghost use Rattle.host_calls.specs.Held.{HeldChildren};
+ghost use Rattle.host_trace.specs.Held.{AreOwn, AreNew, held_in};
 ghost use Rattle.host_trace.specs.Point.{Point, point_after, has_trace};
 ghost use Rattle.host_trace.specs.Leads.{AreTexts, are_carried, is_allowed};
 ghost use Rattle.host_trace.specs.Requests.{Brings};
@@ -40,4 +43,16 @@ pub fn law_of_texts()
         → (point_after calls p).generation ≡ p.generation + length (texts_in calls) }
     ensures carried { (goal : Goal) (calls : List HostCall) (p : Point) → AreTexts goal calls p
         → IsTrue (are_given_back calls) → IsTrue (are_carried calls p) }
+{}
+
+/// Of calls of a host that holds its children and answers nothing later, from a trace on in which no child is unreaped:
+/// where no child is born with the number of one that is held then, each answer was possible; and the host holds the
+/// unreaped children of the trace. It does nothing: its contract is the law.
+pub fn law_of_held()
+    ensures possible { (goal : Goal) (calls : List HostCall) (held : HeldChildren) (p : Point)
+        → unreaped_children p.past ≡ [] → AreOwn calls held → AreNew calls
+        → IsTrue (is_allowed goal p.past) → IsTrue (is_allowed goal (point_after calls p).past) }
+    ensures held { (calls : List HostCall) (held : HeldChildren) (p : Point)
+        → unreaped_children p.past ≡ [] → AreOwn calls held
+        → held ≡ held_in (point_after calls p).past }
 {}

@@ -1,4 +1,4 @@
-use Rattle.std.proofs.Common.{rules, ◌≡◌, sym, ◌∙◌, ap, subst, Bool, true, false}
+use Rattle.std.proofs.Common.{rules, ◌≡◌, sym, ◌∙◌, ap, subst, Bool, true, false, []}
 use Rattle.std.proofs.lemmas.Result.{IfOk-weaker}
 use Rattle.host_system.specs.Hosts.{HostState}
 use Rattle.initd_options.specs.Options.{run_of}
@@ -7,7 +7,7 @@ use Rattle.initd_command.proofs.os_hosts.host_of.Goals as goal
 use Rattle.initd_command.proofs.os_hosts.host_of.Goals.{then-said, else-said, then-said-2, else-said-2, then-said-3, else-said-3}
 
 abbrev first_host : HostState
-first_host = record { faults = 0; strict = false; verbose = false; fresh = false }
+first_host = record { faults = 0; strict = false; verbose = false; fresh = false; held = [] }
 
 -- a host that is made so where it is to, behind one that is not
 fresh_on : (h host : HostState) (b : Bool) → host ≡ record h { fresh = true } → b ≡ true → host ≡ record h { fresh = b }
@@ -31,7 +31,7 @@ strict_off h host b is none off = is ∙ ap (λ v. record h { strict = v }) (non
 -- all three
 all_made : (h₀ h₁ h₂ h₃ : HostState) (fresh verbose strict : Bool) → h₀ ≡ first_host → h₁ ≡ record h₀ { fresh = fresh }
     → h₂ ≡ record h₁ { verbose = verbose } → h₃ ≡ record h₂ { strict = strict }
-    → h₃ ≡ record { faults = 0; strict = strict; verbose = verbose; fresh = fresh }
+    → h₃ ≡ record { faults = 0; strict = strict; verbose = verbose; fresh = fresh; held = [] }
 all_made h₀ h₁ h₂ h₃ fresh verbose strict zero one two three =
     three ∙ ap (λ (h : HostState). record h { strict = strict }) (two ∙ ap (λ (h : HostState). record h { verbose = verbose }) (one ∙ ap (λ (h : HostState). record h { fresh = fresh }) zero))
 

@@ -1,0 +1,97 @@
+//! A child that a host holds: it was started, and not reaped.
+
+ghost use Rattle.std.specs.Prelude.{◌≡◌};
+
+use crate::commands::shown;
+use crate::costs::Line;
+use crate::troubles::Trouble;
+use init_words::{ChildNumber, Id};
+use std::io;
+use std::marker::Model;
+use std::process::{Child, ExitStatus, OpenProcess};
+
+/// A child with the number that it was born with, and whether TERM could be sent to it.
+#[derive(Drop)]
+pub(crate) struct Held<P: OpenProcess + Drop> {
+    number: ChildNumber,
+    child: Child<P>,
+    stopping: Trouble,
+    /// What an inittab that was read since its birth has for it.
+    line: Option<Line>,
+}
+
+impl<P: OpenProcess + Drop> Model for Held<P> {
+    ghost use Rattle.std.specs.Prelude.{ℕ};
+
+    ghost Value = { ℕ };
+
+    ghost view = { λ held. held.number };
+}
+
+impl<P: OpenProcess + Drop> Held<P> {
+    /// A child that was just started.
+    pub(crate) fn new(child: Child<P>, program: &'static str) -> Held<P> {
+        Held {
+            number: ChildNumber(child.id()),
+            child,
+            stopping: Trouble::new(program, "send TERM to", "TERM was sent"),
+            line: None,
+        }
+    }
+
+    /// Its number.
+    pub(crate) fn number(&self) -> ChildNumber
+        ensures { result ≡ self.now }
+    {
+        self.number
+    }
+
+    /// How it ended, where it has (waitpid(2) with WNOHANG).
+    pub(crate) fn try_wait(&mut self) -> io::Result<Option<ExitStatus>>
+        ensures { self.new ≡ self.old }
+    {
+        self.child.try_wait()
+    }
+
+    /// Sends it KILL (kill(2)).
+    pub(crate) fn kill(&mut self) -> io::Result<()>
+        ensures { self.new ≡ self.old }
+    {
+        self.child.kill()
+    }
+
+    /// Tells whether TERM was sent.
+    pub(crate) fn tell_sent(&mut self, rt: &impl Eprint, id: &Id, sent: &io::Result<()>)
+        ensures { self.new ≡ self.old }
+    {
+        self.stopping.tell(rt, shown(id.as_bytes()), sent);
+    }
+
+    /// An inittab that was read has this for it.
+    pub(crate) fn note(&mut self, line: Line)
+        ensures { self.new ≡ self.old }
+    {
+        self.line = Some(line);
+    }
+
+    /// Says on standard error, once, that the child, which is sent a signal, is the cost of an inittab that was read
+    /// again, where it is.
+    pub(crate) fn say_cost(
+        &mut self,
+        rt: &impl Eprint,
+        program: &'static str,
+        id: &Id,
+        is_same_stage: bool,
+    )
+        ensures { self.new ≡ self.old }
+    {
+        match self.line.take() {
+            Some(line) if line.is_cost(is_same_stage) => {
+                let id = shown(id.as_bytes());
+                let number = self.number.0;
+                let _ = eprintln!(rt; "{program}: {id}: {line}: its child {number} is stopped");
+            }
+            _ => {}
+        }
+    }
+}
