@@ -43,9 +43,9 @@ Signals held now id (Now Hit) = IsTrue (holds id held) × (now ≡ held)
 Signals held now id _ = now ≡ held
 
 -- a call of a host that holds its children, and answers nothing later
-abbrev pub Makes : HostCall → HeldChildren → HeldChildren → Type 0
-Makes (Start id command reply) held now = Starts held now id reply
-Makes (Look id reply) held now = Looks held now id reply
-Makes (Signal id sent reply) held now = Signals held now id reply
-Makes (Late late) held now = (late ≡ None) × (now ≡ held)
-Makes _ held now = now ≡ held
+abbrev pub KeepsHeld : HostCall → HeldChildren → HeldChildren → Type 0
+KeepsHeld (Start id command reply) held now = Starts held now id reply
+KeepsHeld (Look id reply) held now = Looks held now id reply
+KeepsHeld (Signal id sent reply) held now = Signals held now id reply
+KeepsHeld (Late late) held now = (late ≡ None) × (now ≡ held)
+KeepsHeld _ held now = now ≡ held

@@ -30,7 +30,7 @@ use Rattle.host_calls.specs.declared.calls.Call.TheVariants.{Start, Look, Signal
 use Rattle.host_calls.specs.declared.calls.Reply.{Reply}
 use Rattle.host_calls.specs.declared.calls.Reply.TheVariants.{Now, Later}
 use Rattle.host_calls.specs.Calls.{HostCall, PartsRead}
-use Rattle.host_calls.specs.Held.{HeldChildren, holds, holds_number, without, Starts, Looks, Signals, Makes}
+use Rattle.host_calls.specs.Held.{HeldChildren, holds, holds_number, without, Starts, Looks, Signals, KeepsHeld}
 use Rattle.initctl_frame.specs.Frames.{heard_of}
 use Rattle.host_trace.specs.Point.{Point, last_birth, acted, is_asked_for, answered, ordered, order_for, come, is_last, nudged_if, byte_after, bytes_after, reading, before_reading, before_handing, came_whole, handed_if, announced, after, point_after}
 use Rattle.host_trace.specs.Leads.{meets, is_allowed}
@@ -428,7 +428,7 @@ module _ (goal : Goal) (N : Type 0) where
   sent_to start held now id sent (Now answer.NoLook) so_far kept made = kept_same start held now so_far (ordered id (order_for sent) (Now answer.NoLook) so_far) made kept (other_signal id sent answer.NoLook so_far refl refl)
   sent_to start held now id sent Later so_far kept made = kept_same start held now so_far (past.Asked id (order_for sent) ∷ so_far) made kept (alike_asked id (order_for sent) so_far)
 
-  kept_after : (start : List Event) (call : HostCall) (held now : HeldChildren) (p : Point) → Kept goal N start held p.past → Makes call held now → ((id command : List ℕ) (n : ℕ) → call ≡ Start id command (Now (answer.Born n)) → N → holds_number n held ≡ false) → Kept goal N start now (after call p).past
+  kept_after : (start : List Event) (call : HostCall) (held now : HeldChildren) (p : Point) → Kept goal N start held p.past → KeepsHeld call held now → ((id command : List ℕ) (n : ℕ) → call ≡ Start id command (Now (answer.Born n)) → N → holds_number n held ≡ false) → Kept goal N start now (after call p).past
   kept_after start (Start id command reply) held now p kept made new = started start held now id reply p.past kept made (λ n is. new id command n (ap (Start id command) is))
   kept_after start (Look id reply) held now p kept made new = looked start held now id reply p.past kept made
   kept_after start (Signal id sent reply) held now p kept made new = sent_to start held now id sent reply p.past kept made

@@ -1,3 +1,4 @@
+pub mod IdLines
 pub mod Linting
 pub mod Meant
 pub mod Shell

@@ -14,7 +14,7 @@ use itoa::Buffer;
 use std::alloc::{AllocError, Allocator};
 use text_lines::{after_lines, cut, without_blanks};
 
-fn put<A: Allocator>(text: &mut Vec<u8, A>, bytes: &[u8]) -> Result<(), AllocError>
+pub(crate) fn put<A: Allocator>(text: &mut Vec<u8, A>, bytes: &[u8]) -> Result<(), AllocError>
     ensures { OnOk result (text.new.items ≡ text.old.items ++ bytes.now) }
 {
     text.extend_from_slice(bytes)?;
@@ -22,7 +22,7 @@ fn put<A: Allocator>(text: &mut Vec<u8, A>, bytes: &[u8]) -> Result<(), AllocErr
 }
 
 /// The file of a number.
-fn part_at(parts: &[Part], number: usize) -> Option<&Part>
+pub(crate) fn part_at(parts: &[Part], number: usize) -> Option<&Part>
     ensures { option_copied result ≡ slice_get parts.now number }
 {
     let part = parts.get(number)?;
@@ -30,7 +30,7 @@ fn part_at(parts: &[Part], number: usize) -> Option<&Part>
 }
 
 /// The name of a file.
-fn name_of(part: Option<&Part>) -> &[u8]
+pub(crate) fn name_of(part: Option<&Part>) -> &[u8]
     ensures { result.now ≡ name_of (option_copied part.entry) }
 {
     match part {
@@ -49,7 +49,11 @@ fn text_of(part: Option<&Part>) -> &[u8]
     }
 }
 
-fn add_place<A: Allocator>(text: &mut Vec<u8, A>, name: &[u8], line: u64) -> Result<(), AllocError>
+pub(crate) fn add_place<A: Allocator>(
+    text: &mut Vec<u8, A>,
+    name: &[u8],
+    line: u64,
+) -> Result<(), AllocError>
     ensures { OnOk result (text.new.items ≡ text.old.items ++ place_words name.now line) }
 {
     let mut digits = Buffer::new();
@@ -160,7 +164,7 @@ fn kind_words(kind: LineKind) -> &'static [u8]
     }
 }
 
-fn add_fault<A: Allocator>(
+pub(crate) fn add_fault<A: Allocator>(
     text: &mut Vec<u8, A>,
     part: Option<&Part>,
     fault: &PartFault,

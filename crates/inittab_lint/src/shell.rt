@@ -96,7 +96,7 @@ pub(crate) fn first_word(process: &[u8]) -> &[u8]
     }
 }
 
-fn is(word: &[u8], known: &[u8]) -> bool
+pub(crate) fn is(word: &[u8], known: &[u8]) -> bool
     ensures { result ≡ bytes_eq word.now known.now }
 {
     word == known

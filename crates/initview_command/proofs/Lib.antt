@@ -1,4 +1,5 @@
 pub mod Drawn
+pub mod Explained
 pub mod Files
 pub mod Followed
 pub mod Reloads

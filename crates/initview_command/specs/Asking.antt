@@ -1,12 +1,12 @@
 -- What the words of a command line ask of a trace, or of inittabs.
-use Rattle.std.specs.Prelude.{ℕ, Bool, false, ◌&&◌, ◌||◌, ◌==◌, nat_lt, if◌then◌else◌, List, [], ◌∷◌, length, codes, Option, Some, None, is_none}
+use Rattle.std.specs.Prelude.{ℕ, Bool, false, ◌&&◌, ◌==◌, nat_lt, if◌then◌else◌, List, [], ◌∷◌, length, codes, Option, Some, None, is_none}
 use Rattle.std.specs.Option.{option_map}
 use Rattle.std.specs.Str.{bytes_eq}
 use Rattle.init_words.specs.declared.levels.Level.{Level}
 use Rattle.init_words.specs.Ids.{id_read}
 use Rattle.init_words.specs.Levels.{level_read}
 use Rattle.initview_command.specs.declared.asking.Question.{Question}
-use Rattle.initview_command.specs.declared.asking.Question.TheVariants.{Why, Status, Json, Row, Left}
+use Rattle.initview_command.specs.declared.asking.Question.TheVariants.{Status, Json, Row, Left}
 use Rattle.initview_command.specs.declared.asking.TableQuestion.{TableQuestion}
 use Rattle.initview_command.specs.declared.asking.TableQuestion.TheVariants as table
 
@@ -15,11 +15,10 @@ abbrev pub of_two : List ℕ → Option Question
 of_two verb =
     if bytes_eq verb (codes "status") then Some Status else if bytes_eq verb (codes "left") then Some Left else None
 
--- why ID TRACE, status --json TRACE, status TRACE ID
+-- status --json TRACE, status TRACE ID
 abbrev pub of_three : List ℕ → List ℕ → List ℕ → Option Question
 of_three verb second third =
-    if bytes_eq verb (codes "why") then option_map Why (id_read second)
-    else if bytes_eq verb (codes "status") && bytes_eq second (codes "--json") then Some Json
+    if bytes_eq verb (codes "status") && bytes_eq second (codes "--json") then Some Json
     else if bytes_eq verb (codes "status") then option_map Row (id_read third)
     else None
 
@@ -29,14 +28,13 @@ question_of (verb ∷ second ∷ third ∷ []) = of_three verb second third
 question_of _ = None
 
 -- the path of the trace
-abbrev pub path_of_three : List ℕ → List ℕ → List ℕ → List ℕ
-path_of_three verb second third =
-    if bytes_eq verb (codes "why") || bytes_eq second (codes "--json") then third else second
+abbrev pub path_of_three : List ℕ → List ℕ → List ℕ
+path_of_three second third = if bytes_eq second (codes "--json") then third else second
 
 abbrev pub path_of : List (List ℕ) → List ℕ
 path_of [] = []
 path_of (verb ∷ []) = []
-path_of (verb ∷ second ∷ third ∷ []) = path_of_three verb second third
+path_of (verb ∷ second ∷ third ∷ []) = path_of_three second third
 path_of (verb ∷ second ∷ others) = second
 
 -- lint with files; diff with two, and plan with some, behind a level where one is named

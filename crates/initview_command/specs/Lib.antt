@@ -1,5 +1,6 @@
 pub mod Asking
 pub mod Charting
+pub mod Explaining
 pub mod Following
 pub mod Reloading
 pub mod Showing

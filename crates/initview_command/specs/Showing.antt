@@ -13,14 +13,12 @@ use Rattle.trace_view.specs.declared.text_views.Stop.TheVariants.{Breach, Torn}
 use Rattle.trace_view.specs.Shown.{IsShown}
 use Rattle.initview_lines.specs.Json.{status_json_text}
 use Rattle.initview_lines.specs.Left.{left_text}
-use Rattle.initview_lines.specs.Reasons.{why_text}
 use Rattle.initview_lines.specs.Status.{row_of_text, status_text}
 use Rattle.initview_command.specs.declared.asking.Question.{Question}
 use Rattle.initview_command.specs.declared.asking.Question.TheVariants as question
 
 -- the answer to a question, by the past of a trace
 abbrev pub said : Question → List Event → List ℕ
-said (question.Why id) past = why_text id past
 said question.Status past = status_text past
 said question.Json past = status_json_text past
 said (question.Row id) past = row_of_text id past

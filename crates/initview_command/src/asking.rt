@@ -8,8 +8,6 @@ use init_words::{Id, Level};
 /// What is asked of a trace.
 #[derive(Clone, Copy)]
 pub enum Question {
-    /// Why this id isn't started next.
-    Why(Id),
     /// How init and all entries stand.
     Status,
     /// The same as lines of JSON.
@@ -37,9 +35,7 @@ fn of_two(verb: &str) -> Option<Question>
 fn of_three(verb: &str, second: &str, third: &str) -> Option<Question>
     ensures { result ≡ of_three verb.now second.now third.now }
 {
-    if verb == "why" {
-        Some(Question::Why(Id::read(second.as_bytes())?))
-    } else if verb == "status" && second == "--json" {
+    if verb == "status" && second == "--json" {
         Some(Question::Json)
     } else if verb == "status" {
         Some(Question::Row(Id::read(third.as_bytes())?))
@@ -62,14 +58,10 @@ pub(crate) fn question_of(words: &[String]) -> Option<Question>
 }
 
 /// The path of the trace among three words.
-fn path_of_three<'a>(verb: &str, second: &'a str, third: &'a str) -> &'a str
-    ensures { result.now ≡ path_of_three verb.now second.now third.now }
+fn path_of_three<'a>(second: &'a str, third: &'a str) -> &'a str
+    ensures { result.now ≡ path_of_three second.now third.now }
 {
-    if verb == "why" || second == "--json" {
-        third
-    } else {
-        second
-    }
+    if second == "--json" { third } else { second }
 }
 
 /// The path of the trace that the words name.
@@ -80,7 +72,7 @@ pub(crate) fn path_of(words: &[String]) -> &str
         [] => "",
         [_] => "",
         [_, second] => second.as_str(),
-        [verb, second, third] => path_of_three(verb.as_str(), second.as_str(), third.as_str()),
+        [_, second, third] => path_of_three(second.as_str(), third.as_str()),
         [_, second, _, _, ..] => second.as_str(),
     }
 }
@@ -207,7 +199,10 @@ pub(crate) fn reason_of(words: &[String]) -> &'static str {
     match words {
         [] => "no command is given",
         [verb] if verb.as_str() == "--help" || verb.as_str() == "-h" => "",
-        [verb, _, _] if verb.as_str() == "why" || verb.as_str() == "status" => {
+        [verb, _, _] if verb.as_str() == "status" => {
+            "an ID is 1 to 8 characters of those that inittab(5) allows"
+        }
+        [verb, _, _, ..] if verb.as_str() == "why" => {
             "an ID is 1 to 8 characters of those that inittab(5) allows"
         }
         [verb, ..]

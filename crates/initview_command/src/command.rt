@@ -8,26 +8,28 @@ ghost use Rattle.initview_command.specs.declared.asking.TableQuestion.{TableQues
 ghost use Rattle.initview_command.specs.declared.charting.Form.{Form};
 ghost use Rattle.initview_command.specs.declared.reloading.Reload.{Reload};
 ghost use Rattle.initview_command.specs.Charting.{Draws, chart_form, chart_path};
+ghost use Rattle.initview_command.specs.Explaining.{Explains, why_of, why_paths, why_trace};
 ghost use Rattle.initview_command.specs.Following.{Follows, follow_path};
 ghost use Rattle.initview_command.specs.Asking.{path_of, paths_of, question_of, table_question_of};
 ghost use Rattle.initview_command.specs.Reloading.{Reloads, reload_of, reload_paths, reload_trace};
 ghost use Rattle.initview_command.specs.Showing.{Shows};
 ghost use Rattle.initview_command.specs.Tables.{Answers};
 
-use crate::asking::{path_of, paths_of, question_of, reason_of, table_question_of};
+use crate::asking::{path_of, paths_of, question_of, table_question_of};
 use crate::charting::{chart_form, chart_path, draw_file};
+use crate::explaining::explain_words;
 use crate::following::{follow_file, follow_path};
 use crate::growing::GrowingTexts;
 use crate::reloading::{reload_of, reload_paths, reload_trace, show_reload};
 use crate::showing::show_file;
 use crate::tables::show_files;
-use command_words::{is_version, print_version, report_refused_words};
+use command_words::{is_version, print_version};
 use program_io::{REFUSED, Texts};
 use std::alloc::Global;
 use std::io::Write;
 
 /// What is told of words that are no command line, behind a line that says why, and where help is asked for.
-pub const USAGE: &str = "usage: initview why ID TRACE
+pub const USAGE: &str = "usage: initview why ID TRACE [TABLE..]
        initview status TRACE [ID]
        initview status --json TRACE
        initview left TRACE
@@ -37,7 +39,8 @@ pub const USAGE: &str = "usage: initview why ID TRACE
        initview diff [--trace TRACE] [--level LEVEL] OLD NEW
        initview plan [--level LEVEL] TABLE [FILE..]
        initview --version
-  why     say why the entry ID isn't started next, and what to do
+  why     say why the entry ID isn't started next, the line of TRACE at fault, and what to do; with
+          TABLE also where the inittab has a line of ID, and why it is left out
   status  say how init and its entries stand, or the entry ID alone; with ID the exit status is 0
           where it runs, 3 where it doesn't, 4 where it is unknown; with --json a line of JSON each
   left    list the children that were born and not reaped, and their numbers
@@ -107,12 +110,23 @@ pub fn run_words<T: Texts, G: GrowingTexts, W: Write, E: Write>(
         → table_question_of (map string_bytes words.now) ≡ None
         → follow_path (map string_bytes words.now) ≡ Some path
         → Follows (G.text_at growing.now path) result (W.contents out.old) (W.contents out.new) }
+    ensures explained { (id : List ℕ) → asks_version (map string_bytes words.now) ≡ false
+        → question_of (map string_bytes words.now) ≡ None
+        → chart_form (map string_bytes words.now) ≡ None
+        → reload_of (map string_bytes words.now) ≡ None
+        → table_question_of (map string_bytes words.now) ≡ None
+        → follow_path (map string_bytes words.now) ≡ None
+        → why_of (map string_bytes words.now) ≡ Some id
+        → Explains (T.text_at texts.now) (why_trace (map string_bytes words.now))
+        (why_paths (map string_bytes words.now)) id result
+        (W.contents out.old) (W.contents out.new) }
     ensures refused { asks_version (map string_bytes words.now) ≡ false
         → question_of (map string_bytes words.now) ≡ None
         → chart_form (map string_bytes words.now) ≡ None
         → reload_of (map string_bytes words.now) ≡ None
         → table_question_of (map string_bytes words.now) ≡ None
         → follow_path (map string_bytes words.now) ≡ None
+        → why_of (map string_bytes words.now) ≡ None
         → (result ≡ REFUSED) × (out.new ≡ out.old) }
 {
     if is_version(words) {
@@ -133,6 +147,6 @@ pub fn run_words<T: Texts, G: GrowingTexts, W: Write, E: Write>(
     }
     match follow_path(words) {
         Some(path) => follow_file(growing, alloc, path, out, err),
-        None => report_refused_words("initview", reason_of(words), USAGE, err),
+        None => explain_words(texts, alloc, words, out, err),
     }
 }

@@ -4,6 +4,7 @@
 mod asking;
 mod charting;
 mod command;
+mod explaining;
 mod following;
 mod growing;
 mod reloading;

@@ -9,7 +9,7 @@ ghost use Rattle.initview_command.specs.Showing.{Shows, ShowsOf, lsb_status, row
 use crate::asking::Question;
 use crate::telling::{report_memory, report_unread, report_unwritten, tell};
 use init_words::{Id, Memory};
-use initview_lines::{json_lines, left_lines, row_line, status_lines, why_lines};
+use initview_lines::{json_lines, left_lines, row_line, status_lines};
 use program_io::{DEVICE_FAULT, DONE, PieceTaker, REFUSED, Texts, UNLAWFUL};
 use std::alloc::{AllocError, Global};
 use std::io::Write;
@@ -66,7 +66,6 @@ fn status_of(view: &TraceView, question: &Question, stop: Option<Stop>) -> u8
 {
     match question {
         Question::Row(id) => row_status(view, id, stop),
-        Question::Why(_) => stop_status(stop),
         Question::Status => stop_status(stop),
         Question::Json => stop_status(stop),
         Question::Left => stop_status(stop),
@@ -90,7 +89,6 @@ fn answer(alloc: Global, view: &TraceView, question: &Question) -> Result<Vec<u8
         → text.items ≡ said question.now past) }
 {
     match question {
-        Question::Why(id) => why_lines(alloc, view, id),
         Question::Status => status_lines(alloc, view),
         Question::Json => json_lines(alloc, view),
         Question::Row(id) => row_line(alloc, view, id),

@@ -35,8 +35,8 @@ row_is grace now row id past e1 e2 e3 = rw (e1, e2, e3) refl
 pub head_is : (stage : Option Stage) (settled : Bool) (now grace : ℕ) (wish : Option Wish) (past : List Event) → stage ≡ stage_of past → settled ≡ is_settled_now past → now ≡ time_of past → grace ≡ grace_of past → wish ≡ first_wish past → head_words stage settled now grace ++ wish_line wish ≡ head_text past
 head_is stage settled now grace wish past e1 e2 e3 e4 e5 = rw (e1, e2, e3, e4, e5) refl
 
-pub why_is : (stage : Option Stage) (now : ℕ) (row : Row) (id : List ℕ) (past : List Event) → stage ≡ stage_of past → now ≡ time_of past → row ≡ row_of id past → reason_text stage now id row ≡ why_text id past
-why_is stage now row id past e1 e2 e3 = rw (e1, e2, e3) refl
+pub why_is : (stage : Option Stage) (now : ℕ) (row : Row) (id name : List ℕ) (line : Option ℕ) (past : List Event) → stage ≡ stage_of past → now ≡ time_of past → row ≡ row_of id past → reason_text stage now id row name line ≡ why_text id name line past
+why_is stage now row id name line past e1 e2 e3 = rw (e1, e2, e3) refl
 
 pub json_row_is : (now : ℕ) (row : Row) (id : List ℕ) (past : List Event) → now ≡ time_of past → row ≡ row_of id past → row_json now id row ≡ row_of_json id past
 json_row_is now row id past e1 e2 = rw (e1, e2) refl

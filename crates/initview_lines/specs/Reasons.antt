@@ -89,11 +89,17 @@ advice_of (why.Held since) = codes "see why its children end so soon; telinit q 
 advice_of why.WindowFull = codes "see why its children end so soon"
 advice_of why.Nothing = codes "wait for init's next turn"
 
--- two lines: the id and the reason, and what to do
-abbrev pub reason_text : Option Stage → ℕ → List ℕ → Row → List ℕ
-reason_text stage now id row =
-    id ++ (codes ": " ++ (reason_words stage now row row.why
-    ++ (codes "\n  " ++ (advice_of row.why ++ codes "\n"))))
+-- the line at fault of a trace, where there is one
+abbrev pub fault_words : List ℕ → Option ℕ → List ℕ
+fault_words name None = []
+fault_words name (Some line) = codes " (" ++ (name ++ numbered (codes ":") line (codes ")"))
 
-abbrev pub why_text : List ℕ → List Event → List ℕ
-why_text id past = reason_text (stage_of past) (time_of past) id (row_of id past)
+-- two lines: the id, the reason and the line of the trace at fault; and what to do
+abbrev pub reason_text : Option Stage → ℕ → List ℕ → Row → List ℕ → Option ℕ → List ℕ
+reason_text stage now id row name line =
+    id ++ (codes ": " ++ (reason_words stage now row row.why ++ (fault_words name line
+    ++ (codes "\n  " ++ (advice_of row.why ++ codes "\n")))))
+
+-- of the id in the trace of a name
+abbrev pub why_text : List ℕ → List ℕ → Option ℕ → List Event → List ℕ
+why_text id name line past = reason_text (stage_of past) (time_of past) id (row_of id past) name line

@@ -3,7 +3,7 @@
 ghost use Rattle.std.specs.Prelude.{◌≡◌, ◌++◌, List, IfOk, OnOk};
 ghost use Rattle.trace_events.specs.Event.{Event};
 ghost use Rattle.trace_view.specs.Viewing.{Viewed};
-ghost use Rattle.initview_lines.specs.Reasons.{act_reason, advice_of, done_reason, earlier_reason, excluded_reason, held_reason, kept_reason, order_reason, reason_text, reason_words, runs_reason, stage_reason, why_text, wish_reason};
+ghost use Rattle.initview_lines.specs.Reasons.{act_reason, advice_of, done_reason, earlier_reason, excluded_reason, fault_words, held_reason, kept_reason, order_reason, reason_text, reason_words, runs_reason, stage_reason, why_text, wish_reason};
 ghost use Rattle.initview_lines.specs.Status.{births_words};
 
 use crate::status::add_births;
@@ -12,20 +12,23 @@ use init_words::{Act, ChildNumber, Id, OrderKind, Stage};
 use std::alloc::{AllocError, Allocator, Global};
 use trace_view::{Births, Ending, Excluded, Row, TraceView, Why, Wish};
 
-/// Why an id isn't started next, in a line, and in another what to do.
+/// Why an id isn't started next, in a line, with the line at fault of the trace of this name, where there is one; and in
+/// another what to do.
 pub fn why_lines<A: Allocator>(
     alloc: Global,
     view: &TraceView<A>,
     id: &Id,
+    name: &[u8],
+    line: Option<u64>,
 ) -> Result<Vec<u8>, AllocError>
     ensures { IfOk result (λ text. (past : List Event) → Viewed view.now past
-        → text.items ≡ why_text id.now past) }
+        → text.items ≡ why_text id.now name.now line past) }
 {
     let mut text = Vec::new(alloc);
     let stage = view.stage();
     let now = view.time();
     let row = view.row(id);
-    add_why(&mut text, stage, now, id, &row)?;
+    add_why(&mut text, stage, now, id, &row, name, line)?;
     Ok(text)
 }
 
@@ -35,16 +38,30 @@ fn add_why(
     now: u64,
     id: &Id,
     row: &Row,
+    name: &[u8],
+    line: Option<u64>,
 ) -> Result<(), AllocError>
     ensures { OnOk result (text.new.items
-        ≡ text.old.items ++ reason_text stage now id.now row.now) }
+        ≡ text.old.items ++ reason_text stage now id.now row.now name.now line) }
 {
     text.extend_from_slice(id.as_bytes())?;
     text.extend_from_slice(b": ")?;
     add_reason(text, stage, now, row)?;
+    add_fault(text, name, line)?;
     text.extend_from_slice(b"\n  ")?;
     text.extend_from_slice(advice_of(row.why))?;
     put(text, b"\n")?;
+    Ok(())
+}
+
+/// Adds the line at fault of a trace, where there is one.
+fn add_fault(text: &mut Vec<u8>, name: &[u8], line: Option<u64>) -> Result<(), AllocError>
+    ensures { OnOk result (text.new.items ≡ text.old.items ++ fault_words name.now line) }
+{
+    let Some(line) = line else { return Ok(()) };
+    text.extend_from_slice(b" (")?;
+    text.extend_from_slice(name)?;
+    add_number(text, b":", line, b")")?;
     Ok(())
 }
 

@@ -58,7 +58,7 @@ const TRACE_ROWS: &[Row] = &[
         &[TABLE],
         "why q t",
         0,
-        "q: the table in force has no such entry\n  add its line to the inittab, or mend it, and run telinit q\n",
+        "q: the table in force has no such entry (t:1)\n  add its line to the inittab, or mend it, and run telinit q\n",
         "",
     ),
     // Before the first stage.
@@ -74,21 +74,21 @@ const TRACE_ROWS: &[Row] = &[
         &[TABLE, SYSINIT],
         "why x t",
         0,
-        "x: its action, off, starts nothing\n  give its line another action, and run telinit q\n",
+        "x: its action, off, starts nothing (t:1)\n  give its line another action, and run telinit q\n",
         "",
     ),
     (
         &[TABLE, SYSINIT],
         "why w t",
         0,
-        "w: it doesn't start in stage sysinit\n  go to a level that its line names, or name this one and run telinit q\n",
+        "w: it doesn't start in stage sysinit (t:12)\n  go to a level that its line names, or name this one and run telinit q\n",
         "",
     ),
     (
         &[UP],
         "why f t",
         0,
-        "f: it doesn't start in level 3\n  go to a level that its line names, or name this one and run telinit q\n",
+        "f: it doesn't start in level 3 (t:22)\n  go to a level that its line names, or name this one and run telinit q\n",
         "",
     ),
     // A start that is due, is ordered and made; an end that isn't told.
@@ -103,28 +103,28 @@ const TRACE_ROWS: &[Row] = &[
         &[TABLE, SYSINIT, "ask s start\n"],
         "why s t",
         0,
-        "s: it is being started\n  wait for the answer\n",
+        "s: it is being started (t:13)\n  wait for the answer\n",
         "",
     ),
     (
         &[TABLE, SYSINIT, S_UP, "clock 1007\n"],
         "why s t",
         0,
-        "s: its child runs: pid 10, 7 s, start 1\n  end the child to have it started anew, where its action says so\n",
+        "s: its child runs: pid 10, 7 s, start 1 (t:14)\n  end the child to have it started anew, where its action says so\n",
         "",
     ),
     (
         &[TABLE, SYSINIT, S_UP, S_END],
         "why s t",
         0,
-        "s: its child 10 has ended, which init isn't told yet\n  end the child to have it started anew, where its action says so\n",
+        "s: its child 10 has ended, which init isn't told yet (t:19)\n  end the child to have it started anew, where its action says so\n",
         "",
     ),
     (
         &[TABLE, SYSINIT, S_DONE],
         "why s t",
         0,
-        "s: it was started already since the level or its line changed: exit 0, 0 s ago\n  go to another level and back to have it started again\n",
+        "s: it was started already since the level or its line changed: exit 0, 0 s ago (t:14)\n  go to another level and back to have it started again\n",
         "",
     ),
     // Waited entries keep those behind them.
@@ -132,28 +132,28 @@ const TRACE_ROWS: &[Row] = &[
         &[TABLE, SYSINIT, S_DONE, RUN],
         "why v t",
         0,
-        "v: init waits for w, which stands before it\n  ask why that one isn't done\n",
+        "v: init waits for w, which stands before it (t:22)\n  ask why that one isn't done\n",
         "",
     ),
     (
         &[TABLE, SYSINIT, S_DONE, RUN, W_UP],
         "why r t",
         0,
-        "r: init waits for w, which stands before it\n  ask why that one isn't done\n",
+        "r: init waits for w, which stands before it (t:24)\n  ask why that one isn't done\n",
         "",
     ),
     (
         &[UP],
         "why v t",
         0,
-        "v: it was started already since the level or its line changed: killed, 0 s ago\n  go to another level and back to have it started again\n",
+        "v: it was started already since the level or its line changed: killed, 0 s ago (t:32)\n  go to another level and back to have it started again\n",
         "",
     ),
     (
         &[UP, "ask o start\nnobirth o\ntold o\n"],
         "why o t",
         0,
-        "o: it was started already since the level or its line changed: its start failed, 0 s ago\n  go to another level and back to have it started again\n",
+        "o: it was started already since the level or its line changed: its start failed, 0 s ago (t:40)\n  go to another level and back to have it started again\n",
         "",
     ),
     // An entry that nothing has called, and one that is called.
@@ -161,7 +161,7 @@ const TRACE_ROWS: &[Row] = &[
         &[UP],
         "why d t",
         0,
-        "d: nothing has called it since the level or the table changed\n  call it by telinit a, b or c, or by news of the power, as its action says\n",
+        "d: nothing has called it since the level or the table changed (t:22)\n  call it by telinit a, b or c, or by news of the power, as its action says\n",
         "",
     ),
     (
@@ -176,14 +176,14 @@ const TRACE_ROWS: &[Row] = &[
         &[UP, FAILS],
         "why r t",
         0,
-        "r: it was started ten times in two minutes: it is held next\n  see why its children end so soon\n",
+        "r: it was started ten times in two minutes: it is held next (t:67)\n  see why its children end so soon\n",
         "",
     ),
     (
         &[UP, FAILS, "hold r\nclock 1040\n"],
         "why r t",
         0,
-        "r: it is held for 260 s more: it was started ten times in two minutes\n  see why its children end so soon; telinit q ends the hold\n",
+        "r: it is held for 260 s more: it was started ten times in two minutes (t:69)\n  see why its children end so soon; telinit q ends the hold\n",
         "",
     ),
     // Requests come first, each in its turn.
@@ -191,28 +191,65 @@ const TRACE_ROWS: &[Row] = &[
         &[UP, "got reload\n"],
         "why r t",
         0,
-        "r: a request is carried out first: read inittab again\n  wait for init's next turn\n",
+        "r: a request is carried out first: read inittab again (t:39)\n  wait for init's next turn\n",
         "",
     ),
     (
         &[UP, "got reload\ngot reexec\n"],
         "why r t",
         0,
-        "r: a request is carried out first: execute init anew\n  wait for init's next turn\n",
+        "r: a request is carried out first: execute init anew (t:40)\n  wait for init's next turn\n",
         "",
     ),
     (
         &[UP, "got level 4 5\nnotread\n"],
         "why r t",
         0,
-        "r: a request is carried out first: go to level 4\n  wait for init's next turn\n",
+        "r: a request is carried out first: go to level 4 (t:39)\n  wait for init's next turn\n",
         "",
     ),
     (
         &[UP, "got call A\n"],
         "why r t",
         0,
-        "r: a request is carried out first: call entries\n  wait for init's next turn\n",
+        "r: a request is carried out first: call entries (t:39)\n  wait for init's next turn\n",
+        "",
+    ),
+    // A request for another level reads inittab first; one for the level in force doesn't.
+    (
+        &[UP, "got level 4 5\n"],
+        "why r t",
+        0,
+        "r: a request is carried out first: read inittab again (t:39)\n  wait for init's next turn\n",
+        "",
+    ),
+    (
+        &[UP, "got reload\ngot level 3 5\n"],
+        "why r t",
+        0,
+        "r: a request is carried out first: read inittab again (t:39)\n  wait for init's next turn\n",
+        "",
+    ),
+    // The lines of a second table count, and the table that is in force is at fault.
+    (
+        &[UP, "got reload\nuse 2\nw:3:wait:x\nx:3:off:\nnudge\n"],
+        "why q t",
+        0,
+        "q: the table in force has no such entry (t:40)\n  add its line to the inittab, or mend it, and run telinit q\n",
+        "",
+    ),
+    (
+        &[UP, "got reload\nuse 1\nd:A:ondemand:x\nnudge\n"],
+        "why d t",
+        0,
+        "d: nothing has called it since the level or the table changed (t:40)\n  call it by telinit a, b or c, or by news of the power, as its action says\n",
+        "",
+    ),
+    (
+        &[UP, "got reload\nuse 1\nr:3:respawn:x\n", R_UP],
+        "why r t",
+        0,
+        "r: its child runs: pid 13, 0 s, start 1 (t:43)\n  end the child to have it started anew, where its action says so\n",
         "",
     ),
     // A child that may not live has to end first.
@@ -220,7 +257,7 @@ const TRACE_ROWS: &[Row] = &[
         &[UP, R_UP, "enter 4 5\n"],
         "why f t",
         0,
-        "f: r (pid 13) may not live in level 4, and has to end first\n  wait: init sends TERM, and KILL when the grace is over\n",
+        "f: r (pid 13) may not live in level 4, and has to end first (t:40)\n  wait: init sends TERM, and KILL when the grace is over\n",
         "",
     ),
     // How one id stands, with the statuses of the LSB.
@@ -364,7 +401,7 @@ const TRACE_ROWS: &[Row] = &[
         "why r",
         1,
         "",
-        "initview: a word is missing, or one is too many\nusage: initview why ID TRACE\n",
+        "initview: a word is missing, or one is too many\nusage: initview why ID TRACE [TABLE..]\n",
     ),
     (
         &[],
@@ -381,7 +418,13 @@ const TRACE_ROWS: &[Row] = &[
         "initview: a word is missing, or one is too many\nusage: ",
     ),
     (&[], "show t", 1, "", "initview: no such command\nusage: "),
-    (&[], "--help", 1, "", "usage: initview why ID TRACE\n"),
+    (
+        &[],
+        "--help",
+        1,
+        "",
+        "usage: initview why ID TRACE [TABLE..]\n",
+    ),
 ];
 
 const JSON_ROWS: &[Row] = &[
@@ -1005,6 +1048,78 @@ const BEHIND_ROWS: &[BehindRow] = &[
     ),
 ];
 
+const WHY_ROWS: &[BehindRow] = &[
+    // A line that is left out, which is why the table has no such entry; a line without a colon and a comment aren't its.
+    (
+        &[UP],
+        "",
+        "q 3 once x\n#q:3:once:x\nq:3:onec:x\n",
+        "why q t n",
+        0,
+        "q: the table in force has no such entry (t:1)\n  add its line to the inittab, or mend it, and run telinit q\nn:3: unknown action onec: once?\n",
+        "",
+    ),
+    // The line that counts, and those of another file that are left out.
+    (
+        &[UP],
+        "# levels\nf:4:respawn:x\nr:3:respawn:x\n",
+        " f:3:respawn:y\nf:3:off\n",
+        "why f t o n",
+        0,
+        "f: it doesn't start in level 3 (t:22)\n  go to a level that its line names, or name this one and run telinit q\no:2: f:4:respawn:x\nn:1: duplicate id f: the first line of it counts\nn:2: too few fields: a line is id:runlevels:action:process\n",
+        "",
+    ),
+    // No line of the id.
+    (
+        &[TABLE],
+        "r:3:respawn:x\n",
+        "",
+        "why q t o n",
+        0,
+        "q: the table in force has no such entry (t:1)\n  add its line to the inittab, or mend it, and run telinit q\no: no line has the id q\n",
+        "",
+    ),
+    // A trace that isn't shown to its end, and a last line without its end.
+    (
+        &[TABLE, "nudge \n"],
+        "",
+        "q:3:once:x",
+        "why q t n",
+        1,
+        "q: the table in force has no such entry (t:1)\n  add its line to the inittab, or mend it, and run telinit q\nn:1: q:3:once:x\n",
+        "initview: t:12: not a line of a trace: shown up to the line before it\n",
+    ),
+    // Files that can't be read.
+    (
+        &[TABLE],
+        "",
+        "",
+        "why q t u",
+        4,
+        "",
+        "initview: cannot read u: entity not found\n",
+    ),
+    (
+        &[],
+        "",
+        "",
+        "why q u n",
+        4,
+        "",
+        "initview: cannot read u: entity not found\n",
+    ),
+    // Refused words.
+    (
+        &[],
+        "",
+        "",
+        "why a_b_c_d_e t n",
+        1,
+        "",
+        "initview: an ID is 1 to 8 characters of those that inittab(5) allows\nusage: ",
+    ),
+];
+
 /// Keeps the text of the parts at the path `t`.
 fn kept_of(alloc: Global, parts: &[&str]) -> Result<KeptTexts, AllocError> {
     let mut text = Vec::new(alloc);
@@ -1088,6 +1203,14 @@ fn what_is_said_of_traces(rt: HostRuntime) -> Result<(), Fail> {
 fn what_timelines_show(rt: HostRuntime) -> Result<(), Fail> {
     for row in CHART_ROWS {
         assert!(rt; is_said(rt.alloc(), row)?, "{}", row.1);
+    }
+    Ok(())
+}
+
+#[test]
+fn what_is_said_of_an_id(rt: HostRuntime) -> Result<(), Fail> {
+    for row in WHY_ROWS {
+        assert!(rt; is_said_behind(rt.alloc(), row)?, "{}", row.3);
     }
     Ok(())
 }

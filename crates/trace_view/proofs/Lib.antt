@@ -1,3 +1,4 @@
+pub mod Lining
 pub mod Reasons
 pub mod Seeing
 pub mod SeenTexts

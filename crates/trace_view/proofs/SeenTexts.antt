@@ -42,7 +42,7 @@ seen_next reading new viewing later trace text h small seen next viewed = record
   pushed = lines_push trace h next.0
 
 -- the number of the line of the next happening
-next_line : (reading : Reading) (viewing : ViewState) (trace : List Event) (text : List ℕ) → length text < 2 ^ 64 → HasSeen reading viewing trace text → 1 ≤ length reading.over → capped (reading.lines + 1) ≡ newlines (trace_text trace) + 1
+pub next_line : (reading : Reading) (viewing : ViewState) (trace : List Event) (text : List ℕ) → length text < 2 ^ 64 → HasSeen reading viewing trace text → 1 ≤ length reading.over → capped (reading.lines + 1) ≡ newlines (trace_text trace) + 1
 next_line reading viewing trace text small seen some =
     ap (λ n. capped (n + 1)) seen.lines
     ∙ capped_is (newlines (trace_text trace) + 1) (omega (arith, small, some, lines_within trace reading.over text seen.whole))

@@ -1,3 +1,5 @@
+pub mod LastLines
+pub mod LinedViews
 pub mod Rows
 pub mod Shown
 pub mod Viewing

@@ -5,7 +5,9 @@
 #![tactic(auto)]
 
 mod children;
+mod last_lines;
 mod laws;
+mod lined_views;
 mod rows;
 mod standings;
 mod text_views;
@@ -14,7 +16,9 @@ mod whys;
 mod wishes;
 
 pub use children::BornChild;
+pub use last_lines::LastLines;
 pub use laws::law_of_reasons;
+pub use lined_views::LinedView;
 pub use rows::{Births, Ending, Row};
 pub use standings::{Excluded, Standing};
 pub use text_views::{Stop, TextView};

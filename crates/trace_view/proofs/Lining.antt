@@ -1,0 +1,66 @@
+-- One happening more: its line, and what is kept of the lines.
+use Rattle.std.proofs.Common.{◌≡◌, ℕ, ◌+◌, ◌^◌, ◌<◌, ◌≤◌, List, [], ◌∷◌, ◌++◌, length, reverse, Option, Some, None, refl, sym, ap, ◌∙◌, subst, arith}
+use Rattle.std.proofs.lemmas.List.{reverse-reverse}
+use Rattle.text_lines.specs.Lines.{newlines}
+use Rattle.init_words.specs.declared.stages.Stage.{Stage}
+use Rattle.trace_events.specs.Event.{Event}
+use Rattle.trace_events.specs.Past.{stage_of}
+use Rattle.trace_text.specs.Lines.{trace_text}
+use Rattle.trace_check.specs.State.{at}
+use Rattle.trace_verdict.specs.Readers.{capped}
+use Rattle.trace_verdict.proofs.Judging.{past_push}
+use Rattle.trace_view.specs.Viewing.{Viewed}
+use Rattle.trace_view.specs.declared.whys.Why.{Why}
+use Rattle.trace_view.specs.LastLines.{LinesState, Lined, line_after, line_behind, kinds_after, kinds_of, names, born_in, unborn_in, reaped_in, ordered_in, held_in, last_of, later, line_at_fault}
+use Rattle.trace_view.specs.LinedViews.{LinedState, IsLining, HasLined}
+use Rattle.trace_view.specs.Views.{TextState, ViewGoesOn, HasShown, IsAt}
+use Rattle.trace_view.proofs.SeenTexts.{at_none, next_line, seen_at}
+
+-- what is kept, with one happening more
+kinds_more : (happening : Event) (past : List Event) → kinds_after (stage_of past) (line_behind past) happening (kinds_of past) ≡ kinds_of (happening ∷ past)
+kinds_more happening past = refl
+
+one_more : (about : Event → Option (List ℕ)) (happening : Event) (past : List Event) (line : ℕ) (id : List ℕ) (before after : Option ℕ) → line ≡ line_behind past → before ≡ last_of about id past → after ≡ line_after (names id (about happening)) line before → after ≡ last_of about id (happening ∷ past)
+one_more about happening past line id before after at so is =
+    is ∙ ap (λ l. line_after (names id (about happening)) l before) at ∙ ap (line_after (names id (about happening)) (line_behind past)) so
+
+pub lined_more : (happening : Event) (past : List Event) (old new : LinesState) (stage : Option Stage) (line : ℕ) → new.kinds ≡ kinds_after stage line happening old.kinds → ((id : List ℕ) → at id new.births ≡ line_after (names id (born_in happening)) line (at id old.births)) → ((id : List ℕ) → at id new.failures ≡ line_after (names id (unborn_in happening)) line (at id old.failures)) → ((id : List ℕ) → at id new.reapings ≡ line_after (names id (reaped_in happening)) line (at id old.reapings)) → ((id : List ℕ) → at id new.orders ≡ line_after (names id (ordered_in happening)) line (at id old.orders)) → ((id : List ℕ) → at id new.holds ≡ line_after (names id (held_in happening)) line (at id old.holds)) → stage ≡ stage_of past → line ≡ line_behind past → Lined old past → Lined new (happening ∷ past)
+lined_more happening past old new stage line kinds births failures reapings orders holds on is lined = record {
+  kinds = kinds ∙ ap (λ s. kinds_after s line happening old.kinds) on ∙ ap (λ l. kinds_after (stage_of past) l happening old.kinds) is ∙ ap (kinds_after (stage_of past) (line_behind past) happening) lined.kinds ∙ kinds_more happening past;
+  births = λ id. one_more born_in happening past line id (at id old.births) (at id new.births) is (lined.births id) (births id);
+  failures = λ id. one_more unborn_in happening past line id (at id old.failures) (at id new.failures) is (lined.failures id) (failures id);
+  reapings = λ id. one_more reaped_in happening past line id (at id old.reapings) (at id new.reapings) is (lined.reapings id) (reapings id);
+  orders = λ id. one_more ordered_in happening past line id (at id old.orders) (at id new.orders) is (lined.orders id) (orders id);
+  holds = λ id. one_more held_in happening past line id (at id old.holds) (at id new.holds) is (lined.holds id) (holds id);
+}
+
+-- the line at which the next happening begins
+line_is : (trace : List Event) → newlines (trace_text trace) + 1 ≡ line_behind (reverse trace)
+unfolding line_behind
+line_is trace = ap (λ t. newlines (trace_text t) + 1) (sym (reverse-reverse trace))
+
+pub line_here : (state : TextState) (trace : List Event) (text : List ℕ) (line : ℕ) → length text < 2 ^ 64 → state.stop ≡ None → 1 ≤ length state.reading.over → line ≡ capped (state.reading.lines + 1) → IsAt state trace text → line ≡ line_behind (reverse trace)
+line_here state trace text line small goes some is at =
+    is ∙ next_line state.reading state.viewing trace text small (at_none state.stop state trace text goes at) some ∙ line_is trace
+
+pub some_lined : (next : Option Event) (h : Event) (old new : TextState) (before after : LinesState) (stage : Option Stage) (line : ℕ) (text : List ℕ) → length text < 2 ^ 64 → next ≡ Some h → old.stop ≡ None → length new.reading.over < length old.reading.over → line ≡ capped (old.reading.lines + 1) → ((past : List Event) → Viewed old.viewing past → stage ≡ stage_of past) → ((trace : List Event) → ViewGoesOn next old new trace text) → ((past : List Event) → stage ≡ stage_of past → line ≡ line_behind past → Lined before past → Lined after (h ∷ past)) → IsLining (record { viewing = old; lines = before }) text → IsLining (record { viewing = new; lines = after }) text
+some_lined next h old new before after stage line text small is went shorter at_line stages goes takes at =
+    let P : Option Event → Type 0 = λ n. ViewGoesOn n old new at.0 text in
+    let some : 1 ≤ length old.reading.over = omega (arith, shorter) in (
+      at.0 ++ h ∷ [],
+      subst P is (goes at.0) at.1,
+      subst (Lined after) (sym (past_push at.0 h))
+          (takes (reverse at.0) (stages (reverse at.0) (seen_at old.stop old at.0 text at.1)) (line_here old at.0 text line small went some at_line at.1) at.2),
+    )
+
+pub none_lined : (next : Option Event) (old new : TextState) (lines : LinesState) (text : List ℕ) → next ≡ None → ((trace : List Event) → ViewGoesOn next old new trace text) → IsLining (record { viewing = old; lines = lines }) text → HasLined (record { viewing = new; lines = lines }) text
+none_lined next old new lines text is goes at =
+    let P : Option Event → Type 0 = λ n. ViewGoesOn n old new at.0 text in
+    (at.0, subst P is (goes at.0) at.1, at.2)
+
+-- the line at fault, by the reason
+pub by_reason : (reason is : Why) (id : List ℕ) (past : List Event) (line : Option ℕ) → reason ≡ is → line ≡ line_at_fault id is past → line ≡ line_at_fault id reason past
+by_reason reason is id past line same so = subst (λ r. line ≡ line_at_fault id r past) (sym same) so
+
+pub later_of : (one two first second line : Option ℕ) → line ≡ later one two → one ≡ first → two ≡ second → line ≡ later first second
+later_of one two first second line is e1 e2 = is ∙ ap (λ l. later l two) e1 ∙ ap (later first) e2

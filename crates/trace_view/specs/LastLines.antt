@@ -1,0 +1,169 @@
+-- The lines of a trace's text at which its last happenings of each kind begin, and the line at fault where an entry isn't
+-- started. A line is counted from 1, and a happening is one line, but for a table, whose entries have one each behind it.
+use Rattle.std.specs.Prelude.{◌≡◌, ℕ, ◌+◌, Bool, true, false, not, max, if◌then◌else◌, List, [], ◌∷◌, reverse, Option, Some, None}
+use Rattle.text_lines.specs.Lines.{newlines}
+use Rattle.init_words.specs.declared.stages.Stage.{Stage}
+use Rattle.init_words.specs.declared.orders.OrderKind.{OrderKind}
+use Rattle.init_words.specs.Ids.{same_id}
+use Rattle.initctl_frame.specs.declared.requests.HeardRequest.TheVariants as got
+use Rattle.trace_events.specs.declared.happenings.Happening.TheVariants.{NewTable, Enter, Asked, Hold, Birth, NoBirth, Reaped, Got}
+use Rattle.trace_events.specs.Event.{Event}
+use Rattle.trace_events.specs.Past.{stage_of}
+use Rattle.trace_events.specs.Wishes.{is_level}
+use Rattle.trace_text.specs.Lines.{trace_text}
+use Rattle.trace_check.specs.State.{at}
+use Rattle.trace_view.specs.declared.whys.Why.{Why}
+use Rattle.trace_view.specs.declared.whys.Why.TheVariants as why
+use Rattle.trace_view.specs.declared.wishes.Wish.{Wish}
+use Rattle.trace_view.specs.declared.wishes.Wish.TheVariants as wish
+use Rattle.trace_view.specs.declared.last_lines.KindLines.{KindLines}
+
+-- the line at which the next happening begins, behind what happened so far
+unfoldable pub line_behind : List Event → ℕ
+line_behind past = newlines (trace_text (reverse past)) + 1
+
+-- a line, where it is so; else what was there before
+abbrev pub line_after : Bool → ℕ → Option ℕ → Option ℕ
+line_after so line before = if so then Some line else before
+
+-- the line at which the last happening of a kind begins
+abbrev pub last_line : (Event → Bool) → List Event → Option ℕ
+last_line is [] = None
+last_line is (happening ∷ past) = line_after (is happening) (line_behind past) (last_line is past)
+
+abbrev pub is_table : Event → Bool
+is_table (NewTable table) = true
+is_table _ = false
+
+abbrev pub is_entering : Event → Bool
+is_entering (Enter stage grace) = true
+is_entering _ = false
+
+abbrev pub is_reexec : Event → Bool
+is_reexec (Got got.Reexec) = true
+is_reexec _ = false
+
+abbrev pub is_goal : Event → Bool
+is_goal (Got (got.Level level grace)) = true
+is_goal _ = false
+
+abbrev pub is_news : Event → Bool
+is_news (Got (got.Call letter)) = true
+is_news (Got (got.Power kind)) = true
+is_news _ = false
+
+-- a request to read inittab again: one for that, or for a level that isn't in force
+abbrev pub is_reread : Option Stage → Event → Bool
+is_reread stage (Got got.Reload) = true
+is_reread stage (Got (got.Level level grace)) = not (is_level level stage)
+is_reread stage _ = false
+
+abbrev pub reread_line : List Event → Option ℕ
+reread_line [] = None
+reread_line (happening ∷ past) =
+    line_after (is_reread (stage_of past) happening) (line_behind past) (reread_line past)
+
+-- the id whose child was born, whose start failed, whose child was reaped, about which an order was given, that is held
+abbrev pub born_in : Event → Option (List ℕ)
+born_in (Birth id number) = Some id
+born_in _ = None
+
+abbrev pub unborn_in : Event → Option (List ℕ)
+unborn_in (NoBirth id) = Some id
+unborn_in _ = None
+
+abbrev pub reaped_in : Event → Option (List ℕ)
+reaped_in (Reaped id number status) = Some id
+reaped_in _ = None
+
+abbrev pub ordered_in : Event → Option (List ℕ)
+ordered_in (Asked id ask) = Some id
+ordered_in _ = None
+
+abbrev pub held_in : Event → Option (List ℕ)
+held_in (Hold id) = Some id
+held_in _ = None
+
+abbrev pub names : List ℕ → Option (List ℕ) → Bool
+names id None = false
+names id (Some other) = same_id id other
+
+-- the line at which the last happening of the id begins, of those that are about an id so
+abbrev pub last_of : (Event → Option (List ℕ)) → List ℕ → List Event → Option ℕ
+last_of about id [] = None
+last_of about id (happening ∷ past) =
+    line_after (names id (about happening)) (line_behind past) (last_of about id past)
+
+-- the later of two lines
+abbrev pub later : Option ℕ → Option ℕ → Option ℕ
+later None line = line
+later (Some line) None = Some line
+later (Some line) (Some other) = Some (max line other)
+
+-- of a request that stands: the last one of its kind
+abbrev pub wish_line : Wish → List Event → Option ℕ
+wish_line wish.Reexec past = last_line is_reexec past
+wish_line wish.Reread past = reread_line past
+wish_line (wish.Level level) past = last_line is_goal past
+wish_line wish.News past = last_line is_news past
+
+-- the line at fault for each reason that has one: the table in force; the stage in force; the birth of its child, or the
+-- reaping, where that is later; the open order; since when it wasn't called; its last start; the birth of the child that
+-- is waited for, or the stage, where that is later; the birth of the child that has to end; the request; the hold
+abbrev pub line_at_fault : List ℕ → Why → List Event → Option ℕ
+line_at_fault id why.NoEntry past = last_line is_table past
+line_at_fault id why.NeverStarts past = last_line is_table past
+line_at_fault id why.NoStage past = None
+line_at_fault id why.OtherStage past = last_line is_entering past
+line_at_fault id (why.ChildKept number) past = later (last_of born_in id past) (last_of reaped_in id past)
+line_at_fault id (why.OrderOpen asked) past = last_of ordered_in id past
+line_at_fault id why.NotCalled past = later (last_line is_entering past) (last_line is_table past)
+line_at_fault id why.WasStarted past = later (last_of born_in id past) (last_of unborn_in id past)
+line_at_fault id (why.EarlierOwed earlier) past = later (last_of born_in earlier past) (last_line is_entering past)
+line_at_fault id (why.ExcludedKept child) past = last_of born_in child.id past
+line_at_fault id (why.WishStands wish) past = wish_line wish past
+line_at_fault id (why.Held since) past = last_of held_in id past
+line_at_fault id why.WindowFull past = later (last_of born_in id past) (last_of unborn_in id past)
+line_at_fault id why.Nothing past = None
+
+-- the lines of the kinds that are about no id, as the past has them; and what a happening at a line makes of them
+abbrev pub kinds_of : List Event → KindLines
+kinds_of past = record {
+  table = last_line is_table past;
+  entering = last_line is_entering past;
+  reexec = last_line is_reexec past;
+  reread = reread_line past;
+  goal = last_line is_goal past;
+  news = last_line is_news past;
+}
+
+abbrev pub no_kinds : KindLines
+no_kinds = record { table = None; entering = None; reexec = None; reread = None; goal = None; news = None }
+
+abbrev pub kinds_after : Option Stage → ℕ → Event → KindLines → KindLines
+kinds_after stage line happening kinds = record {
+  table = line_after (is_table happening) line kinds.table;
+  entering = line_after (is_entering happening) line kinds.entering;
+  reexec = line_after (is_reexec happening) line kinds.reexec;
+  reread = line_after (is_reread stage happening) line kinds.reread;
+  goal = line_after (is_goal happening) line kinds.goal;
+  news = line_after (is_news happening) line kinds.news;
+}
+
+-- what is kept of the lines
+pub record LinesState : Type 0 where
+  pub kinds : KindLines
+  pub births : List (List ℕ × ℕ)
+  pub failures : List (List ℕ × ℕ)
+  pub reapings : List (List ℕ × ℕ)
+  pub orders : List (List ℕ × ℕ)
+  pub holds : List (List ℕ × ℕ)
+
+-- the lines are those of this past, the newest happening first
+pub record Lined (lines : LinesState) (past : List Event) : Type 0 where
+  pub kinds : lines.kinds ≡ kinds_of past
+  pub births : (id : List ℕ) → at id lines.births ≡ last_of born_in id past
+  pub failures : (id : List ℕ) → at id lines.failures ≡ last_of unborn_in id past
+  pub reapings : (id : List ℕ) → at id lines.reapings ≡ last_of reaped_in id past
+  pub orders : (id : List ℕ) → at id lines.orders ≡ last_of ordered_in id past
+  pub holds : (id : List ℕ) → at id lines.holds ≡ last_of held_in id past

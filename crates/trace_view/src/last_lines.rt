@@ -1,0 +1,327 @@
+//! The lines at which the last happenings of each kind begin.
+
+ghost use Rattle.std.specs.Prelude.{◌≡◌, ℕ, List, [], ◌∷◌, OnOk};
+ghost use Rattle.trace_events.specs.Event.{Event};
+ghost use Rattle.trace_events.specs.Past.{stage_of};
+ghost use Rattle.trace_events.specs.Wishes.{is_level};
+ghost use Rattle.trace_check.specs.State.{at};
+ghost use Rattle.trace_view.specs.LastLines.{Lined, born_in, held_in, is_entering, is_goal, is_news, is_reexec, is_reread, is_table, kinds_after, later, line_after, line_at_fault, line_behind, names, no_kinds, ordered_in, reaped_in, unborn_in, wish_line};
+
+use crate::whys::Why;
+use crate::wishes::Wish;
+use indexmap::IndexMap;
+use init_words::{Id, Level, Memory, Stage};
+use initctl_frame::HeardRequest;
+use std::alloc::{Allocator, Global};
+use std::hash::{BuildHasherDefault, FoldHasher};
+use std::marker::Model;
+use trace_events::{Happening, HappeningIn};
+
+/// A line of each id.
+type LineById<A> = IndexMap<Id, u64, BuildHasherDefault<FoldHasher>, A>;
+
+/// No line of any id. It takes no memory.
+fn nothing<A: Allocator + Copy>(alloc: A) -> LineById<A>
+    ensures { result.entries ≡ [] }
+{
+    IndexMap::new(alloc)
+}
+
+/// The lines of the last happenings that are about no id.
+#[derive(Clone, Copy)]
+pub(crate) struct KindLines {
+    /// A table.
+    pub(crate) table: Option<u64>,
+    /// A stage that was entered.
+    pub(crate) entering: Option<u64>,
+    /// A request that init executes itself anew.
+    pub(crate) reexec: Option<u64>,
+    /// A request that inittab is read again.
+    pub(crate) reread: Option<u64>,
+    /// A request for a level.
+    pub(crate) goal: Option<u64>,
+    /// A letter, or news of the power.
+    pub(crate) news: Option<u64>,
+}
+
+/// The lines, counted from 1, at which the last happenings of each kind begin: of those that a reason can have that keeps
+/// an entry from its start.
+///
+/// A contract sees of it which pasts it has seen (`Lined`).
+#[derive(Drop)]
+pub struct LastLines<A: Allocator = Global> {
+    kinds: KindLines,
+    births: LineById<A>,
+    failures: LineById<A>,
+    reapings: LineById<A>,
+    orders: LineById<A>,
+    holds: LineById<A>,
+}
+
+impl<A: Allocator> Model for LastLines<A> {
+    ghost use Rattle.trace_view.specs.LastLines.{LinesState};
+
+    ghost Value = { LinesState };
+
+    ghost view = { λ l. record {
+      kinds = l.kinds;
+      births = l.births.entries;
+      failures = l.failures.entries;
+      reapings = l.reapings.entries;
+      orders = l.orders.entries;
+      holds = l.holds.entries;
+    } };
+}
+
+fn is_table<B: Allocator>(happening: &HappeningIn<B>) -> bool
+    ensures { result ≡ is_table happening.now }
+{
+    matches!(happening, Happening::NewTable(_))
+}
+
+fn is_entering<B: Allocator>(happening: &HappeningIn<B>) -> bool
+    ensures { result ≡ is_entering happening.now }
+{
+    matches!(happening, Happening::Enter(_, _))
+}
+
+fn is_reexec<B: Allocator>(happening: &HappeningIn<B>) -> bool
+    ensures { result ≡ is_reexec happening.now }
+{
+    matches!(happening, Happening::Got(HeardRequest::Reexec))
+}
+
+fn is_goal<B: Allocator>(happening: &HappeningIn<B>) -> bool
+    ensures { result ≡ is_goal happening.now }
+{
+    matches!(happening, Happening::Got(HeardRequest::Level(_, _)))
+}
+
+fn is_news<B: Allocator>(happening: &HappeningIn<B>) -> bool
+    ensures { result ≡ is_news happening.now }
+{
+    match happening {
+        Happening::Got(HeardRequest::Call(_)) => true,
+        Happening::Got(HeardRequest::Power(_)) => true,
+        _ => false,
+    }
+}
+
+fn is_level(level: Level, stage: Option<Stage>) -> bool
+    ensures { result ≡ is_level level stage }
+{
+    match stage {
+        Some(Stage::Run(current)) => level == current,
+        _ => false,
+    }
+}
+
+fn is_reread<B: Allocator>(stage: Option<Stage>, happening: &HappeningIn<B>) -> bool
+    ensures { result ≡ is_reread stage happening.now }
+{
+    match happening {
+        Happening::Got(HeardRequest::Reload) => true,
+        Happening::Got(HeardRequest::Level(level, _)) => !is_level(*level, stage),
+        _ => false,
+    }
+}
+
+fn born_in<B: Allocator>(happening: &HappeningIn<B>) -> Option<Id>
+    ensures { result ≡ born_in happening.now }
+{
+    match happening {
+        Happening::Birth(id, _) => Some(*id),
+        _ => None,
+    }
+}
+
+fn unborn_in<B: Allocator>(happening: &HappeningIn<B>) -> Option<Id>
+    ensures { result ≡ unborn_in happening.now }
+{
+    match happening {
+        Happening::NoBirth(id) => Some(*id),
+        _ => None,
+    }
+}
+
+fn reaped_in<B: Allocator>(happening: &HappeningIn<B>) -> Option<Id>
+    ensures { result ≡ reaped_in happening.now }
+{
+    match happening {
+        Happening::Reaped(id, _, _) => Some(*id),
+        _ => None,
+    }
+}
+
+fn ordered_in<B: Allocator>(happening: &HappeningIn<B>) -> Option<Id>
+    ensures { result ≡ ordered_in happening.now }
+{
+    match happening {
+        Happening::Asked(id, _) => Some(*id),
+        _ => None,
+    }
+}
+
+fn held_in<B: Allocator>(happening: &HappeningIn<B>) -> Option<Id>
+    ensures { result ≡ held_in happening.now }
+{
+    match happening {
+        Happening::Hold(id) => Some(*id),
+        _ => None,
+    }
+}
+
+/// The line, where it is so; else what was there before.
+fn line_after(so: bool, line: u64, before: Option<u64>) -> Option<u64>
+    ensures { result ≡ line_after so line before }
+{
+    if so { Some(line) } else { before }
+}
+
+/// The later of two lines.
+fn later(line: Option<u64>, other: Option<u64>) -> Option<u64>
+    ensures { result ≡ later line other }
+{
+    match (line, other) {
+        (None, _) => other,
+        (Some(_), None) => line,
+        (Some(line), Some(other)) => Some(line.max(other)),
+    }
+}
+
+/// Keeps the line of the id, where there is one.
+fn mark<A: Allocator>(lines: &mut LineById<A>, id: Option<Id>, line: u64) -> Result<(), Memory>
+    ensures { OnOk result ((other : List ℕ) → at other lines.new.entries
+        ≡ line_after (names other id) line (at other lines.old.entries)) }
+{
+    match id {
+        Some(id) => {
+            lines.insert(id, line)?;
+            Ok(())
+        }
+        None => Ok(()),
+    }
+}
+
+/// The line of the id.
+fn line_of<A: Allocator>(lines: &LineById<A>, id: &Id) -> Option<u64>
+    ensures { result ≡ at id.now lines.now.entries }
+{
+    lines.get(id).copied()
+}
+
+impl KindLines {
+    fn new() -> KindLines
+        ensures { result ≡ no_kinds }
+    {
+        KindLines {
+            table: None,
+            entering: None,
+            reexec: None,
+            reread: None,
+            goal: None,
+            news: None,
+        }
+    }
+
+    /// The lines after the happening at a line, where the stage was in force before it.
+    fn after<B: Allocator>(
+        self,
+        stage: Option<Stage>,
+        line: u64,
+        happening: &HappeningIn<B>,
+    ) -> KindLines
+        ensures { result ≡ kinds_after stage line happening.now self }
+    {
+        KindLines {
+            table: line_after(is_table(happening), line, self.table),
+            entering: line_after(is_entering(happening), line, self.entering),
+            reexec: line_after(is_reexec(happening), line, self.reexec),
+            reread: line_after(is_reread(stage, happening), line, self.reread),
+            goal: line_after(is_goal(happening), line, self.goal),
+            news: line_after(is_news(happening), line, self.news),
+        }
+    }
+}
+
+impl<A: Allocator + Copy> LastLines<A> {
+    /// The lines of nothing. It takes no memory.
+    pub fn new(alloc: A) -> LastLines<A>
+        ensures { Lined result [] }
+    {
+        LastLines {
+            kinds: KindLines::new(),
+            births: nothing(alloc),
+            failures: nothing(alloc),
+            reapings: nothing(alloc),
+            orders: nothing(alloc),
+            holds: nothing(alloc),
+        }
+    }
+
+    /// Takes the next happening, which begins at this line, where the stage was in force before it. Where memory runs out
+    /// a part of it may be taken, and the lines are of no more use.
+    pub fn take<B: Allocator>(
+        &mut self,
+        stage: Option<Stage>,
+        line: u64,
+        happening: &HappeningIn<B>,
+    ) -> Result<(), Memory>
+        ensures { OnOk result ((past : List Event) → stage ≡ stage_of past → line ≡ line_behind past
+            → Lined self.old past → Lined self.new (happening.now ∷ past)) }
+    {
+        mark(&mut self.births, born_in(happening), line)?;
+        mark(&mut self.failures, unborn_in(happening), line)?;
+        mark(&mut self.reapings, reaped_in(happening), line)?;
+        mark(&mut self.orders, ordered_in(happening), line)?;
+        mark(&mut self.holds, held_in(happening), line)?;
+        self.kinds = self.kinds.after(stage, line, happening);
+        Ok(())
+    }
+}
+
+impl<A: Allocator> LastLines<A> {
+    /// The line of the last start of an id, also of one that failed.
+    fn start(&self, id: &Id) -> Option<u64>
+        ensures { result ≡ later (at id.now self.now.births) (at id.now self.now.failures) }
+    {
+        later(line_of(&self.births, id), line_of(&self.failures, id))
+    }
+
+    /// The line of a request that stands.
+    fn wish(&self, wish: Wish) -> Option<u64>
+        ensures { (past : List Event) → Lined self.now past → result ≡ wish_line wish past }
+    {
+        match wish {
+            Wish::Reexec => self.kinds.reexec,
+            Wish::Reread => self.kinds.reread,
+            Wish::Level(_) => self.kinds.goal,
+            Wish::News => self.kinds.news,
+        }
+    }
+
+    /// The line at fault, where a reason keeps the id from its start and has one.
+    pub fn line_at_fault(&self, id: &Id, why: Why) -> Option<u64>
+        ensures { (past : List Event) → Lined self.now past
+            → result ≡ line_at_fault id.now why past }
+    {
+        match why {
+            Why::NoEntry => self.kinds.table,
+            Why::NeverStarts => self.kinds.table,
+            Why::NoStage => None,
+            Why::OtherStage => self.kinds.entering,
+            Why::ChildKept(_) => later(line_of(&self.births, id), line_of(&self.reapings, id)),
+            Why::OrderOpen(_) => line_of(&self.orders, id),
+            Why::NotCalled => later(self.kinds.entering, self.kinds.table),
+            Why::WasStarted => self.start(id),
+            Why::EarlierOwed(earlier) => {
+                later(line_of(&self.births, &earlier), self.kinds.entering)
+            }
+            Why::ExcludedKept(child) => line_of(&self.births, &child.id),
+            Why::WishStands(wish) => self.wish(wish),
+            Why::Held(_) => line_of(&self.holds, id),
+            Why::WindowFull => self.start(id),
+            Why::Nothing => None,
+        }
+    }
+}
