@@ -1,5 +1,5 @@
 -- What is written of an inittab that init reads behind a trace.
-use Rattle.std.proofs.Common.{◌≡◌, refl, inl, inr, subst, ℕ, List, [], reverse, take, drop, Option, Some}
+use Rattle.std.proofs.Common.{◌≡◌, refl, sym, ◌∙◌, ap, inl, inr, subst, ℕ, Bool, false, if◌then◌else◌, List, [], ◌∷◌, reverse, take, drop, Option, Some, None, option_map}
 use Rattle.std.specs.Io.KnownBytes.{Appends}
 use Rattle.std.proofs.KnownBytes.{Appends-nil}
 use Rattle.program_io.specs.Writing.{AppendsPrefix}
@@ -7,12 +7,21 @@ use Rattle.program_io.specs.declared.statuses.TheConstants.{DEVICE_FAULT}
 use Rattle.program_io.specs.Known.{IsTextAt, KnownTexts}
 use Rattle.init_words.specs.Parts.{NamedText}
 use Rattle.init_words.specs.declared.entries.Entry.{Entry}
+use Rattle.init_words.specs.declared.levels.Level.{Level}
+use Rattle.init_words.specs.declared.stages.Stage.{Stage}
+use Rattle.init_words.specs.declared.stages.Stage.TheVariants.{Run}
+use Rattle.trace_events.specs.declared.happenings.Happening.TheVariants.{Enter}
 use Rattle.trace_events.specs.Event.{Event}
-use Rattle.trace_view.specs.Viewing.{ViewState, Viewed}
+use Rattle.trace_events.specs.Past.{stage_of, grace_of}
+use Rattle.trace_events.specs.Wishes.{is_level}
+use Rattle.trace_check.specs.declared.laws.Law.{Law}
+use Rattle.trace_check.specs.Laws.{law_number}
+use Rattle.trace_view.specs.Viewing.{SeesNext, ViewState, Viewed}
 use Rattle.trace_view.specs.declared.text_views.Stop.{Stop}
 use Rattle.trace_view.specs.Shown.{IsShown}
 use Rattle.trace_view.specs.Views.{TextState, HasShown, HasTaken}
 use Rattle.trace_view.proofs.SeenTexts.{viewed_at}
+use Rattle.initview_lines.specs.Reloads.{entered}
 use Rattle.initview_command.specs.declared.reloading.Reload.{Reload}
 use Rattle.initview_command.specs.Reloading.{Reloads, ReloadsBehind, ReloadsFiles, ReloadsOf, reload_said}
 use Rattle.initview_command.specs.Showing.{stop_status}
@@ -49,3 +58,18 @@ so_asked text_at path named paths files asked question status old new e1 e2 e3 s
     subst (λ p. Reloads text_at p files question status old new) e1
     (subst (λ ps. Reloads text_at path ps question status old new) e2
     (subst (λ a. Reloads text_at path paths a status old new) same so))
+
+-- what breaks no law is seen
+pub seen : (law : Option Law) (old new : ViewState) (happening : Event) (past : List Event) → option_map law_number law ≡ None
+    → SeesNext law old new happening → Viewed old past → Viewed new (happening ∷ past)
+seen None old new happening past lawful sees viewed = sees past viewed
+seen (Some law) old new happening past lawful sees viewed = absurd (cc)
+
+-- so of a level that isn't in force, and is entered
+pub level_seen : (law : Option Law) (old new : ViewState) (level : Level) (stage : Option Stage) (is : Bool) (grace : ℕ) (past : List Event)
+    → stage ≡ stage_of past → grace ≡ grace_of past → is ≡ is_level level stage → is ≡ false → option_map law_number law ≡ None
+    → SeesNext law old new (Enter (Run level) grace) → Viewed old past → Viewed new (entered level past)
+level_seen law old new level stage is grace past here now means apart lawful sees viewed =
+    let enters : entered level past ≡ Enter (Run level) (grace_of past) ∷ past =
+    ap (λ b. if b then past else Enter (Run level) (grace_of past) ∷ past) (ap (is_level level) (sym here) ∙ sym means ∙ apart) in
+    subst (Viewed new) (sym enters) (subst (λ seconds. Viewed new (Enter (Run level) seconds ∷ past)) now (seen law old new (Enter (Run level) grace) past lawful sees viewed))

@@ -191,7 +191,7 @@ fn enter(view: &mut TextView, level: Level) -> Result<(), Memory>
     }
     let grace = view.view().grace();
     let happening: HappeningIn<Global> = Happening::Enter(Stage::Run(level), grace);
-    view.show(&happening)?;
+    let _lawful = view.show(&happening)?;
     Ok(())
 }
 
@@ -213,7 +213,7 @@ fn show_table(alloc: Global, view: &mut TextView, table: &Table) -> Result<(), M
         → Viewed view.new.viewing (NewTable table.now ∷ past)) }
 {
     let happening = Happening::NewTable(table.copy(alloc)?);
-    view.show(&happening)?;
+    let _lawful = view.show(&happening)?;
     Ok(())
 }
 

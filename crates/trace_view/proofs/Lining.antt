@@ -12,8 +12,8 @@ use Rattle.trace_verdict.proofs.Judging.{past_push}
 use Rattle.trace_view.specs.Viewing.{Viewed}
 use Rattle.trace_view.specs.declared.whys.Why.{Why}
 use Rattle.trace_view.specs.LastLines.{LinesState, Lined, line_after, line_behind, kinds_after, kinds_of, names, born_in, unborn_in, reaped_in, ordered_in, held_in, last_of, later, line_at_fault}
-use Rattle.trace_view.specs.LinedViews.{LinedState, IsLining, HasLined}
-use Rattle.trace_view.specs.Views.{TextState, ViewGoesOn, HasShown, IsAt}
+use Rattle.trace_view.specs.LinedViews.{IsLining, HasLined}
+use Rattle.trace_view.specs.Views.{TextState, ViewGoesOn, IsAt}
 use Rattle.trace_view.proofs.SeenTexts.{at_none, next_line, seen_at}
 
 -- what is kept, with one happening more

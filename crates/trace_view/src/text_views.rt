@@ -1,11 +1,12 @@
 //! The view of the text of a trace that comes in pieces.
 
-ghost use Rattle.std.specs.Prelude.{◌≡◌, ◌^◌, ◌<◌, List, ℕ, ◌∷◌, ◌++◌, [], length, true, None, is_some, option_map, reverse, IfOk, OnOk};
+ghost use Rattle.std.specs.Prelude.{◌≡◌, ◌^◌, ◌<◌, List, ℕ, ◌++◌, [], length, true, None, is_some, option_map, reverse, IfOk, OnOk};
 ghost use Rattle.trace_events.specs.Event.{Event};
 ghost use Rattle.trace_events.specs.Lawful.{broken};
 ghost use Rattle.trace_verdict.specs.Fronts.{line_left};
 ghost use Rattle.trace_verdict.specs.Readers.{capped};
-ghost use Rattle.trace_view.specs.Viewing.{Viewed};
+ghost use Rattle.trace_check.specs.Laws.{law_number};
+ghost use Rattle.trace_view.specs.Viewing.{SeesNext, Viewed};
 ghost use Rattle.trace_view.specs.Shown.{IsShown};
 ghost use Rattle.trace_view.specs.Views.{ViewGoesOn, HasShown, HasTaken, IsAt, SeesStop, left_of, seen_by};
 
@@ -141,15 +142,15 @@ impl<A: Allocator + Copy> TextView<A> {
         Ok(())
     }
 
-    /// Shows the view a happening that the text doesn't have, and that can break no law: what comes of what was seen.
-    /// Where memory runs out the view is of no more use.
-    pub fn show<B: Allocator>(&mut self, happening: &HappeningIn<B>) -> Result<(), Memory>
-        requires { (past : List Event) → broken happening.now past ≡ None }
-        ensures { OnOk result ((past : List Event) → Viewed self.old.viewing past
-            → Viewed self.new.viewing (happening.now ∷ past)) }
+    /// Shows the view a happening that the text doesn't have: what comes of what was seen. Gives the least law that it
+    /// breaks; one that breaks a law isn't shown. Where memory runs out the view is of no more use.
+    pub fn show<B: Allocator>(&mut self, happening: &HappeningIn<B>) -> Result<Option<Law>, Memory>
+        ensures law { IfOk result (λ law. (past : List Event) → Viewed self.old.viewing past
+            → option_map law_number law ≡ broken happening.now past) }
+        ensures next { IfOk result (λ law.
+            SeesNext law self.old.viewing self.new.viewing happening.now) }
     {
-        let _law = self.view.take(happening)?;
-        Ok(())
+        self.view.take(happening)
     }
 
     /// The view of what was seen.

@@ -1,4 +1,4 @@
-use Rattle.std.proofs.Common.{rules, ◌≡◌, ◌+◌, ◌<◌, None, length, ap, is_some, true, sym, subst}
+use Rattle.std.proofs.Common.{rules, ◌≡◌, ◌+◌, None, ap, is_some, true, sym, subst}
 use Rattle.trace_verdict.specs.Readers.{capped}
 use Rattle.trace_view.specs.Viewing.{ViewState, Viewed}
 use Rattle.trace_view.specs.LinedViews.{LinedState}

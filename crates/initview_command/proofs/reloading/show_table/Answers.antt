@@ -1,0 +1,10 @@
+use Rattle.std.proofs.Common.{◌∷◌, subst}
+use Rattle.trace_view.specs.Viewing.{Viewed}
+use Rattle.trace_events.specs.declared.happenings.Happening.TheVariants.{NewTable}
+use Rattle.initview_command.proofs.Reloads.{seen}
+use Rattle.initview_command.proofs.reloading.show_table.Goals as goal
+
+pub returns : goal.returns
+returns c past viewed =
+    subst (λ table. Viewed c.show.new.self.viewing (NewTable table ∷ past)) c.in_ok-copy.ensures
+    (seen c.in_ok-_lawful._lawful c.args.view.now.viewing c.show.new.self.viewing _ past (c.in_ok-_lawful.ensures.law past viewed) c.in_ok-_lawful.ensures.next viewed)
