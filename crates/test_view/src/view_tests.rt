@@ -52,7 +52,7 @@ type Row = (
     &'static str,
 );
 
-const TRACE_ROWS: &[Row] = &[
+const REASON_ROWS: &[Row] = &[
     // An id that the table doesn't have.
     (
         &[TABLE],
@@ -260,6 +260,9 @@ const TRACE_ROWS: &[Row] = &[
         "f: r (pid 13) may not live in level 4, and has to end first (t:40)\n  wait: init sends TERM, and KILL when the grace is over\n",
         "",
     ),
+];
+
+const TRACE_ROWS: &[Row] = &[
     // How one id stands, with the statuses of the LSB.
     (
         &[UP, R_UP, "clock 1009\n"],
@@ -1189,6 +1192,14 @@ fn is_drawn(alloc: Global, parts: &[&str], pieces: &[&str]) -> Result<bool, Allo
         Ok(text) => Ok(status == 0 && err.is_empty() && has_pieces(text, pieces)),
         Err(_) => Ok(false),
     }
+}
+
+#[test]
+fn what_is_said_of_reasons(rt: HostRuntime) -> Result<(), Fail> {
+    for row in REASON_ROWS {
+        assert!(rt; is_said(rt.alloc(), row)?, "{}", row.1);
+    }
+    Ok(())
 }
 
 #[test]
