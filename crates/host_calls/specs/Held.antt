@@ -1,5 +1,5 @@
 -- The children that a host holds: those that it started and has not reaped (waitpid(2), kill(2)).
-use Rattle.std.specs.Prelude.{◌≡◌, ℕ, Bool, false, not, ◌==◌, IsTrue, List, [], ◌∷◌, ◌++◌, filter, None}
+use Rattle.std.specs.Prelude.{◌≡◌, ℕ, Bool, false, not, ◌==◌, IsTrue, List, [], ◌∷◌, ◌++◌, filter, Option, Some, None, IfSome}
 use Rattle.std.specs.List.{list_any}
 use Rattle.init_words.specs.declared.orders.Answer.TheVariants.{Born, Ended, Alive, Hit}
 use Rattle.init_words.specs.Ids.{same_id}
@@ -49,3 +49,13 @@ KeepsHeld (Look id reply) held now = Looks held now id reply
 KeepsHeld (Signal id sent reply) held now = Signals held now id reply
 KeepsHeld (Late late) held now = (late ≡ None) × (now ≡ held)
 KeepsHeld _ held now = now ≡ held
+
+-- where the children that a host holds are known behind a call, those before it were known, and the call left these of
+-- them
+abbrev pub HoldsBy : Option HeldChildren → Option HeldChildren → HostCall → Type 0
+HoldsBy old new call = IfSome new (λ now. (before : HeldChildren) × (old ≡ Some before) × KeepsHeld call before now)
+
+-- the calls, THE NEWEST FIRST, could be those of a host that held no child before them, and holds these behind them
+abbrev pub AreOwn : List HostCall → HeldChildren → Type 0
+AreOwn [] held = held ≡ []
+AreOwn (call ∷ calls) held = (before : HeldChildren) × AreOwn calls before × KeepsHeld call before held

@@ -2,6 +2,7 @@
 
 ghost use Rattle.std.specs.Prelude.{◌≡◌, ◌≤◌, ℕ, List, Option, IfOk, length, is_err, false};
 ghost use Rattle.host_calls.specs.Calls.{HostCall, AddsCall, HasCause};
+ghost use Rattle.host_calls.specs.Held.{HeldChildren, HoldsBy};
 ghost use Rattle.host_calls.specs.Calls.{is_failed_reply, is_failed_late, text_read, parts_read, front_read};
 
 use crate::calls::{Call, HostFault, Reply};
@@ -16,12 +17,15 @@ use trace_events::HappeningIn;
 /// stood at its greatest number, where it stays. After a fault no child was born, reaped or signalled by that call, and
 /// the host takes further calls.
 ///
-/// A contract sees of a host the calls that it tells, with what it answered, and the count of faults. From a call on
-/// that a host doesn't tell, it tells none; it may tell none at all. What it hears for its messages alone, by `pass_over`
-/// and `takes`, is none of these calls.
+/// A contract sees of a host the calls that it tells, with what it answered, the children that it holds, where those are
+/// known, and the count of faults. From a call on that a host doesn't tell, it tells none; it may tell none at all. What
+/// it hears for its messages alone, by `pass_over` and `takes`, is none of these calls.
 pub trait Host {
     /// The calls so far with their answers, the newest first. None from the first call that the host doesn't tell.
     ghost told: { Self → Option (List HostCall) };
+
+    /// The children that it holds. None of a host of which that isn't known.
+    ghost held: { Self → Option HeldChildren };
 
     /// The count of faults.
     ghost failures: { Self → ℕ };
@@ -30,26 +34,32 @@ pub trait Host {
     /// the child's number, or `NotBorn`.
     fn start<A: Allocator + Copy>(&mut self, alloc: A, id: Id, command: &[u8]) -> Reply
         ensures adds { AddsCall (told self.old) (told self.new) (Call.Start id command.now result) }
+        ensures children { HoldsBy (held self.old) (held self.new)
+            (Call.Start id command.now result) }
         ensures cause { HasCause (failures self.old) (failures self.new) (is_failed_reply result) };
 
     /// Looks whether the id's child has ended, and reaps it where it has: `Ended`, `Alive` or `NoLook`.
     fn look(&mut self, id: Id) -> Reply
         ensures adds { AddsCall (told self.old) (told self.new) (Call.Look id result) }
+        ensures children { HoldsBy (held self.old) (held self.new) (Call.Look id result) }
         ensures cause { HasCause (failures self.old) (failures self.new) (is_failed_reply result) };
 
     /// Sends the id's child a signal: `Hit` or `Miss`.
     fn signal(&mut self, id: Id, signal: SignalKind) -> Reply
         ensures adds { AddsCall (told self.old) (told self.new) (Call.Signal id signal result) }
+        ensures children { HoldsBy (held self.old) (held self.new) (Call.Signal id signal result) }
         ensures cause { HasCause (failures self.old) (failures self.new) (is_failed_reply result) };
 
     /// The answer to an order whose reply was `Later`, with the order's id; None where none has come.
     fn late(&mut self) -> Option<(Id, Answer)>
         ensures adds { AddsCall (told self.old) (told self.new) (Call.Late result) }
+        ensures children { HoldsBy (held self.old) (held self.new) (Call.Late result) }
         ensures cause { HasCause (failures self.old) (failures self.new) (is_failed_late result) };
 
     /// The time, in seconds. It may be set back.
     fn clock(&mut self) -> Result<u64, HostFault>
         ensures adds { AddsCall (told self.old) (told self.new) (Call.Clock result) }
+        ensures children { HoldsBy (held self.old) (held self.new) (Call.Clock result) }
         ensures cause { HasCause (failures self.old) (failures self.new) (is_err result) };
 
     /// Takes the next bytes of requests (initreq.h) into the front of the buffer, and gives how many: 0 where none have
@@ -58,11 +68,15 @@ pub trait Host {
         ensures within { IfOk result (λ count. count ≤ length buffer.old) }
         ensures adds { AddsCall (told self.old) (told self.new)
             (Call.TakeBytes (length buffer.old) (front_read result buffer.new)) }
+        ensures children { HoldsBy (held self.old) (held self.new)
+            (Call.TakeBytes (length buffer.old) (front_read result buffer.new)) }
         ensures cause { HasCause (failures self.old) (failures self.new) (is_err result) };
 
     /// The files of the inittab (inittab(5)), in their order, in memory of `alloc`.
     fn read_tables<A: Allocator + Copy>(&mut self, alloc: A) -> Result<Vec<Part<A>, A>, HostFault>
         ensures adds { AddsCall (told self.old) (told self.new)
+            (Call.ReadTables (parts_read (λ parts. parts.items) result)) }
+        ensures children { HoldsBy (held self.old) (held self.new)
             (Call.ReadTables (parts_read (λ parts. parts.items) result)) }
         ensures cause { HasCause (failures self.old) (failures self.new) (is_err result) };
 
@@ -70,6 +84,7 @@ pub trait Host {
     /// faults of the lines, or why there is none. Gives whether init is to take the table.
     fn takes<A: Allocator>(&mut self, _parts: &[Part<A>], _reading: &Reading<A>) -> bool
         ensures told { told self.new ≡ told self.old }
+        ensures children { held self.new ≡ held self.old }
         ensures cause { HasCause (failures self.old) (failures self.new) false }
     {
         true
@@ -78,6 +93,7 @@ pub trait Host {
     /// Hears why the request whose bytes it gave last counts for nothing, of which it may say something.
     fn pass_over(&mut self, _why: &str)
         ensures told { told self.new ≡ told self.old }
+        ensures children { held self.new ≡ held self.old }
         ensures cause { HasCause (failures self.old) (failures self.new) false }
     {}
 
@@ -85,16 +101,20 @@ pub trait Host {
     fn carry<A: Allocator + Copy>(&mut self, alloc: A, text: &[u8]) -> Result<Vec<u8, A>, HostFault>
         ensures adds { AddsCall (told self.old) (told self.new)
             (Call.Carry text.now (text_read (λ back. back.items) result)) }
+        ensures children { HoldsBy (held self.old) (held self.new)
+            (Call.Carry text.now (text_read (λ back. back.items) result)) }
         ensures cause { HasCause (failures self.old) (failures self.new) (is_err result) };
 
     /// Says what happened, where init says something of it (init(8)).
     fn announce<A: Allocator>(&mut self, happening: &HappeningIn<A>)
         ensures adds { AddsCall (told self.old) (told self.new) (Call.Announce happening.now) }
+        ensures children { HoldsBy (held self.old) (held self.new) (Call.Announce happening.now) }
         ensures cause { HasCause (failures self.old) (failures self.new) false };
 
     /// Lets some time pass, a second or as long as the host was told.
     fn pause(&mut self)
         ensures adds { AddsCall (told self.old) (told self.new) Call.Pause }
+        ensures children { HoldsBy (held self.old) (held self.new) Call.Pause }
         ensures cause { HasCause (failures self.old) (failures self.new) false };
 
     /// How many faults there were. It stays at its greatest number.

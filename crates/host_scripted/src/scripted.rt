@@ -229,12 +229,14 @@ fn parts_copied<A: Allocator, B: Allocator + Copy>(
 }
 
 impl<A: Allocator + Copy> Host for MemoryHost<A> {
-    ghost use Rattle.std.specs.Prelude.{◌≤◌, false, drop, length, unwrap_or, is_err};
+    ghost use Rattle.std.specs.Prelude.{◌≤◌, false, drop, length, unwrap_or, is_err, None};
     ghost use Rattle.host_calls.specs.Calls.{AddsCall, HasCause, counted};
     ghost use Rattle.host_calls.specs.Calls.{is_failed_reply, is_failed_late, text_read, parts_read, front_read};
     ghost use Rattle.host_scripted.specs.Script.{Script, Becomes, first, taken_of, left_of};
 
     ghost told = { λ (s : Script). s.told };
+
+    ghost held = { λ _. None };
 
     ghost failures = { λ (s : Script). s.faults };
 

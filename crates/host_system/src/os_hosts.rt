@@ -273,13 +273,15 @@ fn host_result<T>(outcome: io::Result<T>) -> Result<T, HostFault>
 
 impl<R: Processes + Files<File = File> + Clock + Print + Eprint + Drop, A: Allocator + Copy> Host
     for OsHost<R, A> {
-    ghost use Rattle.std.specs.Prelude.{◌≡◌, ◌≤◌, length, None, IfOk, is_err, false, IsTrue};
+    ghost use Rattle.std.specs.Prelude.{◌≡◌, ◌≤◌, length, Some, None, IfOk, is_err, false, IsTrue};
     ghost use Rattle.host_calls.specs.Calls.{HasCause};
     ghost use Rattle.host_calls.specs.Calls.{is_failed_reply};
     ghost use Rattle.host_calls.specs.Held.{Starts, Looks, Signals};
     ghost use Rattle.host_system.specs.Hosts.{HostState, is_taken, is_start_answer, is_look_answer, is_signal_answer, answers_by};
 
     ghost told = { λ _. None };
+
+    ghost held = { λ (host : HostState). Some host.held };
 
     ghost failures = { λ (host : HostState). host.faults };
 

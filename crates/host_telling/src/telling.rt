@@ -1,8 +1,8 @@
 //! The host that tells.
 
-ghost use Rattle.std.specs.Prelude.{◌≡◌, []};
+ghost use Rattle.std.specs.Prelude.{◌≡◌};
 
-use crate::adding::{CallList, no_calls, with};
+use crate::adding::{CallList, with};
 use crate::made::{
     Announce, Carry, Clock, Late, Look, Pause, ReadTables, Signal, Start, TakeBytes,
 };
@@ -22,31 +22,23 @@ pub struct Telling<H: Host> {
 }
 
 impl<H: Host> Model for Telling<H> {
-    ghost use Rattle.host_telling.specs.Telling.{Told, AreNewest};
+    ghost use Rattle.host_telling.specs.Telling.{Told, AreNewest, AreOwnIfHeld};
 
     ghost Value = { Told H };
 
     ghost view = { λ telling. record { host = telling.host; calls = telling.calls.value } };
 
-    ghost invariant = { λ telling. AreNewest (H.told telling.host) telling.calls.value };
+    ghost invariant = { λ telling. AreNewest (H.told telling.host) telling.calls.value
+        × AreOwnIfHeld telling.calls.value (H.held telling.host) };
 }
 
 impl<H: Host> Telling<H> {
-    ghost use Rattle.host_telling.specs.Telling.{AreNewest};
-
-    /// The host, of which no call is told yet.
-    pub fn new(host: H) -> Telling<H>
-        ensures { result ≡ record { host = host; calls = [] } }
-    {
-        Telling {
-            host,
-            calls: no_calls(),
-        }
-    }
+    ghost use Rattle.host_telling.specs.Telling.{AreNewest, AreOwnIfHeld};
 
     /// The host, of which these calls are told already.
     pub fn after(calls: &Noted<CallList>, host: H) -> Telling<H>
-        requires { AreNewest (H.told host) calls.now.value }
+        requires newest { AreNewest (H.told host) calls.now.value }
+        requires own { AreOwnIfHeld calls.now.value (H.held host) }
         ensures { result ≡ record { host = host; calls = calls.now.value } }
     {
         Telling {
@@ -73,9 +65,11 @@ impl<H: Host> Telling<H> {
         host
     }
 
-    /// Where the host tells its calls, those told here are the newest of them. It does nothing: its contract is the law.
+    /// Where the host tells its calls, those told here are the newest of them; and where it is known which children it
+    /// holds, those told here could be all that were ever made of it. It does nothing: its contract is the law.
     pub fn law_of_telling(&self)
-        ensures { AreNewest (H.told self.now.host) self.now.calls }
+        ensures newest { AreNewest (H.told self.now.host) self.now.calls }
+        ensures own { AreOwnIfHeld self.now.calls (H.held self.now.host) }
     {
         let _host = &self.host;
     }
@@ -85,6 +79,8 @@ impl<H: Host> Host for Telling<H> {
     ghost use Rattle.std.specs.Prelude.{Some};
 
     ghost told = { λ telling. Some telling.calls };
+
+    ghost held = { λ telling. H.held telling.host };
 
     ghost failures = { λ telling. H.failures telling.host };
 

@@ -30,11 +30,11 @@ use Rattle.host_calls.specs.declared.calls.Call.TheVariants.{Start, Look, Signal
 use Rattle.host_calls.specs.declared.calls.Reply.{Reply}
 use Rattle.host_calls.specs.declared.calls.Reply.TheVariants.{Now, Later}
 use Rattle.host_calls.specs.Calls.{HostCall, PartsRead}
-use Rattle.host_calls.specs.Held.{HeldChildren, holds, holds_number, without, Starts, Looks, Signals, KeepsHeld}
+use Rattle.host_calls.specs.Held.{AreOwn, HeldChildren, holds, holds_number, without, Starts, Looks, Signals, KeepsHeld}
 use Rattle.initctl_frame.specs.Frames.{heard_of}
 use Rattle.host_trace.specs.Point.{Point, last_birth, acted, is_asked_for, answered, ordered, order_for, come, is_last, nudged_if, byte_after, bytes_after, reading, before_reading, before_handing, came_whole, handed_if, announced, after, point_after}
 use Rattle.host_trace.specs.Leads.{meets, is_allowed}
-use Rattle.host_trace.specs.Held.{AreOwn, AreNew, held_in}
+use Rattle.host_trace.specs.Held.{AreNew, held_in}
 
 -- lists
 all_then : {X : Type 0} (P Q : X → Type 0) → ((x : X) → P x → Q x) → (xs : List X) → AllByRecursion P xs → AllByRecursion Q xs

@@ -1,7 +1,7 @@
 -- Which calls a run made, by how it ended: none but where it came to its turns.
 use Rattle.std.proofs.Common.{◌≡◌, refl, sym, subst, ◌∙◌, Bool, false, List, [], ℕ, Option, Some, None, inl, inr}
 use Rattle.std.proofs.KnownBytes.{Keeps-refl}
-use Rattle.std.specs.Prelude.{IsSome, unwrap_or}
+use Rattle.std.specs.Prelude.{IfSome, IsSome, unwrap_or}
 use Rattle.init_words.specs.Parts.{NamedText, texts_of}
 use Rattle.init_words.specs.declared.entries.Entry.{Entry}
 use Rattle.inittab_text.specs.Parts.{table_of_texts}
@@ -21,29 +21,30 @@ use Rattle.initd_command.specs.Ran.{AsksSaid, RanBy, RanOver}
 -- what a run makes over each table that its opening is of, it makes over the inittab at its paths
 pub ran_by : (text_at : KnownTexts) (service : RunSaid) (opening : OpeningState) (ending : Ending) (old new : Option (List HostCall))
     → HasInittab text_at service (λ parts. IsOpeningOf service.level (table_of_texts (texts_of parts)) opening)
-    → ((table : List Entry) → IsOpeningOf service.level table opening → RanOver service table ending old new) → RanBy text_at service ending old new
-ran_by text_at service opening (turned unled end) old new (parts, are, read, opens) made =
-    (parts, are, read, made (table_of_texts (texts_of parts)) opens)
-ran_by text_at service opening done old new (parts, are, read, opens) made = made (table_of_texts (texts_of parts)) opens
-ran_by text_at service opening (usage reason) old new (parts, are, read, opens) made = made (table_of_texts (texts_of parts)) opens
-ran_by text_at service opening no_memory old new (parts, are, read, opens) made = made (table_of_texts (texts_of parts)) opens
-ran_by text_at service opening (unread path why) old new (parts, are, read, opens) made = made (table_of_texts (texts_of parts)) opens
-ran_by text_at service opening too_many old new (parts, are, read, opens) made = made (table_of_texts (texts_of parts)) opens
-ran_by text_at service opening (flawed told) old new (parts, are, read, opens) made = made (table_of_texts (texts_of parts)) opens
-ran_by text_at service opening (unlisted id) old new (parts, are, read, opens) made = made (table_of_texts (texts_of parts)) opens
-ran_by text_at service opening (stopped script f) old new (parts, are, read, opens) made = made (table_of_texts (texts_of parts)) opens
-ran_by text_at service opening unflushed old new (parts, are, read, opens) made = made (table_of_texts (texts_of parts)) opens
-ran_by text_at service opening (lawful left) old new (parts, are, read, opens) made = made (table_of_texts (texts_of parts)) opens
-ran_by text_at service opening (unlawful message left) old new (parts, are, read, opens) made = made (table_of_texts (texts_of parts)) opens
-ran_by text_at service opening (torn line) old new (parts, are, read, opens) made = made (table_of_texts (texts_of parts)) opens
-ran_by text_at service opening (within path) old new (parts, are, read, opens) made = made (table_of_texts (texts_of parts)) opens
-ran_by text_at service opening unwritten old new (parts, are, read, opens) made = made (table_of_texts (texts_of parts)) opens
-ran_by text_at service opening (busy path holder) old new (parts, are, read, opens) made = made (table_of_texts (texts_of parts)) opens
-ran_by text_at service opening (shared one other) old new (parts, are, read, opens) made = made (table_of_texts (texts_of parts)) opens
-ran_by text_at service opening (unlocked path why) old new (parts, are, read, opens) made = made (table_of_texts (texts_of parts)) opens
-ran_by text_at service opening (uncreated path why) old new (parts, are, read, opens) made = made (table_of_texts (texts_of parts)) opens
-ran_by text_at service opening untold old new (parts, are, read, opens) made = made (table_of_texts (texts_of parts)) opens
-ran_by text_at service opening unversioned old new (parts, are, read, opens) made = made (table_of_texts (texts_of parts)) opens
+    → ((table : List Entry) → IsOpeningOf service.level table opening → RanOver service table ending old new)
+    → (own : List HostCall → Type 0) → IfSome new own → RanBy text_at service own ending old new
+ran_by text_at service opening (turned unled end) old new (parts, are, read, opens) made own is =
+    ((parts, are, read, made (table_of_texts (texts_of parts)) opens), is)
+ran_by text_at service opening done old new (parts, are, read, opens) made own is = made (table_of_texts (texts_of parts)) opens
+ran_by text_at service opening (usage reason) old new (parts, are, read, opens) made own is = made (table_of_texts (texts_of parts)) opens
+ran_by text_at service opening no_memory old new (parts, are, read, opens) made own is = made (table_of_texts (texts_of parts)) opens
+ran_by text_at service opening (unread path why) old new (parts, are, read, opens) made own is = made (table_of_texts (texts_of parts)) opens
+ran_by text_at service opening too_many old new (parts, are, read, opens) made own is = made (table_of_texts (texts_of parts)) opens
+ran_by text_at service opening (flawed told) old new (parts, are, read, opens) made own is = made (table_of_texts (texts_of parts)) opens
+ran_by text_at service opening (unlisted id) old new (parts, are, read, opens) made own is = made (table_of_texts (texts_of parts)) opens
+ran_by text_at service opening (stopped script f) old new (parts, are, read, opens) made own is = made (table_of_texts (texts_of parts)) opens
+ran_by text_at service opening unflushed old new (parts, are, read, opens) made own is = made (table_of_texts (texts_of parts)) opens
+ran_by text_at service opening (lawful left) old new (parts, are, read, opens) made own is = made (table_of_texts (texts_of parts)) opens
+ran_by text_at service opening (unlawful message left) old new (parts, are, read, opens) made own is = made (table_of_texts (texts_of parts)) opens
+ran_by text_at service opening (torn line) old new (parts, are, read, opens) made own is = made (table_of_texts (texts_of parts)) opens
+ran_by text_at service opening (within path) old new (parts, are, read, opens) made own is = made (table_of_texts (texts_of parts)) opens
+ran_by text_at service opening unwritten old new (parts, are, read, opens) made own is = made (table_of_texts (texts_of parts)) opens
+ran_by text_at service opening (busy path holder) old new (parts, are, read, opens) made own is = made (table_of_texts (texts_of parts)) opens
+ran_by text_at service opening (shared one other) old new (parts, are, read, opens) made own is = made (table_of_texts (texts_of parts)) opens
+ran_by text_at service opening (unlocked path why) old new (parts, are, read, opens) made own is = made (table_of_texts (texts_of parts)) opens
+ran_by text_at service opening (uncreated path why) old new (parts, are, read, opens) made own is = made (table_of_texts (texts_of parts)) opens
+ran_by text_at service opening untold old new (parts, are, read, opens) made own is = made (table_of_texts (texts_of parts)) opens
+ran_by text_at service opening unversioned old new (parts, are, read, opens) made own is = made (table_of_texts (texts_of parts)) opens
 
 -- a fault is no end of turns
 no_turns : (service : RunSaid) (fault : RunFault) (unled : Bool) (end : End) → IsOfFault service fault (turned unled end) → ⊥
@@ -60,29 +61,29 @@ no_turns service (why.Folder path error) unled end is = let wrong = is.1 in absu
 no_turns service (why.Trace error) unled end is = let wrong = is.1 in absurd (cc)
 
 -- a run that a fault ended asked nothing
-pub unasked : (text_at : KnownTexts) (service : RunSaid) (fault : RunFault) (ending : Ending) (old new : Option (List HostCall))
-    → IsOfFault service fault ending → new ≡ old → RanBy text_at service ending old new
-unasked text_at service fault (turned unled end) old new is same = absurd (no_turns service fault unled end is)
-unasked text_at service fault done old new is same = same
-unasked text_at service fault (usage reason) old new is same = same
-unasked text_at service fault no_memory old new is same = same
-unasked text_at service fault (unread path why) old new is same = same
-unasked text_at service fault too_many old new is same = same
-unasked text_at service fault (flawed told) old new is same = same
-unasked text_at service fault (unlisted id) old new is same = same
-unasked text_at service fault (stopped script f) old new is same = same
-unasked text_at service fault unflushed old new is same = same
-unasked text_at service fault (lawful left) old new is same = same
-unasked text_at service fault (unlawful message left) old new is same = same
-unasked text_at service fault (torn line) old new is same = same
-unasked text_at service fault (within path) old new is same = same
-unasked text_at service fault unwritten old new is same = same
-unasked text_at service fault (busy path holder) old new is same = same
-unasked text_at service fault (shared one other) old new is same = same
-unasked text_at service fault (unlocked path why) old new is same = same
-unasked text_at service fault (uncreated path why) old new is same = same
-unasked text_at service fault untold old new is same = same
-unasked text_at service fault unversioned old new is same = same
+pub unasked : (text_at : KnownTexts) (service : RunSaid) (own : List HostCall → Type 0) (fault : RunFault) (ending : Ending)
+    (old new : Option (List HostCall)) → IsOfFault service fault ending → new ≡ old → RanBy text_at service own ending old new
+unasked text_at service own fault (turned unled end) old new is same = absurd (no_turns service fault unled end is)
+unasked text_at service own fault done old new is same = same
+unasked text_at service own fault (usage reason) old new is same = same
+unasked text_at service own fault no_memory old new is same = same
+unasked text_at service own fault (unread path why) old new is same = same
+unasked text_at service own fault too_many old new is same = same
+unasked text_at service own fault (flawed told) old new is same = same
+unasked text_at service own fault (unlisted id) old new is same = same
+unasked text_at service own fault (stopped script f) old new is same = same
+unasked text_at service own fault unflushed old new is same = same
+unasked text_at service own fault (lawful left) old new is same = same
+unasked text_at service own fault (unlawful message left) old new is same = same
+unasked text_at service own fault (torn line) old new is same = same
+unasked text_at service own fault (within path) old new is same = same
+unasked text_at service own fault unwritten old new is same = same
+unasked text_at service own fault (busy path holder) old new is same = same
+unasked text_at service own fault (shared one other) old new is same = same
+unasked text_at service own fault (unlocked path why) old new is same = same
+unasked text_at service own fault (uncreated path why) old new is same = same
+unasked text_at service own fault untold old new is same = same
+unasked text_at service own fault unversioned old new is same = same
 
 some_path : (path : Option (List ℕ)) → IsSome path → path ≡ Some (unwrap_or path [])
 some_path None some = absurd (cc)
@@ -122,9 +123,10 @@ failed text_at service (why.Trace error) ending old (some, (parts, are, read, ta
 failed text_at service why.Memory ending old fails is = subst (λ e. EndsRun text_at service e old old) (sym is) (Keeps-refl old)
 
 -- where memory runs out nothing is asked, whatever the words say
-pub none_asked : (text_at : KnownTexts) (said : Option InitdSaid) (now : Option (List HostCall)) → AsksSaid text_at said no_memory now now
-none_asked text_at None now = refl
-none_asked text_at (Some version) now = refl
-none_asked text_at (Some (simulates run)) now = refl
-none_asked text_at (Some (judges path)) now = refl
-none_asked text_at (Some (runs service)) now = refl
+pub none_asked : (text_at : KnownTexts) (said : Option InitdSaid) (own : List HostCall → Type 0) (now : Option (List HostCall))
+    → AsksSaid text_at said own no_memory now now
+none_asked text_at None own now = refl
+none_asked text_at (Some version) own now = refl
+none_asked text_at (Some (simulates run)) own now = refl
+none_asked text_at (Some (judges path)) own now = refl
+none_asked text_at (Some (runs service)) own now = refl

@@ -1,5 +1,5 @@
 -- Which calls a run of init makes of its host.
-use Rattle.std.specs.Prelude.{◌≡◌, ℕ, List, Option, Some}
+use Rattle.std.specs.Prelude.{◌≡◌, ℕ, List, Option, Some, IfSome}
 use Rattle.init_words.specs.Parts.{texts_of}
 use Rattle.init_words.specs.declared.entries.Entry.{Entry}
 use Rattle.inittab_text.specs.Parts.{table_of_texts}
@@ -30,16 +30,21 @@ abbrev pub RanOver : RunSaid → List Entry → Ending → Option (List HostCall
 RanOver service table (turned unled end) old new = Since old new (MakesTurns service table end)
 RanOver service table _ old new = new ≡ old
 
--- a run that comes to its turns makes them over the inittab at its paths; any other asks nothing of a host
-abbrev pub RanBy : KnownTexts → RunSaid → Ending → Option (List HostCall) → Option (List HostCall) → Type 0
-RanBy text_at service (turned unled end) old new =
+-- a run that comes to its turns makes them over the inittab at its paths, and of all the calls that are told then `own`
+-- is so; any other asks nothing of a host
+abbrev pub RanBy : KnownTexts → RunSaid → (List HostCall → Type 0) → Ending → Option (List HostCall)
+    → Option (List HostCall) → Type 0
+RanBy text_at service own (turned unled end) old new =
     HasInittab text_at service (λ parts. Since old new (MakesTurns service (table_of_texts (texts_of parts)) end))
-RanBy text_at service _ old new = new ≡ old
+    × IfSome new own
+RanBy text_at service own _ old new = new ≡ old
 
 -- what words ask of hosts: those of a run what the run asks, any others nothing
-abbrev pub AsksSaid : KnownTexts → Option InitdSaid → Ending → Option (List HostCall) → Option (List HostCall) → Type 0
-AsksSaid text_at (Some (runs service)) ending old new = RanBy text_at service ending old new
-AsksSaid text_at _ ending old new = new ≡ old
+abbrev pub AsksSaid : KnownTexts → Option InitdSaid → (List HostCall → Type 0) → Ending → Option (List HostCall)
+    → Option (List HostCall) → Type 0
+AsksSaid text_at (Some (runs service)) own ending old new = RanBy text_at service own ending old new
+AsksSaid text_at _ own ending old new = new ≡ old
 
-abbrev pub AsksBy : KnownTexts → List (List ℕ) → Ending → Option (List HostCall) → Option (List HostCall) → Type 0
-AsksBy text_at words ending old new = AsksSaid text_at (initd_read_of words) ending old new
+abbrev pub AsksBy : KnownTexts → List (List ℕ) → (List HostCall → Type 0) → Ending → Option (List HostCall)
+    → Option (List HostCall) → Type 0
+AsksBy text_at words own ending old new = AsksSaid text_at (initd_read_of words) own ending old new

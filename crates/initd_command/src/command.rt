@@ -87,7 +87,7 @@ where
         × EndsBy (T.text_at texts.now) (map string_bytes words.items) ending
         (W.contents out.old) (W.contents out.new)
         × Reports ending (E.contents err.old) (E.contents err.new)
-        × AsksBy (T.text_at texts.now) (map string_bytes words.items) ending
+        × AsksBy (T.text_at texts.now) (map string_bytes words.items) S.own ending
         (S.told hosts.old) (S.told hosts.new) }
 {
     match read_words(alloc, words.as_slice()) {

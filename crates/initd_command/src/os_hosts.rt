@@ -17,30 +17,36 @@ use std::marker::Model;
 use std::process::Processes;
 use std::rt::{Clock, Files};
 
-/// The hosts that ask the operating system. They tell the calls that they were asked, which proofs alone can read.
+/// The host that asks the operating system: one, which tells the calls that it was asked. Proofs alone can read them.
+///
+/// It is opened once. Another would hold none of the children of the first, so there is none: it is refused, as where
+/// memory is lacking, and so it is behind an opening that failed.
 #[derive(Drop)]
 pub struct OsHosts<R: Processes + Files<File = File> + Clock + Print + Eprint + Clone + Drop> {
-    rt: R,
+    /// The runtime of the host, before that is opened.
+    rt: Option<R>,
     calls: Noted<CallList>,
 }
 
 impl<R: Processes + Files<File = File> + Clock + Print + Eprint + Clone + Drop> Model
     for OsHosts<R> {
-    ghost use Rattle.std.specs.Prelude.{List};
+    ghost use Rattle.std.specs.Prelude.{◌≡◌, List, [], IsSome};
     ghost use Rattle.host_calls.specs.Calls.{HostCall};
 
     ghost Value = { List HostCall };
 
     ghost view = { λ hosts. hosts.calls.value };
+
+    ghost invariant = { λ hosts. IsSome hosts.rt → hosts.calls.value ≡ [] };
 }
 
 impl<R: Processes + Files<File = File> + Clock + Print + Eprint + Clone + Drop> OsHosts<R> {
-    /// Hosts of which no call was asked yet.
+    /// The host, of which no call was asked yet.
     pub fn new(rt: R) -> OsHosts<R>
         ensures { result ≡ [] }
     {
         OsHosts {
-            rt,
+            rt: Some(rt),
             calls: no_calls(),
         }
     }
@@ -50,10 +56,13 @@ impl<R: Processes + Files<File = File> + Clock + Print + Eprint + Clone + Drop> 
     Telling<OsHost<StampedRuntime<R>>>,
 > for OsHosts<R> {
     ghost use Rattle.std.specs.Prelude.{◌≡◌, Some, IfOk};
+    ghost use Rattle.host_calls.specs.Held.{AreOwn, HeldChildren};
     ghost use Rattle.initd_options.specs.Options.{run_of};
     ghost use Rattle.initd_command.specs.Hosts.{host_said};
 
     ghost told = { λ hosts. Some hosts };
+
+    ghost own = { λ calls. (held : HeldChildren) × AreOwn calls held };
 
     fn open(
         &mut self,
@@ -65,12 +74,17 @@ impl<R: Processes + Files<File = File> + Clock + Print + Eprint + Clone + Drop> 
         ensures err { self.new ≡ self.old }
         ensures words { IfOk result (λ host. host.host ≡ host_said (run_of said.now)) }
     {
-        let stamped = StampedRuntime::new(self.rt.clone()?, alloc, said.stamp);
+        let Some(rt) = self.rt.take() else {
+            return Err(Memory);
+        };
+        let stamped = StampedRuntime::new(rt, alloc, said.stamp);
         let host = host_of(&stamped, alloc, said)?.holding(lock);
         Ok(Telling::after(&self.calls, host))
     }
 
     fn close(&mut self, host: Telling<OsHost<StampedRuntime<R>>>) {
+        host.law_of_telling();
+        self.rt = None;
         self.calls = host.calls();
     }
 }

@@ -1,6 +1,6 @@
 //! `initd run`: what it stands on, and its turns.
 
-ghost use Rattle.std.specs.Prelude.{◌≡◌, ◌∷◌, ◌&&◌, true, List, Option, None, Some, [], option_map, unwrap_or, IfErr, IfOk, OnErr};
+ghost use Rattle.std.specs.Prelude.{◌≡◌, ◌∷◌, ◌&&◌, true, List, Option, None, Some, [], option_map, unwrap_or, IfErr, IfOk, IfSome, OnErr};
 ghost use Rattle.init_words.specs.Parts.{NamedText, texts_of};
 ghost use Rattle.inittab_text.specs.Parts.{faults_of_parts, table_of_texts};
 ghost use Rattle.initd_command.specs.Endings.{Ending, Reports, ReportsUnled, status_of};
@@ -132,7 +132,7 @@ where
         × EndsRun (T.text_at texts.now) (run_of said.now) ending
         (W.contents out.old) (W.contents out.new)
         × Reports ending (E.contents err.old) (E.contents err.new)
-        × RanBy (T.text_at texts.now) (run_of said.now) ending (S.told hosts.old)
+        × RanBy (T.text_at texts.now) (run_of said.now) S.own ending (S.told hosts.old)
         (S.told hosts.new) }
 {
     match open_run(rt, texts, hosts, alloc, said) {
@@ -442,12 +442,13 @@ fn make_run<R, H: Host + Drop, S: Hosts<H>, W: Write, E: Write>(
 ) -> u8
 where
     R: Files<File = File> + Eprint + Clock,
-    ensures { (ending : Ending) × (result ≡ status_of ending)
+    ensures ended { (ending : Ending) × (result ≡ status_of ending)
         × EndsTold (run_of said.now) run.is_unled run.faults.items ending
         (W.contents out.old) (W.contents out.new)
         × Reports ending (E.contents err.old) (E.contents err.new)
         × ((table : List Entry) → IsOpeningOf (run_of said.now).level table run.opening
         → RanOver (run_of said.now) table ending (H.told run.host) (S.told hosts.new)) }
+    ensures own { IfSome (S.told hosts.new) S.own }
 {
     let Run {
         opening,

@@ -33,30 +33,36 @@ pub trait ScriptHosts<H: Host> {
         ensures { told self.new ≡ H.told host };
 }
 
-/// The hosts that ask the operating system. They tell the calls that they were asked, which proofs alone can read.
+/// The host that asks the operating system: one, which tells the calls that it was asked. Proofs alone can read them.
+///
+/// It is opened once. Another would hold none of the children of the first, so there is none: it is refused, as where
+/// memory is lacking, and so it is behind an opening that failed.
 #[derive(Drop)]
 pub struct SystemHosts<R: Processes + Files<File = File> + Clock + Print + Eprint + Clone + Drop> {
-    rt: R,
+    /// The runtime of the host, before that is opened.
+    rt: Option<R>,
     calls: Noted<CallList>,
 }
 
 impl<R: Processes + Files<File = File> + Clock + Print + Eprint + Clone + Drop> Model
     for SystemHosts<R> {
-    ghost use Rattle.std.specs.Prelude.{List};
+    ghost use Rattle.std.specs.Prelude.{◌≡◌, List, [], IsSome};
     ghost use Rattle.host_calls.specs.Calls.{HostCall};
 
     ghost Value = { List HostCall };
 
     ghost view = { λ hosts. hosts.calls.value };
+
+    ghost invariant = { λ hosts. IsSome hosts.rt → hosts.calls.value ≡ [] };
 }
 
 impl<R: Processes + Files<File = File> + Clock + Print + Eprint + Clone + Drop> SystemHosts<R> {
-    /// Hosts of which no call was asked yet.
+    /// The host, of which no call was asked yet.
     pub fn new(rt: R) -> SystemHosts<R>
         ensures { result ≡ [] }
     {
         SystemHosts {
-            rt,
+            rt: Some(rt),
             calls: no_calls(),
         }
     }
@@ -73,11 +79,15 @@ impl<R: Processes + Files<File = File> + Clock + Print + Eprint + Clone + Drop> 
         ensures told { IfOk result (λ host. Some host.calls ≡ Some self.old) }
         ensures err { self.new ≡ self.old }
     {
-        let host = OsHost::new(self.rt.clone()?, alloc, "rc", "", "", "", None)?;
+        let Some(rt) = self.rt.take() else {
+            return Err(Memory);
+        };
+        let host = OsHost::new(rt, alloc, "rc", "", "", "", None)?;
         Ok(Telling::after(&self.calls, host.with_pause(PAUSE)?))
     }
 
     fn close(&mut self, host: Telling<OsHost<R>>) {
+        self.rt = None;
         self.calls = host.calls();
     }
 }
