@@ -13,33 +13,33 @@ abbrev pub HeldChildren : Type 0
 HeldChildren = List (List ℕ × ℕ)
 
 -- a child of the id is held
-abbrev pub holds : List ℕ → HeldChildren → Bool
-holds id held = list_any (λ child. same_id id child.0) held
+abbrev pub holds_child : List ℕ → HeldChildren → Bool
+holds_child id held = list_any (λ child. same_id id child.0) held
 
 -- a child of the number is held
 abbrev pub holds_number : ℕ → HeldChildren → Bool
 holds_number number held = list_any (λ child. number == child.1) held
 
 -- the children but that of the id
-abbrev pub without : List ℕ → HeldChildren → HeldChildren
-without id held = filter (λ child. not (same_id id child.0)) held
+abbrev pub without_child : List ℕ → HeldChildren → HeldChildren
+without_child id held = filter (λ child. not (same_id id child.0)) held
 
 -- A start: a child is born for an id of which none was held, and is held under its number from then on. Any other
 -- answer changes nothing.
 abbrev pub Starts : HeldChildren → HeldChildren → List ℕ → Reply → Type 0
-Starts held now id (Now (Born number)) = (holds id held ≡ false) × (now ≡ held ++ (id, number) ∷ [])
+Starts held now id (Now (Born number)) = (holds_child id held ≡ false) × (now ≡ held ++ (id, number) ∷ [])
 Starts held now id _ = now ≡ held
 
 -- A look: the child that has ended was held, and is held no longer; all others are. One that lives is held. Nothing
 -- else changes.
 abbrev pub Looks : HeldChildren → HeldChildren → List ℕ → Reply → Type 0
-Looks held now id (Now (Ended status)) = IsTrue (holds id held) × (now ≡ without id held)
-Looks held now id (Now Alive) = IsTrue (holds id held) × (now ≡ held)
+Looks held now id (Now (Ended status)) = IsTrue (holds_child id held) × (now ≡ without_child id held)
+Looks held now id (Now Alive) = IsTrue (holds_child id held) × (now ≡ held)
 Looks held now id _ = now ≡ held
 
 -- a signal hits only a child that is held, and changes nothing
 abbrev pub Signals : HeldChildren → HeldChildren → List ℕ → Reply → Type 0
-Signals held now id (Now Hit) = IsTrue (holds id held) × (now ≡ held)
+Signals held now id (Now Hit) = IsTrue (holds_child id held) × (now ≡ held)
 Signals held now id _ = now ≡ held
 
 -- a call of a host that holds its children, and answers nothing later

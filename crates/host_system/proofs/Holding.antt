@@ -6,14 +6,14 @@ use Rattle.std.proofs.lemmas.Map.Steps.{set_value_same}
 use Rattle.indexmap.specs.IndexMap.{IndexMap, WritesThrough, insert_entry}
 use Rattle.indexmap.proofs.CallerLemmas.{insert_entry-new}
 use Rattle.init_words.specs.Ids.{same_id}
-use Rattle.host_calls.specs.Held.{HeldChildren, holds, without}
+use Rattle.host_calls.specs.Held.{HeldChildren, holds_child, without_child}
 
 -- a child is found just where one of the id is held
-pub found_held : (id : List ℕ) (held : HeldChildren) → is_some (lookup (same_id id) held) ≡ holds id held
+pub found_held : (id : List ℕ) (held : HeldChildren) → is_some (lookup (same_id id) held) ≡ holds_child id held
 found_held id [] = refl
 found_held id (e ∷ held) = here (same_id id e.0) (found_held id held)
   where
-    here : (b : Bool) → is_some (lookup (same_id id) held) ≡ holds id held → is_some (cond b (Some e.1) (lookup (same_id id) held)) ≡ (b || holds id held)
+    here : (b : Bool) → is_some (lookup (same_id id) held) ≡ holds_child id held → is_some (cond b (Some e.1) (lookup (same_id id) held)) ≡ (b || holds_child id held)
     here true later = refl
     here false later = later
 
@@ -21,30 +21,30 @@ none_is : (o : Option ℕ) → is_some o ≡ false → o ≡ None
 none_is None h = refl
 none_is (Some n) h = absurd (cc)
 
-pub none_found : (id : List ℕ) (held : HeldChildren) → holds id held ≡ false → lookup (same_id id) held ≡ None
+pub none_found : (id : List ℕ) (held : HeldChildren) → holds_child id held ≡ false → lookup (same_id id) held ≡ None
 none_found id held none = none_is (lookup (same_id id) held) (found_held id held ∙ none)
 
 -- where none is found, none is left out
-without_none : (id : List ℕ) (held : HeldChildren) → lookup (same_id id) held ≡ None → without id held ≡ held
+without_none : (id : List ℕ) (held : HeldChildren) → lookup (same_id id) held ≡ None → without_child id held ≡ held
 without_none id [] none = refl
 without_none id (e ∷ held) none = here (same_id id e.0) none (without_none id held)
   where
-    here : (b : Bool) → cond b (Some e.1) (lookup (same_id id) held) ≡ None → (lookup (same_id id) held ≡ None → without id held ≡ held) → cond (not b) (e ∷ without id held) (without id held) ≡ e ∷ held
+    here : (b : Bool) → cond b (Some e.1) (lookup (same_id id) held) ≡ None → (lookup (same_id id) held ≡ None → without_child id held ≡ held) → cond (not b) (e ∷ without_child id held) (without_child id held) ≡ e ∷ held
     here true none later = absurd (cc)
     here false none later = ap (λ es. e ∷ es) (later none)
 
 -- the map without the entry of the id, of which no other is left
-pub released : (id : List ℕ) (held : HeldChildren) → lookup (same_id id) (remove_entry (same_id id) held) ≡ None → remove_entry (same_id id) held ≡ without id held
+pub released : (id : List ℕ) (held : HeldChildren) → lookup (same_id id) (remove_entry (same_id id) held) ≡ None → remove_entry (same_id id) held ≡ without_child id held
 released id [] gone = refl
 released id (e ∷ held) gone = here (same_id id e.0) refl gone (released id held)
   where
-    here : (b : Bool) → same_id id e.0 ≡ b → lookup (same_id id) (cond b held (e ∷ remove_entry (same_id id) held)) ≡ None → (lookup (same_id id) (remove_entry (same_id id) held) ≡ None → remove_entry (same_id id) held ≡ without id held) → cond b held (e ∷ remove_entry (same_id id) held) ≡ cond (not b) (e ∷ without id held) (without id held)
+    here : (b : Bool) → same_id id e.0 ≡ b → lookup (same_id id) (cond b held (e ∷ remove_entry (same_id id) held)) ≡ None → (lookup (same_id id) (remove_entry (same_id id) held) ≡ None → remove_entry (same_id id) held ≡ without_child id held) → cond b held (e ∷ remove_entry (same_id id) held) ≡ cond (not b) (e ∷ without_child id held) (without_child id held)
     here true is gone later = sym (without_none id held gone)
     here false is gone later = ap (λ es. e ∷ es) (later (subst (λ b. cond b (Some e.1) (lookup (same_id id) (remove_entry (same_id id) held)) ≡ None) is gone))
 
 -- one that was found is held
-pub held_there : (id : List ℕ) (found : ℕ) (entries held : HeldChildren) → entries ≡ held → Some found ≡ lookup (same_id id) entries → holds id held ≡ true
-held_there id found entries held is there = ap (holds id) (sym is) ∙ sym (found_held id entries) ∙ ap is_some (sym there)
+pub held_there : (id : List ℕ) (found : ℕ) (entries held : HeldChildren) → entries ≡ held → Some found ≡ lookup (same_id id) entries → holds_child id held ≡ true
+held_there id found entries held is there = ap (holds_child id) (sym is) ∙ sym (found_held id entries) ∙ ap is_some (sym there)
 
 -- a write that leaves its number changes nothing
 pub written_same : {S : Type 0} (id : List ℕ) (found left : ℕ) (m n : IndexMap (List ℕ) ℕ S) (held : HeldChildren) → m.entries ≡ held → Some found ≡ lookup (same_id id) m.entries → left ≡ found → WritesThrough same_id (same_id id) m left n → n.entries ≡ held
@@ -56,8 +56,8 @@ all_same [] = refl
 all_same (e ∷ entries) = ap (λ es. e ∷ es) (all_same entries)
 
 -- a child of an id that has none is held last
-pub inserted_last : {S : Type 0} (id : List ℕ) (number : ℕ) (m : IndexMap (List ℕ) ℕ S) (held now : HeldChildren) → m.entries ≡ held → holds id held ≡ false → now ≡ insert_entry same_id m.entries id number → now ≡ held ++ (id, number) ∷ []
-inserted_last id number m held now is none inserted = inserted ∙ insert_entry-new same_id m id number (none_found id m.entries (ap (holds id) is ∙ none)) ∙ ap (λ es. es ++ (id, number) ∷ []) is
+pub inserted_last : {S : Type 0} (id : List ℕ) (number : ℕ) (m : IndexMap (List ℕ) ℕ S) (held now : HeldChildren) → m.entries ≡ held → holds_child id held ≡ false → now ≡ insert_entry same_id m.entries id number → now ≡ held ++ (id, number) ∷ []
+inserted_last id number m held now is none inserted = inserted ∙ insert_entry-new same_id m id number (none_found id m.entries (ap (holds_child id) is ∙ none)) ∙ ap (λ es. es ++ (id, number) ∷ []) is
 
 -- what holds in any case holds where there is no error
 pub on_ok : {T E P : Type 0} (outcome : Result T E) → P → OnOk outcome P

@@ -2,7 +2,7 @@
 
 ghost use Rattle.std.specs.Prelude.{◌≡◌, ◌++◌, ◌∷◌, [], IsTrue, IfOk, OnOk, OnErr, true, false};
 ghost use Rattle.host_calls.specs.declared.calls.Reply.TheVariants.{Now};
-ghost use Rattle.host_calls.specs.Held.{Looks, Signals, holds, without};
+ghost use Rattle.host_calls.specs.Held.{Looks, Signals, holds_child, without_child};
 ghost use Rattle.host_system.specs.Hosts.{is_look_answer, is_signal_answer};
 
 use crate::commands::{command_of, needs_shell, shown};
@@ -94,7 +94,7 @@ impl<R: Processes, A: Allocator + Copy> Children<R, A> {
     ) -> io::Result<ChildNumber>
     where
         R: Files + Eprint,
-        ensures unheld { OnOk result (holds id self.old ≡ false) }
+        ensures unheld { OnOk result (holds_child id self.old ≡ false) }
         ensures born { IfOk result (λ number. self.new ≡ self.old ++ (id, number) ∷ []) }
         ensures not_born { OnErr result (self.new ≡ self.old) }
     {
@@ -111,7 +111,7 @@ impl<R: Processes, A: Allocator + Copy> Children<R, A> {
 
     /// The id has a child.
     fn holds(&self, id: &Id) -> bool
-        ensures { result ≡ holds id.now self.now }
+        ensures { result ≡ holds_child id.now self.now }
     {
         self.handles.contains_key(id)
     }
@@ -123,7 +123,7 @@ impl<R: Processes, A: Allocator + Copy> Children<R, A> {
         id: Id,
         command: &mut Command<B>,
     ) -> io::Result<ChildNumber>
-        requires { holds id self.old ≡ false }
+        requires { holds_child id self.old ≡ false }
         ensures born { IfOk result (λ number. self.new ≡ self.old ++ (id, number) ∷ []) }
         ensures not_born { OnErr result (self.new ≡ self.old) }
     {
@@ -216,7 +216,7 @@ impl<R: Processes, A: Allocator + Copy> Children<R, A> {
 
     /// How the id's child ended, where it has. An id without child has none to wait for.
     fn try_wait(&mut self, id: &Id) -> io::Result<Option<ExitStatus>>
-        ensures held { OnOk result (IsTrue (holds id.now self.old)) }
+        ensures held { OnOk result (IsTrue (holds_child id.now self.old)) }
         ensures same { self.new ≡ self.old }
     {
         let Some(held) = self.handles.get_mut(id) else {
@@ -227,7 +227,7 @@ impl<R: Processes, A: Allocator + Copy> Children<R, A> {
 
     /// Holds the id's child no longer.
     fn release(&mut self, id: &Id)
-        ensures { self.new ≡ without id.now self.old }
+        ensures { self.new ≡ without_child id.now self.old }
     {
         self.handles.shift_remove(id);
     }
@@ -328,7 +328,7 @@ impl<R: Processes, A: Allocator + Copy> Children<R, A> {
     fn term(&mut self, rt: &R, id: &Id) -> bool
     where
         R: Eprint,
-        ensures held { result ≡ true → IsTrue (holds id.now self.old) }
+        ensures held { result ≡ true → IsTrue (holds_child id.now self.old) }
         ensures same { self.new ≡ self.old }
     {
         let Some(held) = self.handles.get_mut(id) else {
@@ -340,7 +340,7 @@ impl<R: Processes, A: Allocator + Copy> Children<R, A> {
     }
 
     fn kill(&mut self, id: &Id) -> bool
-        ensures held { result ≡ true → IsTrue (holds id.now self.old) }
+        ensures held { result ≡ true → IsTrue (holds_child id.now self.old) }
         ensures same { self.new ≡ self.old }
     {
         let Some(held) = self.handles.get_mut(id) else {

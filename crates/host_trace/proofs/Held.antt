@@ -30,11 +30,11 @@ use Rattle.host_calls.specs.declared.calls.Call.TheVariants.{Start, Look, Signal
 use Rattle.host_calls.specs.declared.calls.Reply.{Reply}
 use Rattle.host_calls.specs.declared.calls.Reply.TheVariants.{Now, Later}
 use Rattle.host_calls.specs.Calls.{HostCall, PartsRead}
-use Rattle.host_calls.specs.Held.{AreOwn, HeldChildren, holds, holds_number, without, Starts, Looks, Signals, KeepsHeld}
+use Rattle.host_calls.specs.Held.{AreOwn, HeldChildren, holds_child, holds_number, without_child, Starts, Looks, Signals, KeepsHeld}
 use Rattle.initctl_frame.specs.Frames.{heard_of}
 use Rattle.host_trace.specs.Point.{Point, last_birth, acted, is_asked_for, answered, ordered, order_for, come, is_last, nudged_if, byte_after, bytes_after, reading, before_reading, before_handing, came_whole, handed_if, announced, after, point_after}
 use Rattle.host_trace.specs.Leads.{meets, is_allowed}
-use Rattle.host_trace.specs.Held.{AreNew, held_in}
+use Rattle.host_trace.specs.Held.{AreNew, unreaped_in_order}
 
 -- lists
 all_then : {X : Type 0} (P Q : X → Type 0) → ((x : X) → P x → Q x) → (xs : List X) → AllByRecursion P xs → AllByRecursion Q xs
@@ -168,7 +168,7 @@ last_pair id so_far es last = all_then (λ e. last_birth e.0 so_far ≡ e.1) (λ
 
 -- what is kept of a trace along the calls of a host that holds its children; some of it where the numbers are new
 record Kept (goal : Goal) (N : Type 0) (start : List Event) (held : HeldChildren) (so_far : List Event) : Type 0 where
-  pub same : held ≡ held_in so_far
+  pub same : held ≡ unreaped_in_order so_far
   pub last : AreLast so_far (pairs so_far)
   pub live : N → AreLive so_far (pairs so_far)
   pub apart : N → Apart (pairs so_far)
@@ -347,11 +347,11 @@ module _ (goal : Goal) (N : Type 0) where
       let parts = or_parts (same_id id e.0) (list_any (λ x. same_id id x.0) es) none in
       (ap (λ b. cond b n (last_birth e.0 so_far)) (same_id-sym e.0 id ∙ parts.0) ∙ last.0, last_kept id n so_far es parts.1 last.1)
 
-  born : (start : List Event) (held : HeldChildren) (id : List ℕ) (n : ℕ) (so_far : List Event) → Kept goal N start held so_far → holds id held ≡ false → (N → holds_number n held ≡ false) → Kept goal N start (held ++ (id, n) ∷ []) (ordered id ask.Start (Now (answer.Born n)) so_far)
+  born : (start : List Event) (held : HeldChildren) (id : List ℕ) (n : ℕ) (so_far : List Event) → Kept goal N start held so_far → holds_child id held ≡ false → (N → holds_number n held ≡ false) → Kept goal N start (held ++ (id, n) ∷ []) (ordered id ask.Start (Now (answer.Born n)) so_far)
   born start held id n so_far kept unheld unnumbered =
       let asked : List Event = past.Asked id ask.Start ∷ so_far in
       let es : HeldChildren = pairs so_far in
-      let there : list_any (λ e. same_id id e.0) es ≡ false = sym (any_reverse (λ e. same_id id e.0) es) ∙ ap (holds id) (sym kept.same) ∙ unheld in
+      let there : list_any (λ e. same_id id e.0) es ≡ false = sym (any_reverse (λ e. same_id id e.0) es) ∙ ap (holds_child id) (sym kept.same) ∙ unheld in
       let numbered : N → list_any (λ e. n == e.1) es ≡ false = λ numbers. sym (any_reverse (λ e. n == e.1) es) ∙ ap (holds_number n) (sym kept.same) ∙ unnumbered numbers in
       let listed : N → list_any (has_number n) (unreaped_children so_far) ≡ false = λ numbers. sym (any_map (λ (child : Child). (child.id, child.number)) (λ e. n == e.1) (unreaped_children so_far)) ∙ numbered numbers in
       let own : last_birth id (past.Birth id n ∷ so_far) ≡ n = ap (λ b. cond b n (last_birth id so_far)) (same_id-self id) in
@@ -368,14 +368,14 @@ module _ (goal : Goal) (N : Type 0) where
       subst (Kept goal N start (held ++ (id, n) ∷ [])) (sym (answered_now id ask.Start (answer.Born n) so_far true refl)) behind
 
   -- an end
-  ended : (start : List Event) (held : HeldChildren) (id : List ℕ) (status : Status) (so_far : List Event) → Kept goal N start held so_far → holds id held ≡ true → Kept goal N start (without id held) (ordered id ask.Look (Now (answer.Ended status)) so_far)
+  ended : (start : List Event) (held : HeldChildren) (id : List ℕ) (status : Status) (so_far : List Event) → Kept goal N start held so_far → holds_child id held ≡ true → Kept goal N start (without_child id held) (ordered id ask.Look (Now (answer.Ended status)) so_far)
   ended start held id status so_far kept there =
       let asked : List Event = past.Asked id ask.Look ∷ so_far in
       let n : ℕ = last_birth id so_far in
       let es : HeldChildren = pairs so_far in
       let dead : List Event = past.Death n ∷ asked in
       let own : AllByRecursion (λ e. is_pair id n e ≡ same_id id e.0) es = last_pair id so_far es kept.last in
-      let found : list_any (is_pair id n) es ≡ true = any_agree (is_pair id n) (λ e. same_id id e.0) es own ∙ sym (any_reverse (λ e. same_id id e.0) es) ∙ ap (holds id) (sym kept.same) ∙ there in
+      let found : list_any (is_pair id n) es ≡ true = any_agree (is_pair id n) (λ e. same_id id e.0) es own ∙ sym (any_reverse (λ e. same_id id e.0) es) ∙ ap (holds_child id) (sym kept.same) ∙ there in
       let listed : list_any (is_child id n) (unreaped_children so_far) ≡ true = sym (any_map (λ (child : Child). (child.id, child.number)) (is_pair id n) (unreaped_children so_far)) ∙ found in
       let lives : N → is_living n asked ≡ true = λ numbers. sym (any_map (λ (child : Child). (child.id, child.number)) (λ e. n == e.1 && not (is_dead e.0 n so_far)) (unreaped_children so_far)) ∙ living_there id n so_far es (kept.live numbers) found in
       let died : is_dead id n dead ≡ true = or_left (n == n) (is_dead id n asked) (number_self n) in
@@ -385,14 +385,14 @@ module _ (goal : Goal) (N : Type 0) where
       let others : filter (λ e. not (is_pair id n e)) es ≡ filter (λ e. not (same_id id e.0)) es = filter_agree_on (λ e. not (is_pair id n e)) (λ e. not (same_id id e.0)) es (all_then (λ e. is_pair id n e ≡ same_id id e.0) (λ e. not (is_pair id n e) ≡ not (same_id id e.0)) (λ e h. ap not h) es own) in
       let differ : N → AllByRecursion (λ e. (e.1 == n) ≡ false) (filter (λ e. not (is_pair id n e)) es) = λ numbers. others_numbered id n es (kept.apart numbers) found in
       let living : N → AreLive so_far (filter (λ e. not (is_pair id n e)) es) = λ numbers. all_filter (λ e. is_dead e.0 e.1 so_far ≡ false) (λ e. not (is_pair id n e)) es (kept.live numbers) in
-      let behind : Kept goal N start (without id held) (past.Told id ∷ past.Reaped id n status ∷ dead) = record {
-        same = ap (without id) kept.same ∙ filter_reverse (λ e. not (same_id id e.0)) es ∙ ap reverse (sym (left ∙ others));
+      let behind : Kept goal N start (without_child id held) (past.Told id ∷ past.Reaped id n status ∷ dead) = record {
+        same = ap (without_child id) kept.same ∙ filter_reverse (λ e. not (same_id id e.0)) es ∙ ap reverse (sym (left ∙ others));
         last = subst (AreLast so_far) (sym left) (all_filter (λ e. last_birth e.0 so_far ≡ e.1) (λ e. not (is_pair id n e)) es kept.last);
         live = λ numbers. subst (AreLive (past.Reaped id n status ∷ dead)) (sym left) (all_both (λ e. (e.1 == n) ≡ false) (λ e. is_dead e.0 e.1 so_far ≡ false) (λ e. is_dead e.0 e.1 dead ≡ false) (λ e other h. or_from (e.1 == n) (is_dead e.0 e.1 so_far) other h) (filter (λ e. not (is_pair id n e)) es) (differ numbers) (living numbers));
         apart = λ numbers. subst Apart (sym left) (apart_filter (λ e. not (is_pair id n e)) es (kept.apart numbers));
         allowed = λ numbers h. and_from (meets goal (past.Told id) (past.Reaped id n status ∷ dead)) (is_allowed goal (past.Reaped id n status ∷ dead)) told (and_from (meets goal (past.Reaped id n status) dead) (is_allowed goal dead) may (and_from (meets goal (past.Death n) asked) (is_allowed goal asked) (lives numbers) (kept.allowed numbers h)));
       } in
-      subst (Kept goal N start (without id held)) (sym (answered_now id ask.Look (answer.Ended status) so_far true refl)) behind
+      subst (Kept goal N start (without_child id held)) (sym (answered_now id ask.Look (answer.Ended status) so_far true refl)) behind
 
   -- a call keeps it
   kept_same : (start : List Event) (held now : HeldChildren) (so_far behind : List Event) → now ≡ held → Kept goal N start held so_far → Alike goal so_far behind → Kept goal N start now behind
@@ -460,5 +460,5 @@ module _ (goal : Goal) (N : Type 0) where
 pub held_possible : (goal : Goal) (calls : List HostCall) (held : HeldChildren) (p : Point) → unreaped_children p.past ≡ [] → AreOwn calls held → AreNew calls → is_allowed goal p.past ≡ true → is_allowed goal (point_after calls p).past ≡ true
 held_possible goal calls held p none own new h = (kept_all goal (AreNew calls) calls held p none own (λ numbers. numbers)).allowed new h
 
-pub held_children : (calls : List HostCall) (held : HeldChildren) (p : Point) → unreaped_children p.past ≡ [] → AreOwn calls held → held ≡ held_in (point_after calls p).past
+pub held_children : (calls : List HostCall) (held : HeldChildren) (p : Point) → unreaped_children p.past ≡ [] → AreOwn calls held → held ≡ unreaped_in_order (point_after calls p).past
 held_children calls held p none own = (kept_all (record { level = L0; grace = 0 }) ⊥ calls held p none own (λ none_new. absurd none_new)).same

@@ -146,7 +146,7 @@ carried_parts (Announce happening ∷ ys) xs p h = carried_parts ys xs p h
 carried_parts (Pause ∷ ys) xs p h = carried_parts ys xs p h
 
 -- each of two parts carried state texts
-texts_then : (goal : Goal) (ys xs : List HostCall) (p : Point) → (are_carried xs p ≡ true → AreTexts goal ys (point_after xs p)) → AreTexts goal xs p → AreTexts goal (ys ++ xs) p
+pub texts_then : (goal : Goal) (ys xs : List HostCall) (p : Point) → (are_carried xs p ≡ true → AreTexts goal ys (point_after xs p)) → AreTexts goal xs p → AreTexts goal (ys ++ xs) p
 texts_then goal [] xs p later earlier = earlier
 texts_then goal (Carry text back ∷ ys) xs p later earlier = (
   λ carried.

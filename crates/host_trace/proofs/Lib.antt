@@ -2,6 +2,8 @@ pub mod Acting
 pub mod Bytes
 pub mod Calling
 pub mod Ending
+pub mod Fronts
+pub mod Growing
 pub mod Held
 pub mod Leading
 pub mod Point

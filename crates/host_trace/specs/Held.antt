@@ -15,5 +15,5 @@ AreNew calls = (later earlier : List HostCall) (id command : List ℕ) (number :
     → holds_number number held ≡ false
 
 -- the unreaped children of a trace, in the order of their births
-abbrev pub held_in : List Event → HeldChildren
-held_in past = reverse (map (λ child. (child.id, child.number)) (unreaped_children past))
+abbrev pub unreaped_in_order : List Event → HeldChildren
+unreaped_in_order past = reverse (map (λ child. (child.id, child.number)) (unreaped_children past))

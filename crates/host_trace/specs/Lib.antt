@@ -1,3 +1,5 @@
+pub mod Fronts
+pub mod Grows
 pub mod Held
 pub mod Leads
 pub mod Point

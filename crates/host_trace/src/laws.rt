@@ -6,7 +6,7 @@ ghost use Rattle.trace_events.specs.declared.steps.Goal.{Goal};
 ghost use Rattle.trace_events.specs.Past.{unreaped_children};
 ghost use Rattle.host_calls.specs.Calls.{HostCall};
 ghost use Rattle.host_calls.specs.Held.{AreOwn, HeldChildren};
-ghost use Rattle.host_trace.specs.Held.{AreNew, held_in};
+ghost use Rattle.host_trace.specs.Held.{AreNew, unreaped_in_order};
 ghost use Rattle.host_trace.specs.Point.{Point, point_after, has_trace};
 ghost use Rattle.host_trace.specs.Leads.{AreTexts, are_carried, is_allowed};
 ghost use Rattle.host_trace.specs.Requests.{Brings};
@@ -54,5 +54,5 @@ pub fn law_of_held()
         → IsTrue (is_allowed goal p.past) → IsTrue (is_allowed goal (point_after calls p).past) }
     ensures held { (calls : List HostCall) (held : HeldChildren) (p : Point)
         → unreaped_children p.past ≡ [] → AreOwn calls held
-        → held ≡ held_in (point_after calls p).past }
+        → held ≡ unreaped_in_order (point_after calls p).past }
 {}

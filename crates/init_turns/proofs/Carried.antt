@@ -85,7 +85,7 @@ Makes-unless old new l₀ l₁ c behind given made is busy makes =
 pub Makes-idle : (now : Option (List HostCall)) (log : LogState) (c : CoreState) (given : Step) → given ≡ step.Idle → Makes now now log log (IsStepUnless (is_idle given)) (Gave (Tracks c) given) (Tracks c)
 Makes-idle now log c given is =
     subst (λ s. Makes now now log log (IsStepUnless (is_idle s)) (Gave (Tracks c) s) (Tracks c)) (sym is)
-    (Makes-map now now log log (IsStepUnless true) (IsStepUnless true) (Tracks c) (Tracks c) (Gave (Tracks c) step.Idle) (Tracks c)
+    (Makes-map now now log log (IsStepUnless true) (IsStepUnless true) (Tracks c) (Tracks c) (Gave (Tracks c) step.Idle) (Tracks c) (λ goal p sound gave. gave.1)
     (Makes-none now log (IsStepUnless true) (Tracks c) refl)
     (λ calls none leads. (none, Leads-weaken (Tracks c) (Gave (Tracks c) step.Idle) (Tracks c) (Tracks c) log log calls (λ goal p gave. gave.1) (λ goal p fits. fits) leads)))
 
@@ -95,13 +95,16 @@ idle_is _ h = absurd (false≢true h)
 
 -- the step was the first due, and was carried out; where it was none, nothing is due still
 pub Makes-stepped : (old new : Option (List HostCall)) (l₀ l₁ : LogState) (c between behind : CoreState) (made : Step) → OnEachTrace c (λ goal so_far. made ≡ first (due goal so_far)) → OnEachTrace c (λ goal so_far. StillFits c between goal so_far (with_step made so_far)) → Lasts c between → Makes old new l₀ l₁ (IsStepUnless (is_idle made)) (Gave (Tracks between) made) (Tracks behind) → Makes old new l₀ l₁ (IsStepUnless (is_idle made)) (Tracks c) (AndRests (is_idle made) (Tracks behind))
-Makes-stepped old new l₀ l₁ c between behind made due_now fits lasts makes = Makes-map old new l₀ l₁ (IsStepUnless (is_idle made)) (IsStepUnless (is_idle made)) (Gave (Tracks between) made) (Tracks behind) (Tracks c) (AndRests (is_idle made) (Tracks behind)) makes
+Makes-stepped old new l₀ l₁ c between behind made due_now fits lasts makes = Makes-map old new l₀ l₁ (IsStepUnless (is_idle made)) (IsStepUnless (is_idle made)) (Gave (Tracks between) made) (Tracks behind) (Tracks c) (AndRests (is_idle made) (Tracks behind)) gave makes
     (λ calls shape leads. (shape, goes calls shape leads))
   where
+    gave : (goal : Goal) (p : Point) → is_sound goal p.past ≡ true → Tracks c goal p → Gave (Tracks between) made goal p
+    gave goal p sound fitted = (sym (due_now goal p.past sound fitted.fits.0), tracks c between goal p (gone_on (with_step made) p) lasts refl fitted (all_on c between goal p.past (with_step made p.past) (fits goal p.past sound fitted.fits.0) fitted.fits))
+
     goes : (calls : List HostCall) → IsStepUnless (is_idle made) calls → Leads (Gave (Tracks between) made) (Tracks behind) l₀ l₁ calls → Leads (Tracks c) (AndRests (is_idle made) (Tracks behind)) l₀ l₁ calls
     goes calls shape leads goal p sound fitted allowed =
         let is_first : made ≡ first (due goal p.past) = due_now goal p.past sound fitted.fits.0 in
-        let led = leads goal p sound (sym is_first, tracks c between goal p (gone_on (with_step made) p) lasts refl fitted (all_on c between goal p.past (with_step made p.past) (fits goal p.past sound fitted.fits.0) fitted.fits)) allowed in (
+        let led = leads goal p sound (gave goal p sound fitted) allowed in (
           led.0,
           λ carried.
               let went : Went (Tracks behind) l₀ l₁ goal p calls = led.1 carried in

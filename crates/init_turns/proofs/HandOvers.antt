@@ -102,6 +102,6 @@ Makes-carried old mid new l₀ l₁ c next behind how text back adds says is fit
     by : (h : HandOver) → AddsCall old mid (Carry text back) → Saying h mid new → Leads (Gave (Tracks c) step.Reexec) (Tracks behind) l₀ l₁ (carrying h text back)
         → Makes old new l₀ l₁ IsStep (Gave (Tracks c) step.Reexec) (Tracks behind)
     by handed.Whole first none goes = Makes-one old new l₀ l₁ (Carry text back) IsStep (Gave (Tracks c) step.Reexec) (Tracks behind) (subst (λ t. AddsCall old t (Carry text back)) (sym none) first) refl goes
-    by (handed.Cut bytes) first second goes = Makes-two old mid new l₀ l₁ (Carry text back) (Announce (past.Handed (handed.Cut bytes))) IsStep (Gave (Tracks c) step.Reexec) (Tracks behind) first second refl goes
-    by (handed.Older generation) first second goes = Makes-two old mid new l₀ l₁ (Carry text back) (Announce (past.Handed (handed.Older generation))) IsStep (Gave (Tracks c) step.Reexec) (Tracks behind) first second refl goes
-    by handed.Failed first second goes = Makes-two old mid new l₀ l₁ (Carry text back) (Announce (past.Handed handed.Failed)) IsStep (Gave (Tracks c) step.Reexec) (Tracks behind) first second refl goes
+    by (handed.Cut bytes) first second goes = Makes-two old mid new l₀ l₁ (Carry text back) (Announce (past.Handed (handed.Cut bytes))) IsStep (Gave (Tracks c) step.Reexec) (Tracks behind) refl first second refl goes
+    by (handed.Older generation) first second goes = Makes-two old mid new l₀ l₁ (Carry text back) (Announce (past.Handed (handed.Older generation))) IsStep (Gave (Tracks c) step.Reexec) (Tracks behind) refl first second refl goes
+    by handed.Failed first second goes = Makes-two old mid new l₀ l₁ (Carry text back) (Announce (past.Handed handed.Failed)) IsStep (Gave (Tracks c) step.Reexec) (Tracks behind) refl first second refl goes

@@ -1,4 +1,5 @@
 pub mod Carried
+pub mod Grown
 pub mod HandOvers
 pub mod Lasting
 pub mod Listed

@@ -10,13 +10,15 @@ use Rattle.core_model.proofs.Hearing.{fits_opening}
 use Rattle.core_model.specs.State.{CoreState, opening_goal, opening_state}
 use Rattle.trace_log.specs.Logs.{LogState}
 use Rattle.host_calls.specs.Calls.{HostCall}
+use Rattle.host_trace.specs.Fronts.{Fronts}
 use Rattle.host_trace.specs.Leads.{Leads, Logs, Went}
 use Rattle.host_trace.specs.Point.{Point, point_after}
 use Rattle.host_trace.specs.Turns.{AreTurns}
 use Rattle.host_calls.proofs.Record.{Since-map}
+use Rattle.host_trace.proofs.Fronts.{Began-then}
 use Rattle.host_trace.proofs.Taking.{Took-then}
 use Rattle.init_turns.specs.Parts.{Fresh, LeftBy, Makes}
-use Rattle.init_turns.specs.Opening.{IsOpening, IsOpeningOf, LeadsFrom, OpeningState, Opens, opening_point}
+use Rattle.init_turns.specs.Opening.{FrontsFrom, IsOpening, IsOpeningOf, LeadsFrom, OpeningState, Opens, opening_point}
 
 -- turns that are said of what fitted are said of what is narrower
 turns_narrower : (drain : Bool) (f g : Goal → Point → Type 0) → ((goal : Goal) (p : Point) → g goal p → f goal p) → (n : ℕ) (calls : List HostCall) → AreTurns drain f n calls → AreTurns drain g n calls
@@ -42,8 +44,9 @@ pub opened : (told now_told : Option (List HostCall)) (l₀ l₁ l₂ : LogState
     → Logs l₀ l₁ [] (NewTable table ∷ []) → Makes told now_told l₁ l₂ (AreTurns drain (Fresh core) n) (Fresh core) (LeftBy new)
     → Opens told now_told l₀ l₂ level table drain n new
 opened told now_told l₀ l₁ l₂ level table drain n core new fresh distinct took makes =
-    Since-map told now_told (λ calls. AreTurns drain (Fresh core) n calls × Leads (Fresh core) (LeftBy new) l₁ l₂ calls) (λ calls. AreTurns drain (IsOpening level table) n calls × LeadsFrom level table new l₀ l₂ calls) makes
-    (λ calls made. (turns_narrower drain (Fresh core) (IsOpening level table) narrower n calls made.0, leads calls made.1))
+    Since-map told now_told (λ calls. AreTurns drain (Fresh core) n calls × Leads (Fresh core) (LeftBy new) l₁ l₂ calls × Fronts (Fresh core) l₁ l₂ calls)
+    (λ calls. AreTurns drain (IsOpening level table) n calls × LeadsFrom level table new l₀ l₂ calls × FrontsFrom level table l₀ l₂ calls) makes
+    (λ calls made. (turns_narrower drain (Fresh core) (IsOpening level table) narrower n calls made.0, leads calls made.1, fronts calls made.2))
   where
     narrower : (goal : Goal) (p : Point) → IsOpening level table goal p → Fresh core goal p
     narrower goal p (of_goal, of_point) = subst (λ q. Fresh core goal q) (sym of_point) (subst (λ o. Fresh core o (opening_point table)) (sym of_goal) fresh)
@@ -62,6 +65,13 @@ opened told now_told l₀ l₁ l₂ level table drain n core new fresh distinct 
                 fits = went.fits;
                 log = Took-then l₀ l₁ l₂ [] (NewTable table ∷ []) past (took refl) (went.log refl);
               }),
+        )
+
+    fronts : (calls : List HostCall) → Fronts (Fresh core) l₁ l₂ calls → FrontsFrom level table l₀ l₂ calls
+    fronts calls all later earlier next call is apart =
+        let so_far = all later earlier next call is apart in (
+          (λ goal p sound opens. so_far.0 goal p sound (narrower goal p opens)),
+          (λ allowed carried. Began-then l₀ l₁ l₂ [] (NewTable table ∷ []) (point_after (call ∷ earlier) (opening_point table)).past (took refl) (so_far.1 (opening_goal level table) (opening_point table) distinct fresh allowed carried refl)),
         )
 
 -- of an opening, the log and the turns

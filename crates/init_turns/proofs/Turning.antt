@@ -17,8 +17,13 @@ use Rattle.host_trace.specs.declared.TheConstants.{LATE_LIMIT}
 use Rattle.host_trace.specs.Point.{Point, point_after}
 use Rattle.host_calls.specs.Record.{Since}
 use Rattle.host_trace.specs.Requests.{Brings}
+use Rattle.core_text.specs.Range.{has_short_seconds}
+use Rattle.host_trace.specs.Fronts.{Fronts}
+use Rattle.host_trace.specs.Grows.{Grows, HasRead}
 use Rattle.host_trace.specs.Leads.{At, Counted, IsOver, Leads, Tracks, Went}
 use Rattle.host_trace.specs.Turns.{AreSteps, AreTurns, IsTurn, GoesWell, Undrained, are_full, are_lates, are_takes, bytes_taken, has_come, is_room, is_step, takes_none}
+use Rattle.host_trace.proofs.Fronts.{fronts_one, fronts_then}
+use Rattle.host_trace.proofs.Growing.{Grows-none}
 use Rattle.host_trace.proofs.Leading.{Leads-beside, Leads-frame, Leads-still, Leads-then, Leads-weaken, bytes_counted}
 use Rattle.host_calls.proofs.Record.{Since-map, Since-one, Since-then}
 use Rattle.host_trace.proofs.Requests.{calls_bring}
@@ -98,18 +103,18 @@ turned done xs ys (time, takes, lates, is, byte_calls, late_calls) steps = recor
 abbrev Counting : (Goal → Point → Type 0) → Goal → Point → Type 0
 Counting fit goal p = fit goal p × Counted 0 goal p
 
-pub turn_made : (done : Bool) (t₀ t₁ t₂ t₃ t₄ : Option (List HostCall)) (l₀ l₁ l₂ l₃ l₄ : LogState) (c₀ c₁ c₂ c₃ c₄ : CoreState) (b₀ b₁ : Begun) → Makes t₀ t₁ l₀ l₁ IsReading (Tracks c₀) (λ goal p. Tracks c₁ goal p × Counted 0 goal p) → Makes t₁ t₂ l₁ l₂ (λ calls. are_takes calls ≡ true) (At c₁ b₀) (At c₂ b₁) → Makes t₂ t₃ l₂ l₃ (λ calls. are_lates calls ≡ true) (λ goal p. Tracks c₂ goal p × Counted 0 goal p) (Tracks c₃) → Makes t₃ t₄ l₃ l₄ (AreAllSteps done) (Tracks c₃) (AndRests done (Tracks c₄)) → Makes t₀ t₄ l₀ l₄ (IsTurn done) (At c₀ b₀) (Left done c₄ b₁)
-turn_made done t₀ t₁ t₂ t₃ t₄ l₀ l₁ l₂ l₃ l₄ c₀ c₁ c₂ c₃ c₄ b₀ b₁ clock takes lates steps =
-    Makes-map t₀ t₄ l₀ l₄ (IsTurn done) (IsTurn done) (At c₀ b₀) (AndRests done (At c₄ b₁)) (At c₀ b₀) (Left done c₄ b₁)
-    (Makes-then t₀ t₃ t₄ l₀ l₃ l₄ HasHeard (AreAllSteps done) (IsTurn done) (At c₀ b₀) (At c₃ b₁) (AndRests done (At c₄ b₁))
-    (Makes-then t₀ t₂ t₃ l₀ l₂ l₃ HasTaken (λ calls. are_lates calls ≡ true) HasHeard (At c₀ b₀) (Counting (At c₂ b₁)) (At c₃ b₁)
-    (Makes-then t₀ t₁ t₂ l₀ l₁ l₂ IsReading (λ calls. are_takes calls ≡ true) HasTaken (At c₀ b₀) (Counting (At c₁ b₀)) (Counting (At c₂ b₁)) clocked taken (λ xs ys read take. (read.0, ys, ap (λ calls. ys ++ calls) read.1, take)))
+pub turn_made : (done : Bool) (t₀ t₁ t₂ t₃ t₄ : Option (List HostCall)) (l₀ l₁ l₂ l₃ l₄ : LogState) (c₀ c₁ c₂ c₃ c₄ : CoreState) (b₀ b₁ : Begun) → Makes t₀ t₁ l₀ l₁ IsReading (Tracks c₀) (λ goal p. Tracks c₁ goal p × Counted 0 goal p) → Makes t₁ t₂ l₁ l₂ (λ calls. are_takes calls ≡ true) (At c₁ b₀) (At c₂ b₁) → Makes t₂ t₃ l₂ l₃ (λ calls. are_lates calls ≡ true) (λ goal p. Tracks c₂ goal p × Counted 0 goal p) (Tracks c₃) → Makes t₃ t₄ l₃ l₄ (AreAllSteps done) (Tracks c₃) (AndRests done (Tracks c₄)) → (HasRead b₀ → has_short_seconds c₀ ≡ true → Grows l₁ l₂ × Grows l₂ l₃ × Grows l₃ l₄) → Makes t₀ t₄ l₀ l₄ (IsTurn done) (At c₀ b₀) (Left done c₄ b₁)
+turn_made done t₀ t₁ t₂ t₃ t₄ l₀ l₁ l₂ l₃ l₄ c₀ c₁ c₂ c₃ c₄ b₀ b₁ clock takes lates steps grows =
+    Makes-map t₀ t₄ l₀ l₄ (IsTurn done) (IsTurn done) (At c₀ b₀) (AndRests done (At c₄ b₁)) (At c₀ b₀) (Left done c₄ b₁) (λ goal p sound fits. fits)
+    (Makes-then t₀ t₃ t₄ l₀ l₃ l₄ HasHeard (AreAllSteps done) (IsTurn done) (At c₀ b₀) (At c₃ b₁) (AndRests done (At c₄ b₁)) (λ goal p fits. (grows (p.over, fits.1) fits.0.short).2)
+    (Makes-then t₀ t₂ t₃ l₀ l₂ l₃ HasTaken (λ calls. are_lates calls ≡ true) HasHeard (At c₀ b₀) (Counting (At c₂ b₁)) (At c₃ b₁) (λ goal p fits. (grows (p.over, fits.1) fits.0.short).1)
+    (Makes-then t₀ t₁ t₂ l₀ l₁ l₂ IsReading (λ calls. are_takes calls ≡ true) HasTaken (At c₀ b₀) (Counting (At c₁ b₀)) (Counting (At c₂ b₁)) (λ goal p fits. (grows (p.over, fits.1) fits.0.short).0) clocked taken (λ xs ys read take. (read.0, ys, ap (λ calls. ys ++ calls) read.1, take)))
     late (λ xs ys have come. (have.0, have.1, ys, ap (λ calls. ys ++ calls) have.2, have.3, come)))
     stepped (λ xs ys heard all. turned done xs ys heard all))
     (λ calls turn leads. (turn, Leads-left (At c₀ b₀) done c₄ b₁ l₀ l₄ calls leads))
   where
     clocked : Makes t₀ t₁ l₀ l₁ IsReading (At c₀ b₀) (Counting (At c₁ b₀))
-    clocked = Makes-map t₀ t₁ l₀ l₁ IsReading IsReading (Tracks c₀) (Counting (Tracks c₁)) (At c₀ b₀) (Counting (At c₁ b₀)) clock
+    clocked = Makes-map t₀ t₁ l₀ l₁ IsReading IsReading (Tracks c₀) (Counting (Tracks c₁)) (At c₀ b₀) (Counting (At c₁ b₀)) (λ goal p sound fits. fits.0) clock
         (λ calls read leads. (
           read,
           Leads-weaken (At c₀ b₀) (At c₀ b₀) (λ goal p. Counting (Tracks c₁) goal p × IsOver b₀ p.over) (Counting (At c₁ b₀)) l₀ l₁ calls (λ goal p fits. fits) (λ goal p fits. ((fits.0.0, fits.1), fits.0.1))
@@ -117,11 +122,11 @@ turn_made done t₀ t₁ t₂ t₃ t₄ l₀ l₁ l₂ l₃ l₄ c₀ c₁ c₂ 
         ))
 
     taken : Makes t₁ t₂ l₁ l₂ (λ calls. are_takes calls ≡ true) (Counting (At c₁ b₀)) (Counting (At c₂ b₁))
-    taken = Makes-map t₁ t₂ l₁ l₂ (λ calls. are_takes calls ≡ true) (λ calls. are_takes calls ≡ true) (At c₁ b₀) (At c₂ b₁) (Counting (At c₁ b₀)) (Counting (At c₂ b₁)) takes
+    taken = Makes-map t₁ t₂ l₁ l₂ (λ calls. are_takes calls ≡ true) (λ calls. are_takes calls ≡ true) (At c₁ b₀) (At c₂ b₁) (Counting (At c₁ b₀)) (Counting (At c₂ b₁)) (λ goal p sound fits. fits.0) takes
         (λ calls take leads. (take, Leads-beside (At c₁ b₀) (At c₂ b₁) (Counted 0) l₁ l₂ calls (takes_counted 0 calls take) leads))
 
     late : Makes t₂ t₃ l₂ l₃ (λ calls. are_lates calls ≡ true) (Counting (At c₂ b₁)) (At c₃ b₁)
-    late = Makes-map t₂ t₃ l₂ l₃ (λ calls. are_lates calls ≡ true) (λ calls. are_lates calls ≡ true) (Counting (Tracks c₂)) (Tracks c₃) (Counting (At c₂ b₁)) (At c₃ b₁) lates
+    late = Makes-map t₂ t₃ l₂ l₃ (λ calls. are_lates calls ≡ true) (λ calls. are_lates calls ≡ true) (Counting (Tracks c₂)) (Tracks c₃) (Counting (At c₂ b₁)) (At c₃ b₁) (λ goal p sound fits. (fits.0.0, fits.1)) lates
         (λ calls come leads. (
           come,
           Leads-weaken (λ goal p. Counting (Tracks c₂) goal p × IsOver b₁ p.over) (Counting (At c₂ b₁)) (At c₃ b₁) (At c₃ b₁) l₂ l₃ calls (λ goal p fits. ((fits.0.0, fits.1), fits.0.1)) (λ goal p fits. fits)
@@ -129,7 +134,7 @@ turn_made done t₀ t₁ t₂ t₃ t₄ l₀ l₁ l₂ l₃ l₄ c₀ c₁ c₂ 
         ))
 
     stepped : Makes t₃ t₄ l₃ l₄ (AreAllSteps done) (At c₃ b₁) (AndRests done (At c₄ b₁))
-    stepped = Makes-map t₃ t₄ l₃ l₄ (AreAllSteps done) (AreAllSteps done) (Tracks c₃) (AndRests done (Tracks c₄)) (At c₃ b₁) (AndRests done (At c₄ b₁)) steps
+    stepped = Makes-map t₃ t₄ l₃ l₄ (AreAllSteps done) (AreAllSteps done) (Tracks c₃) (AndRests done (Tracks c₄)) (At c₃ b₁) (AndRests done (At c₄ b₁)) (λ goal p sound fits. fits.0) steps
         (λ calls all leads. (
           all,
           Leads-weaken (At c₃ b₁) (At c₃ b₁) (λ goal p. AndRests done (Tracks c₄) goal p × IsOver b₁ p.over) (AndRests done (At c₄ b₁)) l₃ l₄ calls (λ goal p fits. fits) (λ goal p fits. ((fits.0.0, fits.1), fits.0.1))
@@ -140,7 +145,7 @@ turn_made done t₀ t₁ t₂ t₃ t₄ l₀ l₁ l₂ l₃ l₄ c₀ c₁ c₂ 
 
 -- before the first turn
 pub turns_none : (drain : Bool) (now : Option (List HostCall)) (log : LogState) (c : CoreState) (b : Begun) → Stands b [] → Makes now now log log (AreTurns drain (Fresh c) 0) (Fresh c) (At c b)
-turns_none drain now log c b stands = Makes-map now now log log (AreTurns drain (Fresh c) 0) (AreTurns drain (Fresh c) 0) (Fresh c) (Fresh c) (Fresh c) (At c b)
+turns_none drain now log c b stands = Makes-map now now log log (AreTurns drain (Fresh c) 0) (AreTurns drain (Fresh c) 0) (Fresh c) (Fresh c) (Fresh c) (At c b) (λ goal p sound fits. fits)
     (Makes-none now log (AreTurns drain (Fresh c) 0) (Fresh c) refl)
     (λ calls none leads. (
       none,
@@ -154,12 +159,12 @@ IsLast drain done c₀ n calls = (last earlier : List HostCall) × (calls ≡ la
     × (drain ≡ true → (n ≡ 0) ⊎ Undrained (Fresh c₀) earlier) × AreTurns drain (Fresh c₀) n earlier
 
 -- a turn more, and the pause behind it
-pub turns_more : (drain done : Bool) (n : ℕ) (t₀ t₁ t₂ t₃ : Option (List HostCall)) (l₀ l₁ l₂ : LogState) (c₀ c c' : CoreState) (b b' : Begun) → Makes t₀ t₁ l₀ l₁ (AreTurns drain (Fresh c₀) n) (Fresh c₀) (At c b) → (drain ≡ true → (n ≡ 0) ⊎ (is_drained c ≡ false)) → Makes t₁ t₂ l₁ l₂ (IsTurn done) (At c b) (Left done c' b') → AddsCall t₂ t₃ Pause → Makes t₀ t₃ l₀ l₂ (AreTurns drain (Fresh c₀) (suc n)) (Fresh c₀) (At c' b')
-turns_more drain done n t₀ t₁ t₂ t₃ l₀ l₁ l₂ c₀ c c' b b' before undrained turn pause =
-    Since-then t₀ t₂ t₃ (λ calls. IsLast drain done c₀ n calls × Leads (Fresh c₀) (Left done c' b') l₀ l₂ calls) (λ calls. calls ≡ Pause ∷ []) (λ calls. AreTurns drain (Fresh c₀) (suc n) calls × Leads (Fresh c₀) (At c' b') l₀ l₂ calls)
-    (Since-then t₀ t₁ t₂ (λ calls. AreTurns drain (Fresh c₀) n calls × Leads (Fresh c₀) (At c b) l₀ l₁ calls) (λ calls. IsTurn done calls × Leads (At c b) (Left done c' b') l₁ l₂ calls)
-    (λ calls. IsLast drain done c₀ n calls × Leads (Fresh c₀) (Left done c' b') l₀ l₂ calls) before turn
-    (λ xs ys was is. ((ys, xs, refl, is.0, (λ drains. still xs was.1 (undrained drains)), was.0), Leads-then (Fresh c₀) (At c b) (Left done c' b') l₀ l₁ l₂ xs ys was.1 is.1)))
+pub turns_more : (drain done : Bool) (n : ℕ) (t₀ t₁ t₂ t₃ : Option (List HostCall)) (l₀ l₁ l₂ : LogState) (c₀ c c' : CoreState) (b b' : Begun) → Makes t₀ t₁ l₀ l₁ (AreTurns drain (Fresh c₀) n) (Fresh c₀) (At c b) → (drain ≡ true → (n ≡ 0) ⊎ (is_drained c ≡ false)) → Makes t₁ t₂ l₁ l₂ (IsTurn done) (At c b) (Left done c' b') → (has_short_seconds c₀ ≡ true → Grows l₁ l₂) → AddsCall t₂ t₃ Pause → Makes t₀ t₃ l₀ l₂ (AreTurns drain (Fresh c₀) (suc n)) (Fresh c₀) (At c' b')
+turns_more drain done n t₀ t₁ t₂ t₃ l₀ l₁ l₂ c₀ c c' b b' before undrained turn grows pause =
+    Since-then t₀ t₂ t₃ (λ calls. IsLast drain done c₀ n calls × Leads (Fresh c₀) (Left done c' b') l₀ l₂ calls × Fronts (Fresh c₀) l₀ l₂ calls) (λ calls. calls ≡ Pause ∷ []) (λ calls. AreTurns drain (Fresh c₀) (suc n) calls × Leads (Fresh c₀) (At c' b') l₀ l₂ calls × Fronts (Fresh c₀) l₀ l₂ calls)
+    (Since-then t₀ t₁ t₂ (λ calls. AreTurns drain (Fresh c₀) n calls × Leads (Fresh c₀) (At c b) l₀ l₁ calls × Fronts (Fresh c₀) l₀ l₁ calls) (λ calls. IsTurn done calls × Leads (At c b) (Left done c' b') l₁ l₂ calls × Fronts (At c b) l₁ l₂ calls)
+    (λ calls. IsLast drain done c₀ n calls × Leads (Fresh c₀) (Left done c' b') l₀ l₂ calls × Fronts (Fresh c₀) l₀ l₂ calls) before turn
+    (λ xs ys was is. ((ys, xs, refl, is.0, (λ drains. still xs was.1 (undrained drains)), was.0), Leads-then (Fresh c₀) (At c b) (Left done c' b') l₀ l₁ l₂ xs ys was.1 is.1, fronts_then (Fresh c₀) (At c b) l₀ l₁ l₂ xs ys was.1 was.2 is.2 (λ goal p fits. grows fits.0.short))))
     (Since-one t₂ t₃ Pause (λ calls. calls ≡ Pause ∷ []) pause refl)
     paused
   where
@@ -176,19 +181,21 @@ turns_more drain done n t₀ t₁ t₂ t₃ l₀ l₁ l₂ c₀ c c' b b' before
               record { in_place = went.in_place; sound = went.sound; core = c'; fits = went.fits.at.0.fits },
         )
 
-    paused : (xs ys : List HostCall) → IsLast drain done c₀ n xs × Leads (Fresh c₀) (Left done c' b') l₀ l₂ xs → ys ≡ Pause ∷ [] → AreTurns drain (Fresh c₀) (suc n) (ys ++ xs) × Leads (Fresh c₀) (At c' b') l₀ l₂ (ys ++ xs)
-    paused xs ys ((last, earlier, is, made, rested, turns), leads) one =
+    paused : (xs ys : List HostCall) → IsLast drain done c₀ n xs × Leads (Fresh c₀) (Left done c' b') l₀ l₂ xs × Fronts (Fresh c₀) l₀ l₂ xs → ys ≡ Pause ∷ [] → AreTurns drain (Fresh c₀) (suc n) (ys ++ xs) × Leads (Fresh c₀) (At c' b') l₀ l₂ (ys ++ xs) × Fronts (Fresh c₀) l₀ l₂ (ys ++ xs)
+    paused xs ys ((last, earlier, is, made, rested, turns), leads, fronts) one =
         let rests : Leads (Fresh c₀) (Left done c' b') l₀ l₂ (last ++ earlier) = subst (Leads (Fresh c₀) (Left done c' b') l₀ l₂) is leads in (
           (done, last, earlier, (λ i. one i ++ is i), made, well rests, (λ ended goal p sound fits allowed carried. ((rests goal p sound fits allowed).1 carried).fits.rests ended), rested, turns),
           subst (λ zs. Leads (Fresh c₀) (At c' b') l₀ l₂ (zs ++ xs)) (sym one)
               (Leads-then (Fresh c₀) (Left done c' b') (At c' b') l₀ l₂ l₂ xs (Pause ∷ []) leads
               (Leads-weaken (Left done c' b') (Left done c' b') (Left done c' b') (At c' b') l₂ l₂ (Pause ∷ []) (λ goal p fits. fits) (λ goal p fits. fits.at)
               (Leads-still (Left done c' b') l₂ Pause (λ p. refl) (λ goal so_far. refl) (λ goal p. tt)))),
+          subst (λ zs. Fronts (Fresh c₀) l₀ l₂ (zs ++ xs)) (sym one)
+              (fronts_then (Fresh c₀) (Left done c' b') l₀ l₂ l₂ xs (Pause ∷ []) leads fronts (fronts_one (Left done c' b') l₂ l₂ Pause) (λ goal p fits. Grows-none l₂)),
         )
 
 -- what fits a sound trace counts the children that are not reaped
 pub turns_left : (t₀ t₁ : Option (List HostCall)) (l₀ l₁ : LogState) (Shape : List HostCall → Type 0) (c₀ c : CoreState) (b : Begun) → Makes t₀ t₁ l₀ l₁ Shape (Fresh c₀) (At c b) → Makes t₀ t₁ l₀ l₁ Shape (Fresh c₀) (LeftBy c)
-turns_left t₀ t₁ l₀ l₁ Shape c₀ c b makes = Makes-map t₀ t₁ l₀ l₁ Shape Shape (Fresh c₀) (At c b) (Fresh c₀) (LeftBy c) makes (λ calls shape leads. (shape, counts calls leads))
+turns_left t₀ t₁ l₀ l₁ Shape c₀ c b makes = Makes-map t₀ t₁ l₀ l₁ Shape Shape (Fresh c₀) (At c b) (Fresh c₀) (LeftBy c) (λ goal p sound fits. fits) makes (λ calls shape leads. (shape, counts calls leads))
   where
     counts : (calls : List HostCall) → Leads (Fresh c₀) (At c b) l₀ l₁ calls → Leads (Fresh c₀) (LeftBy c) l₀ l₁ calls
     counts calls leads goal p sound fits allowed =
@@ -206,4 +213,4 @@ turns_left t₀ t₁ l₀ l₁ Shape c₀ c b makes = Makes-map t₀ t₁ l₀ l
 
 -- the requests of all bytes
 pub turns_bring : (t₀ t₁ : Option (List HostCall)) (l₀ l₁ : LogState) (Shape : List HostCall → Type 0) (f₀ f₁ : Goal → Point → Type 0) → Makes t₀ t₁ l₀ l₁ Shape f₀ f₁ → Since t₀ t₁ (λ calls. (p : Point) → p.over ≡ [] → Brings [] calls p)
-turns_bring t₀ t₁ l₀ l₁ Shape f₀ f₁ makes = Since-map t₀ t₁ (λ calls. Shape calls × Leads f₀ f₁ l₀ l₁ calls) (λ calls. (p : Point) → p.over ≡ [] → Brings [] calls p) makes (λ calls held p none. calls_bring calls [] p none)
+turns_bring t₀ t₁ l₀ l₁ Shape f₀ f₁ makes = Since-map t₀ t₁ (λ calls. Shape calls × Leads f₀ f₁ l₀ l₁ calls × Fronts f₀ l₀ l₁ calls) (λ calls. (p : Point) → p.over ≡ [] → Brings [] calls p) makes (λ calls held p none. calls_bring calls [] p none)

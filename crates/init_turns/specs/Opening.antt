@@ -11,6 +11,7 @@ use Rattle.trace_events.specs.Sound.{is_sound}
 use Rattle.core_model.specs.State.{CoreState, opening_goal, opening_state}
 use Rattle.trace_log.specs.Logs.{LogState}
 use Rattle.host_calls.specs.Calls.{HostCall}
+use Rattle.host_trace.specs.Fronts.{Began, EachFront, GoesSoFar}
 use Rattle.host_trace.specs.Leads.{AreTexts, Took, are_carried, is_allowed}
 use Rattle.host_trace.specs.Point.{Point, has_trace, point_after}
 use Rattle.host_calls.specs.Record.{Since}
@@ -54,9 +55,22 @@ LeadsFrom level table core old new calls =
     → AreTexts (opening_goal level table) calls (opening_point table)
     × (IsTrue (are_carried calls (opening_point table)) → WentFrom level table core old new calls)
 
--- the calls made, which are those told where the host tells them, are those of the given number of turns, and so it
--- went
+-- what the log took, behind all calls, begins with the trace of these, where the answers to these were possible, and
+-- the texts that were carried came back as they may
+abbrev pub LogsFrom : Option Level → List Entry → LogState → LogState → List HostCall → Type 0
+LogsFrom level table old new calls =
+    IsTrue (is_allowed (opening_goal level table) (point_after calls (opening_point table)).past)
+    → IsTrue (are_carried calls (opening_point table)) → Began old new [] (point_after calls (opening_point table)).past
+
+-- so it is up to each call, and up to each all went well as far as the answers until then were possible
+abbrev pub FrontsFrom : Option Level → List Entry → LogState → LogState → List HostCall → Type 0
+FrontsFrom level table old new calls =
+    EachFront (λ earlier. GoesSoFar (IsOpening level table) earlier × LogsFrom level table old new earlier) calls
+
+-- the calls made, which are those told where the host tells them, are those of the given number of turns; so it went,
+-- and so it did up to each of them, whatever was answered later
 abbrev pub Opens : Option (List HostCall) → Option (List HostCall) → LogState → LogState → Option Level → List Entry
     → Bool → ℕ → CoreState → Type 0
 Opens told now_told old new level table drain turns core = Since told now_told (λ calls.
-    AreTurns drain (IsOpening level table) turns calls × LeadsFrom level table core old new calls)
+    AreTurns drain (IsOpening level table) turns calls × LeadsFrom level table core old new calls
+    × FrontsFrom level table old new calls)

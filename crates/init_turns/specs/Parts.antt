@@ -15,6 +15,7 @@ use Rattle.trace_events.specs.declared.steps.Step.TheVariants as step
 use Rattle.trace_events.specs.Agreement.{is_unreaped}
 use Rattle.trace_events.specs.Due.{due, first}
 use Rattle.trace_events.specs.Event.{Event}
+use Rattle.trace_events.specs.Range.{is_seconds}
 use Rattle.core_model.specs.State.{CoreState}
 use Rattle.core_model.specs.Fit.{with_step}
 use Rattle.core_model.specs.Headline.{is_recorded}
@@ -28,15 +29,16 @@ use Rattle.host_calls.specs.Calls.{AddsCall, HostCall, TextRead}
 use Rattle.host_trace.specs.declared.TheConstants.{STEP_LIMIT}
 use Rattle.host_trace.specs.Point.{Point, is_last, is_outcome, is_announcement, may_announce}
 use Rattle.host_calls.specs.Record.{Since}
+use Rattle.host_trace.specs.Fronts.{Fronts}
 use Rattle.host_trace.specs.Leads.{At, Leads, Tracks, comes_back}
 use Rattle.host_trace.specs.Turns.{AreSteps, bytes_in, is_room, is_step}
 
--- the calls made are of this shape, and what fits before them fits after them; where the host tells its calls, they
--- are those
+-- the calls made are of this shape, and what fits before them fits after them; up to each of them all went well as far
+-- as the answers until then were possible; where the host tells its calls, they are those
 abbrev pub Makes : Option (List HostCall) → Option (List HostCall) → LogState → LogState → (List HostCall → Type 0)
     → (Goal → Point → Type 0) → (Goal → Point → Type 0) → Type 0
 Makes told now_told log now_log Shape fitted fit =
-    Since told now_told (λ calls. Shape calls × Leads fitted fit log now_log calls)
+    Since told now_told (λ calls. Shape calls × Leads fitted fit log now_log calls × Fronts fitted log now_log calls)
 
 -- the answer is that the child ended
 abbrev pub is_end : Answer → Bool
@@ -120,3 +122,8 @@ Fresh core goal p = Tracks core goal p × (p.over ≡ [])
 abbrev pub is_listed : List Entry → Step → Bool
 is_listed table (step.Order id ask.Start) = is_some (entry_of id table)
 is_listed table _ = true
+
+-- the seconds that a step names are at most an hour
+abbrev pub is_short_step : Step → Bool
+is_short_step (step.Enter stage grace) = is_seconds grace
+is_short_step _ = true

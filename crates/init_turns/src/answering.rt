@@ -5,9 +5,11 @@ ghost use Rattle.std.specs.Option.{option_and_then};
 ghost use Rattle.init_words.specs.declared.orders.Answer.TheVariants.{Ended};
 ghost use Rattle.trace_events.specs.declared.happenings.Happening.TheVariants.{Told};
 ghost use Rattle.trace_events.specs.Event.{Event};
+ghost use Rattle.trace_events.specs.Range.{is_short};
 ghost use Rattle.core_records.specs.Lists.{record_by_id};
 ghost use Rattle.core_records.specs.State.{child_number};
 ghost use Rattle.host_trace.specs.Point.{last_birth, acted, answered, replied};
+ghost use Rattle.host_trace.specs.Grows.{Grows, GrowsBy};
 ghost use Rattle.host_trace.specs.Leads.{Hears, Logs, Tracks};
 ghost use Rattle.init_turns.specs.Parts.{is_end};
 
@@ -20,8 +22,9 @@ use trace_log::Log;
 
 /// Hands a happening to the log, unless the log has failed.
 pub(crate) fn write<A: Allocator, L: Log>(log: &mut L, happening: &HappeningIn<A>)
-    ensures { (past : List Event)
+    ensures logs { (past : List Event)
         → Logs (L.state log.old) (L.state log.new) past (happening.now ∷ past) }
+    ensures grows { is_short happening.now ≡ true → Grows (L.state log.old) (L.state log.new) }
 {
     if !log.failed() {
         law_of_ranges(happening);
@@ -31,16 +34,18 @@ pub(crate) fn write<A: Allocator, L: Log>(log: &mut L, happening: &HappeningIn<A
 
 /// Writes a happening that is no table.
 pub(crate) fn note<L: Log>(log: &mut L, happening: Happening)
-    ensures { (past : List Event)
+    ensures logs { (past : List Event)
         → Logs (L.state log.old) (L.state log.new) past (happening ∷ past) }
+    ensures grows { is_short happening ≡ true → Grows (L.state log.old) (L.state log.new) }
 {
     write(log, &happening);
 }
 
 /// Writes that a child ended: it died, and was reaped.
 fn write_end<L: Log>(log: &mut L, id: Id, number: Option<ChildNumber>, status: Status)
-    ensures { (past : List Event) → number ≡ Some (last_birth id past)
+    ensures logs { (past : List Event) → number ≡ Some (last_birth id past)
         → Logs (L.state log.old) (L.state log.new) past (acted id (Ended status) past) }
+    ensures grows { Grows (L.state log.old) (L.state log.new) }
 {
     let Some(number) = number else {
         return;
@@ -51,9 +56,10 @@ fn write_end<L: Log>(log: &mut L, id: Id, number: Option<ChildNumber>, status: S
 
 /// Writes what an answer about the id says, whose child has the number.
 fn write_act<L: Log>(log: &mut L, id: Id, answer: Answer, number: Option<ChildNumber>)
-    ensures { (past : List Event)
+    ensures logs { (past : List Event)
         → (is_end answer ≡ true → number ≡ Some (last_birth id past))
         → Logs (L.state log.old) (L.state log.new) past (acted id answer past) }
+    ensures grows { Grows (L.state log.old) (L.state log.new) }
 {
     match answer {
         Answer::Born(born) => note(log, Happening::Birth(id, born)),
@@ -68,9 +74,10 @@ fn write_act<L: Log>(log: &mut L, id: Id, answer: Answer, number: Option<ChildNu
 
 /// Writes an answer: what it says, and that it was told.
 fn write_answer<L: Log>(log: &mut L, id: Id, answer: Answer, number: Option<ChildNumber>)
-    ensures { (past : List Event)
+    ensures logs { (past : List Event)
         → (is_end answer ≡ true → number ≡ Some (last_birth id past))
         → Logs (L.state log.old) (L.state log.new) past (Told id ∷ acted id answer past) }
+    ensures grows { Grows (L.state log.old) (L.state log.new) }
 {
     write_act(log, id, answer, number);
     note(log, Happening::Told(id));
@@ -91,8 +98,9 @@ pub(crate) fn hear_answer<A: Allocator, L: Log>(
     id: Id,
     answer: Answer,
 )
-    ensures { Hears (Tracks core.old) (Tracks core.new) (L.state log.old) (L.state log.new)
+    ensures hears { Hears (Tracks core.old) (Tracks core.new) (L.state log.old) (L.state log.new)
         (answered id answer) }
+    ensures grows { GrowsBy core.old core.new (L.state log.old) (L.state log.new) }
 {
     let number = number_of(core, id);
     let heard = answer;
@@ -108,8 +116,9 @@ pub(crate) fn hear_reply<A: Allocator, L: Log>(
     id: Id,
     reply: &Reply,
 )
-    ensures { Hears (Tracks core.old) (Tracks core.new) (L.state log.old) (L.state log.new)
+    ensures hears { Hears (Tracks core.old) (Tracks core.new) (L.state log.old) (L.state log.new)
         (replied id reply.now) }
+    ensures grows { GrowsBy core.old core.new (L.state log.old) (L.state log.new) }
 {
     match *reply {
         Reply::Now(answer) => hear_answer(core, log, id, answer),

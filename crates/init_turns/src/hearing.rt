@@ -6,6 +6,7 @@ ghost use Rattle.trace_events.specs.declared.happenings.Happening.TheVariants as
 ghost use Rattle.host_calls.specs.declared.calls.Call.TheVariants.{TakeBytes};
 ghost use Rattle.host_trace.specs.declared.TheConstants.{BYTE_LIMIT, LATE_LIMIT, PIECE};
 ghost use Rattle.host_trace.specs.Point.{come, is_last};
+ghost use Rattle.host_trace.specs.Grows.{GrowsBy, GrowsReading};
 ghost use Rattle.host_trace.specs.Leads.{At, Counted, Hears, Leads, Tracks};
 ghost use Rattle.host_trace.specs.Turns.{are_lates, are_takes, is_room};
 ghost use Rattle.init_turns.specs.Parts.{IsLate, IsReading, IsTake, Makes};
@@ -27,9 +28,10 @@ pub(crate) fn hear_clock<A: Allocator, H: Host, L: Log>(
     host: &mut H,
     log: &mut L,
 )
-    ensures { Makes (H.told host.old) (H.told host.new) (L.state log.old)
+    ensures makes { Makes (H.told host.old) (H.told host.new) (L.state log.old)
         (L.state log.new) IsReading
         (Tracks core.old) (λ goal p. Tracks core.new goal p × Counted 0 goal p) }
+    ensures grows { GrowsBy core.old core.new (L.state log.old) (L.state log.new) }
 {
     if let Ok(reading) = host.clock() {
         core.clock(reading);
@@ -47,6 +49,8 @@ fn hear_request<A: Allocator, H: Host, L: Log>(
     ensures hears { IsTrue (is_request request)
         → Hears (Tracks core.old) (Tracks core.new) (L.state log.old) (L.state log.new)
         (λ past. happening.Got request ∷ past) }
+    ensures grows { IsTrue (is_request request)
+        → GrowsBy core.old core.new (L.state log.old) (L.state log.new) }
 {
     tell_cause(host, &request);
     core.got(request);
@@ -67,6 +71,8 @@ fn hear_front<A: Allocator, H: Host, L: Log>(
     ensures told { H.told host.new ≡ H.told host.old }
     ensures leads { (room : ℕ) → Leads (At core.old blocks.old) (At core.new blocks.new)
         (L.state log.old) (L.state log.new) (TakeBytes room (Ok (take result bytes.now)) ∷ []) }
+    ensures grows { GrowsReading core.old core.new blocks.old blocks.new
+        (L.state log.old) (L.state log.new) }
 {
     let (count, request) = blocks.feed(bytes);
     if let Some(request) = request {
@@ -85,6 +91,8 @@ fn hear_bytes<A: Allocator, H: Host, L: Log>(
     ensures told { H.told host.new ≡ H.told host.old }
     ensures leads { (room : ℕ) → Leads (At core.old blocks.old) (At core.new blocks.new)
         (L.state log.old) (L.state log.new) (TakeBytes room (Ok bytes.now) ∷ []) }
+    ensures grows { GrowsReading core.old core.new blocks.old blocks.new
+        (L.state log.old) (L.state log.new) }
 {
     let mut rest = bytes;
     while !rest.is_empty() {
@@ -106,6 +114,8 @@ fn take_into<A: Allocator, H: Host, L: Log>(
     ensures within { result ≤ length buffer.old }
     ensures takes { Makes (H.told host.old) (H.told host.new) (L.state log.old) (L.state log.new)
         (IsTake taken result) (At core.old blocks.old) (At core.new blocks.new) }
+    ensures grows { GrowsReading core.old core.new blocks.old blocks.new
+        (L.state log.old) (L.state log.new) }
 {
     let Ok(count) = host.take_bytes(buffer) else {
         return 0;
@@ -136,6 +146,8 @@ fn take_piece<A: Allocator, H: Host, L: Log>(
     ensures within { taken + result ≤ BYTE_LIMIT }
     ensures takes { Makes (H.told host.old) (H.told host.new) (L.state log.old) (L.state log.new)
         (IsTake taken result) (At core.old blocks.old) (At core.new blocks.new) }
+    ensures grows { GrowsReading core.old core.new blocks.old blocks.new
+        (L.state log.old) (L.state log.new) }
 {
     let mut buffer = [0; PIECE];
     let room = room_for(taken);
@@ -149,8 +161,10 @@ pub(crate) fn hear_requests<A: Allocator, H: Host, L: Log>(
     log: &mut L,
     blocks: &mut Blocks,
 )
-    ensures { Makes (H.told host.old) (H.told host.new) (L.state log.old) (L.state log.new)
+    ensures makes { Makes (H.told host.old) (H.told host.new) (L.state log.old) (L.state log.new)
         (λ calls. are_takes calls ≡ true) (At core.old blocks.old) (At core.new blocks.new) }
+    ensures grows { GrowsReading core.old core.new blocks.old blocks.new
+        (L.state log.old) (L.state log.new) }
 {
     let mut taken = 0;
     while taken < BYTE_LIMIT {
@@ -163,16 +177,18 @@ pub(crate) fn hear_requests<A: Allocator, H: Host, L: Log>(
 }
 
 fn begin_round<A: Allocator, L: Log>(core: &mut Core<A>, log: &mut L)
-    ensures { Hears (Tracks core.old) (Tracks core.new) (L.state log.old) (L.state log.new)
+    ensures hears { Hears (Tracks core.old) (Tracks core.new) (L.state log.old) (L.state log.new)
         (λ past. happening.Nudge ∷ past) }
+    ensures grows { GrowsBy core.old core.new (L.state log.old) (L.state log.new) }
 {
     core.begin_round();
     note(log, Happening::Nudge);
 }
 
 fn hear_come<A: Allocator, L: Log>(core: &mut Core<A>, log: &mut L, late: &Option<(Id, Answer)>)
-    ensures { Hears (Tracks core.old) (Tracks core.new) (L.state log.old) (L.state log.new)
+    ensures hears { Hears (Tracks core.old) (Tracks core.new) (L.state log.old) (L.state log.new)
         (come late.now) }
+    ensures grows { GrowsBy core.old core.new (L.state log.old) (L.state log.new) }
 {
     if let Some(late) = late {
         hear_answer(core, log, late.0, late.1);
@@ -199,6 +215,7 @@ fn hear_late<A: Allocator, H: Host, L: Log>(
     ensures lates { Makes (H.told host.old) (H.told host.new) (L.state log.old) (L.state log.new)
         (IsLate asked result) (λ goal p. Tracks core.old goal p × Counted asked goal p)
         (λ goal p. Tracks core.new goal p × Counted (asked + 1) goal p) }
+    ensures grows { GrowsBy core.old core.new (L.state log.old) (L.state log.new) }
 {
     let late = host.late();
     let last = is_last(&late, asked);
@@ -215,9 +232,10 @@ pub(crate) fn hear_lates<A: Allocator, H: Host, L: Log>(
     host: &mut H,
     log: &mut L,
 )
-    ensures { Makes (H.told host.old) (H.told host.new) (L.state log.old) (L.state log.new)
+    ensures makes { Makes (H.told host.old) (H.told host.new) (L.state log.old) (L.state log.new)
         (λ calls. are_lates calls ≡ true)
         (λ goal p. Tracks core.old goal p × Counted 0 goal p) (Tracks core.new) }
+    ensures grows { GrowsBy core.old core.new (L.state log.old) (L.state log.new) }
 {
     let mut asked = 0;
     while !hear_late(core, host, log, asked) {

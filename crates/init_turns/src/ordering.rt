@@ -3,6 +3,7 @@
 ghost use Rattle.std.specs.Prelude.{◌≡◌, true, is_some};
 ghost use Rattle.inittab_text.specs.Tables.{entry_of};
 ghost use Rattle.trace_events.specs.declared.steps.Step.TheVariants as step;
+ghost use Rattle.host_trace.specs.Grows.{GrowsBy};
 ghost use Rattle.host_trace.specs.Leads.{Gave, Tracks};
 ghost use Rattle.host_trace.specs.Point.{order_for};
 ghost use Rattle.init_turns.specs.Parts.{IsStep, Makes, is_listed};
@@ -33,8 +34,9 @@ fn start<A: Allocator + Copy, H: Host, L: Log>(
     id: Id,
 )
     requires { is_some (entry_of id core.old.table) ≡ true }
-    ensures { Makes (H.told host.old) (H.told host.new) (L.state log.old) (L.state log.new)
+    ensures makes { Makes (H.told host.old) (H.told host.new) (L.state log.old) (L.state log.new)
         IsStep (Gave (Tracks core.old) (step.Order id OrderKind.Start)) (Tracks core.new) }
+    ensures grows { GrowsBy core.old core.new (L.state log.old) (L.state log.new) }
 {
     let Some(entry) = core.table().get(&id) else {
         unreachable!()
@@ -45,8 +47,9 @@ fn start<A: Allocator + Copy, H: Host, L: Log>(
 }
 
 fn look<A: Allocator, H: Host, L: Log>(core: &mut Core<A>, host: &mut H, log: &mut L, id: Id)
-    ensures { Makes (H.told host.old) (H.told host.new) (L.state log.old) (L.state log.new)
+    ensures makes { Makes (H.told host.old) (H.told host.new) (L.state log.old) (L.state log.new)
         IsStep (Gave (Tracks core.old) (step.Order id OrderKind.Look)) (Tracks core.new) }
+    ensures grows { GrowsBy core.old core.new (L.state log.old) (L.state log.new) }
 {
     note(log, Happening::Asked(id, OrderKind::Look));
     let reply = host.look(id);
@@ -60,9 +63,10 @@ fn signal<A: Allocator, H: Host, L: Log>(
     id: Id,
     sent: SignalKind,
 )
-    ensures { Makes (H.told host.old) (H.told host.new) (L.state log.old) (L.state log.new)
+    ensures makes { Makes (H.told host.old) (H.told host.new) (L.state log.old) (L.state log.new)
         IsStep (Gave (Tracks core.old) (step.Order id (order_for sent)))
         (Tracks core.new) }
+    ensures grows { GrowsBy core.old core.new (L.state log.old) (L.state log.new) }
 {
     note(log, Happening::Asked(id, order_for(&sent)));
     let reply = host.signal(id, sent);
@@ -79,8 +83,9 @@ pub(crate) fn order<A: Allocator + Copy, H: Host, L: Log>(
     ask: &OrderKind,
 )
     requires { is_listed core.old.table (step.Order id ask.now) ≡ true }
-    ensures { Makes (H.told host.old) (H.told host.new) (L.state log.old) (L.state log.new)
+    ensures makes { Makes (H.told host.old) (H.told host.new) (L.state log.old) (L.state log.new)
         IsStep (Gave (Tracks core.old) (step.Order id ask.now)) (Tracks core.new) }
+    ensures grows { GrowsBy core.old core.new (L.state log.old) (L.state log.new) }
 {
     match *ask {
         OrderKind::Start => start(alloc, core, host, log, id),

@@ -1,16 +1,18 @@
 //! Init re-executed (telinit(8), `u`): its state is handed over as a text, carried, and taken over.
 
-ghost use Rattle.std.specs.Prelude.{◌≡◌, ◌∷◌, ℕ, IsTrue, List, Some, Ok};
+ghost use Rattle.std.specs.Prelude.{◌≡◌, ◌∷◌, ℕ, IsTrue, true, List, Some, Ok};
 ghost use Rattle.trace_events.specs.declared.happenings.Happening.TheVariants as happening;
 ghost use Rattle.trace_events.specs.declared.steps.Step.TheVariants as step;
 ghost use Rattle.trace_events.specs.Event.{Event};
 ghost use Rattle.core_model.specs.Parts.{SavedState};
+ghost use Rattle.core_text.specs.Range.{has_short_seconds};
 ghost use Rattle.core_text.specs.Reading.{generation_of};
 ghost use Rattle.core_text.specs.declared.state_fault.StateFault.TheVariants as fault;
 ghost use Rattle.core_text.specs.Refused.{IsCut, IsOther, IsTextOf};
 ghost use Rattle.core_handover.specs.Taken.{NotTaken};
 ghost use Rattle.host_calls.specs.Calls.{AddsCall, TextRead};
 ghost use Rattle.host_calls.specs.declared.calls.Call.TheVariants.{Carry};
+ghost use Rattle.host_trace.specs.Grows.{Grows, GrowsBy};
 ghost use Rattle.host_trace.specs.Leads.{Gave, Logs, Tracks};
 ghost use Rattle.host_trace.specs.Point.{is_outcome};
 ghost use Rattle.init_turns.specs.Parts.{ComesTo, IsStep, Makes, Saying};
@@ -61,7 +63,8 @@ fn refused(text: &[u8], back: &[u8], why: StateFault) -> Handed
 
 /// Takes over what came back of the text; gives what came of it. Where it is refused, the core goes on as it is.
 fn take_back<A: Allocator + Copy>(alloc: A, core: &mut Core<A>, text: &[u8], back: &[u8]) -> Handed
-    ensures { ComesTo result text.now (Ok back.now) core.old core.new }
+    ensures comes { ComesTo result text.now (Ok back.now) core.old core.new }
+    ensures short { has_short_seconds core.old ≡ true → has_short_seconds core.new ≡ true }
 {
     match take_over(alloc, back, core.generation()) {
         Ok(next) => {
@@ -79,8 +82,10 @@ fn carry<A: Allocator + Copy, H: Host>(
     host: &mut H,
     text: &[u8],
 ) -> Handed
-    ensures { (back : TextRead) × AddsCall (H.told host.old) (H.told host.new) (Carry text.now back)
+    ensures comes { (back : TextRead)
+        × AddsCall (H.told host.old) (H.told host.new) (Carry text.now back)
         × ComesTo result text.now back core.old core.new }
+    ensures short { has_short_seconds core.old ≡ true → has_short_seconds core.new ≡ true }
 {
     match host.carry(alloc, text) {
         Ok(back) => take_back(alloc, core, text, &back),
@@ -93,6 +98,7 @@ fn say<H: Host, L: Log>(host: &mut H, log: &mut L, how: Handed)
     ensures log { (past : List Event) → Logs (L.state log.old) (L.state log.new) past
         (happening.Handed how ∷ past) }
     ensures said { Saying how (H.told host.old) (H.told host.new) }
+    ensures grows { Grows (L.state log.old) (L.state log.new) }
 {
     let handed: Happening = Happening::Handed(how);
     write(log, &handed);
@@ -103,8 +109,9 @@ fn say<H: Host, L: Log>(host: &mut H, log: &mut L, how: Handed)
 
 /// No text was made: init goes on as it is.
 fn not_handed<A: Allocator, H: Host, L: Log>(core: &mut Core<A>, host: &mut H, log: &mut L)
-    ensures { Makes (H.told host.old) (H.told host.new) (L.state log.old) (L.state log.new)
+    ensures makes { Makes (H.told host.old) (H.told host.new) (L.state log.old) (L.state log.new)
         IsStep (Gave (Tracks core.old) step.Reexec) (Tracks core.new) }
+    ensures grows { GrowsBy core.old core.new (L.state log.old) (L.state log.new) }
 {
     core.not_handed();
     say(host, log, Handed::Failed);
@@ -117,8 +124,9 @@ pub(crate) fn reexec<A: Allocator + Copy, H: Host, L: Log>(
     host: &mut H,
     log: &mut L,
 )
-    ensures { Makes (H.told host.old) (H.told host.new) (L.state log.old) (L.state log.new)
+    ensures makes { Makes (H.told host.old) (H.told host.new) (L.state log.old) (L.state log.new)
         IsStep (Gave (Tracks core.old) step.Reexec) (Tracks core.new) }
+    ensures grows { GrowsBy core.old core.new (L.state log.old) (L.state log.new) }
 {
     let Ok(text) = hand_over(alloc, core) else {
         return not_handed(core, host, log);

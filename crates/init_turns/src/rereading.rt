@@ -10,6 +10,7 @@ ghost use Rattle.core_records.specs.Lists.{is_quiet};
 ghost use Rattle.host_calls.specs.declared.calls.Call.TheVariants.{ReadTables};
 ghost use Rattle.host_calls.specs.Calls.{AddsCall, PartsRead};
 ghost use Rattle.core_model.specs.Fit.{StillFits, OnEachTrace};
+ghost use Rattle.host_trace.specs.Grows.{GrowsBy};
 ghost use Rattle.host_trace.specs.Leads.{Gave, Lasts, Logs, Tracks};
 ghost use Rattle.init_turns.specs.Parts.{IsStep, Makes};
 
@@ -42,6 +43,7 @@ fn use_parts<A: Allocator + Copy, H: Host, L: Log>(
     ensures core { result ≡ false → core.new ≡ core.old }
     ensures log { result ≡ false → log.new ≡ log.old }
     ensures told { H.told host.new ≡ H.told host.old }
+    ensures grows { GrowsBy core.old core.new (L.state log.old) (L.state log.new) }
 {
     let reading = read_parts(alloc, parts);
     if !host.takes(parts, &reading) {
@@ -75,6 +77,7 @@ fn use_table<A: Allocator + Copy, H: Host, L: Log>(
         × AddsCall (H.told host.old) (H.told host.new) (ReadTables parts) }
     ensures core { result ≡ false → core.new ≡ core.old }
     ensures log { result ≡ false → log.new ≡ log.old }
+    ensures grows { GrowsBy core.old core.new (L.state log.old) (L.state log.new) }
 {
     let Ok(parts) = host.read_tables(alloc) else {
         return false;
@@ -89,8 +92,9 @@ pub(crate) fn reread<A: Allocator + Copy, H: Host, L: Log>(
     host: &mut H,
     log: &mut L,
 )
-    ensures { Makes (H.told host.old) (H.told host.new) (L.state log.old) (L.state log.new)
+    ensures makes { Makes (H.told host.old) (H.told host.new) (L.state log.old) (L.state log.new)
         IsStep (Gave (Tracks core.old) step.Reread) (Tracks core.new) }
+    ensures grows { GrowsBy core.old core.new (L.state log.old) (L.state log.new) }
 {
     if use_table(alloc, core, host, log) {
         return;

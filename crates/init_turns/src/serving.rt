@@ -2,6 +2,7 @@
 
 ghost use Rattle.std.specs.Prelude.{◌≡◌, ◌&&◌, ◌≤◌, ◌<◌, [], not, true, false};
 ghost use Rattle.core_model.specs.Decide.{is_drained};
+ghost use Rattle.host_trace.specs.Grows.{GrowsBy, GrowsReading};
 ghost use Rattle.host_trace.specs.Leads.{At};
 ghost use Rattle.host_trace.specs.Point.{Point};
 ghost use Rattle.host_calls.specs.Record.{Since};
@@ -53,8 +54,10 @@ pub fn turn<A: Allocator + Copy, H: Host, L: Log>(
     blocks: &mut Blocks,
     log: &mut L,
 ) -> bool
-    ensures { Makes (H.told host.old) (H.told host.new) (L.state log.old) (L.state log.new)
+    ensures makes { Makes (H.told host.old) (H.told host.new) (L.state log.old) (L.state log.new)
         (IsTurn result) (At core.old blocks.old) (Left result core.new blocks.new) }
+    ensures grows { GrowsReading core.old core.new blocks.old blocks.new
+        (L.state log.old) (L.state log.new) }
 {
     hear_clock(core, host, log);
     hear_requests(core, host, log, blocks);
@@ -100,6 +103,7 @@ pub fn serve<A: Allocator + Copy, H: Host, L: Log, W: Watch<A>>(
     ensures fewer { result.turns < turns → (drain ≡ true) × (result.drained ≡ true) }
     ensures drained { result.drained ≡ is_drained core.new }
     ensures logged { result.logged ≡ not (L.state log.new).failed }
+    ensures grows { GrowsBy core.old core.new (L.state log.old) (L.state log.new) }
 {
     let mut blocks = Blocks::new();
     for made in 0..turns {

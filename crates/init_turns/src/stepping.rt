@@ -1,10 +1,12 @@
 //! A step of init, carried out.
 
 ghost use Rattle.std.specs.Prelude.{◌≡◌, ◌≤◌, true, false};
+ghost use Rattle.trace_events.specs.Range.{is_short};
 ghost use Rattle.trace_events.specs.declared.steps.Step.{Step};
 ghost use Rattle.core_model.specs.State.{CoreState};
+ghost use Rattle.host_trace.specs.Grows.{Grows, GrowsBy};
 ghost use Rattle.host_trace.specs.Leads.{Gave, Tracks};
-ghost use Rattle.init_turns.specs.Parts.{AndRests, AreAllSteps, IsStep, IsStepUnless, Makes, SaysStep, is_idle, is_listed};
+ghost use Rattle.init_turns.specs.Parts.{AndRests, AreAllSteps, IsStep, IsStepUnless, Makes, SaysStep, is_idle, is_listed, is_short_step};
 
 use crate::answering::write;
 use crate::ordering::order;
@@ -25,9 +27,10 @@ fn is_idle(step: &Step) -> bool
 
 /// Says a step that needs no more.
 fn say<H: Host, L: Log>(host: &mut H, log: &mut L, happening: Happening)
-    ensures { (core : CoreState) (made : Step) → SaysStep made happening
+    ensures makes { (core : CoreState) (made : Step) → SaysStep made happening
         → Makes (H.told host.old) (H.told host.new) (L.state log.old) (L.state log.new)
         IsStep (Gave (Tracks core) made) (Tracks core) }
+    ensures grows { is_short happening ≡ true → Grows (L.state log.old) (L.state log.new) }
 {
     write(log, &happening);
     host.announce(&happening);
@@ -42,9 +45,11 @@ fn carry_out<A: Allocator + Copy, H: Host, L: Log>(
     step: &Step,
 )
     requires { is_listed core.old.table step.now ≡ true }
-    ensures { Makes (H.told host.old) (H.told host.new) (L.state log.old) (L.state log.new)
+    ensures makes { Makes (H.told host.old) (H.told host.new) (L.state log.old) (L.state log.new)
         (IsStepUnless (is_idle step.now)) (Gave (Tracks core.old) step.now)
         (Tracks core.new) }
+    ensures grows { is_short_step step.now ≡ true
+        → GrowsBy core.old core.new (L.state log.old) (L.state log.new) }
 {
     match *step {
         Step::Enter(stage, grace) => say(host, log, Happening::Enter(stage, grace)),
@@ -66,8 +71,9 @@ fn take_step<A: Allocator + Copy, H: Host, L: Log>(
     host: &mut H,
     log: &mut L,
 ) -> bool
-    ensures { Makes (H.told host.old) (H.told host.new) (L.state log.old) (L.state log.new)
+    ensures makes { Makes (H.told host.old) (H.told host.new) (L.state log.old) (L.state log.new)
         (IsStepUnless result) (Tracks core.old) (AndRests result (Tracks core.new)) }
+    ensures grows { GrowsBy core.old core.new (L.state log.old) (L.state log.new) }
 {
     let step = core.next();
     carry_out(alloc, core, host, log, &step);
@@ -81,8 +87,9 @@ pub(crate) fn take_steps<A: Allocator + Copy, H: Host, L: Log>(
     host: &mut H,
     log: &mut L,
 ) -> bool
-    ensures { Makes (H.told host.old) (H.told host.new) (L.state log.old) (L.state log.new)
+    ensures makes { Makes (H.told host.old) (H.told host.new) (L.state log.old) (L.state log.new)
         (AreAllSteps result) (Tracks core.old) (AndRests result (Tracks core.new)) }
+    ensures grows { GrowsBy core.old core.new (L.state log.old) (L.state log.new) }
 {
     for made in 0..STEP_LIMIT {
         if take_step(alloc, core, host, log) {

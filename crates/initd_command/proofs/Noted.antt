@@ -97,7 +97,7 @@ pub turns_over : (has_ended : Bool → List Event → Type 0) (Found : List Even
     → ReportsEnd (end_of service (noted_of notes (waiting_text core) judgement) ended) err now_err
     → Opens told now_told old (record { taken = λ trace. NotesOf notes (reverse trace) × (Found (reverse trace) × taken trace); failed = failed }) level table service.drain served.turns core
     → Since told now_told (λ calls. TurnsFrom level table calls (TurnsOver has_ended service status err now_err))
-turns_over has_ended Found taken notes found failed whole core old service level table served ended judgement status told now_told err now_err goes asked none logged limits finds ends is reports (calls, are_told, (turns, leads)) = (
+turns_over has_ended Found taken notes found failed whole core old service level table served ended judgement status told now_told err now_err goes asked none logged limits finds ends is reports (calls, are_told, (turns, leads, fronts)) = (
   calls,
   are_told,
   λ allowed carried.

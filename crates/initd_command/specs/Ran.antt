@@ -8,6 +8,7 @@ use Rattle.initd_options.specs.CommandLine.{InitdSaid, initd_read_of, runs}
 use Rattle.initd_options.specs.Options.{RunSaid}
 use Rattle.host_calls.specs.Calls.{HostCall}
 use Rattle.host_calls.specs.Record.{Since}
+use Rattle.host_trace.specs.Fronts.{EachFront, GoesSoFar}
 use Rattle.host_trace.specs.Turns.{AreTurns}
 use Rattle.init_turns.specs.Opening.{IsOpening}
 use Rattle.init_turns.specs.declared.serving.Served.{Served}
@@ -15,12 +16,14 @@ use Rattle.initd_command.specs.Turned.{End}
 use Rattle.initd_command.specs.Endings.{Ending, turned}
 use Rattle.initd_command.specs.Services.{HasInittab, IsJudged, IsServed, Noted, end_of}
 
--- the calls are those of turns from the opening over this table on, as many as the words of the run say, or fewer where
--- it ended drained; and the turns ended so
+-- the calls are those of turns from the opening over this table on, as many as the words of the run say, or fewer
+-- where it ended drained; up to each call all went well as far as the answers until then were possible; and the turns
+-- ended so
 pub record MakesTurns (service : RunSaid) (table : List Entry) (end : End) (calls : List HostCall) : Type 0 where
   pub served : Served
   pub noted : Noted
   pub turns : AreTurns service.drain (IsOpening service.level table) served.turns calls
+  pub fronts : EachFront (GoesSoFar (IsOpening service.level table)) calls
   pub most : IsServed service served
   pub asked : IsJudged service noted
   pub ends : end ≡ end_of service noted served

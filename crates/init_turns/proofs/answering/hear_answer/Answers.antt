@@ -1,14 +1,27 @@
-use Rattle.std.proofs.Common.{rules, ◌≡◌, ◌∙◌, true, false, is_ok}
+use Rattle.std.proofs.Common.{rules, ◌≡◌, ◌∙◌, ap, true, false, is_ok}
+use Rattle.core_model.specs.Steps.{after_told}
+use Rattle.core_text.specs.Range.{has_short_seconds}
 use Rattle.init_turns.proofs.Carried.{Hears-taken, Hears-refused, end_known}
+use Rattle.host_trace.proofs.Growing.{GrowsBy-one, Grows-none}
 use Rattle.init_turns.proofs.answering.hear_answer.Goals as goal
 
-pub returns-then-is_ok : goal.returns-then-is_ok
-returns-then-is_ok g c =
+pub returns-then-is_ok-clause-hears : goal.returns-then-is_ok-clause-hears
+returns-then-is_ok-clause-hears g c =
     let ok : is_ok c.answer.result ≡ true = search rules in
     Hears-taken c.args.core.now c.answer.new.self (g.L.Log.state c.args.log.now) (g.L.Log.state c.write_answer.new.log) c.args.id c.args.answer c.answer.result ok c.answer.ensures.refused c.answer.ensures.told
-    (λ goal so_far sound fits allowed. c.write_answer.ensures so_far (λ ends. c.number_of-number.ensures ∙ end_known goal so_far c.args.core.now c.args.id c.args.answer sound fits.0 allowed ends))
+    (λ goal so_far sound fits allowed. c.write_answer.ensures.logs so_far (λ ends. c.number_of-number.ensures ∙ end_known goal so_far c.args.core.now c.args.id c.args.answer sound fits.0 allowed ends))
 
-pub returns-else-is_ok : goal.returns-else-is_ok
-returns-else-is_ok g c =
+pub returns-else-is_ok-clause-hears : goal.returns-else-is_ok-clause-hears
+returns-else-is_ok-clause-hears g c =
     let refused : is_ok c.answer.result ≡ false = search rules in
     Hears-refused c.args.core.now c.answer.new.self (g.L.Log.state c.args.log.now) c.args.id c.args.answer c.answer.result refused c.answer.ensures.refused c.answer.ensures.unchanged
+
+pub returns-then-is_ok-clause-grows : goal.returns-then-is_ok-clause-grows
+returns-then-is_ok-clause-grows g c =
+    let told : c.answer.new.self ≡ after_told c.args.id c.args.answer c.args.core.now = search rules in
+    GrowsBy-one c.args.core.now c.answer.new.self (g.L.Log.state c.args.log.now) (g.L.Log.state c.write_answer.new.log) (λ short. ap has_short_seconds told ∙ short) c.write_answer.ensures.grows
+
+pub returns-else-is_ok-clause-grows : goal.returns-else-is_ok-clause-grows
+returns-else-is_ok-clause-grows g c =
+    let same : c.answer.new.self ≡ c.args.core.now = search rules in
+    GrowsBy-one c.args.core.now c.answer.new.self (g.L.Log.state c.args.log.now) (g.L.Log.state c.args.log.now) (λ short. ap has_short_seconds same ∙ short) (Grows-none (g.L.Log.state c.args.log.now))

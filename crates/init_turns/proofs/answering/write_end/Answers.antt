@@ -1,17 +1,24 @@
-use Rattle.std.proofs.Common.{rules, ◌≡◌, subst, ◌∷◌}
+use Rattle.std.proofs.Common.{rules, ◌≡◌, subst, ◌∷◌, refl}
 use Rattle.std.proofs.lemmas.Option.{same_Some}
 use Rattle.trace_events.specs.declared.happenings.Happening.TheVariants.{Death, Reaped}
 use Rattle.host_trace.specs.Leads.{Logs}
 use Rattle.host_trace.specs.Point.{last_birth}
 use Rattle.host_trace.proofs.Taking.{Logs-then}
+use Rattle.host_trace.proofs.Growing.{Grows-none, Grows-then}
 use Rattle.init_turns.proofs.answering.write_end.Goals as goal
 
-pub returns : goal.returns
-returns g c past is =
+pub returns-clause-logs : goal.returns-clause-logs
+returns-clause-logs g c past is =
     let n = c.in-Some.number in
     let same : n ≡ last_birth c.args.id past = search (rules, is, same_Some) in
     let dead = Death n ∷ past in
     subst (λ m. Logs (g.L.Log.state c.args.log.now) (g.L.Log.state c.note-2.new.log) past (Reaped c.args.id m c.args.status ∷ Death m ∷ past))
     same
     (Logs-then (g.L.Log.state c.args.log.now) (g.L.Log.state c.note.new.log) (g.L.Log.state c.note-2.new.log) past dead (Reaped c.args.id n c.args.status ∷ dead)
-    (c.note.ensures past) (c.note-2.ensures dead))
+    (c.note.ensures.logs past) (c.note-2.ensures.logs dead))
+
+pub returns-clause-grows : goal.returns-clause-grows
+returns-clause-grows g c = Grows-then (g.L.Log.state c.args.log.now) (g.L.Log.state c.note.new.log) (g.L.Log.state c.note-2.new.log) (c.note.ensures.grows refl) (c.note-2.ensures.grows refl)
+
+pub returns-in_default-clause-grows : goal.returns-in_default-clause-grows
+returns-in_default-clause-grows g c = Grows-none (g.L.Log.state c.args.log.now)

@@ -2,13 +2,19 @@ use Rattle.std.proofs.Common.{refl, ◌∷◌}
 use Rattle.trace_events.specs.declared.happenings.Happening.TheVariants as past
 use Rattle.host_trace.proofs.Acting.{Hears-told, Hears-tracks}
 use Rattle.init_turns.proofs.Lasting.{round_lasts}
+use Rattle.host_trace.proofs.Growing.{GrowsBy-one}
 use Rattle.init_turns.proofs.hearing.begin_round.Goals as goal
 
-pub returns : goal.returns
-returns g c =
+pub returns-clause-hears : goal.returns-clause-hears
+returns-clause-hears g c =
     let core = c.args.core.now in
     let new = c.begin_round.new.self in
     let old = g.L.Log.state c.args.log.now in
     let now = g.L.Log.state c.note.new.log in
     Hears-tracks core new old now (λ so_far. past.Nudge ∷ so_far) (round_lasts core new c.begin_round.ensures.state)
-    (Hears-told core new old now past.Nudge refl c.begin_round.ensures.fits c.note.ensures)
+    (Hears-told core new old now past.Nudge refl c.begin_round.ensures.fits c.note.ensures.logs)
+
+pub returns-clause-grows : goal.returns-clause-grows
+returns-clause-grows g c =
+    let lasts = round_lasts c.args.core.now c.begin_round.new.self c.begin_round.ensures.state in
+    GrowsBy-one c.args.core.now c.begin_round.new.self (g.L.Log.state c.args.log.now) (g.L.Log.state c.note.new.log) lasts.short (c.note.ensures.grows refl)

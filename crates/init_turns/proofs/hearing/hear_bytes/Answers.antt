@@ -3,14 +3,15 @@ use Rattle.std.proofs.lemmas.List.{nil_from_length, take-append-drop, take_rest}
 use Rattle.host_calls.specs.declared.calls.Call.TheVariants.{TakeBytes}
 use Rattle.host_trace.specs.Leads.{At, Leads}
 use Rattle.host_trace.proofs.Bytes.{Leads-no_bytes, Leads-pieces}
+use Rattle.host_trace.proofs.Growing.{GrowsReading-none, GrowsReading-then}
 use Rattle.init_turns.proofs.hearing.hear_bytes.Goals as goal
 
 pub loop-rest-init : goal.loop-rest-init
-loop-rest-init g c = ([], refl, refl, λ room. Leads-no_bytes (At c.args.core.now c.args.blocks.now) (g.L.Log.state c.args.log.now) room)
+loop-rest-init g c = ([], refl, refl, (λ room. Leads-no_bytes (At c.args.core.now c.args.blocks.now) (g.L.Log.state c.args.log.now) room), GrowsReading-none c.args.core.now c.args.blocks.now (g.L.Log.state c.args.log.now))
 
 pub loop-rest-preserved : goal.loop-rest-preserved
 loop-rest-preserved g c =
-    let (part, whole, told, leads) = c.loop-rest.invariant in
+    let (part, whole, told, leads, grows) = c.loop-rest.invariant in
     let front = take c.hear_front-count.result c.loop-rest.rest.now in
     let rest = drop c.hear_front-count.result c.loop-rest.rest.now in
     let joined : (part ++ front) ++ rest ≡ c.args.bytes.now = append_assoc part front rest ∙ ap (λ l. part ++ l) (take-append-drop c.hear_front-count.result c.loop-rest.rest.now) ∙ whole in
@@ -18,8 +19,10 @@ loop-rest-preserved g c =
       part ++ front,
       joined,
       c.hear_front-count.ensures.told ∙ told,
-      λ room. Leads-pieces (At c.args.core.now c.args.blocks.now) (At c.loop-rest.core c.loop-rest.blocks) (At c.hear_front-count.new.core c.hear_front-count.new.blocks)
-          (g.L.Log.state c.args.log.now) (g.L.Log.state c.loop-rest.log) (g.L.Log.state c.hear_front-count.new.log) room part front (leads room) (c.hear_front-count.ensures.leads room),
+      (λ room. Leads-pieces (At c.args.core.now c.args.blocks.now) (At c.loop-rest.core c.loop-rest.blocks) (At c.hear_front-count.new.core c.hear_front-count.new.blocks)
+          (g.L.Log.state c.args.log.now) (g.L.Log.state c.loop-rest.log) (g.L.Log.state c.hear_front-count.new.log) room part front (leads room) (c.hear_front-count.ensures.leads room)),
+      GrowsReading-then c.args.core.now c.loop-rest.core c.hear_front-count.new.core c.args.blocks.now c.loop-rest.blocks c.hear_front-count.new.blocks
+          (g.L.Log.state c.args.log.now) (g.L.Log.state c.loop-rest.log) (g.L.Log.state c.hear_front-count.new.log) grows c.hear_front-count.ensures.grows,
     )
 
 pub returns-clause-told : goal.returns-clause-told
@@ -27,7 +30,10 @@ returns-clause-told g c = c.loop-rest.invariant.2
 
 pub returns-clause-leads : goal.returns-clause-leads
 returns-clause-leads g c =
-    let (part, whole, told, leads) = c.loop-rest.invariant in
+    let (part, whole, told, leads, grows) = c.loop-rest.invariant in
     let none : c.loop-rest.rest.now ≡ [] = search (rules, nil_from_length) in
     let all : part ≡ c.args.bytes.now = sym (append-nil part) ∙ ap (λ l. part ++ l) (sym none) ∙ whole in
     λ room. subst (λ l. Leads (At c.args.core.now c.args.blocks.now) (At c.loop-rest.core c.loop-rest.blocks) (g.L.Log.state c.args.log.now) (g.L.Log.state c.loop-rest.log) (TakeBytes room (Ok l) ∷ [])) all (leads room)
+
+pub returns-clause-grows : goal.returns-clause-grows
+returns-clause-grows g c = c.loop-rest.invariant.4

@@ -1,6 +1,7 @@
 use Rattle.std.proofs.Common.{◌≡◌, ◌++◌, ℕ, List, [], ◌∷◌, length, Ok}
 use Rattle.host_calls.specs.declared.calls.Call.TheVariants.{TakeBytes}
 use Rattle.host_trace.specs.Leads.{At, Leads}
+use Rattle.host_trace.specs.Grows.{GrowsReading}
 use Rattle.init_turns.proofs.hearing.hear_bytes.Given as goal
 
 -- what stands before the rest was heard
@@ -8,6 +9,7 @@ abbrev pub invariant-loop-rest : goal.invariant-loop-rest
 invariant-loop-rest g l = (part : List ℕ) × (part ++ l.rest ≡ l.bytes)
     × (g.H.Host.told l.host ≡ g.H.Host.told l.fn.host)
     × ((room : ℕ) → Leads (At l.fn.core l.fn.blocks) (At l.core l.blocks) (g.L.Log.state l.fn.log) (g.L.Log.state l.log) (TakeBytes room (Ok part) ∷ []))
+    × GrowsReading l.fn.core l.core l.fn.blocks l.blocks (g.L.Log.state l.fn.log) (g.L.Log.state l.log)
 
 abbrev pub decreases-loop-rest : goal.decreases-loop-rest
 decreases-loop-rest g l = length l.rest

@@ -2,10 +2,14 @@ use Rattle.std.proofs.Common.{rules, ◌≡◌, sym, subst, None}
 use Rattle.host_trace.specs.Leads.{Hears, Tracks}
 use Rattle.host_trace.specs.Point.{come}
 use Rattle.host_trace.proofs.Leading.{Hears-none}
+use Rattle.host_trace.proofs.Growing.{GrowsBy-none}
 use Rattle.init_turns.proofs.hearing.hear_come.Goals as goal
 
-pub returns-in_default : goal.returns-in_default
-returns-in_default g c =
+pub returns-in_default-clause-hears : goal.returns-in_default-clause-hears
+returns-in_default-clause-hears g c =
     let is : c.args.late.now ≡ None = search rules in
     let log = g.L.Log.state c.args.log.now in
     subst (λ late. Hears (Tracks c.args.core.now) (Tracks c.args.core.now) log log (come late)) (sym is) (Hears-none (Tracks c.args.core.now) log)
+
+pub returns-in_default-clause-grows : goal.returns-in_default-clause-grows
+returns-in_default-clause-grows g c = GrowsBy-none c.args.core.now (g.L.Log.state c.args.log.now)

@@ -7,6 +7,8 @@ use Rattle.host_trace.specs.Leads.{Hears, Tracks}
 use Rattle.host_trace.specs.Requests.{requested}
 use Rattle.host_trace.proofs.Bytes.{Leads-fed}
 use Rattle.host_trace.proofs.Leading.{Hears-none}
+use Rattle.host_trace.proofs.Growing.{GrowsBy-none}
+use Rattle.init_turns.proofs.Grown.{piece_reads}
 use Rattle.init_turns.proofs.hearing.hear_front.Goals as goal
 
 some_left : (count bytes taken : ℕ) → taken ≡ min bytes (384 - count) → 0 < taken → count < 384
@@ -30,3 +32,20 @@ returns-in_default-clause-leads g c room =
     (some_left c.args.blocks.now.count (length c.args.bytes.now) c.feed-count.result.0 c.feed-count.ensures.taken (c.feed-count.ensures.progress c.requires))
     c.feed-count.ensures.stands c.feed-count.ensures.got
     (λ short. subst (λ given. Hears (Tracks c.args.core.now) (Tracks c.args.core.now) log log (requested (option_to_list given))) (sym is) (Hears-none (Tracks c.args.core.now) log))
+
+pub returns-in-Some-clause-grows : goal.returns-in-Some-clause-grows
+returns-in-Some-clause-grows g c read =
+    let part = take c.feed-count.result.0 c.args.bytes.now in
+    let request = c.feed-count.result.1 in
+    let is : request ≡ Some c.in-Some.request = search rules in
+    let some = some_left c.args.blocks.now.count (length c.args.bytes.now) c.feed-count.result.0 c.feed-count.ensures.taken (c.feed-count.ensures.progress c.requires) in
+    let reads = piece_reads c.args.blocks.now c.feed-count.new.self part request some c.feed-count.ensures.stands c.feed-count.ensures.got read in
+    let short = and_parts (is_request c.in-Some.request) true (subst (λ given. list_all is_request (option_to_list given) ≡ true) is reads.1) in
+    (reads.0, c.hear_request.ensures.grows short.0)
+
+pub returns-in_default-clause-grows : goal.returns-in_default-clause-grows
+returns-in_default-clause-grows g c read =
+    let part = take c.feed-count.result.0 c.args.bytes.now in
+    let some = some_left c.args.blocks.now.count (length c.args.bytes.now) c.feed-count.result.0 c.feed-count.ensures.taken (c.feed-count.ensures.progress c.requires) in
+    let reads = piece_reads c.args.blocks.now c.feed-count.new.self part c.feed-count.result.1 some c.feed-count.ensures.stands c.feed-count.ensures.got read in
+    (reads.0, GrowsBy-none c.args.core.now (g.L.Log.state c.args.log.now))

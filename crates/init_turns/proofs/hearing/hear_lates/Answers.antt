@@ -8,34 +8,42 @@ use Rattle.host_trace.proofs.Leading.{Leads-weaken}
 use Rattle.init_turns.specs.Parts.{IsLate, Makes}
 use Rattle.init_turns.proofs.Parts.{Makes-map, Makes-none, Makes-then}
 use Rattle.init_turns.proofs.Taken.{HaveCome, come_end, come_more}
+use Rattle.host_trace.proofs.Growing.{GrowsBy-none, GrowsBy-then}
 use Rattle.init_turns.proofs.hearing.hear_lates.Goals as goal
 
 pub loop-asked-init : goal.loop-asked-init
-loop-asked-init g c = (omega arith, Makes-none _ (g.L.Log.state c.args.log.now) (HaveCome 0) (λ goal p. Tracks c.args.core.now goal p × Counted 0 goal p) (record { all = refl; counted = refl }))
+loop-asked-init g c = (omega arith, Makes-none _ (g.L.Log.state c.args.log.now) (HaveCome 0) (λ goal p. Tracks c.args.core.now goal p × Counted 0 goal p) (record { all = refl; counted = refl }), GrowsBy-none c.args.core.now (g.L.Log.state c.args.log.now))
 
 pub loop-asked-preserved : goal.loop-asked-preserved
 loop-asked-preserved g c =
-    let (within, makes) = c.loop-asked.invariant in
+    let (within, makes, grows) = c.loop-asked.invariant in
     let asked = c.loop-asked.asked in
     let more : c.hear_late.result ≡ false = search rules in
     let f₀ : Goal → Point → Type 0 = λ goal p. Tracks c.args.core.now goal p × Counted 0 goal p in
     let f₁ : Goal → Point → Type 0 = λ goal p. Tracks c.loop-asked.core goal p × Counted asked goal p in
     let f₂ : Goal → Point → Type 0 = λ goal p. Tracks c.hear_late.new.core goal p × Counted (asked + 1) goal p in (
       c.hear_late.ensures.more more,
-      Makes-then (g.H.Host.told c.args.host.now) (g.H.Host.told c.loop-asked.host) (g.H.Host.told c.hear_late.new.host) (g.L.Log.state c.args.log.now) (g.L.Log.state c.loop-asked.log) (g.L.Log.state c.hear_late.new.log) (HaveCome asked) (IsLate asked false) (HaveCome (asked + 1)) f₀ f₁ f₂ makes
+      Makes-then (g.H.Host.told c.args.host.now) (g.H.Host.told c.loop-asked.host) (g.H.Host.told c.hear_late.new.host) (g.L.Log.state c.args.log.now) (g.L.Log.state c.loop-asked.log) (g.L.Log.state c.hear_late.new.log) (HaveCome asked) (IsLate asked false) (HaveCome (asked + 1)) f₀ f₁ f₂
+          (λ goal p fits. (c.hear_late.ensures.grows (grows fits.0.short).0).1) makes
           (subst (λ last. Makes (g.H.Host.told c.loop-asked.host) (g.H.Host.told c.hear_late.new.host) (g.L.Log.state c.loop-asked.log) (g.L.Log.state c.hear_late.new.log) (IsLate asked last) f₁ f₂) more c.hear_late.ensures.lates) (λ xs ys have late. come_more asked xs ys have late),
+      GrowsBy-then c.args.core.now c.loop-asked.core c.hear_late.new.core (g.L.Log.state c.args.log.now) (g.L.Log.state c.loop-asked.log) (g.L.Log.state c.hear_late.new.log) grows c.hear_late.ensures.grows,
     )
 
-pub returns : goal.returns
-returns g c =
-    let (within, makes) = c.loop-asked.invariant in
+pub returns-clause-makes : goal.returns-clause-makes
+returns-clause-makes g c =
+    let (within, makes, grows) = c.loop-asked.invariant in
     let asked = c.loop-asked.asked in
     let last : c.hear_late.result ≡ true = search rules in
     let f₀ : Goal → Point → Type 0 = λ goal p. Tracks c.args.core.now goal p × Counted 0 goal p in
     let f₁ : Goal → Point → Type 0 = λ goal p. Tracks c.loop-asked.core goal p × Counted asked goal p in
     let f₂ : Goal → Point → Type 0 = λ goal p. Tracks c.hear_late.new.core goal p × Counted (asked + 1) goal p in
     let Lates : List HostCall → Type 0 = λ calls. are_lates calls ≡ true in
-    Makes-map (g.H.Host.told c.args.host.now) (g.H.Host.told c.hear_late.new.host) (g.L.Log.state c.args.log.now) (g.L.Log.state c.hear_late.new.log) Lates Lates f₀ f₂ f₀ (Tracks c.hear_late.new.core)
-    (Makes-then (g.H.Host.told c.args.host.now) (g.H.Host.told c.loop-asked.host) (g.H.Host.told c.hear_late.new.host) (g.L.Log.state c.args.log.now) (g.L.Log.state c.loop-asked.log) (g.L.Log.state c.hear_late.new.log) (HaveCome asked) (IsLate asked true) Lates f₀ f₁ f₂ makes
+    Makes-map (g.H.Host.told c.args.host.now) (g.H.Host.told c.hear_late.new.host) (g.L.Log.state c.args.log.now) (g.L.Log.state c.hear_late.new.log) Lates Lates f₀ f₂ f₀ (Tracks c.hear_late.new.core) (λ goal p sound fits. fits)
+    (Makes-then (g.H.Host.told c.args.host.now) (g.H.Host.told c.loop-asked.host) (g.H.Host.told c.hear_late.new.host) (g.L.Log.state c.args.log.now) (g.L.Log.state c.loop-asked.log) (g.L.Log.state c.hear_late.new.log) (HaveCome asked) (IsLate asked true) Lates f₀ f₁ f₂
+    (λ goal p fits. (c.hear_late.ensures.grows (grows fits.0.short).0).1) makes
     (subst (λ b. Makes (g.H.Host.told c.loop-asked.host) (g.H.Host.told c.hear_late.new.host) (g.L.Log.state c.loop-asked.log) (g.L.Log.state c.hear_late.new.log) (IsLate asked b) f₁ f₂) last c.hear_late.ensures.lates) (λ xs ys have late. come_end asked xs ys within have late))
     (λ calls lates leads. (lates, Leads-weaken f₀ f₀ f₂ (Tracks c.hear_late.new.core) (g.L.Log.state c.args.log.now) (g.L.Log.state c.hear_late.new.log) calls (λ goal p fits. fits) (λ goal p fits. fits.0) leads))
+
+pub returns-clause-grows : goal.returns-clause-grows
+returns-clause-grows g c =
+    GrowsBy-then c.args.core.now c.loop-asked.core c.hear_late.new.core (g.L.Log.state c.args.log.now) (g.L.Log.state c.loop-asked.log) (g.L.Log.state c.hear_late.new.log) c.loop-asked.invariant.2 c.hear_late.ensures.grows

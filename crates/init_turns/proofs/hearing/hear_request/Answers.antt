@@ -2,6 +2,7 @@ use Rattle.std.proofs.Common.{refl, ◌∷◌}
 use Rattle.trace_events.specs.declared.happenings.Happening.TheVariants as past
 use Rattle.host_trace.proofs.Acting.{Hears-told, Hears-tracks}
 use Rattle.init_turns.proofs.Lasting.{request_lasts}
+use Rattle.host_trace.proofs.Growing.{GrowsBy-one}
 use Rattle.init_turns.proofs.hearing.hear_request.Goals as goal
 
 pub returns-clause-hears : goal.returns-clause-hears
@@ -11,4 +12,9 @@ returns-clause-hears g c asks =
     let old = g.L.Log.state c.args.log.now in
     let now = g.L.Log.state c.note.new.log in
     Hears-tracks core new old now (λ so_far. past.Got c.args.request ∷ so_far) (request_lasts core new c.args.request asks c.got.ensures.state)
-    (Hears-told core new old now (past.Got c.args.request) refl c.got.ensures.fits c.note.ensures)
+    (Hears-told core new old now (past.Got c.args.request) refl c.got.ensures.fits c.note.ensures.logs)
+
+pub returns-clause-grows : goal.returns-clause-grows
+returns-clause-grows g c asks =
+    let lasts = request_lasts c.args.core.now c.got.new.self c.args.request asks c.got.ensures.state in
+    GrowsBy-one c.args.core.now c.got.new.self (g.L.Log.state c.args.log.now) (g.L.Log.state c.note.new.log) lasts.short (c.note.ensures.grows asks)

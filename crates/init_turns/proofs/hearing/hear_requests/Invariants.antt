@@ -3,12 +3,14 @@ use Rattle.host_trace.specs.declared.TheConstants.{BYTE_LIMIT}
 use Rattle.host_trace.specs.Leads.{At}
 use Rattle.init_turns.specs.Parts.{Makes}
 use Rattle.init_turns.proofs.Taken.{HaveTaken}
+use Rattle.host_trace.specs.Grows.{GrowsReading}
 use Rattle.init_turns.proofs.hearing.hear_requests.Given as goal
 
 -- so many bytes were taken, by calls that each gave some
 abbrev pub invariant-loop-taken : goal.invariant-loop-taken
 invariant-loop-taken g l = (l.taken ≤ BYTE_LIMIT) × Makes (g.H.Host.told l.fn.host) (g.H.Host.told l.host) (g.L.Log.state l.fn.log) (g.L.Log.state l.log)
     (HaveTaken l.taken) (At l.fn.core l.fn.blocks) (At l.core l.blocks)
+    × GrowsReading l.fn.core l.core l.fn.blocks l.blocks (g.L.Log.state l.fn.log) (g.L.Log.state l.log)
 
 abbrev pub decreases-loop-taken : goal.decreases-loop-taken
 decreases-loop-taken g l = BYTE_LIMIT - l.taken

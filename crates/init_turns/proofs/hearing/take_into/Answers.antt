@@ -7,6 +7,7 @@ use Rattle.host_trace.specs.Turns.{bytes_in}
 use Rattle.host_trace.proofs.Leading.{Leads-still}
 use Rattle.init_turns.specs.Parts.{IsTake}
 use Rattle.init_turns.proofs.Parts.{Makes-one}
+use Rattle.host_trace.proofs.Growing.{GrowsReading-none}
 use Rattle.init_turns.proofs.hearing.take_into.Goals as goal
 
 pub returns-in_default-clause-takes : goal.returns-in_default-clause-takes
@@ -35,3 +36,6 @@ returns-clause-takes g c =
     Makes-one _ _ old new (TakeBytes room taken) (IsTake c.args.taken c.in-Ok.count) before behind
     (subst (λ told. AddsCall (g.H.Host.told c.args.host.now) told (TakeBytes room taken)) (sym c.hear_bytes.ensures.told) c.take_bytes.ensures.adds) (room, taken, refl, c.requires, ap bytes_in some ∙ whole)
     (subst (λ t. Leads before behind old new (TakeBytes room t ∷ [])) (sym some) (c.hear_bytes.ensures.leads room))
+
+pub returns-in_default-clause-grows : goal.returns-in_default-clause-grows
+returns-in_default-clause-grows g c = GrowsReading-none c.args.core.now c.args.blocks.now (g.L.Log.state c.args.log.now)

@@ -1,4 +1,4 @@
-use Rattle.std.proofs.Common.{rules, ◌≡◌, subst}
+use Rattle.std.proofs.Common.{rules, ◌≡◌, subst, ap, ◌∙◌}
 use Rattle.core_model.specs.Parts.{state_of}
 use Rattle.core_model.specs.Rules.{IsFit}
 use Rattle.core_text.specs.declared.versions.Version.TheVariants.{V2}
@@ -7,11 +7,14 @@ use Rattle.trace_events.specs.declared.steps.Step.TheVariants as step
 use Rattle.host_trace.specs.Leads.{Gave, Tracks}
 use Rattle.init_turns.specs.Parts.{IsStep, Makes}
 use Rattle.init_turns.proofs.HandOvers.{Makes-carried}
+use Rattle.core_text.specs.Range.{has_short_seconds}
+use Rattle.host_trace.specs.Grows.{GrowsBy}
+use Rattle.host_trace.proofs.Growing.{GrowsBy-one}
 use Rattle.init_turns.proofs.reexecuting.reexec.Goals as goal
 
-pub returns : goal.returns
-returns g c =
-    let (back, adds, comes) = c.carry-how.ensures in
+pub returns-clause-makes : goal.returns-clause-makes
+returns-clause-makes g c =
+    let (back, adds, comes) = c.carry-how.ensures.comes in
     let next = c.hand_over.new.core in
     let is : c.in-Ok.text.items ≡ c.deref.result.now = search rules in
     Makes-carried (g.H.Host.told c.args.host.now) (g.H.Host.told c.carry-how.new.host) (g.H.Host.told c.say.new.host) (g.L.Log.state c.args.log.now) (g.L.Log.state c.say.new.log)
@@ -20,7 +23,16 @@ returns g c =
     (λ short. subst (λ text. IsTextIn V2 text (state_of next) × IsFit next) is (c.in-Ok.ensures.said short)) comes c.say.ensures.log
 
 -- no text was made, and nothing was changed
-pub returns-in_default : goal.returns-in_default
-returns-in_default g c =
+pub returns-in_default-clause-makes : goal.returns-in_default-clause-makes
+returns-in_default-clause-makes g c =
     let same : c.hand_over.new.core ≡ c.args.core.now = search rules in
-    subst (λ core. Makes (g.H.Host.told c.args.host.now) (g.H.Host.told c.not_handed.new.host) (g.L.Log.state c.args.log.now) (g.L.Log.state c.not_handed.new.log) IsStep (Gave (Tracks core) step.Reexec) (Tracks c.not_handed.new.core)) same c.not_handed.ensures
+    subst (λ core. Makes (g.H.Host.told c.args.host.now) (g.H.Host.told c.not_handed.new.host) (g.L.Log.state c.args.log.now) (g.L.Log.state c.not_handed.new.log) IsStep (Gave (Tracks core) step.Reexec) (Tracks c.not_handed.new.core)) same c.not_handed.ensures.makes
+
+pub returns-clause-grows : goal.returns-clause-grows
+returns-clause-grows g c =
+    GrowsBy-one c.args.core.now c.carry-how.new.core (g.L.Log.state c.args.log.now) (g.L.Log.state c.say.new.log) (λ short. c.carry-how.ensures.short (ap has_short_seconds c.in-Ok.ensures.state ∙ short)) c.say.ensures.grows
+
+pub returns-in_default-clause-grows : goal.returns-in_default-clause-grows
+returns-in_default-clause-grows g c =
+    let same : c.hand_over.new.core ≡ c.args.core.now = search rules in
+    subst (λ core. GrowsBy core c.not_handed.new.core (g.L.Log.state c.args.log.now) (g.L.Log.state c.not_handed.new.log)) same c.not_handed.ensures.grows

@@ -7,8 +7,10 @@ use Rattle.trace_events.specs.declared.happenings.Happening.TheVariants.{NewTabl
 use Rattle.trace_events.specs.Event.{Event}
 use Rattle.core_records.specs.Lists.{is_quiet}
 use Rattle.core_model.specs.Fit.{StillFits, OnEachTrace}
+use Rattle.core_text.specs.Range.{has_short_seconds}
 use Rattle.host_trace.specs.Leads.{Logs}
 use Rattle.init_turns.proofs.Lasting.{adopt_lasts}
+use Rattle.host_trace.proofs.Growing.{Grows-none, GrowsBy-one}
 use Rattle.init_turns.proofs.rereading.use_parts.Goals as goal
 
 was_ok : {E : Type 0} (result : Result (Unit {0}) E) (P : Type 0) → is_err result ≡ false → OnOk result P → P
@@ -43,4 +45,15 @@ returns-clause-quiet g c taken =
 pub returns-clause-took : goal.returns-clause-took
 returns-clause-took g c taken =
     let read : c.in-Ok-copy.copy ≡ table_of_texts (texts_of c.args.parts.now) = search rules in
-    subst (λ table. (past : List Event) → Logs (g.L.Log.state c.args.log.now) (g.L.Log.state c.write.new.log) past (NewTable table ∷ past)) read c.write.ensures
+    subst (λ table. (past : List Event) → Logs (g.L.Log.state c.args.log.now) (g.L.Log.state c.write.new.log) past (NewTable table ∷ past)) read c.write.ensures.logs
+
+pub returns-clause-grows : goal.returns-clause-grows
+returns-clause-grows g c =
+    let works : is_err c.adopt.result ≡ false = search rules in
+    let lasts = adopt_lasts c.args.core.now c.adopt.new.self c.in-Ok.table (was_ok c.adopt.result _ works c.adopt.ensures.adopted) in
+    GrowsBy-one c.args.core.now c.adopt.new.self (g.L.Log.state c.args.log.now) (g.L.Log.state c.write.new.log) lasts.short (c.write.ensures.grows refl)
+
+pub returns-then-is_err-clause-grows : goal.returns-then-is_err-clause-grows
+returns-then-is_err-clause-grows g c =
+    let same : c.adopt.new.self ≡ c.args.core.now = search rules in
+    GrowsBy-one c.args.core.now c.adopt.new.self (g.L.Log.state c.args.log.now) (g.L.Log.state c.args.log.now) (λ short. ap has_short_seconds same ∙ short) (Grows-none (g.L.Log.state c.args.log.now))

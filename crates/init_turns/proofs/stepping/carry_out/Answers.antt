@@ -1,59 +1,81 @@
-use Rattle.std.proofs.Common.{rules, ◌≡◌, refl}
+use Rattle.std.proofs.Common.{rules, ◌≡◌, refl, sym, ap, ◌∙◌}
 use Rattle.trace_events.specs.declared.happenings.Happening.TheVariants as past
 use Rattle.trace_events.specs.declared.steps.Step.TheVariants as step
 use Rattle.host_trace.proofs.Calling.{first_is}
 use Rattle.init_turns.proofs.Carried.{Makes-idle, Makes-said, Makes-unless}
+use Rattle.host_trace.proofs.Growing.{GrowsBy-none, GrowsBy-one}
+use Rattle.init_turns.specs.Parts.{is_short_step}
 use Rattle.init_turns.proofs.stepping.carry_out.Goals as goal
 
-pub returns-in-Enter : goal.returns-in-Enter
-returns-in-Enter g c =
+pub returns-in-Enter-clause-makes : goal.returns-in-Enter-clause-makes
+returns-in-Enter-clause-makes g c =
     let is : c.args.step.now ≡ step.Enter c.in-Enter.stage c.in-Enter.grace = search rules in
     Makes-said (g.H.Host.told c.args.host.now) (g.H.Host.told c.say.new.host) (g.L.Log.state c.args.log.now) (g.L.Log.state c.say.new.log) c.args.core.now c.args.step.now (step.Enter c.in-Enter.stage c.in-Enter.grace) (past.Enter c.in-Enter.stage c.in-Enter.grace)
-    is refl (record { step = λ so_far. refl; said = refl; place = λ goal earlier so_far due_now. first_is goal so_far (step.Enter c.in-Enter.stage c.in-Enter.grace) due_now }) c.say.ensures
+    is refl (record { step = λ so_far. refl; said = refl; place = λ goal earlier so_far due_now. first_is goal so_far (step.Enter c.in-Enter.stage c.in-Enter.grace) due_now }) c.say.ensures.makes
 
-pub returns-in-Call : goal.returns-in-Call
-returns-in-Call g c =
+pub returns-in-Call-clause-makes : goal.returns-in-Call-clause-makes
+returns-in-Call-clause-makes g c =
     let is : c.args.step.now ≡ step.Call c.in-Call.letter = search rules in
     Makes-said (g.H.Host.told c.args.host.now) (g.H.Host.told c.say-in-Call.new.host) (g.L.Log.state c.args.log.now) (g.L.Log.state c.say-in-Call.new.log) c.args.core.now c.args.step.now (step.Call c.in-Call.letter) (past.Call c.in-Call.letter)
-    is refl (record { step = λ so_far. refl; said = refl; place = λ goal earlier so_far due_now. first_is goal so_far (step.Call c.in-Call.letter) due_now }) c.say-in-Call.ensures
+    is refl (record { step = λ so_far. refl; said = refl; place = λ goal earlier so_far due_now. first_is goal so_far (step.Call c.in-Call.letter) due_now }) c.say-in-Call.ensures.makes
 
-pub returns-in-Power : goal.returns-in-Power
-returns-in-Power g c =
+pub returns-in-Power-clause-makes : goal.returns-in-Power-clause-makes
+returns-in-Power-clause-makes g c =
     let is : c.args.step.now ≡ step.Power c.in-Power.kind = search rules in
     Makes-said (g.H.Host.told c.args.host.now) (g.H.Host.told c.say-in-Power.new.host) (g.L.Log.state c.args.log.now) (g.L.Log.state c.say-in-Power.new.log) c.args.core.now c.args.step.now (step.Power c.in-Power.kind) (past.Power c.in-Power.kind)
-    is refl (record { step = λ so_far. refl; said = refl; place = λ goal earlier so_far due_now. first_is goal so_far (step.Power c.in-Power.kind) due_now }) c.say-in-Power.ensures
+    is refl (record { step = λ so_far. refl; said = refl; place = λ goal earlier so_far due_now. first_is goal so_far (step.Power c.in-Power.kind) due_now }) c.say-in-Power.ensures.makes
 
-pub returns-in-Hold : goal.returns-in-Hold
-returns-in-Hold g c =
+pub returns-in-Hold-clause-makes : goal.returns-in-Hold-clause-makes
+returns-in-Hold-clause-makes g c =
     let is : c.args.step.now ≡ step.Hold c.in-Hold.id = search rules in
     Makes-said (g.H.Host.told c.args.host.now) (g.H.Host.told c.say-in-Hold.new.host) (g.L.Log.state c.args.log.now) (g.L.Log.state c.say-in-Hold.new.log) c.args.core.now c.args.step.now (step.Hold c.in-Hold.id) (past.Hold c.in-Hold.id)
-    is refl (record { step = λ so_far. refl; said = refl; place = λ goal earlier so_far due_now. first_is goal so_far (step.Hold c.in-Hold.id) due_now }) c.say-in-Hold.ensures
+    is refl (record { step = λ so_far. refl; said = refl; place = λ goal earlier so_far due_now. first_is goal so_far (step.Hold c.in-Hold.id) due_now }) c.say-in-Hold.ensures.makes
 
-pub returns-in-Settle : goal.returns-in-Settle
-returns-in-Settle g c =
+pub returns-in-Settle-clause-makes : goal.returns-in-Settle-clause-makes
+returns-in-Settle-clause-makes g c =
     let is : c.args.step.now ≡ step.Settle c.in-Settle.level = search rules in
     Makes-said (g.H.Host.told c.args.host.now) (g.H.Host.told c.say-in-Settle.new.host) (g.L.Log.state c.args.log.now) (g.L.Log.state c.say-in-Settle.new.log) c.args.core.now c.args.step.now (step.Settle c.in-Settle.level) (past.Settle c.in-Settle.level)
-    is refl (record { step = λ so_far. refl; said = refl; place = λ goal earlier so_far due_now. first_is goal so_far (step.Settle c.in-Settle.level) due_now }) c.say-in-Settle.ensures
+    is refl (record { step = λ so_far. refl; said = refl; place = λ goal earlier so_far due_now. first_is goal so_far (step.Settle c.in-Settle.level) due_now }) c.say-in-Settle.ensures.makes
 
-pub returns-in-Idle : goal.returns-in-Idle
-returns-in-Idle g c =
+pub returns-in-Idle-clause-makes : goal.returns-in-Idle-clause-makes
+returns-in-Idle-clause-makes g c =
     let is : c.args.step.now ≡ step.Idle = search rules in
     Makes-idle (g.H.Host.told c.args.host.now) (g.L.Log.state c.args.log.now) c.args.core.now c.args.step.now is
 
-pub returns-in-Order : goal.returns-in-Order
-returns-in-Order g c =
+pub returns-in-Order-clause-makes : goal.returns-in-Order-clause-makes
+returns-in-Order-clause-makes g c =
     let is : c.args.step.now ≡ step.Order c.in-Order.id c.in-Order.ask = search rules in
     Makes-unless (g.H.Host.told c.args.host.now) (g.H.Host.told c.order.new.host) (g.L.Log.state c.args.log.now) (g.L.Log.state c.order.new.log) c.args.core.now c.order.new.core c.args.step.now (step.Order c.in-Order.id c.in-Order.ask)
-    is refl c.order.ensures
+    is refl c.order.ensures.makes
 
-pub returns-in-Reread : goal.returns-in-Reread
-returns-in-Reread g c =
+pub returns-in-Reread-clause-makes : goal.returns-in-Reread-clause-makes
+returns-in-Reread-clause-makes g c =
     let is : c.args.step.now ≡ step.Reread = search rules in
     Makes-unless (g.H.Host.told c.args.host.now) (g.H.Host.told c.reread.new.host) (g.L.Log.state c.args.log.now) (g.L.Log.state c.reread.new.log) c.args.core.now c.reread.new.core c.args.step.now step.Reread
-    is refl c.reread.ensures
+    is refl c.reread.ensures.makes
 
-pub returns-in-Reexec : goal.returns-in-Reexec
-returns-in-Reexec g c =
+pub returns-in-Reexec-clause-makes : goal.returns-in-Reexec-clause-makes
+returns-in-Reexec-clause-makes g c =
     let is : c.args.step.now ≡ step.Reexec = search rules in
     Makes-unless (g.H.Host.told c.args.host.now) (g.H.Host.told c.reexec.new.host) (g.L.Log.state c.args.log.now) (g.L.Log.state c.reexec.new.log) c.args.core.now c.reexec.new.core c.args.step.now step.Reexec
-    is refl c.reexec.ensures
+    is refl c.reexec.ensures.makes
+
+pub returns-in-Enter-clause-grows : goal.returns-in-Enter-clause-grows
+returns-in-Enter-clause-grows g c short =
+    let is : c.args.step.now ≡ step.Enter c.in-Enter.stage c.in-Enter.grace = search rules in
+    GrowsBy-one c.args.core.now c.args.core.now (g.L.Log.state c.args.log.now) (g.L.Log.state c.say.new.log) (λ seconds. seconds) (c.say.ensures.grows (sym (ap is_short_step is) ∙ short))
+
+pub returns-in-Call-clause-grows : goal.returns-in-Call-clause-grows
+returns-in-Call-clause-grows g c short = GrowsBy-one c.args.core.now c.args.core.now (g.L.Log.state c.args.log.now) (g.L.Log.state c.say-in-Call.new.log) (λ seconds. seconds) (c.say-in-Call.ensures.grows refl)
+
+pub returns-in-Power-clause-grows : goal.returns-in-Power-clause-grows
+returns-in-Power-clause-grows g c short = GrowsBy-one c.args.core.now c.args.core.now (g.L.Log.state c.args.log.now) (g.L.Log.state c.say-in-Power.new.log) (λ seconds. seconds) (c.say-in-Power.ensures.grows refl)
+
+pub returns-in-Hold-clause-grows : goal.returns-in-Hold-clause-grows
+returns-in-Hold-clause-grows g c short = GrowsBy-one c.args.core.now c.args.core.now (g.L.Log.state c.args.log.now) (g.L.Log.state c.say-in-Hold.new.log) (λ seconds. seconds) (c.say-in-Hold.ensures.grows refl)
+
+pub returns-in-Settle-clause-grows : goal.returns-in-Settle-clause-grows
+returns-in-Settle-clause-grows g c short = GrowsBy-one c.args.core.now c.args.core.now (g.L.Log.state c.args.log.now) (g.L.Log.state c.say-in-Settle.new.log) (λ seconds. seconds) (c.say-in-Settle.ensures.grows refl)
+
+pub returns-in-Idle-clause-grows : goal.returns-in-Idle-clause-grows
+returns-in-Idle-clause-grows g c short = GrowsBy-none c.args.core.now (g.L.Log.state c.args.log.now)

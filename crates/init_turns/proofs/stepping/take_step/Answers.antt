@@ -1,9 +1,10 @@
 use Rattle.std.proofs.Common.{◌∙◌, sym, ap, subst}
 use Rattle.host_trace.specs.Leads.{Tracks}
-use Rattle.init_turns.specs.Parts.{AndRests, IsStepUnless, Makes, is_listed}
+use Rattle.init_turns.specs.Parts.{AndRests, IsStepUnless, Makes, is_listed, is_short_step}
 use Rattle.init_turns.proofs.Carried.{Makes-stepped}
 use Rattle.init_turns.proofs.Listed.{decide_listed, table_kept}
 use Rattle.init_turns.proofs.Lasting.{step_lasts}
+use Rattle.init_turns.proofs.Grown.{decide_short}
 use Rattle.init_turns.proofs.stepping.take_step.Goals as goal
 
 pub carry_out-requires : goal.carry_out-requires
@@ -13,11 +14,16 @@ carry_out-requires g c =
     ∙ ap (is_listed c.args.core.now.table) c.next-step.ensures.step
     ∙ decide_listed c.args.core.now
 
-pub returns : goal.returns
-returns g c =
+pub returns-clause-makes : goal.returns-clause-makes
+returns-clause-makes g c =
     let told = g.H.Host.told c.args.host.now in
     let now_told = g.H.Host.told c.carry_out.new.host in
     let log = g.L.Log.state c.args.log.now in
     let now_log = g.L.Log.state c.carry_out.new.log in
     subst (λ idle. Makes told now_told log now_log (IsStepUnless idle) (Tracks c.args.core.now) (AndRests idle (Tracks c.carry_out.new.core))) (sym c.is_idle.ensures)
-    (Makes-stepped told now_told log now_log c.args.core.now c.next-step.new.self c.carry_out.new.core c.next-step.result c.next-step.ensures.due c.next-step.ensures.fits (step_lasts c.args.core.now c.next-step.new.self c.next-step.result c.next-step.ensures.step c.next-step.ensures.state) c.carry_out.ensures)
+    (Makes-stepped told now_told log now_log c.args.core.now c.next-step.new.self c.carry_out.new.core c.next-step.result c.next-step.ensures.due c.next-step.ensures.fits (step_lasts c.args.core.now c.next-step.new.self c.next-step.result c.next-step.ensures.step c.next-step.ensures.state) c.carry_out.ensures.makes)
+
+pub returns-clause-grows : goal.returns-clause-grows
+returns-clause-grows g c short =
+    let lasts = step_lasts c.args.core.now c.next-step.new.self c.next-step.result c.next-step.ensures.step c.next-step.ensures.state in
+    c.carry_out.ensures.grows (ap is_short_step c.next-step.ensures.step ∙ decide_short c.args.core.now short) (lasts.short short)

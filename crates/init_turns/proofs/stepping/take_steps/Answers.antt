@@ -6,13 +6,14 @@ use Rattle.host_trace.proofs.Leading.{Leads-weaken}
 use Rattle.host_trace.specs.Turns.{AreSteps}
 use Rattle.init_turns.specs.Parts.{AndRests, AreAllSteps, IsStep, IsStepUnless, Makes}
 use Rattle.init_turns.proofs.Parts.{Makes-map, Makes-none, Makes-then, steps_all, steps_end, steps_more}
+use Rattle.host_trace.proofs.Growing.{GrowsBy-none, GrowsBy-then}
 use Rattle.init_turns.proofs.stepping.take_steps.Goals as goal
 
 pub loop-made-init : goal.loop-made-init
-loop-made-init g c = Makes-none (g.H.Host.told c.args.host.now) (g.L.Log.state c.args.log.now) (AreSteps 0) (Tracks c.args.core.now) refl
+loop-made-init g c = (Makes-none (g.H.Host.told c.args.host.now) (g.L.Log.state c.args.log.now) (AreSteps 0) (Tracks c.args.core.now) refl, GrowsBy-none c.args.core.now (g.L.Log.state c.args.log.now))
 
-pub returns-then-take_step : goal.returns-then-take_step
-returns-then-take_step g c =
+pub returns-then-take_step-clause-makes : goal.returns-then-take_step-clause-makes
+returns-then-take_step-clause-makes g c =
     let told = g.H.Host.told c.loop-made.host in
     let log = g.L.Log.state c.loop-made.log in
     let now_told = g.H.Host.told c.take_step.new.host in
@@ -22,9 +23,10 @@ returns-then-take_step g c =
     let within : c.loop-made.made ≤ STEP_LIMIT = search rules in
     let last : c.take_step.result ≡ true = search rules in
     let one : Makes told now_told log now_log (IsStepUnless true) at (AndRests true (Tracks c.take_step.new.core)) =
-    subst (λ b. Makes told now_told log now_log (IsStepUnless b) at (AndRests b (Tracks c.take_step.new.core))) last c.take_step.ensures in
+    subst (λ b. Makes told now_told log now_log (IsStepUnless b) at (AndRests b (Tracks c.take_step.new.core))) last c.take_step.ensures.makes in
     Makes-then (g.H.Host.told c.args.host.now) told now_told (g.L.Log.state c.args.log.now) log now_log (AreSteps c.loop-made.made) (IsStepUnless true) (AreAllSteps true) before at (AndRests true (Tracks c.take_step.new.core))
-    c.loop-made.invariant one (λ xs ys steps none. steps_end c.loop-made.made xs ys within steps none)
+    (λ goal p fits. (c.take_step.ensures.grows (c.loop-made.invariant.1 fits.short).0).1)
+    c.loop-made.invariant.0 one (λ xs ys steps none. steps_end c.loop-made.made xs ys within steps none)
 
 pub loop-made-preserved : goal.loop-made-preserved
 loop-made-preserved g c =
@@ -37,15 +39,18 @@ loop-made-preserved g c =
     let new = Tracks c.take_step.new.core in
     let more : c.take_step.result ≡ false = search rules in
     let one : Makes told now_told log now_log (IsStepUnless false) at (AndRests false new) =
-    subst (λ b. Makes told now_told log now_log (IsStepUnless b) at (AndRests b new)) more c.take_step.ensures in
+    subst (λ b. Makes told now_told log now_log (IsStepUnless b) at (AndRests b new)) more c.take_step.ensures.makes in
     let step : Makes told now_told log now_log IsStep at new =
-    Makes-map told now_told log now_log (IsStepUnless false) IsStep at (AndRests false new) at new one
-    (λ calls steps leads. (steps, Leads-weaken at at (AndRests false new) new log now_log calls (λ goal p fits. fits) (λ goal p fits. fits.0) leads)) in
-    Makes-then (g.H.Host.told c.args.host.now) told now_told (g.L.Log.state c.args.log.now) log now_log (AreSteps c.loop-made.made) IsStep (AreSteps (c.loop-made.made + 1)) before at new
-    c.loop-made.invariant step (λ xs ys steps once. steps_more c.loop-made.made xs ys steps once)
+    Makes-map told now_told log now_log (IsStepUnless false) IsStep at (AndRests false new) at new (λ goal p sound fits. fits) one
+    (λ calls steps leads. (steps, Leads-weaken at at (AndRests false new) new log now_log calls (λ goal p fits. fits) (λ goal p fits. fits.0) leads)) in (
+      Makes-then (g.H.Host.told c.args.host.now) told now_told (g.L.Log.state c.args.log.now) log now_log (AreSteps c.loop-made.made) IsStep (AreSteps (c.loop-made.made + 1)) before at new
+          (λ goal p fits. (c.take_step.ensures.grows (c.loop-made.invariant.1 fits.short).0).1)
+          c.loop-made.invariant.0 step (λ xs ys steps once. steps_more c.loop-made.made xs ys steps once),
+      GrowsBy-then c.args.core.now c.loop-made.core c.take_step.new.core (g.L.Log.state c.args.log.now) (g.L.Log.state c.loop-made.log) (g.L.Log.state c.take_step.new.log) c.loop-made.invariant.1 c.take_step.ensures.grows,
+    )
 
-pub returns : goal.returns
-returns g c =
+pub returns-clause-makes : goal.returns-clause-makes
+returns-clause-makes g c =
     let told = g.H.Host.told c.args.host.now in
     let log = g.L.Log.state c.args.log.now in
     let now_told = g.H.Host.told c.loop-made.host in
@@ -53,8 +58,15 @@ returns g c =
     let before = Tracks c.args.core.now in
     let new = Tracks c.loop-made.core in
     let all : c.loop-made.made ≡ STEP_LIMIT = search rules in
-    Makes-map told now_told log now_log (AreSteps c.loop-made.made) (AreAllSteps false) before new before (AndRests false new) c.loop-made.invariant
+    Makes-map told now_told log now_log (AreSteps c.loop-made.made) (AreAllSteps false) before new before (AndRests false new) (λ goal p sound fits. fits) c.loop-made.invariant.0
     (λ calls steps leads. (
       steps_all calls (subst (λ n. AreSteps n calls) all steps),
       Leads-weaken before before new (AndRests false new) log now_log calls (λ goal p fits. fits) (λ goal p fits. (fits, λ h. absurd (false≢true h))) leads,
     ))
+
+pub returns-then-take_step-clause-grows : goal.returns-then-take_step-clause-grows
+returns-then-take_step-clause-grows g c =
+    GrowsBy-then c.args.core.now c.loop-made.core c.take_step.new.core (g.L.Log.state c.args.log.now) (g.L.Log.state c.loop-made.log) (g.L.Log.state c.take_step.new.log) c.loop-made.invariant.1 c.take_step.ensures.grows
+
+pub returns-clause-grows : goal.returns-clause-grows
+returns-clause-grows g c = c.loop-made.invariant.1

@@ -41,6 +41,7 @@ returns-clause-made g c =
         served = c.ended_with-served.result;
         noted = noted;
         turns = served_still (λ (turns : ℕ) (drained : Bool). AreTurns service.drain (IsOpening service.level table) turns calls) c.serve-core.result.0 c.ended_with-served.result _ c.ended_with-served.ensures made.0;
+        fronts = λ later earlier next call is apart. (made.2 later earlier next call is apart).0;
         most = most;
         asked = asked;
         ends = refl;

@@ -1,0 +1,73 @@
+-- What the parts of a turn make of a log that only takes more, whatever was answered.
+use Rattle.std.proofs.Common.{◌≡◌, ◌<◌, refl, sym, ◌∙◌, ap, ℕ, true, ◌&&◌, not, List, [], ◌++◌, Option}
+use Rattle.std.specs.List.{list_all}
+use Rattle.std.specs.Option.{option_to_list}
+use Rattle.std.proofs.lemmas.Bool.{and_parts, and_from}
+use Rattle.initctl_frame.specs.declared.requests.HeardRequest.{HeardRequest}
+use Rattle.initctl_frame.specs.Blocks.{Begun, Stands, gots_of}
+use Rattle.trace_events.specs.Range.{is_request}
+use Rattle.core_model.specs.declared.parts.CoreFields.{CoreFields}
+use Rattle.core_model.specs.Decide.{decide}
+use Rattle.core_model.specs.Parts.{state_of}
+use Rattle.core_model.specs.State.{CoreState}
+use Rattle.core_model.proofs.Decided.{EachPasses, decided}
+use Rattle.core_text.specs.Range.{are_heads, has_short_seconds, is_generation, is_goal, is_stage, is_time, passes}
+use Rattle.core_text.specs.Refused.{IsTextOf}
+use Rattle.core_text.proofs.Bodies.{state_parts}
+use Rattle.trace_log.specs.Logs.{LogState}
+use Rattle.host_trace.specs.Grows.{GrowsBy, GrowsReading, HasRead}
+use Rattle.host_trace.proofs.Growing.{GrowsBy-then}
+use Rattle.host_trace.specs.Point.{Point, bytes_after}
+use Rattle.host_trace.proofs.Bytes.{piece_fed}
+use Rattle.init_turns.specs.Parts.{is_short_step}
+
+-- ---- requests
+
+-- what a reader that stands after some bytes makes of a piece: it stands after more, and the request that it gives names
+-- an hour at most
+pub piece_reads : (old new : Begun) (part : List ℕ) (given : Option HeardRequest) → old.count < 384 → ((bytes : List ℕ) → Stands old bytes → Stands new (bytes ++ part)) → ((bytes : List ℕ) → Stands old bytes → gots_of (bytes ++ part) ≡ gots_of bytes ++ option_to_list given) → HasRead old → HasRead new × (list_all is_request (option_to_list given) ≡ true)
+piece_reads old new part given some fed gots read =
+    let p : Point = record { over = read.0; lates = 0; generation = 0; past = [] } in
+    let reads = piece_fed old new part given p some read.1 fed gots in
+    (((bytes_after part p).over, reads.0), reads.2)
+
+-- ---- steps
+
+-- a step that init gives names an hour at most where its seconds are at most an hour
+pub decide_short : (c : CoreState) → has_short_seconds c ≡ true → is_short_step (decide c) ≡ true
+decide_short c short =
+    let outer = and_parts (is_stage c.heads.stage c.heads.grace && is_goal c.heads.goal) (passes is_goal c.heads.level_wish) short in
+    let each : EachPasses is_short_step c = record {
+      orders = λ id ask. refl;
+      holds = λ id. refl;
+      settles = λ level. refl;
+      calls = λ called. refl;
+      powers = λ kind. refl;
+      reread = refl;
+      idle = refl;
+      reexec = λ wished. refl;
+      goal = λ now. (and_parts (is_stage c.heads.stage c.heads.grace) (is_goal c.heads.goal) outer.0).1;
+      wish = λ wish has now. sym (ap (passes is_goal) has) ∙ outer.1;
+    } in
+    decided is_short_step c each
+
+-- ---- re-executions
+
+heads_short : (h : CoreFields) → are_heads h ≡ true → (is_stage h.stage h.grace && is_goal h.goal && passes is_goal h.level_wish) ≡ true
+heads_short h are =
+    let wishes = and_parts (is_generation h.generation && is_time h.time && is_stage h.stage h.grace && is_goal h.goal && not h.reexec) (passes is_goal h.level_wish) are in
+    let flags = and_parts (is_generation h.generation && is_time h.time && is_stage h.stage h.grace && is_goal h.goal) (not h.reexec) wishes.0 in
+    let goals = and_parts (is_generation h.generation && is_time h.time && is_stage h.stage h.grace) (is_goal h.goal) flags.0 in
+    let stages = and_parts (is_generation h.generation && is_time h.time) (is_stage h.stage h.grace) goals.0 in
+    and_from (is_stage h.stage h.grace && is_goal h.goal) (passes is_goal h.level_wish) (and_from (is_stage h.stage h.grace) (is_goal h.goal) stages.1 goals.1) wishes.1
+
+-- a core that a text says
+pub text_short : (c : CoreState) (text : List ℕ) → IsTextOf text (state_of c) → has_short_seconds c ≡ true
+text_short c text says = heads_short c.heads (state_parts says.0 (state_of c) says.1.0).heads
+
+-- ---- turns
+
+pub turn_grows : (l₀ l₁ l₂ l₃ l₄ : LogState) (c₀ c₁ c₂ c₃ c₄ : CoreState) (b₀ b₁ : Begun) → GrowsBy c₀ c₁ l₀ l₁ → GrowsReading c₁ c₂ b₀ b₁ l₁ l₂ → GrowsBy c₂ c₃ l₂ l₃ → GrowsBy c₃ c₄ l₃ l₄ → GrowsReading c₀ c₄ b₀ b₁ l₀ l₄
+turn_grows l₀ l₁ l₂ l₃ l₄ c₀ c₁ c₂ c₃ c₄ b₀ b₁ clock takes lates steps read =
+    let heard = takes read in
+    (heard.0, GrowsBy-then c₀ c₁ c₄ l₀ l₁ l₄ clock (GrowsBy-then c₁ c₂ c₄ l₁ l₂ l₄ heard.1 (GrowsBy-then c₂ c₃ c₄ l₂ l₃ l₄ lates steps)))
