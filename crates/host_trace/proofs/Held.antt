@@ -456,9 +456,16 @@ module _ (goal : Goal) (N : Type 0) where
       let earlier = kept_all calls own.0 p none own.1 (λ numbers later before id command n children is were. new numbers (call ∷ later) before id command n children (ap (λ cs. call ∷ cs) is) were) in
       kept_after p.past call own.0 held (point_after calls p) earlier own.2 (λ id command n is numbers. new numbers [] calls id command n own.0 (ap (λ c. c ∷ calls) is) own.1)
 
+-- the earlier of a host's own calls are its own
+own_earlier : (later earlier : List HostCall) (held : HeldChildren) → AreOwn (later ++ earlier) held → (before : HeldChildren) × AreOwn earlier before
+own_earlier [] earlier held own = (held, own)
+own_earlier (call ∷ later) earlier held own = own_earlier later earlier own.0 own.1
+
 -- the law
-pub held_possible : (goal : Goal) (calls : List HostCall) (held : HeldChildren) (p : Point) → unreaped_children p.past ≡ [] → AreOwn calls held → AreNew calls → is_allowed goal p.past ≡ true → is_allowed goal (point_after calls p).past ≡ true
-held_possible goal calls held p none own new h = (kept_all goal (AreNew calls) calls held p none own (λ numbers. numbers)).allowed new h
+pub held_possible : (goal : Goal) (later earlier : List HostCall) (held : HeldChildren) (p : Point) → unreaped_children p.past ≡ [] → AreOwn (later ++ earlier) held → AreNew earlier → is_allowed goal p.past ≡ true → is_allowed goal (point_after earlier p).past ≡ true
+held_possible goal later earlier held p none own new h =
+    let (before, first) = own_earlier later earlier held own in
+    (kept_all goal (AreNew earlier) earlier before p none first (λ numbers. numbers)).allowed new h
 
 pub held_children : (calls : List HostCall) (held : HeldChildren) (p : Point) → unreaped_children p.past ≡ [] → AreOwn calls held → held ≡ unreaped_in_order (point_after calls p).past
 held_children calls held p none own = (kept_all (record { level = L0; grace = 0 }) ⊥ calls held p none own (λ none_new. absurd none_new)).same

@@ -46,12 +46,14 @@ pub fn law_of_texts()
 {}
 
 /// Of calls of a host that holds its children and answers nothing later, from a trace on in which no child is unreaped:
-/// where no child is born with the number of one that is held then, each answer was possible; and the host holds the
-/// unreaped children of the trace. It does nothing: its contract is the law.
-pub fn law_of_held()
-    ensures possible { (goal : Goal) (calls : List HostCall) (held : HeldChildren) (p : Point)
-        → unreaped_children p.past ≡ [] → AreOwn calls held → AreNew calls
-        → IsTrue (is_allowed goal p.past) → IsTrue (is_allowed goal (point_after calls p).past) }
+/// where up to some call no child is born with the number of one that is held then, each answer until that call was
+/// possible, whatever is answered later; and the host holds the unreaped children of the trace. It does nothing: its
+/// contract is the law.
+pub fn law_of_children()
+    ensures possible { (goal : Goal) (later earlier : List HostCall) (held : HeldChildren)
+        (p : Point) → unreaped_children p.past ≡ [] → AreOwn (later ++ earlier) held
+        → AreNew earlier → IsTrue (is_allowed goal p.past)
+        → IsTrue (is_allowed goal (point_after earlier p).past) }
     ensures held { (calls : List HostCall) (held : HeldChildren) (p : Point)
         → unreaped_children p.past ≡ [] → AreOwn calls held
         → held ≡ unreaped_in_order (point_after calls p).past }

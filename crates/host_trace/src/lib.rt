@@ -7,7 +7,7 @@
 
 mod laws;
 
-pub use laws::{law_of_held, law_of_parts, law_of_requests, law_of_texts};
+pub use laws::{law_of_children, law_of_parts, law_of_requests, law_of_texts};
 
 /// How many bytes of requests a turn takes at most.
 pub const BYTE_LIMIT: usize = 4_096;
