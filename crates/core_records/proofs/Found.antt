@@ -1,20 +1,8 @@
 -- A map whose keys are the ids of its records, against the list of its records: one is found, changed or taken out.
-use Rattle.std.proofs.Common.{◌≡◌, refl, sym, ◌∙◌, ap, subst, cond, Bool, true, false, not, ◌||◌, List, [], ◌∷◌, ◌++◌, ℕ, zero, suc, map, slice_get, Option, Some, None, is_some, Ok}
-use Rattle.std.specs.List.{list_any, IsDistinct, AllByRecursion}
-use Rattle.std.specs.Option.{IfSome, option_copied}
-use Rattle.std.specs.Borrow.{Bor}
-use Rattle.std.specs.Map.{keys_of, values_of, lookup, set_value, remove_entry}
-use Rattle.std.proofs.lemmas.Bool.{and_parts, and_from, or_parts, or_from, not-true, not_from_false}
-use Rattle.init_words.specs.Ids.{same_id}
-use Rattle.init_words.specs.declared.orders.Answer.{Answer}
-use Rattle.init_words.proofs.Same.{same_id-is, same_id-self}
-use Rattle.init_words.proofs.Tests.{both_ways}
-use Rattle.inittab_text.proofs.Entries.{lookup-find, values-push, keys-push}
-use Rattle.indexmap.specs.IndexMap.{IndexMap, IsUnique, WritesThrough, insert_entry}
-use Rattle.indexmap.proofs.CallerLemmas.{insert_entry-new}
-use Rattle.core_records.specs.State.{RecordState}
-use Rattle.core_records.specs.Times.{is_timely, are_timely}
-use Rattle.core_records.specs.Lists.{ids_of_records, is_record_of, are_distinct, record_by_id, order_of, refusal_of, with_changed, without}
+use Rattle.core_records.proofs.Words.{◌≡◌, refl, sym, ◌∙◌, ap, subst, Bool, true, false, not, List, [], ◌∷◌, ◌++◌, ℕ, zero, suc, map, slice_get, Option, Some, None, Ok, arith, list_any, AllByRecursion, IfSome, option_copied, Bor, values_of, lookup, set_value, remove_entry, and_parts, and_from, or_from, not-true, not_from_false, same_id, Answer, same_id-is, lookup-find, values-push, keys-push, IndexMap, IsUnique, WritesThrough, insert_entry, insert_entry-new, RecordState, is_timely, are_timely, ids_of_records, is_record_of, are_distinct, record_by_id, order_of, refusal_of, with_changed, without}
+use Rattle.std.proofs.Common.{is_some}
+use Rattle.std.specs.List.{IsDistinct}
+use Rattle.std.specs.Map.{keys_of}
 use Rattle.core_records.proofs.Timely.{timely_changed, timely_filter, timely_found, timely_map, timely_push}
 
 -- a map's entries, and that its keys are the ids of its records
@@ -54,35 +42,17 @@ rest_distinct slot slots distinct = (and_parts (not (is_listed slot.id slots)) (
 -- no record of the id, nothing changed
 pub unchanged : (id : List ℕ) (change : RecordState → RecordState) (slots : List RecordState) → is_listed id slots ≡ false → with_changed id change slots ≡ slots
 unchanged id change [] h = refl
-unchanged id change (slot ∷ slots) h =
-    let parts = or_parts (is_record_of id slot) (is_listed id slots) h in
-    rw (parts.0, unchanged id change slots parts.1) refl
+unchanged id change (slot ∷ slots) h = grind (arith, unchanged id change slots)
 
 -- the record that was found is changed
 pub values-changed : (id : List ℕ) (change : RecordState → RecordState) (slot : RecordState) (kept : Kept) → IsOwn kept → are_distinct (values_of kept) ≡ true → lookup (same_id id) kept ≡ Some slot → values_of (set_value (same_id id) kept (change slot)) ≡ with_changed id change (values_of kept)
 values-changed id change slot [] own distinct is = absurd (cc)
-values-changed id change slot (e ∷ kept) own distinct is =
-    let first : e.0 ≡ e.1.id = cc in
-    let rest : IsOwn kept = cc in
-    subst (λ (d : Bool). values_of (set_value (same_id id) (e ∷ kept) (change slot)) ≡ cond d (change e.1) e.1 ∷ with_changed id change (values_of kept)) (ap (same_id id) first)
-    (here (same_id id e.0) refl first is (values-changed id change slot kept rest (rest_distinct e.1 (values_of kept) distinct)))
-  where
-    here : (b : Bool) → same_id id e.0 ≡ b → e.0 ≡ e.1.id → cond b (Some e.1) (lookup (same_id id) kept) ≡ Some slot → (lookup (same_id id) kept ≡ Some slot → values_of (set_value (same_id id) kept (change slot)) ≡ with_changed id change (values_of kept))
-        → values_of (cond b ((e.0, change slot) ∷ kept) (e ∷ set_value (same_id id) kept (change slot))) ≡ cond b (change e.1) e.1 ∷ with_changed id change (values_of kept)
-    here true own first is later =
-        let same : e.1 ≡ slot = cc in
-        let none : is_listed id (values_of kept) ≡ false = others id e.1 (values_of kept) distinct (ap (same_id id) (sym first) ∙ own) in
-        rw (same, unchanged id change (values_of kept) none) refl
-    here false own first is later = ap (λ slots. e.1 ∷ slots) (later is)
+values-changed id change slot (e ∷ kept) own distinct is = grind (arith, rest_distinct, others, unchanged, values-changed id change slot kept)
 
 -- a change that keeps ids keeps them all
 pub ids-changed : (id : List ℕ) (change : RecordState → RecordState) → ((slot : RecordState) → (change slot).id ≡ slot.id) → (slots : List RecordState) → ids_of_records (with_changed id change slots) ≡ ids_of_records slots
 ids-changed id change keeps [] = refl
-ids-changed id change keeps (slot ∷ slots) = rw (chosen (is_record_of id slot), ids-changed id change keeps slots) refl
-  where
-    chosen : (b : Bool) → (cond b (change slot) slot).id ≡ slot.id
-    chosen true = keeps slot
-    chosen false = refl
+ids-changed id change keeps (slot ∷ slots) = grind (arith, ids-changed id change keeps slots)
 
 -- the map's look-up is the list's
 pub looked_up : (id : List ℕ) (kept : Kept) (slots : List RecordState) → IsOwn kept → values_of kept ≡ slots → lookup (same_id id) kept ≡ record_by_id id slots
@@ -97,33 +67,7 @@ at_place (e ∷ kept) (suc place) id slot is = at_place kept place id slot is
 -- where no record is found, none is that of the id
 pub none_found : (id : List ℕ) (slots : List RecordState) → record_by_id id slots ≡ None → is_listed id slots ≡ false
 none_found id [] is = refl
-none_found id (slot ∷ slots) is = here (is_record_of id slot) is (none_found id slots)
-  where
-    here : (b : Bool) → cond b (Some slot) (record_by_id id slots) ≡ None → (record_by_id id slots ≡ None → is_listed id slots ≡ false) → (b || is_listed id slots) ≡ false
-    here true is later = absurd (cc)
-    here false is later = later is
-
-listed : (id : List ℕ) (slots : List RecordState) (slot : RecordState) → record_by_id id slots ≡ Some slot → is_listed id slots ≡ true
-listed id [] slot is = absurd (cc)
-listed id (first ∷ slots) slot is = here (is_record_of id first) is (listed id slots slot)
-  where
-    here : (b : Bool) → cond b (Some first) (record_by_id id slots) ≡ Some slot → (record_by_id id slots ≡ Some slot → is_listed id slots ≡ true) → (b || is_listed id slots) ≡ true
-    here true is later = refl
-    here false is later = later is
-
--- the record at a place is found by its id
-pub found_at : (slots : List RecordState) (place : ℕ) (slot : RecordState) → are_distinct slots ≡ true → slice_get slots place ≡ Some slot → record_by_id slot.id slots ≡ Some slot
-found_at [] place slot distinct is = absurd (cc)
-found_at (first ∷ slots) zero slot distinct is =
-    let same : first ≡ slot = cc in
-    rw (same, same_id-self slot.id) refl
-found_at (first ∷ slots) (suc place) slot distinct is = here (is_record_of slot.id first) refl (found_at slots place slot (rest_distinct first slots distinct) is)
-  where
-    here : (b : Bool) → is_record_of slot.id first ≡ b → record_by_id slot.id slots ≡ Some slot → cond b (Some first) (record_by_id slot.id slots) ≡ Some slot
-    here true own later =
-        let none = others slot.id first slots distinct own in
-        both_ways (is_listed slot.id slots) (listed slot.id slots slot later) none
-    here false own later = later
+none_found id (slot ∷ slots) is = grind (arith, none_found id slots)
 
 -- what a write to the record that was found leaves of the map: its records, that its keys are their ids, and that they
 -- are timely where the change keeps that
@@ -135,14 +79,7 @@ pub record Left (id : List ℕ) (change : RecordState → RecordState) (slots : 
 pub written : {S : Type 0} (id : List ℕ) (change : RecordState → RecordState) (slot left : RecordState) (m n : IndexMap (List ℕ) RecordState S) (slots : List RecordState) → ((s : RecordState) → (change s).id ≡ s.id)
     → IsOwn m.entries → IsUnique same_id m → values_of m.entries ≡ slots → Some slot ≡ lookup (same_id id) m.entries
     → left ≡ change slot → WritesThrough same_id (same_id id) m left n → Left id change slots n.entries
-written id change slot left m n slots keeps own unique is found done wrote =
-    let old : values_of n.entries ≡ with_changed id change (values_of m.entries) = ap values_of (wrote.0 ∙ ap (set_value (same_id id) m.entries) done) ∙ values-changed id change slot m.entries own (distinct_kept m.entries own unique) (sym found) in
-    let values : values_of n.entries ≡ with_changed id change slots = old ∙ ap (with_changed id change) is in
-    record {
-      values = values;
-      own = wrote.1 ∙ own ∙ sym (ids-changed id change keeps (values_of m.entries)) ∙ sym (ap ids_of_records old);
-      timely = λ limit kept all. rw values (timely_changed limit id change kept slots all);
-    }
+written id change slot left m n slots keeps own unique is found done wrote = grind (arith, values-changed, distinct_kept, ids-changed, timely_changed)
 
 -- the record that was found, in the list
 pub found_in : (id : List ℕ) (slot : RecordState) (kept : Kept) (slots : List RecordState) → IsOwn kept → values_of kept ≡ slots → Some slot ≡ lookup (same_id id) kept → record_by_id id slots ≡ Some slot
@@ -153,40 +90,20 @@ absent_in id found kept slots own is look none = sym (looked_up id kept slots ow
 
 -- an answer that is taken has a record
 pub taken_has : (found : Option RecordState) (answer : Answer) → refusal_of (order_of found) answer ≡ Ok tt → is_some found ≡ true
-taken_has None answer is = absurd (cc)
-taken_has (Some slot) answer is = refl
+taken_has found answer is = grind arith
 
 -- without the record of an id: the records, and the ids
 pub without_none : (id : List ℕ) (slots : List RecordState) → is_listed id slots ≡ false → without id slots ≡ slots
 without_none id [] h = refl
-without_none id (slot ∷ slots) h =
-    let parts = or_parts (is_record_of id slot) (is_listed id slots) h in
-    rw (parts.0, without_none id slots parts.1) refl
+without_none id (slot ∷ slots) h = grind (arith, without_none id slots)
 
 values-removed : (id : List ℕ) (kept : Kept) → IsOwn kept → lookup (same_id id) (remove_entry (same_id id) kept) ≡ None → values_of (remove_entry (same_id id) kept) ≡ without id (values_of kept)
 values-removed id [] own gone = refl
-values-removed id (e ∷ kept) own gone =
-    let first : e.0 ≡ e.1.id = cc in
-    let rest : IsOwn kept = cc in
-    subst (λ (d : Bool). values_of (remove_entry (same_id id) (e ∷ kept)) ≡ cond (not d) (e.1 ∷ without id (values_of kept)) (without id (values_of kept))) (ap (same_id id) first)
-    (here (same_id id e.0) refl rest gone (values-removed id kept rest))
-  where
-    here : (b : Bool) → same_id id e.0 ≡ b → IsOwn kept → lookup (same_id id) (cond b kept (e ∷ remove_entry (same_id id) kept)) ≡ None → (lookup (same_id id) (remove_entry (same_id id) kept) ≡ None → values_of (remove_entry (same_id id) kept) ≡ without id (values_of kept))
-        → values_of (cond b kept (e ∷ remove_entry (same_id id) kept)) ≡ cond (not b) (e.1 ∷ without id (values_of kept)) (without id (values_of kept))
-    here true is rest gone later = sym (without_none id (values_of kept) (none_found id (values_of kept) (sym (looked_up id kept (values_of kept) rest refl) ∙ gone)))
-    here false is rest gone later =
-        let none : cond false (Some e.1) (lookup (same_id id) (remove_entry (same_id id) kept)) ≡ None = subst (λ (d : Bool). cond d (Some e.1) (lookup (same_id id) (remove_entry (same_id id) kept)) ≡ None) is gone in
-        ap (λ slots. e.1 ∷ slots) (later none)
+values-removed id (e ∷ kept) own gone = grind (arith, without_none, none_found, looked_up, values-removed id kept)
 
 own-removed : (test : List ℕ → Bool) (kept : Kept) → IsOwn kept → IsOwn (remove_entry test kept)
 own-removed test [] own = refl
-own-removed test (e ∷ kept) own =
-    let rest : IsOwn kept = cc in
-    here (test e.0) own rest (own-removed test kept rest)
-  where
-    here : (b : Bool) → IsOwn (e ∷ kept) → IsOwn kept → IsOwn (remove_entry test kept) → IsOwn (cond b kept (e ∷ remove_entry test kept))
-    here true all rest later = rest
-    here false all rest later = let first : e.0 ≡ e.1.id = cc in cc
+own-removed test (e ∷ kept) own = grind (arith, own-removed test kept)
 
 pub record LeftWithout (id : List ℕ) (slots : List RecordState) (new : Kept) : Type 0 where
   pub values : values_of new ≡ without id slots
@@ -195,13 +112,7 @@ pub record LeftWithout (id : List ℕ) (slots : List RecordState) (new : Kept) :
 
 -- what is left of the map without the record of an id
 pub removed : {S : Type 0} (id : List ℕ) (m n : IndexMap (List ℕ) RecordState S) (slots : List RecordState) → IsOwn m.entries → values_of m.entries ≡ slots → n.entries ≡ remove_entry (same_id id) m.entries → lookup (same_id id) n.entries ≡ None → LeftWithout id slots n.entries
-removed id m n slots own is left gone =
-    let values : values_of n.entries ≡ without id slots = ap values_of left ∙ values-removed id m.entries own (sym (ap (lookup (same_id id)) left) ∙ gone) ∙ ap (without id) is in
-    record {
-      values = values;
-      own = subst IsOwn (sym left) (own-removed (same_id id) m.entries own);
-      timely = λ limit all. rw values (timely_filter limit (λ slot. not (is_record_of id slot)) slots all);
-    }
+removed id m n slots own is left gone = grind (arith, values-removed, own-removed, timely_filter)
 
 -- the records all changed
 pub mapped_values : (change : RecordState → RecordState) (kept : Kept) → values_of (map (λ (e : List ℕ × RecordState). (e.0, change e.1)) kept) ≡ map change (values_of kept)
@@ -210,11 +121,7 @@ mapped_values change (e ∷ kept) = ap (λ slots. change e.1 ∷ slots) (mapped_
 
 mapped_own : (change : RecordState → RecordState) → ((s : RecordState) → (change s).id ≡ s.id) → (kept : Kept) → IsOwn kept → IsOwn (map (λ (e : List ℕ × RecordState). (e.0, change e.1)) kept)
 mapped_own change keeps [] own = refl
-mapped_own change keeps (e ∷ kept) own =
-    let first : e.0 ≡ e.1.id = cc in
-    let rest : IsOwn kept = cc in
-    let later = mapped_own change keeps kept rest in
-    cc (keeps e.1)
+mapped_own change keeps (e ∷ kept) own = grind (arith, mapped_own change keeps kept)
 
 pub record LeftAll (change : RecordState → RecordState) (slots : List RecordState) (new : Kept) : Type 0 where
   pub values : values_of new ≡ map change slots
@@ -250,5 +157,4 @@ pushed slot id m n slots own_id own is new inserted =
 
 -- what was found is timely
 pub timely_some : (limit : ℕ) (id : List ℕ) (slots : List RecordState) (found : Option (Bor RecordState)) → option_copied found ≡ record_by_id id slots → are_timely limit slots ≡ true → IfSome found (λ slot. is_timely limit slot.now ≡ true)
-timely_some limit id slots None is all = tt
-timely_some limit id slots (Some slot) is all = timely_found limit id slot.now slots all (sym is)
+timely_some limit id slots found is all = grind (arith, timely_found)

@@ -1,27 +1,12 @@
 -- The keys of the records: the times of the SIGTERMs to their children.
-use Rattle.std.proofs.Common.{◌≡◌, refl, sym, ◌∙◌, ap, cond, Bool, true, false, not, ℕ, ◌+◌, List, [], ◌∷◌, nat_lt, Option, Some, None, ◌==◌, arith}
-use Rattle.std.specs.List.{list_any, count_by}
-use Rattle.std.specs.Option.{IfSome}
-use Rattle.std.proofs.lemmas.Bool.{and_parts, or_from, not-true, le-ltb, eq-eqb}
-use Rattle.std.proofs.lemmas.List.Sums.{sum_by-cons}
-use Rattle.core_records.specs.declared.index.Keyed.{Keyed}
-use Rattle.core_records.specs.declared.children.Stop.{Stop}
-use Rattle.core_records.specs.declared.children.Stop.TheVariants.{Due, Termed, Killed}
-use Rattle.core_records.specs.State.{RecordState}
-use Rattle.core_records.specs.Stopping.{is_termed, is_termed_at, is_termed_before, IsFirstTermed}
-use Rattle.core_records.specs.Indexing.{termed_at, termed_of, keys_of, are_sorted, AreKeysOf, passes, first_key}
+use Rattle.core_records.proofs.Words.{◌≡◌, refl, sym, ◌∙◌, ap, cond, Bool, true, false, not, ℕ, ◌+◌, List, [], ◌∷◌, nat_lt, Option, Some, None, ◌==◌, arith, list_any, count_by, and_parts, or_from, not-true, le-ltb, eq-eqb, sum_by-cons, Keyed, Stop, Due, Termed, Killed, RecordState, is_termed, is_termed_at, is_termed_before, IsFirstTermed, termed_at, termed_of, are_sorted, AreKeysOf, passes, first_key}
+use Rattle.core_records.specs.Indexing.{keys_of}
 use Rattle.core_records.proofs.Counted.{some_counted}
 use Rattle.core_records.proofs.Indexes.{count-slot, HasOwnIds}
 
 -- An item has the id of its record.
 pub own_termed : HasOwnIds termed_of
-own_termed slot = by slot.stop
-  where
-    by : (o : Option Stop) → IfSome (termed_at slot.id o) (λ (c : Keyed). c.id ≡ slot.id)
-    by None = tt
-    by (Some Due) = tt
-    by (Some (Termed time)) = refl
-    by (Some (Killed time)) = tt
+own_termed slot = grind arith
 
 -- a test of the items is one of the records
 count_records : (key_of : RecordState → Option Keyed) (test : Keyed → Bool) (p : RecordState → Bool) → ((slot : RecordState) → passes test (key_of slot) ≡ cond (p slot) 1 0) → (slots : List RecordState) → count_by test (keys_of key_of slots) ≡ count_by p slots
@@ -31,10 +16,7 @@ count_records key_of test p same (slot ∷ slots) = count-slot key_of test slot 
 -- The first SIGTERM.
 module _ (test : Keyed → Bool) (p : Option Stop → Bool) (none : p None ≡ false) (due : p (Some Due) ≡ false) (killed : (time : ℕ) → p (Some (Killed time)) ≡ false) (termed : (id : List ℕ) (time : ℕ) → test (record { key = time; id = id }) ≡ p (Some (Termed time))) where
   tested : (id : List ℕ) (stop : Option Stop) → passes test (termed_at id stop) ≡ cond (p stop) 1 0
-  tested id None = ap (λ (b : Bool). cond b 1 0) (sym none)
-  tested id (Some Due) = ap (λ (b : Bool). cond b 1 0) (sym due)
-  tested id (Some (Killed time)) = ap (λ (b : Bool). cond b 1 0) (sym (killed time))
-  tested id (Some (Termed time)) = ap (λ (b : Bool). cond b 1 0) (termed id time)
+  tested id stop = grind arith
 
   any_termed : (slots : List RecordState) (cs : List Keyed) → AreKeysOf termed_of slots cs → list_any (λ (slot : RecordState). p slot.stop) slots ≡ list_any test cs
   any_termed slots cs those = sym (some_counted (λ (slot : RecordState). p slot.stop) slots) ∙ ap (λ n. not (n == 0)) (sym (those test ∙ count_records termed_of test (λ s. p s.stop) (λ s. tested s.id s.stop) slots)) ∙ some_counted test cs

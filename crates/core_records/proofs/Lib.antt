@@ -8,3 +8,4 @@ pub mod Ordered
 pub mod Rebuilt
 pub mod Sorted
 pub mod Timely
+pub mod Words

@@ -1,9 +1,16 @@
+pub mod ArrivalRows
+pub mod Arriving
 pub mod Awaiting
+pub mod Climbing
 pub mod Coming
+pub mod Ended
+pub mod Existing
 pub mod Forgotten
 pub mod Idle
 pub mod Once
 pub mod Progress
+pub mod Reached
+pub mod Reaching
 pub mod Rest
 pub mod Rounds
 pub mod Rows

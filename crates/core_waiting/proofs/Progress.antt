@@ -19,17 +19,18 @@ use Rattle.trace_events.specs.declared.happenings.Happening.TheVariants.{NewTabl
 use Rattle.trace_events.specs.declared.steps.Goal.{Goal}
 use Rattle.trace_events.specs.declared.steps.Step.TheVariants as step
 use Rattle.trace_events.specs.Event.{Event}
-use Rattle.trace_events.specs.Past.{table_of, stage_of, Child, is_of, has_child, open_of, is_idle, newborn, kept_children}
+use Rattle.trace_events.specs.Past.{table_of, stage_of, Child, is_of, has_child, open_of, is_quiet, is_idle, newborn, kept_children}
 use Rattle.trace_events.specs.Wanted.{starts_now, is_order, nothing_runs, is_asked, is_called, is_wanted, may_live, is_excluded}
 use Rattle.trace_events.specs.Sound.{may_come, is_sound}
-use Rattle.trace_laws.proofs.Orders.{idle_none, kept_before_told, undone_is_open}
+use Rattle.trace_laws.proofs.Orders.{kept_before_told, undone_is_open}
 use Rattle.trace_laws.proofs.Tests.{is_order-is}
 use Rattle.trace_laws.proofs.Dues.{due_facts}
 use Rattle.trace_laws.proofs.Keeps.{sound_holds, start_undone, born_ready, placed_spared}
+use Rattle.trace_laws.proofs.Known.{quiet_start}
 use Rattle.trace_laws.proofs.Births.{is_table, at_moment, sound_step}
 use Rattle.core_waiting.specs.declared.rests.Why.TheVariants.{Excluded, WaitedFor, InTheWay}
 use Rattle.core_waiting.specs.Rest.{AtRest, why_of_entry, is_awaited, awaited_children, is_level_announced, is_calm, is_waited_id, is_start_of, is_waited_start, is_gone}
-use Rattle.core_waiting.proofs.Rest.{announced_or_awaited, entry_awaited, not_first}
+use Rattle.core_waiting.proofs.Rest.{announced_or_awaited, entry_awaited, idle_quiet, not_first}
 use Rattle.core_waiting.proofs.Settled.{found_id}
 use Rattle.core_waiting.proofs.Once.{calm_before, calm_parts, wanted_before, same_table, not_again}
 
@@ -58,7 +59,7 @@ same_stage (Power kind ∷ between) past calm = absurd (false≢true calm)
 same_stage (Call letter ∷ between) past calm = absurd (false≢true calm)
 same_stage (happening ∷ between) past calm = same_stage between past calm
 
-excluded_still : (between past : List Event) → is_calm between ≡ true → (child : Child) → is_excluded (between ++ past) child ≡ is_excluded past child
+pub excluded_still : (between past : List Event) → is_calm between ≡ true → (child : Child) → is_excluded (between ++ past) child ≡ is_excluded past child
 excluded_still between past calm child = λ i. not (may_live (entry_of child.id (same_table between past calm i)) child.act (same_stage between past calm i))
 
 -- an id that is not started has no open Start behind the stretch, and so no new child
@@ -70,8 +71,8 @@ cleared_order : (b : Bool) (o : Option OrderKind) → is_order Start o ≡ false
 cleared_order true o rest = refl
 cleared_order false o rest = rest
 
-no_start : (id : List ℕ) (between past : List Event) → open_of id past ≡ None → list_any (is_start_of id) between ≡ false → is_order Start (open_of id (between ++ past)) ≡ false
-no_start id [] past free none = ap (is_order Start) free
+pub no_start : (id : List ℕ) (between past : List Event) → is_order Start (open_of id past) ≡ false → list_any (is_start_of id) between ≡ false → is_order Start (open_of id (between ++ past)) ≡ false
+no_start id [] past free none = free
 no_start id (Asked i Start ∷ between) past free none =
     let parts = or_parts (same_id id i) (list_any (is_start_of id) between) none in
     ap (λ b. is_order Start (cond b (Some Start) (open_of id (between ++ past)))) parts.0 ∙ no_start id between past free parts.1
@@ -81,7 +82,7 @@ no_start id (Asked i Kill ∷ between) past free none = not_ordered (same_id id 
 no_start id (Told i ∷ between) past free none = cleared_order (same_id id i) (open_of id (between ++ past)) (no_start id between past free none)
 no_start id (happening ∷ between) past free none = no_start id between past free none
 
-kept_back : (goal : Goal) (id : List ℕ) (q : Child → Bool) (between past : List Event) → is_sound goal (between ++ past) ≡ true → is_calm between ≡ true → open_of id past ≡ None → list_any (is_start_of id) between ≡ false → list_any (λ x. is_of id x && q x) (kept_children (between ++ past)) ≡ true → list_any (λ x. is_of id x && q x) (kept_children past) ≡ true
+pub kept_back : (goal : Goal) (id : List ℕ) (q : Child → Bool) (between past : List Event) → is_sound goal (between ++ past) ≡ true → is_calm between ≡ true → is_order Start (open_of id past) ≡ false → list_any (is_start_of id) between ≡ false → list_any (λ x. is_of id x && q x) (kept_children (between ++ past)) ≡ true → list_any (λ x. is_of id x && q x) (kept_children past) ≡ true
 kept_back goal id q [] past sound calm free none there = there
 kept_back goal id q (NewTable table ∷ between) past sound calm free none there = absurd (false≢true calm)
 kept_back goal id q (Enter s grace ∷ between) past sound calm free none there = absurd (false≢true calm)
@@ -105,7 +106,7 @@ pub record Quit (id : List ℕ) (past : List Event) : Type 0 where
   pub spared : list_any (is_excluded past) (kept_children past) ≡ false
   pub done : (e : Entry) → id ≡ e.id → is_limited e.act ≡ false → is_wanted e past ≡ false
 
-spared_step : (goal : Goal) (happening : Event) (past : List Event) → may_come goal happening past ≡ true → is_sound goal past ≡ true → is_calm (happening ∷ []) ≡ true → list_any (is_excluded past) (kept_children past) ≡ false → list_any (is_excluded (happening ∷ past)) (kept_children (happening ∷ past)) ≡ false
+pub spared_step : (goal : Goal) (happening : Event) (past : List Event) → may_come goal happening past ≡ true → is_sound goal past ≡ true → is_calm (happening ∷ []) ≡ true → list_any (is_excluded past) (kept_children past) ≡ false → list_any (is_excluded (happening ∷ past)) (kept_children (happening ∷ past)) ≡ false
 spared_step goal (NewTable table) past may sound calm spared = absurd (false≢true calm)
 spared_step goal (Enter s grace) past may sound calm spared = absurd (false≢true calm)
 spared_step goal (Birth i n) past may sound calm spared = or_from (is_excluded past (newborn i n past)) (list_any (is_excluded past) (kept_children past)) (placed_spared i n past (born_ready goal i n past may (sound_holds goal past sound)).placed) spared
@@ -175,7 +176,7 @@ was_awaited between past calm child there h = at (is_excluded (between ++ past) 
       own : has_child wants.entry.id (kept_children (between ++ past)) ≡ true
       own = ap (λ i. has_child i (kept_children (between ++ past))) (sym (found_id child.id (table_of (between ++ past)) wants.entry wants.found)) ∙ there
 
-filtered_none : (p q : Child → Bool) (xs : List Child) → list_all p (filter q xs) ≡ true → list_any (λ x. q x && not (p x)) xs ≡ false
+pub filtered_none : (p q : Child → Bool) (xs : List Child) → list_all p (filter q xs) ≡ true → list_any (λ x. q x && not (p x)) xs ≡ false
 filtered_none p q [] h = refl
 filtered_none p q (x ∷ xs) h = at (q x) h (filtered_none p q xs) where
   at : (b : Bool) → list_all p (cond b (x ∷ filter q xs) (filter q xs)) ≡ true → (list_all p (filter q xs) ≡ true → list_any (λ y. q y && not (p y)) xs ≡ false) → (b && not (p x) || list_any (λ y. q y && not (p y)) xs) ≡ false
@@ -186,8 +187,8 @@ is_waited_at : (past : List Event) (id : List ℕ) → is_waited_id id past ≡ 
 is_waited_at past id waited (Asked i Start) own = ap (λ x. is_waited_id x past) (sym (same_id-is id i own)) ∙ waited
 is_waited_at past id waited _ own = absurd (false≢true own)
 
-pub progress : (goal : Goal) (between past : List Event) → is_sound goal (between ++ past) ≡ true → is_calm between ≡ true → is_idle past ≡ true → AtRest goal (between ++ past) → is_idle (between ++ past) ≡ true → list_all (is_gone between past) (awaited_children past) ≡ true → is_level_announced (between ++ past) ≡ false → list_any (is_waited_start past) between ≡ true
-progress goal between past sound calm idle rest idle_later gone untold = by (passing (is_awaited (between ++ past)) (kept_children (between ++ past)) (true_from_ne_false (list_any (is_awaited (between ++ past)) (kept_children (between ++ past))) (λ none. false≢true (sym untold ∙ announced_or_awaited goal (between ++ past) sound rest idle_later none)))) where
+pub progress : (goal : Goal) (between past : List Event) → is_sound goal (between ++ past) ≡ true → is_calm between ≡ true → is_quiet past ≡ true → AtRest goal (between ++ past) → is_idle (between ++ past) ≡ true → list_all (is_gone between past) (awaited_children past) ≡ true → is_level_announced (between ++ past) ≡ false → list_any (is_waited_start past) between ≡ true
+progress goal between past sound calm quiet rest idle_later gone untold = by (passing (is_awaited (between ++ past)) (kept_children (between ++ past)) (true_from_ne_false (list_any (is_awaited (between ++ past)) (kept_children (between ++ past))) (λ none. false≢true (sym untold ∙ announced_or_awaited goal (between ++ past) sound rest idle_later none)))) where
   by : Passing (is_awaited (between ++ past)) (kept_children (between ++ past)) → list_any (is_waited_start past) between ≡ true
   by there = at (list_any (is_start_of there.item.id) between) refl where
     id : List ℕ
@@ -218,7 +219,7 @@ progress goal between past sound calm idle rest idle_later gone untold = by (pas
 
     at : (b : Bool) → list_any (is_start_of there.item.id) between ≡ b → list_any (is_waited_start past) between ≡ true
     at true some = started some (quit_at goal there.item.id between past sound calm some)
-    at false none = left none (passing (λ x. is_of there.item.id x && is_awaited (between ++ past) x) (kept_children past) (kept_back goal there.item.id (is_awaited (between ++ past)) between past sound calm (idle_none there.item.id past idle) none (there.within (λ x. is_of there.item.id x && is_awaited (between ++ past) x) (and_from (is_of there.item.id there.item) (is_awaited (between ++ past) there.item) (same_id-self there.item.id) there.passes))))
+    at false none = left none (passing (λ x. is_of there.item.id x && is_awaited (between ++ past) x) (kept_children past) (kept_back goal there.item.id (is_awaited (between ++ past)) between past sound calm (quiet_start there.item.id past quiet) none (there.within (λ x. is_of there.item.id x && is_awaited (between ++ past) x) (and_from (is_of there.item.id there.item) (is_awaited (between ++ past) there.item) (same_id-self there.item.id) there.passes))))
 
 pub rests_progress : (goal : Goal) (later between past : List Event) → is_sound goal (later ++ (between ++ past)) ≡ true → is_calm between ≡ true → AtRest goal past → is_idle past ≡ true → AtRest goal (between ++ past) → is_idle (between ++ past) ≡ true → list_all (is_gone between past) (awaited_children past) ≡ true → is_level_announced (between ++ past) ≡ false → list_any (is_waited_start past) between ≡ true
-rests_progress goal later between past sound calm rest idle rest_later idle_later gone untold = progress goal between past (at_moment goal (λ x. AtRest goal x → is_sound goal x ≡ true) (λ h. absurd (not_first goal h)) (λ x ok h. ok) later (between ++ past) sound rest_later) calm idle rest_later idle_later gone untold
+rests_progress goal later between past sound calm rest idle rest_later idle_later gone untold = progress goal between past (at_moment goal (λ x. AtRest goal x → is_sound goal x ≡ true) (λ h. absurd (not_first goal h)) (λ x ok h. ok) later (between ++ past) sound rest_later) calm (idle_quiet past idle) rest_later idle_later gone untold

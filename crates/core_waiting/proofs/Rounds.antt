@@ -25,13 +25,13 @@ use Rattle.trace_laws.proofs.Dues.{MayRun, due_facts}
 use Rattle.trace_laws.proofs.Keeps.{sound_holds}
 use Rattle.trace_laws.proofs.Births.{at_moment}
 use Rattle.core_waiting.specs.Rest.{AtRest, is_level_announced, is_calm, is_start_of, is_waited_start, is_waited_id, is_to_come, to_come, after_rounds, AreRounds}
-use Rattle.core_waiting.proofs.Rest.{waited_free, not_first}
+use Rattle.core_waiting.proofs.Rest.{waited_free, idle_quiet, not_first}
 use Rattle.core_waiting.proofs.Settled.{found_id}
 use Rattle.core_waiting.proofs.Once.{wanted_before, same_table}
 use Rattle.core_waiting.proofs.Progress.{Next, next_of, Quit, quit_at, same_stage, progress}
 
 -- fewer pass the narrower test
-fewer : (p q : Entry → Bool) → ((e : Entry) → p e ≡ true → q e ≡ true) → (es : List Entry) → length (filter p es) ≤ length (filter q es)
+pub fewer : (p q : Entry → Bool) → ((e : Entry) → p e ≡ true → q e ≡ true) → (es : List Entry) → length (filter p es) ≤ length (filter q es)
 fewer p q less [] = omega arith
 fewer p q less (e ∷ es) = at (p e) (q e) (less e) (fewer p q less es) where
   at : (b c : Bool) → (b ≡ true → c ≡ true) → length (filter p es) ≤ length (filter q es) → length (cond b (e ∷ filter p es) (filter p es)) ≤ length (cond c (e ∷ filter q es) (filter q es))
@@ -56,7 +56,7 @@ entry_any r id (x ∷ es) e found own = at (same_id id x.id) found (entry_any r 
   at true found rest = or_left (r x) (list_any r es) (ap r (same_Some x e found) ∙ own)
   at false found rest = or_right (r x) (list_any r es) (rest found own)
 
-unlimited : (e : Entry) → waited_of e ≡ true → is_limited e.act ≡ false
+pub unlimited : (e : Entry) → waited_of e ≡ true → is_limited e.act ≡ false
 unlimited e waited = false_from_ne_true (is_limited e.act) (λ limited. false≢true (waited_free e.act waited limited))
 
 -- a waited entry that is started in a calm stretch was wanted before it
@@ -99,7 +99,7 @@ begun goal (happening ∷ between) past sound calm some =
     begun_later happening between past (begun goal between past next.sound next.calm some)
 
 -- so fewer are to come behind it
-fewer_to_come : (goal : Goal) (between past : List Event) → is_sound goal (between ++ past) ≡ true → is_calm between ≡ true → list_any (is_waited_start past) between ≡ true → to_come (between ++ past) < to_come past
+pub fewer_to_come : (goal : Goal) (between past : List Event) → is_sound goal (between ++ past) ≡ true → is_calm between ≡ true → list_any (is_waited_start past) between ≡ true → to_come (between ++ past) < to_come past
 fewer_to_come goal between past sound calm some = ap_less (begun goal between past sound calm some) where
   less : (e : Entry) → is_to_come (between ++ past) e ≡ true → is_to_come past e ≡ true
   less e h = let parts = and_parts (waited_of e) (is_wanted e (between ++ past)) h in and_from (waited_of e) (is_wanted e past) parts.0 (wanted_before e between past (unlimited e parts.0) calm parts.1)
@@ -121,7 +121,7 @@ still_announced (Call letter ∷ between) past calm told = absurd (false≢true 
 still_announced (Settle level ∷ between) past calm told = refl
 still_announced (happening ∷ between) past calm told = still_announced between past calm told
 
-still_level : (between past : List Event) → is_calm between ≡ true → is_level_announced past ≡ true → is_level_announced (between ++ past) ≡ true
+pub still_level : (between past : List Event) → is_calm between ≡ true → is_level_announced past ≡ true → is_level_announced (between ++ past) ≡ true
 still_level between past calm h =
     let parts = and_parts (in_run (stage_of past)) (is_announced past) h in
     and_from (in_run (stage_of (between ++ past))) (is_announced (between ++ past)) (ap in_run (same_stage between past calm) ∙ parts.0) (still_announced between past calm parts.1)
@@ -131,7 +131,7 @@ at_last : (goal : Goal) (rounds : List (List Event)) (past : List Event) → Are
 at_last goal [] past are = are
 at_last goal (round ∷ earlier) past are = (are.3, are.4)
 
-sound_rest : (goal : Goal) (later past : List Event) → is_sound goal (later ++ past) ≡ true → AtRest goal past → is_sound goal past ≡ true
+pub sound_rest : (goal : Goal) (later past : List Event) → is_sound goal (later ++ past) ≡ true → AtRest goal past → is_sound goal past ≡ true
 sound_rest goal later past sound rest = at_moment goal (λ x. AtRest goal x → is_sound goal x ≡ true) (λ h. absurd (not_first goal h)) (λ x ok h. ok) later past sound rest
 
 count : (goal : Goal) (rounds : List (List Event)) (past : List Event) → is_sound goal (after_rounds rounds past) ≡ true → AreRounds goal rounds past → is_level_announced (after_rounds rounds past) ≡ false → length rounds + to_come (after_rounds rounds past) ≤ to_come past
@@ -141,7 +141,7 @@ count goal (round ∷ earlier) past sound are untold =
     let sound_before : is_sound goal (after_rounds earlier past) ≡ true = sound_rest goal round (after_rounds earlier past) sound last.0 in
     let untold_before : is_level_announced (after_rounds earlier past) ≡ false = falsely (is_level_announced (after_rounds earlier past)) (is_level_announced (round ++ after_rounds earlier past)) (still_level round (after_rounds earlier past) are.1) untold in
     let most : length earlier + to_come (after_rounds earlier past) ≤ to_come past = count goal earlier past sound_before are.0 untold_before in
-    let fewer_now : to_come (round ++ after_rounds earlier past) < to_come (after_rounds earlier past) = fewer_to_come goal round (after_rounds earlier past) sound are.1 (progress goal round (after_rounds earlier past) sound are.1 last.1 are.3 are.4 are.2 untold) in
+    let fewer_now : to_come (round ++ after_rounds earlier past) < to_come (after_rounds earlier past) = fewer_to_come goal round (after_rounds earlier past) sound are.1 (progress goal round (after_rounds earlier past) sound are.1 (idle_quiet (after_rounds earlier past) last.1) are.3 are.4 are.2 untold) in
     add (length earlier) (to_come past) (to_come (after_rounds earlier past)) (to_come (round ++ after_rounds earlier past)) most fewer_now where
       add : (n w b a : ℕ) → n + b ≤ w → a < b → suc n + a ≤ w
       add n w b a most less = omega arith

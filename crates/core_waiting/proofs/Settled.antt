@@ -65,7 +65,7 @@ record Settled (past : List Event) : Type 0 where
   pub room : list_any (holds_on past) (kept_children past) ≡ false
 
 -- tables
-all_found : (p : Entry → Bool) (id : List ℕ) (es : List Entry) (e : Entry) → list_all p es ≡ true → entry_of id es ≡ Some e → p e ≡ true
+pub all_found : (p : Entry → Bool) (id : List ℕ) (es : List Entry) (e : Entry) → list_all p es ≡ true → entry_of id es ≡ Some e → p e ≡ true
 all_found p id [] e all found = absurd (none-some e found)
 all_found p id (x ∷ es) e all found = at_id (same_id id x.id) found (all_found p id es e parts.1) where
   parts : (p x ≡ true) × (list_all p es ≡ true)
@@ -116,7 +116,7 @@ wanted_power act.Respawn levels level idle asked called wanted was busy = both_w
 wanted_power act.Ondemand levels level idle asked called wanted was busy = both_ways idle (and_parts called idle (and_parts (starts_by act.Ondemand levels (stage.Run level)) (called && idle) wanted).1).1 busy
 wanted_power _ levels level idle asked called wanted was busy = absurd (false≢true wanted)
 
-in_level : (o : Option Stage) → in_run o ≡ true → (level : Level) × (o ≡ Some (stage.Run level))
+pub in_level : (o : Option Stage) → in_run o ≡ true → (level : Level) × (o ≡ Some (stage.Run level))
 in_level None h = absurd (false≢true h)
 in_level (Some stage.Sysinit) h = absurd (false≢true h)
 in_level (Some stage.Boot) h = absurd (false≢true h)

@@ -27,7 +27,7 @@ use Rattle.core_waiting.specs.Rest.{AtRest, are_in_force, is_stopping, is_looked
 use Rattle.core_waiting.proofs.Rest.{Rest, at_rest, nil_parts, none_if, none_of, no_wish, idle_quiet, not_first}
 
 -- every child passes that no child fails
-all_from : (p : Child → Bool) (xs : List Child) → list_any (λ child. not (p child)) xs ≡ false → list_all p xs ≡ true
+pub all_from : (p : Child → Bool) (xs : List Child) → list_any (λ child. not (p child)) xs ≡ false → list_all p xs ≡ true
 all_from p [] h = refl
 all_from p (x ∷ xs) h =
     let parts = or_parts (not (p x)) (list_any (λ child. not (p child)) xs) h in
@@ -106,7 +106,7 @@ found_any p q (x ∷ xs) child there h = split (p x) there (found_any p q xs chi
   split true there rest = or_left (q x) (list_any q xs) (ap q (same_Some x child there) ∙ h)
   split false there rest = or_right (q x) (list_any q xs) (rest there h)
 
-stops_at : (goal : Goal) (past : List Event) → is_sound goal past ≡ true → AtRest goal past → is_idle past ≡ true → list_all (is_stopping past) (kept_children past) ≡ true
+pub stops_at : (goal : Goal) (past : List Event) → is_sound goal past ≡ true → AtRest goal past → is_idle past ≡ true → list_all (is_stopping past) (kept_children past) ≡ true
 stops_at goal past sound h idle = all_from (is_stopping past) (kept_children past) (false_from_ne_true (list_any fails (kept_children past)) (λ some. wrong (passing fails (known_children past) (same_any fails (kept_children past) (known_children past) (quiet_known goal past sound (idle_quiet past idle)) some)))) where
   fails : Child → Bool
   fails child = not (is_stopping past child)
@@ -129,7 +129,7 @@ no_look (i ∷ ids) past id h there =
     (λ same. ap (λ x. can_look x past) (same_id-is id i same) ∙ none_if (can_look i past) (Order i Look) parts.0)
     (no_look ids past id parts.1)
 
-looks_at : (goal : Goal) (past : List Event) → is_sound goal past ≡ true → AtRest goal past → list_all (is_looked_at past) (known_children past) ≡ true
+pub looks_at : (goal : Goal) (past : List Event) → is_sound goal past ≡ true → AtRest goal past → list_all (is_looked_at past) (known_children past) ≡ true
 looks_at goal past sound h = all_from (is_looked_at past) (known_children past) (false_from_ne_true (list_any (λ child. not (is_looked_at past child)) (known_children past)) (λ some. wrong (passing (λ child. not (is_looked_at past child)) (known_children past) some))) where
   wrong : Passing (λ child. not (is_looked_at past child)) (known_children past) → ⊥
   wrong there =

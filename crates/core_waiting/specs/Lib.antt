@@ -1,3 +1,4 @@
+pub mod Arrival
 pub mod Awaiting
 pub mod Coming
 pub mod Lines

@@ -2,10 +2,12 @@
 //! to read (init(8)). Init never waits for nothing, and a level is settled at last.
 #![tactic(auto)]
 
+mod arrivals;
 mod awaited;
 mod lines;
 mod rests;
 
+pub use arrivals::law_of_arrival;
 pub use awaited::AwaitedChildren;
 pub use lines::waiting_lines;
 pub use rests::{Awaited, Why, law_of_awaited, law_of_coming, law_of_rest};

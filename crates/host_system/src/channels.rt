@@ -27,6 +27,8 @@ pub(crate) struct Channel<A: Allocator> {
     lock: Option<ChannelLock>,
     /// The device and the number of the file that stood at the path when there was one last.
     file: Option<(u64, u64)>,
+    /// That file, open.
+    open: Option<File>,
     /// No file stood at the path at the last look.
     missing: bool,
     /// How many of its bytes were read: those of whole requests.
@@ -50,6 +52,7 @@ impl<A: Allocator> Channel<A> {
             begun: false,
             lock: None,
             file: None,
+            open: None,
             missing: false,
             heard: 0,
             request: [0; REQUEST],
@@ -71,8 +74,14 @@ impl<A: Allocator> Channel<A> {
         self.lock = Some(lock);
     }
 
-    /// It has a request that was not read, or another file stands at its path.
+    /// It has a request that was not read, or is shorter than what was read. Of a file that stood at its path when it was
+    /// read last the length alone is asked for: that another file stands there now is seen when it is read again.
     pub(crate) fn has_news<R: Files>(&self, rt: &R) -> bool {
+        if let Some(mut file) = self.open.as_ref() {
+            if let Ok(length) = file.seek(SeekFrom::End(0)) {
+                return length < self.heard || self.is_request_behind(length);
+            }
+        }
         match found_at(rt, self.path.as_str()) {
             Ok(Some(found)) => self.is_anew(&found) || self.is_whole(&found),
             _ => false,
@@ -139,6 +148,7 @@ impl<A: Allocator> Channel<A> {
         }
         let Some(found) = found else {
             self.missing = true;
+            self.open = None;
             self.go_to(0);
             return Ok(false);
         };
@@ -147,7 +157,7 @@ impl<A: Allocator> Channel<A> {
             self.go_to(0);
             say_made_anew(rt, self.path.as_str());
         }
-        self.file = Some(file_of(&found));
+        self.keep_open(rt, &found);
         self.missing = false;
         let is_whole = self.is_whole(&found);
         if !is_whole {
@@ -171,7 +181,21 @@ impl<A: Allocator> Channel<A> {
 
     /// A file that was found has a whole request that was not read.
     fn is_whole(&self, found: &Metadata) -> bool {
-        found.len().saturating_sub(self.heard) >= REQUEST as u64
+        self.is_request_behind(found.len())
+    }
+
+    /// A channel of this length has a whole request that was not read.
+    fn is_request_behind(&self, length: u64) -> bool {
+        length.saturating_sub(self.heard) >= REQUEST as u64
+    }
+
+    /// Opens the file that was found, where it is another than the one that is open.
+    fn keep_open<R: Files<File = File>>(&mut self, rt: &R, found: &Metadata) {
+        let file = Some(file_of(found));
+        if self.open.is_none() || self.file != file {
+            self.open = File::open(rt, self.path.as_str()).ok();
+        }
+        self.file = file;
     }
 
     /// Another file stands at the path than before, or one that is shorter than what was read.

@@ -109,6 +109,11 @@ impl<R: Processes, A: Allocator + Copy> Children<R, A> {
         Ok(number)
     }
 
+    /// How many children there are.
+    pub(crate) fn count(&self) -> usize {
+        self.handles.len()
+    }
+
     /// The id has a child.
     fn holds(&self, id: &Id) -> bool
         ensures { result ≡ holds_child id.now self.now }

@@ -120,8 +120,9 @@ impl<R: Processes + Files<File = File> + Clock + Print + Eprint + Drop, A: Alloc
 
     /// The host with pauses of at most this length in seconds, a decimal of 0.01 to 60 with at most two digits after
     /// the point; any other text leaves them as they are. Since the last pause a child may have been born or reaped, a
-    /// signal sent or bytes taken: then the next one lasts a thousandth of the length, and else twice as long as the
-    /// last, but no longer than the length.
+    /// signal sent or bytes taken: then the next one lasts a thousandth of the length, or less where there are few
+    /// children: two millionths of a second a child, and at least a hundred. Else it lasts twice as long as the last,
+    /// but no longer than the length.
     pub fn with_pause(mut self, length: &str) -> Result<OsHost<R, A>, Memory>
         ensures { IfOk result (λ host. host ≡ self) }
     {
@@ -417,7 +418,7 @@ impl<R: Processes + Files<File = File> + Clock + Print + Eprint + Drop, A: Alloc
         ensures unchanged { self.new ≡ self.old }
     {
         self.children.end_turn();
-        let length = self.pauses.next();
+        let length = self.pauses.next(self.children.count());
         rest(&self.rt, &self.channel, length);
     }
 

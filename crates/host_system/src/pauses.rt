@@ -13,6 +13,12 @@ const HUNDREDTH: u64 = 10_000;
 /// After how many microseconds of a pause the channel is looked at.
 pub(crate) const LOOK: u64 = 40_000;
 
+/// The shortest pause behind a turn in which something happened, in microseconds, and how much of it a child costs that
+/// is looked at in each turn: so looks take no more than half of the time.
+const SHORT: u64 = 100;
+
+const SHORT_A_CHILD: u64 = 2;
+
 /// The microseconds of a second.
 const SECOND: u64 = 1_000_000;
 
@@ -55,11 +61,11 @@ impl Pauses {
         self.stirred = self.stirred || stirred;
     }
 
-    /// The length of the pause that is due, in microseconds: after a turn in which something happened the shortest, and
-    /// else twice the one before, up to the longest.
-    pub(crate) fn next(&mut self) -> u64 {
+    /// The length of the pause that is due over so many children, in microseconds: after a turn in which something
+    /// happened the shortest, or less where the children are few, and else twice the one before, up to the longest.
+    pub(crate) fn next(&mut self, children: usize) -> u64 {
         let length = if self.stirred {
-            self.shortest
+            self.shortest_over(children)
         } else {
             self.next
         };
@@ -67,6 +73,20 @@ impl Pauses {
         self.next = length.saturating_mul(2).min(self.longest);
         length
     }
+
+    /// The shortest pause over so many children: pauses that don't grow stay as they are.
+    fn shortest_over(&self, children: usize) -> u64 {
+        if self.shortest < self.longest {
+            self.shortest.min(short_for(children))
+        } else {
+            self.shortest
+        }
+    }
+}
+
+/// How long a pause has to be at least, by how many children are looked at behind it.
+fn short_for(children: usize) -> u64 {
+    SHORT_A_CHILD.saturating_mul(children as u64).max(SHORT)
 }
 
 /// A child was born, had ended, or was sent a signal.

@@ -91,6 +91,17 @@ fn number_of<A: Allocator>(core: &Core<A>, id: Id) -> Option<ChildNumber>
     slot.child()
 }
 
+/// The number of the id's child, where the answer is that it ended.
+fn number_for<A: Allocator>(core: &Core<A>, id: Id, answer: &Answer) -> Option<ChildNumber>
+    ensures { is_end answer.now ≡ true
+        → result ≡ option_and_then child_number (record_by_id id core.now.slots) }
+{
+    match answer {
+        Answer::Ended(_) => number_of(core, id),
+        _ => None,
+    }
+}
+
 /// Hears an answer about the id. One that was not asked for is nothing.
 pub(crate) fn hear_answer<A: Allocator, L: Log>(
     core: &mut Core<A>,
@@ -102,7 +113,7 @@ pub(crate) fn hear_answer<A: Allocator, L: Log>(
         (answered id answer) }
     ensures grows { GrowsBy core.old core.new (L.state log.old) (L.state log.new) }
 {
-    let number = number_of(core, id);
+    let number = number_for(core, id, &answer);
     let heard = answer;
     if core.answer(id, answer).is_ok() {
         write_answer(log, id, heard, number);

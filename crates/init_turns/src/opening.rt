@@ -65,6 +65,7 @@ impl<A: Allocator + Copy> Opening<A> {
     {
         let Opening { mut core, told } = self;
         write(log, &told);
+        drop(told);
         let served = serve(alloc, &mut core, host, log, turns, drain, watch);
         (served, core)
     }

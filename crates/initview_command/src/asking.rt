@@ -194,48 +194,88 @@ pub(crate) fn table_question_of(words: &[String]) -> Option<TableQuestion>
     asked_by(verb_of(words), None, count)
 }
 
+/// Why no word too few or too many is a command line.
+const MISSING: &str = "a word is missing, or one is too many";
+
+const NO_ID: &str = "an ID is 1 to 8 characters of those that inittab(5) allows";
+
+const NO_LEVEL: &str = "a LEVEL is one of 0 to 9 and S";
+
+/// These words begin with a level that is none, or else the other reason holds.
+fn level_reason(rest: &[String], other: &'static str) -> &'static str {
+    if has_level(rest) && rest.len() > 1 && level_named(rest).is_none() {
+        NO_LEVEL
+    } else {
+        other
+    }
+}
+
+/// The word at a place is this one.
+fn is_word(words: &[String], place: usize, word: &str) -> bool {
+    match words.get(place) {
+        Some(given) => given.as_str() == word,
+        None => false,
+    }
+}
+
+fn timeline_reason(rest: &[String]) -> &'static str {
+    if is_word(rest, 0, "--width") && rest.len() == 3 {
+        "a width N is 20 to 1000 columns"
+    } else if is_word(rest, 0, "--svg") {
+        "behind --svg stands the TRACE, and no --width: the picture has its own"
+    } else {
+        MISSING
+    }
+}
+
+fn diff_reason(rest: &[String]) -> &'static str {
+    if is_word(rest, 0, "--trace") {
+        level_reason(behind_option(rest), level_reason(rest, MISSING))
+    } else if is_word(rest, 0, "--level") && is_word(rest, 2, "--trace") {
+        "--trace stands before --level"
+    } else {
+        level_reason(rest, MISSING)
+    }
+}
+
+fn table_reason(rest: &[String]) -> &'static str {
+    if rest.is_empty() {
+        "a TABLE is missing"
+    } else {
+        level_reason(rest, MISSING)
+    }
+}
+
+/// Why no command with so many words behind it is one for a trace.
+fn id_reason(is_id: bool) -> &'static str {
+    if is_id { NO_ID } else { MISSING }
+}
+
+fn help_reason(rest: &[String]) -> &'static str {
+    if rest.is_empty() {
+        ""
+    } else {
+        level_reason(rest, "no such command")
+    }
+}
+
+fn reason_behind(verb: &str, rest: &[String]) -> &'static str {
+    match verb {
+        "--help" | "-h" => help_reason(rest),
+        "status" => id_reason(rest.len() == 2),
+        "why" => id_reason(rest.len() > 1),
+        "left" | "follow" => MISSING,
+        "timeline" => timeline_reason(rest),
+        "lint" | "plan" => table_reason(rest),
+        "diff" => diff_reason(rest),
+        _ => level_reason(rest, "no such command"),
+    }
+}
+
 /// Why words are no command line; nothing where help is asked for.
 pub(crate) fn reason_of(words: &[String]) -> &'static str {
     match words {
         [] => "no command is given",
-        [verb] if verb.as_str() == "--help" || verb.as_str() == "-h" => "",
-        [verb, _, _] if verb.as_str() == "status" => {
-            "an ID is 1 to 8 characters of those that inittab(5) allows"
-        }
-        [verb, _, _, ..] if verb.as_str() == "why" => {
-            "an ID is 1 to 8 characters of those that inittab(5) allows"
-        }
-        [verb, ..]
-            if verb.as_str() == "why" || verb.as_str() == "status" || verb.as_str() == "left" => {
-            "a word is missing, or one is too many"
-        }
-        [verb, option, _, _] if verb.as_str() == "timeline" && option.as_str() == "--width" => {
-            "a width N is 20 to 1000 columns"
-        }
-        [verb, option, ..] if verb.as_str() == "timeline" && option.as_str() == "--svg" => {
-            "behind --svg stands the TRACE, and no --width: the picture has its own"
-        }
-        [verb, ..] if verb.as_str() == "timeline" || verb.as_str() == "follow" => {
-            "a word is missing, or one is too many"
-        }
-        [verb] if verb.as_str() == "lint" || verb.as_str() == "plan" => "a TABLE is missing",
-        [verb, option, _, level, name, ..]
-            if verb.as_str() == "diff"
-                && option.as_str() == "--trace"
-                && level.as_str() == "--level"
-                && level_in(name.as_bytes()).is_none() => { "a LEVEL is one of 0 to 9 and S" }
-        [verb, level, _, option, ..]
-            if verb.as_str() == "diff"
-                && level.as_str() == "--level"
-                && option.as_str() == "--trace" => { "--trace stands before --level" }
-        [_, option, level, ..]
-            if option.as_str() == "--level" && level_in(level.as_bytes()).is_none() => {
-            "a LEVEL is one of 0 to 9 and S"
-        }
-        [verb, ..]
-            if verb.as_str() == "lint" || verb.as_str() == "diff" || verb.as_str() == "plan" => {
-            "a word is missing, or one is too many"
-        }
-        _ => "no such command",
+        [verb, ..] => reason_behind(verb.as_str(), behind_verb(words)),
     }
 }

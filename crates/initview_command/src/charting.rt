@@ -111,6 +111,24 @@ struct FileTimeline {
     timeline: Timeline,
 }
 
+impl FileTimeline {
+    /// A timeline that has taken nothing.
+    fn new(alloc: Global) -> FileTimeline
+        ensures { HasMarked result.timeline [] }
+    {
+        FileTimeline {
+            timeline: Timeline::new(alloc),
+        }
+    }
+}
+
+/// A timeline that has taken nothing, on the heap: a function that has one in its frame is dear to prove.
+fn file_timeline(alloc: Global) -> Result<Box<FileTimeline>, AllocError>
+    ensures { IfOk result (λ file. HasMarked file.value.timeline []) }
+{
+    Ok(Box::new(alloc, FileTimeline::new(alloc))?)
+}
+
 impl PieceTaker for FileTimeline {
     ghost use Rattle.initview_timeline.specs.Timelines.{HasMarked};
 
@@ -168,10 +186,10 @@ pub(crate) fn draw_file<T: Texts, W: Write, E: Write>(
     ensures { Draws (T.text_at texts.now) path.now form result (W.contents out.old)
         (W.contents out.new) }
 {
-    let mut file = FileTimeline {
-        timeline: Timeline::new(alloc),
-    };
-    draw_text(texts, alloc, path, form, &mut file, out, err)
+    match file_timeline(alloc) {
+        Ok(mut file) => draw_text(texts, alloc, path, form, &mut file, out, err),
+        Err(_) => report_memory(err),
+    }
 }
 
 /// Hands the text of a path to a timeline that has taken none, and writes it.

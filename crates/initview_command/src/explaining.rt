@@ -65,6 +65,24 @@ struct FileLines {
     view: LinedView,
 }
 
+impl FileLines {
+    /// A view that has taken nothing.
+    fn new(alloc: Global) -> FileLines
+        ensures { HasLined result.view [] }
+    {
+        FileLines {
+            view: LinedView::new(alloc),
+        }
+    }
+}
+
+/// A view that has taken nothing, on the heap: a function that has one in its frame is dear to prove.
+fn file_lines(alloc: Global) -> Result<Box<FileLines>, AllocError>
+    ensures { IfOk result (λ file. HasLined file.value.view []) }
+{
+    Ok(Box::new(alloc, FileLines::new(alloc))?)
+}
+
 impl PieceTaker for FileLines {
     ghost use Rattle.trace_view.specs.LinedViews.{HasLined};
 
@@ -169,10 +187,10 @@ fn explain_behind<T: Texts, W: Write, E: Write>(
     ensures { ExplainsBehind (T.text_at texts.now) path.now id.now told.now result
         (W.contents out.old) (W.contents out.new) }
 {
-    let mut file = FileLines {
-        view: LinedView::new(alloc),
-    };
-    explain_text(texts, alloc, path, id, told, &mut file, out, err)
+    match file_lines(alloc) {
+        Ok(mut file) => explain_text(texts, alloc, path, id, told, &mut file, out, err),
+        Err(_) => report_memory(err),
+    }
 }
 
 /// Hands the text of a path to a view that has taken none, and writes why the id isn't started.

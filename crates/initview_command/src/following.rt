@@ -5,7 +5,7 @@ ghost use Rattle.trace_events.specs.Event.{Event};
 ghost use Rattle.trace_events.specs.Lawful.{first_breach};
 ghost use Rattle.program_io.specs.declared.statuses.TheConstants.{DEVICE_FAULT};
 ghost use Rattle.trace_view.specs.Shown.{IsShown};
-ghost use Rattle.trace_view.specs.Views.{HasShown};
+ghost use Rattle.trace_view.specs.Views.{HasShown, TextState};
 ghost use Rattle.initview_lines.specs.Following.{HasSaid};
 ghost use Rattle.initview_command.specs.Following.{Follows, HasWritten, WritesAll, WritesPart, follow_path};
 
@@ -15,7 +15,7 @@ use crate::telling::{report_memory, report_unread, report_unwritten, tell};
 use init_words::Memory;
 use initview_lines::take_lines;
 use program_io::{PIECE_LIMIT, PIECES_LIMIT};
-use std::alloc::Global;
+use std::alloc::{AllocError, Global};
 use std::io;
 use std::io::{ErrorKind, Read, Write};
 use trace_view::{Stop, TextView};
@@ -149,6 +149,33 @@ fn follow_text<R: Read, W: Write, E: Write>(
     }
 }
 
+/// A view that has taken nothing, on the heap: a function that has one in its frame is dear to prove.
+fn text_view(alloc: Global) -> Result<Box<TextView>, AllocError>
+    ensures shown { IfOk result (λ view. HasShown view.value [] []) }
+    ensures none { (state : TextState) × HasShown state [] [] }
+{
+    Ok(Box::new(alloc, TextView::new(alloc))?)
+}
+
+/// Follows the trace at a path with a view that has taken nothing.
+fn follow_over<G: GrowingTexts, W: Write, E: Write>(
+    growing: &G,
+    view: &mut TextView,
+    alloc: Global,
+    path: &str,
+    out: &mut W,
+    err: &mut E,
+) -> u8
+    requires { HasShown view.old [] [] }
+    ensures { Follows (G.text_at growing.now path.now) result (W.contents out.old)
+        (W.contents out.new) }
+{
+    match growing.open(alloc, path) {
+        Ok(mut text) => follow_text(&mut text, view, alloc, path, out, err),
+        Err(error) => report_unread(path, &error, err),
+    }
+}
+
 /// Follows the trace at a path, and gives the exit status.
 pub(crate) fn follow_file<G: GrowingTexts, W: Write, E: Write>(
     growing: &G,
@@ -160,9 +187,8 @@ pub(crate) fn follow_file<G: GrowingTexts, W: Write, E: Write>(
     ensures { Follows (G.text_at growing.now path.now) result (W.contents out.old)
         (W.contents out.new) }
 {
-    let mut view = TextView::new(alloc);
-    match growing.open(alloc, path) {
-        Ok(mut text) => follow_text(&mut text, &mut view, alloc, path, out, err),
-        Err(error) => report_unread(path, &error, err),
+    match text_view(alloc) {
+        Ok(mut view) => follow_over(growing, &mut view, alloc, path, out, err),
+        Err(_) => report_memory(err),
     }
 }

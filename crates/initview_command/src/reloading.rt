@@ -10,7 +10,7 @@ ghost use Rattle.initview_lines.specs.Reloads.{entered, gone_on, reloaded};
 ghost use Rattle.initview_command.specs.Reloading.{Reloads, ReloadsBehind, ReloadsFiles, ReloadsOf, has_trace, reload_behind, reload_of, reload_paths, reload_said, reload_trace, trace_named};
 
 use crate::asking::{behind_option, behind_verb, has_level, level_named, paths_in, verb_of};
-use crate::showing::{FileView, stop_status, tell_stop};
+use crate::showing::{FileView, file_view, stop_status, tell_stop};
 use crate::tables::{old_and_new, read_files, report_fault};
 use crate::telling::{report_memory, report_unread, report_unwritten, tell};
 use init_words::{Level, Memory, Part, Stage};
@@ -139,10 +139,10 @@ fn show_behind<T: Texts, W: Write, E: Write>(
     ensures { ReloadsBehind (T.text_at texts.now) path.now old.now new.now asked result
         (W.contents out.old) (W.contents out.new) }
 {
-    let mut file = FileView {
-        view: TextView::new(alloc),
-    };
-    show_text(texts, alloc, path, old, new, asked, &mut file, out, err)
+    match file_view(alloc) {
+        Ok(mut file) => show_text(texts, alloc, path, old, new, asked, &mut file, out, err),
+        Err(_) => report_memory(err),
+    }
 }
 
 /// Hands the text of a path to a view that has taken none, and writes what becomes of each id behind it.

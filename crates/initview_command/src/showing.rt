@@ -21,6 +21,24 @@ pub(crate) struct FileView {
     pub(crate) view: TextView,
 }
 
+impl FileView {
+    /// A view that has taken nothing.
+    fn new(alloc: Global) -> FileView
+        ensures { HasTaken result.view [] }
+    {
+        FileView {
+            view: TextView::new(alloc),
+        }
+    }
+}
+
+/// A view that has taken nothing, on the heap: a function that has one in its frame is dear to prove.
+pub(crate) fn file_view(alloc: Global) -> Result<Box<FileView>, AllocError>
+    ensures { IfOk result (λ file. HasTaken file.value.view []) }
+{
+    Ok(Box::new(alloc, FileView::new(alloc))?)
+}
+
 impl PieceTaker for FileView {
     ghost use Rattle.trace_view.specs.Views.{HasTaken};
 
@@ -108,10 +126,10 @@ pub(crate) fn show_file<T: Texts, W: Write, E: Write>(
     ensures { Shows (T.text_at texts.now) path.now question.now result (W.contents out.old)
         (W.contents out.new) }
 {
-    let mut file = FileView {
-        view: TextView::new(alloc),
-    };
-    show_text(texts, alloc, path, question, &mut file, out, err)
+    match file_view(alloc) {
+        Ok(mut file) => show_text(texts, alloc, path, question, &mut file, out, err),
+        Err(_) => report_memory(err),
+    }
 }
 
 /// Hands the text of a path to a view that has taken none, and writes what it says.

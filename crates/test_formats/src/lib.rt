@@ -9,6 +9,8 @@ mod growth_tests;
 #[cfg(test)]
 mod inittab_tests;
 #[cfg(test)]
+mod lint_growth_tests;
+#[cfg(test)]
 mod part_tests;
 #[cfg(test)]
 mod respawn_tests;

@@ -1,25 +1,6 @@
 -- The brief form of a sound trace is sound, and init reads the same off it.
-use Rattle.std.proofs.Common.{◌≡◌, refl, sym, ◌∙◌, ap, ap₂, subst, ℕ, Bool, true, false, not, ◌&&◌, ◌||◌, cond, List, [], ◌∷◌}
-use Rattle.std.specs.List.{list_any}
-use Rattle.std.proofs.lemmas.Bool.{false≢true, and_from}
-use Rattle.init_words.specs.declared.entries.Entry.{Entry}
-use Rattle.init_words.specs.declared.orders.OrderKind.TheVariants.{Start, Look, Term, Kill}
-use Rattle.init_words.specs.Ids.{same_id}
-use Rattle.inittab_text.specs.Tables.{is_distinct}
-use Rattle.trace_events.specs.declared.happenings.Happening.TheVariants.{NewTable, Enter, Call, Power, Asked, Hold, Settle, Birth, NoBirth, Death, Reaped, Still, NoLook, Hit, Miss, Told, Clock, Nudge}
+use Rattle.trace_brief.proofs.Words.{◌≡◌, refl, sym, ◌∙◌, ap, ap₂, ℕ, Bool, true, false, not, ◌&&◌, ◌||◌, cond, List, [], ◌∷◌, arith, list_any, Entry, Start, Look, Term, Kill, same_id, is_distinct, NewTable, Enter, Call, Power, Asked, Hold, Settle, Birth, NoBirth, Death, Reaped, Still, NoLook, Hit, Miss, Told, Clock, Nudge, Goal, Event, has_number, is_dead, is_living, is_order, may_come, is_sound, is_lawful, same_id-is, any_same, sound_ind, sound_lawful, is_lasting, lasting_events, in_look, with_telling, with_reading, with_early_reading, with_round, with_event, brief_of}
 use Rattle.trace_events.specs.declared.steps.Step.TheVariants as step
-use Rattle.trace_events.specs.declared.steps.Goal.{Goal}
-use Rattle.trace_events.specs.Event.{Event}
-use Rattle.trace_events.specs.Past.{is_child, has_number, is_dead, is_living, undone_of, unreaped_children}
-use Rattle.trace_events.specs.Wanted.{is_order}
-use Rattle.trace_events.specs.Sound.{may_come, is_sound}
-use Rattle.trace_events.specs.Lawful.{is_lawful}
-use Rattle.init_words.proofs.Same.{same_id-is}
-use Rattle.init_words.proofs.Tests.{any_same}
-use Rattle.trace_laws.proofs.Keeps.{sound_ind}
-use Rattle.trace_laws.proofs.Laws.{sound_lawful}
-use Rattle.trace_brief.specs.Readings.{is_lasting, lasting_events}
-use Rattle.trace_brief.specs.Brief.{in_look, with_telling, with_reading, with_early_reading, with_round, with_event, brief_of}
 use Rattle.trace_brief.proofs.Lasting.{dead_lasting}
 use Rattle.trace_brief.proofs.Alike.{Alike, alike_self, alike_then, alike_cons, same_by, same_unreaped}
 use Rattle.trace_brief.proofs.Shorter.{alike_look, alike_readings, alike_early, alike_rounds}
@@ -29,9 +10,7 @@ dead_same : (past brief : List Event) → Alike past brief → (id : List ℕ) (
 dead_same past brief a id n = same_by (is_dead id n) (dead_lasting id n) past brief a.said
 
 living_same : (past brief : List Event) → Alike past brief → (n : ℕ) → is_living n past ≡ is_living n brief
-living_same past brief a n =
-    any_same (λ child. has_number n child && not (is_dead child.id n past)) (λ child. has_number n child && not (is_dead child.id n brief)) (λ child. ap (λ dead. has_number n child && not dead) (dead_same past brief a child.id n)) (unreaped_children past)
-    ∙ ap (list_any (λ child. has_number n child && not (is_dead child.id n brief))) (same_unreaped past brief a.said)
+living_same past brief a n = grind (arith, any_same, dead_same, same_unreaped)
 
 -- what may come behind a trace may come behind one that is alike
 pub may_alike : (goal : Goal) (happening : Event) (past brief : List Event) → Alike past brief → may_come goal happening past ≡ true → may_come goal happening brief ≡ true
@@ -45,7 +24,7 @@ may_alike goal (Settle level) past brief a h = due_alike goal (step.Settle level
 may_alike goal (Birth id n) past brief a h = sym (ap₂ (λ order children. is_order Start order && not (list_any (has_number n) children)) (a.undone id) (same_unreaped past brief a.said)) ∙ h
 may_alike goal (NoBirth id) past brief a h = sym (ap (is_order Start) (a.undone id)) ∙ h
 may_alike goal (Death n) past brief a h = sym (living_same past brief a n) ∙ h
-may_alike goal (Reaped id n status) past brief a h = sym (ap₂ (λ order children. is_order Look order && list_any (is_child id n) children && is_dead id n past) (a.undone id) (same_unreaped past brief a.said) ∙ ap (λ dead. is_order Look (undone_of id brief) && list_any (is_child id n) (unreaped_children brief) && dead) (dead_same past brief a id n)) ∙ h
+may_alike goal (Reaped id n status) past brief a h = grind (arith, same_unreaped, dead_same)
 may_alike goal (Still id) past brief a h = sym (ap (is_order Look) (a.undone id)) ∙ h
 may_alike goal (NoLook id) past brief a h = sym (ap (is_order Look) (a.undone id)) ∙ h
 may_alike goal (Hit id) past brief a h = sym (ap (λ order. is_order Term order || is_order Kill order) (a.undone id)) ∙ h
@@ -55,9 +34,7 @@ may_alike goal _ past brief a h = refl
 
 -- a happening that may come behind a sound trace makes a sound one
 sound_cons : (goal : Goal) (happening : Event) (past : List Event) → may_come goal happening past ≡ true → is_sound goal past ≡ true → is_sound goal (happening ∷ past) ≡ true
-sound_cons goal happening [] may sound = absurd (false≢true sound)
-sound_cons goal (NewTable table) (x ∷ past) may sound = and_from (may_come goal (NewTable table) (x ∷ past)) (is_sound goal (x ∷ past)) may sound
-sound_cons goal happening (x ∷ past) may sound = and_from (may_come goal happening (x ∷ past)) (is_sound goal (x ∷ past)) may sound
+sound_cons goal happening past may sound = grind arith
 
 -- a sound trace, off which init reads the same
 abbrev Stands : Goal → List Event → List Event → Type 0
@@ -65,10 +42,7 @@ Stands goal past brief = (is_sound goal brief ≡ true) × Alike past brief
 
 -- a look is of one id
 one_id : (goal : Goal) (i j k : List ℕ) (brief : List Event) → i ≡ j → i ≡ k → is_sound goal (Told i ∷ Still j ∷ Asked k Look ∷ brief) ≡ true → Stands goal (Told i ∷ Still j ∷ Asked k Look ∷ brief) brief
-one_id goal i j k brief first second =
-    let P : List ℕ → Type 0 = λ x. is_sound goal (Told i ∷ Still x ∷ Asked i Look ∷ brief) ≡ true → Stands goal (Told i ∷ Still x ∷ Asked i Look ∷ brief) brief in
-    let Q : List ℕ → Type 0 = λ x. is_sound goal (Told i ∷ Still j ∷ Asked x Look ∷ brief) ≡ true → Stands goal (Told i ∷ Still j ∷ Asked x Look ∷ brief) brief in
-    subst Q second (subst P first (alike_look goal i brief))
+one_id goal i j k brief first second = grind (arith, alike_look)
 
 tell_stands : (goal : Goal) (i : List ℕ) (brief : List Event) → is_sound goal (Told i ∷ brief) ≡ true → Stands goal (Told i ∷ brief) (with_telling i brief)
 tell_stands goal i (Still j ∷ Asked k Look ∷ brief) h = split (same_id i j) (same_id i k) (in_look brief) refl refl where
@@ -118,8 +92,7 @@ brief_stands goal past h = sound_ind goal (λ before. Stands goal before (brief_
 same_tell : {X : Type 0} (f : List Event → X) → ((i j k : List ℕ) (past : List Event) → f (Told i ∷ Still j ∷ Asked k Look ∷ past) ≡ f past) → (i : List ℕ) (brief : List Event) → f (Told i ∷ brief) ≡ f (with_telling i brief)
 same_tell f look i (Still j ∷ Asked k Look ∷ brief) = split (same_id i j && same_id i k && not (in_look brief)) where
   split : (b : Bool) → f (Told i ∷ Still j ∷ Asked k Look ∷ brief) ≡ f (cond b brief (Told i ∷ Still j ∷ Asked k Look ∷ brief))
-  split true = look i j k brief
-  split false = refl
+  split b = grind arith
 same_tell f look i brief = refl
 
 said_read : (reading : ℕ) (brief : List Event) → lasting_events brief ≡ lasting_events (with_reading reading brief)

@@ -1,26 +1,6 @@
 -- What is read off the happenings other than looks, tellings, readings of the clock and rounds alone.
-use Rattle.std.proofs.Common.{◌≡◌, refl, ◌∙◌, ap, ℕ, ◌==◌, not, ◌&&◌, ◌||◌, List, [], ◌∷◌, ◌++◌, filter}
-use Rattle.std.specs.List.{list_any}
-use Rattle.init_words.specs.declared.entries.Entry.{Entry}
-use Rattle.init_words.specs.declared.levels.Letter.{Letter}
-use Rattle.init_words.specs.declared.levels.Mark.TheVariants.{OnCall}
-use Rattle.init_words.specs.declared.stages.Stage.TheVariants.{Boot}
-use Rattle.init_words.specs.declared.orders.OrderKind.TheVariants.{Start, Look}
-use Rattle.init_words.specs.declared.orders.PowerKind.{PowerKind}
-use Rattle.init_words.specs.Ids.{same_id}
-use Rattle.init_words.specs.Actions.{is_called_by, is_ondemand, stays_called}
-use Rattle.init_words.specs.Levels.{names, same_letter}
-use Rattle.init_words.specs.Orders.{same_power}
-use Rattle.inittab_text.specs.Tables.{has_id, ids_of}
+use Rattle.trace_brief.proofs.Words.{◌≡◌, refl, ◌∙◌, ap, ℕ, ◌==◌, not, ◌&&◌, ◌||◌, List, [], ◌∷◌, filter, arith, Entry, Letter, OnCall, Boot, Start, Look, PowerKind, same_id, is_called_by, is_ondemand, stays_called, names, same_letter, same_power, NewTable, NotRead, Enter, Call, Power, Asked, Settle, Birth, Death, Reaped, Got, Handed, Goal, Event, table_of, stage_of, grace_of, is_child, unreaped_children, is_dead, brings, is_asked, is_called, starts_in, is_level, goal_of, wants_reexec, wants_reread, heard_level, keeps_power, keeps_letter, was_booted, left_ids, is_announced, lasting_events}
 use Rattle.initctl_frame.specs.declared.requests.HeardRequest.TheVariants as got
-use Rattle.trace_events.specs.declared.happenings.Happening.TheVariants.{NewTable, NotRead, Enter, Call, Power, Asked, Settle, Birth, Death, Reaped, Got, Handed}
-use Rattle.trace_events.specs.declared.steps.Goal.{Goal}
-use Rattle.trace_events.specs.Event.{Event}
-use Rattle.trace_events.specs.Past.{table_of, stage_of, grace_of, is_child, unreaped_children, is_dead}
-use Rattle.trace_events.specs.Wanted.{brings, is_asked, is_called, starts_in}
-use Rattle.trace_events.specs.Wishes.{is_level, goal_of, wants_reexec, wants_reread, heard_level, keeps_power, keeps_letter, was_booted}
-use Rattle.trace_events.specs.Due.{left_ids, is_announced}
-use Rattle.trace_brief.specs.Readings.{lasting_events}
 
 pub table_lasting : (past : List Event) → table_of past ≡ table_of (lasting_events past)
 table_lasting [] = refl
@@ -131,6 +111,6 @@ announced_lasting (_ ∷ past) = announced_lasting past
 
 pub left_lasting : (past : List Event) → left_ids past ≡ left_ids (lasting_events past)
 left_lasting [] = refl
-left_lasting (NewTable table ∷ past) = ap (λ before. filter (λ id. not (list_any (has_id id) table)) (ids_of before ++ left_ids past)) (table_lasting past) ∙ ap (λ ids. filter (λ id. not (list_any (has_id id) table)) (ids_of (table_of (lasting_events past)) ++ ids)) (left_lasting past)
+left_lasting (NewTable table ∷ past) = grind (arith, table_lasting, left_lasting past)
 left_lasting (Asked i Look ∷ past) = left_lasting past
 left_lasting (_ ∷ past) = left_lasting past

@@ -7,3 +7,4 @@ pub mod Rows
 pub mod SameDues
 pub mod Short
 pub mod Shorter
+pub mod Words

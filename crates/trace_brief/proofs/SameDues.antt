@@ -1,36 +1,6 @@
 -- What is due behind a trace is due behind one that is alike.
-use Rattle.std.proofs.Common.{◌≡◌, refl, sym, ◌∙◌, ap, ap₂, ℕ, ◌+◌, ◌-◌, Bool, true, false, not, ◌&&◌, ◌||◌, cond, nat_lt, nat_le, List, [], ◌∷◌, ◌++◌, filter, length, Option, Some, None, is_none, is_some}
-use Rattle.std.specs.List.{list_any, list_all}
-use Rattle.std.proofs.lemmas.Bool.{false≢true, and_parts, and_from, or_left, or_right}
-use Rattle.std.proofs.lemmas.List.Folds.{list_any-append}
-use Rattle.respawn_limit.specs.declared.TheConstants.{HOLD, STARTS, WINDOW}
-use Rattle.init_words.specs.declared.entries.Entry.{Entry}
-use Rattle.init_words.specs.declared.levels.Level.{Level}
-use Rattle.init_words.specs.declared.levels.Level.TheVariants.{S}
-use Rattle.init_words.specs.declared.levels.Letter.{Letter}
-use Rattle.init_words.specs.declared.levels.Mark.TheVariants.{At}
-use Rattle.init_words.specs.declared.stages.Stage.{Stage}
-use Rattle.init_words.specs.declared.stages.Stage.TheVariants.{Sysinit, Boot, Run}
-use Rattle.init_words.specs.declared.orders.OrderKind.TheVariants.{Start, Look}
-use Rattle.init_words.specs.declared.orders.PowerKind.{PowerKind}
-use Rattle.init_words.specs.Levels.{names, same_level}
-use Rattle.init_words.specs.Orders.{same_ask}
-use Rattle.init_words.specs.Actions.{is_limited, wanted_by, served_by}
-use Rattle.init_words.specs.Entries.{waited_of}
-use Rattle.inittab_text.specs.Tables.{ids_of}
-use Rattle.trace_events.specs.declared.steps.Step.{Step}
+use Rattle.trace_brief.proofs.Words.{◌≡◌, refl, sym, ◌∙◌, ap, ap₂, ℕ, ◌+◌, ◌-◌, Bool, true, not, ◌&&◌, cond, nat_lt, nat_le, List, [], ◌∷◌, ◌++◌, filter, length, Option, Some, None, arith, list_any, list_all, list_any-append, HOLD, STARTS, WINDOW, Entry, Level, Letter, Stage, Sysinit, Run, Look, PowerKind, same_ask, waited_of, Step, Goal, Event, table_of, stage_of, Child, is_of, has_child, kept_children, known_children, Open, is_quiet, is_idle, is_wanted, is_owed, is_excluded, stop_due, is_held, is_full, is_level, in_run, goal_of, wants_reexec, wants_reread, heard_level, other_than, level_wish, keeps_power, keeps_letter, powers, letters, wish_stands, step_if, steps_if, none_excluded, due_first, due_reexec, due_reread, due_level, power_steps, letter_steps, due_news, record_ids, stop_step, stops_of, stops_among, due_stops, can_start, start_steps, starts_among, due_starts, due_stage, is_served, is_settled, settle_step, due_settle, can_look, looks_among, due_looks, same_step, is_due, same_tests, any_same, same_has, same_any}
 use Rattle.trace_events.specs.declared.steps.Step.TheVariants as step
-use Rattle.trace_events.specs.declared.steps.Goal.{Goal}
-use Rattle.trace_events.specs.Event.{Event}
-use Rattle.trace_events.specs.Past.{table_of, stage_of, grace_of, time_of, Child, is_of, has_child, kept_children, known_children, open_of, Open, is_quiet, is_idle}
-use Rattle.trace_events.specs.Wanted.{starts_in, starts_now, is_order, is_asked, is_called, nothing_runs, is_wanted, is_owed, is_excluded}
-use Rattle.trace_events.specs.Spells.{spell_hits, is_missed, stop_by, stop_due}
-use Rattle.trace_events.specs.Timing.{is_held, is_full}
-use Rattle.trace_events.specs.Wishes.{is_level, in_run, goal_of, wants_reexec, wants_reread, heard_level, other_than, level_wish, keeps_power, keeps_letter, powers, letters, keeps_news, wish_stands, was_booted}
-use Rattle.trace_events.specs.Due.{step_if, steps_if, none_excluded, due_first, due_reexec, due_reread, enter_level, due_level, power_steps, letter_steps, due_news, left_ids, record_ids, stop_step, stops_of, stops_among, due_stops, can_start, start_steps, starts_among, due_starts, is_over, next_stage, due_stage, is_announced, is_served, is_settled, settle_step, due_settle, wants_look, can_look, looks_among, due_looks, same_step, is_due}
-use Rattle.init_words.proofs.Tests.{same_tests, or_either, any_same}
-use Rattle.trace_laws.proofs.Orders.{same_has}
-use Rattle.trace_laws.proofs.Settling.{same_any}
 use Rattle.trace_brief.proofs.Lasting.{grace_lasting, asked_lasting, called_lasting, goal_lasting, reexec_lasting, reread_lasting, heard_lasting, power_lasting, letter_lasting, booted_lasting, announced_lasting, left_lasting}
 use Rattle.trace_brief.proofs.Alike.{Alike, same_by, same_table, same_stage, same_excluded}
 
@@ -53,20 +23,13 @@ pub excluded_any : (past brief : List Event) → Alike past brief → (xs ys : L
 excluded_any past brief a xs ys same = any_same (is_excluded past) (is_excluded brief) (same_excluded past brief a.said) xs ∙ same_tests (list_any (is_excluded brief) xs) (list_any (is_excluded brief) ys) (same_any (is_excluded brief) xs ys same) (same_any (is_excluded brief) ys xs (λ id. sym (same id)))
 
 wanted_same : (past brief : List Event) → Alike past brief → (e : Entry) → is_wanted e past ≡ is_wanted e brief
-wanted_same past brief a e =
-    ap₂ (λ now idle. starts_in e now && wanted_by e.act idle (not (is_asked e.id past)) (is_called e past)) (same_stage past brief a.said) (ap₂ (λ child order. not child && not (is_order Start order)) (has_kept past brief a e.id) (a.orders e.id))
-    ∙ ap₂ (λ asked called. starts_now e brief && wanted_by e.act (nothing_runs e.id brief) (not asked) called) (same_by (is_asked e.id) (asked_lasting e.id) past brief a.said) (same_by (is_called e) (called_lasting e) past brief a.said)
+wanted_same past brief a e = grind (arith, same_stage, has_kept, same_by, asked_lasting, called_lasting)
 
 pub owed_same : (past brief : List Event) → Alike past brief → (e : Entry) → is_owed e past ≡ is_owed e brief
-owed_same past brief a e =
-    ap₂ (λ child order. waited_of e && (child || is_order Start order || is_wanted e past)) (has_kept past brief a e.id) (a.orders e.id)
-    ∙ ap (λ wanted. waited_of e && (has_child e.id (kept_children brief) || is_order Start (open_of e.id brief) || wanted)) (wanted_same past brief a e)
+owed_same past brief a e = grind (arith, has_kept, wanted_same)
 
 pub stop_same : (past brief : List Event) → Alike past brief → (child : Child) → stop_due child past ≡ stop_due child brief
-stop_same past brief a child =
-    ap₂ (λ out missed. cond (out && not missed) (stop_by (grace_of past) (time_of past) (spell_hits child past)) None) (same_excluded past brief a.said child) (a.missed child)
-    ∙ ap₂ (λ grace hits. cond (is_excluded brief child && not (is_missed child brief)) (stop_by grace (time_of past) hits) None) (same_by grace_of grace_lasting past brief a.said) (a.spell child)
-    ∙ ap (λ now. cond (is_excluded brief child && not (is_missed child brief)) (stop_by (grace_of brief) now (spell_hits child brief)) None) a.time
+stop_same past brief a child = grind (arith, same_excluded, same_by, grace_lasting)
 
 pub quiet_same : (past brief : List Event) → Alike past brief → is_quiet past ≡ is_quiet brief
 quiet_same past brief a = ap (λ orders. not (list_any (λ (order : Open). not (same_ask Look order.ask)) orders)) a.listed
@@ -83,14 +46,8 @@ power_same past brief a kind = same_by (keeps_power kind) (power_lasting kind) p
 letter_same : (past brief : List Event) → Alike past brief → (letter : Letter) → keeps_letter letter past ≡ keeps_letter letter brief
 letter_same past brief a letter = same_by (keeps_letter letter) (letter_lasting letter) past brief a.said
 
-news_same : (past brief : List Event) → Alike past brief → keeps_news past ≡ keeps_news brief
-news_same past brief a = ap₂ (λ b c. b || c) (any_same (λ kind. keeps_power kind past) (λ kind. keeps_power kind brief) (power_same past brief a) powers) (any_same (λ letter. keeps_letter letter past) (λ letter. keeps_letter letter brief) (letter_same past brief a) letters)
-
 stands_same : (past brief : List Event) → Alike past brief → wish_stands past ≡ wish_stands brief
-stands_same past brief a =
-    ap₂ (λ reexec reread. reexec || reread || is_some (level_wish past) || in_run (stage_of past) && keeps_news past) (same_by wants_reexec reexec_lasting past brief a.said) (same_by wants_reread reread_lasting past brief a.said)
-    ∙ ap₂ (λ wish now. wants_reexec brief || wants_reread brief || is_some wish || in_run now && keeps_news past) (wish_same past brief a) (same_stage past brief a.said)
-    ∙ ap (λ news. wants_reexec brief || wants_reread brief || is_some (level_wish brief) || in_run (stage_of brief) && news) (news_same past brief a)
+stands_same past brief a = grind (arith, same_by, reexec_lasting, reread_lasting, wish_same, same_stage, any_same, power_same, letter_same)
 
 goal_same : (past brief : List Event) → Alike past brief → (opening : Goal) → goal_of opening past ≡ goal_of opening brief
 goal_same past brief a opening = same_by (goal_of opening) (goal_lasting opening) past brief a.said
@@ -110,15 +67,8 @@ reexec_same past brief a = ap₂ (λ quiet wants. step_if (quiet && wants) step.
 reread_same : (past brief : List Event) → Alike past brief → due_reread past ≡ due_reread brief
 reread_same past brief a = ap₂ (λ quiet wants. step_if (quiet && wants) step.Reread) (quiet_same past brief a) (same_by wants_reread reread_lasting past brief a.said)
 
--- 4
-enter_by : (o : Option Goal) (past brief : List Event) → was_booted past ≡ was_booted brief → enter_level o past ≡ enter_level o brief
-enter_by None past brief same = refl
-enter_by (Some wish) past brief same = ap (λ been. step.Enter (cond (not (same_level wish.level S) && not been) Boot (Run wish.level)) wish.grace ∷ []) same
-
 level_same : (past brief : List Event) → Alike past brief → due_level past ≡ due_level brief
-level_same past brief a =
-    ap₂ (λ quiet wish. steps_if quiet (enter_level wish past)) (quiet_same past brief a) (wish_same past brief a)
-    ∙ ap (steps_if (is_quiet brief)) (enter_by (level_wish brief) past brief (same_by was_booted booted_lasting past brief a.said))
+level_same past brief a = grind (arith, quiet_same, wish_same, same_by, booted_lasting)
 
 -- 5
 powers_by : (kinds : List PowerKind) (past brief : List Event) → Alike past brief → power_steps kinds past ≡ power_steps kinds brief
@@ -136,43 +86,26 @@ calls_same past brief a =
 
 -- 6
 records_same : (past brief : List Event) → Alike past brief → record_ids past ≡ record_ids brief
-records_same past brief a =
-    ap₂ (λ table left. ids_of table ++ filter (λ id. has_child id (known_children past)) left) (same_table past brief a.said) (same_by left_ids left_lasting past brief a.said)
-    ∙ ap (λ left. ids_of (table_of brief) ++ left) (filter_alike (λ id. has_child id (known_children past)) (λ id. has_child id (known_children brief)) (has_known past brief a) (left_ids brief))
+records_same past brief a = grind (arith, same_table, same_by, left_lasting, filter_alike, has_known)
 
 stops_filtered : (id : List ℕ) (children : List Child) (past : List Event) → stops_of id children past ≡ stops_of id (filter (is_of id) children) past
 stops_filtered id [] past = refl
-stops_filtered id (child ∷ children) past = split (is_of id child) refl (stops_filtered id children past) where
-  own : List Step
-  own = stop_step id (stop_due child past)
-
-  split : (b : Bool) → is_of id child ≡ b → stops_of id children past ≡ stops_of id (filter (is_of id) children) past → (steps_if b own ++ stops_of id children past) ≡ stops_of id (cond b (child ∷ filter (is_of id) children) (filter (is_of id) children)) past
-  split true is rest = ap (λ more. steps_if true own ++ more) rest ∙ ap (λ b. steps_if b own ++ stops_of id (filter (is_of id) children) past) (sym is)
-  split false is rest = rest
+stops_filtered id (child ∷ children) past = grind (arith, stops_filtered id children past)
 
 stops_by : (id : List ℕ) (children : List Child) (past brief : List Event) → Alike past brief → stops_of id children past ≡ stops_of id children brief
 stops_by id [] past brief a = refl
 stops_by id (child ∷ children) past brief a = ap₂ (λ order rest. steps_if (is_of id child) (stop_step id order) ++ rest) (stop_same past brief a child) (stops_by id children past brief a)
 
-stops_known : (id : List ℕ) (past brief : List Event) → Alike past brief → stops_of id (known_children past) past ≡ stops_of id (known_children brief) brief
-stops_known id past brief a = stops_filtered id (known_children past) past ∙ ap (λ children. stops_of id children past) (a.known id) ∙ stops_by id (filter (is_of id) (known_children brief)) past brief a ∙ sym (stops_filtered id (known_children brief) brief)
-
 stops_each : (ids : List (List ℕ)) (past brief : List Event) → Alike past brief → stops_among ids past ≡ stops_among ids brief
 stops_each [] past brief a = refl
-stops_each (id ∷ ids) past brief a =
-    ap₂ (λ order steps. steps_if (is_none order) steps ++ stops_among ids past) (a.orders id) (stops_known id past brief a)
-    ∙ ap (λ rest. steps_if (is_none (open_of id brief)) (stops_of id (known_children brief) brief) ++ rest) (stops_each ids past brief a)
+stops_each (id ∷ ids) past brief a = grind (arith, stops_filtered, stops_by, stops_each ids past brief)
 
 stops_same : (past brief : List Event) → Alike past brief → due_stops past ≡ due_stops brief
-stops_same past brief a =
-    ap₂ (λ stands ids. steps_if (not stands) (stops_among ids past)) (stands_same past brief a) (records_same past brief a)
-    ∙ ap (steps_if (not (wish_stands brief))) (stops_each (record_ids brief) past brief a)
+stops_same past brief a = grind (arith, stands_same, records_same, stops_each)
 
 -- 7
 can_same : (past brief : List Event) → Alike past brief → (e : Entry) → can_start e past ≡ can_start e brief
-can_same past brief a e =
-    ap₂ (λ wanted child. wanted && not child && is_none (open_of e.id past)) (wanted_same past brief a e) (has_kept past brief a e.id)
-    ∙ ap (λ order. is_wanted e brief && not (has_child e.id (kept_children brief)) && is_none order) (a.orders e.id)
+can_same past brief a e = grind (arith, wanted_same, has_kept)
 
 pub held_same : (past brief : List Event) → Alike past brief → (id : List ℕ) → is_held id past ≡ is_held id brief
 held_same past brief a id = ap₂ (λ now times. list_any (λ began. nat_lt now (began + HOLD)) times) a.time (a.holds id)
@@ -181,43 +114,28 @@ pub full_same : (past brief : List Event) → Alike past brief → (id : List �
 full_same past brief a id = ap₂ (λ now times. nat_le STARTS (length (filter (λ started. nat_lt (now - started) WINDOW) times))) a.time (a.starts id)
 
 start_same : (past brief : List Event) → Alike past brief → (e : Entry) → start_steps e past ≡ start_steps e brief
-start_same past brief a e = ap₂ (λ held full. cond (is_limited e.act) (steps_if (not held) (cond full (step.Hold e.id) (step.Order e.id Start) ∷ [])) (step.Order e.id Start ∷ [])) (held_same past brief a e.id) (full_same past brief a e.id)
+start_same past brief a e = grind arith
 
 starts_by : (es : List Entry) (past brief : List Event) → Alike past brief → starts_among es past ≡ starts_among es brief
 starts_by [] past brief a = refl
-starts_by (e ∷ es) past brief a =
-    ap₂ (λ can steps. steps_if can steps ++ cond (is_owed e past) [] (starts_among es past)) (can_same past brief a e) (start_same past brief a e)
-    ∙ ap₂ (λ owed rest. steps_if (can_start e brief) (start_steps e brief) ++ cond owed [] rest) (owed_same past brief a e) (starts_by es past brief a)
+starts_by (e ∷ es) past brief a = grind (arith, can_same, start_same, owed_same, starts_by es past brief)
 
 none_same : (past brief : List Event) → Alike past brief → none_excluded past ≡ none_excluded brief
 none_same past brief a = ap not (excluded_any past brief a (kept_children past) (kept_children brief) a.kept)
 
 starts_same : (past brief : List Event) → Alike past brief → due_starts past ≡ due_starts brief
-starts_same past brief a =
-    ap₂ (λ stands none. steps_if (not stands && none) (starts_among (table_of past) past)) (stands_same past brief a) (none_same past brief a)
-    ∙ ap (λ table. steps_if (not (wish_stands brief) && none_excluded brief) (starts_among table past)) (same_table past brief a.said)
-    ∙ ap (steps_if (not (wish_stands brief) && none_excluded brief)) (starts_by (table_of brief) past brief a)
+starts_same past brief a = grind (arith, stands_same, none_same, same_table, starts_by)
 
 -- 8
 ended_same : (past brief : List Event) → Alike past brief → (e : Entry) → (not (is_wanted e past) && not (waited_of e && has_child e.id (kept_children past))) ≡ (not (is_wanted e brief) && not (waited_of e && has_child e.id (kept_children brief)))
 ended_same past brief a e = ap₂ (λ wanted child. not wanted && not (waited_of e && child)) (wanted_same past brief a e) (has_kept past brief a e.id)
 
-over_same : (past brief : List Event) → Alike past brief → is_over past ≡ is_over brief
-over_same past brief a =
-    ap₂ (λ stands quiet. not stands && quiet && none_excluded past && list_all (λ e. not (is_wanted e past) && not (waited_of e && has_child e.id (kept_children past))) (table_of past)) (stands_same past brief a) (quiet_same past brief a)
-    ∙ ap₂ (λ none table. not (wish_stands brief) && is_quiet brief && none && list_all (λ e. not (is_wanted e past) && not (waited_of e && has_child e.id (kept_children past))) table) (none_same past brief a) (same_table past brief a.said)
-    ∙ ap (λ ended. not (wish_stands brief) && is_quiet brief && none_excluded brief && ended) (all_same (λ e. not (is_wanted e past) && not (waited_of e && has_child e.id (kept_children past))) (λ e. not (is_wanted e brief) && not (waited_of e && has_child e.id (kept_children brief))) (ended_same past brief a) (table_of brief))
-
 stage_same : (goal : Goal) (past brief : List Event) → Alike past brief → due_stage goal past ≡ due_stage goal brief
-stage_same goal past brief a =
-    ap₂ (λ over now. steps_if over (next_stage (goal_of goal past) now)) (over_same past brief a) (same_stage past brief a.said)
-    ∙ ap (λ g. steps_if (is_over brief) (next_stage g (stage_of brief))) (goal_same past brief a goal)
+stage_same goal past brief a = grind (arith, stands_same, quiet_same, none_same, same_table, all_same, ended_same, same_stage, goal_same)
 
 -- 9
 served_same : (level : Level) (past brief : List Event) → Alike past brief → (e : Entry) → is_served level (known_children past) past e ≡ is_served level (known_children brief) brief e
-served_same level past brief a e =
-    ap₂ (λ owed asked. not owed && (not (names (At level) e.levels.items) || served_by e.act asked (has_child e.id (known_children past) || is_held e.id past))) (owed_same past brief a e) (same_by (is_asked e.id) (asked_lasting e.id) past brief a.said)
-    ∙ ap₂ (λ child held. not (is_owed e brief) && (not (names (At level) e.levels.items) || served_by e.act (is_asked e.id brief) (child || held))) (has_known past brief a e.id) (held_same past brief a e.id)
+served_same level past brief a e = grind (arith, owed_same, same_by, asked_lasting, has_known, held_same)
 
 settled_same : (level : Level) (past brief : List Event) → Alike past brief → is_settled level (known_children past) past ≡ is_settled level (known_children brief) brief
 settled_same level past brief a =
@@ -231,24 +149,17 @@ settle_by (Some (Run level)) past brief a = ap (λ settled. step_if settled (ste
 settle_by (Some _) past brief a = refl
 
 settle_same : (past brief : List Event) → Alike past brief → due_settle past ≡ due_settle brief
-settle_same past brief a =
-    ap₂ (λ stands idle. steps_if (not stands && idle && not (is_announced past)) (settle_step (stage_of past) past)) (stands_same past brief a) (idle_same past brief a)
-    ∙ ap₂ (λ announced now. steps_if (not (wish_stands brief) && is_idle brief && not announced) (settle_step now past)) (same_by is_announced announced_lasting past brief a.said) (same_stage past brief a.said)
-    ∙ ap (steps_if (not (wish_stands brief) && is_idle brief && not (is_announced brief))) (settle_by (stage_of brief) past brief a)
+settle_same past brief a = grind (arith, stands_same, idle_same, same_by, announced_lasting, same_stage, settle_by)
 
 -- 10: each look that is due behind the one is due behind the other
 look_more : (past brief : List Event) → Alike past brief → (id : List ℕ) → can_look id past ≡ true → can_look id brief ≡ true
-look_more past brief a id h =
-    let all = and_parts (has_child id (known_children past) && is_none (open_of id past)) (wants_look id past) h in
-    let two = and_parts (has_child id (known_children past)) (is_none (open_of id past)) all.0 in
-    and_from (has_child id (known_children brief) && is_none (open_of id brief)) (wants_look id brief) (and_from (has_child id (known_children brief)) (is_none (open_of id brief)) (sym (has_known past brief a id) ∙ two.0) (ap is_none (sym (a.orders id)) ∙ two.1)) (a.looks id all.1)
+look_more past brief a id h = grind (arith, has_known)
 
 step_more : (p : Step → Bool) (step : Step) (b c : Bool) → (b ≡ true → c ≡ true) → list_any p (step_if b step) ≡ true → list_any p (step_if c step) ≡ true
-step_more p step false c more h = absurd (false≢true h)
-step_more p step true c more h = ap (λ b. list_any p (step_if b step)) (more refl) ∙ h
+step_more p step b c more h = grind arith
 
 any_more : (p : Step → Bool) (vs bs xs ys : List Step) → (list_any p vs ≡ true → list_any p bs ≡ true) → (list_any p xs ≡ true → list_any p ys ≡ true) → list_any p (vs ++ xs) ≡ true → list_any p (bs ++ ys) ≡ true
-any_more p vs bs xs ys first rest h = list_any-append p bs ys ∙ or_either (list_any p vs) (list_any p xs) (sym (list_any-append p vs xs) ∙ h) (λ here. or_left (list_any p bs) (list_any p ys) (first here)) (λ there. or_right (list_any p bs) (list_any p ys) (rest there))
+any_more p vs bs xs ys first rest h = grind (arith, list_any-append)
 
 looks_more : (p : Step → Bool) (ids : List (List ℕ)) (past brief : List Event) → Alike past brief → list_any p (looks_among ids past) ≡ true → list_any p (looks_among ids brief) ≡ true
 looks_more p [] past brief a h = h

@@ -1,18 +1,6 @@
 -- The unreaped children are the known ones, less those whose end is not told, with those whose birth is not told.
-use Rattle.std.proofs.Common.{◌≡◌, refl, sym, ◌∙◌, ap, ℕ, Bool, true, false, not, ◌&&◌, ◌||◌, ◌==◌, List, [], ◌∷◌, ◌++◌, filter}
-use Rattle.std.specs.List.{list_any}
-use Rattle.std.proofs.lemmas.Bool.{and_parts, and_from, or_parts, not_from_true, eqb-true, eq-eqb}
-use Rattle.init_words.specs.declared.orders.OrderKind.TheVariants.{Look}
-use Rattle.init_words.specs.Ids.{same_id}
-use Rattle.trace_events.specs.declared.happenings.Happening.TheVariants.{Birth, NoBirth, Reaped, Still, NoLook, Hit, Miss, Told}
-use Rattle.trace_events.specs.declared.steps.Goal.{Goal}
-use Rattle.trace_events.specs.Event.{Event}
-use Rattle.trace_events.specs.Past.{Child, is_of, is_child, undone_of, is_untold, unreaped_children, known_children}
-use Rattle.trace_events.specs.Wanted.{is_order}
-use Rattle.trace_events.specs.Sound.{may_come, is_sound}
-use Rattle.trace_events.specs.Agreement.{has_untold_birth, has_untold_end, is_unreaped, is_known, Agrees}
-use Rattle.init_words.proofs.Same.{same_id-is, same_id-from}
-use Rattle.init_words.proofs.Tests.{or_true, falsely, any_within, any_without, not_from}
+use Rattle.trace_laws.proofs.Words.{◌≡◌, refl, sym, ◌∙◌, ap, ℕ, Bool, true, false, not, ◌&&◌, ◌||◌, ◌==◌, List, [], ◌∷◌, ◌++◌, filter, arith, list_any, and_parts, or_parts, eqb-true, Look, same_id, Birth, NoBirth, Reaped, Still, NoLook, Hit, Miss, Told, Goal, Event, Child, is_of, is_child, undone_of, is_untold, unreaped_children, known_children, is_order, may_come, is_sound, has_untold_birth, has_untold_end, is_unreaped, is_known, Agrees, same_id-is, same_id-from, any_within, any_without}
+use Rattle.std.proofs.lemmas.Bool.{eq-eqb}
 use Rattle.trace_laws.proofs.Tests.{is_order-is}
 use Rattle.trace_laws.proofs.Orders.{told_same, told_other}
 use Rattle.trace_laws.proofs.Keeps.{look_undone, sound_holds, sound_ind}
@@ -21,13 +9,8 @@ use Rattle.trace_laws.proofs.Births.{at_moment}
 -- where nothing of the id is untold, no birth of it is
 born_told : (id : List ℕ) (n : ℕ) (past : List Event) → is_untold id past ≡ false → has_untold_birth id n past ≡ false
 born_told id n [] h = refl
-born_told id n (Told i ∷ past) h = at_id (same_id id i) h (born_told id n past) where
-  at_id : (b : Bool) → (not b && is_untold id past) ≡ false → (is_untold id past ≡ false → has_untold_birth id n past ≡ false) → (not b && has_untold_birth id n past) ≡ false
-  at_id true h rest = refl
-  at_id false h rest = rest h
-born_told id n (Birth i m ∷ past) h =
-    let parts = or_parts (same_id id i) (is_untold id past) h in
-    rw parts.0 (born_told id n past parts.1)
+born_told id n (Told i ∷ past) h = grind (arith, born_told id n past)
+born_told id n (Birth i m ∷ past) h = grind (arith, born_told id n past)
 born_told id n (NoBirth i ∷ past) h = born_told id n past (or_parts (same_id id i) (is_untold id past) h).1
 born_told id n (Reaped i m status ∷ past) h = born_told id n past (or_parts (same_id id i) (is_untold id past) h).1
 born_told id n (Still i ∷ past) h = born_told id n past (or_parts (same_id id i) (is_untold id past) h).1
@@ -38,40 +21,21 @@ born_told id n (_ ∷ past) h = born_told id n past h
 
 -- the pair of id and number is among the children of the id
 same_pair : (id : List ℕ) (n : ℕ) (xs ys : List Child) → filter (is_of id) xs ≡ filter (is_of id) ys → list_any (is_child id n) xs ≡ list_any (is_child id n) ys
-same_pair id n xs ys same = sym (any_within (is_child id n) (is_of id) own xs) ∙ ap (list_any (is_child id n)) same ∙ any_within (is_child id n) (is_of id) own ys where
-  own : (child : Child) → is_child id n child ≡ true → is_of id child ≡ true
-  own child h = (and_parts (same_id id child.id) (n == child.number) h).0
+same_pair id n xs ys same = grind (arith, any_within)
 
 -- accounts in plain tests
 born_agrees : (born u k e b : Bool) → u ≡ (k && not e || b) → (born || u) ≡ (k && not e || (born || b))
-born_agrees true u k e b h = sym (or_true (k && not e))
-born_agrees false u k e b h = h
+born_agrees born u k e b h = grind arith
 
 reaped_agrees : (x u k e b : Bool) → u ≡ (k && not e || b) → (x ≡ true → b ≡ false) → (not x && u) ≡ (k && not (x || e) || b)
-reaped_agrees true u true e b h none = sym (none refl)
-reaped_agrees true u false e b h none = sym (none refl)
-reaped_agrees false u k e b h none = h
+reaped_agrees x u k e b h none = grind arith
 
 told_agrees : (u : Bool) → u ≡ (u && true || false)
-told_agrees true = refl
-told_agrees false = refl
+told_agrees u = grind arith
 
 -- a reaping takes just its own pair away
 pub reaped_pair : (id i : List ℕ) (n m : ℕ) (xs : List Child) (b : Bool) → (same_id id i && n == m) ≡ b → list_any (is_child id n) (filter (λ child. not (is_child i m child)) xs) ≡ (not b && list_any (is_child id n) xs)
-reaped_pair id i n m xs true same = any_without (is_child id n) (λ child. not (is_child i m child)) gone xs where
-  parts : (same_id id i ≡ true) × ((n == m) ≡ true)
-  parts = and_parts (same_id id i) (n == m) same
-
-  gone : (child : Child) → is_child id n child ≡ true → not (is_child i m child) ≡ false
-  gone child own = not_from_true (is_child i m child) (ap (λ x. is_child x m child) (sym (same_id-is id i parts.0)) ∙ ap (λ x. is_child id x child) (sym (eqb-true n m parts.1)) ∙ own)
-reaped_pair id i n m xs false differ = any_within (is_child id n) (λ child. not (is_child i m child)) stays xs where
-  stays : (child : Child) → is_child id n child ≡ true → not (is_child i m child) ≡ true
-  stays child own = not_from (is_child i m child) (falsely (is_child i m child) (same_id id i && n == m) both differ) where
-    both : is_child i m child ≡ true → (same_id id i && n == m) ≡ true
-    both other =
-        let mine = and_parts (same_id id child.id) (n == child.number) own in
-        let its = and_parts (same_id i child.id) (m == child.number) other in
-        and_from (same_id id i) (n == m) (same_id-from id i (same_id-is id child.id mine.0 ∙ sym (same_id-is i child.id its.0))) (eq-eqb n m (eqb-true n child.number mine.1 ∙ sym (eqb-true m child.number its.1)))
+reaped_pair id i n m xs b same = grind (arith, any_without, same_id-is, eqb-true, any_within, same_id-from, eq-eqb)
 
 sound_agrees : (goal : Goal) (past : List Event) → is_sound goal past ≡ true → (id : List ℕ) (n : ℕ) → Agrees id n past
 sound_agrees goal past h = sound_ind goal (λ before. (id : List ℕ) (n : ℕ) → Agrees id n before) (λ table distinct id n. refl) next past h where

@@ -1,17 +1,5 @@
 -- What every sound trace keeps of the children: none is born out of place, and no id has two.
-use Rattle.std.proofs.Common.{◌≡◌, ◌≤◌, refl, sym, ◌∙◌, ap, ℕ, Bool, true, false, not, cond, List, [], ◌∷◌, ◌++◌, filter, length, lit≤, le_trans, arith}
-use Rattle.std.specs.List.{list_any}
-use Rattle.std.proofs.lemmas.Bool.{false≢true, and_parts}
-use Rattle.init_words.specs.Ids.{same_id}
-use Rattle.trace_events.specs.declared.happenings.Happening.TheVariants.{NewTable, Birth, Reaped}
-use Rattle.trace_events.specs.declared.steps.Goal.{Goal}
-use Rattle.trace_events.specs.Event.{Event}
-use Rattle.trace_events.specs.Past.{Child, is_of, is_child, has_child, newborn, unreaped_children, kept_children}
-use Rattle.trace_events.specs.Wanted.{is_owed_before, is_excluded}
-use Rattle.trace_events.specs.Sound.{may_come, is_sound}
-use Rattle.trace_events.specs.Lawful.{is_alone, is_placed, is_in_turn, are_spared}
-use Rattle.init_words.proofs.Same.{same_id-is}
-use Rattle.init_words.proofs.Tests.{falsely, not_from, filter_none}
+use Rattle.trace_laws.proofs.Words.{◌≡◌, ◌≤◌, refl, sym, ◌∙◌, ap, ℕ, Bool, true, false, cond, List, [], ◌∷◌, ◌++◌, filter, length, lit≤, arith, false≢true, and_parts, same_id, NewTable, Birth, Goal, Event, Child, is_of, has_child, newborn, unreaped_children, kept_children, is_owed_before, may_come, is_sound, is_alone, is_placed, is_in_turn, are_spared, same_id-is, falsely, not_from, filter_none}
 use Rattle.trace_laws.proofs.Orders.{unreaped_kept}
 use Rattle.trace_laws.proofs.Keeps.{born_ready, Ready, sound_holds, sound_ind}
 
@@ -58,18 +46,7 @@ birth_placed goal later id n past h = (birth_ready goal later id n past h).place
 -- no id has two unreaped children
 few_filtered : (p q : Child → Bool) (xs : List Child) → length (filter p (filter q xs)) ≤ length (filter p xs)
 few_filtered p q [] = lit≤ tt
-few_filtered p q (x ∷ xs) = split (q x) (few_filtered p q xs) where
-  both : (c : Bool) (ys zs : List Child) → length ys ≤ length zs → length (cond c (x ∷ ys) ys) ≤ length (cond c (x ∷ zs) zs)
-  both true ys zs less = omega arith
-  both false ys zs less = less
-
-  one : (c : Bool) (ys zs : List Child) → length ys ≤ length zs → length ys ≤ length (cond c (x ∷ zs) zs)
-  one true ys zs less = omega arith
-  one false ys zs less = less
-
-  split : (b : Bool) → length (filter p (filter q xs)) ≤ length (filter p xs) → length (filter p (cond b (x ∷ filter q xs) (filter q xs))) ≤ length (cond (p x) (x ∷ filter p xs) (filter p xs))
-  split true less = both (p x) (filter p (filter q xs)) (filter p xs) less
-  split false less = one (p x) (filter p (filter q xs)) (filter p xs) less
+few_filtered p q (x ∷ xs) = grind (arith, few_filtered p q xs)
 
 one_birth : (goal : Goal) (i : List ℕ) (n : ℕ) (past : List Event) (id : List ℕ) → Ready i past → length (filter (is_of id) (unreaped_children past)) ≤ 1 → length (filter (is_of id) (unreaped_children (Birth i n ∷ past))) ≤ 1
 one_birth goal i n past id ready before = at_id (same_id id i) refl where
@@ -80,9 +57,7 @@ one_birth goal i n past id ready before = at_id (same_id id i) refl where
 pub one_child : (goal : Goal) (past : List Event) → is_sound goal past ≡ true → (id : List ℕ) → length (filter (is_of id) (unreaped_children past)) ≤ 1
 one_child goal past h = sound_ind goal (λ before. (id : List ℕ) → length (filter (is_of id) (unreaped_children before)) ≤ 1) (λ table distinct id. lit≤ tt) next past h where
   next : (happening : Event) (before : List Event) → may_come goal happening before ≡ true → is_sound goal before ≡ true → ((id : List ℕ) → length (filter (is_of id) (unreaped_children before)) ≤ 1) → (id : List ℕ) → length (filter (is_of id) (unreaped_children (happening ∷ before))) ≤ 1
-  next (Birth i n) before may sound one id = one_birth goal i n before id (born_ready goal i n before may (sound_holds goal before sound)) (one id)
-  next (Reaped i n status) before may sound one id = le_trans (few_filtered (is_of id) (λ child. not (is_child i n child)) (unreaped_children before)) (one id)
-  next (_) before may sound one id = one id
+  next happening before may sound one id = grind (arith, one_birth, born_ready, sound_holds, few_filtered)
 
 pub one_child_at : (goal : Goal) (later past : List Event) (id : List ℕ) → is_sound goal (later ++ past) ≡ true → length (filter (is_of id) (unreaped_children past)) ≤ 1
 one_child_at goal later past id h = at_moment goal (λ before. length (filter (is_of id) (unreaped_children before)) ≤ 1) (lit≤ tt) (λ before sound. one_child goal before sound id) later past h
@@ -91,4 +66,4 @@ pub birth_in_turn : (goal : Goal) (later : List Event) (id : List ℕ) (n : ℕ)
 birth_in_turn goal later id n past h = not_from (is_owed_before id past) (birth_ready goal later id n past h).ahead
 
 pub birth_spared : (goal : Goal) (later : List Event) (id : List ℕ) (n : ℕ) (past : List Event) → is_sound goal (later ++ Birth id n ∷ past) ≡ true → are_spared past ≡ true
-birth_spared goal later id n past h = not_from (list_any (is_excluded past) (unreaped_children past)) (falsely (list_any (is_excluded past) (unreaped_children past)) (list_any (is_excluded past) (kept_children past)) (unreaped_kept (is_excluded past) past) (birth_ready goal later id n past h).spared)
+birth_spared goal later id n past h = grind (arith, unreaped_kept, birth_ready)

@@ -1,42 +1,15 @@
 -- What a run that nothing disturbs keeps of an entry: where it starts, whether anything of it runs, and that no child of
 -- it ends but one that init waits for.
-use Rattle.std.proofs.Common.{◌≡◌, refl, sym, ◌∙◌, ap, subst, inl, inr, ℕ, Bool, true, false, not, ◌&&◌, ◌||◌, ◌==◌, cond, List, [], ◌∷◌, filter, Option, Some, None, is_some}
-use Rattle.std.specs.List.{list_any, list_all}
-use Rattle.std.specs.Option.{option_map_or}
-use Rattle.std.proofs.lemmas.Bool.{false≢true, and_parts, and_from, and_left, and_right, or_left, or_right, or_from, or_parts, not_from_true, eqb-true, eq-eqb}
-use Rattle.std.proofs.lemmas.Option.{same_Some}
-use Rattle.init_words.specs.declared.entries.Entry.{Entry}
-use Rattle.init_words.specs.declared.actions.Act.{Act}
-use Rattle.init_words.specs.declared.actions.Act.TheVariants as act
-use Rattle.init_words.specs.declared.levels.Level.{Level}
-use Rattle.init_words.specs.declared.levels.Level.TheVariants.{S}
-use Rattle.init_words.specs.declared.levels.Mark.{Mark}
-use Rattle.init_words.specs.declared.stages.Stage.{Stage}
+use Rattle.trace_laws.proofs.Words.{◌≡◌, refl, sym, ◌∙◌, ap, subst, inl, inr, ℕ, Bool, true, false, not, ◌&&◌, ◌||◌, ◌==◌, cond, List, [], ◌∷◌, filter, Option, Some, None, is_some, arith, list_any, list_all, option_map_or, false≢true, and_parts, and_from, and_right, or_left, or_right, or_from, or_parts, not_from_true, eqb-true, same_Some, Entry, Stage, OrderKind, Start, Look, Term, Kill, same_id, same_ask, wanted_by, starts_of, waited_of, same_id-is, same_id-self, both_ways, falsely, or_either, not_from, and_false, any_less, any_filtered, entry_of, is_distinct, NewTable, Asked, Birth, NoBirth, Death, Reaped, Still, NoLook, Hit, Miss, Told, Goal, Event, table_of, stage_of, Child, is_of, is_child, has_child, open_of, undone_of, is_untold, is_dead, newborn, unreaped_children, kept_children, known_children, starts_in, starts_now, is_order, brings, is_asked, is_called, is_wanted, nothing_runs, next_stage, first, is_due, goal_of, is_awaited}
+use Rattle.std.proofs.lemmas.Bool.{eq-eqb}
 use Rattle.init_words.specs.declared.stages.Stage.TheVariants as stage
-use Rattle.init_words.specs.declared.orders.OrderKind.{OrderKind}
-use Rattle.init_words.specs.declared.orders.OrderKind.TheVariants.{Start, Look, Term, Kill}
-use Rattle.init_words.specs.Ids.{same_id}
-use Rattle.init_words.specs.Levels.{same_level}
-use Rattle.init_words.specs.Orders.{same_ask}
-use Rattle.init_words.specs.Actions.{starts_by, wanted_by}
-use Rattle.init_words.specs.Entries.{starts_of, waited_of}
-use Rattle.init_words.proofs.Same.{same_id-is, same_id-self}
-use Rattle.init_words.proofs.Tests.{both_ways, falsely, or_either, not_from, and_false, or_false, any_less, any_filtered}
-use Rattle.inittab_text.specs.Tables.{entry_of, is_distinct}
-use Rattle.trace_events.specs.declared.happenings.Happening.TheVariants.{NewTable, Enter, Asked, Birth, NoBirth, Death, Reaped, Still, NoLook, Hit, Miss, Told}
+use Rattle.trace_events.specs.declared.happenings.Happening.TheVariants.{Enter}
 use Rattle.trace_events.specs.declared.steps.Step.TheVariants as step
-use Rattle.trace_events.specs.declared.steps.Goal.{Goal}
-use Rattle.trace_events.specs.Event.{Event}
-use Rattle.trace_events.specs.Past.{table_of, stage_of, Child, is_of, is_child, has_child, open_of, undone_of, is_untold, is_dead, newborn, unreaped_children, kept_children, known_children}
-use Rattle.trace_events.specs.Wanted.{starts_in, starts_now, is_order, brings, is_asked, is_called, is_wanted, nothing_runs}
-use Rattle.trace_events.specs.Due.{next_stage, first, is_due}
-use Rattle.trace_events.specs.Wishes.{goal_of}
 use Rattle.trace_laws.proofs.Tests.{is_order-is}
 use Rattle.trace_laws.proofs.Orders.{kept_before_told, known_kept, reaped_other, same_has, undone_is_open, unreaped_kept}
 use Rattle.trace_laws.proofs.Dues.{MayStart, due_facts}
 use Rattle.trace_laws.proofs.Keeps.{asked_free, undone_some, start_undone, look_undone}
 use Rattle.trace_laws.proofs.Told.{stop_known}
-use Rattle.trace_laws.specs.Runs.{is_awaited}
 use Rattle.trace_laws.proofs.Plain.{Plain, Comes, plain_ind, plain_holds, plain_distinct}
 use Rattle.trace_laws.proofs.Firsts.{Entered, entered}
 
@@ -48,20 +21,9 @@ IsFound e past = entry_of e.id (table_of past) ≡ Some e
 abbrev is_lost : List Event → Child → Bool
 is_lost past child = not (is_awaited past child) && is_dead child.id child.number past
 
-one_death : (awaited same other dead : Bool) → (not same || awaited) ≡ true → (other ≡ true → same ≡ true) → (not awaited && dead) ≡ false → (not awaited && (other || dead)) ≡ false
-one_death true same other dead all flip none = refl
-one_death false true true dead all flip none = absurd (false≢true all)
-one_death false false true dead all flip none = absurd (false≢true (flip refl))
-one_death false same false dead all flip none = none
-
 deaths : (n : ℕ) (awaited dead : Child → Bool) (xs : List Child) → list_all (λ (child : Child). not (n == child.number) || awaited child) xs ≡ true → list_any (λ (child : Child). not (awaited child) && dead child) xs ≡ false → list_any (λ (child : Child). not (awaited child) && (child.number == n || dead child)) xs ≡ false
 deaths n awaited dead [] all none = refl
-deaths n awaited dead (x ∷ xs) all none =
-    let each = and_parts (not (n == x.number) || awaited x) (list_all (λ (child : Child). not (n == child.number) || awaited child) xs) all in
-    let free = or_parts (not (awaited x) && dead x) (list_any (λ (child : Child). not (awaited child) && dead child) xs) none in
-    or_from (not (awaited x) && (x.number == n || dead x)) (list_any (λ (child : Child). not (awaited child) && (child.number == n || dead child)) xs)
-    (one_death (awaited x) (n == x.number) (x.number == n) (dead x) each.0 (λ h. eq-eqb n x.number (sym (eqb-true x.number n h))) free.0)
-    (deaths n awaited dead xs each.1 free.1)
+deaths n awaited dead (x ∷ xs) all none = grind (arith, deaths n awaited dead xs)
 
 abbrev NoneLost : List Event → Type 0
 NoneLost past = list_any (is_lost past) (unreaped_children past) ≡ false
@@ -116,26 +78,11 @@ starts_before e (Some stage.Boot) = starts_of e stage.Sysinit
 starts_before e (Some (stage.Run level)) = starts_of e stage.Sysinit || starts_of e stage.Boot
 
 moved : (e : Entry) (goal : Goal) (o : Option Stage) (now : Stage) (grace : ℕ) → first (next_stage goal o) ≡ step.Enter now grace → (starts_in e o || starts_before e o) ≡ true → starts_before e (Some now) ≡ true
-moved e goal None now grace is h = absurd (cc)
-moved e goal (Some stage.Sysinit) now grace is h = split (same_level goal.level S) is where
-  sysinit : starts_of e stage.Sysinit ≡ true
-  sysinit = sym (or_false (starts_of e stage.Sysinit)) ∙ h
-
-  split : (b : Bool) → step.Enter (cond b (stage.Run S) stage.Boot) goal.grace ≡ step.Enter now grace → starts_before e (Some now) ≡ true
-  split true is = let same : stage.Run S ≡ now = cc in subst (λ s. starts_before e (Some s) ≡ true) same (or_left (starts_of e stage.Sysinit) (starts_of e stage.Boot) sysinit)
-  split false is = let same : stage.Boot ≡ now = cc in subst (λ s. starts_before e (Some s) ≡ true) same sysinit
-moved e goal (Some stage.Boot) now grace is h =
-    let same : stage.Run goal.level ≡ now = cc in
-    subst (λ s. starts_before e (Some s) ≡ true) same
-    (or_either (starts_of e stage.Boot) (starts_of e stage.Sysinit) h (λ b. or_right (starts_of e stage.Sysinit) (starts_of e stage.Boot) b) (λ s. or_left (starts_of e stage.Sysinit) (starts_of e stage.Boot) s))
-moved e goal (Some (stage.Run level)) now grace is h = absurd (cc)
+moved e goal o now grace is h = grind arith
 
 -- an order that is no start goes to a known child
 asked_known : (goal : Goal) (i : List ℕ) (ask : OrderKind) (p : List Event) → is_due goal (step.Order i ask) p ≡ true → same_ask Start ask ≡ false → has_child i (known_children p) ≡ true
-asked_known goal i Start p may other = absurd (false≢true (sym other))
-asked_known goal i Look p may other = (due_facts goal p (step.Order i Look) may).there
-asked_known goal i Term p may other = stop_known i Term p (due_facts goal p (step.Order i Term) may)
-asked_known goal i Kill p may other = stop_known i Kill p (due_facts goal p (step.Order i Kill) may)
+asked_known goal i ask p may other = grind (arith, due_facts, stop_known)
 
 -- an entry with a child or an order was asked, in this stage or in one before
 abbrev KeptAsked : List Event → Type 0
@@ -187,12 +134,11 @@ asked_runs goal past plain = plain_ind goal AskedRuns begins goes past plain.run
 
   -- where no start of the id is undone, it has a child
   child : (e : Entry) (p : List Event) → (is_order Start (undone_of e.id p) || has_child e.id (unreaped_children p)) ≡ true → is_order Start (undone_of e.id p) ≡ false → has_child e.id (unreaped_children p) ≡ true
-  child e p h none = or_either (is_order Start (undone_of e.id p)) (has_child e.id (unreaped_children p)) h (λ undone. both_ways (is_order Start (undone_of e.id p)) undone none) (λ here. here)
+  child e p h none = grind arith
 
   -- an order or an act of another kind
   other : (e : Entry) (i : List ℕ) (o : Option OrderKind) (p : List Event) → (same_id e.id i ≡ true → is_order Start (undone_of e.id p) ≡ false) → (b : Bool) → same_id e.id i ≡ b → (is_order Start (undone_of e.id p) || has_child e.id (unreaped_children p)) ≡ true → (is_order Start (cond b o (undone_of e.id p)) || has_child e.id (unreaped_children p)) ≡ true
-  other e i o p none true same h = or_right (is_order Start o) (has_child e.id (unreaped_children p)) (child e p h (none same))
-  other e i o p none false same h = h
+  other e i o p none b same h = grind arith
 
   -- an order is given where none is open
   unasked : (e : Entry) (i : List ℕ) (ask : OrderKind) (p : List Event) → is_due goal (step.Order i ask) p ≡ true → same_id e.id i ≡ true → is_order Start (undone_of e.id p) ≡ false
@@ -246,29 +192,11 @@ asked_runs goal past plain = plain_ind goal AskedRuns begins goes past plain.run
   goes (Miss i) p comes before e found free h = other e i None p (signalled e i p comes.may) (same_id e.id i) refl (before e found free h)
   goes (_) p comes before e found free h = before e found free h
 
--- an entry starts in one stage alone
-boot_sysinit : (action : Act) (levels : List Mark) → starts_by action levels stage.Boot ≡ true → starts_by action levels stage.Sysinit ≡ false
-boot_sysinit act.Sysinit levels h = absurd (false≢true h)
-boot_sysinit _ levels h = refl
-
-run_sysinit : (action : Act) (levels : List Mark) (level : Level) → starts_by action levels (stage.Run level) ≡ true → starts_by action levels stage.Sysinit ≡ false
-run_sysinit act.Sysinit levels level h = absurd (false≢true h)
-run_sysinit _ levels level h = refl
-
-run_boot : (action : Act) (levels : List Mark) (level : Level) → starts_by action levels (stage.Run level) ≡ true → starts_by action levels stage.Boot ≡ false
-run_boot act.Boot levels level h = absurd (false≢true h)
-run_boot act.Bootwait levels level h = absurd (false≢true h)
-run_boot _ levels level h = refl
-
 apart : (e : Entry) (o : Option Stage) → starts_in e o ≡ true → starts_before e o ≡ false
-apart e None h = refl
-apart e (Some stage.Sysinit) h = refl
-apart e (Some stage.Boot) h = boot_sysinit e.act e.levels.items h
-apart e (Some (stage.Run level)) h = or_from (starts_of e stage.Sysinit) (starts_of e stage.Boot) (run_sysinit e.act e.levels.items level h) (run_boot e.act e.levels.items level h)
+apart e o h = grind arith
 
 not_some : {A : Type 0} (o : Option A) → is_some o ≡ false → o ≡ None
-not_some None h = refl
-not_some (Some x) h = absurd (false≢true (sym h))
+not_some o h = grind arith
 
 -- of an entry of the stage that wasn't asked there is no child, and no order
 pub unasked_free : (goal : Goal) (past : List Event) → Plain goal past → (e : Entry) → IsFound e past → starts_in e (stage_of past) ≡ true → is_asked e.id past ≡ false → (has_child e.id (kept_children past) ≡ false) × (open_of e.id past ≡ None)
@@ -280,12 +208,8 @@ unasked_free goal past plain e found here unasked =
 pub idle_unasked : (goal : Goal) (past : List Event) → Plain goal past → (e : Entry) → IsFound e past → waited_of e ≡ false → starts_in e (stage_of past) ≡ true → nothing_runs e.id past ≡ not (is_asked e.id past)
 idle_unasked goal past plain e found free here = split (is_asked e.id past) refl where
   running : (is_order Start (undone_of e.id past) || has_child e.id (unreaped_children past)) ≡ true → nothing_runs e.id past ≡ false
-  running h = or_either (is_order Start (undone_of e.id past)) (has_child e.id (unreaped_children past)) h
-      (λ undone. and_right (not (has_child e.id (kept_children past))) (not (is_order Start (open_of e.id past))) (ap (λ o. not (is_order Start o)) (undone_is_open e.id Start past (is_order-is Start (undone_of e.id past) undone))))
-      (λ child. and_left (not (has_child e.id (kept_children past))) (not (is_order Start (open_of e.id past))) (not_from_true (has_child e.id (kept_children past)) (unreaped_kept (is_of e.id) past child)))
+  running h = grind (arith, undone_is_open, is_order-is, unreaped_kept)
 
   split : (b : Bool) → is_asked e.id past ≡ b → nothing_runs e.id past ≡ not b
   split true asked = running (asked_runs goal past plain e found free asked)
-  split false unasked =
-      let none = unasked_free goal past plain e found here unasked in
-      and_from (not (has_child e.id (kept_children past))) (not (is_order Start (open_of e.id past))) (not_from (has_child e.id (kept_children past)) none.0) (ap (λ o. not (is_order Start o)) none.1)
+  split false unasked = grind (arith, unasked_free)

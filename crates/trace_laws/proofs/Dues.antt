@@ -1,33 +1,6 @@
 -- What each due step says of the past: facts by its kind, rank by rank.
-use Rattle.std.proofs.Common.{◌≡◌, refl, sym, ◌∙◌, ap, subst, ◌⊎◌, inl, inr, ℕ, Bool, true, false, not, ◌&&◌, cond, List, [], ◌∷◌, ◌++◌, Option, Some, None, is_none}
-use Rattle.std.specs.List.{list_any, list_all}
-use Rattle.std.proofs.lemmas.Bool.{false≢true, and_parts, or_left, or_right, or_from, not-true}
-use Rattle.std.proofs.lemmas.Option.{none-some, same_Some}
-use Rattle.init_words.specs.declared.entries.Entry.{Entry}
-use Rattle.init_words.specs.declared.levels.Level.{Level}
-use Rattle.init_words.specs.declared.levels.Letter.{Letter}
-use Rattle.init_words.specs.declared.stages.Stage.{Stage}
-use Rattle.init_words.specs.declared.stages.Stage.TheVariants as stage
-use Rattle.init_words.specs.declared.orders.OrderKind.{OrderKind}
-use Rattle.init_words.specs.declared.orders.OrderKind.TheVariants.{Start, Look, Term, Kill}
-use Rattle.init_words.specs.declared.orders.PowerKind.{PowerKind}
-use Rattle.init_words.specs.Ids.{same_id}
-use Rattle.init_words.specs.Orders.{same_ask}
-use Rattle.init_words.specs.Entries.{waited_of}
-use Rattle.inittab_text.specs.Tables.{has_id, entry_of, is_distinct}
-use Rattle.trace_events.specs.declared.steps.Step.{Step}
-use Rattle.trace_events.specs.declared.steps.Step.TheVariants.{Enter, Call, Power, Reread, Order, Hold, Settle, Reexec, Idle}
-use Rattle.trace_events.specs.declared.steps.Goal.{Goal}
-use Rattle.trace_events.specs.Event.{Event}
-use Rattle.trace_events.specs.Past.{table_of, stage_of, grace_of, time_of, Child, is_of, has_child, open_of, is_quiet, is_idle, kept_children, known_children}
-use Rattle.trace_events.specs.Wanted.{is_wanted, is_owed, is_excluded, entries_before}
-use Rattle.trace_events.specs.Spells.{Signal, is_ripe, stop_by, stop_due, is_missed, spell_hits}
-use Rattle.trace_events.specs.Timing.{is_held, is_full}
-use Rattle.trace_events.specs.Wishes.{level_wish, goal_of, wants_reexec, wants_reread, keeps_power, keeps_letter, powers, letters, wish_stands, in_run}
-use Rattle.init_words.specs.Actions.{is_limited}
-use Rattle.init_words.proofs.Same.{same_id-is, same_id-self, same_ask-is, same_level-is}
-use Rattle.init_words.proofs.Tests.{both_ways, or_either, is_none-is}
-use Rattle.trace_events.specs.Due.{step_if, steps_if, none_excluded, due_first, due_reexec, due_reread, enter_level, due_level, power_steps, letter_steps, due_news, record_ids, stop_step, stops_of, stops_among, due_stops, can_start, start_steps, starts_among, due_starts, is_over, next_stage, due_stage, is_announced, is_settled, settle_step, due_settle, can_look, wants_look, looks_among, due_looks, due, same_step, is_due}
+use Rattle.trace_laws.proofs.Words.{◌≡◌, refl, sym, ◌∙◌, ap, subst, ◌⊎◌, ℕ, Bool, true, false, not, ◌&&◌, cond, List, [], ◌∷◌, ◌++◌, Option, Some, None, is_none, arith, list_any, list_all, false≢true, and_parts, or_left, or_right, not-true, Entry, Level, Letter, Stage, OrderKind, Start, Look, Term, Kill, PowerKind, same_id, same_ask, waited_of, has_id, entry_of, is_distinct, Step, Reread, Order, Reexec, Idle, Goal, Event, table_of, stage_of, Child, is_of, has_child, open_of, is_quiet, is_idle, kept_children, known_children, is_wanted, is_owed, is_excluded, entries_before, stop_due, is_held, is_full, level_wish, goal_of, powers, letters, wish_stands, in_run, is_limited, same_id-is, same_id-self, same_ask-is, same_level-is, both_ways, or_either, is_none-is, step_if, steps_if, none_excluded, due_first, due_reexec, due_reread, enter_level, due_level, power_steps, letter_steps, due_news, record_ids, stop_step, stops_of, stops_among, due_stops, can_start, start_steps, starts_among, due_starts, is_over, next_stage, due_stage, is_announced, is_settled, settle_step, due_settle, looks_among, due_looks, due, same_step, is_due}
+use Rattle.trace_events.specs.declared.steps.Step.TheVariants.{Enter, Call, Power, Hold, Settle}
 
 -- the order is a signal
 abbrev pub is_signal : OrderKind → Bool
@@ -99,12 +72,10 @@ each_append P [] ys f g = g
 each_append P (x ∷ xs) ys f g = (f.0, each_append P xs ys f.1 g)
 
 pub each_step_if : (P : Step → Type 0) (b : Bool) (step : Step) → (b ≡ true → P step) → Each P (step_if b step)
-each_step_if P true step f = (f refl, tt)
-each_step_if P false step f = tt
+each_step_if P b step f = grind arith
 
 pub each_steps_if : (P : Step → Type 0) (b : Bool) (steps : List Step) → (b ≡ true → Each P steps) → Each P (steps_if b steps)
-each_steps_if P true steps f = f refl
-each_steps_if P false steps f = tt
+each_steps_if P b steps f = grind arith
 
 each_map : (P Q : Step → Type 0) → ((step : Step) → P step → Q step) → (steps : List Step) → Each P steps → Each Q steps
 each_map P Q f [] h = tt
@@ -112,49 +83,30 @@ each_map P Q f (x ∷ xs) h = (f x h.0, each_map P Q f xs h.1)
 
 -- 1
 firsts : (goal : Goal) (past : List Event) (o : Option Stage) → stage_of past ≡ o → Each (Facts past) (due_first goal o past)
-firsts goal past None h = (inr h, tt)
-firsts goal past (Some stage) h = tt
+firsts goal past o h = grind arith
 
 -- 4
 levels : (past : List Event) (o : Option Goal) → is_quiet past ≡ true → Each (Facts past) (enter_level o past)
-levels past None quiet = tt
-levels past (Some wish) quiet = (inl quiet, tt)
+levels past o quiet = grind arith
 
 -- 5
 news : (past : List Event) (kinds : List PowerKind) → is_quiet past ≡ true → Each (Facts past) (power_steps kinds past)
 news past [] quiet = tt
-news past (kind ∷ kinds) quiet = each_append (Facts past) (step_if (keeps_power kind past) (Power kind)) (power_steps kinds past) (each_step_if (Facts past) (keeps_power kind past) (Power kind) (λ _. quiet)) (news past kinds quiet)
+news past (kind ∷ kinds) quiet = grind (arith, news past kinds)
 
 calls : (past : List Event) (called : List Letter) → is_quiet past ≡ true → Each (Facts past) (letter_steps called past)
 calls past [] quiet = tt
-calls past (letter ∷ rest) quiet = each_append (Facts past) (step_if (keeps_letter letter past) (Call letter)) (letter_steps rest past) (each_step_if (Facts past) (keeps_letter letter past) (Call letter) (λ _. quiet)) (calls past rest quiet)
-
--- 6
-stop_signal : (b : Bool) (grace now : ℕ) (hits : List Signal) (ask : OrderKind) → cond b (stop_by grace now hits) None ≡ Some ask → is_signal ask ≡ true
-stop_signal false grace now hits ask h = absurd (none-some ask h)
-stop_signal true grace now [] ask h = ap is_signal (sym (same_Some Term ask h))
-stop_signal true grace now (signal ∷ []) ask h = ripe (is_ripe grace now signal) h where
-  ripe : (b : Bool) → cond b (Some Kill) None ≡ Some ask → is_signal ask ≡ true
-  ripe true h = ap is_signal (sym (same_Some Kill ask h))
-  ripe false h = absurd (none-some ask h)
-stop_signal true grace now (signal ∷ more ∷ rest) ask h = absurd (none-some ask h)
-
-stop_facts : (id : List ℕ) (past : List Event) (ask : OrderKind) → is_signal ask ≡ true → MayStop id ask past → OrderFacts (table_of past) past id ask
-stop_facts id past Start h may = absurd (false≢true h)
-stop_facts id past Look h may = absurd (false≢true h)
-stop_facts id past Term h may = may
-stop_facts id past Kill h may = may
+calls past (letter ∷ rest) quiet = grind (arith, calls past rest)
 
 stops : (id : List ℕ) (past : List Event) → open_of id past ≡ None → (children : List Child) → ((q : Child → Bool) → list_any q children ≡ true → list_any q (known_children past) ≡ true) → Each (Facts past) (stops_of id children past)
 stops id past unasked [] within = tt
 stops id past unasked (child ∷ children) within = each_append (Facts past) (steps_if (is_of id child) (stop_step id (stop_due child past))) (stops_of id children past) (each_steps_if (Facts past) (is_of id child) (stop_step id (stop_due child past)) (λ own. step own (stop_due child past) refl)) (stops id past unasked children (λ q h. within q (or_right (q child) (list_any q children) h))) where
   step : is_of id child ≡ true → (o : Option OrderKind) → stop_due child past ≡ o → Each (Facts past) (stop_step id o)
-  step own None h = tt
-  step own (Some ask) h = (stop_facts id past ask (stop_signal (is_excluded past child && not (is_missed child past)) (grace_of past) (time_of past) (spell_hits child past) ask h) (record { child = child; own = own; due = h; unasked = unasked; within = λ q here. within q (or_left (q child) (list_any q children) here) }), tt)
+  step own o h = grind arith
 
 stops_all : (ids : List (List ℕ)) (past : List Event) → Each (Facts past) (stops_among ids past)
 stops_all [] past = tt
-stops_all (id ∷ ids) past = each_append (Facts past) (steps_if (is_none (open_of id past)) (stops_of id (known_children past) past)) (stops_among ids past) (each_steps_if (Facts past) (is_none (open_of id past)) (stops_of id (known_children past) past) (λ free. stops id past (is_none-is (open_of id past) free) (known_children past) (λ q h. h))) (stops_all ids past)
+stops_all (id ∷ ids) past = grind (arith, each_append, each_steps_if, stops, is_none-is, stops_all ids past)
 
 -- 7
 run_later : (id : List ℕ) (e : Entry) (es : List Entry) (past : List Event) → is_owed e past ≡ false → MayRun id es past → MayRun id (e ∷ es) past
@@ -173,8 +125,7 @@ run_later id e es past free may = record {
   first false same none rest = rest
 
   before : (b : Bool) → list_any (λ x. is_owed x past) (cond b [] (e ∷ entries_before id es)) ≡ false
-  before true = refl
-  before false = or_from (is_owed e past) (list_any (λ x. is_owed x past) (entries_before id es)) free may.ahead
+  before b = grind arith
 
 order_later : (e : Entry) (es : List Entry) (past : List Event) → is_owed e past ≡ false → (id : List ℕ) (ask : OrderKind) → OrderFacts es past id ask → OrderFacts (e ∷ es) past id ask
 unfolding run_later
@@ -229,10 +180,7 @@ starts past spared (e ∷ es) = each_append (FactsAlong (e ∷ es) past) (steps_
 
 -- 8
 stages : (past : List Event) → is_quiet past ≡ true → (goal : Goal) (o : Option Stage) → Each (Facts past) (next_stage goal o)
-stages past quiet goal None = tt
-stages past quiet goal (Some stage.Sysinit) = (inl quiet, tt)
-stages past quiet goal (Some stage.Boot) = (inl quiet, tt)
-stages past quiet goal (Some (stage.Run level)) = tt
+stages past quiet goal o = grind arith
 
 over_quiet : (past : List Event) → is_over past ≡ true → is_quiet past ≡ true
 over_quiet past h =
@@ -241,20 +189,12 @@ over_quiet past h =
 
 -- 9
 settles : (past : List Event) → is_idle past ≡ true → (o : Option Stage) → Each (Facts past) (settle_step o past)
-settles past idle None = tt
-settles past idle (Some stage.Sysinit) = tt
-settles past idle (Some stage.Boot) = tt
-settles past idle (Some (stage.Run level)) = each_step_if (Facts past) (is_settled level (known_children past) past) (Settle level) (λ settled. record { idle = idle; settled = settled })
+settles past idle o = grind arith
 
 -- 10
 looks : (past : List Event) (ids : List (List ℕ)) → Each (Facts past) (looks_among ids past)
 looks past [] = tt
-looks past (id ∷ ids) = each_append (Facts past) (step_if (can_look id past) (Order id Look)) (looks_among ids past) (each_step_if (Facts past) (can_look id past) (Order id Look) may) (looks past ids) where
-  may : can_look id past ≡ true → MayLook id past
-  may can =
-      let parts = and_parts (has_child id (known_children past) && is_none (open_of id past)) (wants_look id past) can in
-      let two = and_parts (has_child id (known_children past)) (is_none (open_of id past)) parts.0 in
-      record { there = two.0; unasked = is_none-is (open_of id past) two.1 }
+looks past (id ∷ ids) = grind (arith, looks past ids)
 
 -- all the ranks
 dues : (goal : Goal) (past : List Event) → Each (Facts past) (due goal past)
@@ -296,10 +236,10 @@ dues goal past = join (rank1 ++ rank2 ++ rank3 ++ rank4 ++ rank5 ++ rank6 ++ ran
   facts1 = firsts goal past (stage_of past) refl
 
   facts2 : Each (Facts past) (due_reexec past)
-  facts2 = each_step_if (Facts past) (is_quiet past && wants_reexec past) Reexec (λ _. tt)
+  facts2 = grind arith
 
   facts3 : Each (Facts past) (due_reread past)
-  facts3 = each_step_if (Facts past) (is_quiet past && wants_reread past) Reread (λ _. tt)
+  facts3 = grind arith
 
   facts4 : Each (Facts past) (due_level past)
   facts4 = each_steps_if (Facts past) (is_quiet past) (enter_level (level_wish past) past) (levels past (level_wish past))
@@ -308,7 +248,7 @@ dues goal past = join (rank1 ++ rank2 ++ rank3 ++ rank4 ++ rank5 ++ rank6 ++ ran
   facts5 = each_steps_if (Facts past) (is_quiet past && in_run (stage_of past)) (power_steps powers past ++ letter_steps letters past) (λ h. let quiet = (and_parts (is_quiet past) (in_run (stage_of past)) h).0 in each_append (Facts past) (power_steps powers past) (letter_steps letters past) (news past powers quiet) (calls past letters quiet))
 
   facts6 : Each (Facts past) (due_stops past)
-  facts6 = each_steps_if (Facts past) (not (wish_stands past)) (stops_among (record_ids past) past) (λ _. stops_all (record_ids past) past)
+  facts6 = grind (arith, each_steps_if, stops_all)
 
   facts7 : Each (Facts past) (due_starts past)
   facts7 = each_steps_if (Facts past) (not (wish_stands past) && none_excluded past) (starts_among (table_of past) past) (λ h. starts past (not-true (list_any (is_excluded past) (kept_children past)) (and_parts (not (wish_stands past)) (none_excluded past) h).1) (table_of past))
@@ -323,10 +263,7 @@ dues goal past = join (rank1 ++ rank2 ++ rank3 ++ rank4 ++ rank5 ++ rank6 ++ ran
   facts10 = looks past (record_ids past)
 
 order_same : (past : List Event) (id : List ℕ) (ask : OrderKind) (i : List ℕ) (given : OrderKind) → id ≡ i → ask ≡ given → OrderFacts (table_of past) past i given → OrderFacts (table_of past) past id ask
-order_same past id ask i given is same may =
-    let P : List ℕ → Type 0 = λ x. OrderFacts (table_of past) past x ask in
-    let Q : OrderKind → Type 0 = λ x. OrderFacts (table_of past) past i x in
-    subst P (sym is) (subst Q (sym same) may)
+order_same past id ask i given is same may = grind arith
 
 same_facts : (past : List Event) (x y : Step) → same_step x y ≡ true → Facts past y → Facts past x
 same_facts past (Enter k m) (Enter l n) h may = may

@@ -1,39 +1,10 @@
 -- The law of plans: behind the steps so far stand the starts that are coming in the stage, and the stages after it.
-use Rattle.std.proofs.Common.{◌≡◌, refl, sym, ◌∙◌, ap, subst, inl, inr, ℕ, Bool, true, false, not, ◌&&◌, ◌||◌, cond, List, [], ◌∷◌, ◌++◌, map, filter, Option, Some, None, append_assoc}
-use Rattle.std.specs.List.{list_any, list_all}
-use Rattle.std.proofs.lemmas.Bool.{false≢true, and_parts, not-true, or_from}
-use Rattle.std.proofs.lemmas.List.{append-nil}
-use Rattle.init_words.specs.declared.entries.Entry.{Entry}
-use Rattle.init_words.specs.declared.actions.Act.{Act}
-use Rattle.init_words.specs.declared.actions.Act.TheVariants as act
-use Rattle.init_words.specs.declared.levels.Level.{Level}
-use Rattle.init_words.specs.declared.levels.Level.TheVariants.{S}
-use Rattle.init_words.specs.declared.levels.Mark.{Mark}
-use Rattle.init_words.specs.declared.levels.Mark.TheVariants.{At}
-use Rattle.init_words.specs.declared.orders.OrderKind.TheVariants.{Start}
-use Rattle.init_words.specs.declared.stages.Stage.{Stage}
+use Rattle.trace_laws.proofs.Words.{◌≡◌, refl, sym, ◌∙◌, ap, subst, ℕ, Bool, true, false, not, ◌&&◌, ◌||◌, List, [], ◌∷◌, ◌++◌, map, filter, Option, Some, None, append_assoc, arith, list_any, list_all, false≢true, and_parts, not-true, or_from, append-nil, Entry, Act, Level, Mark, At, Start, Stage, starts_by, wanted_by, served_by, waited_of, names, same_level-is, falsely, NewTable, Asked, Step, Goal, Event, table_of, stage_of, is_of, has_child, is_quiet, kept_children, known_children, is_asked, is_wanted, is_owed, is_owed_before, is_excluded, is_held, is_level, wish_stands, none_excluded, steps_if, starts_among, due_starts, is_over, due, first, is_announced, is_served, is_next, is_run, may_come, is_started, started_in, start_of, boot_before, steps_along, plan_of, BeginsWith, is_undisturbed, taken}
 use Rattle.init_words.specs.declared.stages.Stage.TheVariants as stage
-use Rattle.init_words.specs.Actions.{starts_by, wanted_by, served_by}
-use Rattle.init_words.specs.Entries.{waited_of}
-use Rattle.init_words.specs.Levels.{names, same_level}
-use Rattle.init_words.proofs.Same.{same_level-is}
-use Rattle.init_words.proofs.Tests.{falsely}
-use Rattle.trace_events.specs.declared.happenings.Happening.TheVariants.{NewTable, Enter, Asked, Settle}
-use Rattle.trace_events.specs.declared.steps.Step.{Step}
+use Rattle.trace_events.specs.declared.happenings.Happening.TheVariants.{Enter, Settle}
 use Rattle.trace_events.specs.declared.steps.Step.TheVariants as step
-use Rattle.trace_events.specs.declared.steps.Goal.{Goal}
-use Rattle.trace_events.specs.Event.{Event}
-use Rattle.trace_events.specs.Past.{table_of, stage_of, is_of, has_child, is_quiet, kept_children, known_children}
-use Rattle.trace_events.specs.Wanted.{is_asked, is_wanted, is_owed, is_owed_before, is_excluded}
-use Rattle.trace_events.specs.Timing.{is_held}
-use Rattle.trace_events.specs.Wishes.{is_level, wish_stands}
-use Rattle.trace_events.specs.Due.{none_excluded, steps_if, starts_among, due_starts, is_over, next_stage, due, first, is_announced, is_served}
-use Rattle.trace_events.specs.Run.{is_next, is_run}
-use Rattle.trace_events.specs.Sound.{may_come}
 use Rattle.trace_laws.proofs.Orders.{known_kept}
 use Rattle.trace_laws.proofs.Dues.{MayStart, MaySettle, due_facts}
-use Rattle.trace_laws.specs.Plans.{is_started, started_in, start_of, boot_before, steps_along, plan_of}
-use Rattle.trace_laws.specs.Runs.{BeginsWith, is_undisturbed, taken}
 use Rattle.trace_laws.proofs.Plain.{Plain, Comes, plain_ind, plain_distinct}
 use Rattle.trace_laws.proofs.Firsts.{Entered, entered, started, same_goal}
 use Rattle.trace_laws.proofs.Children.{IsFound}
@@ -56,10 +27,7 @@ left_of goal past = left_in goal (table_of past) (map start_of (filter (is_comin
 -- in a stage that is over nothing is coming
 none_coming : (goal : Goal) (past : List Event) → Plain goal past → (p : Entry → Bool) → ((e : Entry) → IsFound e past → p e ≡ true → is_coming past e ≡ false) → (es : List Entry) → AreFound (table_of past) es → list_all p es ≡ true → filter (is_coming past) es ≡ []
 none_coming goal past plain p gone [] found all = refl
-none_coming goal past plain p gone (e ∷ es) found all =
-    let parts = and_parts (p e) (list_all p es) all in
-    ap (λ b. cond b (e ∷ filter (is_coming past) es) (filter (is_coming past) es)) (gone e found.0 parts.0)
-    ∙ none_coming goal past plain p gone es found.1 parts.1
+none_coming goal past plain p gone (e ∷ es) found all = grind (arith, none_coming goal past plain p gone es)
 
 over_coming : (goal : Goal) (past : List Event) → Plain goal past → is_over past ≡ true → filter (is_coming past) (table_of past) ≡ []
 over_coming goal past plain over = none_coming goal past plain (λ e. not (is_wanted e past) && not (waited_of e && has_child e.id (kept_children past))) gone (table_of past) (found_all (table_of past) (plain_distinct goal past plain)) each where
@@ -76,25 +44,6 @@ entering goal table now grace = step.Enter now grace ∷ (map start_of (started_
 plan_opens : (goal : Goal) (table : List Entry) (now : Stage) (grace : ℕ) → now ≡ stage.Sysinit → grace ≡ goal.grace → plan_of goal table ≡ entering goal table now grace
 plan_opens goal table now grace first is = rw (first, is) refl
 
-goes_on : (goal : Goal) (table : List Entry) (o : Option Stage) (now : Stage) (grace : ℕ) → first (next_stage goal o) ≡ step.Enter now grace → left_in goal table [] o ≡ entering goal table now grace
-goes_on goal table None now grace is = absurd (cc)
-goes_on goal table (Some stage.Sysinit) now grace is = split (same_level goal.level S) refl is where
-  split : (b : Bool) → same_level goal.level S ≡ b → step.Enter (cond b (stage.Run S) stage.Boot) goal.grace ≡ step.Enter now grace → steps_along goal.grace table (cond b [] (stage.Boot ∷ []) ++ stage.Run goal.level ∷ []) ≡ entering goal table now grace
-  split true single is =
-      let level : goal.level ≡ S = same_level-is goal.level S single in
-      let same : stage.Run S ≡ now = cc in
-      let graced : goal.grace ≡ grace = cc in
-      ap (λ l. steps_along goal.grace table (stage.Run l ∷ [])) level ∙ ap (λ s. steps_along goal.grace table (s ∷ [])) same ∙ ap (λ g. step.Enter now g ∷ (map start_of (started_in table now) ++ [])) graced ∙ ap (λ s. step.Enter now grace ∷ (map start_of (started_in table now) ++ after goal table s)) same
-  split false other is =
-      let same : stage.Boot ≡ now = cc in
-      let graced : goal.grace ≡ grace = cc in
-      ap (λ g. step.Enter stage.Boot g ∷ (map start_of (started_in table stage.Boot) ++ after goal table stage.Boot)) graced ∙ ap (λ s. entering goal table s grace) same
-goes_on goal table (Some stage.Boot) now grace is =
-    let same : stage.Run goal.level ≡ now = cc in
-    let graced : goal.grace ≡ grace = cc in
-    ap (λ g. step.Enter (stage.Run goal.level) g ∷ (map start_of (started_in table (stage.Run goal.level)) ++ [])) graced ∙ ap (λ s. entering goal table s grace) same
-goes_on goal table (Some (stage.Run level)) now grace is = absurd (cc)
-
 -- what the entering leaves: the starts of the stage, and the stages after it
 enter_left : (goal : Goal) (past : List Event) (now : Stage) (grace : ℕ) → Comes goal (Enter now grace) past → left_of goal past ≡ step.Enter now grace ∷ left_of goal (Enter now grace ∷ past)
 enter_left goal past now grace comes = by_facts (entered goal now grace past comes) where
@@ -102,19 +51,13 @@ enter_left goal past now grace comes = by_facts (entered goal now grace past com
   plain = comes.before
 
   by_facts : Entered goal past now grace → left_of goal past ≡ entering goal (table_of past) now grace
-  by_facts (inl opens) =
-      ap (left_in goal (table_of past) (map start_of (filter (is_coming past) (table_of past)))) opens.0
-      ∙ plan_opens goal (table_of past) now grace opens.1 (opens.2 ∙ ap (λ (g : Goal). g.grace) (same_goal goal past plain))
-  by_facts (inr over) =
-      ap (λ es. left_in goal (table_of past) (map start_of es) (stage_of past)) (over_coming goal past plain over.0)
-      ∙ goes_on goal (table_of past) (stage_of past) now grace (ap (λ g. first (next_stage g (stage_of past))) (sym (same_goal goal past plain)) ∙ over.1)
+  by_facts v0 = grind (arith, is_coming, plan_opens, same_goal, over_coming)
 
 -- what a start leaves
 starts_first : (past : List Event) (id : List ℕ) → first (due_starts past) ≡ step.Order id Start → first (starts_among (table_of past) past) ≡ step.Order id Start
 starts_first past id is = split (not (wish_stands past) && none_excluded past) is where
   split : (b : Bool) → first (steps_if b (starts_among (table_of past) past)) ≡ step.Order id Start → first (starts_among (table_of past) past) ≡ step.Order id Start
-  split true is = is
-  split false is = absurd (cc)
+  split b is = grind arith
 
 start_left : (goal : Goal) (past : List Event) (id : List ℕ) → Comes goal (Asked id Start) past → left_of goal past ≡ step.Order id Start ∷ left_of goal (Asked id Start ∷ past)
 start_left goal past id comes = in_stage (stage_of past) refl where
@@ -124,13 +67,10 @@ start_left goal past id comes = in_stage (stage_of past) refl where
   -- before the first stage nothing is coming
   none : (es : List Entry) → stage_of past ≡ None → filter (is_coming past) es ≡ []
   none [] is = refl
-  none (e ∷ es) is = ap (λ b. cond b (e ∷ filter (is_coming past) es) (filter (is_coming past) es)) (ap (λ o. not (is_asked e.id past) && started_now e o) is ∙ nothing (is_asked e.id past)) ∙ none es is where
-    nothing : (b : Bool) → (not b && false) ≡ false
-    nothing true = refl
-    nothing false = refl
+  none (e ∷ es) is = grind (arith, none es)
 
   in_stage : (o : Option Stage) → stage_of past ≡ o → left_in goal (table_of past) (map start_of (filter (is_coming past) (table_of past))) o ≡ step.Order id Start ∷ left_in goal (table_of past) (map start_of (filter (is_coming (Asked id Start ∷ past)) (table_of past))) o
-  in_stage None is = let empty : [] ≡ step.Order id Start ∷ map start_of (filter (is_coming (Asked id Start ∷ past)) (table_of past)) = sym (ap (map start_of) (none (table_of past) is)) ∙ coming in absurd (cc)
+  in_stage None is = grind arith
   in_stage (Some now) is = ap (λ xs. xs ++ after goal (table_of past) now) coming
 
 -- the steps so far and what is left are the plan
@@ -153,22 +93,7 @@ begins goal past runs mild = (left_of goal past, follows goal past runs mild)
 
 -- where a level is settled, nothing is left
 served_asked : (action : Act) (levels : List Mark) (level : Level) (asked up : Bool) → (starts_by action levels (stage.Run level) && wanted_by action true true false) ≡ true → (not (names (At level) levels) || served_by action asked up) ≡ true → asked ≡ false → up ≡ false → ⊥
-served_asked act.Wait levels level asked up starts served unasked down = split (names (At level) levels) starts served where
-  split : (b : Bool) → (b && true) ≡ true → (not b || asked) ≡ true → ⊥
-  split true starts served = false≢true (sym unasked ∙ served)
-  split false starts served = false≢true starts
-served_asked act.Once levels level asked up starts served unasked down = split (names (At level) levels) starts served where
-  split : (b : Bool) → (b && true) ≡ true → (not b || asked) ≡ true → ⊥
-  split true starts served = false≢true (sym unasked ∙ served)
-  split false starts served = false≢true starts
-served_asked act.Respawn levels level asked up starts served unasked down = split (names (At level) levels) starts served where
-  split : (b : Bool) → (b && true) ≡ true → (not b || up) ≡ true → ⊥
-  split true starts served = false≢true (sym down ∙ served)
-  split false starts served = false≢true starts
-served_asked act.Sysinit levels level asked up starts served unasked down = false≢true starts
-served_asked act.Boot levels level asked up starts served unasked down = false≢true starts
-served_asked act.Bootwait levels level asked up starts served unasked down = false≢true starts
-served_asked action levels level asked up starts served unasked down = false≢true (and_parts (starts_by action levels (stage.Run level)) (wanted_by action true true false) starts).1
+served_asked action levels level asked up starts served unasked down = grind arith
 
 settle_left : (goal : Goal) (past : List Event) (level : Level) → Comes goal (Settle level) past → left_of goal past ≡ []
 settle_left goal past level comes = in_stage (stage_of past) refl there.0 where

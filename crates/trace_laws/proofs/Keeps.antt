@@ -1,35 +1,7 @@
 -- What every sound trace keeps at each of its moments.
-use Rattle.std.proofs.Common.{◌≡◌, refl, sym, ◌∙◌, ap, subst, inl, inr, ℕ, ◌==◌, Bool, true, false, not, ◌&&◌, ◌||◌, cond, List, [], ◌∷◌, Option, Some, None, is_some}
-use Rattle.std.specs.List.{list_any}
-use Rattle.std.specs.Option.{option_map, option_map_or}
-use Rattle.std.proofs.lemmas.Bool.{false≢true, and_parts, and_from, and_left, and_right, or_left, or_right, or_from, not_from_true, not-true}
-use Rattle.std.proofs.lemmas.Option.{none-some, same_Some}
-use Rattle.init_words.specs.declared.entries.Entry.{Entry}
-use Rattle.init_words.specs.declared.actions.Act.{Act}
-use Rattle.init_words.specs.declared.actions.Act.TheVariants as act
-use Rattle.init_words.specs.declared.levels.Mark.{Mark}
-use Rattle.init_words.specs.declared.stages.Stage.{Stage}
-use Rattle.init_words.specs.declared.stages.Stage.TheVariants as stage
-use Rattle.init_words.specs.declared.children.Status.{Status}
-use Rattle.init_words.specs.declared.orders.OrderKind.{OrderKind}
-use Rattle.init_words.specs.declared.orders.OrderKind.TheVariants.{Start, Look, Term, Kill}
-use Rattle.init_words.specs.Ids.{same_id}
-use Rattle.init_words.specs.Orders.{same_ask}
-use Rattle.init_words.specs.Actions.{starts_by, lives_by, waited_by, stays_called, wanted_by}
-use Rattle.init_words.specs.Entries.{waited_of}
-use Rattle.inittab_text.specs.Tables.{has_id, entry_of, act_of, is_distinct}
-use Rattle.trace_events.specs.declared.happenings.Happening.TheVariants.{NewTable, Enter, Call, Power, Asked, Birth, NoBirth, Reaped, Still, NoLook, Hit, Miss, Told}
+use Rattle.trace_laws.proofs.Words.{◌≡◌, refl, sym, ◌∙◌, ap, subst, inl, inr, ℕ, ◌==◌, Bool, true, false, not, ◌&&◌, ◌||◌, cond, List, [], ◌∷◌, Option, Some, None, is_some, arith, list_any, false≢true, and_parts, and_from, and_left, and_right, or_left, or_right, or_from, not-true, none-some, same_Some, Entry, Act, Status, OrderKind, Start, Look, Term, Kill, same_id, same_ask, waited_by, wanted_by, has_id, entry_of, is_distinct, NewTable, Asked, Birth, NoBirth, Reaped, Still, NoLook, Hit, Miss, Told, Goal, Event, table_of, stage_of, Child, is_of, is_child, has_number, has_child, open_of, undone_of, is_untold, is_quiet, newborn, unreaped_children, kept_children, known_children, starts_in, is_order, is_asked, is_called, is_wanted, is_owed, entries_before, is_owed_before, is_excluded, stop_due, is_placed, may_term, is_due, same_id-is, same_id-self, same_id-apart, both_ways, falsely, or_either, not_from, any_less, any_within, may_come, is_sound}
+use Rattle.trace_events.specs.declared.happenings.Happening.TheVariants.{Enter, Call, Power}
 use Rattle.trace_events.specs.declared.steps.Step.TheVariants as step
-use Rattle.trace_events.specs.declared.steps.Goal.{Goal}
-use Rattle.trace_events.specs.Event.{Event}
-use Rattle.trace_events.specs.Past.{table_of, stage_of, grace_of, time_of, Child, is_of, is_child, has_number, has_child, open_of, undone_of, is_untold, is_quiet, is_dead, newborn, unreaped_children, kept_children, known_children}
-use Rattle.trace_events.specs.Wanted.{starts_in, is_order, is_asked, is_called, is_wanted, is_owed, entries_before, is_owed_before, may_live, is_excluded}
-use Rattle.trace_events.specs.Spells.{stop_due, stop_by, is_missed, spell_hits}
-use Rattle.trace_events.specs.Lawful.{is_placed, may_term}
-use Rattle.trace_events.specs.Due.{is_due}
-use Rattle.init_words.proofs.Same.{same_id-is, same_id-self, same_id-apart, same_act-self}
-use Rattle.init_words.proofs.Tests.{both_ways, falsely, or_either, not_from, or_true, any_less, any_within}
-use Rattle.trace_events.specs.Sound.{may_come, is_sound}
 use Rattle.trace_laws.proofs.Tests.{is_order-is}
 use Rattle.trace_laws.proofs.Orders.{cleared, undone_is_open, quiet_looks, told_known, unreaped_kept, kept_before_told, same_of}
 use Rattle.trace_laws.proofs.Dues.{is_signal, MayRun, MayStart, MayStop, due_facts}
@@ -51,20 +23,14 @@ pub record Holds (past : List Event) : Type 0 where
 
 -- an order that is due is of an id with no open order
 pub asked_free : (goal : Goal) (i : List ℕ) (ask : OrderKind) (past : List Event) → is_due goal (step.Order i ask) past ≡ true → open_of i past ≡ None
-asked_free goal i Start past h = (due_facts goal past (step.Order i Start) h).run.unasked
-asked_free goal i Look past h = (due_facts goal past (step.Order i Look) h).unasked
-asked_free goal i Term past h = (due_facts goal past (step.Order i Term) h).unasked
-asked_free goal i Kill past h = (due_facts goal past (step.Order i Kill) h).unasked
+asked_free goal i ask past h = grind (arith, due_facts)
 
 -- where no order of the id is open, nothing of it is untold
 pub free_told : (id : List ℕ) (past : List Event) → ((x : List ℕ) → is_untold x past ≡ true → is_some (open_of x past) ≡ true) → open_of id past ≡ None → is_untold id past ≡ false
 free_told id past told free = falsely (is_untold id past) (is_some (open_of id past)) (told id) (ap is_some free)
 
 signal_busy : (ask : OrderKind) → is_signal ask ≡ true → same_ask Look ask ≡ false
-signal_busy Term h = refl
-signal_busy Kill h = refl
-signal_busy Start h = absurd (false≢true h)
-signal_busy Look h = absurd (false≢true h)
+signal_busy ask h = grind arith
 
 -- at a quiet point no Start and no signal is undone
 no_start : {P : Type 0} (id : List ℕ) (past : List Event) → is_quiet past ≡ true → undone_of id past ≡ Some Start → P
@@ -82,7 +48,7 @@ pub start_undone : (goal : Goal) (id : List ℕ) (n : ℕ) (past : List Event) �
 start_undone goal id n past may = (and_parts (is_order Start (undone_of id past)) (not (list_any (has_number n) (unreaped_children past))) may).0
 
 pub look_undone : (goal : Goal) (id : List ℕ) (n : ℕ) (status : Status) (past : List Event) → may_come goal (Reaped id n status) past ≡ true → (is_order Look (undone_of id past) ≡ true) × (list_any (is_child id n) (unreaped_children past) ≡ true)
-look_undone goal id n status past may = and_parts (is_order Look (undone_of id past)) (list_any (is_child id n) (unreaped_children past)) (and_parts (is_order Look (undone_of id past) && list_any (is_child id n) (unreaped_children past)) (is_dead id n past) may).0
+look_undone goal id n status past may = grind arith
 
 -- so its id was ready for it
 pub born_ready : (goal : Goal) (id : List ℕ) (n : ℕ) (past : List Event) → may_come goal (Birth id n) past ≡ true → Holds past → Ready id past
@@ -96,22 +62,7 @@ act_told : (id i : List ℕ) (past : List Event) → (is_untold id past ≡ true
 act_told id i past before here h = or_either (same_id id i) (is_untold id past) h (λ same. let P : List ℕ → Type 0 = λ x. is_some (open_of x past) ≡ true in subst P (sym (same_id-is id i same)) here) before
 
 told_keeps : (goal : Goal) (happening : Event) (past : List Event) → may_come goal happening past ≡ true → (id : List ℕ) → (is_untold id past ≡ true → is_some (open_of id past) ≡ true) → is_untold id (happening ∷ past) ≡ true → is_some (open_of id (happening ∷ past)) ≡ true
-told_keeps goal (Asked i ask) past may id before h = at_id (same_id id i) where
-  at_id : (b : Bool) → is_some (cond b (Some ask) (open_of id past)) ≡ true
-  at_id true = refl
-  at_id false = before h
-told_keeps goal (Told i) past may id before h = at_id (same_id id i) h where
-  at_id : (b : Bool) → (not b && is_untold id past) ≡ true → is_some (cond b None (open_of id past)) ≡ true
-  at_id true h = absurd (false≢true h)
-  at_id false h = before h
-told_keeps goal (Birth i n) past may id before h = act_told id i past before (undone_some Start i past (start_undone goal i n past may)) h
-told_keeps goal (NoBirth i) past may id before h = act_told id i past before (undone_some Start i past may) h
-told_keeps goal (Reaped i n status) past may id before h = act_told id i past before (undone_some Look i past (look_undone goal i n status past may).0) h
-told_keeps goal (Still i) past may id before h = act_told id i past before (undone_some Look i past may) h
-told_keeps goal (NoLook i) past may id before h = act_told id i past before (undone_some Look i past may) h
-told_keeps goal (Hit i) past may id before h = act_told id i past before (signal_some i past may) h
-told_keeps goal (Miss i) past may id before h = act_told id i past before (signal_some i past may) h
-told_keeps goal (_) past may id before h = before h
+told_keeps goal happening past may id before h = grind (arith, act_told, undone_some, start_undone, look_undone, signal_some)
 
 -- the field done
 act_done : (id i : List ℕ) (ask : OrderKind) (past : List Event) → (undone_of id past ≡ Some ask → is_untold id past ≡ false) → cond (same_id id i) None (undone_of id past) ≡ Some ask → (same_id id i || is_untold id past) ≡ false
@@ -132,95 +83,46 @@ done_keeps goal (Hit i) past may told id ask before h = act_done id i ask past b
 done_keeps goal (Miss i) past may told id ask before h = act_done id i ask past before h
 done_keeps goal (_) past may told id ask before h = before h
 
--- where an entry starts, its child may live
-starts_lives : (action : Act) (marks : List Mark) (now : Stage) → starts_by action marks now ≡ true → lives_by action marks now ≡ true
-starts_lives act.Boot marks (stage.Run l) h = refl
-starts_lives act.Bootwait marks (stage.Run l) h = refl
-starts_lives _ marks _ h = h
-
-placed_lives : (o : Option Entry) (now : Option Stage) → option_map_or (λ e. starts_in e now) o false ≡ true → may_live o (option_map (λ (e : Entry). e.act) o) now ≡ true
-placed_lives None now h = absurd (false≢true h)
-placed_lives (Some e) None h = absurd (false≢true h)
-placed_lives (Some e) (Some now) h = and_from _ _ (same_act-self e.act) (starts_lives e.act e.levels.items now h)
-
 -- a child that is born of an entry that starts in the stage is not excluded
 pub placed_spared : (id : List ℕ) (n : ℕ) (past : List Event) → is_placed id past ≡ true → is_excluded past (newborn id n past) ≡ false
-placed_spared id n past h = not_from_true (may_live (entry_of id (table_of past)) (act_of id (table_of past)) (stage_of past)) (placed_lives (entry_of id (table_of past)) (stage_of past) h)
+placed_spared id n past h = grind arith
 
 -- before the first stage no entry starts
 pub not_placed : {P : Type 0} (id : List ℕ) (past : List Event) → stage_of past ≡ None → is_placed id past ≡ true → P
-not_placed id past dawn h = nowhere (entry_of id (table_of past)) (stage_of past) dawn h where
-  nowhere : {P : Type 0} (o : Option Entry) (now : Option Stage) → now ≡ None → option_map_or (λ e. starts_in e now) o false ≡ true → P
-  nowhere None now is h = absurd (false≢true h)
-  nowhere (Some e) None is h = absurd (false≢true h)
-  nowhere (Some e) (Some now) is h = absurd (none-some now (sym is))
+not_placed id past dawn h = grind arith
 
 -- owed, of what is read off the past: a child, an open Start, whether it starts, is fresh, is called
 abbrev owed_by : Act → Bool → Bool → Bool → Bool → Bool → Bool
 owed_by action child start starts fresh called = waited_by action && (child || start || starts && wanted_by action (not child && not start) fresh called)
 
--- what makes a waited entry wanted is not that it is idle
-waited_wants : (action : Act) (idle other fresh called : Bool) → waited_by action ≡ true → wanted_by action idle fresh called ≡ wanted_by action other fresh called
-waited_wants act.Respawn idle other fresh called h = absurd (false≢true h)
-waited_wants act.Ondemand idle other fresh called h = absurd (false≢true h)
-waited_wants _ idle other fresh called h = refl
-
 -- an entry that is owed with a child and a Start is owed with more of them
 owed_less : (action : Act) (child start more starting starts fresh called : Bool) → (child ≡ true → more ≡ true) → (start ≡ true → starting ≡ true) → owed_by action child start starts fresh called ≡ true → owed_by action more starting starts fresh called ≡ true
-owed_less action child start more starting starts fresh called f g h = and_from (waited_by action) _ parts.0 (or_either (child || start) wanted parts.1 (λ there. or_left (more || starting) later (or_either child start there (λ c. or_left more starting (f c)) (λ s. or_right more starting (g s)))) (λ due. or_right (more || starting) later (and_from starts _ (and_parts starts _ due).0 (waited_wants action (not more && not starting) (not child && not start) fresh called parts.0 ∙ (and_parts starts (wanted_by action (not child && not start) fresh called) due).1)))) where
-  wanted : Bool
-  wanted = starts && wanted_by action (not child && not start) fresh called
-
-  later : Bool
-  later = starts && wanted_by action (not more && not starting) fresh called
-
-  parts : (waited_by action ≡ true) × ((child || start || wanted) ≡ true)
-  parts = and_parts (waited_by action) (child || start || wanted) h
-
-owed_start : (action : Act) (child start starts fresh called : Bool) → waited_by action ≡ true → start ≡ true → owed_by action child start starts fresh called ≡ true
-owed_start action child start starts fresh called waited due = and_from (waited_by action) _ waited (or_left (child || start) _ (or_right child start due))
-
-owed_waited : (action : Act) (child start starts fresh called : Bool) → owed_by action child start starts fresh called ≡ true → waited_by action ≡ true
-owed_waited action child start starts fresh called h = (and_parts (waited_by action) (child || start || starts && wanted_by action (not child && not start) fresh called) h).0
-
-owed_wanted : (e : Entry) (past : List Event) → waited_of e ≡ true → is_wanted e past ≡ true → is_owed e past ≡ true
-owed_wanted e past waited wanted = and_from (waited_of e) _ waited (or_right (has_child e.id (kept_children past) || is_order Start (open_of e.id past)) (is_wanted e past) wanted)
+owed_less action child start more starting starts fresh called f g h = grind arith
 
 -- what is owed after a birth, a Told or an order was owed before it
 born_owed : (action : Act) (own child start starts fresh called : Bool) → (own ≡ true → start ≡ true) → owed_by action (own || child) start starts fresh called ≡ true → owed_by action child start starts fresh called ≡ true
-born_owed action true child start starts fresh called f h = owed_start action child start starts fresh called (owed_waited action true start starts fresh called h) (f refl)
-born_owed action false child start starts fresh called f h = h
+born_owed action own child start starts fresh called f h = grind arith
 
 owed_birth : (e : Entry) (i : List ℕ) (n : ℕ) (past : List Event) → open_of i past ≡ Some Start → is_owed e (Birth i n ∷ past) ≡ true → is_owed e past ≡ true
 owed_birth e i n past started h = born_owed e.act (same_id e.id i) (has_child e.id (kept_children past)) (is_order Start (open_of e.id past)) (starts_in e (stage_of past)) (not (is_asked e.id past)) (is_called e past) (λ same. ap (is_order Start) (ap (λ x. open_of x past) (same_id-is e.id i same) ∙ started)) h
 
 order_cleared : (b : Bool) (ask : OrderKind) (o : Option OrderKind) → is_order ask (cond b None o) ≡ true
     → is_order ask o ≡ true
-order_cleared true ask o h = absurd (false≢true h)
-order_cleared false ask o h = h
+order_cleared b ask o h = grind arith
 
 owed_told : (e : Entry) (i : List ℕ) (past : List Event) → is_owed e (Told i ∷ past) ≡ true → is_owed e past ≡ true
-owed_told e i past h = owed_less e.act (has_child e.id (kept_children (Told i ∷ past))) (is_order Start (cond (same_id e.id i) None (open_of e.id past))) (has_child e.id (kept_children past)) (is_order Start (open_of e.id past)) (starts_in e (stage_of past)) (not (is_asked e.id past)) (is_called e past) (kept_before_told (is_of e.id) i past) (order_cleared (same_id e.id i) Start (open_of e.id past)) h
+owed_told e i past h = search (owed_less, kept_before_told, order_cleared)
 
 owed_order : (e : Entry) (b : Bool) (ask : OrderKind) (past : List Event) → same_ask Start ask ≡ false → owed_by e.act (has_child e.id (kept_children past)) (is_order Start (cond b (Some ask) (open_of e.id past))) (starts_in e (stage_of past)) (not (is_asked e.id past)) (is_called e past) ≡ true → is_owed e past ≡ true
-owed_order e b ask past other h = owed_less e.act (has_child e.id (kept_children past)) (is_order Start (cond b (Some ask) (open_of e.id past))) (has_child e.id (kept_children past)) (is_order Start (open_of e.id past)) (starts_in e (stage_of past)) (not (is_asked e.id past)) (is_called e past) (λ c. c) (at_id b) h where
-  at_id : (b : Bool) → is_order Start (cond b (Some ask) (open_of e.id past)) ≡ true → is_order Start (open_of e.id past) ≡ true
-  at_id true h = both_ways (same_ask Start ask) h other
-  at_id false h = h
+owed_order e b ask past other h = grind arith
 
 owed_asked : (e : Entry) (i : List ℕ) (past : List Event) → (same_id e.id i ≡ true → is_wanted e past ≡ true) → is_owed e (Asked i Start ∷ past) ≡ true → is_owed e past ≡ true
-owed_asked e i past wanted h = at_id (same_id e.id i) wanted h where
-  at_id : (b : Bool) → (b ≡ true → is_wanted e past ≡ true) → owed_by e.act (has_child e.id (kept_children past)) (is_order Start (cond b (Some Start) (open_of e.id past))) (starts_in e (stage_of past)) (not (b || is_asked e.id past)) ((stays_called e.act || not b) && is_called e past) ≡ true → is_owed e past ≡ true
-  at_id true wanted h = owed_wanted e past (owed_waited e.act (has_child e.id (kept_children past)) true (starts_in e (stage_of past)) false ((stays_called e.act || false) && is_called e past) h) (wanted refl)
-  at_id false wanted h = subst (λ stays. owed_by e.act (has_child e.id (kept_children past)) (is_order Start (open_of e.id past)) (starts_in e (stage_of past)) (not (is_asked e.id past)) (stays && is_called e past) ≡ true) (or_true (stays_called e.act)) h
+owed_asked e i past wanted h = grind arith
 
 -- an entry that is found stands in the table
 pub entry_listed : (id : List ℕ) (es : List Entry) (e : Entry) → entry_of id es ≡ Some e → list_any (has_id id) es ≡ true
 entry_listed id [] e h = absurd (none-some e h)
-entry_listed id (x ∷ es) e h = at_id (same_id id x.id) h (entry_listed id es e) where
-  at_id : (b : Bool) → cond b (Some x) (entry_of id es) ≡ Some e → (entry_of id es ≡ Some e → list_any (has_id id) es ≡ true) → (b || list_any (has_id id) es) ≡ true
-  at_id true h before = refl
-  at_id false h before = before h
+entry_listed id (x ∷ es) e h = grind (arith, entry_listed id es e)
 
 -- a test of the entries before an id's follows from another, where it does at each entry that its own id finds
 before_less : (p q : Entry → Bool) (id : List ℕ) (es : List Entry) → is_distinct es ≡ true → ((e : Entry) → entry_of e.id es ≡ Some e → p e ≡ true → q e ≡ true) → list_any p (entries_before id es) ≡ true → list_any q (entries_before id es) ≡ true
@@ -242,7 +144,7 @@ before_less p q id (x ∷ es) distinct less h = at_id (same_id id x.id) h (befor
 
 -- where each entry that is owed after was owed before, no earlier entry becomes owed
 ahead_less : (id : List ℕ) (happening : Event) (past : List Event) → is_distinct (table_of past) ≡ true → ((e : Entry) → entry_of e.id (table_of past) ≡ Some e → is_owed e (happening ∷ past) ≡ true → is_owed e past ≡ true) → is_owed_before id past ≡ false → list_any (λ e. is_owed e (happening ∷ past)) (entries_before id (table_of past)) ≡ false
-ahead_less id happening past distinct less h = falsely (list_any (λ e. is_owed e (happening ∷ past)) (entries_before id (table_of past))) (is_owed_before id past) (before_less (λ e. is_owed e (happening ∷ past)) (λ e. is_owed e past) id (table_of past) distinct less) h
+ahead_less id happening past distinct less h = grind (arith, before_less)
 
 -- an entry whose Start is due is wanted
 run_wanted : (i : List ℕ) (past : List Event) → MayRun i (table_of past) past → is_distinct (table_of past) ≡ true → (e : Entry) → entry_of e.id (table_of past) ≡ Some e → same_id e.id i ≡ true → is_wanted e past ≡ true
@@ -258,8 +160,7 @@ ready_start i past distinct may = record { childless = may.run.childless; placed
 
 -- the field ready
 pub start_stays : (b : Bool) (ask : OrderKind) (o : Option OrderKind) → same_ask Start ask ≡ false → cond b (Some ask) o ≡ Some Start → o ≡ Some Start
-start_stays true ask o other h = both_ways (same_ask Start ask) (ap (same_ask Start) (same_Some ask Start h)) other
-start_stays false ask o other h = h
+start_stays b ask o other h = grind arith
 
 ready_asked : (goal : Goal) (i : List ℕ) (ask : OrderKind) (past : List Event) → is_due goal (step.Order i ask) past ≡ true → is_distinct (table_of past) ≡ true → (id : List ℕ) → (undone_of id past ≡ Some Start → Ready id past) → undone_of id (Asked i ask ∷ past) ≡ Some Start → Ready id (Asked i ask ∷ past)
 ready_asked goal i Start past may distinct id before h = at_id (same_id id i) refl h where
@@ -331,10 +232,7 @@ ready_keeps goal happening past may holds id h = same_ready id happening past re
 
 -- the field stopping
 pub stop_excluded : (child : Child) (ask : OrderKind) (past : List Event) → stop_due child past ≡ Some ask → is_excluded past child ≡ true
-stop_excluded child ask past h = at_child (is_excluded past child) (is_missed child past) (stop_by (grace_of past) (time_of past) (spell_hits child past)) h where
-  at_child : (b c : Bool) (o : Option OrderKind) → cond (b && not c) o None ≡ Some ask → b ≡ true
-  at_child true c o h = refl
-  at_child false c o h = absurd (none-some ask h)
+stop_excluded child ask past h = grind arith
 
 -- a child that a signal is due to is known, so unreaped where no order of its id is open
 pub stop_unreaped : (id : List ℕ) (ask : OrderKind) (past : List Event) → ((x : List ℕ) → is_untold x past ≡ true → is_some (open_of x past) ≡ true) → (may : MayStop id ask past) → (p : Child → Bool) → p may.child ≡ true → list_any (λ child. is_of id child && p child) (unreaped_children past) ≡ true
@@ -344,10 +242,7 @@ stop_may : (id : List ℕ) (ask : OrderKind) (past : List Event) → ((x : List 
 stop_may id ask past told may = stop_unreaped id ask past told may (is_excluded past) (stop_excluded may.child ask past may.due)
 
 pub asked_may_term : (goal : Goal) (i : List ℕ) (ask : OrderKind) (past : List Event) → is_due goal (step.Order i ask) past ≡ true → ((x : List ℕ) → is_untold x past ≡ true → is_some (open_of x past) ≡ true) → is_signal ask ≡ true → may_term i past ≡ true
-asked_may_term goal i Term past may told signal = stop_may i Term past told (due_facts goal past (step.Order i Term) may)
-asked_may_term goal i Kill past may told signal = stop_may i Kill past told (due_facts goal past (step.Order i Kill) may)
-asked_may_term goal i Start past may told signal = absurd (false≢true signal)
-asked_may_term goal i Look past may told signal = absurd (false≢true signal)
+asked_may_term goal i ask past may told signal = grind (arith, stop_may, due_facts)
 
 stop_keeps : (goal : Goal) (happening : Event) (past : List Event) → may_come goal happening past ≡ true → Holds past → (id : List ℕ) (ask : OrderKind) → undone_of id (happening ∷ past) ≡ Some ask → is_signal ask ≡ true → may_term id (happening ∷ past) ≡ true
 stop_keeps goal (NewTable table) past may holds id ask h signal = no_signal id ask past (and_parts (is_quiet past) (is_distinct table) may).0 h signal
@@ -358,7 +253,7 @@ stop_keeps goal (Asked i given) past may holds id ask h signal = at_id (same_id 
   at_id : (b : Bool) → same_id id i ≡ b → cond b (Some given) (undone_of id past) ≡ Some ask → may_term id past ≡ true
   at_id true same h = ap (λ x. may_term x past) (same_id-is id i same) ∙ asked_may_term goal i given past may holds.told (ap is_signal (same_Some given ask h) ∙ signal)
   at_id false differ h = holds.stopping id ask h signal
-stop_keeps goal (Birth i n) past may holds id ask h signal = cleared (same_id id i) (undone_of id past) ask (λ differ is. or_right (same_id id i && is_excluded past (newborn i n past)) (may_term id past) (holds.stopping id ask is signal)) h
+stop_keeps goal (Birth i n) past may holds id ask h signal = grind arith
 stop_keeps goal (Reaped i n status) past may holds id ask h signal = cleared (same_id id i) (undone_of id past) ask (λ differ is. any_within (λ child. is_of id child && is_excluded past child) (λ child. not (is_child i n child)) (other differ) (unreaped_children past) ∙ holds.stopping id ask is signal) h where
   other : same_id id i ≡ false → (child : Child) → (is_of id child && is_excluded past child) ≡ true → not (is_child i n child) ≡ true
   other differ child own = not_from (is_child i n child) (and_left (same_id i child.id) (n == child.number) (same_id-apart id i child.id differ (and_parts (is_of id child) (is_excluded past child) own).0))
@@ -372,14 +267,10 @@ stop_keeps goal (_) past may holds id ask h signal = holds.stopping id ask h sig
 
 -- the fields distinct and dawn
 distinct_keeps : (goal : Goal) (happening : Event) (past : List Event) → may_come goal happening past ≡ true → is_distinct (table_of past) ≡ true → is_distinct (table_of (happening ∷ past)) ≡ true
-distinct_keeps goal (NewTable table) past may distinct = (and_parts (is_quiet past) (is_distinct table) may).1
-distinct_keeps goal (_) past may distinct = distinct
+distinct_keeps goal happening past may distinct = grind arith
 
 dawn_keeps : (goal : Goal) (happening : Event) (past : List Event) → may_come goal happening past ≡ true → Holds past → stage_of (happening ∷ past) ≡ None → list_any (λ (child : Child). true) (kept_children (happening ∷ past)) ≡ false
-dawn_keeps goal (Enter s grace) past may holds h = absurd (none-some s (sym h))
-dawn_keeps goal (Birth i n) past may holds h = not_placed i past h (born_ready goal i n past may holds).placed
-dawn_keeps goal (Told i) past may holds h = falsely (list_any (λ (child : Child). true) (kept_children (Told i ∷ past))) (list_any (λ (child : Child). true) (kept_children past)) (kept_before_told (λ child. true) i past) (holds.dawn h)
-dawn_keeps goal (_) past may holds h = holds.dawn h
+dawn_keeps goal happening past may holds h = grind (arith, not_placed, born_ready, kept_before_told)
 
 pub keeps : (goal : Goal) (happening : Event) (past : List Event) → may_come goal happening past ≡ true → Holds past → Holds (happening ∷ past)
 keeps goal happening past may holds = record {
@@ -392,14 +283,7 @@ keeps goal happening past may holds = record {
 }
 
 pub begins : (table : List Entry) → is_distinct table ≡ true → Holds (NewTable table ∷ [])
-begins table distinct = record {
-  distinct = distinct;
-  dawn = λ h. refl;
-  told = λ id h. absurd (false≢true h);
-  done = λ id ask h. refl;
-  ready = λ id h. absurd (none-some Start h);
-  stopping = λ id ask h signal. absurd (none-some ask h);
-}
+begins table distinct = grind arith
 
 -- what holds at the first table and is kept by each happening that may come holds of every sound trace
 pub sound_ind : (goal : Goal) (P : List Event → Type 0) → ((table : List Entry) → is_distinct table ≡ true → P (NewTable table ∷ [])) → ((happening : Event) (past : List Event) → may_come goal happening past ≡ true → is_sound goal past ≡ true → P past → P (happening ∷ past)) → (past : List Event) → is_sound goal past ≡ true → P past

@@ -1,23 +1,6 @@
 -- Of each unreaped child at most one Hit of a KILL is told in a spell.
-use Rattle.std.proofs.Common.{◌≡◌, ◌≤◌, ◌+◌, refl, sym, ◌∙◌, ap, subst, ℕ, Bool, true, false, not, ◌&&◌, ◌||◌, cond, nat_le, List, [], ◌∷◌, ◌++◌, filter, map, length, Option, Some, None, arith, le_trans, le_refl, lit≤, length-append, suc}
-use Rattle.std.specs.List.{list_any, list_all}
-use Rattle.std.proofs.lemmas.Bool.{false≢true, and_parts, and_from, or_left, or_parts, le-leb, leb-true}
-use Rattle.std.proofs.lemmas.List.Elements.{filter-append}
-use Rattle.init_words.specs.declared.orders.OrderKind.{OrderKind}
-use Rattle.init_words.specs.declared.orders.OrderKind.TheVariants.{Start, Look, Term, Kill}
-use Rattle.init_words.specs.Ids.{same_id}
-use Rattle.trace_events.specs.declared.happenings.Happening.TheVariants.{Asked, Birth, NoBirth, Reaped, Still, NoLook, Hit, Miss, Told}
-use Rattle.trace_events.specs.declared.steps.Goal.{Goal}
+use Rattle.trace_laws.proofs.Words.{◌≡◌, ◌≤◌, ◌+◌, refl, sym, ◌∙◌, ap, subst, ℕ, Bool, true, false, not, ◌&&◌, ◌||◌, cond, nat_le, List, [], ◌∷◌, ◌++◌, filter, map, length, Option, Some, None, arith, le_trans, le_refl, length-append, list_any, list_all, false≢true, and_parts, and_from, or_left, or_parts, le-leb, leb-true, filter-append, OrderKind, Start, Look, Term, Kill, same_id, Asked, Birth, NoBirth, Reaped, Still, NoLook, Hit, Miss, Told, Goal, Event, Child, grace_of, time_of, is_of, is_child, open_of, undone_of, is_untold, newborn, unreaped_children, is_order, Signal, untold_hits, told_at, in_spell, spell_hits, is_due, may_come, is_sound, kills_once, same_id-is, same_id-self, same_id-sym, both_ways, any_less, all_less, all_fail}
 use Rattle.trace_events.specs.declared.steps.Step.TheVariants as step
-use Rattle.trace_events.specs.Event.{Event}
-use Rattle.trace_events.specs.Past.{Child, grace_of, time_of, is_of, is_child, open_of, undone_of, is_untold, newborn, unreaped_children}
-use Rattle.trace_events.specs.Wanted.{is_order, is_excluded}
-use Rattle.trace_events.specs.Spells.{Signal, untold_hits, told_at, in_spell, spell_hits}
-use Rattle.trace_events.specs.Due.{is_due}
-use Rattle.trace_events.specs.Sound.{may_come, is_sound}
-use Rattle.trace_events.specs.Bounds.{kills_once}
-use Rattle.init_words.proofs.Same.{same_id-is, same_id-self, same_id-sym}
-use Rattle.init_words.proofs.Tests.{both_ways, or_either, any_less, all_less, all_fail}
 use Rattle.trace_laws.proofs.Tests.{is_order-is}
 use Rattle.trace_laws.proofs.Orders.{undone_is_open}
 use Rattle.trace_laws.proofs.Lone.{only_one}
@@ -45,54 +28,32 @@ kills child past = told_kills child past + other_kills child.id past
 add_less : (a b c d : ℕ) → a ≤ c → b ≤ d → a + b ≤ c + d
 add_less a b c d ac bd = omega arith
 
--- what a happening tells is added to the spell, or the spell is over
-spell_less : (b : Bool) (new old : List Signal) → length (filter killing (cond b (new ++ old) [])) ≤ length (filter killing new) + length (filter killing old)
-spell_less false new old = omega arith
-spell_less true new old = rw (filter-append killing new old, length-append (filter killing new) (filter killing old)) (le_refl (length (filter killing new) + length (filter killing old)))
-
 spell_same : (b : Bool) (old : List Signal) → length (filter killing (cond b ([] ++ old) [])) ≤ length (filter killing old)
-spell_same false old = omega arith
-spell_same true old = le_refl (length (filter killing old))
+spell_same b old = grind arith
 
 told_same_kills : (now : ℕ) (orders : List (Option OrderKind)) → length (filter killing (map (told_at now) orders)) ≡ length (filter (is_order Kill) orders)
 told_same_kills now [] = refl
-told_same_kills now (order ∷ orders) = split (is_order Kill order) (told_same_kills now orders) where
-  split : (b : Bool) → length (filter killing (map (told_at now) orders)) ≡ length (filter (is_order Kill) orders) → length (cond b (told_at now order ∷ filter killing (map (told_at now) orders)) (filter killing (map (told_at now) orders))) ≡ length (cond b (order ∷ filter (is_order Kill) orders) (filter (is_order Kill) orders))
-  split true same = ap (λ n. suc n) same
-  split false same = same
+told_same_kills now (order ∷ orders) = grind (arith, told_same_kills now orders)
 
 -- an act done on an order that was not given: nothing new is under way
 act_less : (b : Bool) (n : ℕ) (order : Option OrderKind) → n + coming (cond b None order) ≤ n + coming order
-act_less true n order = omega arith
-act_less false n order = le_refl (n + coming order)
+act_less b n order = grind arith
 
 born_less : (b : Bool) (orders : List (Option OrderKind)) (order : Option OrderKind) → length (filter (is_order Kill) (cond b [] orders)) + coming (cond b None order) ≤ length (filter (is_order Kill) orders) + coming order
-born_less true orders order = omega arith
-born_less false orders order = le_refl (length (filter (is_order Kill) orders) + coming order)
+born_less b orders order = grind arith
 
 asked_less : (b : Bool) (n : ℕ) (ask : OrderKind) (order : Option OrderKind) → is_order Kill (Some ask) ≡ false → n + coming (cond b (Some ask) order) ≤ n + coming order
-asked_less true n ask order other = rw other (omega arith)
-asked_less false n ask order other = le_refl (n + coming order)
+asked_less b n ask order other = grind arith
 
 -- a Hit is of the order that was undone
 hit_less : (b : Bool) (orders : List (Option OrderKind)) (left given : Option OrderKind) → (b ≡ true → left ≡ given) → length (filter (is_order Kill) (cond b (given ∷ orders) orders)) + coming (cond b None left) ≤ length (filter (is_order Kill) orders) + coming left
-hit_less false orders left given is = le_refl (length (filter (is_order Kill) orders) + coming left)
-hit_less true orders left given is = rw (is refl) (split (is_order Kill given)) where
-  split : (b : Bool) → length (cond b (given ∷ filter (is_order Kill) orders) (filter (is_order Kill) orders)) + 0 ≤ length (filter (is_order Kill) orders) + cond b 1 0
-  split true = omega arith
-  split false = omega arith
+hit_less b orders left given is = grind arith
 
 told_less : (b c : Bool) (now : ℕ) (orders : List (Option OrderKind)) (left : Option OrderKind) (old : List Signal) → length (filter killing (cond c (cond b (map (told_at now) orders) [] ++ old) [])) + (length (filter (is_order Kill) (cond b [] orders)) + coming (cond b None left)) ≤ length (filter killing old) + (length (filter (is_order Kill) orders) + coming left)
-told_less true c now orders left old =
-    let told = spell_less c (map (told_at now) orders) old in
-    let same = told_same_kills now orders in
-    omega (arith, told, same)
-told_less false c now orders left old = add_less _ _ _ _ (spell_same c old) (le_refl (length (filter (is_order Kill) orders) + coming left))
+told_less b c now orders left old = grind (arith, filter-append, length-append, told_same_kills, add_less, spell_same)
 
 undone_given : (id : List ℕ) (past : List Event) → (is_order Term (undone_of id past) || is_order Kill (undone_of id past)) ≡ true → undone_of id past ≡ open_of id past
-undone_given id past h = or_either (is_order Term (undone_of id past)) (is_order Kill (undone_of id past)) h (given Term) (given Kill) where
-  given : (ask : OrderKind) → is_order ask (undone_of id past) ≡ true → undone_of id past ≡ open_of id past
-  given ask is = let order = is_order-is ask (undone_of id past) is in order ∙ sym (undone_is_open id ask past order)
+undone_given id past h = grind (arith, is_order-is, undone_is_open)
 
 -- every happening but the order of a KILL keeps the count of a child's from rising
 abbrev is_kill : Event → Bool
@@ -117,10 +78,7 @@ kills_less goal happening past may other child = add_less _ _ _ _ (spell_same (i
 -- where nothing of an id is untold, no Hit of it is
 pub hits_told : (id : List ℕ) (past : List Event) → is_untold id past ≡ false → untold_hits id past ≡ []
 hits_told id [] h = refl
-hits_told id (Told i ∷ past) h = at_id (same_id id i) h (hits_told id past) where
-  at_id : (b : Bool) → (not b && is_untold id past) ≡ false → (is_untold id past ≡ false → untold_hits id past ≡ []) → cond b [] (untold_hits id past) ≡ []
-  at_id true h rest = refl
-  at_id false h rest = rest h
+hits_told id (Told i ∷ past) h = grind (arith, hits_told id past)
 hits_told id (Birth i n ∷ past) h = let parts = or_parts (same_id id i) (is_untold id past) h in rw parts.0 (hits_told id past parts.1)
 hits_told id (Hit i ∷ past) h = let parts = or_parts (same_id id i) (is_untold id past) h in rw parts.0 (hits_told id past parts.1)
 hits_told id (NoBirth i ∷ past) h = hits_told id past (or_parts (same_id id i) (is_untold id past) h).1
@@ -144,20 +102,11 @@ one_all p r (x ∷ xs) one there = split (p x) (r x) one there (one_all p r xs) 
 
 all_and : (p q : Child → Bool) (xs : List Child) → list_all p xs ≡ true → list_all q xs ≡ true → list_all (λ x. p x && q x) xs ≡ true
 all_and p q [] f g = refl
-all_and p q (x ∷ xs) f g =
-    let here = and_parts (p x) (list_all p xs) f in
-    let there = and_parts (q x) (list_all q xs) g in
-    and_from (p x && q x) (list_all (λ y. p y && q y) xs) (and_from (p x) (q x) here.0 there.0) (all_and p q xs here.1 there.1)
+all_and p q (x ∷ xs) f g = grind (arith, all_and p q xs)
 
 all_filtered : (p q : Child → Bool) (xs : List Child) → list_all p xs ≡ true → list_all p (filter q xs) ≡ true
 all_filtered p q [] h = refl
-all_filtered p q (x ∷ xs) h = split (q x) (all_filtered p q xs parts.1) where
-  parts : (p x ≡ true) × (list_all p xs ≡ true)
-  parts = and_parts (p x) (list_all p xs) h
-
-  split : (b : Bool) → list_all p (filter q xs) ≡ true → list_all p (cond b (x ∷ filter q xs) (filter q xs)) ≡ true
-  split true rest = and_from (p x) (list_all p (filter q xs)) parts.0 rest
-  split false rest = rest
+all_filtered p q (x ∷ xs) h = grind (arith, all_filtered p q xs)
 
 -- each unreaped child has at most one
 abbrev few_kills : List Event → Child → Bool
@@ -182,20 +131,10 @@ kill_first goal i past due sound = one_all (is_of i) (no_kill past) (unreaped_ch
   none = ap (λ hits. nat_le (length (filter killing hits)) 0) one.only ∙ ap (λ order. nat_le (length (cond (is_order Kill order) (one.signal ∷ []) [])) 0) term
 
 killed_less : (b c : Bool) (orders : List (Option OrderKind)) (left : Option OrderKind) (old : List Signal) → (b ≡ true → orders ≡ []) → length (filter killing old) + (length (filter (is_order Kill) orders) + coming left) ≤ 1 → (not b || nat_le (length (filter killing old)) 0) ≡ true → length (filter killing (cond c ([] ++ old) [])) + (length (filter (is_order Kill) orders) + coming (cond b (Some Kill) left)) ≤ 1
-killed_less true c orders left old free few none =
-    let told = spell_same c old in
-    let first = leb-true (length (filter killing old)) 0 none in
-    rw (free refl) (omega (arith, told, first))
-killed_less false c orders left old free few none = le_trans (add_less _ _ _ _ (spell_same c old) (le_refl (length (filter (is_order Kill) orders) + coming left))) few
-
--- a child that is born begins with none
-begun_none : (b c : Bool) (orders : List (Option OrderKind)) (left : Option OrderKind) (old : List Signal) → b ≡ true → length (filter killing (cond (c && not b) ([] ++ old) [])) + (length (filter (is_order Kill) (cond b [] orders)) + coming (cond b None left)) ≤ 1
-begun_none true true orders left old h = lit≤ tt
-begun_none true false orders left old h = lit≤ tt
-begun_none false c orders left old h = absurd (false≢true h)
+killed_less b c orders left old free few none = grind arith
 
 begun_few : (i : List ℕ) (n : ℕ) (past : List Event) → few_kills (Birth i n ∷ past) (newborn i n past) ≡ true
-begun_few i n past = le-leb (kills (newborn i n past) (Birth i n ∷ past)) 1 (begun_none (same_id i i) (is_excluded past (newborn i n past)) (untold_hits i past) (undone_of i past) (spell_hits (newborn i n past) past) (same_id-self i))
+begun_few i n past = grind (arith, same_id-self)
 
 sound_kills : (goal : Goal) (past : List Event) → is_sound goal past ≡ true → list_all (few_kills past) (unreaped_children past) ≡ true
 sound_kills goal past h = sound_ind goal (λ before. list_all (few_kills before) (unreaped_children before) ≡ true) (λ table distinct. refl) next past h where

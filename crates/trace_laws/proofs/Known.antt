@@ -1,23 +1,7 @@
 -- What init reads of its kept children off the known ones.
-use Rattle.std.proofs.Common.{is_none, ◌≡◌, ◌≤◌, refl, sym, ◌∙◌, ap, ℕ, Bool, true, false, not, ◌&&◌, ◌||◌, List, ◌∷◌, filter, length, Option, Some, None, lit≤, ◌⊎◌, inl, inr}
-use Rattle.std.specs.List.{list_any}
-use Rattle.std.proofs.lemmas.Bool.{and_right, false≢true, and_parts, and_from}
-use Rattle.init_words.specs.declared.entries.Entry.{Entry}
-use Rattle.init_words.specs.declared.orders.OrderKind.{OrderKind}
-use Rattle.init_words.specs.declared.orders.OrderKind.TheVariants.{Start, Look, Term, Kill}
-use Rattle.init_words.specs.Ids.{same_id}
-use Rattle.init_words.specs.Entries.{waited_of}
-use Rattle.inittab_text.specs.Tables.{is_distinct}
-use Rattle.trace_events.specs.declared.happenings.Happening.TheVariants.{NewTable, Enter, Birth, Told}
-use Rattle.trace_events.specs.declared.steps.Goal.{Goal}
+use Rattle.trace_laws.proofs.Words.{is_none, ◌≡◌, ◌≤◌, refl, ap, ℕ, Bool, true, false, not, ◌&&◌, ◌||◌, List, ◌∷◌, filter, length, Option, Some, None, lit≤, ◌⊎◌, inl, inr, arith, list_any, false≢true, and_parts, and_from, Entry, OrderKind, Start, Look, Term, Kill, waited_of, is_distinct, NewTable, Birth, Told, Goal, Event, Child, is_of, has_child, open_of, is_quiet, newborn, unreaped_children, kept_children, known_children, wanted_by, starts_now, is_order, is_asked, is_called, is_wanted, is_owed, is_excluded, can_start, both_ways, same_tests, or_either, any_less, may_come, is_sound}
+use Rattle.trace_events.specs.declared.happenings.Happening.TheVariants.{Enter}
 use Rattle.trace_events.specs.declared.steps.Step.TheVariants as step
-use Rattle.trace_events.specs.Event.{Event}
-use Rattle.trace_events.specs.Past.{Child, is_of, has_child, open_of, is_quiet, newborn, unreaped_children, kept_children, known_children}
-use Rattle.init_words.specs.Actions.{wanted_by}
-use Rattle.trace_events.specs.Wanted.{starts_now, is_order, is_asked, is_called, is_wanted, is_owed, is_excluded}
-use Rattle.trace_events.specs.Due.{can_start}
-use Rattle.init_words.proofs.Tests.{or_true, both_ways, same_tests, or_either, any_less}
-use Rattle.trace_events.specs.Sound.{may_come, is_sound}
 use Rattle.trace_laws.proofs.Orders.{quiet_looks, known_kept, told_any, told_finds, told_same, told_other, same_has}
 use Rattle.trace_laws.proofs.Dues.{due_facts}
 use Rattle.trace_laws.proofs.Keeps.{born_ready, sound_holds, sound_ind, placed_spared}
@@ -45,17 +29,11 @@ has_known goal past sound id free = same_has id (kept_children past) (known_chil
 
 -- an id has a kept child or an open Start exactly if it has a known child or an open Start
 pub busy_known : (goal : Goal) (past : List Event) → is_sound goal past ≡ true → (id : List ℕ) → (has_child id (kept_children past) || is_order Start (open_of id past)) ≡ (has_child id (known_children past) || is_order Start (open_of id past))
-busy_known goal past sound id = split (is_order Start (open_of id past)) (has_known goal past sound id) where
-  split : (b : Bool) → (b ≡ false → has_child id (kept_children past) ≡ has_child id (known_children past)) → (has_child id (kept_children past) || b) ≡ (has_child id (known_children past) || b)
-  split true same = or_true (has_child id (kept_children past)) ∙ sym (or_true (has_child id (known_children past)))
-  split false same = ap (λ b. b || false) (same refl)
+busy_known goal past sound id = grind (arith, has_known)
 
 -- so what init reads of an entry off its kept children it may read off the known ones: whether it is idle, wanted, owed, can start
 pub idle_known_child : (goal : Goal) (past : List Event) → is_sound goal past ≡ true → (id : List ℕ) → (not (has_child id (kept_children past)) && not (is_order Start (open_of id past))) ≡ (not (has_child id (known_children past)) && not (is_order Start (open_of id past)))
-idle_known_child goal past sound id = split (is_order Start (open_of id past)) (has_known goal past sound id) where
-  split : (b : Bool) → (b ≡ false → has_child id (kept_children past) ≡ has_child id (known_children past)) → (not (has_child id (kept_children past)) && not b) ≡ (not (has_child id (known_children past)) && not b)
-  split true same = and_right (not (has_child id (kept_children past))) false refl ∙ sym (and_right (not (has_child id (known_children past))) false refl)
-  split false same = ap (λ b. not b && true) (same refl)
+idle_known_child goal past sound id = grind (arith, has_known)
 
 pub wanted_known : (goal : Goal) (past : List Event) → is_sound goal past ≡ true → (e : Entry) → is_wanted e past ≡ (starts_now e past && wanted_by e.act (not (has_child e.id (known_children past)) && not (is_order Start (open_of e.id past))) (not (is_asked e.id past)) (is_called e past))
 wanted_known goal past sound e = ap (λ idle. starts_now e past && wanted_by e.act idle (not (is_asked e.id past)) (is_called e past)) (idle_known_child goal past sound e.id)
@@ -64,10 +42,7 @@ pub owed_known : (goal : Goal) (past : List Event) → is_sound goal past ≡ tr
 owed_known goal past sound e = ap (λ busy. waited_of e && (busy || is_wanted e past)) (busy_known goal past sound e.id)
 
 pub can_start_known : (goal : Goal) (past : List Event) → is_sound goal past ≡ true → (e : Entry) → can_start e past ≡ (is_wanted e past && not (has_child e.id (known_children past)) && is_none (open_of e.id past))
-can_start_known goal past sound e = read (open_of e.id past) refl where
-  read : (o : Option OrderKind) → open_of e.id past ≡ o → (is_wanted e past && not (has_child e.id (kept_children past)) && is_none o) ≡ (is_wanted e past && not (has_child e.id (known_children past)) && is_none o)
-  read None is = ap (λ b. is_wanted e past && not b && true) (has_known goal past sound e.id (ap (is_order Start) is))
-  read (Some ask) is = and_right (is_wanted e past && not (has_child e.id (kept_children past))) false refl ∙ sym (and_right (is_wanted e past && not (has_child e.id (known_children past))) false refl)
+can_start_known goal past sound e = grind (arith, has_known)
 
 -- an excluded child that is kept is known: one whose birth is not told is not excluded
 pub excluded_told : (goal : Goal) (past : List Event) → is_sound goal past ≡ true → (q : Child → Bool) → list_any (λ child. is_excluded past child && q child) (kept_children past) ≡ true → list_any (λ child. is_excluded past child && q child) (known_children past) ≡ true
@@ -113,8 +88,4 @@ excluded_known goal past sound = same_tests (list_any (is_excluded past) (kept_c
 pub known_single : (goal : Goal) (past : List Event) → is_sound goal past ≡ true → (id : List ℕ) → length (filter (is_of id) (known_children past)) ≤ 1
 known_single goal past h = sound_ind goal (λ before. (id : List ℕ) → length (filter (is_of id) (known_children before)) ≤ 1) (λ table distinct id. lit≤ tt) next past h where
   next : (happening : Event) (before : List Event) → may_come goal happening before ≡ true → is_sound goal before ≡ true → ((id : List ℕ) → length (filter (is_of id) (known_children before)) ≤ 1) → (id : List ℕ) → length (filter (is_of id) (known_children (happening ∷ before))) ≤ 1
-  next (Told i) before may sound rest id = at_id (same_id id i) refl where
-    at_id : (b : Bool) → same_id id i ≡ b → length (filter (is_of id) (known_children (Told i ∷ before))) ≤ 1
-    at_id true same = rw (told_same id i (unreaped_children before) (known_children before) same) (one_child goal before sound id)
-    at_id false differ = rw (told_other id i (unreaped_children before) (known_children before) differ) (rest id)
-  next _ before may sound rest id = rest id
+  next happening before may sound rest id = grind (arith, told_same, one_child, told_other)

@@ -1,15 +1,6 @@
 -- A sound trace is lawful.
-use Rattle.std.proofs.Common.{◌≡◌, ◌∷◌, refl, ℕ, Bool, true, not, cond, List, [], Some, None, is_none}
-use Rattle.std.proofs.lemmas.Bool.{and_parts, and_from}
-use Rattle.init_words.specs.declared.orders.OrderKind.TheVariants.{Start, Look, Term, Kill}
-use Rattle.trace_events.specs.declared.happenings.Happening.TheVariants.{Birth, Settle, Asked, Hold}
-use Rattle.trace_events.specs.declared.steps.Goal.{Goal}
-use Rattle.trace_events.specs.Event.{Event}
-use Rattle.trace_events.specs.Past.{unreaped_children}
-use Rattle.trace_events.specs.Due.{is_settled}
-use Rattle.trace_events.specs.Sound.{may_come, is_sound}
-use Rattle.trace_events.specs.Lawful.{is_alone, is_placed, is_in_turn, are_spared, is_free, is_due_hold, may_term, may_kill, broken, is_lawful, first_breach}
-use Rattle.init_words.proofs.Tests.{is_none-is}
+use Rattle.trace_laws.proofs.Words.{◌≡◌, ◌∷◌, refl, ℕ, Bool, true, not, cond, List, [], Some, None, is_none, arith, and_from, Start, Look, Term, Kill, Birth, Asked, Goal, Event, unreaped_children, is_settled, may_come, is_sound, is_alone, is_placed, is_in_turn, are_spared, is_free, is_due_hold, may_term, may_kill, broken, is_lawful, first_breach}
+use Rattle.trace_events.specs.declared.happenings.Happening.TheVariants.{Settle, Hold}
 use Rattle.trace_laws.proofs.Keeps.{sound_ind}
 use Rattle.trace_laws.proofs.Births.{birth_alone, birth_placed, birth_in_turn, birth_spared}
 use Rattle.trace_laws.proofs.Settling.{settle_settled}
@@ -41,6 +32,4 @@ sound_lawful goal past h = sound_ind goal (λ before. is_lawful before ≡ true)
 -- a lawful trace has no first breach
 pub lawful_unbroken : (past : List Event) → is_lawful past ≡ true → first_breach past ≡ None
 lawful_unbroken [] h = refl
-lawful_unbroken (happening ∷ past) h =
-    let parts = and_parts (is_none (broken happening past)) (is_lawful past) h in
-    rw (lawful_unbroken past parts.1, is_none-is (broken happening past) parts.0) refl
+lawful_unbroken (happening ∷ past) h = grind (arith, lawful_unbroken past)

@@ -26,3 +26,4 @@ pub mod Targets
 pub mod Tests
 pub mod Told
 pub mod Warnings
+pub mod Words

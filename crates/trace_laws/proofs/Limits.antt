@@ -1,20 +1,7 @@
 -- The respawn limit at each start and each hold of a sound trace.
-use Rattle.std.proofs.Common.{◌≡◌, refl, sym, ◌∙◌, ap, ℕ, Bool, true, false, not, ◌&&◌, ◌||◌, List, ◌∷◌, ◌++◌, Option}
-use Rattle.std.specs.Option.{option_map, option_map_or}
-use Rattle.std.proofs.lemmas.Bool.{and_from}
-use Rattle.init_words.specs.declared.entries.Entry.{Entry}
-use Rattle.init_words.specs.declared.orders.OrderKind.TheVariants.{Start}
-use Rattle.trace_events.specs.declared.happenings.Happening.TheVariants.{Asked, Hold}
-use Rattle.trace_events.specs.declared.steps.Goal.{Goal}
+use Rattle.trace_laws.proofs.Words.{◌≡◌, refl, sym, ◌∙◌, ap, ℕ, Bool, true, false, not, ◌&&◌, ◌||◌, List, ◌∷◌, ◌++◌, Option, option_map, option_map_or, and_from, Entry, Start, Asked, Goal, Event, table_of, is_held, is_full, is_limited, may_come, is_sound, is_limited_id, is_free, is_due_hold, is_distinct, not_from}
+use Rattle.trace_events.specs.declared.happenings.Happening.TheVariants.{Hold}
 use Rattle.trace_events.specs.declared.steps.Step.TheVariants as step
-use Rattle.trace_events.specs.Event.{Event}
-use Rattle.trace_events.specs.Past.{table_of}
-use Rattle.trace_events.specs.Timing.{is_held, is_full}
-use Rattle.init_words.specs.Actions.{is_limited}
-use Rattle.trace_events.specs.Sound.{may_come, is_sound}
-use Rattle.trace_events.specs.Lawful.{is_limited_id, is_free, is_due_hold}
-use Rattle.inittab_text.specs.Tables.{is_distinct}
-use Rattle.init_words.proofs.Tests.{not_from}
 use Rattle.trace_laws.proofs.Dues.{MayRun, MayStart, MayHold, due_facts}
 use Rattle.trace_laws.proofs.Keeps.{sound_holds}
 use Rattle.trace_laws.proofs.Births.{step_at}

@@ -1,39 +1,15 @@
 -- What holds of the orders and the children of any list of happenings.
-use Rattle.std.proofs.Common.{◌≡◌, refl, sym, ◌∙◌, ap, ◌⊎◌, inl, inr, ℕ, ◌==◌, Bool, true, false, not, ◌&&◌, ◌||◌, cond, List, [], ◌∷◌, ◌++◌, filter, Option, Some, None}
-use Rattle.std.specs.List.{list_any}
-use Rattle.std.specs.Option.{option_map_or}
-use Rattle.std.proofs.lemmas.Bool.{and_parts, and_from, or_left, or_right, or_parts, and_left, not_from_true, not-true}
-use Rattle.std.proofs.lemmas.List.Elements.{filter-append}
-use Rattle.std.proofs.lemmas.List.{append-nil}
-use Rattle.std.proofs.lemmas.List.Folds.{list_any-append}
-use Rattle.std.proofs.lemmas.Option.{none-some}
-use Rattle.init_words.specs.declared.orders.OrderKind.{OrderKind}
-use Rattle.init_words.specs.declared.orders.OrderKind.TheVariants.{Look}
-use Rattle.init_words.specs.Ids.{same_id}
-use Rattle.init_words.specs.Orders.{same_ask}
-use Rattle.trace_events.specs.declared.happenings.Happening.TheVariants.{Asked, Birth, NoBirth, Reaped, Still, NoLook, Hit, Miss, Told}
-use Rattle.trace_events.specs.Event.{Event}
-use Rattle.trace_events.specs.Past.{Child, is_of, is_child, has_child, open_of, undone_of, is_untold, Open, open_orders, is_quiet, is_idle, newborn, unreaped_children, kept_children, known_children}
-use Rattle.trace_events.specs.Bounds.{targets}
-use Rattle.init_words.proofs.Same.{same_id-is, same_id-from, same_id-apart}
-use Rattle.init_words.proofs.Tests.{Passing, passing, or_false, both_ways, or_either, not_from, any_less, any_filter, any_within, any_without, any_filtered, filter_within, filter_without}
+use Rattle.trace_laws.proofs.Words.{◌≡◌, refl, sym, ◌∙◌, ap, ◌⊎◌, inl, inr, ℕ, Bool, true, false, not, ◌&&◌, ◌||◌, cond, List, [], ◌∷◌, ◌++◌, filter, Option, Some, None, arith, list_any, option_map_or, and_parts, and_from, or_right, or_parts, not_from_true, not-true, filter-append, append-nil, list_any-append, none-some, OrderKind, Look, same_id, same_ask, Asked, Birth, NoBirth, Reaped, Still, NoLook, Hit, Miss, Told, Event, Child, is_of, is_child, has_child, open_of, undone_of, is_untold, Open, open_orders, is_quiet, is_idle, newborn, unreaped_children, kept_children, known_children, targets, same_id-is, same_id-from, same_id-apart, Passing, passing, or_false, both_ways, not_from, any_less, any_filter, any_within, any_without, any_filtered, filter_within, filter_without}
 
 -- an order that is cleared for some ids is there for the others
 pub cleared : {A : Type 0} {P : Type 0} (b : Bool) (o : Option A) (a : A) → (b ≡ false → o ≡ Some a → P) → cond b None o ≡ Some a → P
-cleared true o a rest h = absurd (none-some a h)
-cleared false o a rest h = rest refl h
+cleared b o a rest h = grind arith
 
 -- an undone order is open
 pub undone_is_open : (id : List ℕ) (ask : OrderKind) (past : List Event) → undone_of id past ≡ Some ask → open_of id past ≡ Some ask
 undone_is_open id ask [] h = h
-undone_is_open id ask (Asked i given ∷ past) h = either (same_id id i) (undone_is_open id ask past) h where
-  either : (b : Bool) → (undone_of id past ≡ Some ask → open_of id past ≡ Some ask) → cond b (Some given) (undone_of id past) ≡ Some ask → cond b (Some given) (open_of id past) ≡ Some ask
-  either true before h = h
-  either false before h = before h
-undone_is_open id ask (Told i ∷ past) h = either (same_id id i) (undone_is_open id ask past) h where
-  either : (b : Bool) → (undone_of id past ≡ Some ask → open_of id past ≡ Some ask) → cond b None (undone_of id past) ≡ Some ask → cond b None (open_of id past) ≡ Some ask
-  either true before h = h
-  either false before h = before h
+undone_is_open id ask (Asked i given ∷ past) h = grind (arith, undone_is_open id ask past)
+undone_is_open id ask (Told i ∷ past) h = grind (arith, undone_is_open id ask past)
 undone_is_open id ask (Birth i n ∷ past) h = cleared (same_id id i) (undone_of id past) ask (λ _. undone_is_open id ask past) h
 undone_is_open id ask (NoBirth i ∷ past) h = cleared (same_id id i) (undone_of id past) ask (λ _. undone_is_open id ask past) h
 undone_is_open id ask (Reaped i n status ∷ past) h = cleared (same_id id i) (undone_of id past) ask (λ _. undone_is_open id ask past) h
@@ -111,19 +87,11 @@ told_same id i there before same = filter-append (is_of id) (filter (is_of i) th
   outside child h = not_from_true (is_of i child) (inside child h)
 
 pub told_other : (id i : List ℕ) (there before : List Child) → same_id id i ≡ false → filter (is_of id) (filter (is_of i) there ++ filter (λ child. not (is_of i child)) before) ≡ filter (is_of id) before
-told_other id i there before differ = filter-append (is_of id) (filter (is_of i) there) (filter other before) ∙ rw (filter_without (is_of id) (is_of i) outside there, filter_within (is_of id) other inside before) refl where
-  other : Child → Bool
-  other child = not (is_of i child)
-
-  outside : (child : Child) → is_of id child ≡ true → is_of i child ≡ false
-  outside child h = same_id-apart id i child.id differ h
-
-  inside : (child : Child) → is_of id child ≡ true → other child ≡ true
-  inside child h = not_from (is_of i child) (outside child h)
+told_other id i there before differ = grind (arith, filter-append, filter_without, filter_within, same_id-apart)
 
 -- the children of an id: a reaping for another id takes none
 pub reaped_other : (id i : List ℕ) (n : ℕ) (there : List Child) → same_id id i ≡ false → filter (is_of id) (filter (λ child. not (is_child i n child)) there) ≡ filter (is_of id) there
-reaped_other id i n there differ = filter_within (is_of id) (λ child. not (is_child i n child)) (λ child h. not_from (is_child i n child) (and_left (same_id i child.id) (n == child.number) (same_id-apart id i child.id differ h))) there
+reaped_other id i n there differ = grind (arith, filter_within, same_id-apart)
 
 -- where nothing is untold of an id, its known children are its unreaped ones
 pub told_known : (id : List ℕ) (past : List Event) → is_untold id past ≡ false → filter (is_of id) (known_children past) ≡ filter (is_of id) (unreaped_children past)
@@ -132,9 +100,7 @@ told_known id (Told i ∷ past) h = split (same_id id i) refl h (told_known id p
   split : (b : Bool) → same_id id i ≡ b → (not b && is_untold id past) ≡ false → (is_untold id past ≡ false → filter (is_of id) (known_children past) ≡ filter (is_of id) (unreaped_children past)) → filter (is_of id) (filter (is_of i) (unreaped_children past) ++ filter (λ child. not (is_of i child)) (known_children past)) ≡ filter (is_of id) (unreaped_children past)
   split true same h before = told_same id i (unreaped_children past) (known_children past) same
   split false differ h before = told_other id i (unreaped_children past) (known_children past) differ ∙ before h
-told_known id (Birth i n ∷ past) h =
-    let parts = or_parts (same_id id i) (is_untold id past) h in
-    rw parts.0 (told_known id past parts.1)
+told_known id (Birth i n ∷ past) h = grind (arith, told_known id past)
 told_known id (Reaped i n status ∷ past) h =
     let parts = or_parts (same_id id i) (is_untold id past) h in
     told_known id past parts.1 ∙ sym (reaped_other id i n (unreaped_children past) parts.0)
@@ -147,16 +113,15 @@ told_known id (_ ∷ past) h = told_known id past h
 
 -- a child that a test finds after a Told was among the unreaped or the others before it
 pub told_any : (p : Child → Bool) (i : List ℕ) (there before : List Child) → list_any p (filter (is_of i) there ++ filter (λ child. not (is_of i child)) before) ≡ true → (list_any (λ child. is_of i child && p child) there ≡ true) ⊎ (list_any (λ child. not (is_of i child) && p child) before ≡ true)
-told_any p i there before h = or_either (list_any p (filter (is_of i) there)) (list_any p (filter (λ child. not (is_of i child)) before)) (sym (list_any-append p (filter (is_of i) there) (filter (λ child. not (is_of i child)) before)) ∙ h) (λ first. inl (sym (any_filter p (is_of i) there) ∙ first)) (λ second. inr (sym (any_filter p (λ child. not (is_of i child)) before) ∙ second))
+told_any p i there before h = grind (arith, list_any-append, any_filter)
 
 pub told_finds : (p : Child → Bool) (i : List ℕ) (there before : List Child) → (list_any (λ child. is_of i child && p child) there ≡ true) ⊎ (list_any (λ child. not (is_of i child) && p child) before ≡ true) → list_any p (filter (is_of i) there ++ filter (λ child. not (is_of i child)) before) ≡ true
-told_finds p i there before (inl h) = list_any-append p (filter (is_of i) there) (filter (λ child. not (is_of i child)) before) ∙ or_left (list_any p (filter (is_of i) there)) (list_any p (filter (λ child. not (is_of i child)) before)) (any_filter p (is_of i) there ∙ h)
-told_finds p i there before (inr h) = list_any-append p (filter (is_of i) there) (filter (λ child. not (is_of i child)) before) ∙ or_right (list_any p (filter (is_of i) there)) (list_any p (filter (λ child. not (is_of i child)) before)) (any_filter p (λ child. not (is_of i child)) before ∙ h)
+told_finds p i there before h = grind (arith, list_any-append, any_filter)
 
 -- the unreaped children are kept
 pub unreaped_kept : (p : Child → Bool) (past : List Event) → list_any p (unreaped_children past) ≡ true → list_any p (kept_children past) ≡ true
 unreaped_kept p [] h = h
-unreaped_kept p (Birth i n ∷ past) h = or_either (p (newborn i n past)) (list_any p (unreaped_children past)) h (λ here. or_left (p (newborn i n past)) (list_any p (kept_children past)) here) (λ more. or_right (p (newborn i n past)) (list_any p (kept_children past)) (unreaped_kept p past more))
+unreaped_kept p (Birth i n ∷ past) h = grind (arith, unreaped_kept p past)
 unreaped_kept p (Reaped i n status ∷ past) h = unreaped_kept p past (any_filtered p (λ child. not (is_child i n child)) (unreaped_children past) h)
 unreaped_kept p (Told i ∷ past) h = told_finds p i (unreaped_children past) (kept_children past) (split (is_of i found.item) refl (unreaped_kept others past)) where
   others : Child → Bool
@@ -172,7 +137,7 @@ unreaped_kept p (_ ∷ past) h = unreaped_kept p past h
 
 -- a Told makes no child kept
 pub kept_before_told : (p : Child → Bool) (i : List ℕ) (past : List Event) → list_any p (kept_children (Told i ∷ past)) ≡ true → list_any p (kept_children past) ≡ true
-kept_before_told p i past h = elim (told_any p i (unreaped_children past) (kept_children past) h) [ inl own ↦ unreaped_kept p past (any_less (λ child. is_of i child && p child) p (λ child both. (and_parts (is_of i child) (p child) both).1) (unreaped_children past) own) | inr other ↦ any_less (λ child. not (is_of i child) && p child) p (λ child both. (and_parts (not (is_of i child)) (p child) both).1) (kept_children past) other ]
+kept_before_told p i past h = grind (arith, told_any, unreaped_kept, any_less)
 
 -- the known children are kept
 pub known_kept : (p : Child → Bool) (past : List Event) → list_any p (known_children past) ≡ true → list_any p (kept_children past) ≡ true
@@ -183,8 +148,7 @@ known_kept p (Told i ∷ past) h = told_finds p i (unreaped_children past) (kept
   others child = not (is_of i child) && p child
 
   split : (list_any (λ child. is_of i child && p child) (unreaped_children past) ≡ true) ⊎ (list_any others (known_children past) ≡ true) → (list_any others (known_children past) ≡ true → list_any others (kept_children past) ≡ true) → (list_any (λ child. is_of i child && p child) (unreaped_children past) ≡ true) ⊎ (list_any others (kept_children past) ≡ true)
-  split (inl own) before = inl own
-  split (inr other) before = inr (before other)
+  split v0 before = grind arith
 known_kept p (_ ∷ past) h = known_kept p past h
 
 -- what holds of some child of an id, where two lists have the same children of it

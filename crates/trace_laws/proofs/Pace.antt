@@ -1,19 +1,5 @@
 -- The bound on starts: of eleven of a limited entry the last is at least two minutes after the first.
-use Rattle.std.proofs.Common.{◌≡◌, ◌≤◌, ◌+◌, ◌-◌, refl, ℕ, Bool, true, false, not, ◌&&◌, ◌||◌, cond, max, min, nat_lt, nat_le, List, [], ◌∷◌, ◌++◌, filter, length, drop, suc, zero, arith, le_trans, le_refl}
-use Rattle.std.specs.List.{list_all}
-use Rattle.std.proofs.lemmas.Bool.{and_parts, and_from, ltb-false, le-leb, leb-false, le-ltb, not-true}
-use Rattle.respawn_limit.specs.declared.TheConstants.{HOLD, STARTS, WINDOW, CLOCK_LIMIT}
-use Rattle.init_words.specs.declared.orders.OrderKind.TheVariants.{Start}
-use Rattle.init_words.specs.Ids.{same_id}
-use Rattle.trace_events.specs.declared.happenings.Happening.TheVariants.{NewTable, Enter, Asked, Clock}
-use Rattle.trace_events.specs.declared.steps.Goal.{Goal}
-use Rattle.trace_events.specs.Event.{Event}
-use Rattle.trace_events.specs.Past.{time_of}
-use Rattle.trace_events.specs.Timing.{start_times, hold_times, is_held, is_full}
-use Rattle.trace_events.specs.Sound.{is_sound}
-use Rattle.trace_events.specs.Lawful.{is_limited_id}
-use Rattle.trace_events.specs.Bounds.{is_spaced, keeps_pace}
-use Rattle.init_words.proofs.Tests.{not_from, all_less, all_fail}
+use Rattle.trace_laws.proofs.Words.{◌≡◌, ◌≤◌, ◌+◌, ◌-◌, refl, ℕ, Bool, true, false, not, ◌&&◌, ◌||◌, cond, nat_lt, nat_le, List, [], ◌∷◌, ◌++◌, filter, length, drop, suc, zero, arith, le_trans, list_all, and_parts, and_from, ltb-false, le-leb, leb-false, le-ltb, not-true, HOLD, STARTS, WINDOW, Start, Asked, Goal, Event, time_of, start_times, hold_times, is_held, is_full, is_sound, is_limited_id, is_spaced, keeps_pace, all_less, all_fail}
 use Rattle.trace_laws.proofs.Limits.{start_free}
 
 -- times that fall, the first no later than a bound
@@ -28,14 +14,7 @@ falls_below a b (t ∷ ts) le falls = (le_trans falls.0 le, falls.1)
 -- the starts of an id fall in time
 pub starts_fall : (id : List ℕ) (past : List Event) → Falling (time_of past) (start_times id past)
 starts_fall id [] = tt
-starts_fall id (NewTable table ∷ past) = tt
-starts_fall id (Enter stage grace ∷ past) = tt
-starts_fall id (Asked i Start ∷ past) = at_id (same_id id i) (starts_fall id past) where
-  at_id : (b : Bool) → Falling (time_of past) (start_times id past) → Falling (time_of past) (cond b (time_of past ∷ start_times id past) (start_times id past))
-  at_id true falls = (le_refl (time_of past), falls)
-  at_id false falls = falls
-starts_fall id (Clock reading ∷ past) = falls_below (time_of past) (max (min reading CLOCK_LIMIT) (time_of past)) (start_times id past) (omega arith) (starts_fall id past)
-starts_fall id (_ ∷ past) = starts_fall id past
+starts_fall id (happening ∷ past) = grind (arith, falls_below, starts_fall id past)
 
 -- a time is young where its age is below two minutes
 abbrev pub is_young : ℕ → ℕ → Bool
@@ -46,9 +25,7 @@ old_later now a b le old = le-ltb (now - b) WINDOW (omega (arith, ltb-false (now
 
 all_old : (now a : ℕ) (ts : List ℕ) → is_young now a ≡ false → Falling a ts → list_all (λ t. not (is_young now t)) ts ≡ true
 all_old now a [] old falls = refl
-all_old now a (t ∷ ts) old falls =
-    let this = old_later now a t falls.0 old in
-    and_from (not (is_young now t)) (list_all (λ u. not (is_young now u)) ts) (not_from (is_young now t) this) (all_old now t ts this falls.1)
+all_old now a (t ∷ ts) old falls = grind (arith, all_old now t ts)
 
 all_drop : (p : ℕ → Bool) (k : ℕ) (ts : List ℕ) → list_all p ts ≡ true → list_all p (drop k ts) ≡ true
 all_drop p zero ts h = h
@@ -61,9 +38,7 @@ few_young now bound zero [] falls few = refl
 few_young now bound (suc k) [] falls few = refl
 few_young now bound k (t ∷ ts) falls few = split (is_young now t) refl k few (λ j. few_young now t j ts falls.1) where
   split : (b : Bool) → is_young now t ≡ b → (k : ℕ) → length (cond b (t ∷ filter (is_young now) ts) (filter (is_young now) ts)) ≤ k → ((j : ℕ) → length (filter (is_young now) ts) ≤ j → list_all (λ u. not (is_young now u)) (drop j ts) ≡ true) → list_all (λ u. not (is_young now u)) (drop k (t ∷ ts)) ≡ true
-  split false old k few rest = all_drop (λ u. not (is_young now u)) k (t ∷ ts) (and_from (not (is_young now t)) (list_all (λ u. not (is_young now u)) ts) (not_from (is_young now t) old) (all_old now t ts old falls.1))
-  split true young zero few rest = absurd (omega arith)
-  split true young (suc k) few rest = rest k (omega arith)
+  split b old k few rest = grind (arith, all_drop, all_old)
 
 not_full : (n : ℕ) → nat_le STARTS n ≡ false → n ≤ 9
 not_full n h = omega (arith, leb-false STARTS n h)

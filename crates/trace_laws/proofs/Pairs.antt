@@ -1,27 +1,7 @@
 -- The laws of two happenings of a sound trace, by what comes between them.
-use Rattle.std.proofs.Common.{◌≡◌, ◌≤◌, ◌+◌, ◌-◌, refl, sym, ◌∙◌, ap, ℕ, Bool, true, false, not, ◌&&◌, ◌||◌, ◌==◌, cond, nat_le, List, [], ◌∷◌, ◌++◌, filter, length, drop, zero, suc, arith, append_assoc, eq-eqb}
-use Rattle.std.specs.List.{list_any, list_all}
-use Rattle.std.specs.Option.{option_map_or}
-use Rattle.std.proofs.lemmas.Bool.{false≢true, and_parts, and_from, or_left, or_right, or_parts, leb-true, cond-true, not-true}
-use Rattle.respawn_limit.specs.declared.TheConstants.{HOLD, STARTS, WINDOW}
-use Rattle.init_words.specs.declared.entries.Entry.{Entry}
-use Rattle.init_words.specs.declared.orders.OrderKind.{OrderKind}
-use Rattle.init_words.specs.declared.orders.OrderKind.TheVariants.{Start}
-use Rattle.init_words.specs.Ids.{same_id}
-use Rattle.inittab_text.specs.Tables.{act_of}
-use Rattle.trace_events.specs.declared.happenings.Happening.TheVariants.{NewTable, Enter, Asked, Hold, Birth, Reaped, Hit}
-use Rattle.trace_events.specs.declared.steps.Goal.{Goal}
-use Rattle.trace_events.specs.Event.{Event}
-use Rattle.trace_events.specs.Past.{table_of, time_of, Child, is_of, is_child, has_child, newborn, unreaped_children, known_children}
-use Rattle.trace_events.specs.Wanted.{is_excluded}
-use Rattle.trace_events.specs.Timing.{start_times, hold_times, is_held, is_full}
-use Rattle.init_words.specs.Actions.{is_limited}
-use Rattle.trace_events.specs.Sound.{is_sound}
-use Rattle.trace_events.specs.Lawful.{is_limited_id}
-use Rattle.trace_events.specs.Bounds.{targets, is_spaced}
-use Rattle.trace_laws.specs.Stretches.{is_steady, count_starts, is_order_of, is_reaping_of}
-use Rattle.init_words.proofs.Same.{same_id-self}
-use Rattle.init_words.proofs.Tests.{both_ways, any_less, filter_none}
+use Rattle.trace_laws.proofs.Words.{◌≡◌, ◌≤◌, ◌+◌, ◌-◌, refl, ◌∙◌, ap, ℕ, Bool, true, false, not, ◌&&◌, ◌||◌, ◌==◌, cond, nat_le, List, [], ◌∷◌, ◌++◌, filter, drop, zero, suc, arith, append_assoc, list_any, list_all, option_map_or, false≢true, and_parts, and_from, or_left, or_right, leb-true, not-true, HOLD, STARTS, WINDOW, Entry, OrderKind, Start, same_id, act_of, NewTable, Asked, Birth, Reaped, Hit, Goal, Event, table_of, time_of, is_of, is_child, has_child, newborn, unreaped_children, known_children, is_excluded, start_times, hold_times, is_held, is_full, is_limited, is_sound, is_limited_id, targets, is_spaced, is_steady, count_starts, is_order_of, is_reaping_of, same_id-self, both_ways, any_less, filter_none}
+use Rattle.std.proofs.Common.{eq-eqb}
+use Rattle.trace_events.specs.declared.happenings.Happening.TheVariants.{Enter, Hold}
 use Rattle.trace_laws.proofs.Births.{birth_alone}
 use Rattle.trace_laws.proofs.Limits.{hold_due}
 use Rattle.trace_laws.proofs.Pace.{start_paced}
@@ -36,9 +16,7 @@ earlier goal later next between first past h = ap (is_sound goal) (append_assoc 
 stays : (id : List ℕ) (n : ℕ) (between past : List Event) → list_any (is_reaping_of id n) between ≡ false → list_any (is_child id n) (unreaped_children past) ≡ true → list_any (is_child id n) (unreaped_children (between ++ past)) ≡ true
 stays id n [] past none there = there
 stays id n (Birth i m ∷ between) past none there = or_right (is_child id n (newborn i m (between ++ past))) (list_any (is_child id n) (unreaped_children (between ++ past))) (stays id n between past none there)
-stays id n (Reaped i m status ∷ between) past none there =
-    let parts = or_parts (same_id id i && n == m) (list_any (is_reaping_of id n) between) none in
-    reaped_pair id i n m (unreaped_children (between ++ past)) false parts.0 ∙ stays id n between past parts.1 there
+stays id n (Reaped i m status ∷ between) past none there = grind (arith, reaped_pair, stays id n between past)
 stays id n (_ ∷ between) past none there = stays id n between past none there
 
 -- between two births of an id the first child is reaped
@@ -60,16 +38,10 @@ steady_table (_ ∷ between) past steady = steady_table between past steady
 
 -- the times of the holds have that of a hold before a steady stretch
 hold_among : (p : ℕ → Bool) (id : List ℕ) (between past : List Event) → is_steady between ≡ true → list_all p (hold_times id (between ++ Hold id ∷ past)) ≡ true → p (time_of past) ≡ true
-hold_among p id [] past steady all = at_id (same_id id id) (same_id-self id) all where
-  at_id : (b : Bool) → b ≡ true → list_all p (cond b (time_of past ∷ hold_times id past) (hold_times id past)) ≡ true → p (time_of past) ≡ true
-  at_id true own all = (and_parts (p (time_of past)) (list_all p (hold_times id past)) all).0
-  at_id false own all = absurd (false≢true own)
+hold_among p id [] past steady all = grind (arith, same_id-self)
 hold_among p id (NewTable table ∷ between) past steady all = absurd (false≢true steady)
 hold_among p id (Enter stage grace ∷ between) past steady all = absurd (false≢true steady)
-hold_among p id (Hold i ∷ between) past steady all = hold_among p id between past steady (at_id (same_id id i) all) where
-  at_id : (b : Bool) → list_all p (cond b (time_of (between ++ Hold id ∷ past) ∷ hold_times id (between ++ Hold id ∷ past)) (hold_times id (between ++ Hold id ∷ past))) ≡ true → list_all p (hold_times id (between ++ Hold id ∷ past)) ≡ true
-  at_id true all = (and_parts (p (time_of (between ++ Hold id ∷ past))) (list_all p (hold_times id (between ++ Hold id ∷ past))) all).1
-  at_id false all = all
+hold_among p id (Hold i ∷ between) past steady all = grind (arith, hold_among p id between past)
 hold_among p id (_ ∷ between) past steady all = hold_among p id between past steady all
 
 -- the respawn limit holds for the id in a table
@@ -78,8 +50,7 @@ limited_in id table = option_map_or is_limited (act_of id table) false
 
 -- what the pace says of a limited id
 limited_pace : (id : List ℕ) (past : List Event) (b : Bool) → b ≡ true → (not b || is_spaced (time_of past) (start_times id past) && list_all (λ began. nat_le (began + HOLD) (time_of past)) (hold_times id past)) ≡ true → (is_spaced (time_of past) (start_times id past) ≡ true) × (list_all (λ began. nat_le (began + HOLD) (time_of past)) (hold_times id past) ≡ true)
-limited_pace id past true limited h = and_parts (is_spaced (time_of past) (start_times id past)) (list_all (λ began. nat_le (began + HOLD) (time_of past)) (hold_times id past)) h
-limited_pace id past false limited h = absurd (false≢true limited)
+limited_pace id past b limited h = grind arith
 
 -- with no new stage and no table between, a start is at least five minutes after a hold
 pub rested : (goal : Goal) (later between past : List Event) (id : List ℕ) → is_sound goal (later ++ Asked id Start ∷ (between ++ Hold id ∷ past)) ≡ true → is_steady between ≡ true → time_of past + HOLD ≤ time_of (between ++ Hold id ∷ past)
@@ -110,9 +81,7 @@ start_among p id (Asked i Start ∷ between) past k steady less all = at_id (sam
   now = time_of (between ++ Asked id Start ∷ past)
 
   at_id : (b : Bool) (k : ℕ) → k ≤ cond b (count_starts id between + 1) (count_starts id between) → list_all p (drop k (cond b (now ∷ times) times)) ≡ true → ((j : ℕ) → j ≤ count_starts id between → list_all p (drop j times) ≡ true → p (time_of past) ≡ true) → p (time_of past) ≡ true
-  at_id true zero less all rest = rest 0 (omega arith) (and_parts (p now) (list_all p times) all).1
-  at_id true (suc k) less all rest = rest k (omega arith) all
-  at_id false k less all rest = rest k less all
+  at_id b k less all rest = grind arith
 start_among p id (_ ∷ between) past k steady less all = start_among p id between past k steady less all
 
 -- of eleven starts of a limited entry, with no new stage and no table between, the last is at least two minutes after the first
@@ -127,28 +96,9 @@ apart goal later between past id h steady nine was = leb-true (time_of past + WI
 -- where no order about the id is given in a stretch, its targets stay
 targets_stay : (id : List ℕ) (between past : List Event) → list_any (is_order_of id) between ≡ false → targets id (between ++ past) ≡ targets id past
 targets_stay id [] past none = refl
-targets_stay id (Asked i ask ∷ between) past none =
-    let parts = or_parts (same_id id i) (list_any (is_order_of id) between) none in
-    rw parts.0 (targets_stay id between past parts.1)
+targets_stay id (Asked i ask ∷ between) past none = grind (arith, targets_stay id between past)
 targets_stay id (_ ∷ between) past none = targets_stay id between past none
 
 -- at a Hit the child that was known at its order is still unreaped and excluded
 pub on_order : (goal : Goal) (later between past : List Event) (id : List ℕ) (ask : OrderKind) → is_sound goal (later ++ Hit id ∷ (between ++ Asked id ask ∷ past)) ≡ true → list_any (is_order_of id) between ≡ false → (has_child id (known_children past) ≡ true) × (list_all (λ child. is_excluded (between ++ Asked id ask ∷ past) child && list_any (is_child id child.number) (unreaped_children (between ++ Asked id ask ∷ past))) (filter (is_of id) (known_children past)) ≡ true)
-on_order goal later between past id ask h none = (some_child, all.1) where
-  now : List Event
-  now = between ++ Asked id ask ∷ past
-
-  still : Child → Bool
-  still child = is_excluded now child && list_any (is_child id child.number) (unreaped_children now)
-
-  given : targets id now ≡ filter (is_of id) (known_children past)
-  given = targets_stay id between (Asked id ask ∷ past) none ∙ cond-true (same_id id id) (filter (is_of id) (known_children past)) (targets id past) (same_id-self id)
-
-  all : (not (length (filter (is_of id) (known_children past)) == 0) ≡ true) × (list_all still (filter (is_of id) (known_children past)) ≡ true)
-  all = and_parts (not (length (filter (is_of id) (known_children past)) == 0)) (list_all still (filter (is_of id) (known_children past))) (ap (λ ts. not (length ts == 0) && list_all still ts) (sym given) ∙ hit_own goal later id now h)
-
-  some_child : has_child id (known_children past) ≡ true
-  some_child = found (has_child id (known_children past)) refl where
-    found : (b : Bool) → has_child id (known_children past) ≡ b → b ≡ true
-    found true is = refl
-    found false is = both_ways (not (length (filter (is_of id) (known_children past)) == 0)) all.0 (ap (λ ts. not (length ts == 0)) (filter_none (is_of id) (known_children past) is))
+on_order goal later between past id ask h none = grind (arith, targets_stay, same_id-self, hit_own, filter_none)

@@ -1,18 +1,7 @@
 -- Runs that nothing disturbs, one happening after another.
-use Rattle.std.proofs.Common.{◌≡◌, true, ◌&&◌, List, [], ◌∷◌}
-use Rattle.std.proofs.lemmas.Bool.{false≢true, and_parts}
-use Rattle.init_words.specs.declared.entries.Entry.{Entry}
-use Rattle.inittab_text.specs.Tables.{is_distinct}
-use Rattle.trace_events.specs.declared.happenings.Happening.TheVariants.{NewTable}
-use Rattle.trace_events.specs.declared.steps.Goal.{Goal}
-use Rattle.trace_events.specs.Event.{Event}
-use Rattle.trace_events.specs.Past.{table_of}
-use Rattle.trace_events.specs.Due.{due, first}
-use Rattle.trace_events.specs.Sound.{may_come}
-use Rattle.trace_events.specs.Run.{is_next, is_run}
+use Rattle.trace_laws.proofs.Words.{◌≡◌, true, ◌&&◌, List, [], ◌∷◌, false≢true, and_parts, Entry, is_distinct, NewTable, Goal, Event, table_of, due, first, may_come, is_next, is_run, is_mild, is_undisturbed}
 use Rattle.trace_laws.proofs.Runs.{run_sound}
 use Rattle.trace_laws.proofs.Keeps.{Holds, sound_holds}
-use Rattle.trace_laws.specs.Runs.{is_mild, is_undisturbed}
 
 -- a run that nothing disturbs
 pub record Plain (goal : Goal) (past : List Event) : Type 0 where

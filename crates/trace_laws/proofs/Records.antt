@@ -1,24 +1,6 @@
 -- Each open order and each kept child has its place among init's records, whatever tables came.
-use Rattle.std.proofs.Common.{◌≡◌, refl, sym, ◌∙◌, ap, ◌⊎◌, inl, inr, ℕ, Bool, true, false, not, ◌||◌, cond, List, [], ◌∷◌, ◌++◌, filter, Some}
-use Rattle.std.specs.List.{list_any}
-use Rattle.std.proofs.lemmas.Bool.{false≢true, and_parts, or_left, or_right}
-use Rattle.std.proofs.lemmas.Option.{none-some, same_Some}
-use Rattle.std.proofs.lemmas.List.Folds.{list_any-append}
-use Rattle.init_words.specs.declared.entries.Entry.{Entry}
-use Rattle.init_words.specs.declared.orders.OrderKind.{OrderKind}
-use Rattle.init_words.specs.declared.orders.OrderKind.TheVariants.{Start, Look, Term, Kill}
-use Rattle.init_words.specs.Ids.{same_id}
-use Rattle.init_words.specs.Orders.{same_ask}
-use Rattle.inittab_text.specs.Tables.{ids_of, has_id, is_distinct}
-use Rattle.trace_events.specs.declared.happenings.Happening.TheVariants.{NewTable, Asked, Birth, Told}
-use Rattle.trace_events.specs.declared.steps.Goal.{Goal}
+use Rattle.trace_laws.proofs.Words.{◌≡◌, refl, sym, ◌∙◌, ap, ◌⊎◌, inl, inr, ℕ, Bool, true, false, not, ◌||◌, cond, List, [], ◌∷◌, ◌++◌, filter, Some, arith, list_any, false≢true, and_parts, or_right, none-some, same_Some, list_any-append, Entry, OrderKind, Start, Look, same_id, same_ask, ids_of, has_id, is_distinct, NewTable, Asked, Birth, Told, Goal, Event, table_of, is_of, has_child, open_of, is_quiet, unreaped_children, kept_children, known_children, is_due, left_ids, record_ids, may_come, is_sound, same_id-is, or_either, not_from, any_within}
 use Rattle.trace_events.specs.declared.steps.Step.TheVariants as step
-use Rattle.trace_events.specs.Event.{Event}
-use Rattle.trace_events.specs.Past.{table_of, is_of, has_child, open_of, is_quiet, unreaped_children, kept_children, known_children}
-use Rattle.trace_events.specs.Due.{is_due, left_ids, record_ids}
-use Rattle.trace_events.specs.Sound.{may_come, is_sound}
-use Rattle.init_words.proofs.Same.{same_id-is}
-use Rattle.init_words.proofs.Tests.{or_either, not_from, any_within}
 use Rattle.trace_laws.proofs.Orders.{cleared, quiet_looks, known_kept, kept_before_told, told_other, same_has}
 use Rattle.trace_laws.proofs.Dues.{due_facts}
 use Rattle.trace_laws.proofs.Keeps.{start_stays, born_ready, sound_holds, sound_ind}
@@ -26,10 +8,7 @@ use Rattle.trace_laws.proofs.Told.{stop_known, placed_listed}
 
 -- an open Look or signal is of an id with a known child
 asked_known : (goal : Goal) (i : List ℕ) (ask : OrderKind) (past : List Event) → is_due goal (step.Order i ask) past ≡ true → same_ask Start ask ≡ false → has_child i (known_children past) ≡ true
-asked_known goal i Start past may other = absurd (false≢true (sym other))
-asked_known goal i Look past may other = (due_facts goal past (step.Order i Look) may).there
-asked_known goal i Term past may other = stop_known i Term past (due_facts goal past (step.Order i Term) may)
-asked_known goal i Kill past may other = stop_known i Kill past (due_facts goal past (step.Order i Kill) may)
+asked_known goal i ask past may other = grind (arith, due_facts, stop_known)
 
 pub order_known : (goal : Goal) (past : List Event) → is_sound goal past ≡ true → (id : List ℕ) (ask : OrderKind) → open_of id past ≡ Some ask → same_ask Start ask ≡ false → has_child id (known_children past) ≡ true
 order_known goal past h = sound_ind goal (λ before. (id : List ℕ) (ask : OrderKind) → open_of id before ≡ Some ask → same_ask Start ask ≡ false → has_child id (known_children before) ≡ true) (λ table distinct id ask is other. absurd (none-some ask is)) next past h where
@@ -69,8 +48,7 @@ listed_after id table past was = split (list_any (has_id id) table) refl where
   stays x gone same = not_from (list_any (has_id x) table) (ap (λ y. list_any (has_id y) table) (sym (same_id-is id x same)) ∙ gone)
 
   before : Listed id past → list_any (same_id id) (ids_of (table_of past) ++ left_ids past) ≡ true
-  before (inl there) = list_any-append (same_id id) (ids_of (table_of past)) (left_ids past) ∙ or_left (list_any (same_id id) (ids_of (table_of past))) (list_any (same_id id) (left_ids past)) (ids_listed id (table_of past) ∙ there)
-  before (inr left) = list_any-append (same_id id) (ids_of (table_of past)) (left_ids past) ∙ or_right (list_any (same_id id) (ids_of (table_of past))) (list_any (same_id id) (left_ids past)) left
+  before v0 = grind (arith, list_any-append, ids_listed)
 
   split : (b : Bool) → list_any (has_id id) table ≡ b → Listed id (NewTable table ∷ past)
   split true there = inl there
@@ -91,12 +69,9 @@ child_in_records goal past sound id there = list_any-append (same_id id) (ids_of
   own x same = ap (λ y. has_child y (known_children past)) (sym (same_id-is id x same)) ∙ there
 
   read : Listed id past → (list_any (same_id id) (ids_of (table_of past)) || list_any (same_id id) (filter (λ x. has_child x (known_children past)) (left_ids past))) ≡ true
-  read (inl in_table) = or_left (list_any (same_id id) (ids_of (table_of past))) (list_any (same_id id) (filter (λ x. has_child x (known_children past)) (left_ids past))) (ids_listed id (table_of past) ∙ in_table)
+  read (inl in_table) = grind (arith, ids_listed)
   read (inr left) = or_right (list_any (same_id id) (ids_of (table_of past))) (list_any (same_id id) (filter (λ x. has_child x (known_children past)) (left_ids past))) (any_within (same_id id) (λ x. has_child x (known_children past)) own (left_ids past) ∙ left)
 
 -- each open order has a record
 pub open_in_records : (goal : Goal) (past : List Event) → is_sound goal past ≡ true → (id : List ℕ) (ask : OrderKind) → open_of id past ≡ Some ask → list_any (same_id id) (record_ids past) ≡ true
-open_in_records goal past sound id Start is = list_any-append (same_id id) (ids_of (table_of past)) (filter (λ x. has_child x (known_children past)) (left_ids past)) ∙ or_left (list_any (same_id id) (ids_of (table_of past))) (list_any (same_id id) (filter (λ x. has_child x (known_children past)) (left_ids past))) (ids_listed id (table_of past) ∙ start_in_table goal past sound id is)
-open_in_records goal past sound id Look is = child_in_records goal past sound id (order_known goal past sound id Look is refl)
-open_in_records goal past sound id Term is = child_in_records goal past sound id (order_known goal past sound id Term is refl)
-open_in_records goal past sound id Kill is = child_in_records goal past sound id (order_known goal past sound id Kill is refl)
+open_in_records goal past sound id ask is = grind (arith, list_any-append, ids_listed, start_in_table, child_in_records, order_known)

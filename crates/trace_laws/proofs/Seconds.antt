@@ -1,32 +1,8 @@
 -- The seconds between the two signals: a sound trace names those of its opening goal and of its requests alone.
-use Rattle.std.proofs.Common.{◌≡◌, refl, ◌∙◌, ap, ℕ, Bool, true, false, not, ◌&&◌, ◌==◌, cond, List, [], ◌∷◌, ◌++◌, Option, Some, None, is_none}
-use Rattle.std.specs.List.{list_any, list_all}
-use Rattle.std.proofs.lemmas.Bool.{false≢true, and_parts, and_from, eqb-true}
-use Rattle.init_words.specs.declared.entries.Entry.{Entry}
-use Rattle.init_words.specs.declared.levels.Letter.{Letter}
-use Rattle.init_words.specs.declared.stages.Stage.{Stage}
-use Rattle.init_words.specs.declared.stages.Stage.TheVariants as stage
-use Rattle.init_words.specs.declared.orders.OrderKind.{OrderKind}
-use Rattle.init_words.specs.declared.orders.OrderKind.TheVariants.{Start, Look}
-use Rattle.init_words.specs.declared.orders.PowerKind.{PowerKind}
-use Rattle.init_words.specs.Actions.{is_limited}
-use Rattle.init_words.specs.Levels.{same_level}
-use Rattle.init_words.specs.Orders.{same_stage}
-use Rattle.init_words.proofs.Tests.{or_either}
+use Rattle.trace_laws.proofs.Words.{◌≡◌, refl, ℕ, Bool, true, not, ◌&&◌, cond, List, [], ◌∷◌, ◌++◌, Option, Some, None, arith, list_any, list_all, false≢true, and_parts, and_from, eqb-true, Entry, Letter, Stage, OrderKind, Start, Look, PowerKind, is_limited, Step, Reread, Order, Reexec, Goal, Event, table_of, stage_of, Child, is_of, is_quiet, is_idle, is_seconds, is_request, are_short, stop_due, is_sound, may_come, is_held, is_full, is_owed, goal_of, heard_level, other_than, level_wish, wants_reexec, wants_reread, powers, letters, wish_stands, in_run, step_if, steps_if, none_excluded, due_first, due_reexec, enter_level, power_steps, letter_steps, record_ids, stop_step, stops_of, stops_among, can_start, start_steps, starts_among, is_over, next_stage, is_announced, settle_step, can_look, looks_among, due, same_step}
 use Rattle.initctl_frame.specs.declared.requests.HeardRequest.TheVariants as got
 use Rattle.trace_events.specs.declared.happenings.Happening.TheVariants as past
-use Rattle.trace_events.specs.declared.steps.Step.{Step}
-use Rattle.trace_events.specs.declared.steps.Step.TheVariants.{Enter, Call, Power, Reread, Order, Hold, Settle, Reexec}
-use Rattle.trace_events.specs.declared.steps.Goal.{Goal}
-use Rattle.trace_events.specs.Event.{Event}
-use Rattle.trace_events.specs.Past.{table_of, stage_of, Child, is_of, open_of, is_quiet, is_idle, known_children}
-use Rattle.trace_events.specs.Range.{is_seconds, is_request, are_short}
-use Rattle.trace_events.specs.Spells.{stop_due}
-use Rattle.trace_events.specs.Sound.{is_sound, may_come}
-use Rattle.trace_events.specs.Timing.{is_held, is_full}
-use Rattle.trace_events.specs.Wanted.{is_owed}
-use Rattle.trace_events.specs.Wishes.{goal_of, heard_level, other_than, level_wish, wants_reexec, wants_reread, keeps_power, keeps_letter, powers, letters, wish_stands, in_run}
-use Rattle.trace_events.specs.Due.{step_if, steps_if, none_excluded, due_first, due_reexec, enter_level, power_steps, letter_steps, record_ids, stop_step, stops_of, stops_among, can_start, start_steps, starts_among, is_over, next_stage, is_announced, is_settled, settle_step, can_look, looks_among, due, same_step}
+use Rattle.trace_events.specs.declared.steps.Step.TheVariants.{Enter, Call, Power, Hold}
 use Rattle.trace_laws.proofs.Dues.{Each, each_append, each_step_if, each_steps_if}
 
 -- the requests of a trace name an hour at most
@@ -67,73 +43,53 @@ heard_short (past.Got (got.Nothing cause) ∷ so_far) all = heard_short so_far a
 heard_short (_ ∷ so_far) all = heard_short so_far all
 
 other_short : (o : Option Stage) (heard : Option Goal) → ShortGoal heard → ShortGoal (other_than o heard)
-other_short None heard short = tt
-other_short (Some stage.Sysinit) heard short = tt
-other_short (Some stage.Boot) heard short = tt
-other_short (Some (stage.Run level)) None short = tt
-other_short (Some (stage.Run level)) (Some heard) short = by (same_level heard.level level)
-  where
-    by : (b : Bool) → ShortGoal (cond b None (Some heard))
-    by true = tt
-    by false = short
+other_short o heard short = grind arith
 
 -- ---- the steps that are due
 
 firsts : (goal : Goal) (so_far : List Event) (o : Option Stage) → is_seconds (goal_of goal so_far).grace ≡ true → Each Short (due_first goal o so_far)
-firsts goal so_far None short = (short, tt)
-firsts goal so_far (Some stage) short = tt
+firsts goal so_far o short = grind arith
 
 levels : (so_far : List Event) (o : Option Goal) → ShortGoal o → Each Short (enter_level o so_far)
-levels so_far None short = tt
-levels so_far (Some wish) short = (short, tt)
+levels so_far o short = grind arith
 
 news : (so_far : List Event) (kinds : List PowerKind) → Each Short (power_steps kinds so_far)
 news so_far [] = tt
-news so_far (kind ∷ kinds) = each_append Short (step_if (keeps_power kind so_far) (Power kind)) (power_steps kinds so_far) (each_step_if Short (keeps_power kind so_far) (Power kind) (λ _. tt)) (news so_far kinds)
+news so_far (kind ∷ kinds) = grind (arith, news so_far kinds)
 
 calls : (so_far : List Event) (called : List Letter) → Each Short (letter_steps called so_far)
 calls so_far [] = tt
-calls so_far (letter ∷ rest) = each_append Short (step_if (keeps_letter letter so_far) (Call letter)) (letter_steps rest so_far) (each_step_if Short (keeps_letter letter so_far) (Call letter) (λ _. tt)) (calls so_far rest)
+calls so_far (letter ∷ rest) = grind (arith, calls so_far rest)
 
 stops : (id : List ℕ) (so_far : List Event) (children : List Child) → Each Short (stops_of id children so_far)
 stops id so_far [] = tt
 stops id so_far (child ∷ children) = each_append Short (steps_if (is_of id child) (stop_step id (stop_due child so_far))) (stops_of id children so_far) (each_steps_if Short (is_of id child) (stop_step id (stop_due child so_far)) (λ _. by (stop_due child so_far))) (stops id so_far children)
   where
     by : (o : Option OrderKind) → Each Short (stop_step id o)
-    by None = tt
-    by (Some ask) = (tt, tt)
+    by o = grind arith
 
 stops_all : (ids : List (List ℕ)) (so_far : List Event) → Each Short (stops_among ids so_far)
 stops_all [] so_far = tt
-stops_all (id ∷ ids) so_far = each_append Short (steps_if (is_none (open_of id so_far)) (stops_of id (known_children so_far) so_far)) (stops_among ids so_far) (each_steps_if Short (is_none (open_of id so_far)) (stops_of id (known_children so_far) so_far) (λ _. stops id so_far (known_children so_far))) (stops_all ids so_far)
+stops_all (id ∷ ids) so_far = grind (arith, each_append, each_steps_if, stops, stops_all ids so_far)
 
 starts : (so_far : List Event) (es : List Entry) → Each Short (starts_among es so_far)
 starts so_far [] = tt
 starts so_far (e ∷ es) = each_append Short (steps_if (can_start e so_far) (start_steps e so_far)) (cond (is_owed e so_far) [] (starts_among es so_far)) (each_steps_if Short (can_start e so_far) (start_steps e so_far) (λ _. by_act (is_limited e.act))) (later (is_owed e so_far) (starts so_far es))
   where
     window : (full : Bool) → Each Short (cond full (Hold e.id) (Order e.id Start) ∷ [])
-    window true = (tt, tt)
-    window false = (tt, tt)
+    window full = grind arith
 
     by_act : (limited : Bool) → Each Short (cond limited (steps_if (not (is_held e.id so_far)) (cond (is_full e.id so_far) (Hold e.id) (Order e.id Start) ∷ [])) (Order e.id Start ∷ []))
-    by_act true = each_steps_if Short (not (is_held e.id so_far)) (cond (is_full e.id so_far) (Hold e.id) (Order e.id Start) ∷ []) (λ _. window (is_full e.id so_far))
-    by_act false = (tt, tt)
+    by_act limited = grind arith
 
     later : (owed : Bool) → Each Short (starts_among es so_far) → Each Short (cond owed [] (starts_among es so_far))
-    later true rest = tt
-    later false rest = rest
+    later owed rest = grind arith
 
 stages : (goal : Goal) (o : Option Stage) → is_seconds goal.grace ≡ true → Each Short (next_stage goal o)
-stages goal None short = tt
-stages goal (Some stage.Sysinit) short = (short, tt)
-stages goal (Some stage.Boot) short = (short, tt)
-stages goal (Some (stage.Run level)) short = tt
+stages goal o short = grind arith
 
 settles : (so_far : List Event) (o : Option Stage) → Each Short (settle_step o so_far)
-settles so_far None = tt
-settles so_far (Some stage.Sysinit) = tt
-settles so_far (Some stage.Boot) = tt
-settles so_far (Some (stage.Run level)) = each_step_if Short (is_settled level (known_children so_far) so_far) (Settle level) (λ _. tt)
+settles so_far o = grind arith
 
 looks : (so_far : List Event) (ids : List (List ℕ)) → Each Short (looks_among ids so_far)
 looks so_far [] = tt
@@ -158,11 +114,7 @@ dues goal so_far short wish =
 
 at_enter : (now : Stage) (grace : ℕ) (steps : List Step) → Each Short steps → list_any (same_step (Enter now grace)) steps ≡ true → is_seconds grace ≡ true
 at_enter now grace [] all h = absurd (false≢true h)
-at_enter now grace (step ∷ steps) all h = or_either (same_step (Enter now grace) step) (list_any (same_step (Enter now grace)) steps) h (by step all.0) (at_enter now grace steps all.1)
-  where
-    by : (s : Step) → Short s → same_step (Enter now grace) s ≡ true → is_seconds grace ≡ true
-    by (Enter other seconds) short same = ap is_seconds (eqb-true grace seconds (and_parts (same_stage now other) (grace == seconds) same).1) ∙ short
-    by _ short same = absurd (false≢true same)
+at_enter now grace (step ∷ steps) all h = grind (arith, eqb-true, at_enter now grace steps)
 
 -- where the opening goal and the requests name an hour at most, so does each happening of a sound trace
 pub sound_short : (goal : Goal) (trace : List Event) → is_seconds goal.grace ≡ true → is_sound goal trace ≡ true → list_all is_short_request trace ≡ true → are_short trace ≡ true
@@ -172,9 +124,7 @@ sound_short goal (past.Enter now grace ∷ so_far) opening sound all =
     and_from (is_seconds grace) (are_short so_far)
     (at_enter now grace (due goal so_far) (dues goal so_far (goal_short goal so_far opening all) (other_short (stage_of so_far) (heard_level so_far) (heard_short so_far all))) parts.0)
     (sound_short goal so_far opening parts.1 all)
-sound_short goal (past.Got request ∷ so_far) opening sound all =
-    let parts = and_parts (is_request request) (list_all is_short_request so_far) all in
-    and_from (is_request request) (are_short so_far) parts.0 (sound_short goal so_far opening sound parts.1)
+sound_short goal (past.Got request ∷ so_far) opening sound all = grind (arith, sound_short goal so_far)
 sound_short goal (past.NewTable table ∷ []) opening sound all = refl
 sound_short goal (past.NewTable table ∷ before ∷ so_far) opening sound all = sound_short goal (before ∷ so_far) opening (and_parts (may_come goal (past.NewTable table) (before ∷ so_far)) (is_sound goal (before ∷ so_far)) sound).1 all
 sound_short goal (happening ∷ so_far) opening sound all = sound_short goal so_far opening (and_parts (may_come goal happening so_far) (is_sound goal so_far) sound).1 all

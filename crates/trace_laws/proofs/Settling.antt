@@ -1,28 +1,8 @@
 -- Where a level is announced settled, it is settled by the unreaped children.
-use Rattle.std.proofs.Common.{◌≡◌, refl, sym, ◌∙◌, ap, ℕ, Bool, true, false, not, ◌&&◌, ◌||◌, List, ◌∷◌, ◌++◌, filter, Option, Some, None}
-use Rattle.std.specs.List.{list_any, list_all}
-use Rattle.std.proofs.lemmas.Bool.{false≢true, and_parts, and_from, not-true}
-use Rattle.init_words.specs.declared.entries.Entry.{Entry}
-use Rattle.init_words.specs.declared.levels.Level.{Level}
-use Rattle.init_words.specs.declared.levels.Mark.TheVariants.{At}
-use Rattle.init_words.specs.declared.stages.Stage.{Stage}
+use Rattle.trace_laws.proofs.Words.{◌≡◌, refl, sym, ◌∙◌, ap, ℕ, Bool, true, not, ◌&&◌, List, ◌∷◌, ◌++◌, filter, Option, Some, arith, list_any, list_all, and_parts, and_from, not-true, Entry, Level, Stage, entry_of, Goal, Event, table_of, stage_of, Child, is_of, is_idle, unreaped_children, known_children, may_live, is_excluded, is_level, is_served, is_settled, may_come, is_sound, same_id-self, Passing, passing, falsely, not_from, any_less, all_less, all_fail, belongs}
 use Rattle.init_words.specs.declared.stages.Stage.TheVariants as stage
-use Rattle.init_words.specs.Levels.{names}
-use Rattle.inittab_text.specs.Tables.{entry_of}
 use Rattle.trace_events.specs.declared.happenings.Happening.TheVariants.{Settle}
-use Rattle.trace_events.specs.declared.steps.Goal.{Goal}
 use Rattle.trace_events.specs.declared.steps.Step.TheVariants as step
-use Rattle.trace_events.specs.Event.{Event}
-use Rattle.trace_events.specs.Past.{table_of, stage_of, Child, is_of, is_idle, unreaped_children, known_children}
-use Rattle.trace_events.specs.Wanted.{is_asked, is_owed, may_live, is_excluded}
-use Rattle.trace_events.specs.Timing.{is_held}
-use Rattle.trace_events.specs.Wishes.{is_level}
-use Rattle.init_words.specs.Actions.{served_by}
-use Rattle.trace_events.specs.Due.{is_served, is_settled}
-use Rattle.trace_events.specs.Sound.{may_come, is_sound}
-use Rattle.init_words.proofs.Same.{same_id-self, same_level-is}
-use Rattle.init_words.proofs.Tests.{Passing, passing, falsely, not_from, any_less, all_less, all_fail}
-use Rattle.trace_laws.specs.Belonging.{belongs}
 use Rattle.trace_laws.proofs.Orders.{idle_none, told_known, same_of, same_has}
 use Rattle.trace_laws.proofs.Dues.{MaySettle, due_facts}
 use Rattle.trace_laws.proofs.Keeps.{sound_holds, free_told}
@@ -42,7 +22,7 @@ same_any p xs ys same h = any_less own p (λ child both. (and_parts (is_of found
   own child = is_of found.item.id child && p child
 
 same_served : (level : Level) (xs ys : List Child) (past : List Event) → ((id : List ℕ) → filter (is_of id) xs ≡ filter (is_of id) ys) → (e : Entry) → is_served level xs past e ≡ true → is_served level ys past e ≡ true
-same_served level xs ys past same e h = ap (λ b. not (is_owed e past) && (not (names (At level) e.levels.items) || served_by e.act (is_asked e.id past) (b || is_held e.id past))) (sym (same_has e.id xs ys (same e.id))) ∙ h
+same_served level xs ys past same e h = grind (arith, same_has)
 
 same_settled : (level : Level) (xs ys : List Child) (past : List Event) → ((id : List ℕ) → filter (is_of id) xs ≡ filter (is_of id) ys) → ((id : List ℕ) → filter (is_of id) ys ≡ filter (is_of id) xs) → is_settled level xs past ≡ true → is_settled level ys past ≡ true
 same_settled level xs ys past same back h =
@@ -63,10 +43,7 @@ settle_settled goal later level past h = same_settled level (known_children past
 
 -- in a settled level each unreaped child belongs to an entry of the level
 level_stage : (level : Level) (now : Option Stage) → is_level level now ≡ true → now ≡ Some (stage.Run level)
-level_stage level None h = absurd (false≢true h)
-level_stage level (Some stage.Sysinit) h = absurd (false≢true h)
-level_stage level (Some stage.Boot) h = absurd (false≢true h)
-level_stage level (Some (stage.Run l)) h = ap (λ k. Some (stage.Run k)) (sym (same_level-is level l h))
+level_stage level now h = grind arith
 
 pub settle_belongs : (goal : Goal) (later : List Event) (level : Level) (past : List Event) → is_sound goal (later ++ Settle level ∷ past) ≡ true → list_all (belongs level past) (unreaped_children past) ≡ true
 settle_belongs goal later level past h = all_less (λ child. not (is_excluded past child)) (belongs level past) live (unreaped_children past) (all_fail (is_excluded past) (unreaped_children past) (not-true (list_any (is_excluded past) (unreaped_children past)) two.1)) where
@@ -79,5 +56,4 @@ settle_belongs goal later level past h = all_less (λ child. not (is_excluded pa
   live : (child : Child) → not (is_excluded past child) ≡ true → belongs level past child ≡ true
   live child free = ap (λ now. may_live (entry_of child.id (table_of past)) child.act now) (sym (level_stage level (stage_of past) two.0)) ∙ twice (may_live (entry_of child.id (table_of past)) child.act (stage_of past)) free where
     twice : (b : Bool) → not (not b) ≡ true → b ≡ true
-    twice true h = refl
-    twice false h = h
+    twice b h = grind arith

@@ -1,25 +1,7 @@
 -- How the spell of a child goes on, happening by happening, and what a Told adds to it.
-use Rattle.std.proofs.Common.{◌≡◌, refl, sym, ◌∙◌, ap, subst, ℕ, Bool, true, false, not, ◌&&◌, ◌||◌, cond, List, [], ◌∷◌, ◌++◌, map, Some, None, is_some}
-use Rattle.std.proofs.lemmas.Bool.{false≢true, and_right, or_parts, or_from}
-use Rattle.std.proofs.lemmas.Option.{none-some, same_Some}
-use Rattle.init_words.specs.declared.entries.Entry.{Entry}
-use Rattle.init_words.specs.declared.stages.Stage.{Stage}
-use Rattle.init_words.specs.declared.orders.OrderKind.{OrderKind}
-use Rattle.init_words.specs.declared.orders.OrderKind.TheVariants.{Start, Look, Term, Kill}
-use Rattle.init_words.specs.declared.orders.Answer.{Answer}
+use Rattle.trace_laws.proofs.Words.{◌≡◌, refl, sym, ◌∙◌, ap, subst, ℕ, Bool, true, false, not, ◌&&◌, ◌||◌, cond, List, [], ◌∷◌, ◌++◌, map, Some, None, is_some, arith, and_right, or_parts, or_from, none-some, Entry, Stage, OrderKind, Start, Look, Term, Kill, Answer, same_id, NewTable, Asked, Birth, NoBirth, Reaped, Still, NoLook, Hit, Miss, Told, Nudge, Goal, Event, Child, time_of, open_of, undone_of, is_untold, is_order, is_excluded, answered_of, untold_hits, has_untold_miss, told_at, spell_hits, is_missed, may_come, is_sound, is_hit, is_miss, same_id-is, and_true, both_ways, or_either}
 use Rattle.init_words.specs.declared.orders.Answer.TheVariants as answer
-use Rattle.init_words.specs.Ids.{same_id}
-use Rattle.trace_events.specs.declared.happenings.Happening.TheVariants.{NewTable, Enter, Asked, Birth, NoBirth, Reaped, Still, NoLook, Hit, Miss, Told, Nudge}
-use Rattle.trace_events.specs.declared.steps.Goal.{Goal}
-use Rattle.trace_events.specs.Event.{Event}
-use Rattle.trace_events.specs.Past.{Child, time_of, open_of, undone_of, is_untold}
-use Rattle.trace_events.specs.Wanted.{is_order, is_excluded}
-use Rattle.trace_events.specs.Answered.{answered_of}
-use Rattle.trace_events.specs.Spells.{untold_hits, has_untold_miss, told_at, spell_hits, is_missed}
-use Rattle.trace_events.specs.Sound.{may_come, is_sound}
-use Rattle.init_words.specs.Orders.{is_hit, is_miss}
-use Rattle.init_words.proofs.Same.{same_id-is}
-use Rattle.init_words.proofs.Tests.{and_true, both_ways, or_either}
+use Rattle.trace_events.specs.declared.happenings.Happening.TheVariants.{Enter}
 use Rattle.trace_laws.proofs.Tests.{is_order-is}
 use Rattle.trace_laws.proofs.Keeps.{look_undone, sound_holds, sound_ind, asked_free, free_told}
 use Rattle.trace_laws.proofs.Told.{answered_untold}
@@ -37,16 +19,10 @@ missed_none child (happening ∷ past) free = rw free refl
 
 -- so where the child is excluded as before, its spell goes on
 spell_on : (child : Child) (past : List Event) → cond (is_excluded past child && true) (spell_hits child past) [] ≡ spell_hits child past
-spell_on child past = split (is_excluded past child) (spell_none child past) where
-  split : (b : Bool) → (b ≡ false → spell_hits child past ≡ []) → cond (b && true) (spell_hits child past) [] ≡ spell_hits child past
-  split true none = refl
-  split false none = sym (none refl)
+spell_on child past = grind (arith, spell_none)
 
 missed_on : (child : Child) (past : List Event) → (is_excluded past child && true && is_missed child past) ≡ is_missed child past
-missed_on child past = split (is_excluded past child) (missed_none child past) where
-  split : (b : Bool) → (b ≡ false → is_missed child past ≡ false) → (b && true && is_missed child past) ≡ is_missed child past
-  split true none = refl
-  split false none = sym (none refl)
+missed_on child past = grind (arith, missed_none)
 
 -- a happening that changes neither what is excluded nor what is told, and is no birth and no round
 abbrev pub is_still : Event → Bool
@@ -58,19 +34,10 @@ is_still Nudge = false
 is_still _ = true
 
 pub spell_still : (child : Child) (happening : Event) (past : List Event) → is_still happening ≡ true → spell_hits child (happening ∷ past) ≡ spell_hits child past
-spell_still child (NewTable table) past still = absurd (false≢true still)
-spell_still child (Enter stage grace) past still = absurd (false≢true still)
-spell_still child (Birth i n) past still = absurd (false≢true still)
-spell_still child (Told i) past still = absurd (false≢true still)
-spell_still child _ past still = spell_on child past
+spell_still child happening past still = grind (arith, spell_on)
 
 pub missed_still : (child : Child) (happening : Event) (past : List Event) → is_still happening ≡ true → is_missed child (happening ∷ past) ≡ is_missed child past
-missed_still child (NewTable table) past still = absurd (false≢true still)
-missed_still child (Enter stage grace) past still = absurd (false≢true still)
-missed_still child (Birth i n) past still = absurd (false≢true still)
-missed_still child (Told i) past still = absurd (false≢true still)
-missed_still child Nudge past still = absurd (false≢true still)
-missed_still child _ past still = missed_on child past
+missed_still child happening past still = grind (arith, missed_on)
 
 -- a round leaves the spell; that no Miss was told since computes
 pub spell_nudge : (child : Child) (past : List Event) → spell_hits child (Nudge ∷ past) ≡ spell_hits child past
@@ -91,20 +58,11 @@ missed_table child table past = ap (λ b. b && is_missed child past) (and_true (
 
 -- a birth of another id leaves the spell
 pub spell_birth : (child : Child) (i : List ℕ) (n : ℕ) (past : List Event) → spell_hits child (Birth i n ∷ past) ≡ cond (same_id child.id i) [] (spell_hits child past)
-spell_birth child i n past = split (same_id child.id i) (is_excluded past child) (spell_none child past) where
-  split : (b c : Bool) → (c ≡ false → spell_hits child past ≡ []) → cond (c && not b) (spell_hits child past) [] ≡ cond b [] (spell_hits child past)
-  split true c none = ap (λ x. cond x (spell_hits child past) []) (and_right c false refl)
-  split false true none = refl
-  split false false none = sym (none refl)
+spell_birth child i n past = grind (arith, spell_none)
 
 -- a Told adds the Hits of its id that are under way
 pub spell_told : (child : Child) (i : List ℕ) (past : List Event) → spell_hits child (Told i ∷ past) ≡ cond (same_id child.id i && is_excluded past child) (map (told_at (time_of past)) (untold_hits child.id past) ++ spell_hits child past) (spell_hits child past)
-spell_told child i past = split (same_id child.id i) (is_excluded past child) (spell_none child past) where
-  split : (b c : Bool) → (c ≡ false → spell_hits child past ≡ []) → cond (c && true) (cond b (map (told_at (time_of past)) (untold_hits child.id past)) [] ++ spell_hits child past) [] ≡ cond (b && c) (map (told_at (time_of past)) (untold_hits child.id past) ++ spell_hits child past) (spell_hits child past)
-  split true true none = refl
-  split true false none = sym (none refl)
-  split false true none = refl
-  split false false none = sym (none refl)
+spell_told child i past = grind (arith, spell_none)
 
 pub missed_told : (child : Child) (i : List ℕ) (past : List Event) → is_missed child (Told i ∷ past) ≡ (is_excluded past child && (same_id child.id i && has_untold_miss child.id past || is_missed child past))
 missed_told child i past = ap (λ b. b && (same_id child.id i && has_untold_miss child.id past || is_missed child past)) (and_true (is_excluded past child))
@@ -112,10 +70,7 @@ missed_told child i past = ap (λ b. b && (same_id child.id i && has_untold_miss
 -- where nothing of an id is untold, no Miss of it is
 pub misses_told : (id : List ℕ) (past : List Event) → is_untold id past ≡ false → has_untold_miss id past ≡ false
 misses_told id [] h = refl
-misses_told id (Told i ∷ past) h = at_id (same_id id i) h (misses_told id past) where
-  at_id : (b : Bool) → (not b && is_untold id past) ≡ false → (is_untold id past ≡ false → has_untold_miss id past ≡ false) → (not b && has_untold_miss id past) ≡ false
-  at_id true h rest = refl
-  at_id false h rest = rest h
+misses_told id (Told i ∷ past) h = grind (arith, misses_told id past)
 misses_told id (Birth i n ∷ past) h = and_right (not (same_id id i)) (has_untold_miss id past) (misses_told id past (or_parts (same_id id i) (is_untold id past) h).1)
 misses_told id (Miss i ∷ past) h = let parts = or_parts (same_id id i) (is_untold id past) h in or_from (same_id id i) (has_untold_miss id past) parts.0 (misses_told id past parts.1)
 misses_told id (NoBirth i ∷ past) h = misses_told id past (or_parts (same_id id i) (is_untold id past) h).1
@@ -146,10 +101,7 @@ same_tells : (id : List ℕ) (past before : List Event) (given : Answer) → unt
 same_tells id past before given hits miss order tells = record { hits = hits ∙ tells.hits ∙ ap (λ o. cond (is_hit given) (o ∷ []) []) (sym order); miss = miss ∙ tells.miss }
 
 act_tells : (id i : List ℕ) (x given : Answer) (past before : List Event) → open_of id past ≡ open_of id before → (same_id id i ≡ true → Tells id past x) → (same_id id i ≡ false → (untold_hits id past ≡ untold_hits id before) × (has_untold_miss id past ≡ has_untold_miss id before)) → (answered_of id before ≡ Some given → Tells id before given) → cond (same_id id i) (Some x) (answered_of id before) ≡ Some given → Tells id past given
-act_tells id i x given past before order own other rest h = at_id (same_id id i) refl h where
-  at_id : (b : Bool) → same_id id i ≡ b → cond b (Some x) (answered_of id before) ≡ Some given → Tells id past given
-  at_id true same h = subst (Tells id past) (same_Some x given h) (own same)
-  at_id false differ h = same_tells id past before given (other differ).0 (other differ).1 order (rest h)
+act_tells id i x given past before order own other rest h = grind arith
 
 pub answered_tells : (goal : Goal) (past : List Event) → is_sound goal past ≡ true → (id : List ℕ) (given : Answer) → answered_of id past ≡ Some given → Tells id past given
 answered_tells goal past h = sound_ind goal (λ before. (id : List ℕ) (given : Answer) → answered_of id before ≡ Some given → Tells id before given) (λ table distinct id given is. absurd (none-some given is)) next past h where

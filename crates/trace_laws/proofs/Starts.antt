@@ -1,29 +1,7 @@
 -- Which entry is started next, in a run that nothing disturbs.
-use Rattle.std.proofs.Common.{◌≡◌, refl, sym, ◌∙◌, ap, ℕ, Bool, true, false, not, ◌&&◌, ◌||◌, cond, nat_lt, nat_le, length, ◌+◌, ◌-◌, List, [], ◌∷◌, ◌++◌, map, filter, Option, Some, None, is_none}
-use Rattle.std.specs.List.{list_any}
-use Rattle.std.proofs.lemmas.Bool.{false≢true, and_parts, and_from, and_right, or_parts, not-true}
-use Rattle.respawn_limit.specs.declared.TheConstants.{HOLD, STARTS, WINDOW}
-use Rattle.init_words.specs.declared.entries.Entry.{Entry}
-use Rattle.init_words.specs.declared.actions.Act.{Act}
-use Rattle.init_words.specs.declared.actions.Act.TheVariants as act
-use Rattle.init_words.specs.declared.stages.Stage.{Stage}
-use Rattle.init_words.specs.declared.orders.OrderKind.TheVariants.{Start}
-use Rattle.init_words.specs.Ids.{same_id}
-use Rattle.init_words.specs.Actions.{stays_called, wanted_by, waited_by, is_limited}
-use Rattle.init_words.specs.Entries.{starts_of, waited_of}
-use Rattle.init_words.proofs.Same.{same_id-self, same_id-sym}
-use Rattle.init_words.proofs.Tests.{both_ways, not_from, and_true, and_false}
-use Rattle.inittab_text.specs.Tables.{has_id, entry_of, is_distinct}
-use Rattle.trace_events.specs.declared.happenings.Happening.TheVariants.{NewTable, Enter, Call, Power, Asked, Hold as Held}
-use Rattle.trace_events.specs.declared.steps.Step.TheVariants.{Order, Hold}
-use Rattle.trace_events.specs.declared.steps.Goal.{Goal}
-use Rattle.trace_events.specs.Event.{Event}
-use Rattle.trace_events.specs.Past.{table_of, stage_of, time_of, has_child, open_of, kept_children}
-use Rattle.trace_events.specs.Wanted.{starts_in, is_asked, is_called, is_wanted, is_owed, nothing_runs}
-use Rattle.trace_events.specs.Timing.{start_times, hold_times, is_held, is_full}
-use Rattle.trace_events.specs.Due.{steps_if, can_start, start_steps, starts_among, first}
+use Rattle.trace_laws.proofs.Words.{◌≡◌, refl, sym, ◌∙◌, ap, ℕ, Bool, true, false, not, ◌&&◌, ◌||◌, cond, nat_lt, nat_le, length, ◌+◌, ◌-◌, List, [], ◌∷◌, ◌++◌, map, filter, Option, Some, None, arith, list_any, false≢true, and_parts, and_right, not-true, HOLD, STARTS, WINDOW, Entry, Stage, Start, same_id, stays_called, same_id-self, same_id-sym, has_id, entry_of, is_distinct, NewTable, Asked, Order, Goal, Event, table_of, stage_of, time_of, has_child, open_of, kept_children, starts_in, is_asked, is_called, is_wanted, is_owed, start_times, hold_times, is_held, is_full, steps_if, can_start, start_steps, starts_among, first, is_started, start_of}
+use Rattle.trace_events.specs.declared.happenings.Happening.TheVariants.{Enter, Call, Power, Hold as Held}
 use Rattle.trace_laws.proofs.Dues.{MayHold, due_facts}
-use Rattle.trace_laws.specs.Plans.{is_started, start_of}
 use Rattle.trace_laws.proofs.Plain.{Plain, Comes, plain_ind, plain_distinct}
 use Rattle.trace_laws.proofs.Children.{IsFound, unasked_free, idle_unasked}
 
@@ -47,32 +25,12 @@ uncalled goal past plain e = plain_ind goal (λ p. is_called e p ≡ false) (λ 
   goes (Asked i Start) p comes before = and_right (stays_called e.act || not (same_id e.id i)) (is_called e p) before
   goes (_) p comes before = before
 
--- where nothing is called, an entry is wanted exactly where it wasn't asked and its action asks for it then
-by_act : (action : Act) (idle fresh : Bool) → (waited_by action ≡ false → idle ≡ fresh) → wanted_by action idle fresh false ≡ (fresh && wanted_by action true true false)
-by_act act.Respawn idle fresh same = same refl ∙ sym (and_true fresh)
-by_act act.Sysinit idle fresh same = sym (and_true fresh)
-by_act act.Boot idle fresh same = sym (and_true fresh)
-by_act act.Bootwait idle fresh same = sym (and_true fresh)
-by_act act.Wait idle fresh same = sym (and_true fresh)
-by_act act.Once idle fresh same = sym (and_true fresh)
-by_act _ idle fresh same = sym (and_false fresh)
-
-wanted_by_stage : (e : Entry) (o : Option Stage) (idle fresh : Bool) → (waited_of e ≡ false → starts_in e o ≡ true → idle ≡ fresh) → (starts_in e o && wanted_by e.act idle fresh false) ≡ (fresh && started_now e o)
-wanted_by_stage e None idle fresh same = sym (and_false fresh)
-wanted_by_stage e (Some now) idle fresh same = split (starts_of e now) refl where
-  split : (b : Bool) → starts_of e now ≡ b → (b && wanted_by e.act idle fresh false) ≡ (fresh && (b && wanted_by e.act true true false))
-  split true here = by_act e.act idle fresh (λ free. same free here)
-  split false here = sym (and_false fresh)
-
 pub coming_wanted : (goal : Goal) (past : List Event) → Plain goal past → (e : Entry) → IsFound e past → is_wanted e past ≡ is_coming past e
-coming_wanted goal past plain e found =
-    ap (λ b. starts_in e (stage_of past) && wanted_by e.act (nothing_runs e.id past) (not (is_asked e.id past)) b) (uncalled goal past plain e)
-    ∙ wanted_by_stage e (stage_of past) (nothing_runs e.id past) (not (is_asked e.id past)) (idle_unasked goal past plain e found)
+coming_wanted goal past plain e found = grind (arith, uncalled, idle_unasked)
 
 -- what is coming starts in the stage, and wasn't asked
 started_starts : (e : Entry) (o : Option Stage) → started_now e o ≡ true → starts_in e o ≡ true
-started_starts e None h = absurd (false≢true h)
-started_starts e (Some now) h = (and_parts (starts_of e now) (wanted_by e.act true true false) h).0
+started_starts e o h = grind arith
 
 coming_free : (goal : Goal) (past : List Event) → Plain goal past → (e : Entry) → IsFound e past → is_coming past e ≡ true → (has_child e.id (kept_children past) ≡ false) × (open_of e.id past ≡ None)
 coming_free goal past plain e found h =
@@ -83,21 +41,14 @@ pub coming_childless : (goal : Goal) (past : List Event) → Plain goal past →
 coming_childless goal past plain e found h = (coming_free goal past plain e found h).0
 
 coming_can : (goal : Goal) (past : List Event) → Plain goal past → (e : Entry) → IsFound e past → (b : Bool) → is_coming past e ≡ b → can_start e past ≡ b
-coming_can goal past plain e found true h =
-    let none = coming_free goal past plain e found h in
-    and_from (is_wanted e past && not (has_child e.id (kept_children past))) (is_none (open_of e.id past))
-    (and_from (is_wanted e past) (not (has_child e.id (kept_children past))) (coming_wanted goal past plain e found ∙ h) (not_from (has_child e.id (kept_children past)) none.0))
-    (ap is_none none.1)
-coming_can goal past plain e found false h = ap (λ b. b && not (has_child e.id (kept_children past)) && is_none (open_of e.id past)) (coming_wanted goal past plain e found ∙ h)
+coming_can goal past plain e found b h = grind (arith, coming_free, coming_wanted)
 
 -- an entry that wasn't asked has no starts in its window
 unasked_times : (id : List ℕ) (past : List Event) → is_asked id past ≡ false → start_times id past ≡ []
 unasked_times id [] h = refl
 unasked_times id (NewTable table ∷ past) h = refl
 unasked_times id (Enter now grace ∷ past) h = refl
-unasked_times id (Asked i Start ∷ past) h =
-    let parts = or_parts (same_id id i) (is_asked id past) h in
-    ap (λ b. cond b (time_of past ∷ start_times id past) (start_times id past)) parts.0 ∙ unasked_times id past parts.1
+unasked_times id (Asked i Start ∷ past) h = grind (arith, unasked_times id past)
 unasked_times id (_ ∷ past) h = unasked_times id past h
 
 unasked_window : (id : List ℕ) (past : List Event) → is_asked id past ≡ false → is_full id past ≡ false
@@ -109,18 +60,7 @@ no_holds goal past plain id = plain_ind goal (λ p. hold_times id p ≡ []) (λ 
   goes : (happening : Event) (p : List Event) → Comes goal happening p → hold_times id p ≡ [] → hold_times id (happening ∷ p) ≡ []
   goes (NewTable table) p comes before = refl
   goes (Enter now grace) p comes before = refl
-  goes (Held i) p comes before = both_ways (is_full i p) may.full (unasked_window i p unasked) where
-    may : MayHold i (table_of p) p
-    may = due_facts goal p (Hold i) comes.may
-
-    found : IsFound may.run.entry p
-    found = ap (λ x. entry_of x (table_of p)) may.run.own ∙ may.run.found (plain_distinct goal p comes.before)
-
-    coming : is_coming p may.run.entry ≡ true
-    coming = sym (coming_wanted goal p comes.before may.run.entry found) ∙ may.run.wanted
-
-    unasked : is_asked i p ≡ false
-    unasked = ap (λ x. is_asked x p) (sym may.run.own) ∙ not-true (is_asked may.run.entry.id p) (and_parts (not (is_asked may.run.entry.id p)) (started_now may.run.entry (stage_of p)) coming).0
+  goes (Held i) p comes before = grind (arith, unasked_window, MayHold, due_facts, IsFound, plain_distinct, coming_wanted)
   goes (_) p comes before = before
 
 pub never_held : (goal : Goal) (past : List Event) → Plain goal past → (id : List ℕ) → is_held id past ≡ false
@@ -128,13 +68,7 @@ never_held goal past plain id = ap (list_any (λ began. nat_lt (time_of past) (b
 
 -- what is coming is started, and not held
 coming_starts : (goal : Goal) (past : List Event) → Plain goal past → (e : Entry) → is_coming past e ≡ true → start_steps e past ≡ start_of e ∷ []
-coming_starts goal past plain e h = split (is_limited e.act) where
-  unasked : is_asked e.id past ≡ false
-  unasked = not-true (is_asked e.id past) (and_parts (not (is_asked e.id past)) (started_now e (stage_of past)) h).0
-
-  split : (b : Bool) → cond b (steps_if (not (is_held e.id past)) (cond (is_full e.id past) (Hold e.id) (Order e.id Start) ∷ [])) (Order e.id Start ∷ []) ≡ Order e.id Start ∷ []
-  split true = rw (never_held goal past plain e.id, unasked_window e.id past unasked) refl
-  split false = refl
+coming_starts goal past plain e h = grind (arith, never_held, unasked_window)
 
 -- each of these entries is that of its id in the table
 abbrev pub AreFound : List Entry → List Entry → Type 0
@@ -143,24 +77,16 @@ AreFound table (e ∷ es) = (entry_of e.id table ≡ Some e) × AreFound table e
 
 found_behind : (e : Entry) (table es : List Entry) → list_any (has_id e.id) es ≡ false → AreFound table es → AreFound (e ∷ table) es
 found_behind e table [] none all = tt
-found_behind e table (x ∷ es) none all =
-    let parts = or_parts (same_id e.id x.id) (list_any (has_id e.id) es) none in
-    (ap (λ b. cond b (Some e) (entry_of x.id table)) (same_id-sym x.id e.id ∙ parts.0) ∙ all.0, found_behind e table es parts.1 all.1)
+found_behind e table (x ∷ es) none all = grind (arith, same_id-sym, found_behind e table es)
 
 pub found_all : (table : List Entry) → is_distinct table ≡ true → AreFound table table
 found_all [] distinct = tt
-found_all (e ∷ es) distinct =
-    let parts = and_parts (not (list_any (has_id e.id) es)) (is_distinct es) distinct in
-    (ap (λ b. cond b (Some e) (entry_of e.id es)) (same_id-self e.id), found_behind e es es (not-true (list_any (has_id e.id) es) parts.0) (found_all es parts.1))
+found_all (e ∷ es) distinct = grind (arith, same_id-self, found_behind, found_all es)
 
 -- entries of other ids are coming as before
 still_coming : (id : List ℕ) (past : List Event) (es : List Entry) → list_any (has_id id) es ≡ false → filter (is_coming past) es ≡ filter (is_coming (Asked id Start ∷ past)) es
 still_coming id past [] none = refl
-still_coming id past (x ∷ es) none =
-    let parts = or_parts (same_id id x.id) (list_any (has_id id) es) none in
-    let differ : same_id x.id id ≡ false = same_id-sym x.id id ∙ parts.0 in
-    ap (λ xs. cond (is_coming past x) (x ∷ xs) xs) (still_coming id past es parts.1)
-    ∙ ap (λ b. cond (not (b || is_asked x.id past) && started_now x (stage_of past)) (x ∷ filter (is_coming (Asked id Start ∷ past)) es) (filter (is_coming (Asked id Start ∷ past)) es)) (sym differ)
+still_coming id past (x ∷ es) none = grind (arith, same_id-sym, still_coming id past es)
 
 -- the first start that is due is that of the first entry that is coming
 pub first_coming : (goal : Goal) (past : List Event) → Plain goal past → (id : List ℕ) (es : List Entry) → AreFound (table_of past) es → is_distinct es ≡ true → first (starts_among es past) ≡ Order id Start → map start_of (filter (is_coming past) es) ≡ Order id Start ∷ map start_of (filter (is_coming (Asked id Start ∷ past)) es)

@@ -1,30 +1,9 @@
 -- The stopping of a child: it is excluded while its signal is open, and its Hits are of a TERM and then of a KILL.
 -- With it: what is so of a child whose birth is not told, what a Told leaves, and that no id has two records.
-use Rattle.std.proofs.Common.{◌≡◌, ◌≤◌, refl, sym, ◌∙◌, ap, inl, inr, ℕ, Bool, true, false, not, ◌&&◌, ◌||◌, cond, List, [], ◌∷◌, ◌++◌, map, filter, find, length, Option, Some, None, is_some}
-use Rattle.std.specs.List.{list_any}
-use Rattle.std.specs.Option.{option_map, option_map_or}
-use Rattle.std.proofs.lemmas.Bool.{false≢true, and_parts, and_from, and_right, not_from_true, not_from_false, not-true}
-use Rattle.std.proofs.lemmas.Option.{none-some, same_Some}
-use Rattle.init_words.specs.declared.orders.OrderKind.{OrderKind}
-use Rattle.init_words.specs.declared.orders.OrderKind.TheVariants.{Start, Look, Term, Kill}
-use Rattle.init_words.specs.declared.orders.Answer.{Answer}
+use Rattle.trace_laws.proofs.Words.{◌≡◌, ◌≤◌, refl, sym, ◌∙◌, ap, inl, inr, ℕ, Bool, true, false, not, ◌&&◌, ◌||◌, cond, List, [], ◌∷◌, ◌++◌, map, filter, find, length, Option, Some, None, is_some, arith, list_any, option_map, option_map_or, false≢true, and_parts, and_from, and_right, not_from_true, not_from_false, not-true, none-some, same_Some, OrderKind, Start, Look, Term, Kill, Answer, same_id, same_ask, answers, is_hit, ids_of, has_id, is_distinct, NewTable, Asked, Birth, NoBirth, Reaped, Still, NoLook, Hit, Miss, Told, Nudge, Goal, Event, table_of, stage_of, time_of, Child, is_of, has_child, open_of, undone_of, is_untold, is_quiet, newborn, unreaped_children, kept_children, known_children, is_order, is_excluded, answered_of, child_after, Signal, untold_hits, told_at, stop_due, has_untold_miss, in_spell, is_missed, spell_hits, is_placed, is_due, left_ids, wants_look, may_come, is_sound, same_id-is, both_ways, falsely, or_either, any_less, any_without, found_any}
 use Rattle.init_words.specs.declared.orders.Answer.TheVariants as answer
-use Rattle.init_words.specs.Ids.{same_id}
-use Rattle.init_words.specs.Orders.{same_ask, answers, is_hit}
-use Rattle.inittab_text.specs.Tables.{ids_of, has_id, is_distinct}
-use Rattle.trace_events.specs.declared.happenings.Happening.TheVariants.{NewTable, Enter, Asked, Birth, NoBirth, Reaped, Still, NoLook, Hit, Miss, Told, Nudge}
-use Rattle.trace_events.specs.declared.steps.Goal.{Goal}
+use Rattle.trace_events.specs.declared.happenings.Happening.TheVariants.{Enter}
 use Rattle.trace_events.specs.declared.steps.Step.TheVariants as step
-use Rattle.trace_events.specs.Event.{Event}
-use Rattle.trace_events.specs.Past.{table_of, stage_of, grace_of, time_of, Child, is_of, has_child, open_of, undone_of, is_untold, is_quiet, newborn, unreaped_children, kept_children, known_children}
-use Rattle.trace_events.specs.Wanted.{is_order, is_excluded}
-use Rattle.trace_events.specs.Answered.{answered_of, child_after}
-use Rattle.trace_events.specs.Spells.{Signal, untold_hits, told_at, is_ripe, stop_by, stop_due, has_untold_miss, in_spell, is_missed, spell_hits}
-use Rattle.trace_events.specs.Lawful.{is_placed}
-use Rattle.trace_events.specs.Due.{is_due, left_ids, wants_look}
-use Rattle.trace_events.specs.Sound.{may_come, is_sound}
-use Rattle.init_words.proofs.Same.{same_id-is}
-use Rattle.init_words.proofs.Tests.{both_ways, falsely, or_either, any_less, any_without, found_any}
 use Rattle.trace_laws.proofs.Tests.{is_order-is}
 use Rattle.trace_laws.proofs.Orders.{cleared, undone_is_open, quiet_looks, told_other, known_kept, same_has}
 use Rattle.trace_laws.proofs.Lone.{only_one}
@@ -33,18 +12,11 @@ use Rattle.trace_laws.proofs.Keeps.{start_undone, sound_holds, sound_ind, placed
 use Rattle.trace_laws.proofs.Told.{answered_untold, answers_open, same_find, told_child}
 use Rattle.trace_laws.proofs.Known.{known_single}
 use Rattle.trace_laws.proofs.Records.{order_known}
-use Rattle.trace_laws.proofs.Signals.{OneRipe, kill_ripe}
 use Rattle.trace_laws.proofs.Spells.{spell_none, missed_still, missed_told, spell_still, spell_nudge, spell_enter, spell_table, spell_birth, spell_told, answered_tells}
 
 -- a birth that is not told is of an open Start
 pub born_open : (goal : Goal) (past : List Event) → is_sound goal past ≡ true → (id : List ℕ) (n : ℕ) → answered_of id past ≡ Some (answer.Born n) → open_of id past ≡ Some Start
-born_open goal past sound id n is = read (open_of id past) (answers_open goal past sound id (answer.Born n) is) where
-  read : (o : Option OrderKind) → option_map_or (answers (answer.Born n)) o false ≡ true → o ≡ Some Start
-  read None h = absurd (false≢true h)
-  read (Some Start) h = refl
-  read (Some Look) h = absurd (false≢true h)
-  read (Some Term) h = absurd (false≢true h)
-  read (Some Kill) h = absurd (false≢true h)
+born_open goal past sound id n is = grind (arith, answers_open)
 
 -- while a Start is open, its entry starts in the stage
 pub start_placed : (goal : Goal) (past : List Event) → is_sound goal past ≡ true → (id : List ℕ) → open_of id past ≡ Some Start → is_placed id past ≡ true
@@ -68,8 +40,7 @@ newborn_spared goal past sound id n is = placed_spared id n past (start_placed g
 quiet_signal : {P : Type 0} (id : List ℕ) (ask : OrderKind) (past : List Event) → is_quiet past ≡ true → open_of id past ≡ Some ask → is_signal ask ≡ true → P
 quiet_signal id ask past quiet is signal = read ask (quiet_looks id ask past quiet is) signal where
   read : {P : Type 0} (a : OrderKind) → same_ask Look a ≡ true → is_signal a ≡ true → P
-  read Look look signal = absurd (false≢true signal)
-  read _ look signal = absurd (false≢true look)
+  read a look signal = grind arith
 
 -- the known child of an id has the id; where the id has no other, what holds of one holds of it
 found_has : (id : List ℕ) (xs : List Child) (child : Child) → find (is_of id) xs ≡ Some child → has_child id xs ≡ true
@@ -77,10 +48,7 @@ found_has id xs child there = sym (found_any (λ (x : Child). x) (is_of id) xs) 
 
 pub found_own : (id : List ℕ) (xs : List Child) (child : Child) → find (is_of id) xs ≡ Some child → id ≡ child.id
 found_own id [] child there = absurd (none-some child there)
-found_own id (x ∷ xs) child there = split (same_id id x.id) refl there (found_own id xs child) where
-  split : (b : Bool) → same_id id x.id ≡ b → cond b (Some x) (find (is_of id) xs) ≡ Some child → (find (is_of id) xs ≡ Some child → id ≡ child.id) → id ≡ child.id
-  split true same there rest = same_id-is id x.id same ∙ ap (λ (y : Child). y.id) (same_Some x child there)
-  split false differ there rest = rest there
+found_own id (x ∷ xs) child there = grind (arith, same_id-is, found_own id xs child)
 
 pub found_holds : (p q : Child → Bool) (xs : List Child) (child : Child) → length (filter p xs) ≤ 1 → find p xs ≡ Some child → list_any (λ x. p x && q x) xs ≡ true → q child ≡ true
 found_holds p q [] child one there any = absurd (none-some child there)
@@ -94,13 +62,11 @@ pub stop_holds : (goal : Goal) (past : List Event) → is_sound goal past ≡ tr
 stop_holds goal past sound id ask may q holds child there = found_holds (is_of id) q (known_children past) child (known_single goal past sound id) there (may.within (λ x. is_of id x && q x) (and_from (is_of id may.child) (q may.child) may.own holds))
 
 asked_stop : (goal : Goal) (i : List ℕ) (ask : OrderKind) (past : List Event) → is_due goal (step.Order i ask) past ≡ true → is_signal ask ≡ true → MayStop i ask past
-asked_stop goal i Term past may signal = due_facts goal past (step.Order i Term) may
-asked_stop goal i Kill past may signal = due_facts goal past (step.Order i Kill) may
-asked_stop goal i _ past may signal = absurd (false≢true signal)
+asked_stop goal i ask past may signal = grind (arith, due_facts)
 
 -- before the first stage no child is known
 pub dawn_known : {P : Type 0} (goal : Goal) (past : List Event) → is_sound goal past ≡ true → stage_of past ≡ None → (id : List ℕ) → has_child id (known_children past) ≡ true → P
-dawn_known goal past sound dawn id there = both_ways (list_any (λ (x : Child). true) (kept_children past)) (any_less (is_of id) (λ x. true) (λ x _. refl) (kept_children past) (known_kept (is_of id) past there)) ((sound_holds goal past sound).dawn dawn)
+dawn_known goal past sound dawn id there = grind (arith, any_less, known_kept, sound_holds)
 
 -- a Told of another id leaves the known child of an id
 other_found : (id i : List ℕ) (past : List Event) (o : Option Child) → same_id id i ≡ false → find (is_of id) (known_children (Told i ∷ past)) ≡ o → find (is_of id) (known_children past) ≡ o
@@ -126,11 +92,7 @@ signal_excluded goal past h = sound_ind goal (λ before. (id : List ℕ) (ask : 
 
 -- and no signal missed it since the last round
 stop_unmissed : (child : Child) (ask : OrderKind) (past : List Event) → stop_due child past ≡ Some ask → is_missed child past ≡ false
-stop_unmissed child ask past h = at_child (is_excluded past child) (is_missed child past) (stop_by (grace_of past) (time_of past) (spell_hits child past)) h where
-  at_child : (b c : Bool) (o : Option OrderKind) → cond (b && not c) o None ≡ Some ask → c ≡ false
-  at_child b false o h = refl
-  at_child true true o h = absurd (none-some ask h)
-  at_child false true o h = absurd (none-some ask h)
+stop_unmissed child ask past h = grind arith
 
 abbrev IsUnmissed : List Event → Type 0
 IsUnmissed past = (id : List ℕ) (ask : OrderKind) → open_of id past ≡ Some ask → is_signal ask ≡ true → (child : Child) → find (is_of id) (known_children past) ≡ Some child → is_missed child past ≡ false
@@ -174,28 +136,17 @@ start_childless goal past h = sound_ind goal (λ before. (id : List ℕ) → ope
 pub unborn_childless : (goal : Goal) (past : List Event) → is_sound goal past ≡ true → (id : List ℕ) (n : ℕ) → answered_of id past ≡ Some (answer.Born n) → has_child id (known_children past) ≡ false
 unborn_childless goal past sound id n is = start_childless goal past sound id (born_open goal past sound id n is)
 
-abbrev is_born : Answer → Bool
-is_born (answer.Born n) = true
-is_born _ = false
-
-born_stays : (b : Bool) (given : Answer) (o : Option Answer) (n : ℕ) → is_born given ≡ false → cond b (Some given) o ≡ Some (answer.Born n) → o ≡ Some (answer.Born n)
-born_stays true given o n other h = both_ways (is_born given) (ap is_born (same_Some given (answer.Born n) h)) other
-born_stays false given o n other h = h
-
 pub unborn_unlooked : (goal : Goal) (past : List Event) → is_sound goal past ≡ true → (id : List ℕ) (n : ℕ) → answered_of id past ≡ Some (answer.Born n) → wants_look id past ≡ false
 unborn_unlooked goal past h = sound_ind goal (λ before. (id : List ℕ) (n : ℕ) → answered_of id before ≡ Some (answer.Born n) → wants_look id before ≡ false) (λ table distinct id n is. refl) next past h where
   next : (happening : Event) (before : List Event) → may_come goal happening before ≡ true → is_sound goal before ≡ true → ((id : List ℕ) (n : ℕ) → answered_of id before ≡ Some (answer.Born n) → wants_look id before ≡ false) → (id : List ℕ) (n : ℕ) → answered_of id (happening ∷ before) ≡ Some (answer.Born n) → wants_look id (happening ∷ before) ≡ false
-  next (Birth i m) before may sound rest id n is = at_id (same_id id i) is where
-    at_id : (b : Bool) → cond b (Some (answer.Born m)) (answered_of id before) ≡ Some (answer.Born n) → (not b && wants_look id before) ≡ false
-    at_id true is = refl
-    at_id false is = rest id n is
-  next (NoBirth i) before may sound rest id n is = rest id n (born_stays (same_id id i) answer.NotBorn (answered_of id before) n refl is)
-  next (Reaped i m status) before may sound rest id n is = rest id n (born_stays (same_id id i) (answer.Ended status) (answered_of id before) n refl is)
-  next (Still i) before may sound rest id n is = rest id n (born_stays (same_id id i) answer.Alive (answered_of id before) n refl is)
-  next (NoLook i) before may sound rest id n is = rest id n (born_stays (same_id id i) answer.NoLook (answered_of id before) n refl is)
-  next (Hit i) before may sound rest id n is = rest id n (born_stays (same_id id i) answer.Hit (answered_of id before) n refl is)
-  next (Miss i) before may sound rest id n is = rest id n (born_stays (same_id id i) answer.Miss (answered_of id before) n refl is)
-  next (Told i) before may sound rest id n is = cleared (same_id id i) (answered_of id before) (answer.Born n) (λ differ was. rest id n was) is
+  next (Birth i m) before may sound rest id n is = grind arith
+  next (NoBirth i) before may sound rest id n is = grind arith
+  next (Reaped i m status) before may sound rest id n is = grind arith
+  next (Still i) before may sound rest id n is = grind arith
+  next (NoLook i) before may sound rest id n is = grind arith
+  next (Hit i) before may sound rest id n is = grind arith
+  next (Miss i) before may sound rest id n is = grind arith
+  next (Told i) before may sound rest id n is = grind arith
   next (Asked i Look) before may sound rest id n is = and_right (not (same_id id i)) (wants_look id before) (rest id n is)
   next Nudge before may sound rest id n is = unborn_childless goal before sound id n is
   next _ before may sound rest id n is = rest id n is
@@ -208,11 +159,6 @@ left_apart goal past sound id there = apart past there where
   apart (NewTable table ∷ before) there = any_without (same_id id) (λ x. not (list_any (has_id x) table)) (λ x same. not_from_true (list_any (has_id x) table) (ap (λ y. list_any (has_id y) table) (sym (same_id-is id x same)) ∙ there)) (ids_of (table_of before) ++ left_ids before)
   apart (_ ∷ before) there = apart before there
 
--- no id stands twice
-abbrev pub are_apart : List (List ℕ) → Bool
-are_apart [] = true
-are_apart (id ∷ ids) = not (list_any (same_id id) ids) && are_apart ids
-
 -- whether an id has a known child after an answer, by whether it had one before
 abbrev pub has_after : Answer → Bool → Bool
 has_after (answer.Born n) before = true
@@ -221,28 +167,17 @@ has_after _ before = before
 
 has_found : (id : List ℕ) (xs : List Child) → has_child id xs ≡ is_some (find (is_of id) xs)
 has_found id [] = refl
-has_found id (x ∷ xs) = split (is_of id x) (has_found id xs) where
-  split : (b : Bool) → has_child id xs ≡ is_some (find (is_of id) xs) → (b || has_child id xs) ≡ is_some (cond b (Some x) (find (is_of id) xs))
-  split true same = refl
-  split false same = same
+has_found id (x ∷ xs) = grind (arith, has_found id xs)
 
 -- which ids have a known child after a Told
 pub told_leaves : (goal : Goal) (past : List Event) → is_sound goal past ≡ true → (id : List ℕ) (given : Answer) → answered_of id past ≡ Some given → has_child id (known_children (Told id ∷ past)) ≡ has_after given (has_child id (known_children past))
 told_leaves goal past sound id given is = has_found id (known_children (Told id ∷ past)) ∙ ap is_some (told_child goal past sound id given is) ∙ after given where
   after : (x : Answer) → is_some (child_after id past x (find (is_of id) (known_children past))) ≡ has_after x (has_child id (known_children past))
-  after (answer.Born n) = refl
-  after (answer.Ended status) = refl
-  after _ = sym (has_found id (known_children past))
+  after x = grind (arith, has_found)
 
 -- an answer to a Look or a signal is of an id with a known child
 pub answered_known : (goal : Goal) (past : List Event) → is_sound goal past ≡ true → (id : List ℕ) (given : Answer) → answered_of id past ≡ Some given → answers given Start ≡ false → has_child id (known_children past) ≡ true
-answered_known goal past sound id given is other = read (open_of id past) refl (answers_open goal past sound id given is) where
-  read : (o : Option OrderKind) → open_of id past ≡ o → option_map_or (answers given) o false ≡ true → has_child id (known_children past) ≡ true
-  read None order h = absurd (false≢true h)
-  read (Some Start) order h = both_ways (answers given Start) h other
-  read (Some Look) order h = order_known goal past sound id Look order refl
-  read (Some Term) order h = order_known goal past sound id Term order refl
-  read (Some Kill) order h = order_known goal past sound id Kill order refl
+answered_known goal past sound id given is other = grind (arith, answers_open, order_known)
 
 -- one Hit, of a TERM
 abbrev pub is_one_term : List Signal → Bool
@@ -268,14 +203,7 @@ hits_fit (Some Kill) hits = is_one_term hits
 hits_fit _ hits = hits_are hits
 
 fit_are : (o : Option OrderKind) (hits : List Signal) → hits_fit o hits ≡ true → hits_are hits ≡ true
-fit_are None hits h = h
-fit_are (Some Start) hits h = h
-fit_are (Some Look) hits h = h
-fit_are (Some Term) [] h = refl
-fit_are (Some Term) (signal ∷ more) h = absurd (false≢true h)
-fit_are (Some Kill) [] h = refl
-fit_are (Some Kill) (signal ∷ []) h = h
-fit_are (Some Kill) (signal ∷ first ∷ more) h = absurd (false≢true h)
+fit_are o hits h = grind arith
 
 quiet_fit : (id : List ℕ) (past : List Event) (hits : List Signal) → is_quiet past ≡ true → hits_are hits ≡ true → hits_fit (open_of id past) hits ≡ true
 quiet_fit id past hits quiet are = read (open_of id past) refl where
@@ -287,25 +215,14 @@ quiet_fit id past hits quiet are = read (open_of id past) refl where
   read (Some Kill) is = quiet_signal id Kill past quiet is refl
 
 cut_are : (b : Bool) (hits : List Signal) → hits_are hits ≡ true → hits_are (cond b hits []) ≡ true
-cut_are true hits are = are
-cut_are false hits are = refl
+cut_are b hits are = grind arith
 
 -- a TERM is due after none, a KILL after one of a TERM
 pub term_first : (child : Child) (past : List Event) → stop_due child past ≡ Some Term → are_none (spell_hits child past) ≡ true
-term_first child past h = due (is_excluded past child && not (is_missed child past)) (grace_of past) (time_of past) (spell_hits child past) h where
-  due : (b : Bool) (grace now : ℕ) (hits : List Signal) → cond b (stop_by grace now hits) None ≡ Some Term → are_none hits ≡ true
-  due false grace now hits h = absurd (none-some Term h)
-  due true grace now [] h = refl
-  due true grace now (signal ∷ []) h = over (is_ripe grace now signal) h where
-    over : {P : Type 0} (b : Bool) → cond b (Some Kill) None ≡ Some Term → P
-    over true h = absurd (false≢true (ap (same_ask Term) (same_Some Kill Term h)))
-    over false h = absurd (none-some Term h)
-  due true grace now (signal ∷ more ∷ rest) h = absurd (none-some Term h)
+term_first child past h = grind arith
 
 pub kill_second : (child : Child) (past : List Event) → stop_due child past ≡ Some Kill → is_one_term (spell_hits child past) ≡ true
-kill_second child past h = ap is_one_term one.only ∙ (and_parts (is_order Term one.signal.order) _ one.ripe).0 where
-  one : OneRipe (grace_of past) (time_of past) (spell_hits child past)
-  one = kill_ripe child past h
+kill_second child past h = grind arith
 
 asked_fit : (goal : Goal) (i : List ℕ) (given : OrderKind) (past : List Event) → is_due goal (step.Order i given) past ≡ true → is_sound goal past ≡ true → (child : Child) → find (is_of i) (known_children past) ≡ Some child → hits_are (spell_hits child past) ≡ true → hits_fit (Some given) (spell_hits child past) ≡ true
 asked_fit goal i Start past may sound child there are = are
@@ -319,24 +236,10 @@ asked_fit goal i Kill past may sound child there are =
 
 -- only a signal is answered by a Hit; what fits the open order and the Hit that answers it are as said
 hit_signal : (given : Answer) (o : Option OrderKind) → option_map_or (answers given) o false ≡ true → is_hit given ≡ true → option_map_or is_signal o false ≡ true
-hit_signal answer.Hit None h hit = h
-hit_signal answer.Hit (Some Start) h hit = h
-hit_signal answer.Hit (Some Look) h hit = h
-hit_signal answer.Hit (Some Term) h hit = refl
-hit_signal answer.Hit (Some Kill) h hit = refl
-hit_signal _ o h hit = absurd (false≢true hit)
+hit_signal given o h hit = grind arith
 
 told_fit : (b hit : Bool) (now : ℕ) (o : Option OrderKind) (hits : List Signal) → (hit ≡ true → option_map_or is_signal o false ≡ true) → hits_fit o hits ≡ true → hits_are (cond b (map (told_at now) (cond hit (o ∷ []) []) ++ hits) hits) ≡ true
-told_fit false hit now o hits signal fit = fit_are o hits fit
-told_fit true false now o hits signal fit = fit_are o hits fit
-told_fit true true now None hits signal fit = absurd (false≢true (signal refl))
-told_fit true true now (Some Start) hits signal fit = absurd (false≢true (signal refl))
-told_fit true true now (Some Look) hits signal fit = absurd (false≢true (signal refl))
-told_fit true true now (Some Term) [] signal fit = refl
-told_fit true true now (Some Term) (first ∷ more) signal fit = absurd (false≢true fit)
-told_fit true true now (Some Kill) [] signal fit = absurd (false≢true fit)
-told_fit true true now (Some Kill) (first ∷ []) signal fit = fit
-told_fit true true now (Some Kill) (first ∷ second ∷ more) signal fit = absurd (false≢true fit)
+told_fit b hit now o hits signal fit = grind arith
 
 told_hits : (goal : Goal) (past : List Event) → is_sound goal past ≡ true → (id : List ℕ) (given : Answer) → answered_of id past ≡ Some given → ((child : Child) → find (is_of id) (known_children past) ≡ Some child → hits_fit (open_of id past) (spell_hits child past) ≡ true) → (child : Child) → find (is_of id) (known_children (Told id ∷ past)) ≡ Some child → hits_are (spell_hits child (Told id ∷ past)) ≡ true
 told_hits goal past sound id given is rest child there = after given is (sym (told_child goal past sound id given is) ∙ there) where

@@ -1,28 +1,6 @@
 -- What a Told tells: the answer under way to an id's order, and the child that init knows of after it.
-use Rattle.std.proofs.Common.{◌≡◌, ◌≤◌, refl, sym, ◌∙◌, ap, subst, ℕ, Bool, true, false, not, ◌&&◌, ◌||◌, ◌==◌, cond, List, [], ◌∷◌, filter, find, length, Option, Some, None, is_some, arith}
-use Rattle.std.specs.List.{list_any}
-use Rattle.std.specs.Option.{option_map_or}
-use Rattle.std.proofs.lemmas.Bool.{false≢true, and_parts, or_from}
-use Rattle.std.proofs.lemmas.List.{nil_from_length}
-use Rattle.std.proofs.lemmas.Option.{none-some, same_Some}
-use Rattle.init_words.specs.declared.entries.Entry.{Entry}
-use Rattle.init_words.specs.declared.orders.OrderKind.{OrderKind}
-use Rattle.init_words.specs.declared.orders.OrderKind.TheVariants.{Start, Look, Term, Kill}
-use Rattle.init_words.specs.declared.orders.Answer.{Answer}
+use Rattle.trace_laws.proofs.Words.{◌≡◌, ◌≤◌, refl, sym, ◌∙◌, ap, subst, ℕ, Bool, true, false, not, ◌||◌, cond, List, [], ◌∷◌, filter, find, length, Option, Some, None, is_some, arith, list_any, option_map_or, false≢true, and_parts, nil_from_length, none-some, same_Some, OrderKind, Start, Look, Term, Kill, Answer, same_id, answers, has_id, is_distinct, NewTable, Asked, Birth, NoBirth, Reaped, Still, NoLook, Hit, Miss, Told, Goal, Event, table_of, Child, is_of, is_child, has_child, open_of, undone_of, is_untold, is_quiet, newborn, unreaped_children, kept_children, known_children, is_order, answered_of, child_after, is_placed, may_come, is_sound, same_id-is, same_id-self, both_ways, or_either, any_filtered, any_less, any_none, find_none}
 use Rattle.init_words.specs.declared.orders.Answer.TheVariants as answer
-use Rattle.init_words.specs.Ids.{same_id}
-use Rattle.init_words.specs.Orders.{answers}
-use Rattle.inittab_text.specs.Tables.{has_id, entry_of, act_of, is_distinct}
-use Rattle.trace_events.specs.declared.happenings.Happening.TheVariants.{NewTable, Asked, Birth, NoBirth, Reaped, Still, NoLook, Hit, Miss, Told}
-use Rattle.trace_events.specs.declared.steps.Goal.{Goal}
-use Rattle.trace_events.specs.Event.{Event}
-use Rattle.trace_events.specs.Past.{table_of, Child, is_of, is_child, has_child, open_of, undone_of, is_untold, is_quiet, newborn, unreaped_children, kept_children, known_children}
-use Rattle.trace_events.specs.Wanted.{starts_now, is_order}
-use Rattle.trace_events.specs.Answered.{answered_of, child_after}
-use Rattle.trace_events.specs.Lawful.{is_placed}
-use Rattle.trace_events.specs.Sound.{may_come, is_sound}
-use Rattle.init_words.proofs.Same.{same_id-is, same_id-self}
-use Rattle.init_words.proofs.Tests.{both_ways, falsely, or_either, any_filtered, any_less, any_none, find_none}
 use Rattle.trace_laws.proofs.Tests.{is_order-is}
 use Rattle.trace_laws.proofs.Orders.{cleared, undone_is_open, quiet_looks, told_same, told_other, reaped_other, told_known}
 use Rattle.trace_laws.proofs.Dues.{MayStop}
@@ -57,10 +35,7 @@ one_answered false x id past same = same
 -- an answer is under way exactly where something is untold
 pub answered_untold : (id : List ℕ) (past : List Event) → is_some (answered_of id past) ≡ is_untold id past
 answered_untold id [] = refl
-answered_untold id (Told i ∷ past) = at_id (same_id id i) (answered_untold id past) where
-  at_id : (b : Bool) → is_some (answered_of id past) ≡ is_untold id past → is_some (cond b None (answered_of id past)) ≡ (not b && is_untold id past)
-  at_id true same = refl
-  at_id false same = same
+answered_untold id (Told i ∷ past) = grind (arith, answered_untold id past)
 answered_untold id (Birth i n ∷ past) = one_answered (same_id id i) (answer.Born n) id past (answered_untold id past)
 answered_untold id (NoBirth i ∷ past) = one_answered (same_id id i) answer.NotBorn id past (answered_untold id past)
 answered_untold id (Reaped i n status ∷ past) = one_answered (same_id id i) (answer.Ended status) id past (answered_untold id past)
@@ -115,10 +90,7 @@ first_of (child ∷ children) = Some child
 
 find_first : (p : Child → Bool) (xs : List Child) → find p xs ≡ first_of (filter p xs)
 find_first p [] = refl
-find_first p (x ∷ xs) = split (p x) (find_first p xs) where
-  split : (b : Bool) → find p xs ≡ first_of (filter p xs) → cond b (Some x) (find p xs) ≡ first_of (cond b (x ∷ filter p xs) (filter p xs))
-  split true same = refl
-  split false same = same
+find_first p (x ∷ xs) = grind (arith, find_first p xs)
 
 pub same_find : (p : Child → Bool) (xs ys : List Child) → filter p xs ≡ filter p ys → find p xs ≡ find p ys
 same_find p xs ys same = find_first p xs ∙ ap first_of same ∙ sym (find_first p ys)
@@ -126,22 +98,11 @@ same_find p xs ys same = find_first p xs ∙ ap first_of same ∙ sym (find_firs
 -- of a single child of an id that is reaped nothing is left
 reaped_none : (id : List ℕ) (n : ℕ) (xs : List Child) → length (filter (is_of id) xs) ≤ 1 → list_any (is_child id n) xs ≡ true → list_any (is_of id) (filter (λ child. not (is_child id n child)) xs) ≡ false
 reaped_none id n [] one there = refl
-reaped_none id n (x ∷ xs) one there = split (same_id id x.id) refl (n == x.number) one there (reaped_none id n xs) where
-  left : Child → Bool
-  left child = not (is_child id n child)
-
-  alone : length (x ∷ filter (is_of id) xs) ≤ 1 → list_any (is_of id) xs ≡ false
-  alone few = any_none (is_of id) xs (nil_from_length (filter (is_of id) xs) (omega arith))
-
-  split : (b : Bool) → same_id id x.id ≡ b → (c : Bool) → length (cond b (x ∷ filter (is_of id) xs) (filter (is_of id) xs)) ≤ 1 → (b && c || list_any (is_child id n) xs) ≡ true → (length (filter (is_of id) xs) ≤ 1 → list_any (is_child id n) xs ≡ true → list_any (is_of id) (filter left xs) ≡ false) → list_any (is_of id) (cond (not (b && c)) (x ∷ filter left xs) (filter left xs)) ≡ false
-  split true own true one there rest = falsely (list_any (is_of id) (filter left xs)) (list_any (is_of id) xs) (any_filtered (is_of id) left xs) (alone one)
-  split true own false one there rest = both_ways (list_any (is_of id) xs) (any_less (is_child id n) (is_of id) (λ child own. (and_parts (same_id id child.id) (n == child.number) own).0) xs there) (alone one)
-  split false differ c one there rest = or_from (is_of id x) (list_any (is_of id) (filter left xs)) differ (rest one there)
+reaped_none id n (x ∷ xs) one there = grind (arith, any_none, nil_from_length, any_filtered, any_less, reaped_none id n xs)
 
 -- what child_after reads of the past is the table alone
 same_after : (id : List ℕ) (past before : List Event) (given : Answer) (child : Option Child) → table_of past ≡ table_of before → child_after id past given child ≡ child_after id before given child
-same_after id past before (answer.Born n) child same = ap (λ (table : List Entry). Some (record { id = id; number = n; act = act_of id table })) same
-same_after id past before _ child same = refl
+same_after id past before given child same = grind arith
 
 -- nor does a table matter at a quiet point, where no Start is open
 quiet_after : (id : List ℕ) (past before : List Event) (given : Answer) (child : Option Child) → is_quiet before ≡ true → Answers id before given → child_after id past given child ≡ child_after id before given child
@@ -156,17 +117,14 @@ quiet_after id past before _ child quiet open_start = refl
 
 -- of an act on an order: its own id's child is as its answer says, another's as before
 act_child : (id i : List ℕ) (x given : Answer) (before past : List Event) (child had there known_there : Option Child) → table_of past ≡ table_of before → (same_id id i ≡ true → there ≡ child_after id past x known_there) → (same_id id i ≡ false → (there ≡ child) × (known_there ≡ had)) → (answered_of id before ≡ Some given → child ≡ child_after id before given had) → cond (same_id id i) (Some x) (answered_of id before) ≡ Some given → there ≡ child_after id past given known_there
-act_child id i x given before past child had there known_there table own other rest h = at_id (same_id id i) refl h where
-  at_id : (b : Bool) → same_id id i ≡ b → cond b (Some x) (answered_of id before) ≡ Some given → there ≡ child_after id past given known_there
-  at_id true same h = own same ∙ ap (λ y. child_after id past y known_there) (same_Some x given h)
-  at_id false differ h = (other differ).0 ∙ rest h ∙ ap (child_after id before given) (sym (other differ).1) ∙ sym (same_after id past before given known_there table)
+act_child id i x given before past child had there known_there table own other rest h = grind arith
 
 -- where an order of the id is undone, its unreaped child is the known one
 undone_child : (goal : Goal) (i : List ℕ) (ask : OrderKind) (past : List Event) → is_sound goal past ≡ true → is_order ask (undone_of i past) ≡ true → (id : List ℕ) → same_id id i ≡ true → find (is_of id) (unreaped_children past) ≡ find (is_of id) (known_children past)
 undone_child goal i ask past sound h id own = let P : List ℕ → Type 0 = λ x. find (is_of x) (unreaped_children past) ≡ find (is_of x) (known_children past) in subst P (sym (same_id-is id i own)) (sym (same_find (is_of i) (known_children past) (unreaped_children past) (told_known i past ((sound_holds goal past sound).done i ask (is_order-is ask (undone_of i past) h)))))
 
 signal_child : (goal : Goal) (i : List ℕ) (past : List Event) → is_sound goal past ≡ true → (is_order Term (undone_of i past) || is_order Kill (undone_of i past)) ≡ true → (id : List ℕ) → same_id id i ≡ true → find (is_of id) (unreaped_children past) ≡ find (is_of id) (known_children past)
-signal_child goal i past sound h id own = or_either (is_order Term (undone_of i past)) (is_order Kill (undone_of i past)) h (λ g. undone_child goal i Term past sound g id own) (λ g. undone_child goal i Kill past sound g id own)
+signal_child goal i past sound h id own = grind (arith, undone_child)
 
 -- while an answer is under way, the unreaped child of the id is the one that the answer says
 pub answered_child : (goal : Goal) (past : List Event) → is_sound goal past ≡ true → (id : List ℕ) (given : Answer) → answered_of id past ≡ Some given → find (is_of id) (unreaped_children past) ≡ child_after id past given (find (is_of id) (known_children past))
@@ -196,7 +154,4 @@ pub stop_known : (id : List ℕ) (ask : OrderKind) (past : List Event) → MaySt
 stop_known id ask past may = may.within (is_of id) may.own
 
 pub placed_listed : (id : List ℕ) (past : List Event) → is_placed id past ≡ true → list_any (has_id id) (table_of past) ≡ true
-placed_listed id past h = found (entry_of id (table_of past)) refl h where
-  found : (o : Option Entry) → entry_of id (table_of past) ≡ o → option_map_or (λ e. starts_now e past) o false ≡ true → list_any (has_id id) (table_of past) ≡ true
-  found None is h = absurd (false≢true h)
-  found (Some e) is h = entry_listed id (table_of past) e is
+placed_listed id past h = grind (arith, entry_listed)

@@ -1,22 +1,6 @@
 -- Before a KILL of a sound trace a TERM was told to the child in its spell, at least the grace ago.
-use Rattle.std.proofs.Common.{◌≡◌, ◌≤◌, ◌+◌, refl, sym, ◌∙◌, ap, subst, ℕ, Bool, true, false, ◌&&◌, ◌||◌, ◌==◌, cond, nat_le, List, [], ◌∷◌, ◌++◌, map, Option, append_assoc, eq-eqb}
-use Rattle.std.specs.List.{list_any}
-use Rattle.std.proofs.lemmas.Bool.{false≢true, and_parts, and_from, leb-true}
-use Rattle.std.proofs.lemmas.List.Folds.{list_any-append}
-use Rattle.init_words.specs.declared.orders.OrderKind.{OrderKind}
-use Rattle.init_words.specs.declared.orders.OrderKind.TheVariants.{Term, Kill}
-use Rattle.init_words.specs.Ids.{same_id}
-use Rattle.trace_events.specs.declared.happenings.Happening.TheVariants.{Asked, Told}
-use Rattle.trace_events.specs.declared.steps.Goal.{Goal}
-use Rattle.trace_events.specs.Event.{Event}
-use Rattle.trace_events.specs.Past.{Child, grace_of, time_of, is_of, is_child, unreaped_children}
-use Rattle.trace_events.specs.Wanted.{is_order, is_excluded}
-use Rattle.trace_events.specs.Spells.{Signal, untold_hits, told_at, tells_hits, in_spell, spell_hits, is_ripe}
-use Rattle.trace_events.specs.Agreement.{is_unreaped}
-use Rattle.trace_events.specs.Sound.{is_sound}
-use Rattle.trace_laws.specs.Warnings.{stays_excluded, Warned}
-use Rattle.init_words.proofs.Same.{same_id-is, same_id-self}
-use Rattle.init_words.proofs.Tests.{Passing, passing, or_either}
+use Rattle.trace_laws.proofs.Words.{◌≡◌, ◌≤◌, ◌+◌, refl, sym, ◌∙◌, ap, subst, ℕ, Bool, true, false, ◌&&◌, ◌||◌, ◌==◌, cond, nat_le, List, [], ◌∷◌, ◌++◌, map, Option, append_assoc, arith, list_any, false≢true, and_parts, and_from, leb-true, list_any-append, OrderKind, Term, Kill, same_id, Asked, Told, Goal, Event, Child, grace_of, time_of, is_of, is_child, unreaped_children, is_order, is_excluded, Signal, untold_hits, told_at, tells_hits, in_spell, spell_hits, is_ripe, is_unreaped, is_sound, stays_excluded, Warned, same_id-is, same_id-self, Passing, passing, or_either}
+use Rattle.std.proofs.Common.{eq-eqb}
 use Rattle.trace_laws.proofs.Signals.{kill_may}
 
 -- the place at which a signal of a spell was told
@@ -64,9 +48,7 @@ ripe_told id grace now time orders h = (found.within (is_order Term) parts.0, le
   parts = and_parts (is_order Term found.item) (nat_le (time + grace) now) found.passes
 
 own_warned : (child : Child) (past : List Event) → is_unreaped child.id child.number past ≡ true → ToldAt (is_ripe (grace_of past) (time_of past)) child past → Warned child.id past
-own_warned child past there place =
-    let ripe = ripe_told child.id (grace_of past) (time_of past) (time_of place.before) (untold_hits child.id place.before) place.passes in
-    record { child = child; own = same_id-self child.id; there = there; since = place.since; before = place.before; told = place.told; termed = ripe.0; excluded = place.excluded; late = ripe.1 }
+own_warned child past there place = grind (arith, ripe_told, same_id-self)
 
 pub kill_warned : (goal : Goal) (later past : List Event) (id : List ℕ) → is_sound goal (later ++ Asked id Kill ∷ past) ≡ true → Warned id past
 kill_warned goal later past id h = subst (λ x. Warned x past) (sym (same_id-is id found.item.id two.0)) (own_warned found.item past (found.within (is_child found.item.id found.item.number) own) (told_place ripe found.item past all.1)) where

@@ -1,6 +1,5 @@
 -- Each clause is a lemma on brief traces.
-use Rattle.trace_laws.proofs.Laws.{lawful_unbroken}
-use Rattle.trace_brief.specs.Brief.{brief_of}
+use Rattle.trace_brief.proofs.Words.{lawful_unbroken, brief_of}
 use Rattle.trace_brief.proofs.Alike.{same_unreaped}
 use Rattle.trace_brief.proofs.SameDues.{has_known, stop_same, held_same, full_same}
 use Rattle.trace_brief.proofs.Briefly.{brief_said, brief_stands, brief_lawful}

@@ -1,7 +1,4 @@
-use Rattle.std.proofs.Common.{not, rules}
-use Rattle.std.proofs.lemmas.Fn.{filter_same}
-use Rattle.init_words.specs.Ids.{same_id}
-use Rattle.core_records.specs.declared.index.Keyed.{Keyed}
+use Rattle.core_records.proofs.Words.{not, rules, filter_same, same_id, Keyed}
 use Rattle.core_records.proofs.Sorted.{sorted_filter}
 use Rattle.core_records.proofs.index.forget.Goals as goal
 

@@ -1,6 +1,4 @@
-use Rattle.std.proofs.Common.{arith}
-use Rattle.std.specs.Vec.{vec_capacity}
-use Rattle.core_records.specs.Indexing.{termed_of}
+use Rattle.core_records.proofs.Words.{arith, vec_capacity, termed_of}
 use Rattle.core_records.proofs.Indexes.{taken_room, taken_those}
 use Rattle.core_records.proofs.index.index_termed.Goals as goal
 

@@ -1,6 +1,4 @@
-use Rattle.std.proofs.Common.{◌≡◌, ◌≤◌, true, length, take}
-use Rattle.std.specs.Vec.{vec_capacity}
-use Rattle.core_records.specs.Indexing.{are_sorted, termed_of, AreKeysOf}
+use Rattle.core_records.proofs.Words.{◌≡◌, ◌≤◌, true, length, take, vec_capacity, are_sorted, termed_of, AreKeysOf}
 use Rattle.core_records.proofs.index.index_termed.Given as goal
 
 -- the items of the records so far, and room for all

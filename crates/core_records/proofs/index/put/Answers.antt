@@ -1,5 +1,4 @@
-use Rattle.std.proofs.Common.{◌≡◌, ◌≤◌, true, length, rules}
-use Rattle.std.specs.Result.{is_ok}
+use Rattle.core_records.proofs.Words.{◌≡◌, ◌≤◌, true, length, rules, is_ok}
 use Rattle.core_records.proofs.Sorted.{sorted_insert}
 use Rattle.core_records.proofs.index.put.Goals as goal
 

@@ -9,7 +9,7 @@ pub returns-then-is_ok-clause-hears : goal.returns-then-is_ok-clause-hears
 returns-then-is_ok-clause-hears g c =
     let ok : is_ok c.answer.result ≡ true = search rules in
     Hears-taken c.args.core.now c.answer.new.self (g.L.Log.state c.args.log.now) (g.L.Log.state c.write_answer.new.log) c.args.id c.args.answer c.answer.result ok c.answer.ensures.refused c.answer.ensures.told
-    (λ goal so_far sound fits allowed. c.write_answer.ensures.logs so_far (λ ends. c.number_of-number.ensures ∙ end_known goal so_far c.args.core.now c.args.id c.args.answer sound fits.0 allowed ends))
+    (λ goal so_far sound fits allowed. c.write_answer.ensures.logs so_far (λ ends. c.number_for-number.ensures ends ∙ end_known goal so_far c.args.core.now c.args.id c.args.answer sound fits.0 allowed ends))
 
 pub returns-else-is_ok-clause-hears : goal.returns-else-is_ok-clause-hears
 returns-else-is_ok-clause-hears g c =

@@ -1,14 +1,8 @@
-use Rattle.std.proofs.Common.{inr, subst}
-use Rattle.initview_command.specs.Following.{Follows}
-use Rattle.initview_command.proofs.Followed.{none_part, nothing_written}
+use Rattle.std.proofs.Common.{inr}
+use Rattle.initview_command.proofs.Followed.{none_part}
 use Rattle.initview_command.proofs.following.follow_file.Goals as goal
 
-pub follow_text-requires : goal.follow_text-requires
-follow_text-requires g c = nothing_written c.new-view.result (g.W.Write.contents c.args.out.now) c.new-view.ensures.shown
-
-pub returns-in-Ok : goal.returns-in-Ok
-returns-in-Ok g c =
-    subst (λ left. Follows left c.follow_text.result (g.W.Write.contents c.args.out.now) (g.W.Write.contents c.follow_text.new.out)) c.in-Ok.ensures c.follow_text.ensures
-
-pub returns : goal.returns
-returns g c = inr (c.report_unread.ensures, none_part _ c.new-view.result (g.W.Write.contents c.args.out.now) c.new-view.ensures.shown)
+pub returns-in-Err : goal.returns-in-Err
+returns-in-Err g c =
+    let (state, shown) = c.in-Err.ensures.none in
+    inr (c.report_memory.ensures, none_part _ state (g.W.Write.contents c.args.out.now) shown)

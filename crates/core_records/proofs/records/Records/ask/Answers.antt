@@ -1,15 +1,8 @@
-use Rattle.std.proofs.Common.{◌≡◌, ap, subst, true, sym, ◌∙◌}
-use Rattle.std.specs.Option.{option_copied_mut}
-use Rattle.init_words.proofs.Tests.{both_ways}
-use Rattle.respawn_limit.specs.declared.TheConstants.{CLOCK_LIMIT}
-use Rattle.core_records.specs.Lists.{can_ask, can_ask_of}
-use Rattle.core_records.specs.Changes.{after_order}
+use Rattle.core_records.proofs.Words.{◌≡◌, ap, subst, true, sym, ◌∙◌, option_copied_mut, both_ways, CLOCK_LIMIT, can_ask, can_ask_of, after_order, counts_of, termed_of}
 use Rattle.core_records.proofs.Changed.{id-after_order, termed-after_order}
-use Rattle.core_records.specs.Counting.{counts_of}
 use Rattle.core_records.proofs.Counted.{found_within, recount}
 use Rattle.core_records.proofs.Found.{absent_in, found_in, written}
 use Rattle.core_records.proofs.Timely.{timely_found, timely_order}
-use Rattle.core_records.specs.Indexing.{termed_of}
 use Rattle.core_records.proofs.Indexes.{same_index_at}
 use Rattle.core_records.proofs.records.Records.ask.Goals as goal
 

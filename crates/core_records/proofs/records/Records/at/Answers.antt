@@ -1,6 +1,4 @@
-use Rattle.std.proofs.Common.{sym}
-use Rattle.std.specs.Map.{values_of}
-use Rattle.respawn_limit.specs.declared.TheConstants.{CLOCK_LIMIT}
+use Rattle.core_records.proofs.Words.{sym, values_of, CLOCK_LIMIT}
 use Rattle.core_records.proofs.Found.{at_place}
 use Rattle.core_records.proofs.Timely.{timely_at}
 use Rattle.core_records.proofs.records.Records.at.Goals as goal

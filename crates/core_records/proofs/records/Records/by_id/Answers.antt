@@ -1,5 +1,4 @@
-use Rattle.std.proofs.Common.{◌∙◌}
-use Rattle.respawn_limit.specs.declared.TheConstants.{CLOCK_LIMIT}
+use Rattle.core_records.proofs.Words.{◌∙◌, CLOCK_LIMIT}
 use Rattle.core_records.proofs.Found.{looked_up, timely_some}
 use Rattle.core_records.proofs.records.Records.by_id.Goals as goal
 

@@ -1,12 +1,7 @@
-use Rattle.std.proofs.Common.{rules, refl, ap, sym, ◌∙◌}
-use Rattle.std.proofs.lemmas.Map.Made.{map_same_pairs}
-use Rattle.respawn_limit.specs.declared.TheConstants.{CLOCK_LIMIT}
-use Rattle.core_records.specs.Changes.{after_enter}
+use Rattle.core_records.proofs.Words.{rules, refl, ap, sym, ◌∙◌, map_same_pairs, CLOCK_LIMIT, after_enter, counts_of, termed_of}
 use Rattle.core_records.proofs.Changed.{timely_enter}
-use Rattle.core_records.specs.Counting.{counts_of}
 use Rattle.core_records.proofs.Counted.{same_counts}
 use Rattle.core_records.proofs.Found.{all_written}
-use Rattle.core_records.specs.Indexing.{termed_of}
 use Rattle.core_records.proofs.Indexes.{same_index}
 use Rattle.core_records.proofs.records.Records.entered.Goals as goal
 

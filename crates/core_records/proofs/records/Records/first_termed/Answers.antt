@@ -1,6 +1,4 @@
-use Rattle.std.proofs.Common.{subst, sym, ap, ◌∙◌}
-use Rattle.core_records.specs.Stopping.{IsFirstTermed}
-use Rattle.core_records.specs.Indexing.{first_key}
+use Rattle.core_records.proofs.Words.{subst, sym, ap, ◌∙◌, IsFirstTermed, first_key}
 use Rattle.core_records.proofs.Keys.{first_is_first}
 use Rattle.core_records.proofs.records.Records.first_termed.Goals as goal
 

@@ -1,8 +1,4 @@
-use Rattle.std.proofs.Common.{ap, ◌∙◌, not, ◌==◌}
-use Rattle.core_records.specs.declared.counts.Counts.{Counts}
-use Rattle.core_records.specs.State.{RecordState}
-use Rattle.core_records.specs.Stopping.{is_stop_due}
-use Rattle.core_records.specs.Counting.{counts_of}
+use Rattle.core_records.proofs.Words.{ap, ◌∙◌, not, ◌==◌, Counts, RecordState, is_stop_due, counts_of}
 use Rattle.core_records.proofs.Counted.{some_counted}
 use Rattle.core_records.proofs.records.Records.has_due.Goals as goal
 

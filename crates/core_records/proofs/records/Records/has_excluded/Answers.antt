@@ -1,8 +1,5 @@
-use Rattle.std.proofs.Common.{ap, ◌∙◌, not, ◌==◌}
+use Rattle.core_records.proofs.Words.{ap, ◌∙◌, not, ◌==◌, Counts, RecordState, counts_of}
 use Rattle.std.specs.Option.{is_some}
-use Rattle.core_records.specs.declared.counts.Counts.{Counts}
-use Rattle.core_records.specs.State.{RecordState}
-use Rattle.core_records.specs.Counting.{counts_of}
 use Rattle.core_records.proofs.Counted.{some_counted}
 use Rattle.core_records.proofs.records.Records.has_excluded.Goals as goal
 

@@ -1,13 +1,7 @@
-use Rattle.std.proofs.Common.{ap, refl, sym, ◌∙◌}
-use Rattle.std.specs.Option.{is_some, option_copied_mut}
-use Rattle.init_words.proofs.Tests.{both_ways}
-use Rattle.respawn_limit.specs.declared.TheConstants.{CLOCK_LIMIT}
-use Rattle.core_records.specs.Lists.{has_record_of}
-use Rattle.core_records.specs.Changes.{after_hold}
-use Rattle.core_records.specs.Counting.{counts_of}
+use Rattle.core_records.proofs.Words.{ap, refl, sym, ◌∙◌, option_copied_mut, both_ways, CLOCK_LIMIT, has_record_of, after_hold, counts_of, termed_of}
+use Rattle.std.specs.Option.{is_some}
 use Rattle.core_records.proofs.Counted.{same_changed}
 use Rattle.core_records.proofs.Found.{absent_in, written}
-use Rattle.core_records.specs.Indexing.{termed_of}
 use Rattle.core_records.proofs.Indexes.{same_index_at}
 use Rattle.core_records.proofs.records.Records.hold.Goals as goal
 

@@ -1,8 +1,5 @@
-use Rattle.std.proofs.Common.{ap, ◌∙◌, ◌==◌}
+use Rattle.core_records.proofs.Words.{ap, ◌∙◌, ◌==◌, Counts, RecordState, counts_of}
 use Rattle.std.specs.Option.{is_some}
-use Rattle.core_records.specs.declared.counts.Counts.{Counts}
-use Rattle.core_records.specs.State.{RecordState}
-use Rattle.core_records.specs.Counting.{counts_of}
 use Rattle.core_records.proofs.Counted.{none_counted}
 use Rattle.core_records.proofs.records.Records.is_idle.Goals as goal
 

@@ -1,17 +1,8 @@
-use Rattle.std.proofs.Common.{rules, ap, sym, ◌∙◌, subst}
-use Rattle.std.proofs.lemmas.List.{length-map}
-use Rattle.std.proofs.lemmas.Map.Made.{map_same_pairs}
-use Rattle.std.specs.List.{count_by}
+use Rattle.core_records.proofs.Words.{rules, ap, sym, ◌∙◌, subst, length-map, map_same_pairs, count_by, CLOCK_LIMIT, RecordState, after_judge, counts_of, is_stop_due, termed_of, IsIndex}
 use Rattle.std.specs.Option.{is_some}
-use Rattle.respawn_limit.specs.declared.TheConstants.{CLOCK_LIMIT}
-use Rattle.core_records.specs.State.{RecordState}
-use Rattle.core_records.specs.Judging.{after_judge}
 use Rattle.core_records.proofs.Changed.{id-after_judge, order-after_judge, timely_judge}
-use Rattle.core_records.specs.Counting.{counts_of}
 use Rattle.core_records.proofs.Counted.{judged_counts}
 use Rattle.core_records.proofs.Found.{all_written}
-use Rattle.core_records.specs.Stopping.{is_stop_due}
-use Rattle.core_records.specs.Indexing.{termed_of, IsIndex}
 use Rattle.core_records.proofs.records.Records.judge.Goals as goal
 
 pub invariant_of-self : goal.invariant_of-self

@@ -1,15 +1,9 @@
-use Rattle.std.proofs.Common.{ap, sym, ◌∙◌}
-use Rattle.std.specs.Option.{is_some, option_copied_mut}
-use Rattle.init_words.proofs.Tests.{both_ways}
-use Rattle.respawn_limit.specs.declared.TheConstants.{CLOCK_LIMIT}
-use Rattle.core_records.specs.Lists.{has_record_of}
-use Rattle.core_records.specs.Changes.{after_answer}
+use Rattle.core_records.proofs.Words.{ap, sym, ◌∙◌, option_copied_mut, both_ways, CLOCK_LIMIT, has_record_of, after_answer, counts_of, termed_of}
+use Rattle.std.specs.Option.{is_some}
 use Rattle.core_records.proofs.Changed.{id-after_answer, termed-after_answer}
-use Rattle.core_records.specs.Counting.{counts_of}
 use Rattle.core_records.proofs.Counted.{found_within, recount}
 use Rattle.core_records.proofs.Found.{absent_in, distinct_in, found_in, written}
 use Rattle.core_records.proofs.Timely.{timely_answer}
-use Rattle.core_records.specs.Indexing.{termed_of}
 use Rattle.core_records.proofs.Keys.{own_termed}
 use Rattle.core_records.proofs.Indexes.{note_room, noted_index}
 use Rattle.core_records.proofs.records.Records.note_answer.Goals as goal

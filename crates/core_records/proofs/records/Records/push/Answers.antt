@@ -1,10 +1,6 @@
-use Rattle.std.proofs.Common.{◌≡◌, length, ap, sym, ◌∙◌, arith}
-use Rattle.std.proofs.lemmas.Map.Entries.{length-values_of}
-use Rattle.respawn_limit.specs.declared.TheConstants.{CLOCK_LIMIT}
-use Rattle.core_records.specs.Counting.{counts_of}
+use Rattle.core_records.proofs.Words.{◌≡◌, length, ap, sym, ◌∙◌, arith, length-values_of, CLOCK_LIMIT, counts_of, termed_of}
 use Rattle.core_records.proofs.Counted.{pushed_count}
 use Rattle.core_records.proofs.Found.{pushed}
-use Rattle.core_records.specs.Indexing.{termed_of}
 use Rattle.core_records.proofs.Indexes.{push_room, pushed_index}
 use Rattle.core_records.proofs.records.Records.push.Goals as goal
 

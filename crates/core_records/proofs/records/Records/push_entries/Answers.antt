@@ -1,8 +1,4 @@
-use Rattle.std.proofs.Common.{◌++◌, ◌+◌, map, drop}
-use Rattle.init_words.specs.declared.entries.Entry.{Entry}
-use Rattle.core_records.specs.Lists.{record_by_id}
-use Rattle.core_records.specs.Adopting.{adopted, entry_records}
-use Rattle.inittab_text.proofs.Entries.{one_made}
+use Rattle.core_records.proofs.Words.{◌++◌, ◌+◌, map, drop, Entry, record_by_id, adopted, entry_records, one_made}
 use Rattle.core_records.proofs.Adopted.{new_of}
 use Rattle.core_records.proofs.records.Records.push_entries.Goals as goal
 

@@ -1,7 +1,4 @@
-use Rattle.std.proofs.Common.{◌≡◌, ◌++◌, map, drop}
-use Rattle.init_words.specs.declared.entries.Entry.{Entry}
-use Rattle.core_records.specs.Lists.{record_by_id}
-use Rattle.core_records.specs.Adopting.{adopted, entry_records}
+use Rattle.core_records.proofs.Words.{◌≡◌, ◌++◌, map, drop, Entry, record_by_id, adopted, entry_records}
 use Rattle.core_records.proofs.records.Records.push_entries.Given as goal
 
 -- the records so far, and those of the entries that are left

@@ -1,5 +1,4 @@
-use Rattle.std.proofs.Common.{◌++◌, ◌+◌, drop}
-use Rattle.core_records.specs.Adopting.{left_records}
+use Rattle.core_records.proofs.Words.{◌++◌, ◌+◌, drop, left_records}
 use Rattle.core_records.proofs.Adopted.{one_left, new_any}
 use Rattle.core_records.proofs.records.Records.push_left.Goals as goal
 

@@ -1,6 +1,4 @@
-use Rattle.std.proofs.Common.{◌≡◌, ◌∷◌, [], length, sym, ◌∙◌, ap, append_assoc, append-nil, arith}
-use Rattle.std.specs.Vec.Iter.{into_iter_items}
-use Rattle.respawn_limit.specs.declared.TheConstants.{CLOCK_LIMIT}
+use Rattle.core_records.proofs.Words.{◌≡◌, ◌∷◌, [], length, sym, ◌∙◌, ap, append_assoc, append-nil, arith, into_iter_items, CLOCK_LIMIT}
 use Rattle.core_records.proofs.Adopted.{new_of}
 use Rattle.core_records.proofs.Rebuilt.{nothing_left, timely_next}
 use Rattle.core_records.proofs.records.Records.rebuilt.Goals as goal

@@ -1,5 +1,4 @@
-use Rattle.std.proofs.Common.{◌≡◌, ◌++◌, length}
-use Rattle.std.specs.Vec.Iter.{into_iter_items, into_iter_len}
+use Rattle.core_records.proofs.Words.{◌≡◌, ◌++◌, length, into_iter_items, into_iter_len}
 use Rattle.core_records.proofs.records.Records.rebuilt.Given as goal
 
 -- the records so far, and those that are left

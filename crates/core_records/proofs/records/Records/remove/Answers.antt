@@ -1,9 +1,6 @@
-use Rattle.std.proofs.Common.{sym}
-use Rattle.init_words.specs.Ids.{same_id}
-use Rattle.respawn_limit.specs.declared.TheConstants.{CLOCK_LIMIT}
+use Rattle.core_records.proofs.Words.{sym, same_id, CLOCK_LIMIT, termed_of}
 use Rattle.core_records.proofs.Counted.{found_within, removed_counts}
 use Rattle.core_records.proofs.Found.{found_in, removed}
-use Rattle.core_records.specs.Indexing.{termed_of}
 use Rattle.core_records.proofs.Keys.{own_termed}
 use Rattle.core_records.proofs.Indexes.{removed_index}
 use Rattle.core_records.proofs.records.Records.remove.Goals as goal

@@ -1,5 +1,4 @@
-use Rattle.std.proofs.Common.{sym}
-use Rattle.core_records.specs.Lists.{record_by_id}
+use Rattle.core_records.proofs.Words.{sym, record_by_id}
 use Rattle.core_records.proofs.Found.{taken_has}
 use Rattle.core_records.proofs.records.Records.told.Goals as goal
 

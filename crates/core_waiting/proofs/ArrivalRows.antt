@@ -1,0 +1,280 @@
+-- Worked undisturbed rounds: `refl` computes them. And rounds that lack one of the conditions, in which nothing comes nearer.
+use Rattle.std.proofs.Common.{◌≡◌, refl, ◌+◌, ℕ, Bool, true, false, not, nat_le, List, [], ◌∷◌, ◌++◌, codes, filter}
+use Rattle.std.specs.List.{list_any, list_all}
+use Rattle.init_words.specs.declared.entries.Entry.{Entry}
+use Rattle.init_words.specs.declared.actions.Act.TheVariants as act
+use Rattle.init_words.specs.declared.levels.Level.TheVariants as level
+use Rattle.init_words.specs.declared.levels.Mark.TheVariants.{At}
+use Rattle.init_words.specs.declared.stages.Stage.TheVariants as stage
+use Rattle.init_words.specs.declared.orders.OrderKind.TheVariants.{Start, Look, Term, Kill}
+use Rattle.init_words.specs.declared.orders.PowerKind.TheVariants as power
+use Rattle.init_words.specs.declared.children.Status.TheVariants.{Exit}
+use Rattle.initctl_frame.specs.declared.requests.HeardRequest.TheVariants as got
+use Rattle.trace_events.specs.declared.happenings.Happening.TheVariants.{NewTable, Enter, Power, Asked, Settle, Death, Reaped, Still, Hit, Miss, Told, Clock, Nudge, Got}
+use Rattle.trace_events.specs.declared.steps.Step.{Step}
+use Rattle.trace_events.specs.Event.{Event}
+use Rattle.trace_events.specs.Past.{is_idle, time_of, grace_of, kept_children}
+use Rattle.trace_events.specs.Spells.{is_missed}
+use Rattle.trace_events.specs.Due.{due}
+use Rattle.trace_events.specs.Sound.{is_sound}
+use Rattle.core_waiting.specs.Rest.{is_level_announced, after_rounds}
+use Rattle.core_waiting.specs.Arrival.{has_to_end, is_found_ended, is_nudge, is_unasked, AreUndisturbed, waits_to_come, rounds_to_come}
+use Rattle.core_waiting.proofs.Rows.{entry, opening, started, entered, goes_to, in_its_way}
+
+-- an order, its act, and that it is told
+abbrev sent : List ℕ → List Event
+sent id = Told id ∷ Hit id ∷ Asked id Term ∷ []
+
+abbrev killed : List ℕ → List Event
+killed id = Told id ∷ Hit id ∷ Asked id Kill ∷ []
+
+abbrev missed : List ℕ → List Event
+missed id = Told id ∷ Miss id ∷ Asked id Term ∷ []
+
+abbrev lives : List ℕ → List Event
+lives id = Told id ∷ Still id ∷ Asked id Look ∷ []
+
+abbrev ends : List ℕ → ℕ → List Event
+ends id n = Told id ∷ Reaped id n (Exit 0) ∷ Death n ∷ Asked id Look ∷ []
+
+-- the whole way up: a sysinit, a bootwait and a wait entry, and a respawn entry; from the rest at which the first runs
+abbrev up_table : List Entry
+up_table = (entry (codes "s") [] act.Sysinit) ∷ (entry (codes "b") [] act.Bootwait) ∷ (entry (codes "w") (At level.L3 ∷ []) act.Wait) ∷ (entry (codes "r") (At level.L3 ∷ []) act.Respawn) ∷ []
+
+abbrev up : List Event
+up = started (codes "s") 7 ++ Enter stage.Sysinit 5 ∷ NewTable up_table ∷ []
+
+abbrev up_first : List Event
+up_first = started (codes "b") 8 ++ Enter stage.Boot 5 ∷ ends (codes "s") 7 ++ Nudge ∷ Clock 5 ∷ []
+
+abbrev up_second : List Event
+up_second = started (codes "w") 9 ++ Enter (stage.Run level.L3) 5 ∷ ends (codes "b") 8 ++ Nudge ∷ Clock 10 ∷ []
+
+-- a wait entry that is alive at two looks, and is found ended by the third, in one round
+abbrev up_third : List Event
+up_third = Settle level.L3 ∷ started (codes "r") 6 ++ ends (codes "w") 9 ++ Nudge ∷ lives (codes "w") ++ Nudge ∷ lives (codes "w") ++ Nudge ∷ Clock 15 ∷ []
+
+up-is_sound : is_sound (opening level.L3) (after_rounds (up_third ∷ up_second ∷ up_first ∷ []) up) ≡ true
+up-is_sound = refl
+
+up-undisturbed : AreUndisturbed (opening level.L3) (up_third ∷ up_second ∷ up_first ∷ []) up
+up-undisturbed = ((((refl, refl), refl, refl, refl), refl, refl, refl), refl, refl, refl)
+
+up-waits : waits_to_come (opening level.L3) up ≡ 2
+up-waits = refl
+
+up-rounds : rounds_to_come (opening level.L3) up ≡ 3
+up-rounds = refl
+
+up_second-told : is_level_announced (after_rounds (up_second ∷ up_first ∷ []) up) ≡ false
+up_second-told = refl
+
+up_third-told : is_level_announced (after_rounds (up_third ∷ up_second ∷ up_first ∷ []) up) ≡ true
+up_third-told = refl
+
+-- three rounds more than entries to come: a signal missed the child of the last level, and it ignores the first
+abbrev last_table : List Entry
+last_table = (entry (codes "r") (At level.L3 ∷ []) act.Respawn) ∷ []
+
+abbrev last_level : List Event
+last_level = missed (codes "r") ++ goes_to level.L2 ++ Settle level.L3 ∷ started (codes "r") 7 ++ entered level.L3 last_table
+
+abbrev last_first : List Event
+last_first = lives (codes "r") ++ sent (codes "r") ++ Nudge ∷ Clock 5 ∷ []
+
+abbrev last_second : List Event
+last_second = killed (codes "r") ++ Clock 10 ∷ lives (codes "r") ++ Nudge ∷ []
+
+abbrev last_third : List Event
+last_third = Settle level.L2 ∷ ends (codes "r") 7 ++ Nudge ∷ Clock 15 ∷ []
+
+last-is_sound : is_sound (opening level.L3) (after_rounds (last_third ∷ last_second ∷ last_first ∷ []) last_level) ≡ true
+last-is_sound = refl
+
+last-undisturbed : AreUndisturbed (opening level.L3) (last_third ∷ last_second ∷ last_first ∷ []) last_level
+last-undisturbed = ((((refl, refl), refl, refl, refl), refl, refl, refl), refl, refl, refl)
+
+last-rounds : rounds_to_come (opening level.L3) last_level ≡ 3
+last-rounds = refl
+
+last-waits : waits_to_come (opening level.L3) last_level ≡ 0
+last-waits = refl
+
+last_second-told : is_level_announced (after_rounds (last_second ∷ last_first ∷ []) last_level) ≡ false
+last_second-told = refl
+
+last_third-told : is_level_announced (after_rounds (last_third ∷ last_second ∷ last_first ∷ []) last_level) ≡ true
+last_third-told = refl
+
+-- the tests of which an undisturbed round is made: each can fail alone, and then nothing comes nearer
+abbrev tests : List Event → List Event → List Bool
+tests round past =
+    is_unasked round ∷ list_any is_nudge round ∷ nat_le (time_of past + grace_of past) (time_of (round ++ past))
+    ∷ list_all (λ child. is_found_ended child.id round) (filter (has_to_end past) (kept_children past))
+    ∷ list_all (λ child. not (is_missed child (round ++ past))) (kept_children (round ++ past)) ∷ []
+
+-- rounds to come before and behind a round
+abbrev nearer : List Event → List Event → List ℕ
+nearer round past = rounds_to_come (opening level.L3) past ∷ rounds_to_come (opening level.L3) (round ++ past) ∷ []
+
+abbrev is_nil : List Step → Bool
+is_nil [] = true
+is_nil (step ∷ steps) = false
+
+abbrev is_none_due : List Event → Bool
+is_none_due past = is_nil (due (opening level.L3) past)
+
+-- sound, at rest with no order open before and behind, and not announced behind it
+abbrev stands : List Event → List Event → List Bool
+stands round past =
+    is_sound (opening level.L3) (round ++ past) ∷ is_none_due past ∷ is_idle past ∷ is_none_due (round ++ past)
+    ∷ is_idle (round ++ past) ∷ not (is_level_announced (round ++ past)) ∷ []
+
+-- news of the power waits for the run level: the entry that it calls there is counted before
+abbrev news_table : List Entry
+news_table = (entry (codes "s") [] act.Sysinit) ∷ (entry (codes "p") (At level.L3 ∷ []) act.Powerwait) ∷ []
+
+abbrev news_kept : List Event
+news_kept = Got (got.Power power.Fail) ∷ started (codes "s") 7 ++ Enter stage.Sysinit 5 ∷ NewTable news_table ∷ []
+
+abbrev news_called : List Event
+news_called = started (codes "p") 8 ++ Power power.Fail ∷ Enter (stage.Run level.L3) 5 ∷ Enter stage.Boot 5 ∷ ends (codes "s") 7 ++ Nudge ∷ Clock 5 ∷ []
+
+news-stands : stands news_called news_kept ≡ true ∷ true ∷ true ∷ true ∷ true ∷ true ∷ []
+news-stands = refl
+
+news-tests : tests news_called news_kept ≡ true ∷ true ∷ true ∷ true ∷ true ∷ []
+news-tests = refl
+
+news-nearer : nearer news_called news_kept ≡ 2 ∷ 1 ∷ []
+news-nearer = refl
+
+-- inittab is read again, and brings one entry more
+abbrev waiting : List Event
+waiting = started (codes "w") 7 ++ entered level.L3 ((entry (codes "w") (At level.L3 ∷ []) act.Wait) ∷ [])
+
+abbrev read_again : List Event
+read_again = started (codes "v") 8 ++ ends (codes "w") 7 ++ Nudge ∷ Clock 5 ∷ NewTable ((entry (codes "w") (At level.L3 ∷ []) act.Wait) ∷ (entry (codes "v") (At level.L3 ∷ []) act.Wait) ∷ []) ∷ Got got.Reload ∷ []
+
+asked-stands : stands read_again waiting ≡ true ∷ true ∷ true ∷ true ∷ true ∷ true ∷ []
+asked-stands = refl
+
+asked-fails : tests read_again waiting ≡ false ∷ true ∷ true ∷ true ∷ true ∷ []
+asked-fails = refl
+
+asked-no_nearer : nearer read_again waiting ≡ 1 ∷ 1 ∷ []
+asked-no_nearer = refl
+
+-- no round begins: the child's end is not seen
+abbrev no_round : List Event
+no_round = Death 7 ∷ Clock 5 ∷ []
+
+no_round-stands : stands no_round waiting ≡ true ∷ true ∷ true ∷ true ∷ true ∷ true ∷ []
+no_round-stands = refl
+
+no_round-fails : tests no_round waiting ≡ true ∷ false ∷ true ∷ true ∷ true ∷ []
+no_round-fails = refl
+
+no_round-no_nearer : nearer no_round waiting ≡ 1 ∷ 1 ∷ []
+no_round-no_nearer = refl
+
+-- the clock stands still: a child that ignores the first signal is not sent the second
+abbrev ignoring : List Event
+ignoring = sent (codes "r") ++ goes_to level.L2 ++ Settle level.L3 ∷ started (codes "r") 7 ++ entered level.L3 last_table
+
+abbrev no_clock : List Event
+no_clock = lives (codes "r") ++ Nudge ∷ []
+
+no_clock-stands : stands no_clock ignoring ≡ true ∷ true ∷ true ∷ true ∷ true ∷ true ∷ []
+no_clock-stands = refl
+
+no_clock-fails : tests no_clock ignoring ≡ true ∷ true ∷ false ∷ true ∷ true ∷ []
+no_clock-fails = refl
+
+no_clock-no_nearer : nearer no_clock ignoring ≡ 2 ∷ 2 ∷ []
+no_clock-no_nearer = refl
+
+-- nor is it where the clock is at its limit, whatever it reads: the grace is never over
+abbrev late : List Event
+late = sent (codes "r") ++ goes_to level.L2 ++ Settle level.L3 ∷ Clock 1000000000000 ∷ started (codes "r") 7 ++ entered level.L3 last_table
+
+abbrev later_reading : List Event
+later_reading = lives (codes "r") ++ Nudge ∷ Clock 1000000000099 ∷ []
+
+late-stands : stands later_reading late ≡ true ∷ true ∷ true ∷ true ∷ true ∷ true ∷ []
+late-stands = refl
+
+late-fails : tests later_reading late ≡ true ∷ true ∷ false ∷ true ∷ true ∷ []
+late-fails = refl
+
+late-no_nearer : nearer later_reading late ≡ 2 ∷ 2 ∷ []
+late-no_nearer = refl
+
+-- a wait entry's child lives on; so does one in its entry's way, and one that was sent a KILL
+abbrev lives_on : List Event
+lives_on = lives (codes "w") ++ Nudge ∷ Clock 5 ∷ []
+
+lives_on-stands : stands lives_on waiting ≡ true ∷ true ∷ true ∷ true ∷ true ∷ true ∷ []
+lives_on-stands = refl
+
+lives_on-fails : tests lives_on waiting ≡ true ∷ true ∷ true ∷ false ∷ true ∷ []
+lives_on-fails = refl
+
+lives_on-no_nearer : nearer lives_on waiting ≡ 1 ∷ 1 ∷ []
+lives_on-no_nearer = refl
+
+abbrev way_lives_on : List Event
+way_lives_on = lives (codes "o") ++ Nudge ∷ Clock 5 ∷ []
+
+way-stands : stands way_lives_on in_its_way ≡ true ∷ true ∷ true ∷ true ∷ true ∷ true ∷ []
+way-stands = refl
+
+way-fails : tests way_lives_on in_its_way ≡ true ∷ true ∷ true ∷ false ∷ true ∷ []
+way-fails = refl
+
+way-no_nearer : nearer way_lives_on in_its_way ≡ 1 ∷ 1 ∷ []
+way-no_nearer = refl
+
+abbrev killed_in_vain : List Event
+killed_in_vain = killed (codes "r") ++ Clock 5 ∷ ignoring
+
+abbrev killed_lives_on : List Event
+killed_lives_on = lives (codes "r") ++ Nudge ∷ Clock 10 ∷ []
+
+killed-stands : stands killed_lives_on killed_in_vain ≡ true ∷ true ∷ true ∷ true ∷ true ∷ true ∷ []
+killed-stands = refl
+
+killed-fails : tests killed_lives_on killed_in_vain ≡ true ∷ true ∷ true ∷ false ∷ true ∷ []
+killed-fails = refl
+
+killed-no_nearer : nearer killed_lives_on killed_in_vain ≡ 1 ∷ 1 ∷ []
+killed-no_nearer = refl
+
+-- the signal misses again
+abbrev misses_again : List Event
+misses_again = lives (codes "r") ++ missed (codes "r") ++ Nudge ∷ Clock 5 ∷ []
+
+misses-stands : stands misses_again last_level ≡ true ∷ true ∷ true ∷ true ∷ true ∷ true ∷ []
+misses-stands = refl
+
+misses-fails : tests misses_again last_level ≡ true ∷ true ∷ true ∷ true ∷ false ∷ []
+misses-fails = refl
+
+misses-no_nearer : nearer misses_again last_level ≡ 3 ∷ 3 ∷ []
+misses-no_nearer = refl
+
+-- an order is not answered: no round is to come, and the level is not announced
+abbrev one_behind : List Event
+one_behind = started (codes "w") 7 ++ entered level.L3 ((entry (codes "w") (At level.L3 ∷ []) act.Wait) ∷ (entry (codes "v") (At level.L3 ∷ []) act.Wait) ∷ [])
+
+abbrev unanswered : List Event
+unanswered = Asked (codes "v") Start ∷ ends (codes "w") 7 ++ Nudge ∷ Clock 5 ∷ []
+
+unanswered-stands : stands unanswered one_behind ≡ true ∷ true ∷ true ∷ true ∷ false ∷ true ∷ []
+unanswered-stands = refl
+
+unanswered-tests : tests unanswered one_behind ≡ true ∷ true ∷ true ∷ true ∷ true ∷ []
+unanswered-tests = refl
+
+unanswered-nearer : nearer unanswered one_behind ≡ 2 ∷ 0 ∷ []
+unanswered-nearer = refl

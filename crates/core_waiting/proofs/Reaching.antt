@@ -1,0 +1,40 @@
+-- From each rest at which no news waits a settled level can be reached.
+use Rattle.std.proofs.Common.{◌≡◌, ◌≤◌, ◌+◌, ◌*◌, refl, sym, ◌∙◌, ap, subst, ℕ, true, false, max, List, [], ◌∷◌, ◌++◌, length, Some, append_assoc, arith}
+use Rattle.respawn_limit.specs.declared.TheConstants.{CLOCK_LIMIT}
+use Rattle.init_words.specs.declared.stages.Stage.TheVariants.{Run}
+use Rattle.trace_events.specs.declared.steps.Goal.{Goal}
+use Rattle.trace_events.specs.Event.{Event}
+use Rattle.trace_events.specs.Past.{is_idle, stage_of, grace_of, time_of}
+use Rattle.trace_events.specs.Wishes.{goal_of, keeps_news}
+use Rattle.trace_events.specs.Sound.{is_sound}
+use Rattle.core_waiting.specs.Rest.{AtRest, is_level_announced, after_rounds}
+use Rattle.core_waiting.specs.Arrival.{AreUndisturbed, destination, rounds_to_come}
+use Rattle.core_waiting.proofs.Arriving.{arrives, arrives_there}
+use Rattle.core_waiting.proofs.Existing.{rounds_exist}
+
+-- rounds as one stretch
+abbrev in_one : List (List Event) → List Event
+in_one [] = []
+in_one (round ∷ earlier) = round ++ in_one earlier
+
+one_stretch : (rounds : List (List Event)) (past : List Event) → after_rounds rounds past ≡ in_one rounds ++ past
+one_stretch [] past = refl
+one_stretch (round ∷ earlier) past = ap (λ x. round ++ x) (one_stretch earlier past) ∙ sym (append_assoc round (in_one earlier) past)
+
+abbrev Reached : Goal → List Event → List Event → Type 0
+Reached goal past now = (is_sound goal now ≡ true) × (is_level_announced now ≡ true) × (stage_of now ≡ Some (Run (destination (goal_of goal past).level (stage_of past))))
+
+pub reached : (goal : Goal) (later past : List Event) → is_sound goal (later ++ past) ≡ true → AtRest goal past → is_idle past ≡ true → keeps_news past ≡ false → time_of past + rounds_to_come goal past * max (grace_of past) (goal_of goal past).grace ≤ CLOCK_LIMIT → (onward : List Event) × (is_sound goal (onward ++ past) ≡ true) × (is_level_announced (onward ++ past) ≡ true) × (stage_of (onward ++ past) ≡ Some (Run (destination (goal_of goal past).level (stage_of past))))
+reached goal later past sound rest idle news early = by (rounds_exist goal later past (rounds_to_come goal past) sound rest idle news early) where
+  by : (rounds : List (List Event)) × (length rounds ≡ rounds_to_come goal past) × (is_sound goal (after_rounds rounds past) ≡ true) × AreUndisturbed goal rounds past → (onward : List Event) × (is_sound goal (onward ++ past) ≡ true) × (is_level_announced (onward ++ past) ≡ true) × (stage_of (onward ++ past) ≡ Some (Run (destination (goal_of goal past).level (stage_of past))))
+  by some = (in_one some.0, there.0, there.1, there.2) where
+    enough : rounds_to_come goal past ≤ length some.0
+    enough = least (length some.0) (rounds_to_come goal past) some.1 where
+      least : (a b : ℕ) → a ≡ b → b ≤ a
+      least a b is = omega arith
+
+    told : is_level_announced (after_rounds some.0 past) ≡ true
+    told = arrives goal [] some.0 past some.2 some.3 enough
+
+    there : Reached goal past (in_one some.0 ++ past)
+    there = subst (Reached goal past) (one_stretch some.0 past) (some.2, told, arrives_there goal [] some.0 past some.2 some.3 told)
