@@ -114,7 +114,7 @@ done
 for facility in contrib/facilities/*; do
     put 644 "$facility" "share/initd/facilities/${facility##*/}"
 done
-for page in README.md docs/SYSVINIT.md docs/FORMATS.md docs/DECISIONS.md examples/timeline/timeline.svg; do
+for page in README.md docs/SYSVINIT.md docs/DECISIONS.md examples/timeline/timeline.svg; do
     put 644 "$page" "share/doc/initd/${page##*/}"
 done
 # The page shows the picture that lies beside it.

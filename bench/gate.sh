@@ -1,6 +1,6 @@
 #!/bin/bash
 # What the gate costs, in processor seconds: runs `rt ci` here with the words that are given, or from nothing, looks each
-# second at the processes of that run alone, and prints the table of docs/GATE.md. What the run itself says goes to
+# second at the processes of that run alone, and prints the table of bench/gate.md. What the run itself says goes to
 # standard error.
 # usage: bench/gate.sh [WORD..]
 set -u
