@@ -76,17 +76,12 @@ impl Channel {
 #[derive(Drop)]
 pub struct ChannelLock {
     /// It stays open, so that no other file gets its number.
-    channel: Channel,
+    _channel: Channel,
     /// The device and the number of the file.
     file: (u64, u64),
 }
 
 impl ChannelLock {
-    /// The channel was missing, and was made.
-    pub fn was_made(&self) -> bool {
-        self.channel.was_made
-    }
-
     /// It is the lock of this file, which stands at the channel's path.
     pub fn is_of(&self, found: &Metadata) -> bool {
         self.file == (found.dev(), found.ino())
@@ -111,7 +106,7 @@ pub fn lock_channel<R: Files<File = File>>(rt: &R, path: &str) -> io::Result<Opt
 fn locked(channel: Channel) -> io::Result<ChannelLock> {
     let found = channel.file.metadata()?;
     Ok(ChannelLock {
-        channel,
+        _channel: channel,
         file: (found.dev(), found.ino()),
     })
 }

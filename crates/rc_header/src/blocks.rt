@@ -16,12 +16,12 @@ fn is_begin(line: &[u8]) -> bool
     without_tail(line) == b"### BEGIN INIT INFO".as_slice()
 }
 
-/// The line that ends the header.
+/// The line that ends the header, whatever stands behind its words.
 #[tactic(auto, unfolding(crate::specs::Blocks::is_end))]
 fn is_end(line: &[u8]) -> bool
     ensures { result ≡ is_end line.now }
 {
-    without_tail(line) == b"### END INIT INFO".as_slice()
+    line.starts_with(b"### END INIT INFO")
 }
 
 /// The text after the line that begins the header, and the number of that line.

@@ -5,8 +5,6 @@
 #[cfg(test)]
 mod byte_tests;
 #[cfg(test)]
-mod cores;
-#[cfg(test)]
 mod last_tests;
 #[cfg(test)]
 mod line_tests;

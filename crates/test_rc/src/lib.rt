@@ -1,7 +1,9 @@
-//! The tests of rc: which scripts of a folder are run and in which order, and their run over a scripted host. Its command
-//! lines with real children: tools/pages.d/rc-lines and rc.
+//! The tests of rc: which scripts of a folder are run and in which order, their run over a scripted host, and its
+//! command line with real children.
 #![tactic(auto)]
 
+#[cfg(test)]
+mod command_tests;
 #[cfg(test)]
 mod driving_tests;
 #[cfg(test)]

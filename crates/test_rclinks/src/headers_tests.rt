@@ -404,18 +404,14 @@ const TEXTS: Faults = &[
         b"### BEGIN INIT INFO\n# Provides: a\n### END INIT INFO",
         None,
     ),
-    // Behind the words of the last line blanks and tabs alone are passed over.
+    // What stands behind the words of the last line is no part of the header.
     (
         b"### BEGIN INIT INFO\n# Provides: a\n### END INIT INFO#\nx\n### END INIT INFO\n",
-        Some(HeaderFault::BadLine(3)),
-    ),
-    (
-        b"### BEGIN INIT INFO\n# Provides: a\n### END INIT INFO foo\n",
-        Some(HeaderFault::NoEnd),
+        None,
     ),
     (
         b"### BEGIN INIT INFO\n# Provides: a\n### END INIT INFO\r\n",
-        Some(HeaderFault::NoEnd),
+        None,
     ),
     (
         b"### BEGIN INIT INFO\n# Provides: a\n### END INIT INFO\nx\n### BEGIN INIT INFO\n",

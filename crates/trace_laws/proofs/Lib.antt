@@ -14,7 +14,6 @@ pub mod Orders
 pub mod Pace
 pub mod Pairs
 pub mod Plain
-pub mod PlanRows
 pub mod Records
 pub mod Runs
 pub mod Seconds

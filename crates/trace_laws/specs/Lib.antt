@@ -1,6 +1,5 @@
 pub mod Belonging
 pub mod Moments
-pub mod Orderly
 pub mod Plans
 pub mod Runs
 pub mod Stretches

@@ -1,3 +1,5 @@
+pub mod Forms
+pub mod Fronts
 pub mod Lines
 pub mod Reading
 pub mod Texts
